@@ -1,0 +1,8 @@
+pub mod Dpi
+pub mod Size
+pub mod Method
+pub mod Value
+pub mod Kind
+pub mod NameInside
+pub mod Name
+pub mod Refusal

@@ -1,0 +1,8 @@
+-- A refusal as messages print it.
+use Rattle.std.specs.Prelude.{ℕ, List, ◌++◌, codes, decimal}
+use Rattle.pcl_base.specs.declared.refusal.Refusal.{Refusal}
+use Rattle.pcl_base.specs.Kind.{kind_name}
+use Rattle.pcl_base.specs.Name.{name_text}
+
+abbrev pub refusal_text : Refusal → List ℕ
+refusal_text r = kind_name r.kind ++ codes " at " ++ decimal r.at ++ codes " " ++ name_text r.name

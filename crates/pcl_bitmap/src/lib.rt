@@ -1,0 +1,2 @@
+//! pcl_bitmap
+#![tactic(auto)]

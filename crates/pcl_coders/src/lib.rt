@@ -1,0 +1,2 @@
+//! pcl_coders
+#![tactic(auto)]

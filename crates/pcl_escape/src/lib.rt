@@ -1,0 +1,2 @@
+//! pcl_escape
+#![tactic(auto)]

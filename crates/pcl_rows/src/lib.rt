@@ -1,0 +1,2 @@
+//! pcl_rows
+#![tactic(auto)]
