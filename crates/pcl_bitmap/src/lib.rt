@@ -1,2 +1,14 @@
-//! pcl_bitmap
+//! The dots of a page, one bit each: rows of whole bytes, the left dot in the highest bit, 1 black.
 #![tactic(auto)]
+
+mod bitmap;
+mod bits;
+mod ink;
+mod laws;
+
+pub use bitmap::Bitmap;
+pub use ink::Ink;
+pub use laws::same_dots_same_bitmap;
+
+#[cfg(test)]
+mod tests;

@@ -1,0 +1,192 @@
+-- Rows within the bytes of a page: r bytes a row.
+use Rattle.std.proofs.Common.{◌≡◌, ℕ, ◌+◌, ◌-◌, ◌*◌, ◌/◌, ◌%◌, ◌<◌, ◌≤◌, min, nat_le, nat_lt, nat_eq, false, ◌&&◌, List, length, get_or, take, drop, replicate, All, refl, sym, ap, ◌∙◌, inl, inr, lit<, arith, length-take}
+use Rattle.std.specs.Int.{bit_at}
+use Rattle.std.proofs.Math.Nat.{div-one}
+use Rattle.std.proofs.lemmas.Bool.{cases_lt, cases_order, le-leb, lt-leb, eq-eqb, ne_eqb, and_left, and_right}
+use Rattle.std.proofs.lemmas.Bool.Decides.{nat_tests}
+use Rattle.std.proofs.lemmas.List.{get_or-take, get_or-drop, length-replicate, get_or-replicate, get_or_past, ext_get_or}
+use Rattle.std.proofs.lemmas.List.Elements.{All-get_or, All-from_get_or}
+use Rattle.std.proofs.lemmas.Nat.{row_fits, div_below, div-add-mod', mod_below}
+use Rattle.std.proofs.lemmas.Nat.Bits.{bit_at-lt, same_from_bits_below}
+use Rattle.pcl_bitmap.specs.Bitmap.{bit_of_byte, dot_of_row}
+use Rattle.pcl_bitmap.specs.Dots.{raster_dot, run_dot}
+use Rattle.pcl_bitmap.proofs.Bytes.{bit_of_byte-zero, dot_at}
+use Rattle.pcl_bitmap.proofs.Runs.{run_dot-before, run_dot-past, same_test}
+
+-- a dot of a row is a bit of the page's bytes
+pub dot_in_page : (bs : List ℕ) (r x y : ℕ) → x < 8 * r → dot_of_row (take r (drop (y * r) bs)) x ≡ dot_of_row bs (8 * (y * r) + x)
+dot_in_page bs r x y h =
+    let within : x / 8 < r = omega arith in
+    ap (λ n. bit_of_byte n (x % 8)) (get_or-take r (drop (y * r) bs) (x / 8) 0 within ∙ get_or-drop (y * r) bs (x / 8) 0)
+    ∙ sym (dot_at bs (8 * (y * r) + x) (y * r + x / 8) (x % 8) (omega arith) (omega arith))
+
+-- past its bytes a row is white
+pub dot_past_row : (zs : List ℕ) (r x : ℕ) → 8 * r ≤ x → dot_of_row (take r zs) x ≡ false
+dot_past_row zs r x h =
+    ap (λ n. bit_of_byte n (x % 8)) (get_or_past (take r zs) (x / 8) 0 (omega (arith, length-take r zs))) ∙ bit_of_byte-zero (x % 8)
+
+zero_after_take : (r : ℕ) (bs : List ℕ) → ((i : ℕ) → get_or bs i 0 ≡ 0) → (i : ℕ) → get_or (take r bs) i 0 ≡ 0
+zero_after_take r bs h i =
+    elim (cases_lt i r) [
+      | inl p ↦ get_or-take r bs i 0 p ∙ h i
+      | inr p ↦ get_or_past (take r bs) i 0 (omega (arith, length-take r bs))
+    ]
+
+zero_in_replicate : (n i : ℕ) → get_or {A = ℕ} (replicate n 0) i 0 ≡ 0
+zero_in_replicate n i =
+    elim (cases_lt i n) [
+      | inl p ↦ get_or-replicate n i 0 0 p
+      | inr p ↦ get_or_past (replicate n 0) i 0 (omega (arith, length-replicate {A = ℕ} n 0))
+    ]
+
+-- a page of zeros is white
+pub dot_of_zeros : (n r x y : ℕ) → dot_of_row (take r (drop (y * r) (replicate n 0))) x ≡ false
+dot_of_zeros n r x y =
+    let zero = zero_after_take r (drop (y * r) (replicate n 0)) (λ i. get_or-drop (y * r) (replicate n 0) i 0 ∙ zero_in_replicate n (y * r + i)) (x / 8) in
+    ap (λ m. bit_of_byte m (x % 8)) zero ∙ bit_of_byte-zero (x % 8)
+
+rows_apart : (a b r : ℕ) → a < b → a * r + r ≤ b * r
+rows_apart a b r h = row_fits a r b r h (omega arith)
+
+run_dot-at :
+    (from end : ℕ) (row : List ℕ) (k m width : ℕ)
+    → from ≤ k → k - from ≡ m → nat_lt k end ≡ nat_lt m width → run_dot from end row k ≡ (nat_lt m width && dot_of_row row m)
+run_dot-at from end row k m width h place stop =
+    ap (λ t. t && nat_lt k end && dot_of_row row (k - from)) (le-leb from k h)
+    ∙ ap (λ t. t && dot_of_row row (k - from)) stop
+    ∙ ap (λ n. nat_lt m width && dot_of_row row n) place
+
+raster_dot-at :
+    (x0 y0 scale width : ℕ) (row : List ℕ) (x y m : ℕ)
+    → x0 ≤ x → y0 ≤ y → (y - y0) / scale ≡ 0 → (x - x0) / scale ≡ m
+    → raster_dot x0 y0 scale width row x y ≡ (nat_lt m width && dot_of_row row m)
+raster_dot-at x0 y0 scale width row x y m right below down across =
+    ap (λ t. t && nat_le y0 y && nat_eq ((y - y0) / scale) 0 && nat_lt ((x - x0) / scale) width && dot_of_row row ((x - x0) / scale)) (le-leb x0 x right)
+    ∙ ap (λ t. t && nat_eq ((y - y0) / scale) 0 && nat_lt ((x - x0) / scale) width && dot_of_row row ((x - x0) / scale)) (le-leb y0 y below)
+    ∙ ap (λ t. t && nat_lt ((x - x0) / scale) width && dot_of_row row ((x - x0) / scale)) (eq-eqb ((y - y0) / scale) 0 down)
+    ∙ ap (λ n. nat_lt n width && dot_of_row row n) across
+
+-- what is left of, above or below a row of raster data is not in it
+raster_dot-left : (x0 y0 scale width : ℕ) (row : List ℕ) (x y : ℕ) → x < x0 → raster_dot x0 y0 scale width row x y ≡ false
+raster_dot-left x0 y0 scale width row x y h = rw (lt-leb x0 x h)
+
+raster_dot-above : (x0 y0 scale width : ℕ) (row : List ℕ) (x y : ℕ) → y < y0 → raster_dot x0 y0 scale width row x y ≡ false
+raster_dot-above x0 y0 scale width row x y h =
+    and_left _ _ (and_left _ _ (and_left _ _ (and_right (nat_le x0 x) (nat_le y0 y) (lt-leb y0 y h))))
+
+raster_dot-below : (x0 y0 scale width : ℕ) (row : List ℕ) (x y : ℕ) → ((y - y0) / scale ≡ 0 → ⊥) → raster_dot x0 y0 scale width row x y ≡ false
+raster_dot-below x0 y0 scale width row x y h =
+    and_left _ _ (and_left _ _ (and_right (nat_le x0 x && nat_le y0 y) (nat_eq ((y - y0) / scale) 0) (ne_eqb ((y - y0) / scale) 0 h)))
+
+-- the run that a row of raster data becomes: `width` bits at (x0, y0), cut at the page's right edge
+pub run_on_page :
+    (row : List ℕ) (r w x0 y0 scale width x y : ℕ)
+    → scale ≡ 1 → w ≤ 8 * r → x0 < w → x < w
+    → run_dot (8 * (y0 * r) + x0) (8 * (y0 * r) + x0 + min width (w - x0)) row (8 * (y * r) + x) ≡ raster_dot x0 y0 scale width row x y
+run_on_page row r w x0 y0 scale width x y one wide start within =
+    let from : ℕ = 8 * (y0 * r) + x0 in
+    let end : ℕ = from + min width (w - x0) in
+    let k : ℕ = 8 * (y * r) + x in
+    let across : (x - x0) / scale ≡ x - x0 = ap (λ n. (x - x0) / n) one ∙ div-one (x - x0) in
+    let down : (y - y0) / scale ≡ y - y0 = ap (λ n. (y - y0) / n) one ∙ div-one (y - y0) in
+    elim (cases_order y y0) [
+      | inr (inl above) ↦
+          run_dot-before from end row k (omega (arith, rows_apart y y0 r above))
+          ∙ sym (raster_dot-above x0 y0 scale width row x y above)
+      | inr (inr below) ↦
+          run_dot-past from end row k (omega (arith, rows_apart y0 y r below))
+          ∙ sym (raster_dot-below x0 y0 scale width row x y (λ none. omega (arith, down, none)))
+      | inl level ↦ elim (cases_lt x x0) [
+        | inl left ↦
+            run_dot-before from end row k (omega (arith, ap (λ n. n * r) level))
+            ∙ sym (raster_dot-left x0 y0 scale width row x y left)
+        | inr right ↦
+            run_dot-at from end row k (x - x0) width (omega (arith, ap (λ n. n * r) level)) (omega (arith, ap (λ n. n * r) level))
+            (same_test k end (x - x0) width (λ p. omega (arith, ap (λ n. n * r) level)) (λ p. omega (arith, ap (λ n. n * r) level)))
+            ∙ sym (raster_dot-at x0 y0 scale width row x y (x - x0) right (omega arith) (down ∙ (omega arith)) across)
+      ]
+    ]
+
+-- it reaches no pad
+pub run_off_page :
+    (row : List ℕ) (r w x0 y0 width x y : ℕ)
+    → w ≤ 8 * r → x0 < w → w ≤ x → x < 8 * r
+    → run_dot (8 * (y0 * r) + x0) (8 * (y0 * r) + x0 + min width (w - x0)) row (8 * (y * r) + x) ≡ false
+run_off_page row r w x0 y0 width x y wide start off within =
+    elim (cases_lt y y0) [
+      | inl above ↦ run_dot-before _ _ row (8 * (y * r) + x) (omega (arith, rows_apart y y0 r above))
+      | inr rest ↦ elim (cases_lt y0 y) [
+        | inl below ↦ run_dot-past _ _ row (8 * (y * r) + x) (omega (arith, rows_apart y0 y r below))
+        | inr not_below ↦ run_dot-past _ _ row (8 * (y * r) + x) (let same : y ≡ y0 = omega arith in omega (arith, ap (λ n. n * r) same))
+      ]
+    ]
+
+same_small : (u v : ℕ) → u < 2 → v < 2 → nat_eq u 1 ≡ nat_eq v 1 → u ≡ v
+same_small u v p q h = grind (arith, nat_tests)
+
+same_bits : (a b k : ℕ) → bit_of_byte a k ≡ bit_of_byte b k → bit_at a (7 - k) ≡ bit_at b (7 - k)
+same_bits a b k h = same_small (bit_at a (7 - k)) (bit_at b (7 - k)) (bit_at-lt a (7 - k)) (bit_at-lt b (7 - k)) h
+
+-- bytes with the same bits are equal
+pub same_byte : (a b : ℕ) → a < 256 → b < 256 → ((k : ℕ) → k < 8 → bit_of_byte a k ≡ bit_of_byte b k) → a ≡ b
+same_byte a b p q h =
+    same_from_bits_below 8 a b p q (λ i small.
+    let place : 7 - (7 - i) ≡ i = omega arith in
+    ap (λ e. bit_at a e) (sym place) ∙ same_bits a b (7 - i) (h (7 - i) (omega arith)) ∙ ap (λ e. bit_at b e) place)
+
+some_columns : (h r i : ℕ) → i < h * r → 0 < r
+some_columns h r i p =
+    elim (cases_lt 0 r) [
+      | inl some ↦ some
+      | inr none ↦ let zero : r ≡ 0 = omega arith in absurd (omega (arith, ap (λ n. h * n) zero))
+    ]
+
+-- pages of h rows with the same dots across w dots, and clear pads, have the same bytes
+pub same_pages :
+    (r w h : ℕ) (a b : List ℕ)
+    → length a ≡ h * r → length b ≡ h * r → All (λ n. n < 256) a → All (λ n. n < 256) b
+    → ((x y : ℕ) → w ≤ x → dot_of_row (take r (drop (y * r) a)) x ≡ false)
+    → ((x y : ℕ) → w ≤ x → dot_of_row (take r (drop (y * r) b)) x ≡ false)
+    → ((x y : ℕ) → x < w → y < h → dot_of_row (take r (drop (y * r) a)) x ≡ dot_of_row (take r (drop (y * r) b)) x)
+    → a ≡ b
+same_pages r w h a b la lb fa fb pa pb same =
+    ext_get_or 0 a b (la ∙ sym lb) (λ i within.
+    let some : 0 < r = some_columns h r i (omega arith) in
+    let y : ℕ = i / r in
+    let j : ℕ = i % r in
+    let place : i ≡ y * r + j = sym (div-add-mod' i r) in
+    let short : j < r = mod_below i r some in
+    let on_page : y < h = div_below i r h some (omega arith) in
+    same_byte (get_or a i 0) (get_or b i 0) (All-get_or (λ n. n < 256) a i 0 within fa) (All-get_or (λ n. n < 256) b i 0 (omega arith) fb) (λ k small.
+    let x : ℕ = 8 * j + k in
+    let spot : 8 * (y * r) + x ≡ 8 * i + k = omega arith in
+    let in_a = sym (dot_at a (8 * (y * r) + x) i k small spot) ∙ sym (dot_in_page a r x y (omega arith)) in
+    let in_b = dot_in_page b r x y (omega arith) ∙ dot_at b (8 * (y * r) + x) i k small spot in
+    in_a
+    ∙ (elim (cases_lt x w) [
+      | inl seen ↦ same x y seen on_page
+      | inr pad ↦ pa x y pad ∙ sym (pb x y pad)
+    ])
+    ∙ in_b))
+
+-- a row with clear pads is all zeros where its dots across w are white
+pub zeros_from_white :
+    (zs : List ℕ) (w : ℕ)
+    → All (λ n. n < 256) zs → ((x : ℕ) → w ≤ x → dot_of_row zs x ≡ false)
+    → ((x : ℕ) → x < w → dot_of_row zs x ≡ false)
+    → All (λ n. n ≡ 0) zs
+zeros_from_white zs w bytes pads white =
+    All-from_get_or (λ n. n ≡ 0) zs 0 (λ i within.
+    same_byte (get_or zs i 0) 0 (All-get_or (λ n. n < 256) zs i 0 within bytes) (lit< tt) (λ k small.
+    sym (dot_at zs (8 * i + k) i k small refl)
+    ∙ (elim (cases_lt (8 * i + k) w) [ inl seen ↦ white (8 * i + k) seen | inr pad ↦ pads (8 * i + k) pad ])
+    ∙ sym (bit_of_byte-zero k)))
+
+pub white_from_zeros : (zs : List ℕ) → All (λ n. n ≡ 0) zs → (x : ℕ) → dot_of_row zs x ≡ false
+white_from_zeros zs zeros x =
+    let zero : get_or zs (x / 8) 0 ≡ 0 =
+    elim (cases_lt (x / 8) (length zs)) [
+      | inl within ↦ All-get_or (λ n. n ≡ 0) zs (x / 8) 0 within zeros
+      | inr past ↦ get_or_past zs (x / 8) 0 past
+    ] in
+    ap (λ n. bit_of_byte n (x % 8)) zero ∙ bit_of_byte-zero (x % 8)

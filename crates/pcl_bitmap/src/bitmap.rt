@@ -1,0 +1,115 @@
+//! The bitmap of a page.
+
+ghost use Rattle.std.specs.Prelude.{◌≡◌, ℕ, ◌*◌, ◌<◌, ◌≤◌, ◌↔◌, ◌||◌, false, length, All, IsTrue, IfOk};
+ghost use Rattle.pcl_base.specs.Size.{page_width, page_height, page_row_bytes};
+ghost use Rattle.pcl_bitmap.specs.Bitmap.{IsPicture, row_of, dot_of_row, dot, blank_picture};
+ghost use Rattle.pcl_bitmap.specs.Dots.{raster_dot};
+
+use crate::bits;
+use pcl_base::{Dpi, Size};
+use std::alloc::{AllocError, Global};
+use std::marker::Model;
+
+/// The dots of a page: rows of whole bytes, the left dot of each eight in the highest bit, 1 black.
+/// Bits past the width of the page are always clear.
+#[derive(Debug, Drop)]
+pub struct Bitmap {
+    size: Size,
+    dpi: Dpi,
+    bytes: Vec<u8>,
+}
+
+impl Model for Bitmap {
+    ghost use Rattle.pcl_bitmap.specs.Bitmap.{Picture, IsPicture};
+
+    ghost Value = { Picture };
+
+    ghost view = { λ a. record { size = a.size; dpi = a.dpi; bytes = a.bytes.items } };
+
+    ghost invariant = { λ a. IsPicture record { size = a.size; dpi = a.dpi; bytes = a.bytes.items } };
+}
+
+impl Bitmap {
+    /// A white page. It fails where memory runs out.
+    pub fn new(alloc: Global, size: Size, dpi: Dpi) -> Result<Bitmap, AllocError>
+        ensures blank { IfOk result (λ page. page ≡ blank_picture size dpi) }
+        ensures dots { IfOk result (λ page. (x y : ℕ) → dot page x y ≡ false) }
+        ensures picture { IfOk result (λ page. IsPicture page) }
+    {
+        let count = size.height(dpi) as usize * size.row_bytes(dpi);
+        Ok(Bitmap {
+            size,
+            dpi,
+            bytes: vec![in alloc; 0; count]?,
+        })
+    }
+
+    /// The size of the page.
+    pub fn size(&self) -> Size
+        ensures value { result ≡ self.now.size }
+        ensures picture { IsPicture self.now }
+    {
+        self.size
+    }
+
+    /// The resolution of the page.
+    pub fn dpi(&self) -> Dpi
+        ensures value { result ≡ self.now.dpi }
+        ensures picture { IsPicture self.now }
+    {
+        self.dpi
+    }
+
+    /// The bytes of row `y`, the topmost row 0.
+    pub fn row(&self, y: u32) -> &[u8]
+        requires { y < page_height self.now.size self.now.dpi }
+        ensures bytes { result.now ≡ row_of self.now y }
+        ensures len { length result.now ≡ page_row_bytes self.now.size self.now.dpi }
+        ensures in_bytes { All (λ byte. byte < 256) result.now }
+        ensures clear_pads { (x : ℕ) → page_width self.now.size self.now.dpi ≤ x → dot_of_row result.now x ≡ false }
+    {
+        let len = self.size.row_bytes(self.dpi);
+        let start = y as usize * len;
+        &self.bytes[start..start + len]
+    }
+
+    /// Whether row `y` has no black dot, the topmost row 0.
+    pub fn is_blank(&self, y: u32) -> bool
+        requires { y < page_height self.now.size self.now.dpi }
+        ensures bytes { IsTrue result ↔ All (λ byte. byte ≡ 0) (row_of self.now y) }
+        ensures dots { IsTrue result ↔ ((x : ℕ) → x < page_width self.now.size self.now.dpi → dot self.now x y ≡ false) }
+    {
+        bits::is_zero(self.row(y))
+    }
+
+    /// Makes the page white. It takes no memory.
+    pub fn clear(&mut self)
+        ensures blank { self.new ≡ blank_picture self.old.size self.old.dpi }
+        ensures dots { (x y : ℕ) → dot self.new x y ≡ false }
+        ensures picture { IsPicture self.new }
+    {
+        self.bytes.fill(0);
+    }
+
+    /// Paints a row of raster data: the first `width` bits of `row`, high bits first, are raster dots
+    /// from the dot `x` of row `y` on to the right, each a square of `scale` dots, and each set bit
+    /// inks its square (docs/LANGUAGE.md, "Raster graphics"). What lies past the right or the lower
+    /// edge of the page is left out, and a clear bit changes nothing.
+    pub fn paint_row(&mut self, x: u32, y: u64, scale: u32, width: u32, row: &[u8])
+        requires one { scale ≡ 1 }
+        requires bits { width ≤ 8 * length row.now }
+        ensures size { self.new.size ≡ self.old.size }
+        ensures dpi { self.new.dpi ≡ self.old.dpi }
+        ensures dots { (px py : ℕ) → px < page_width self.old.size self.old.dpi → py < page_height self.old.size self.old.dpi
+            → dot self.new px py ≡ (raster_dot x y scale width row.now px py || dot self.old px py) }
+        ensures picture { IsPicture self.new }
+    {
+        let page_width = self.size.width(self.dpi);
+        if x >= page_width || y >= u64::from(self.size.height(self.dpi)) {
+            return;
+        }
+        let start = 8 * (y as usize * self.size.row_bytes(self.dpi)) + x as usize;
+        let count = width.min(page_width - x) as usize;
+        bits::or_bits(&mut self.bytes, start, start + count, row);
+    }
+}

@@ -1,0 +1,55 @@
+//! Runs of bits in lists of bytes. Bit 0 of a list is the highest bit of its first byte.
+
+ghost use Rattle.std.specs.Prelude.{◌≡◌, ℕ, ◌+◌, ◌-◌, ◌*◌, ◌<◌, ◌≤◌, ◌↔◌, nat_le, nat_lt, ◌&&◌, ◌||◌, length, slice_index, All, IsTrue};
+ghost use Rattle.pcl_bitmap.specs.Bitmap.{bit_of_byte, dot_of_row};
+ghost use Rattle.pcl_bitmap.specs.Dots.{run_dot};
+
+// The byte at `index`, 0 past the end.
+fn byte_at(source: &[u8], index: usize) -> u8
+    ensures { result ≡ slice_index source.now index }
+{
+    source.get(index).copied().unwrap_or(0)
+}
+
+// Eight bits of `source`, from bit `8 * index - shift` on. Before its first bit and past its last
+// they are 0.
+fn shifted_byte(source: &[u8], index: usize, shift: usize) -> u8
+    requires { shift < 8 }
+    ensures { (k : ℕ) → k < 8 → let place = 8 * index + k in
+        bit_of_byte result k ≡ (nat_le shift place && dot_of_row source.now (place - shift)) }
+{
+    let before = if index > 0 {
+        byte_at(source, index - 1)
+    } else {
+        0
+    };
+    let pair = u16::from(before) * 256 + u16::from(byte_at(source, index));
+    ((pair >> shift) & 0xFF) as u8
+}
+
+// A byte whose first `count` bits are set, all where there are more.
+fn leading_ones(count: usize) -> u8
+    ensures { (k : ℕ) → k < 8 → bit_of_byte result k ≡ nat_lt k count }
+{
+    if count < 8 { !(0xFF >> count) } else { 0xFF }
+}
+
+/// Sets the bits of `target` from bit `from` up to bit `end` where `source` has a bit set, the first
+/// bit of `source` at `from`. Bits past the end of `source` count as clear.
+pub fn or_bits(target: &mut [u8], from: usize, end: usize, source: &[u8])
+    requires { end ≤ 8 * length target.old }
+    ensures bits { (k : ℕ) → dot_of_row target.new k ≡ (run_dot from end source.now k || dot_of_row target.old k) }
+    ensures in_bytes { All (λ byte. byte < 256) target.new }
+{
+    let first = from / 8;
+    for i in first..end.div_ceil(8) {
+        target[i] |= shifted_byte(source, i - first, from % 8) & leading_ones(end - 8 * i);
+    }
+}
+
+/// Whether every bit of `bytes` is clear.
+pub fn is_zero(bytes: &[u8]) -> bool
+    ensures { IsTrue result ↔ All (λ byte. byte ≡ 0) bytes.now }
+{
+    bytes.iter().all(|byte| *byte == 0)
+}
