@@ -3,6 +3,5 @@ pub mod Size
 pub mod Method
 pub mod Value
 pub mod Kind
-pub mod NameInside
 pub mod Name
 pub mod Refusal

@@ -1,7 +1,9 @@
--- Names of commands, as lists of bytes.
+-- Names of commands, as messages print them.
 use Rattle.std.specs.Prelude.{ℕ, ◌==◌, if◌then◌else◌, List, [], ◌∷◌, codes}
+use Rattle.pcl_base.specs.declared.name.Name.{Name}
+use Rattle.pcl_base.specs.declared.name.Name.TheVariants.{Empty, One, Two, Three}
 
--- what messages print for a name of one byte
+-- a name of one byte
 abbrev pub code_text : ℕ → List ℕ
 code_text code =
     if code == 8 then codes "BS"
@@ -13,8 +15,8 @@ code_text code =
     else (if code == 15 then codes "SI"
     else (if code == 32 then codes "text" else code ∷ [])))))))
 
--- a name as messages print it
-abbrev pub name_text : List ℕ → List ℕ
-name_text [] = codes "-"
-name_text (code ∷ []) = code_text code
-name_text (first ∷ second ∷ rest) = first ∷ second ∷ rest
+abbrev pub name_text : Name → List ℕ
+name_text Empty = codes "-"
+name_text (One code) = code_text code
+name_text (Two first second) = first ∷ second ∷ []
+name_text (Three first second third) = first ∷ second ∷ third ∷ []

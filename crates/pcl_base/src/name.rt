@@ -1,103 +1,46 @@
 //! The names of commands.
 
-ghost use Rattle.std.specs.Prelude.{◌≡◌, ◌≤◌, List, [], ◌∷◌, ℕ, length};
+ghost use Rattle.std.specs.Prelude.{◌≡◌, ◌++◌, if◌then◌else◌, is_ok};
 ghost use Rattle.pcl_base.specs.Name.{name_text};
 
-use std::marker::Model;
+use std::alloc::AllocError;
 
 /// The name of a command: what its sequence has of the byte after ESC, the group byte and the parameter
-/// or ending byte, this last as an upper-case byte; a control code is its byte, text is the byte 32, and
-/// the empty name stands for a lone ESC and for the end of the input. Contracts see it as those bytes.
+/// or ending byte, this last as an upper-case byte, as far as they were read.
 #[derive(Clone, Copy, Debug, PartialEq, Eq)]
-pub struct Name {
-    len: u8,
-    bytes: [u8; 3],
-}
-
-impl Model for Name {
-    ghost use Rattle.std.specs.Prelude.{List, ℕ};
-    ghost use Rattle.std.specs.Coded.{coded_list, coded_ℕ};
-
-    ghost Value = { List ℕ };
-
-    ghost coded = { coded_list coded_ℕ };
-
-    ghost use Rattle.pcl_base.specs.NameInside.{shown, IsName, inside_of, inside_of-shown};
-
-    ghost view = { shown };
-
-    ghost invariant = { IsName };
-
-    ghost inverse = { inside_of };
-
-    ghost inverse_ok = { inside_of-shown };
+pub enum Name {
+    /// The name of a lone ESC and of the end of the input.
+    Empty,
+    /// The byte after ESC, a control code, or the byte 32 for text.
+    One(u8),
+    /// The bytes after ESC of a sequence.
+    Two(u8, u8),
+    /// The bytes after ESC of a sequence, and the letter of a parameter.
+    Three(u8, u8, u8),
 }
 
 impl Name {
-    /// The empty name.
-    pub fn empty() -> Name
-        ensures { result ≡ [] }
-    {
-        Name {
-            len: 0,
-            bytes: [0; 3],
-        }
-    }
+    /// The name of text.
+    pub const TEXT: Name = Name::One(32);
 
-    /// A name of one byte.
-    pub fn of_one(first: u8) -> Name
-        ensures { result ≡ first ∷ [] }
+    /// Appends the name as messages print it: its bytes, `text` for text, the code's own name for a
+    /// control code, and `-` for the empty name. Where memory runs out `out` stays as it was.
+    pub fn write_text(&self, out: &mut Vec<u8>) -> Result<(), AllocError>
+        ensures { out.new.items ≡ (if is_ok result then out.old.items ++ name_text self.now else out.old.items) }
     {
-        Name {
-            len: 1,
-            bytes: [first, 0, 0],
-        }
-    }
-
-    /// A name of two bytes.
-    pub fn of_two(first: u8, second: u8) -> Name
-        ensures { result ≡ first ∷ second ∷ [] }
-    {
-        Name {
-            len: 2,
-            bytes: [first, second, 0],
-        }
-    }
-
-    /// A name of three bytes.
-    pub fn of_three(first: u8, second: u8, third: u8) -> Name
-        ensures { result ≡ first ∷ second ∷ third ∷ [] }
-    {
-        Name {
-            len: 3,
-            bytes: [first, second, third],
-        }
-    }
-
-    /// The bytes of the name, three at most.
-    pub fn as_bytes(&self) -> &[u8]
-        ensures bytes { result.now ≡ self.now }
-        ensures short { length result.now ≤ 3 }
-    {
-        &self.bytes[..self.len as usize]
-    }
-
-    /// The name as messages print it: its bytes, `text` for text, the code's own name for a control
-    /// code, and `-` for the empty name.
-    pub fn text(&self) -> &[u8]
-        ensures { result.now ≡ name_text self.now }
-    {
-        match self.as_bytes() {
-            [] => b"-",
-            [8] => b"BS",
-            [9] => b"HT",
-            [10] => b"LF",
-            [12] => b"FF",
-            [13] => b"CR",
-            [14] => b"SO",
-            [15] => b"SI",
-            [32] => b"text",
-            bytes => bytes,
+        match *self {
+            Name::Empty => out.extend_from_slice(b"-"),
+            Name::One(8) => out.extend_from_slice(b"BS"),
+            Name::One(9) => out.extend_from_slice(b"HT"),
+            Name::One(10) => out.extend_from_slice(b"LF"),
+            Name::One(12) => out.extend_from_slice(b"FF"),
+            Name::One(13) => out.extend_from_slice(b"CR"),
+            Name::One(14) => out.extend_from_slice(b"SO"),
+            Name::One(15) => out.extend_from_slice(b"SI"),
+            Name::One(32) => out.extend_from_slice(b"text"),
+            Name::One(first) => out.extend_from_slice(&[first]),
+            Name::Two(first, second) => out.extend_from_slice(&[first, second]),
+            Name::Three(first, second, third) => out.extend_from_slice(&[first, second, third]),
         }
     }
 }

@@ -43,6 +43,6 @@ impl Refusal {
         out.extend_from_slice(b" at ")?;
         out.extend_from_slice(digits.format(self.at).as_bytes())?;
         out.extend_from_slice(b" ")?;
-        out.extend_from_slice(self.name.text())
+        self.name.write_text(out)
     }
 }

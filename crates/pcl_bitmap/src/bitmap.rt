@@ -12,7 +12,7 @@ use std::marker::Model;
 
 /// The dots of a page: rows of whole bytes, the left dot of each eight in the highest bit, 1 black.
 /// Bits past the width of the page are always clear.
-#[derive(Debug, Drop)]
+#[derive(Clone, Debug, Drop)]
 pub struct Bitmap {
     size: Size,
     dpi: Dpi,
@@ -73,6 +73,14 @@ impl Bitmap {
         &self.bytes[start..start + len]
     }
 
+    /// The bytes of all rows, one row after the other.
+    pub fn bytes(&self) -> &[u8]
+        ensures bytes { result.now ≡ self.now.bytes }
+        ensures picture { IsPicture self.now }
+    {
+        &self.bytes
+    }
+
     /// Whether row `y` has no black dot, the topmost row 0.
     pub fn is_blank(&self, y: u32) -> bool
         requires { y < page_height self.now.size self.now.dpi }
@@ -113,3 +121,4 @@ impl Bitmap {
         bits::or_bits(&mut self.bytes, start, start + count, row);
     }
 }
+

@@ -1,2 +1,15 @@
-//! pcl_escape
+//! Reading a job: the bytes become a list of commands, or the first fault.
 #![tactic(auto)]
+
+mod command;
+mod field;
+mod job;
+mod operation;
+mod step;
+
+pub use command::Command;
+pub use job::{one_outcome, read_job};
+pub use operation::Operation;
+
+#[cfg(test)]
+mod tests;

@@ -1,0 +1,90 @@
+-- What the first fault of a job is: a front that reads without fault, and what first fails behind it.
+use Rattle.std.specs.Prelude.{◌≡◌, ℕ, ◌+◌, Bool, true, false, ◌==◌, ◌&&◌, ◌||◌, is_none, IsTrue, IsNone, List, [], ◌∷◌, ◌++◌, length, Err}
+use Rattle.std.specs.List.{flat_map, AllByRecursion}
+use Rattle.pcl_base.specs.declared.name.Name.{Name}
+use Rattle.pcl_base.specs.declared.name.Name.TheVariants.{Empty, One}
+use Rattle.pcl_base.specs.declared.kind.Kind.{Kind}
+use Rattle.pcl_base.specs.declared.kind.Kind.TheVariants.{Truncated, BadSequence, UnsupportedCommand}
+use Rattle.pcl_base.specs.declared.refusal.Refusal.{Refusal}
+use Rattle.pcl_base.specs.declared.fault.JobFault.{JobFault}
+use Rattle.pcl_base.specs.declared.fault.JobFault.TheVariants.{Refused, Memory}
+use Rattle.pcl_base.specs.declared.value.Sign.{Sign}
+use Rattle.pcl_base.specs.declared.value.Sign.TheVariants.{Absent, Plus, Minus}
+use Rattle.pcl_escape.specs.declared.step.Prefix.{Prefix}
+use Rattle.pcl_escape.specs.Operation.{operation_of}
+use Rattle.pcl_escape.specs.Letter.{is_silent, is_control, is_two_character, is_parameterized, is_unread, is_group, is_letter, prefix_name, parameter_name}
+use Rattle.pcl_escape.specs.Field.{Spelled, is_digit, field_bytes, field_value}
+use Rattle.pcl_escape.specs.Checks.{parameter_checks}
+use Rattle.pcl_escape.specs.Pieces.{Parameter, Piece, IsField, IsPrefix, IsMiddle, IsPiece, parameter_bytes, spelling}
+
+abbrev pub refusal : Kind → ℕ → Name → Refusal
+refusal kind at name = record { kind = kind; at = at; name = name }
+
+-- ---- where a value field stops
+
+abbrev pub is_absent : Sign → Bool
+is_absent Absent = true
+is_absent Plus = false
+is_absent Minus = false
+
+abbrev pub is_empty : List ℕ → Bool
+is_empty [] = true
+is_empty (byte ∷ bytes) = false
+
+-- nothing of the field is there yet
+abbrev pub is_bare : Spelled → Bool
+is_bare field = is_absent field.sign && (is_empty field.whole && is_none field.fraction)
+
+-- the byte would be a part of the field: a digit, its point, or the sign that it begins with
+abbrev pub extends : Spelled → ℕ → Bool
+extends field byte = is_digit byte || (byte == 46 && is_none field.fraction) || ((byte == 43 || byte == 45) && is_bare field)
+
+-- ---- what fails
+
+-- what first fails in a parameter: it isn't whole, another byte stands in the place of its letter, or a check fails
+pub data FailsParameter : Prefix → ℕ → List ℕ → Refusal → Type 0 where
+  cut : {prefix : Prefix} {at : ℕ} (field : Spelled) → IsField field
+      → FailsParameter prefix at (field_bytes field) (refusal Truncated at (prefix_name prefix))
+  no_letter : {prefix : Prefix} {at : ℕ} (field : Spelled) (byte : ℕ) (bytes : List ℕ) → IsField field → extends field byte ≡ false → is_letter byte ≡ false
+      → FailsParameter prefix at (field_bytes field ++ byte ∷ bytes) (refusal BadSequence at (prefix_name prefix))
+  check : {prefix : Prefix} {at : ℕ} (field : Spelled) (letter : ℕ) (bytes : List ℕ) (kind : Kind) → IsField field → IsTrue (is_letter letter)
+      → parameter_checks (parameter_name prefix letter) letter (field_value field) (length bytes) ≡ Err kind
+      → FailsParameter prefix at (field_bytes field ++ letter ∷ bytes) (refusal kind at (parameter_name prefix letter))
+
+-- the place of the parameter behind these: of the first one, the place of ESC
+abbrev pub place_behind : ℕ → List Parameter → ℕ
+place_behind at [] = at
+place_behind at (parameter ∷ middle) = at + 3 + length (flat_map parameter_bytes (parameter ∷ middle))
+
+-- what first fails in the bytes, which begin at a place outside sequences
+pub data Fails : ℕ → List ℕ → Refusal → Type 0 where
+  unknown_control : {at code : ℕ} {bytes : List ℕ} → IsTrue (is_control code) → is_silent code ≡ false → IsNone (operation_of (One code))
+      → Fails at (code ∷ bytes) (refusal UnsupportedCommand at (One code))
+  text : {at byte : ℕ} {bytes : List ℕ} → is_silent byte ≡ false → is_control byte ≡ false → (byte == 27) ≡ false
+      → Fails at (byte ∷ bytes) (refusal UnsupportedCommand at (One 32))
+  lone_escape : {at : ℕ} → Fails at (27 ∷ []) (refusal Truncated at Empty)
+  no_sequence : {at byte : ℕ} {bytes : List ℕ} → is_two_character byte ≡ false → is_parameterized byte ≡ false
+      → Fails at (27 ∷ byte ∷ bytes) (refusal BadSequence at Empty)
+  unknown_two : {at byte : ℕ} {bytes : List ℕ} → IsTrue (is_two_character byte) → IsNone (operation_of (One byte))
+      → Fails at (27 ∷ byte ∷ bytes) (refusal UnsupportedCommand at (One byte))
+  unread : {at byte : ℕ} {bytes : List ℕ} → IsTrue (is_unread byte)
+      → Fails at (27 ∷ byte ∷ bytes) (refusal UnsupportedCommand at (One byte))
+  no_group : {at byte : ℕ} → IsTrue (is_parameterized byte) → is_unread byte ≡ false
+      → Fails at (27 ∷ byte ∷ []) (refusal Truncated at (One byte))
+  bad_group : {at byte group : ℕ} {bytes : List ℕ} → IsTrue (is_parameterized byte) → is_unread byte ≡ false → is_group group ≡ false
+      → Fails at (27 ∷ byte ∷ group ∷ bytes) (refusal BadSequence at (One byte))
+  in_parameter : {at : ℕ} {bytes : List ℕ} {fault : Refusal} (prefix : Prefix) (middle : List Parameter) → IsPrefix prefix → AllByRecursion (IsMiddle prefix) middle
+      → FailsParameter prefix (place_behind at middle) bytes fault
+      → Fails at (27 ∷ prefix.parameterized ∷ prefix.group ∷ (flat_map parameter_bytes middle ++ bytes)) fault
+
+pub record IsFault (job : List ℕ) (fault : Refusal) : Type 0 where
+  pub front : List Piece
+  pub each : AllByRecursion IsPiece front
+  pub behind : List ℕ
+  pub spelled : job ≡ flat_map spelling front ++ behind
+  pub fails : Fails (length (flat_map spelling front)) behind fault
+
+-- a fault of a call that reads the job: want of memory is no fault of the job
+abbrev pub IsFaultOf : List ℕ → JobFault → Type 0
+IsFaultOf job (Refused fault) = IsFault job fault
+IsFaultOf job Memory = Unit {0}

@@ -1,0 +1,91 @@
+-- Value fields: a sign, digits, and a point with digits; each may be missing.
+use Rattle.std.specs.Prelude.{ℕ, ◌+◌, ◌*◌, ◌-◌, Bool, ◌==◌, ◌&&◌, nat_le, if◌then◌else◌, List, [], ◌∷◌, ◌++◌, take, drop, fold, slice_index, Option, Some, None}
+use Rattle.std.specs.List.{prefix_len}
+use Rattle.std.specs.Borrow.{Bor}
+use Rattle.pcl_base.specs.declared.value.Sign.{Sign}
+use Rattle.pcl_base.specs.declared.value.Sign.TheVariants.{Absent, Plus, Minus}
+use Rattle.pcl_base.specs.declared.value.Value.{Value}
+use Rattle.pcl_escape.specs.declared.field.Field.{Field}
+
+-- a field as it is spelled
+pub record Spelled : Type 0 where
+  pub sign : Sign
+  pub whole : List ℕ
+  pub fraction : Option (List ℕ)
+
+-- ---- how a field is spelled
+
+abbrev pub sign_bytes : Sign → List ℕ
+sign_bytes Absent = []
+sign_bytes Plus = 43 ∷ []
+sign_bytes Minus = 45 ∷ []
+
+abbrev pub fraction_bytes : Option (List ℕ) → List ℕ
+fraction_bytes None = []
+fraction_bytes (Some digits) = 46 ∷ digits
+
+abbrev pub field_bytes : Spelled → List ℕ
+field_bytes field = sign_bytes field.sign ++ field.whole ++ fraction_bytes field.fraction
+
+-- ---- what it says
+
+abbrev pub is_digit : ℕ → Bool
+is_digit byte = nat_le 48 byte && nat_le byte 57
+
+-- the number that digits spell
+abbrev pub number_of : List ℕ → ℕ
+number_of digits = fold (λ n digit. n * 10 + (digit - 48)) 0 digits
+
+-- a digit's number, 0 past the end
+abbrev pub digit_at : List ℕ → ℕ → ℕ
+digit_at digits place = slice_index digits place - 48
+
+-- four decimals are kept, further ones dropped
+abbrev pub ten_thousandths : List ℕ → ℕ
+ten_thousandths digits = 1000 * digit_at digits 0 + 100 * digit_at digits 1 + 10 * digit_at digits 2 + digit_at digits 3
+
+abbrev pub fraction_parts : Option (List ℕ) → ℕ
+fraction_parts None = 0
+fraction_parts (Some digits) = ten_thousandths digits
+
+abbrev pub field_value : Spelled → Value
+field_value field = record { sign = field.sign; parts = number_of field.whole * 10000 + fraction_parts field.fraction }
+
+-- at most 65535, and with a minus sign at most 32767
+abbrev pub greatest_parts : Sign → ℕ
+greatest_parts Absent = 655350000
+greatest_parts Plus = 655350000
+greatest_parts Minus = 327670000
+
+abbrev pub in_range : Value → Bool
+in_range value = nat_le value.parts (greatest_parts value.sign)
+
+-- ---- reading one from the left
+
+abbrev pub sign_at : List ℕ → Sign × List ℕ
+sign_at [] = (Absent, [])
+sign_at (byte ∷ bytes) = if byte == 43 then (Plus, bytes) else (if byte == 45 then (Minus, bytes) else (Absent, byte ∷ bytes))
+
+abbrev pub digits_at : List ℕ → List ℕ × List ℕ
+digits_at bytes = (take (prefix_len is_digit bytes) bytes, drop (prefix_len is_digit bytes) bytes)
+
+-- a point and digits, if a point is there
+abbrev pub fraction_at : List ℕ → Option (List ℕ) × List ℕ
+fraction_at [] = (None, [])
+fraction_at (byte ∷ bytes) = if byte == 46 then (let digits = digits_at bytes in (Some digits.0, digits.1)) else (None, byte ∷ bytes)
+
+unfoldable pub field_at : List ℕ → Spelled × List ℕ
+field_at bytes =
+    let sign = sign_at bytes in
+    let whole = digits_at sign.1 in
+    let fraction = fraction_at whole.1 in
+    (record { sign = sign.0; whole = whole.0; fraction = fraction.0 }, fraction.1)
+
+-- ---- a field of the code
+
+abbrev pub contents : Option (Bor (List ℕ)) → Option (List ℕ)
+contents None = None
+contents (Some digits) = Some digits.now
+
+abbrev pub spelled : Field → Spelled
+spelled field = record { sign = field.sign; whole = field.whole.now; fraction = contents field.fraction }

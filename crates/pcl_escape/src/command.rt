@@ -1,0 +1,18 @@
+//! The commands of a job.
+
+use pcl_base::{Name, Value};
+
+/// A command of a job, as it is spelled there.
+#[derive(Clone, Copy, Debug)]
+pub struct Command<'a> {
+    /// Where the command stands, in bytes from the job's begin: the place of ESC for the first command of
+    /// a sequence, the place behind the parameter before it for a later one, and its own place for a
+    /// control code.
+    pub at: usize,
+    /// The name.
+    pub name: Name,
+    /// The value of its field, 0 with no sign where it has none.
+    pub value: Value,
+    /// The data that follow it, a slice of the job.
+    pub bytes: &'a [u8],
+}

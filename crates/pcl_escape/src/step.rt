@@ -1,0 +1,223 @@
+//! One step of the reading: a silent byte, a control code, a two-character sequence, or one parameter.
+
+ghost use Rattle.std.specs.Prelude.{◌≡◌, ◌≤◌, IsTrue, IfOk, Err, None};
+ghost use Rattle.pcl_escape.specs.Letter.{goes_on, is_letter, prefix_name, parameter_name};
+ghost use Rattle.pcl_escape.specs.Operation.{operation_of};
+ghost use Rattle.pcl_escape.specs.Checks.{operation_checks};
+ghost use Rattle.pcl_escape.specs.Scan.{Gives, step_view, step_at, start_at, sequence_at, group_at, parameter_at, named_at};
+
+use crate::field::read_field;
+use crate::{Command, Operation};
+use pcl_base::{Kind, Name, Refusal, Value};
+
+/// The byte that begins a sequence.
+const ESC: u8 = 27;
+
+/// What the parameters of a combined sequence share: the two bytes after ESC.
+#[derive(Clone, Copy, Debug, PartialEq, Eq)]
+pub struct Prefix {
+    /// The parameterized character, 33 to 47.
+    pub parameterized: u8,
+    /// The group character, 96 to 126.
+    pub group: u8,
+}
+
+/// What one step read.
+#[derive(Clone, Copy)]
+pub struct Step<'a> {
+    /// The command, if the step gave one.
+    pub command: Option<Command<'a>>,
+    /// The bytes behind it.
+    pub rest: &'a [u8],
+    /// The sequence that goes on there, if one does.
+    pub inside: Option<Prefix>,
+}
+
+/// Reads what stands at the front of the bytes, inside a combined sequence or outside. `at` is the
+/// place of the front.
+pub fn read_step<'a>(
+    inside: Option<Prefix>,
+    at: usize,
+    bytes: &'a [u8],
+) -> Result<Step<'a>, Refusal>
+    ensures { Gives result (step_at inside at bytes.now) }
+{
+    match inside {
+        Some(prefix) => read_parameter(prefix, at, bytes),
+        None => read_start(at, bytes),
+    }
+}
+
+/// Reads what stands at the front of the bytes, outside sequences.
+#[tactic(auto, unfolding(crate::specs::Scan::start_at))]
+fn read_start<'a>(at: usize, bytes: &'a [u8]) -> Result<Step<'a>, Refusal>
+    ensures { Gives result (start_at at bytes.now) }
+{
+    let Some((&first, after)) = bytes.split_first() else {
+        return Ok(silent(bytes));
+    };
+    match first {
+        0 | 7 | 11 => Ok(silent(after)),
+        ESC => read_sequence(at, after),
+        8..=15 => read_named(at, first, after),
+        _ => refused(Kind::UnsupportedCommand, at, Name::TEXT),
+    }
+}
+
+/// Reads the sequence whose ESC stands before the bytes, up to its first parameter.
+#[tactic(auto, unfolding(crate::specs::Scan::sequence_at))]
+fn read_sequence<'a>(at: usize, bytes: &'a [u8]) -> Result<Step<'a>, Refusal>
+    ensures { Gives result (sequence_at at bytes.now) }
+{
+    let Some((&first, after)) = bytes.split_first() else {
+        return refused(Kind::Truncated, at, Name::Empty);
+    };
+    match first {
+        48..=126 => read_named(at, first, after),
+        b'(' | b')' | b'%' => refused(Kind::UnsupportedCommand, at, Name::One(first)),
+        33..=47 => read_group(at, first, after),
+        _ => refused(Kind::BadSequence, at, Name::Empty),
+    }
+}
+
+/// Reads the group character of a combined sequence, and its first parameter.
+#[tactic(auto, unfolding(crate::specs::Scan::group_at))]
+fn read_group<'a>(at: usize, parameterized: u8, bytes: &'a [u8]) -> Result<Step<'a>, Refusal>
+    ensures { Gives result (group_at at parameterized bytes.now) }
+{
+    let Some((&group, after)) = bytes.split_first() else {
+        return refused(Kind::Truncated, at, Name::One(parameterized));
+    };
+    if !matches!(group, 96..=126) {
+        return refused(Kind::BadSequence, at, Name::One(parameterized));
+    }
+    let prefix = Prefix {
+        parameterized,
+        group,
+    };
+    read_parameter(prefix, at, after)
+}
+
+/// A control code or a two-character sequence: a command whose name is one byte, without value or data.
+#[tactic(auto, unfolding(crate::specs::Scan::named_at))]
+fn read_named<'a>(at: usize, code: u8, rest: &'a [u8]) -> Result<Step<'a>, Refusal>
+    ensures { Gives result (named_at at code rest.now) }
+{
+    let name = Name::One(code);
+    if Operation::with_name(name).is_none() {
+        return refused(Kind::UnsupportedCommand, at, name);
+    }
+    let command = Command {
+        at,
+        name,
+        value: Value::ZERO,
+        bytes: &[],
+    };
+    Ok(Step {
+        command: Some(command),
+        rest,
+        inside: None,
+    })
+}
+
+/// Reads a parameter: its field, its letter, and its data.
+#[tactic(auto, unfolding(crate::specs::Scan::parameter_at, crate::specs::Checks::parameter_checks))]
+fn read_parameter<'a>(prefix: Prefix, at: usize, bytes: &'a [u8]) -> Result<Step<'a>, Refusal>
+    ensures { Gives result (parameter_at prefix at bytes.now) }
+{
+    let (field, rest) = read_field(bytes);
+    let Some((&letter, after)) = rest.split_first() else {
+        return refused(Kind::Truncated, at, prefix.name());
+    };
+    if !is_letter(letter) {
+        return refused(Kind::BadSequence, at, prefix.name());
+    }
+    let name = parameter_name(prefix, letter);
+    let Some(value) = field.value() else {
+        return refused(Kind::ValueRange, at, name);
+    };
+    let len = match data_len(name, letter, value, after.len()) {
+        Err(kind) => return refused(kind, at, name),
+        Ok(len) => len,
+    };
+    let (bytes, rest) = after.split_at(len);
+    let command = Command {
+        at,
+        name,
+        value,
+        bytes,
+    };
+    Ok(Step {
+        command: Some(command),
+        rest,
+        inside: goes_on(letter).then_some(prefix),
+    })
+}
+
+/// How many bytes of data follow a parameter, of those that are left; or what is wrong.
+fn data_len(name: Name, letter: u8, value: Value, left: usize) -> Result<usize, Kind>
+    ensures checks { result ≡ operation_checks (operation_of name) letter value left }
+    ensures within { IfOk result (λ len. len ≤ left) }
+{
+    match Operation::with_name(name) {
+        None => Err(Kind::UnsupportedCommand),
+        Some(operation) if !operation.takes_data() => Ok(0),
+        Some(_) if value.whole() < 0 => Err(Kind::ValueRange),
+        Some(_) => match value.whole() as usize {
+            0 => Ok(0),
+            _ if goes_on(letter) => Err(Kind::BadSequence),
+            len if left < len => Err(Kind::Truncated),
+            len => Ok(len),
+        },
+    }
+}
+
+/// A step that gives no command.
+fn silent(rest: &[u8]) -> Step<'_>
+    ensures { step_view result ≡ record { said = None; rest = rest.now; inside = None } }
+{
+    Step {
+        command: None,
+        rest,
+        inside: None,
+    }
+}
+
+/// The fault of a step.
+fn refused<'a>(kind: Kind, at: usize, name: Name) -> Result<Step<'a>, Refusal>
+    ensures { result ≡ Err record { kind = kind; at = at; name = name } }
+{
+    Err(Refusal { kind, at, name })
+}
+
+impl Prefix {
+    /// The name of a sequence of which no more was read.
+    fn name(self) -> Name
+        ensures { result ≡ prefix_name self }
+    {
+        Name::Two(self.parameterized, self.group)
+    }
+}
+
+/// Whether the sequence goes on behind a parameter with this letter.
+fn goes_on(letter: u8) -> bool
+    ensures { result ≡ goes_on letter }
+{
+    matches!(letter, 96..=126)
+}
+
+/// Whether the byte ends a parameter.
+fn is_letter(byte: u8) -> bool
+    ensures { result ≡ is_letter byte }
+{
+    matches!(byte, 64..=94 | 96..=126)
+}
+
+/// The name of a parameter: the letter is named as an upper-case one.
+fn parameter_name(prefix: Prefix, letter: u8) -> Name
+    requires { IsTrue (is_letter letter) }
+    ensures { result ≡ parameter_name prefix letter }
+{
+    let upper_case = if goes_on(letter) { letter - 32 } else { letter };
+    Name::Three(prefix.parameterized, prefix.group, upper_case)
+}

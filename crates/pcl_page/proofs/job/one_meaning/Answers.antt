@@ -1,0 +1,37 @@
+use Rattle.std.proofs.Common.{◌≡◌, ◌∙◌, List, ℕ, Some, Option, sym, ap, inl, inr, refl}
+use Rattle.pcl_base.specs.declared.dpi.Dpi.{Dpi}
+use Rattle.pcl_base.specs.declared.refusal.Refusal.{Refusal}
+use Rattle.pcl_escape.specs.Said.{Said}
+use Rattle.pcl_page.specs.History.{Sheet, sheets}
+use Rattle.pcl_page.specs.Jobs.{HasPages, IsStopped, IsRefusal, performance_of}
+use Rattle.pcl_page.proofs.job.one_meaning.Goals as goal
+
+pub returns-clause-pages : goal.returns-clause-pages
+returns-clause-pages c = λ dpi job pages others p q.
+    p.ejected ∙ ap (λ (commands : List Said). sheets dpi (performance_of dpi job commands).history) (c.one_outcome.ensures.reading job p.commands q.commands p.reading q.reading) ∙ sym q.ejected
+
+same_stop : (dpi : Dpi) (job : List ℕ) (refusal other : Refusal) (p : IsStopped dpi job refusal) (q : IsStopped dpi job other) → p.commands ≡ q.commands → refusal ≡ other
+same_stop dpi job refusal other p q e =
+    let s : Some refusal ≡ Some other = sym p.refused ∙ ap (λ (commands : List Said). (performance_of dpi job commands).refusal) e ∙ q.refused in cc
+
+pub returns-clause-refusal : goal.returns-clause-refusal
+returns-clause-refusal c = λ dpi job refusal other p q.
+    elim p [
+      | inl f ↦ elim q [
+          | inl k ↦ c.one_outcome.ensures.fault job refusal other f k
+          | inr s ↦ absurd (c.one_outcome.ensures.apart job s.commands refusal s.reading f)
+        ]
+      | inr s ↦ elim q [
+          | inl k ↦ absurd (c.one_outcome.ensures.apart job s.commands other s.reading k)
+          | inr t ↦ same_stop dpi job refusal other s t (c.one_outcome.ensures.reading job s.commands t.commands s.reading t.reading)
+        ]
+    ]
+
+pub returns-clause-apart : goal.returns-clause-apart
+returns-clause-apart c = λ dpi job pages refusal p r.
+    elim r [
+      | inl f ↦ c.one_outcome.ensures.apart job p.commands refusal p.reading f
+      | inr s ↦
+          let e = ap (λ (commands : List Said). (performance_of dpi job commands).refusal) (c.one_outcome.ensures.reading job p.commands s.commands p.reading s.reading) in
+          let n = sym p.accepted ∙ e ∙ s.refused in absurd cc
+    ]

@@ -1,0 +1,52 @@
+-- What a job means: its pages, or why it is refused.
+use Rattle.std.specs.Prelude.{◌≡◌, ℕ, List, [], ◌∷◌, length, ◌⊎◌, Option, Some, None, Result, Ok, Err}
+use Rattle.std.specs.Global.{Vec}
+use Rattle.pcl_base.specs.declared.dpi.Dpi.{Dpi}
+use Rattle.pcl_base.specs.declared.fault.JobFault.{JobFault}
+use Rattle.pcl_base.specs.declared.fault.JobFault.TheVariants.{Refused, Memory}
+use Rattle.pcl_base.specs.declared.refusal.Refusal.{Refusal}
+use Rattle.pcl_escape.specs.Said.{Said}
+use Rattle.pcl_escape.specs.Pieces.{IsReading}
+use Rattle.pcl_escape.specs.Faults.{IsFault}
+use Rattle.pcl_page.specs.declared.page.Page.{Page}
+use Rattle.pcl_page.specs.History.{Sheet, sheets}
+use Rattle.pcl_page.specs.Performing.{Shows, Hands, Performance, performance}
+
+-- what is performed of a job whose reading is these commands
+abbrev pub performance_of : Dpi → List ℕ → List Said → Performance
+performance_of dpi job commands = performance dpi (length job) [] commands
+
+-- the job is accepted, and these are its pages
+pub record HasPages (dpi : Dpi) (job : List ℕ) (pages : List Sheet) : Type 0 where
+  pub commands : List Said
+  pub reading : IsReading job commands
+  pub accepted : (performance_of dpi job commands).refusal ≡ None
+  pub ejected : pages ≡ sheets dpi (performance_of dpi job commands).history
+
+-- the job is read, and the performing refuses it
+pub record IsStopped (dpi : Dpi) (job : List ℕ) (refusal : Refusal) : Type 0 where
+  pub commands : List Said
+  pub reading : IsReading job commands
+  pub refused : (performance_of dpi job commands).refusal ≡ Some refusal
+
+-- the refusal of a job: its first fault, or else that of the first command that is refused
+abbrev pub IsRefusal : Dpi → List ℕ → Refusal → Type 0
+IsRefusal dpi job refusal = IsFault job refusal ⊎ IsStopped dpi job refusal
+
+-- the sink takes the pages of an accepted job, in order; a refusal is the job's; memory may run out
+abbrev pub Delivers : {S : Type 0} → (S → Page → S → Type 0) → Dpi → List ℕ → Result (Unit {0}) JobFault → S → S → Type 0
+Delivers {S} takes dpi job (Ok unit) old new = (pages : List Sheet) × HasPages dpi job pages × Hands takes dpi pages old new
+Delivers {S} takes dpi job (Err (Refused refusal)) old new = IsRefusal dpi job refusal
+Delivers {S} takes dpi job (Err Memory) old new = Unit {0}
+
+-- pages show the sheets, one by one
+abbrev pub AllShow : Dpi → List Page → List Sheet → Type 0
+AllShow dpi [] [] = Unit {0}
+AllShow dpi [] (sheet ∷ sheets) = ⊥
+AllShow dpi (page ∷ pages) [] = ⊥
+AllShow dpi (page ∷ pages) (sheet ∷ sheets) = Shows dpi page sheet × AllShow dpi pages sheets
+
+abbrev pub IsPagesOf : Dpi → List ℕ → Result (Vec Page) JobFault → Type 0
+IsPagesOf dpi job (Ok pages) = (meant : List Sheet) × HasPages dpi job meant × AllShow dpi pages.items meant
+IsPagesOf dpi job (Err (Refused refusal)) = IsRefusal dpi job refusal
+IsPagesOf dpi job (Err Memory) = Unit {0}

@@ -1,0 +1,4 @@
+pub mod Environment
+pub mod History
+pub mod Performing
+pub mod Jobs

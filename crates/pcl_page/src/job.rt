@@ -1,0 +1,95 @@
+//! Performing whole jobs.
+
+ghost use Rattle.pcl_escape.specs.Said.{views};
+ghost use Rattle.pcl_page.specs.Performing.{HandsOver, performance};
+ghost use Rattle.std.specs.Prelude.{◌≡◌, ◌++◌, ◌∷◌, [], ℕ, List};
+ghost use Rattle.pcl_base.specs.declared.dpi.Dpi.{Dpi};
+ghost use Rattle.pcl_base.specs.declared.refusal.Refusal.{Refusal};
+ghost use Rattle.pcl_page.specs.History.{Sheet};
+ghost use Rattle.pcl_page.specs.Jobs.{HasPages, IsRefusal, Delivers, IsPagesOf};
+
+use crate::{Page, PageSink};
+use crate::performer::Performer;
+use pcl_base::{Dpi, JobFault};
+use pcl_escape::{Command, one_outcome, read_job};
+use std::alloc::{AllocError, Global};
+use std::marker::Model;
+
+/// Performs the commands of a job of `end` bytes and hands its pages to the sink, in order, each once.
+/// One bitmap is painted, handed over and cleared. A refusal names the first refused command; the sink
+/// has then taken the pages that were ejected before it. Where memory runs out it has taken the first
+/// of its pages.
+pub fn run<S: PageSink>(
+    alloc: Global,
+    commands: &[Command<'_>],
+    end: usize,
+    dpi: Dpi,
+    sink: &mut S,
+) -> Result<(), JobFault>
+    ensures { HandsOver S.takes dpi (performance dpi end [] (views commands.now)) result sink.old sink.new }
+{
+    let mut performer = Performer::new(alloc, dpi)?;
+    for command in commands {
+        performer.perform(command, dpi, sink)?;
+    }
+    performer.finish(end, sink)
+}
+
+/// Reads a job, performs it, and hands its pages to the sink, in order, each once. A refusal is the job's:
+/// its first fault, or that of the first command that is refused.
+pub fn perform<S: PageSink>(
+    alloc: Global,
+    job: &[u8],
+    dpi: Dpi,
+    sink: &mut S,
+) -> Result<(), JobFault>
+    ensures { Delivers S.takes dpi job.now result sink.old sink.new }
+{
+    let commands = read_job(alloc, job)?;
+    run(alloc, &commands, job.len(), dpi, sink)
+}
+
+/// The pages of a job, in order.
+pub fn read_pages(alloc: Global, job: &[u8], dpi: Dpi) -> Result<Vec<Page>, JobFault>
+    ensures { IsPagesOf dpi job.now result }
+{
+    let mut collected = Collected {
+        pages: Vec::new(alloc),
+    };
+    perform(alloc, job, dpi, &mut collected)?;
+    Ok(collected.pages)
+}
+
+/// A job has one list of pages at most, and one refusal at most, and never both. A law: the call does
+/// nothing.
+pub fn one_meaning()
+    ensures pages { (dpi : Dpi) (job : List ℕ) (pages others : List Sheet) → HasPages dpi job pages → HasPages dpi job others → pages ≡ others }
+    ensures refusal { (dpi : Dpi) (job : List ℕ) (refusal other : Refusal) → IsRefusal dpi job refusal → IsRefusal dpi job other → refusal ≡ other }
+    ensures apart { (dpi : Dpi) (job : List ℕ) (pages : List Sheet) (refusal : Refusal) → HasPages dpi job pages → IsRefusal dpi job refusal → ⊥ }
+{
+    one_outcome();
+}
+
+/// The pages that were taken.
+#[derive(Drop)]
+struct Collected {
+    pages: Vec<Page>,
+}
+
+impl Model for Collected {
+    ghost use Rattle.std.specs.Prelude.{List};
+    ghost use Rattle.pcl_page.specs.declared.page.Page.{Page};
+
+    ghost Value = { List Page };
+
+    ghost view = { λ a. a.pages.items };
+}
+
+impl PageSink for Collected {
+    ghost takes = { λ old page new. new ≡ old ++ page ∷ [] };
+
+    fn page(&mut self, page: &Page) -> Result<(), AllocError> {
+        self.pages.push(page.clone()?)?;
+        Ok(())
+    }
+}

@@ -1,0 +1,5 @@
+pub mod JobFaults
+pub mod Transfer
+pub mod Image
+pub mod Choice
+pub mod Preview

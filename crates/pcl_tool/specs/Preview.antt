@@ -1,0 +1,38 @@
+-- What a preview writes, and what each fault says.
+use Rattle.std.specs.Prelude.{◌≡◌, ℕ, ◌-◌, ◌<◌, List, length, ◌⊎◌, Option, Some, None, Result, Ok, Err, slice_get}
+use Rattle.std.specs.Io.KnownBytes.{Appends, Keeps}
+use Rattle.pcl_base.specs.declared.dpi.Dpi.{Dpi}
+use Rattle.pcl_page.specs.declared.page.Page.{Page}
+use Rattle.pcl_page.specs.History.{Sheet}
+use Rattle.pcl_page.specs.Performing.{Shows}
+use Rattle.pcl_page.specs.Jobs.{HasPages, IsRefusal}
+use Rattle.pcl_tool.specs.declared.fault.Fault.{Fault}
+use Rattle.pcl_tool.specs.declared.fault.Fault.TheVariants.{Refused, Memory, ReadFault, TooLong, WriteFault, NoSuchPage}
+use Rattle.pcl_tool.specs.Transfer.{AppendsFront}
+use Rattle.pcl_tool.specs.Image.{image_of}
+
+-- the bytes are the image of the page of this number, counted from 1
+pub record IsImageOf (dpi : Dpi) (job : List ℕ) (number : ℕ) (bytes : List ℕ) : Type 0 where
+  pub pages : List Sheet
+  pub meaning : HasPages dpi job pages
+  pub counted : 0 < number
+  pub sheet : Sheet
+  pub chosen : slice_get pages (number - 1) ≡ Some sheet
+  pub page : Page
+  pub shows : Shows dpi page sheet
+  pub image : bytes ≡ image_of page.bitmap
+
+-- an accepted job has no page of this number
+pub record HasNoPage (dpi : Dpi) (job : List ℕ) (number : ℕ) : Type 0 where
+  pub pages : List Sheet
+  pub meaning : HasPages dpi job pages
+  pub outside : (number ≡ 0) ⊎ (length pages < number)
+
+abbrev pub IsPreview : Dpi → List ℕ → ℕ → Option (List ℕ) → Option (List ℕ) → Result (Unit {0}) Fault → Type 0
+IsPreview dpi job number old new (Ok unit) = (bytes : List ℕ) × IsImageOf dpi job number bytes × Appends old new bytes
+IsPreview dpi job number old new (Err WriteFault) = (bytes : List ℕ) × IsImageOf dpi job number bytes × AppendsFront old new bytes
+IsPreview dpi job number old new (Err (Refused refusal)) = IsRefusal dpi job refusal × Keeps old new
+IsPreview dpi job number old new (Err NoSuchPage) = HasNoPage dpi job number × Keeps old new
+IsPreview dpi job number old new (Err Memory) = Keeps old new
+IsPreview dpi job number old new (Err ReadFault) = ⊥
+IsPreview dpi job number old new (Err TooLong) = ⊥

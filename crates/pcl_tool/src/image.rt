@@ -1,0 +1,39 @@
+//! Images in Netpbm's raw bitmap form, P4.
+
+ghost use Rattle.std.specs.Prelude.{◌≡◌, IfOk};
+ghost use Rattle.pcl_tool.specs.Image.{header_of, IsImageWritten};
+
+use crate::Fault;
+use crate::writing::write_bytes;
+use itoa::Buffer;
+use pcl_base::{Dpi, Size};
+use pcl_bitmap::Bitmap;
+use std::alloc::{AllocError, Global};
+use std::io::Write;
+
+/// Writes a page as an image, the header and then all rows, and flushes. Memory can run out only before
+/// anything is written.
+pub fn write_image<W: Write>(alloc: Global, bitmap: &Bitmap, out: &mut W) -> Result<(), Fault>
+    ensures { IsImageWritten (W.contents out.old) (W.contents out.new) bitmap.now result }
+{
+    let header = header(alloc, bitmap.size(), bitmap.dpi())?;
+    write_bytes(out, &header)?;
+    write_bytes(out, bitmap.bytes())?;
+    match out.flush() {
+        Ok(()) => Ok(()),
+        Err(_) => Err(Fault::WriteFault),
+    }
+}
+
+/// The header of an image: the form, the width and the height in dots.
+fn header(alloc: Global, size: Size, dpi: Dpi) -> Result<Vec<u8>, AllocError>
+    ensures { IfOk result (λ header. header.items ≡ header_of size dpi) }
+{
+    let mut digits = Buffer::new();
+    let mut header = Vec::from_slice(alloc, b"P4\n")?;
+    header.extend_from_slice(digits.format(size.width(dpi)).as_bytes())?;
+    header.extend_from_slice(b" ")?;
+    header.extend_from_slice(digits.format(size.height(dpi)).as_bytes())?;
+    header.extend_from_slice(b"\n")?;
+    Ok(header)
+}

@@ -1,0 +1,12 @@
+//! Whole runs: a job is read, performed, and shown, over any reader and writer.
+#![tactic(auto)]
+
+mod fault;
+mod image;
+mod page_preview;
+mod reading;
+mod writing;
+
+pub use fault::Fault;
+pub use page_preview::preview;
+pub use reading::read_all;
