@@ -3,7 +3,7 @@ use Rattle.std.specs.Prelude.{Bool, true, false, ◌==◌, ◌&&◌, if◌then�
 use Rattle.pcl_base.specs.declared.name.Name.{Name}
 use Rattle.pcl_base.specs.declared.name.Name.TheVariants.{Empty, One, Two, Three}
 use Rattle.pcl_escape.specs.declared.operation.Operation.{Operation}
-use Rattle.pcl_escape.specs.declared.operation.Operation.TheVariants.{Reset, FormFeed, TopMargin, HorizontalPosition, VerticalPosition, RasterResolution, StartRaster, EndRaster, EndRasterResetMethod, RasterRow}
+use Rattle.pcl_escape.specs.declared.operation.Operation.TheVariants.{Reset, FormFeed, TopMargin, HorizontalPosition, VerticalPosition, RasterResolution, StartRaster, EndRaster, EndRasterResetMethod, RasterMethod, RasterRow}
 
 -- each name, with what its command does
 abbrev pub operations : List (Name × Operation)
@@ -17,6 +17,7 @@ operations =
     (Three 42 114 65, StartRaster) ∷
     (Three 42 114 66, EndRaster) ∷
     (Three 42 114 67, EndRasterResetMethod) ∷
+    (Three 42 98 77, RasterMethod) ∷
     (Three 42 98 87, RasterRow) ∷ []
 
 abbrev pub is_name : Name → Name → Bool
@@ -44,4 +45,5 @@ takes_data RasterResolution = false
 takes_data StartRaster = false
 takes_data EndRaster = false
 takes_data EndRasterResetMethod = false
+takes_data RasterMethod = false
 takes_data RasterRow = true

@@ -26,6 +26,8 @@ pub enum Operation {
     EndRaster,
     /// Ends a raster and sets method 0.
     EndRasterResetMethod,
+    /// Sets the method of row data.
+    RasterMethod,
     /// Sends a raster row, with its data.
     RasterRow,
 }
@@ -46,6 +48,7 @@ impl Operation {
             Name::Three(b'*', b'r', b'A') => Operation::StartRaster,
             Name::Three(b'*', b'r', b'B') => Operation::EndRaster,
             Name::Three(b'*', b'r', b'C') => Operation::EndRasterResetMethod,
+            Name::Three(b'*', b'b', b'M') => Operation::RasterMethod,
             Name::Three(b'*', b'b', b'W') => Operation::RasterRow,
             _ => return None,
         })

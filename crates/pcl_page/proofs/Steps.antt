@@ -7,7 +7,7 @@ use Rattle.pcl_base.specs.declared.value.Value.{Value}
 use Rattle.pcl_base.specs.Size.{page_width, page_height}
 use Rattle.pcl_bitmap.specs.Bitmap.{Picture, IsPicture, dot}
 use Rattle.pcl_escape.specs.declared.operation.Operation.{Operation}
-use Rattle.pcl_escape.specs.declared.operation.Operation.TheVariants.{Reset, FormFeed, TopMargin, HorizontalPosition, VerticalPosition, RasterResolution, StartRaster, EndRaster, EndRasterResetMethod, RasterRow}
+use Rattle.pcl_escape.specs.declared.operation.Operation.TheVariants.{Reset, FormFeed, TopMargin, HorizontalPosition, VerticalPosition, RasterResolution, StartRaster, EndRaster, EndRasterResetMethod, RasterMethod, RasterRow}
 use Rattle.pcl_page.specs.declared.environment.Environment.{Environment}
 use Rattle.pcl_page.specs.declared.environment.Raster.{Raster}
 use Rattle.pcl_page.specs.declared.page.Page.{Page}
@@ -44,6 +44,7 @@ effect_usual dpi RasterResolution value m env h = if_usual (is_some env.raster) 
 effect_usual dpi StartRaster value m env h = if_usual (is_some env.raster) env _ h (record { size = h.size; copies = h.copies })
 effect_usual dpi EndRaster value m env h = ended_usual dpi env env.raster h
 effect_usual dpi EndRasterResetMethod value m env h = ended_usual dpi env env.raster h
+effect_usual dpi RasterMethod value m env h = h
 effect_usual dpi RasterRow value m env h = record { size = h.size; copies = h.copies }
 
 -- the size is Letter and the copies are 1, whatever was performed
@@ -64,6 +65,7 @@ no_mark dpi RasterResolution bytes env h = refl
 no_mark dpi StartRaster bytes env h = refl
 no_mark dpi EndRaster bytes env h = refl
 no_mark dpi EndRasterResetMethod bytes env h = refl
+no_mark dpi RasterMethod bytes env h = refl
 no_mark dpi RasterRow bytes env h = absurd cc
 
 pub only_rows_mark : (operation : Operation) → operation_marks operation ≡ true → operation ≡ RasterRow
@@ -76,6 +78,7 @@ only_rows_mark RasterResolution h = absurd cc
 only_rows_mark StartRaster h = absurd cc
 only_rows_mark EndRaster h = absurd cc
 only_rows_mark EndRasterResetMethod h = absurd cc
+only_rows_mark RasterMethod h = absurd cc
 only_rows_mark RasterRow h = refl
 
 -- ---- the performer after a step

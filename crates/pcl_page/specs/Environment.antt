@@ -12,7 +12,7 @@ use Rattle.pcl_base.specs.Value.{whole_of}
 use Rattle.pcl_escape.specs.Checks.{is_below_zero}
 use Rattle.pcl_escape.specs.Faults.{is_absent}
 use Rattle.pcl_escape.specs.declared.operation.Operation.{Operation}
-use Rattle.pcl_escape.specs.declared.operation.Operation.TheVariants.{Reset, FormFeed, TopMargin, HorizontalPosition, VerticalPosition, RasterResolution, StartRaster, EndRaster, EndRasterResetMethod, RasterRow}
+use Rattle.pcl_escape.specs.declared.operation.Operation.TheVariants.{Reset, FormFeed, TopMargin, HorizontalPosition, VerticalPosition, RasterResolution, StartRaster, EndRaster, EndRasterResetMethod, RasterMethod, RasterRow}
 use Rattle.pcl_page.specs.declared.environment.Environment.{Environment}
 use Rattle.pcl_page.specs.declared.environment.Raster.{Raster}
 
@@ -101,6 +101,7 @@ effect dpi RasterResolution value is_marked env = set_resolution value env
 effect dpi StartRaster value is_marked env = start_raster dpi value env
 effect dpi EndRaster value is_marked env = end_raster dpi env
 effect dpi EndRasterResetMethod value is_marked env = end_raster dpi env
+effect dpi RasterMethod value is_marked env = env
 effect dpi RasterRow value is_marked env =
     let raster = raster_of dpi env in record env { raster = Some (record raster { rows = raster.rows + 1 }) }
 
@@ -121,6 +122,7 @@ accepts dpi RasterResolution value env = is_some env.raster || (not (is_below_ze
 accepts dpi StartRaster value env = is_some env.raster || (whole_of value == 0 || (not (is_below_zero value) && whole_of value == 1))
 accepts dpi EndRaster value env = true
 accepts dpi EndRasterResetMethod value env = true
+accepts dpi RasterMethod value env = whole_of value == 0
 accepts dpi RasterRow value env = env.resolution == dots_per_inch dpi
 
 -- ---- bounds

@@ -10,7 +10,7 @@ use Rattle.pcl_base.specs.declared.value.Value.{Value}
 use Rattle.pcl_base.specs.Size.{page_width}
 use Rattle.pcl_bitmap.specs.Dots.{raster_dot}
 use Rattle.pcl_escape.specs.declared.operation.Operation.{Operation}
-use Rattle.pcl_escape.specs.declared.operation.Operation.TheVariants.{Reset, FormFeed, TopMargin, HorizontalPosition, VerticalPosition, RasterResolution, StartRaster, EndRaster, EndRasterResetMethod, RasterRow}
+use Rattle.pcl_escape.specs.declared.operation.Operation.TheVariants.{Reset, FormFeed, TopMargin, HorizontalPosition, VerticalPosition, RasterResolution, StartRaster, EndRaster, EndRasterResetMethod, RasterMethod, RasterRow}
 use Rattle.pcl_escape.specs.Said.{Said, zero_value}
 use Rattle.pcl_escape.specs.Operation.{operation_of}
 use Rattle.pcl_page.specs.declared.environment.Environment.{Environment}
@@ -38,6 +38,7 @@ operation_ejects RasterResolution is_marked = false
 operation_ejects StartRaster is_marked = false
 operation_ejects EndRaster is_marked = false
 operation_ejects EndRasterResetMethod is_marked = false
+operation_ejects RasterMethod is_marked = false
 operation_ejects RasterRow is_marked = false
 
 -- a raster row marks the page, whatever it inks
@@ -51,6 +52,7 @@ operation_marks RasterResolution = false
 operation_marks StartRaster = false
 operation_marks EndRaster = false
 operation_marks EndRasterResetMethod = false
+operation_marks RasterMethod = false
 operation_marks RasterRow = true
 
 -- whether the event ejects the page, which is marked or not
@@ -109,6 +111,7 @@ operation_mark dpi RasterResolution bytes env = []
 operation_mark dpi StartRaster bytes env = []
 operation_mark dpi EndRaster bytes env = []
 operation_mark dpi EndRasterResetMethod bytes env = []
+operation_mark dpi RasterMethod bytes env = []
 operation_mark dpi RasterRow bytes env = row_mark dpi env (raster_of dpi env) bytes ∷ []
 
 abbrev pub event_marks : Dpi → Event → Environment → List Mark

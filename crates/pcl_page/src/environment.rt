@@ -81,6 +81,7 @@ impl Environment {
             Operation::StartRaster => {
                 self.raster.is_some() || matches!(value.whole(), 0 | 1)
             }
+            Operation::RasterMethod => value.whole() == 0,
             Operation::RasterRow => self.resolution == dpi.dots(),
             Operation::Reset
             | Operation::FormFeed
@@ -115,6 +116,7 @@ impl Environment {
             Operation::RasterResolution => self.set_resolution(value),
             Operation::StartRaster => self.start_raster(value, dpi),
             Operation::EndRaster | Operation::EndRasterResetMethod => self.end_raster(dpi),
+            Operation::RasterMethod => {}
             Operation::RasterRow => {
                 let mut raster = self.raster(dpi);
                 raster.rows += 1;

@@ -1,0 +1,72 @@
+//! The command line.
+
+use clap::error::ErrorKind;
+use clap::{Arg, Command, Error, value_parser};
+use pcl_base::Dpi;
+use std::alloc::{AllocError, Global};
+
+/// What a run is asked to do: the preview of a page.
+#[derive(Clone, Copy, Debug, PartialEq, Eq)]
+pub struct Usage {
+    /// The number of the page, from 1.
+    pub page: usize,
+    /// The resolution.
+    pub dpi: Dpi,
+}
+
+/// What the words of a command line ask for, or the help, the version or the fault to print.
+pub fn parse_arguments(alloc: Global, words: &[String]) -> Result<Usage, Error> {
+    let matches = pclmin(alloc)?.try_get_matches_from(words)?;
+    let (page, dots) = match matches.subcommand() {
+        Some(("pbm", pbm)) => (pbm.get_one::<usize>("page"), pbm.get_one::<u16>("dpi")),
+        _ => (None, None),
+    };
+    match (page, dots.and_then(resolution)) {
+        (Some(page), Some(dpi)) => Ok(Usage { page, dpi }),
+        _ => Err(pclmin(alloc)?.error(
+            ErrorKind::InvalidValue,
+            "the resolution of --dpi is 300 or 600",
+        )?),
+    }
+}
+
+/// The resolution of so many dots per inch.
+fn resolution(dots: u16) -> Option<Dpi> {
+    match dots {
+        300 => Some(Dpi::Dpi300),
+        600 => Some(Dpi::Dpi600),
+        _ => None,
+    }
+}
+
+/// The program's command line.
+fn pclmin<'a>(alloc: Global) -> Result<Command<'a>, AllocError> {
+    let command = Command::new(alloc, "pclmin")
+        .version("0.1.0")
+        .about("A print filter for HP PCL 5: reads a job and shows what it prints.")
+        .after_help("Statuses: 0 done, 1 the job is refused or has no such page, 2 usage, 3 reading, writing or memory.")
+        .subcommand_required(true)
+        .arg_required_else_help(true)
+        .subcommand(pbm(alloc)?)?;
+    Ok(command)
+}
+
+/// The command that previews a page.
+fn pbm<'a>(alloc: Global) -> Result<Command<'a>, AllocError> {
+    let page = Arg::new(alloc, "page")
+        .long("page")
+        .value_name("N")
+        .value_parser(value_parser!(u16).range(1..=256))
+        .required(true)
+        .help("The number of the page, from 1 to 256");
+    let dpi = Arg::new(alloc, "dpi")
+        .long("dpi")
+        .value_name("N")
+        .value_parser(value_parser!(u16))
+        .default_value("300")
+        .help("The resolution in dots per inch, 300 or 600");
+    Command::new(alloc, "pbm")
+        .about("Writes a page of the job on standard input as a PBM image (P4) to standard output")
+        .arg(page)?
+        .arg(dpi)
+}
