@@ -1,2 +1,15 @@
-//! pcl_coders
+//! Row data of raster graphics, written: four coders whose data is of least length.
 #![tactic(auto)]
+
+mod choice;
+mod coder;
+mod laws;
+mod prefix;
+mod step;
+mod table;
+
+pub use coder::{Delta, Packed, Plain, RowCoder, Runs};
+pub use laws::{first_number_is_least, numbers_are_least, row_table_bounds_data};
+
+#[cfg(test)]
+mod tests;

@@ -1,0 +1,150 @@
+-- Whole data for a row is a walk from its first place, of the same cost, and each such walk is data.
+use Rattle.std.proofs.Common.{◌≡◌, ℕ, ◌+◌, ◌-◌, ◌<◌, ◌≤◌, ◌⊎◌, min, List, [], ◌∷◌, ◌++◌, length, take, drop, refl, sym, ap, ◌∙◌, subst, inl, inr, append_assoc, arith}
+use Rattle.std.specs.List.{flat_map}
+use Rattle.std.proofs.lemmas.List.{append-nil, take_all, drop_at, drop-drop, length-append, length-take, length-drop, length-replicate}
+use Rattle.pcl_base.specs.declared.method.Method.{Method}
+use Rattle.pcl_base.specs.declared.method.Method.TheVariants.{Plain, Runs, Packed, Delta}
+use Rattle.pcl_rows.specs.Heads.{Head, Itself, Count, Literal, Skipped, Repeat, Near, Far, head_bytes, new_count, offset_of}
+use Rattle.pcl_rows.specs.Elements.{Element, IsElement, AreElements, spelling, given, given_by, stop, reach}
+use Rattle.pcl_rows.specs.Rows.{base, after_element, after_elements, RowFrom, IsRowData}
+use Rattle.pcl_rows.proofs.Readings.{after_none, drop-nil, some_element, length-copied}
+use Rattle.pcl_rows.proofs.Spellings.{spelling_has_byte}
+use Rattle.pcl_rows.proofs.OneReading.{one_row}
+use Rattle.pcl_coders.specs.Walks.{Walk, total}
+use Rattle.pcl_coders.specs.RowWalks.{Agrees, Leads, Ends, cost}
+
+-- the untreated bytes stay behind the elements
+abbrev pub kept : List ℕ → List ℕ
+kept rest = rest
+
+pub length-base : (method : Method) (seed : List ℕ) → length (base method seed) ≡ length seed
+length-base Plain seed = length-replicate (length seed) 0
+length-base Runs seed = length-replicate (length seed) 0
+length-base Packed seed = length-replicate (length seed) 0
+length-base Delta seed = refl
+
+pub total_is : (es : List Element) → total cost es ≡ length (flat_map spelling es)
+total_is [] = refl
+total_is (e ∷ es) = omega (arith, total_is es, length-append (spelling e) (flat_map spelling es))
+
+-- an element gives a byte, or leaves none
+given_or_nothing_left : (h : Head) (bytes : List ℕ) → length bytes ≡ new_count h → (offset_of h ≡ 0) ⊎ (0 < length (given_by h bytes))
+given_or_nothing_left Itself bytes e = inl refl
+given_or_nothing_left (Count c) bytes e = inl refl
+given_or_nothing_left (Literal c) bytes e = inl refl
+given_or_nothing_left Skipped bytes e = inl refl
+given_or_nothing_left (Repeat c) bytes e = inl refl
+given_or_nothing_left (Near m o) bytes e = inr (omega (arith, length-copied 1 bytes))
+given_or_nothing_left (Far m f l) bytes e = inr (omega (arith, length-copied 1 bytes))
+
+-- elements within the row that make the wanted bytes are a walk
+pub walk_from_elements : (method : Method) (old row : List ℕ) (es : List Element) (place : ℕ) → length old ≡ length row → AreElements method es → reach es ≤ length row - place
+    → after_elements es kept (drop place old) ≡ drop place row → Walk (Leads method old row) (Ends old row) place es
+walk_from_elements method old row [] place size are within made = sym made
+walk_from_elements method old row (e ∷ es) place size are within made =
+    let before : List ℕ = take (offset_of e.head) (drop place old) in
+    let rest : List ℕ = after_elements es kept (drop (stop e) (drop place old)) in
+    let whole : drop place row ≡ (before ++ given e) ++ rest = sym made ∙ sym (append_assoc before (given e) rest) in
+    let len : length (before ++ given e) ≡ stop e = omega (arith, length-append before (given e), length-take (offset_of e.head) (drop place old), length-drop place old) in
+    let behind : drop (place + stop e) row ≡ rest = sym (drop-drop (stop e) place row) ∙ ap (drop (stop e)) whole ∙ drop_at (before ++ given e) rest (stop e) len in
+    let same : drop (stop e) (drop place row) ≡ rest = drop-drop (stop e) place row ∙ behind in
+    let next : after_elements es kept (drop (place + stop e) old) ≡ drop (place + stop e) row = ap (after_elements es kept) (sym (drop-drop (stop e) place old)) ∙ sym behind in (
+      place + stop e,
+      record { element = are.0; agrees = sym made ∙ ap (λ (bs : List ℕ). before ++ (given e ++ bs)) (sym same); next_is = refl },
+      walk_from_elements method old row es (place + stop e) size are.1 (omega arith) next,
+    )
+
+-- how far an element that agrees with the row goes
+pub stop_within : (method : Method) (old row : List ℕ) (place : ℕ) (e : Element) → length old ≡ length row → IsElement method e → Agrees (drop place old) (drop place row) e → stop e ≤ length row - place
+stop_within method old row place e size is agrees =
+    let wanted : List ℕ = drop place row in
+    let before : List ℕ = take (offset_of e.head) (drop place old) in
+    let behind : List ℕ = drop (stop e) wanted in
+    let sizes : length row - place ≡ min (offset_of e.head) (length row - place) + (length (given e) + (length row - place - stop e)) =
+    omega (
+      arith,
+      ap length agrees,
+      length-append before (given e ++ behind),
+      length-append (given e) behind,
+      length-take (offset_of e.head) (drop place old),
+      length-drop (stop e) wanted,
+      length-drop place row,
+      length-drop place old,
+    ) in
+    elim (given_or_nothing_left e.head e.bytes is.complete) [
+      | inl none ↦ omega arith
+      | inr some ↦ omega arith
+    ]
+
+-- a walk makes the wanted bytes
+pub walk_makes : (method : Method) (old row : List ℕ) (es : List Element) (place : ℕ) → length old ≡ length row → Walk (Leads method old row) (Ends old row) place es
+    → AreElements method es × (reach es ≤ length row - place) × (after_elements es kept (drop place old) ≡ drop place row)
+walk_makes method old row [] place size w = (tt, omega arith, sym w)
+walk_makes method old row (e ∷ es) place size w =
+    let within = stop_within method old row place e size w.1.element w.1.agrees in
+    let rest = walk_makes method old row es w.0 size w.2 in
+    let next = w.1.next_is in
+    let before : List ℕ = take (offset_of e.head) (drop place old) in
+    let made : after_elements es kept (drop (stop e) (drop place old)) ≡ drop (stop e) (drop place row) =
+    ap (after_elements es kept) (drop-drop (stop e) place old ∙ ap (λ (p : ℕ). drop p old) (sym next)) ∙ rest.2 ∙ ap (λ (p : ℕ). drop p row) next ∙ sym (drop-drop (stop e) place row) in (
+      (w.1.element, rest.0),
+      omega (arith, rest.1, next),
+      ap (λ (bs : List ℕ). before ++ (given e ++ bs)) made ∙ sym w.1.agrees,
+    )
+
+-- behind the elements a cut one with no bytes changes nothing
+after_elements_cut : (es : List Element) (h : Head) (none old : List ℕ) → none ≡ [] → after_elements es (after_element h none (λ rest. rest)) old ≡ after_elements es kept old
+after_elements_cut [] h none old e = after_none h none old e
+after_elements_cut (d ∷ es) h none old e =
+    ap (λ (bs : List ℕ). take (offset_of d.head) old ++ (given d ++ bs)) (after_elements_cut es h none (drop (stop d) old) e)
+
+-- whole elements decode to what they make
+pub elements_decode : (method : Method) (old : List ℕ) (es : List Element) → AreElements method es → RowFrom method (flat_map spelling es) old (take (length old) (after_elements es kept old))
+elements_decode method old es are =
+    let e = some_element method in
+    let none : drop (length (head_bytes e.0.head)) [] ≡ [] = drop-nil (length (head_bytes e.0.head)) in (
+      es,
+      e.0,
+      [],
+      record { elements = are; joined = sym (append-nil (flat_map spelling es)); element = e.1; lacking = (spelling e.0, refl, spelling_has_byte method e.0 e.1) },
+      ap (take (length old)) (sym (after_elements_cut es e.0.head (drop (length (head_bytes e.0.head)) []) old none)),
+    )
+
+-- how many bytes there are behind elements that stop within the row
+length-after : (es : List Element) (old : List ℕ) → reach es ≤ length old → length (after_elements es kept old) ≡ length old
+length-after [] old within = refl
+length-after (e ∷ es) old within =
+    let behind : List ℕ = drop (stop e) old in
+    omega (
+      arith,
+      length-append (take (offset_of e.head) old) (given e ++ after_elements es kept behind),
+      length-append (given e) (after_elements es kept behind),
+      length-take (offset_of e.head) old,
+      length-drop (stop e) old,
+      length-after es behind (omega (arith, length-drop (stop e) old)),
+    )
+
+-- whole data for a row is a walk
+pub walk_of_data : (method : Method) (seed row bytes : List ℕ) → length seed ≡ length row → IsRowData method seed row bytes
+    → (es : List Element) × Walk (Leads method (base method seed) row) (Ends (base method seed) row) 0 es × (total cost es ≡ length bytes)
+walk_of_data method seed row bytes size has =
+    let old : List ℕ = base method seed in
+    let same : length old ≡ length row = length-base method seed ∙ size in
+    let w = has.whole in
+    let decoded : RowFrom method bytes old (take (length old) (after_elements w.0 kept old)) = subst (λ (bs : List ℕ). RowFrom method bs old (take (length old) (after_elements w.0 kept old))) (sym w.2) (elements_decode method old w.0 w.1) in
+    let cut : row ≡ take (length old) (after_elements w.0 kept old) = one_row method bytes old row (take (length old) (after_elements w.0 kept old)) has.decodes decoded in
+    let made : after_elements w.0 kept old ≡ row = sym (take_all (length old) (after_elements w.0 kept old) (omega (arith, length-after w.0 old (omega (arith, w.3))))) ∙ sym cut in
+    (w.0, walk_from_elements method old row w.0 0 same w.1 (omega (arith, w.3)) made, total_is w.0 ∙ ap length (sym w.2))
+
+-- a walk is whole data
+pub data_of_walk : (method : Method) (seed row : List ℕ) (es : List Element) → length seed ≡ length row → total cost es ≤ 65535
+    → Walk (Leads method (base method seed) row) (Ends (base method seed) row) 0 es → IsRowData method seed row (flat_map spelling es)
+data_of_walk method seed row es size small walk =
+    let old : List ℕ = base method seed in
+    let same : length old ≡ length row = length-base method seed ∙ size in
+    let m = walk_makes method old row es 0 same walk in
+    record {
+      whole = (es, m.0, refl, omega (arith, m.1));
+      decodes = subst (RowFrom method (flat_map spelling es) old) (take_all (length old) (after_elements es kept old) (omega (arith, ap length m.2)) ∙ m.2) (elements_decode method old es m.0);
+      fits = omega (arith, total_is es);
+    }

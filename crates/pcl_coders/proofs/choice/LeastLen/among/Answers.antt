@@ -1,0 +1,29 @@
+use Rattle.std.proofs.Common.{◌≡◌, ℕ, ◌+◌, ◌-◌, subst, arith}
+use Rattle.pcl_coders.specs.Choosing.{IsLeastLen}
+use Rattle.pcl_coders.proofs.Prefixes.{least_len_one, least_len_next, least_len_stays}
+use Rattle.pcl_coders.proofs.choice.LeastLen.among.Goals as goal
+use Rattle.pcl_coders.proofs.choice.LeastLen.among.Goals.{then-beats, else-beats}
+
+pub loop-len-init : goal.loop-len-init
+loop-len-init c =
+    let a = c.args in
+    let at : a.from + 1 - 1 ≡ a.from = omega arith in
+    rw at (least_len_one a.numbers.now a.from a.head a.each c.at-best.result.len c.at-best.result.sum c.at-best.ensures.0 c.at-best.ensures.1)
+
+pub loop-len-preserved : goal.loop-len-preserved
+loop-len-preserved c =
+    let a = c.args in
+    let best = c.loop-len.best in
+    let next = c.at-next.result in
+    let at : c.loop-len.len + 1 - 1 ≡ c.loop-len.len = omega arith in
+    rw at (elim c.if-beats.branch [
+      | then-beats w ↦
+          rw w.best-is (least_len_next a.numbers.now a.from c.loop-len.len a.head a.each next.len next.sum (omega arith) best.len best.sum c.loop-len.invariant c.at-next.ensures.0 c.at-next.ensures.1 (c.beats.ensures.won w.if-beats.true))
+      | else-beats w ↦
+          rw w.best-is (least_len_stays a.numbers.now a.from c.loop-len.len a.head a.each next.sum best.len best.sum c.loop-len.invariant c.at-next.ensures.1 (c.beats.ensures.lost w.if-beats.false))
+    ])
+
+pub returns : goal.returns
+returns c =
+    let at : c.loop-len.len - 1 ≡ c.args.to = omega arith in
+    subst (λ (n : ℕ). IsLeastLen c.args.numbers.now c.args.from n c.args.head c.args.each c.loop-len.best.len c.loop-len.best.sum) at c.loop-len.invariant

@@ -1,0 +1,39 @@
+-- The element that begins the least data for the rest of a row.
+use Rattle.std.specs.Prelude.{◌≡◌, ℕ, ◌+◌, ◌*◌, ◌<◌, ◌≤◌, List, length, take, replicate, slice_index}
+use Rattle.pcl_base.specs.declared.method.Method.{Method}
+use Rattle.pcl_rows.specs.Elements.{Element, IsElement, stop}
+use Rattle.pcl_coders.specs.RowWalks.{Agrees, cost}
+
+-- among the lengths from one to another, one whose bytes and number are the least together: `head` bytes,
+-- `each` more for each of its own, and the number behind them
+pub record IsLeastLen (numbers : List ℕ) (from to head each : ℕ) (len sum : ℕ) : Type 0 where
+  pub above : from ≤ len
+  pub below : len ≤ to
+  pub sum_is : sum ≡ head + each * len + slice_index numbers len
+  pub least : (k : ℕ) → from ≤ k → k ≤ to → sum ≤ head + each * k + slice_index numbers k
+
+-- how many wanted bytes at the front are one byte again and again
+pub record IsRunLen (wanted : List ℕ) (len : ℕ) : Type 0 where
+  pub within : len ≤ length wanted
+  pub equal : take len wanted ≡ replicate len (slice_index wanted 0)
+  pub longest : (k byte : ℕ) → k ≤ length wanted → take k wanted ≡ replicate k byte → k ≤ len
+
+-- how many bytes at the front of two lists are the same
+pub record IsSameLen (old wanted : List ℕ) (len : ℕ) : Type 0 where
+  pub within : len ≤ length wanted
+  pub equal : take len wanted ≡ take len old
+  pub longest : (k : ℕ) → k ≤ length wanted → take k wanted ≡ take k old → k ≤ len
+
+-- an element that begins least data for the wanted bytes, where the numbers are those of the places from the first on
+pub record IsChoice (method : Method) (old wanted numbers : List ℕ) (e : Element) (sum : ℕ) : Type 0 where
+  pub element : IsElement method e
+  pub agrees : Agrees old wanted e
+  pub goes_on : 0 < stop e
+  pub sum_is : sum ≡ cost e + slice_index numbers (stop e)
+  pub least : (d : Element) → IsElement method d → Agrees old wanted d → 0 < stop d → sum ≤ cost d + slice_index numbers (stop d)
+
+-- wanted bytes, some and not too many, and a number for each of their places and for their end
+pub record IsPlace (wanted numbers : List ℕ) : Type 0 where
+  pub size : length numbers ≡ length wanted + 1
+  pub some : 0 < length wanted
+  pub small : length wanted ≤ 600

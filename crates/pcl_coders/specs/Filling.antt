@@ -1,0 +1,31 @@
+-- A table of least numbers while it is filled, and data while it is appended.
+use Rattle.std.specs.Prelude.{◌≡◌, ℕ, ◌+◌, ◌-◌, ◌*◌, ◌<◌, ◌≤◌, ◌⊎◌, List, ◌++◌, length, drop, slice_index, flat_map}
+use Rattle.pcl_base.specs.declared.method.Method.{Method}
+use Rattle.pcl_rows.specs.Elements.{Element, IsElement, spelling, stop}
+use Rattle.pcl_coders.specs.Walks.{Walk, total}
+use Rattle.pcl_coders.specs.RowWalks.{Agrees, Leads, Ends, cost}
+
+-- an element that goes on from a place of the row, and begins what the number of the place counts
+pub record IsNext (method : Method) (old row table : List ℕ) (place : ℕ) (e : Element) : Type 0 where
+  pub element : IsElement method e
+  pub agrees : Agrees (drop place old) (drop place row) e
+  pub goes_on : 0 < stop e
+  pub number_is : slice_index table place ≡ cost e + slice_index table (place + stop e)
+
+-- the number of a place is right, where those behind it are
+pub record IsPlaceNumber (method : Method) (old row table : List ℕ) (place : ℕ) : Type 0 where
+  pub steps : (e : Element) → IsElement method e → Agrees (drop place old) (drop place row) e → slice_index table place ≤ cost e + slice_index table (place + stop e)
+  pub ends : Ends old row place → slice_index table place ≡ 0
+  pub attained : Ends old row place ⊎ ((e : Element) × IsNext method old row table place e)
+  pub small : slice_index table place ≤ 2 * (length row - place)
+
+-- the numbers from a place on are right
+abbrev pub AreRightFrom : Method → List ℕ → List ℕ → List ℕ → ℕ → Type 0
+AreRightFrom method old row table from = (place : ℕ) → from ≤ place → place ≤ length row → IsPlaceNumber method old row table place
+
+-- now is before with the bytes of a walk that costs the number of the first place
+pub record AppendsWalk (method : Method) (old row table before now : List ℕ) : Type 0 where
+  pub steps : List Element
+  pub walk : Walk (Leads method old row) (Ends old row) 0 steps
+  pub total_is : total cost steps ≡ slice_index table 0
+  pub joined : now ≡ before ++ flat_map spelling steps

@@ -1,0 +1,184 @@
+//! The element that begins the least data for the rest of a row.
+
+ghost use Rattle.std.specs.Prelude.{◌≡◌, ℕ, List, ◌+◌, ◌*◌, ◌<◌, ◌≤◌, length, slice_index, IsTrue, IsFalse};
+ghost use Rattle.pcl_coders.specs.Choosing.{IsLeastLen, IsPlace};
+ghost use Rattle.pcl_base.specs.declared.method.Method.TheVariants as methods;
+
+use crate::prefix::{run_len, same_len};
+use crate::step::Step;
+use pcl_base::Method;
+
+/// An element, and how many bytes it and least data behind it have together.
+#[derive(Clone, Copy)]
+pub struct Choice {
+    pub step: Step,
+    pub sum: usize,
+}
+
+impl Choice {
+    ghost use Rattle.pcl_coders.specs.Step.{IsStepChoice, IsReplacement};
+
+    /// The element that begins least data of a method for the wanted bytes, over the old ones, where the
+    /// numbers are those of their places. Among several: of methods 1 and 2 the one that gives the most
+    /// bytes, a repeat before a literal; of method 3 the one of the greatest offset, then of the fewest bytes.
+    pub fn of(method: Method, old: &[u8], wanted: &[u8], numbers: &[u16]) -> Choice
+        requires same { length old.now ≡ length wanted.now }
+        requires place { IsPlace wanted.now numbers.now }
+        ensures { IsStepChoice method old.now wanted.now numbers.now result.step result.sum }
+    {
+        match method {
+            Method::Plain => Choice {
+                step: Step::SingleByte,
+                sum: 1 + usize::from(numbers[1]),
+            },
+            Method::Runs => Choice::runs(wanted, numbers),
+            Method::Packed => Choice::packed(wanted, numbers),
+            Method::Delta => Choice::delta(old, wanted, numbers),
+        }
+    }
+
+    fn runs(wanted: &[u8], numbers: &[u16]) -> Choice
+        requires { IsPlace wanted.now numbers.now }
+        ensures { (old : List ℕ) → length old ≡ length wanted.now → IsStepChoice methods.Runs old wanted.now numbers.now result.step result.sum }
+    {
+        let longest = run_len(wanted).min(256);
+        let best = LeastLen::among(numbers, 1, longest, 2, 0, Tie::Longest);
+        Choice {
+            step: Step::Run { len: best.len },
+            sum: best.sum,
+        }
+    }
+
+    fn packed(wanted: &[u8], numbers: &[u16]) -> Choice
+        requires { IsPlace wanted.now numbers.now }
+        ensures { (old : List ℕ) → length old ≡ length wanted.now → IsStepChoice methods.Packed old wanted.now numbers.now result.step result.sum }
+    {
+        let literal = LeastLen::among(numbers, 1, wanted.len().min(128), 1, 1, Tie::Longest);
+        let longest = run_len(wanted).min(128);
+        if longest >= 2 {
+            let repeat = LeastLen::among(numbers, 2, longest, 2, 0, Tie::Longest);
+            if repeat.beats(literal, Tie::Longest) {
+                return Choice {
+                    step: Step::RepeatRun { len: repeat.len },
+                    sum: repeat.sum,
+                };
+            }
+        }
+        Choice {
+            step: Step::LiteralRun { len: literal.len },
+            sum: literal.sum,
+        }
+    }
+
+    fn delta(old: &[u8], wanted: &[u8], numbers: &[u16]) -> Choice
+        requires same { length old.now ≡ length wanted.now }
+        requires place { IsPlace wanted.now numbers.now }
+        ensures { IsStepChoice methods.Delta old.now wanted.now numbers.now result.step result.sum }
+    {
+        let same = same_len(old, wanted).min(wanted.len() - 1);
+        let mut best = Choice::behind(0, wanted.len(), numbers);
+        for offset in 1..same + 1 {
+            let next = Choice::behind(offset, wanted.len(), numbers);
+            if next.sum <= best.sum {
+                best = next;
+            }
+        }
+        best
+    }
+
+    /// The replacement behind an offset that begins least data.
+    fn behind(offset: usize, row_bytes: usize, numbers: &[u16]) -> Choice
+        requires inside { offset < row_bytes }
+        requires size { length numbers.now ≡ row_bytes + 1 }
+        requires small { row_bytes ≤ 600 }
+        ensures { IsReplacement offset row_bytes numbers.now result.step result.sum }
+    {
+        let head = if offset < 31 {
+            1
+        } else {
+            2 + (offset - 31) / 255
+        };
+        let best = LeastLen::among(
+            &numbers[offset..],
+            1,
+            (row_bytes - offset).min(8),
+            head,
+            1,
+            Tie::Shortest,
+        );
+        Choice {
+            step: Step::Replace {
+                offset,
+                len: best.len,
+            },
+            sum: best.sum,
+        }
+    }
+}
+
+/// Which length is taken among several that give the least sum.
+#[derive(Clone, Copy)]
+enum Tie {
+    Longest,
+    Shortest,
+}
+
+/// A length of an element, and how many bytes it and least data behind it have together.
+#[derive(Clone, Copy)]
+struct LeastLen {
+    len: usize,
+    sum: usize,
+}
+
+impl LeastLen {
+    /// The best of the lengths from `from` to `to`, where an element has `head` bytes, and `each` more for
+    /// each byte that it gives. `numbers` are those of the places behind.
+    fn among(
+        numbers: &[u16],
+        from: usize,
+        to: usize,
+        head: usize,
+        each: usize,
+        tie: Tie,
+    ) -> LeastLen
+        requires order { from ≤ to }
+        requires within { to < length numbers.now }
+        requires small { (to ≤ 1000) × (head ≤ 1000) × (each ≤ 1) }
+        ensures { IsLeastLen numbers.now from to head each result.len result.sum }
+    {
+        let mut best = LeastLen::at(numbers, from, head, each);
+        for len in from + 1..to + 1 {
+            let next = LeastLen::at(numbers, len, head, each);
+            if next.beats(best, tie) {
+                best = next;
+            }
+        }
+        best
+    }
+
+    /// Whether it is taken before another one.
+    fn beats(self, other: LeastLen, tie: Tie) -> bool
+        ensures won { IsTrue result → self.sum ≤ other.sum }
+        ensures lost { IsFalse result → other.sum ≤ self.sum }
+    {
+        if self.sum != other.sum {
+            return self.sum < other.sum;
+        }
+        match tie {
+            Tie::Longest => self.len >= other.len,
+            Tie::Shortest => self.len <= other.len,
+        }
+    }
+
+    /// What one length gives.
+    fn at(numbers: &[u16], len: usize, head: usize, each: usize) -> LeastLen
+        requires within { len < length numbers.now }
+        requires small { (len ≤ 1000) × (head ≤ 1000) × (each ≤ 1) }
+        ensures { (result.len ≡ len) × (result.sum ≡ head + each * len + slice_index numbers.now len) }
+    {
+        LeastLen {
+            len,
+            sum: head + each * len + usize::from(numbers[len]),
+        }
+    }
+}

@@ -1,0 +1,25 @@
+//! Laws of row tables.
+
+ghost use Rattle.std.specs.Prelude.{◌≡◌, ℕ, ◌≤◌, List, length, slice_index};
+ghost use Rattle.pcl_base.specs.declared.method.Method.{Method};
+ghost use Rattle.pcl_rows.specs.Rows.{IsRowData, base};
+ghost use Rattle.pcl_coders.specs.Walks.{IsLeastCost};
+ghost use Rattle.pcl_coders.specs.RowWalks.{IsRowTable, IsLeastTable, Leads, Ends, cost};
+ghost use Rattle.pcl_coders.specs.Coding.{IsCodable, IsLeastLength};
+
+/// No whole data for a row is shorter than the first number of a row table, whoever made the table.
+pub fn row_table_bounds_data()
+    ensures { (method : Method) (seed row table bytes : List ℕ) → length seed ≡ length row → IsRowTable method seed row table → IsRowData method seed row bytes → slice_index table 0 ≤ length bytes }
+{}
+
+/// The first of the least numbers is the least length.
+pub fn first_number_is_least()
+    ensures { (method : Method) (seed row table : List ℕ) → IsCodable seed row → IsLeastTable method seed row table → IsLeastLength method seed row (slice_index table 0) }
+{}
+
+/// Each of the least numbers is the least cost of a walk from its place: no elements that give the rest of
+/// the row have fewer bytes, and some have as many.
+pub fn numbers_are_least()
+    ensures { (method : Method) (seed row table : List ℕ) (place : ℕ) → IsLeastTable method seed row table → place ≤ length row
+        → IsLeastCost (Leads method (base method seed) row) (Ends (base method seed) row) cost place (slice_index table place) }
+{}

@@ -1,0 +1,297 @@
+use super::*;
+use pcl_base::Method;
+use pcl_rows::{decode, is_whole};
+use std::alloc::{AllocError, Global};
+use std::process::Abort;
+
+/// What a coder writes for a row. It is whole, decodes to the row, and has the least length.
+fn data_of<C: RowCoder>(
+    rt: &impl Abort,
+    alloc: Global,
+    coder: &C,
+    row: &[u8],
+    seed: &[u8],
+) -> Result<Vec<u8>, AllocError> {
+    assert!(rt; row.len() == seed.len() && row.len() <= 600);
+    let mut bytes = vec![in alloc; 9]?;
+    coder.write(row, seed, &mut bytes)?;
+    assert_eq!(rt; bytes.remove(0), 9);
+    assert_eq!(rt; bytes.len(), coder.least(row, seed));
+    assert!(rt; is_whole(coder.method(), bytes.as_slice(), row.len()));
+    let mut again = vec![in alloc; 7; seed.len()]?;
+    decode(coder.method(), seed, bytes.as_slice(), again.as_mut_slice());
+    assert_eq!(rt; again.as_slice(), row);
+    Ok(bytes)
+}
+
+/// The lengths of a row's data: plain, runs, packed, delta.
+fn lengths_of(
+    rt: &impl Abort,
+    alloc: Global,
+    row: &[u8],
+    seed: &[u8],
+) -> Result<[usize; 4], AllocError> {
+    Ok([
+        data_of(rt, alloc, &Plain, row, seed)?.len(),
+        data_of(rt, alloc, &Runs, row, seed)?.len(),
+        data_of(rt, alloc, &Packed, row, seed)?.len(),
+        data_of(rt, alloc, &Delta, row, seed)?.len(),
+    ])
+}
+
+/// Rows whose least lengths are known.
+#[test]
+fn lengths(rt: HostRuntime) -> Result<(), AllocError> {
+    let zeros = [0; 300];
+    let mut dot = [0; 300];
+    dot[0] = 0x80;
+    assert_eq!(rt; lengths_of(&rt, rt.alloc(), &zeros, &zeros)?, [0, 0, 0, 0]);
+    assert_eq!(rt; lengths_of(&rt, rt.alloc(), &zeros, &dot)?, [0, 0, 0, 2]);
+    let mut text = [0; 300];
+    text[0] = 0x41;
+    text[1] = 0x42;
+    text[2] = 0x42;
+    text[3] = 0x43;
+    assert_eq!(rt; lengths_of(&rt, rt.alloc(), &text, &zeros)?, [4, 6, 5, 5]);
+    assert_eq!(rt;
+        data_of(&rt, rt.alloc(), &Packed, &text, &zeros)?.as_slice(),
+        &[3, 0x41, 0x42, 0x42, 0x43][..]
+    );
+    assert_eq!(rt;
+        data_of(&rt, rt.alloc(), &Delta, &text, &zeros)?.as_slice(),
+        &[0x60, 0x41, 0x42, 0x42, 0x43][..]
+    );
+    assert_eq!(rt;
+        lengths_of(&rt, rt.alloc(), &[255; 300], &zeros)?,
+        [300, 4, 6, 338]
+    );
+    assert_eq!(rt; lengths_of(&rt, rt.alloc(), &[], &[])?, [0, 0, 0, 0]);
+    assert_eq!(rt; lengths_of(&rt, rt.alloc(), &[1], &[0])?, [1, 2, 2, 2]);
+    assert_eq!(rt;
+        lengths_of(&rt, rt.alloc(), &[1; 600], &[0; 600])?,
+        [600, 6, 10, 675]
+    );
+    assert_eq!(rt;
+        lengths_of(&rt, rt.alloc(), &[1; 600], &[1; 600])?,
+        [600, 6, 10, 0]
+    );
+    Ok(())
+}
+
+/// One byte far from the row's start: the offset is lengthened by bytes 255, and one that is less.
+#[test]
+fn offsets(rt: HostRuntime) -> Result<(), AllocError> {
+    let cases: [(usize, &[u8]); 7] = [
+        (30, &[30, 255]),
+        (31, &[31, 0, 255]),
+        (285, &[31, 254, 255]),
+        (286, &[31, 255, 0, 255]),
+        (299, &[31, 255, 13, 255]),
+        (541, &[31, 255, 255, 0, 255]),
+        (599, &[31, 255, 255, 58, 255]),
+    ];
+    for (place, want) in cases {
+        let mut row = [0; 600];
+        if let Some(slot) = row.get_mut(place) {
+            *slot = 255;
+        }
+        assert_eq!(rt;
+            data_of(&rt, rt.alloc(), &Delta, &row, &[0; 600])?.as_slice(),
+            want,
+            "{place}"
+        );
+    }
+    // Two bytes, the first of which the row above has.
+    let mut above = [0; 300];
+    above[31] = 255;
+    let mut row = above;
+    row[286] = 255;
+    assert_eq!(rt;
+        data_of(&rt, rt.alloc(), &Delta, &row, &above)?.as_slice(),
+        &[31, 255, 0, 255][..]
+    );
+    lengths_of(&rt, rt.alloc(), &above, &[0; 300])?;
+    lengths_of(&rt, rt.alloc(), &row, &above)?;
+    Ok(())
+}
+
+/// Which of several least codings is written.
+#[test]
+fn ties(rt: HostRuntime) -> Result<(), AllocError> {
+    let zeros = [0; 16];
+    let mut long = [0; 257];
+    long.fill(4);
+    assert_eq!(rt;
+        data_of(&rt, rt.alloc(), &Runs, &long, &[0; 257])?.as_slice(),
+        &[255, 4, 0, 4][..]
+    );
+    let packed: [(&[u8], &[u8]); 8] = [
+        (&[1, 1], &[255, 1]),
+        (&[1, 1, 2], &[2, 1, 1, 2]),
+        (&[1, 1, 1, 2], &[254, 1, 0, 2]),
+        (&[1, 2, 2, 2], &[0, 1, 254, 2]),
+        (&[0, 0, 1], &[2, 0, 0, 1]),
+        (&[1, 0, 0], &[0, 1]),
+        (&[1, 1, 2, 2], &[255, 1, 255, 2]),
+        (
+            &[
+                0x44, 0x44, 0x45, 0x46, 0x47, 255, 255, 255, 255, 255, 255, 255, 255,
+            ],
+            &[4, 0x44, 0x44, 0x45, 0x46, 0x47, 0xF9, 255],
+        ),
+    ];
+    for (row, want) in packed {
+        let seed = zeros.get(..row.len()).unwrap_or(&[]);
+        assert_eq!(rt;
+            data_of(&rt, rt.alloc(), &Packed, row, seed)?.as_slice(),
+            want,
+            "{row:?}"
+        );
+    }
+    let delta: [(&[u8], &[u8], &[u8]); 5] = [
+        (&[1, 0, 2], &[0, 0, 0], &[0, 1, 1, 2]),
+        (&[5, 6], &[5, 0], &[1, 6]),
+        (&[1, 2], &[0, 0], &[32, 1, 2]),
+        (&[7, 1, 7], &[7, 0, 7], &[1, 1]),
+        (&[1, 0, 0, 2], &[0, 0, 0, 0], &[0, 1, 2, 2]),
+    ];
+    for (row, seed, want) in delta {
+        assert_eq!(rt;
+            data_of(&rt, rt.alloc(), &Delta, row, seed)?.as_slice(),
+            want,
+            "{row:?}"
+        );
+    }
+    Ok(())
+}
+
+/// The least numbers of all places of a row.
+#[test]
+fn tables(rt: HostRuntime) {
+    let mut out = [7; 4];
+    Plain.places(&[1, 0, 0], &[9, 9, 9], &mut out);
+    assert_eq!(rt; out, [1, 0, 0, 0]);
+    Runs.places(&[0, 0, 1], &[9, 9, 9], &mut out);
+    assert_eq!(rt; out, [4, 4, 2, 0]);
+    Packed.places(&[1, 1, 2], &[9, 9, 9], &mut out);
+    assert_eq!(rt; out, [4, 3, 2, 0]);
+    Delta.places(&[1, 1, 2], &[1, 0, 2], &mut out);
+    assert_eq!(rt; out, [2, 2, 0, 0]);
+}
+
+/// How many rows of four bytes there are, where a byte is 0, 1 or 2.
+const ROWS: usize = 81;
+
+/// A row by its number: its bytes are the digits in base 3.
+fn set_row(row: &mut [u8], number: usize) {
+    let mut rest = number;
+    for slot in row.iter_mut() {
+        *slot = (rest % 3) as u8;
+        rest /= 3;
+    }
+}
+
+/// The number of a row, or more than any where it has another byte.
+fn number_of(row: &[u8]) -> usize {
+    let mut number: usize = 0;
+    for byte in row.iter().rev() {
+        if *byte > 2 {
+            return ROWS;
+        }
+        number = number.wrapping_mul(3).wrapping_add(usize::from(*byte));
+    }
+    number
+}
+
+/// Notes for each row how few bytes make it over the seed row, among all data of `len` bytes from an alphabet.
+fn try_data(
+    method: Method,
+    seed: &[u8],
+    alphabet: &[u8],
+    count: usize,
+    len: usize,
+    least: &mut [usize; ROWS],
+) {
+    let mut bytes = [0; 8];
+    let mut row = [0; 4];
+    for code in 0..count {
+        let mut rest = code;
+        for slot in bytes.iter_mut() {
+            *slot = alphabet
+                .get(rest.checked_rem(alphabet.len()).unwrap_or(0))
+                .copied()
+                .unwrap_or(0);
+            rest = rest.checked_div(alphabet.len()).unwrap_or(0);
+        }
+        let bytes = bytes.get(..len).unwrap_or(&[]);
+        if is_whole(method, bytes, seed.len()) {
+            if let Some(row) = row.get_mut(..seed.len()) {
+                decode(method, seed, bytes, row);
+                if let Some(found) = least.get_mut(number_of(row)) {
+                    *found = (*found).min(len);
+                }
+            }
+        }
+    }
+}
+
+/// Compares a coder's least lengths over one seed row with those that trying all data finds.
+fn compare<C: RowCoder>(
+    rt: &impl Abort,
+    coder: &C,
+    seed: &[u8],
+    alphabet: &[u8],
+    lengths: usize,
+    rows: usize,
+) {
+    let mut least = [99; ROWS];
+    let mut count: usize = 1;
+    for len in 0..lengths {
+        try_data(coder.method(), seed, alphabet, count, len, &mut least);
+        count = count.wrapping_mul(alphabet.len());
+    }
+    let mut row = [0; 4];
+    if let Some(row) = row.get_mut(..seed.len()) {
+        for number in 0..rows {
+            set_row(row, number);
+            assert_eq!(rt;
+                Some(coder.least(row, seed)),
+                least.get(number).copied(),
+                "{row:?} {seed:?}"
+            );
+        }
+    }
+}
+
+/// The least length of each short row, found by trying all data of growing length.
+#[test]
+fn all_data(rt: HostRuntime) {
+    let mut rows: usize = 1;
+    for len in 0..5 {
+        let mut seed = [0; 4];
+        if let Some(seed) = seed.get_mut(..len) {
+            compare(&rt, &Plain, seed, &[0, 1, 2], len + 1, rows);
+            compare(&rt, &Runs, seed, &[0, 1, 2, 3], 2 * len + 1, rows);
+            compare(
+                &rt,
+                &Packed,
+                seed,
+                &[0, 1, 2, 3, 128, 253, 254, 255],
+                len + 2,
+                rows,
+            );
+            for number in 0..rows {
+                set_row(seed, number);
+                compare(
+                    &rt,
+                    &Delta,
+                    seed,
+                    &[0, 1, 2, 3, 32, 33, 34, 64, 65, 96],
+                    len + 2,
+                    rows,
+                );
+            }
+        }
+        rows = rows.wrapping_mul(3);
+    }
+}

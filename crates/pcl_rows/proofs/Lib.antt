@@ -1,0 +1,6 @@
+pub mod Overlays
+pub mod Beginnings
+pub mod Spellings
+pub mod Readings
+pub mod OneReading
+pub mod Examples

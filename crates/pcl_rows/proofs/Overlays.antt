@@ -1,0 +1,117 @@
+-- A list over another one from a place on.
+use Rattle.std.proofs.Common.{◌≡◌, ℕ, ◌+◌, ◌-◌, ◌<◌, ◌≤◌, min, List, [], ◌∷◌, ◌++◌, length, get_or, take, drop, replicate, refl, sym, ap, ◌∙◌, inl, inr, append_assoc, add-zero, arith}
+use Rattle.std.proofs.lemmas.Bool.{cases_lt}
+use Rattle.std.proofs.lemmas.List.{append-nil, take-append-le, take_at, drop_at, drop-drop, take_all, drop_all, take-append-drop, length-append, length-take, length-drop, take-take, take_more, length-replicate, replicate-append-replicate}
+use Rattle.std.specs.List.{flat_map}
+use Rattle.std.proofs.lemmas.List.Concat.{flat_map-append}
+use Rattle.pcl_rows.specs.Fronts.{overlaid}
+
+-- where the new bytes fit
+pub overlaid_within : (old : List ℕ) (place : ℕ) (new : List ℕ) → place + length new ≤ length old → overlaid old place new ≡ take place old ++ (new ++ drop (place + length new) old)
+overlaid_within old place new fits = take_all _ _ (omega (arith, length-append (take place old) (new ++ drop (place + length new) old), length-append new (drop (place + length new) old), length-take place old, length-drop (place + length new) old))
+
+-- where they don't
+pub overlaid_past : (old : List ℕ) (place : ℕ) (new : List ℕ) → place ≤ length old → length old ≤ place + length new → overlaid old place new ≡ take (length old) (take place old ++ new)
+overlaid_past old place new within past =
+    rw (← append_assoc) (take-append-le (length old) (take place old ++ new) (drop (place + length new) old) (omega (arith, length-append (take place old) new, length-take place old)))
+
+pub length-overlaid : (old : List ℕ) (place : ℕ) (new : List ℕ) → place ≤ length old → length (overlaid old place new) ≡ length old
+length-overlaid old place new within =
+    omega (arith, length-take (length old) (take place old ++ (new ++ drop (place + length new) old)), length-append (take place old) (new ++ drop (place + length new) old), length-append new (drop (place + length new) old), length-take place old, length-drop (place + length new) old)
+
+pub overlaid-nil : (old : List ℕ) (place : ℕ) → place ≤ length old → overlaid old place [] ≡ old
+overlaid-nil old place within = overlaid_within old place [] (omega arith) ∙ (rw add-zero (take-append-drop place old))
+
+-- copies that are cut at the end of the list
+pub overlaid_copies : (old : List ℕ) (place copies fitting byte : ℕ) → place ≤ length old → fitting ≡ min copies (length old - place) → overlaid old place (replicate copies byte) ≡ take place old ++ (replicate fitting byte ++ drop (place + fitting) old)
+overlaid_copies old place copies fitting byte within e =
+    elim (cases_lt (length old) (place + copies)) [
+      | inl past ↦
+          let more : ℕ = copies - fitting in
+          let all : copies ≡ fitting + more = omega arith in
+          let parts : replicate copies byte ≡ replicate fitting byte ++ replicate more byte = ap (λ (n : ℕ). replicate n byte) all ∙ sym (replicate-append-replicate fitting more byte) in
+          let size : length (take place old ++ replicate fitting byte) ≡ length old = omega (arith, length-append (take place old) (replicate fitting byte), length-take place old, length-replicate fitting byte) in
+          let none : drop (place + fitting) old ≡ [] = drop_all (place + fitting) old (omega arith) in
+          overlaid_past old place (replicate copies byte) within (omega (arith, length-replicate copies byte))
+          ∙ ap (λ (bs : List ℕ). take (length old) (take place old ++ bs)) parts
+          ∙ ap (take (length old)) (sym (append_assoc (take place old) (replicate fitting byte) (replicate more byte)))
+          ∙ take_at (take place old ++ replicate fitting byte) (replicate more byte) (length old) size
+          ∙ rw (none, append-nil) refl
+      | inr fits ↦
+          let all : fitting ≡ copies = omega arith in
+          overlaid_within old place (replicate copies byte) (omega (arith, length-replicate copies byte))
+          ∙ rw (length-replicate copies byte, all) refl
+    ]
+
+-- what lies behind the new bytes
+pub drop-overlaid : (old : List ℕ) (place : ℕ) (new : List ℕ) → place ≤ length old → drop (min (length old) (place + length new)) (overlaid old place new) ≡ drop (place + length new) old
+drop-overlaid old place new within =
+    elim (cases_lt (length old) (place + length new)) [
+      | inl past ↦
+          let end : min (length old) (place + length new) ≡ length old = omega arith in
+          rw end (drop_all (length old) (overlaid old place new) (omega (arith, length-overlaid old place new within)) ∙ sym (drop_all (place + length new) old (omega arith)))
+      | inr fits ↦
+          let end : min (length old) (place + length new) ≡ place + length new = omega arith in
+          let size : length (take place old ++ new) ≡ place + length new = omega (arith, length-append (take place old) new, length-take place old) in
+          rw end (ap (drop (place + length new)) (overlaid_within old place new fits ∙ sym (append_assoc (take place old) new (drop (place + length new) old)))
+          ∙ drop_at (take place old ++ new) (drop (place + length new) old) (place + length new) size)
+    ]
+
+-- what stands before it, followed by anything and cut at the length
+pub take-overlaid : (old : List ℕ) (place : ℕ) (new rest : List ℕ) → place ≤ length old → take (length old) (take (min (length old) (place + length new)) (overlaid old place new) ++ rest) ≡ take (length old) (take place old ++ (new ++ rest))
+take-overlaid old place new rest within =
+    elim (cases_lt (length old) (place + length new)) [
+      | inl past ↦
+          let end : min (length old) (place + length new) ≡ length old = omega arith in
+          let laid = overlaid_past old place new within (omega arith) in
+          let size : length (take (length old) (take place old ++ new)) ≡ length old = omega (arith, length-take (length old) (take place old ++ new), length-append (take place old) new, length-take place old) in
+          rw (end, laid) (ap (λ (bs : List ℕ). take (length old) (bs ++ rest)) (take-take (length old) (length old) (take place old ++ new) (omega arith))
+          ∙ take_at (take (length old) (take place old ++ new)) rest (length old) size
+          ∙ sym (take-append-le (length old) (take place old ++ new) rest (omega (arith, length-append (take place old) new, length-take place old)))
+          ∙ ap (take (length old)) (append_assoc (take place old) new rest))
+      | inr fits ↦
+          let end : min (length old) (place + length new) ≡ place + length new = omega arith in
+          let size : length (take place old ++ new) ≡ place + length new = omega (arith, length-append (take place old) new, length-take place old) in
+          rw end (ap (λ (bs : List ℕ). take (length old) (take (place + length new) bs ++ rest)) (overlaid_within old place new fits ∙ sym (append_assoc (take place old) new (drop (place + length new) old)))
+          ∙ ap (λ (bs : List ℕ). take (length old) (bs ++ rest)) (take_at (take place old ++ new) (drop (place + length new) old) (place + length new) size)
+          ∙ ap (take (length old)) (append_assoc (take place old) new rest))
+    ]
+
+-- one list after another
+pub overlaid-overlaid : (old : List ℕ) (place : ℕ) (first second : List ℕ) → place ≤ length old → overlaid (overlaid old place first) (min (length old) (place + length first)) second ≡ overlaid old place (first ++ second)
+overlaid-overlaid old place first second within =
+    let middle : List ℕ = overlaid old place first in
+    let end : ℕ = min (length old) (place + length first) in
+    let rest : drop (end + length second) middle ≡ drop (place + length (first ++ second)) old =
+    sym (drop-drop (length second) end middle)
+    ∙ ap (drop (length second)) (drop-overlaid old place first within)
+    ∙ drop-drop (length second) (place + length first) old
+    ∙ ap (λ (n : ℕ). drop n old) (omega (arith, length-append first second)) in
+    ap (λ (n : ℕ). take n (take end middle ++ (second ++ drop (end + length second) middle))) (length-overlaid old place first within)
+    ∙ take-overlaid old place first (second ++ drop (end + length second) middle) within
+    ∙ ap (λ (bs : List ℕ). take (length old) (take place old ++ bs)) (sym (append_assoc first second (drop (end + length second) middle)))
+    ∙ ap (λ (bs : List ℕ). take (length old) (take place old ++ (first ++ second ++ bs))) rest
+
+-- copies of each of the first bytes
+abbrev pub copied : ℕ → ℕ → List ℕ → List ℕ
+copied copies count bytes = flat_map (λ byte. replicate copies byte) (take count bytes)
+
+copied_more : (copies i : ℕ) (bytes : List ℕ) → i < length bytes → copied copies (i + 1) bytes ≡ copied copies i bytes ++ replicate copies (get_or bytes i 0)
+copied_more copies i bytes within =
+    ap (flat_map (λ byte. replicate copies byte)) (take_more bytes i 0 within)
+    ∙ flat_map-append (λ byte. replicate copies byte) (take i bytes) (get_or bytes i 0 ∷ [])
+    ∙ ap (λ (bs : List ℕ). copied copies i bytes ++ bs) (append-nil (replicate copies (get_or bytes i 0)))
+
+-- one more byte
+pub put_more : (old row : List ℕ) (start place copies i : ℕ) (bytes new : List ℕ) (end : ℕ) → start ≤ length old → i < length bytes
+    → row ≡ overlaid old start (copied copies i bytes) → place ≡ min (length old) (start + length (copied copies i bytes))
+    → new ≡ overlaid row place (replicate copies (get_or bytes i 0)) → end ≡ min (length row) (place + copies)
+    → (new ≡ overlaid old start (copied copies (i + 1) bytes)) × (end ≡ min (length old) (start + length (copied copies (i + 1) bytes)))
+put_more old row start place copies i bytes new end within more row-is place-is new-is end-is =
+    let before : List ℕ = copied copies i bytes in
+    let last : List ℕ = replicate copies (get_or bytes i 0) in
+    let grown = copied_more copies i bytes more in
+    let same : new ≡ overlaid (overlaid old start before) (min (length old) (start + length before)) last = new-is ∙ ap (λ (r : List ℕ). overlaid r place last) row-is ∙ ap (λ (p : ℕ). overlaid (overlaid old start before) p last) place-is in (
+      same ∙ overlaid-overlaid old start before last within ∙ ap (overlaid old start) (sym grown),
+      omega (arith, end-is, place-is, ap length row-is, length-overlaid old start before within, ap length grown, length-append before last, length-replicate copies (get_or bytes i 0)),
+    )

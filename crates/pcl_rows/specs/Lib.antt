@@ -1,0 +1,4 @@
+pub mod Heads
+pub mod Elements
+pub mod Rows
+pub mod Fronts

@@ -1,0 +1,71 @@
+//! Row data, decoded.
+
+ghost use Rattle.std.specs.Prelude.{◌≡◌, ◌+◌, ◌≤◌, length, min, replicate, flat_map};
+ghost use Rattle.pcl_rows.specs.Rows.{RowFrom, Decodes};
+ghost use Rattle.pcl_rows.specs.Fronts.{overlaid};
+
+use crate::front::Front;
+use pcl_base::Method;
+
+/// Decodes row data over a seed row (PCL 5 manual, "Set Compression Method"; docs/LANGUAGE.md, "Row
+/// data"). What lies past the row is dropped, and a cut last element gives the new bytes that stand in it.
+pub fn decode(method: Method, seed: &[u8], bytes: &[u8], row: &mut [u8])
+    requires { length seed.now ≡ length row.old }
+    ensures { Decodes method seed.now bytes.now row.new }
+{
+    match method {
+        Method::Plain | Method::Runs | Method::Packed => row.fill(0),
+        Method::Delta => row.copy_from_slice(seed),
+    }
+    treat(method, bytes, row);
+}
+
+/// Treats a row by its data.
+fn treat(method: Method, bytes: &[u8], row: &mut [u8])
+    ensures { RowFrom method bytes.now row.old row.new }
+{
+    let mut rest = bytes;
+    let mut place = 0;
+    while !rest.is_empty() {
+        let front = Front::read(method, rest);
+        place = skip(row.len(), place, front.offset);
+        place = put(row, place, front.copies, front.bytes);
+        rest = front.rest;
+    }
+}
+
+/// The place that lies `offset` bytes further, or the row's end.
+fn skip(row_bytes: usize, place: usize, offset: u128) -> usize
+    requires { place ≤ row_bytes }
+    ensures { result ≡ min row_bytes (place + offset) }
+{
+    if offset < (row_bytes - place) as u128 {
+        place + offset as usize
+    } else {
+        row_bytes
+    }
+}
+
+/// Writes each byte as often as `copies` says, from a place of the row on. Answers where they end.
+fn put(row: &mut [u8], start: usize, copies: usize, bytes: &[u8]) -> usize
+    requires { start ≤ length row.old }
+    ensures row { row.new ≡ overlaid row.old start (flat_map (λ byte. replicate copies byte) bytes.now) }
+    ensures end { result ≡ min (length row.old) (start + length (flat_map (λ byte. replicate copies byte) bytes.now)) }
+{
+    let mut place = start;
+    for byte in bytes {
+        place = put_copies(row, place, copies, *byte);
+    }
+    place
+}
+
+/// Writes copies of a byte from a place of the row on. Answers where they end.
+fn put_copies(row: &mut [u8], place: usize, copies: usize, byte: u8) -> usize
+    requires { place ≤ length row.old }
+    ensures row { row.new ≡ overlaid row.old place (replicate copies byte) }
+    ensures end { result ≡ min (length row.old) (place + copies) }
+{
+    let end = place + copies.min(row.len() - place);
+    row[place..end].fill(byte);
+    end
+}
