@@ -1,6 +1,7 @@
 -- Runs of bits, byte by byte.
-use Rattle.std.proofs.Common.{◌≡◌, ℕ, ◌+◌, ◌-◌, ◌*◌, ◌/◌, ◌%◌, ◌<◌, ◌≤◌, min, nat_le, nat_lt, Bool, true, false, ◌&&◌, ◌||◌, List, length, get_or, set, bit_and, bit_or, get_or-set_same, get_or-set_other, refl, sym, ap, ◌∙◌, inl, inr, arith}
-use Rattle.std.proofs.lemmas.Bool.{cases_lt, cases_eq, lt-ltb, le-ltb, lt-leb, and_left, and_right}
+use Rattle.std.proofs.Common.{◌≡◌, ℕ, ◌+◌, ◌-◌, ◌*◌, ◌/◌, ◌%◌, ◌<◌, ◌≤◌, min, nat_le, nat_lt, Bool, true, false, ◌&&◌, ◌||◌, List, length, get_or, set, take, drop, bit_and, bit_or, get_or-set_same, get_or-set_other, refl, sym, ap, add-zero, ◌∙◌, inl, inr, arith}
+use Rattle.std.proofs.lemmas.Bool.{cases_lt, cases_eq, lt-ltb, le-ltb, le-leb, lt-leb, and_left, and_right}
+use Rattle.std.proofs.lemmas.List.{get_or-take, get_or-drop, length-take-le}
 use Rattle.std.proofs.lemmas.Bool.Decides.{nat_tests}
 use Rattle.pcl_bitmap.specs.Bitmap.{bit_of_byte, dot_of_row}
 use Rattle.pcl_bitmap.specs.Dots.{run_dot}
@@ -94,3 +95,71 @@ run_more old now row from end i m within bits above k =
           ∙ ap (λ t. t || dot_of_row old k)
           (run_dot-end from (min end (8 * i)) stop row k (same_test k (min end (8 * i)) k stop (λ p. omega arith) (λ p. omega arith)))
     ]
+
+-- a run of whole bytes: the bits of its bytes
+pub whole_bits :
+    (row : List ℕ) (at i : ℕ)
+    → i < length row
+    → (k : ℕ) → k < 8
+    → bit_of_byte (get_or row i 0) k ≡ run_dot (8 * at) (8 * (at + length row)) row (8 * (at + i) + k)
+whole_bits row at i within k small =
+    let place : 8 * (at + i) + k - 8 * at ≡ 8 * i + k = omega arith in
+    rw (le-leb (8 * at) (8 * (at + i) + k) (omega arith), lt-ltb (8 * (at + i) + k) (8 * (at + length row)) (omega arith), place)
+    (sym (dot_at row (8 * i + k) i k small refl))
+
+-- the first bytes of a row have its first bits, and the bytes after them the others
+take_dots : (w : ℕ) (row : List ℕ) (x : ℕ) → x < 8 * w → dot_of_row (take w row) x ≡ dot_of_row row x
+take_dots w row x h = ap (λ n. bit_of_byte n (x % 8)) (get_or-take w row (x / 8) 0 (omega arith))
+
+drop_dots : (w : ℕ) (row : List ℕ) (x y : ℕ) → y ≡ 8 * w + x → dot_of_row (drop w row) x ≡ dot_of_row row y
+drop_dots w row x y e =
+    let byte : w + x / 8 ≡ y / 8 = omega arith in
+    let bit : x % 8 ≡ y % 8 = omega arith in
+    ap (λ n. bit_of_byte n (x % 8)) (get_or-drop w row (x / 8) 0) ∙ rw (byte, bit)
+
+-- a run is that of its first bytes and that of the others
+pub run_dot-split :
+    (from end w : ℕ) (row : List ℕ) (k : ℕ)
+    → from + 8 * w ≤ end
+    → (run_dot (from + 8 * w) end (drop w row) k || run_dot from (from + 8 * w) (take w row) k) ≡ run_dot from end row k
+run_dot-split from end w row k h =
+    elim (cases_lt k (from + 8 * w)) [
+      | inl early ↦
+          ap (λ t. t || run_dot from (from + 8 * w) (take w row) k) (run_dot-before (from + 8 * w) end (drop w row) k early)
+          ∙ run_dot-end from (from + 8 * w) end (take w row) k (same_test k (from + 8 * w) k end (λ p. omega arith) (λ p. early))
+          ∙ (elim (cases_lt k from) [
+            | inl before ↦ run_dot-before from end (take w row) k before ∙ sym (run_dot-before from end row k before)
+            | inr since ↦ ap (λ t. nat_le from k && nat_lt k end && t) (take_dots w row (k - from) (omega arith))
+          ])
+      | inr late ↦
+          ap (λ t. run_dot (from + 8 * w) end (drop w row) k || t) (run_dot-past from (from + 8 * w) (take w row) k late)
+          ∙ or_comm (run_dot (from + 8 * w) end (drop w row) k) false
+          ∙ ap (λ t. t && nat_lt k end && dot_of_row (drop w row) (k - (from + 8 * w))) (le-leb (from + 8 * w) k late ∙ sym (le-leb from k (omega arith)))
+          ∙ ap (λ t. nat_le from k && nat_lt k end && t) (drop_dots w row (k - (from + 8 * w)) (k - from) (omega arith))
+    ]
+
+or_assoc : (a b c : Bool) → (a || (b || c)) ≡ (a || b || c)
+or_assoc true b c = refl
+or_assoc false b c = refl
+
+-- first the run of a row's whole first bytes, and then that of the others
+pub run_dot-joined :
+    (from end w : ℕ) (row : List ℕ) (k : ℕ) (before between : Bool)
+    → w ≤ length row → from % 8 ≡ 0 → from + 8 * w ≤ end
+    → between ≡ (run_dot (8 * (from / 8)) (8 * (from / 8 + length (take w row))) (take w row) k || before)
+    → (run_dot (from + 8 * w) end (drop w row) k || between) ≡ (run_dot from end row k || before)
+run_dot-joined from end w row k before between within aligned fits painted =
+    let long : length (take w row) ≡ w = length-take-le w row within in
+    let start : 8 * (from / 8) ≡ from = omega arith in
+    let stop : 8 * (from / 8 + length (take w row)) ≡ from + 8 * w = omega arith in
+    let first : between ≡ (run_dot from (from + 8 * w) (take w row) k || before) = rw (start, stop) at painted in
+    ap (λ t. run_dot (from + 8 * w) end (drop w row) k || t) first
+    ∙ or_assoc (run_dot (from + 8 * w) end (drop w row) k) (run_dot from (from + 8 * w) (take w row) k) before
+    ∙ ap (λ t. t || before) (run_dot-split from end w row k fits)
+
+-- nothing was painted before
+pub run_dot-alone :
+    (from end w : ℕ) (row : List ℕ) (k : ℕ) → w ≤ 0 → run_dot (from + 8 * w) end (drop w row) k ≡ run_dot from end row k
+run_dot-alone from end w row k h =
+    let none : w ≡ 0 = omega arith in
+    rw (none, add-zero from) refl

@@ -121,4 +121,3 @@ impl Bitmap {
         bits::or_bits(&mut self.bytes, start, start + count, row);
     }
 }
-

@@ -1,6 +1,6 @@
 //! Runs of bits in lists of bytes. Bit 0 of a list is the highest bit of its first byte.
 
-ghost use Rattle.std.specs.Prelude.{◌≡◌, ℕ, ◌+◌, ◌-◌, ◌*◌, ◌<◌, ◌≤◌, ◌↔◌, nat_le, nat_lt, ◌&&◌, ◌||◌, length, slice_index, All, IsTrue};
+ghost use Rattle.std.specs.Prelude.{◌≡◌, ℕ, ◌+◌, ◌-◌, ◌*◌, ◌%◌, ◌<◌, ◌≤◌, ◌↔◌, nat_le, nat_lt, ◌&&◌, ◌||◌, length, slice_index, All, IsTrue};
 ghost use Rattle.pcl_bitmap.specs.Bitmap.{bit_of_byte, dot_of_row};
 ghost use Rattle.pcl_bitmap.specs.Dots.{run_dot};
 
@@ -37,6 +37,42 @@ fn leading_ones(count: usize) -> u8
 /// Sets the bits of `target` from bit `from` up to bit `end` where `source` has a bit set, the first
 /// bit of `source` at `from`. Bits past the end of `source` count as clear.
 pub fn or_bits(target: &mut [u8], from: usize, end: usize, source: &[u8])
+    requires { end ≤ 8 * length target.old }
+    ensures bits { (k : ℕ) → dot_of_row target.new k ≡ (run_dot from end source.now k || dot_of_row target.old k) }
+    ensures in_bytes { All (λ byte. byte < 256) target.new }
+{
+    let whole = whole_bytes(from, end, source.len());
+    if whole > 0 {
+        or_bytes(target, from / 8, &source[..whole]);
+    }
+    or_shifted(target, from + 8 * whole, end, &source[whole..]);
+}
+
+// How many of the `len` bytes of a source lie whole in the run and on bytes of the target.
+fn whole_bytes(from: usize, end: usize, len: usize) -> usize
+    ensures within { result ≤ len }
+    ensures in_run { 0 < result → from + 8 * result ≤ end }
+    ensures aligned { 0 < result → from % 8 ≡ 0 }
+{
+    if from % 8 == 0 {
+        (end / 8).saturating_sub(from / 8).min(len)
+    } else {
+        0
+    }
+}
+
+// Sets the bits of `target` from byte `at` on where `source` has a bit set.
+fn or_bytes(target: &mut [u8], at: usize, source: &[u8])
+    requires { at + length source.now ≤ length target.old }
+    ensures { (k : ℕ) → dot_of_row target.new k ≡ (run_dot (8 * at) (8 * (at + length source.now)) source.now k || dot_of_row target.old k) }
+{
+    for (i, byte) in source.iter().enumerate() {
+        target[at + i] |= *byte;
+    }
+}
+
+// As `or_bits`, byte by byte.
+fn or_shifted(target: &mut [u8], from: usize, end: usize, source: &[u8])
     requires { end ≤ 8 * length target.old }
     ensures bits { (k : ℕ) → dot_of_row target.new k ≡ (run_dot from end source.now k || dot_of_row target.old k) }
     ensures in_bytes { All (λ byte. byte < 256) target.new }

@@ -3,21 +3,25 @@ use Rattle.std.specs.Prelude.{Bool, true, false, ◌==◌, ◌&&◌, if◌then�
 use Rattle.pcl_base.specs.declared.name.Name.{Name}
 use Rattle.pcl_base.specs.declared.name.Name.TheVariants.{Empty, One, Two, Three}
 use Rattle.pcl_escape.specs.declared.operation.Operation.{Operation}
-use Rattle.pcl_escape.specs.declared.operation.Operation.TheVariants.{Reset, FormFeed, TopMargin, HorizontalPosition, VerticalPosition, RasterResolution, StartRaster, EndRaster, EndRasterResetMethod, RasterMethod, RasterRow}
+use Rattle.pcl_escape.specs.declared.operation.Operation.TheVariants.{Reset, FormFeed, PageSize, Copies, TopMargin, HorizontalPosition, VerticalPosition, RasterResolution, RasterWidth, StartRaster, EndRaster, EndRasterResetMethod, RasterMethod, RasterOffset, RasterRow}
 
 -- each name, with what its command does
 abbrev pub operations : List (Name × Operation)
 operations =
     (One 69, Reset) ∷
     (One 12, FormFeed) ∷
+    (Three 38 108 65, PageSize) ∷
+    (Three 38 108 88, Copies) ∷
     (Three 38 108 69, TopMargin) ∷
     (Three 42 112 88, HorizontalPosition) ∷
     (Three 42 112 89, VerticalPosition) ∷
     (Three 42 116 82, RasterResolution) ∷
+    (Three 42 114 83, RasterWidth) ∷
     (Three 42 114 65, StartRaster) ∷
     (Three 42 114 66, EndRaster) ∷
     (Three 42 114 67, EndRasterResetMethod) ∷
     (Three 42 98 77, RasterMethod) ∷
+    (Three 42 98 89, RasterOffset) ∷
     (Three 42 98 87, RasterRow) ∷ []
 
 abbrev pub is_name : Name → Name → Bool
@@ -38,12 +42,16 @@ operation_of name = operation_in operations name
 abbrev pub takes_data : Operation → Bool
 takes_data Reset = false
 takes_data FormFeed = false
+takes_data PageSize = false
+takes_data Copies = false
 takes_data TopMargin = false
 takes_data HorizontalPosition = false
 takes_data VerticalPosition = false
 takes_data RasterResolution = false
+takes_data RasterWidth = false
 takes_data StartRaster = false
 takes_data EndRaster = false
 takes_data EndRasterResetMethod = false
 takes_data RasterMethod = false
+takes_data RasterOffset = false
 takes_data RasterRow = true

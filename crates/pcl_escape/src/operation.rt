@@ -12,6 +12,10 @@ pub enum Operation {
     Reset,
     /// Ejects the page.
     FormFeed,
+    /// Sets the page size.
+    PageSize,
+    /// Sets the copies of each page.
+    Copies,
     /// Sets the top margin in lines.
     TopMargin,
     /// Moves the cursor along the line, in PCL units.
@@ -20,6 +24,8 @@ pub enum Operation {
     VerticalPosition,
     /// Sets the raster resolution.
     RasterResolution,
+    /// Sets the raster width.
+    RasterWidth,
     /// Starts a raster.
     StartRaster,
     /// Ends a raster.
@@ -28,6 +34,8 @@ pub enum Operation {
     EndRasterResetMethod,
     /// Sets the method of row data.
     RasterMethod,
+    /// Skips raster rows.
+    RasterOffset,
     /// Sends a raster row, with its data.
     RasterRow,
 }
@@ -41,14 +49,18 @@ impl Operation {
         Some(match name {
             Name::One(b'E') => Operation::Reset,
             Name::One(b'\x0c') => Operation::FormFeed,
+            Name::Three(b'&', b'l', b'A') => Operation::PageSize,
+            Name::Three(b'&', b'l', b'X') => Operation::Copies,
             Name::Three(b'&', b'l', b'E') => Operation::TopMargin,
             Name::Three(b'*', b'p', b'X') => Operation::HorizontalPosition,
             Name::Three(b'*', b'p', b'Y') => Operation::VerticalPosition,
             Name::Three(b'*', b't', b'R') => Operation::RasterResolution,
+            Name::Three(b'*', b'r', b'S') => Operation::RasterWidth,
             Name::Three(b'*', b'r', b'A') => Operation::StartRaster,
             Name::Three(b'*', b'r', b'B') => Operation::EndRaster,
             Name::Three(b'*', b'r', b'C') => Operation::EndRasterResetMethod,
             Name::Three(b'*', b'b', b'M') => Operation::RasterMethod,
+            Name::Three(b'*', b'b', b'Y') => Operation::RasterOffset,
             Name::Three(b'*', b'b', b'W') => Operation::RasterRow,
             _ => return None,
         })

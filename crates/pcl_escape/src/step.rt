@@ -121,6 +121,8 @@ fn read_named<'a>(at: usize, code: u8, rest: &'a [u8]) -> Result<Step<'a>, Refus
 }
 
 /// Reads a parameter: its field, its letter, and its data.
+// Inlined, so that a step of each command isn't passed on through memory.
+#[inline(always)]
 #[tactic(auto, unfolding(crate::specs::Scan::parameter_at, crate::specs::Checks::parameter_checks))]
 fn read_parameter<'a>(prefix: Prefix, at: usize, bytes: &'a [u8]) -> Result<Step<'a>, Refusal>
     ensures { Gives result (parameter_at prefix at bytes.now) }
@@ -155,6 +157,8 @@ fn read_parameter<'a>(prefix: Prefix, at: usize, bytes: &'a [u8]) -> Result<Step
 }
 
 /// How many bytes of data follow a parameter, of those that are left; or what is wrong.
+// Inlined, as `read_parameter`.
+#[inline(always)]
 fn data_len(name: Name, letter: u8, value: Value, left: usize) -> Result<usize, Kind>
     ensures checks { result ≡ operation_checks (operation_of name) letter value left }
     ensures within { IfOk result (λ len. len ≤ left) }

@@ -50,9 +50,10 @@ end_extends dpi end history (Some kind) = ([], sym (append-nil (sheets dpi histo
 with_extends : (dpi : Dpi) (operation : Option Operation) (command : Said) (history : History) (whole : Performance)
     → Extends dpi (with_operation operation command history) whole → Extends dpi history whole
 with_extends dpi None command history whole e = e
-with_extends dpi (Some operation) command history whole e =
-    (ejected_sheets dpi (performed operation command.value command.bytes) history ++ e.0,
-     e.1 ∙ append_assoc (sheets dpi history) (ejected_sheets dpi (performed operation command.value command.bytes) history) e.0)
+with_extends dpi (Some operation) command history whole e = (
+  ejected_sheets dpi (performed operation command.value command.bytes) history ++ e.0,
+  e.1 ∙ append_assoc (sheets dpi history) (ejected_sheets dpi (performed operation command.value command.bytes) history) e.0,
+)
 
 command_extends : (dpi : Dpi) (command : Said) (history : History) (kind : Option Kind) (rest : Performance) → Extends dpi history rest
     → Extends dpi history (command_performance command history kind rest)
@@ -93,9 +94,10 @@ pub fault_reached : {S : Type 0} (takes : S → Page → S → Type 0) (dpi : Dp
     → HandsOver takes dpi whole (Err fault) old later
 fault_reached {S} takes dpi end whole command rest performer next old now later (Refused refusal) r step =
     let s = step r.history r.reflects in
-    let stops = sym r.same ∙ refused_next dpi end r.history command rest s.0 s.1 in
-    (ap (λ (p : Performance). p.refusal) stops ∙ ap (λ (f : Refusal). Some f) (sym s.2),
-     subst (λ (p : Performance). Hands takes dpi (sheets dpi p.history) old later) (sym stops) (subst (λ (x : S). Hands takes dpi (sheets dpi r.history) old x) (sym s.3) r.handed))
+    let stops = sym r.same ∙ refused_next dpi end r.history command rest s.0 s.1 in (
+      ap (λ (p : Performance). p.refusal) stops ∙ ap (λ (f : Refusal). Some f) (sym s.2),
+      subst (λ (p : Performance). Hands takes dpi (sheets dpi p.history) old later) (sym stops) (subst (λ (x : S). Hands takes dpi (sheets dpi r.history) old x) (sym s.3) r.handed),
+    )
 fault_reached {S} takes dpi end whole command rest performer next old now later Memory r step =
     let s = step r.history r.reflects in
     let e = extends dpi end r.history (command ∷ rest) in
@@ -107,14 +109,16 @@ pub end_reached : {S : Type 0} (takes : S → Page → S → Type 0) (dpi : Dpi)
     → HandsOver takes dpi whole result old later
 end_reached {S} takes dpi end whole performer old now later (Ok done) r step =
     let s = step dpi r.history r.reflects in
-    let ends : whole ≡ record { history = ended ∷ r.history; refusal = None } = sym r.same ∙ ap (end_performance end r.history) s.0 in
-    (ap (λ (p : Performance). p.refusal) ends,
-     subst (λ (p : Performance). Hands takes dpi (sheets dpi p.history) old later) (sym ends) (hands_append takes dpi (sheets dpi r.history) (ejected_sheets dpi ended r.history) old now later r.handed s.1))
+    let ends : whole ≡ record { history = ended ∷ r.history; refusal = None } = sym r.same ∙ ap (end_performance end r.history) s.0 in (
+      ap (λ (p : Performance). p.refusal) ends,
+      subst (λ (p : Performance). Hands takes dpi (sheets dpi p.history) old later) (sym ends) (hands_append takes dpi (sheets dpi r.history) (ejected_sheets dpi ended r.history) old now later r.handed s.1),
+    )
 end_reached {S} takes dpi end whole performer old now later (Err (Refused refusal)) r step =
     let s = step dpi r.history r.reflects in
-    let stops : whole ≡ record { history = r.history; refusal = Some (refusal_at end Empty s.0) } = sym r.same ∙ ap (end_performance end r.history) s.1 in
-    (ap (λ (p : Performance). p.refusal) stops ∙ ap (λ (f : Refusal). Some f) (sym s.2),
-     subst (λ (p : Performance). Hands takes dpi (sheets dpi p.history) old later) (sym stops) (subst (λ (x : S). Hands takes dpi (sheets dpi r.history) old x) (sym s.3) r.handed))
+    let stops : whole ≡ record { history = r.history; refusal = Some (refusal_at end Empty s.0) } = sym r.same ∙ ap (end_performance end r.history) s.1 in (
+      ap (λ (p : Performance). p.refusal) stops ∙ ap (λ (f : Refusal). Some f) (sym s.2),
+      subst (λ (p : Performance). Hands takes dpi (sheets dpi p.history) old later) (sym stops) (subst (λ (x : S). Hands takes dpi (sheets dpi r.history) old x) (sym s.3) r.handed),
+    )
 end_reached {S} takes dpi end whole performer old now later (Err Memory) r step =
     let s = step dpi r.history r.reflects in
     let e = extends dpi end r.history [] in

@@ -7,7 +7,7 @@ use Rattle.pcl_base.specs.declared.value.Value.{Value}
 use Rattle.pcl_base.specs.Size.{page_width, page_height}
 use Rattle.pcl_bitmap.specs.Bitmap.{Picture, IsPicture, dot}
 use Rattle.pcl_escape.specs.declared.operation.Operation.{Operation}
-use Rattle.pcl_escape.specs.declared.operation.Operation.TheVariants.{Reset, FormFeed, TopMargin, HorizontalPosition, VerticalPosition, RasterResolution, StartRaster, EndRaster, EndRasterResetMethod, RasterMethod, RasterRow}
+use Rattle.pcl_escape.specs.declared.operation.Operation.TheVariants.{Reset, FormFeed, PageSize, Copies, TopMargin, HorizontalPosition, VerticalPosition, RasterResolution, RasterWidth, StartRaster, EndRaster, EndRasterResetMethod, RasterMethod, RasterOffset, RasterRow}
 use Rattle.pcl_page.specs.declared.environment.Environment.{Environment}
 use Rattle.pcl_page.specs.declared.environment.Raster.{Raster}
 use Rattle.pcl_page.specs.declared.page.Page.{Page}
@@ -37,14 +37,18 @@ margin_usual false env h = record { size = h.size; copies = h.copies }
 effect_usual : (dpi : Dpi) (operation : Operation) (value : Value) (is_marked : Bool) (env : Environment) → IsUsual env → IsUsual (effect dpi operation value is_marked env)
 effect_usual dpi Reset value m env h = record { size = refl; copies = refl }
 effect_usual dpi FormFeed value m env h = let e = ended_usual dpi env env.raster h in record { size = e.size; copies = e.copies }
+effect_usual dpi PageSize value m env h = record { size = refl; copies = h.copies }
+effect_usual dpi Copies value m env h = let e = ended_usual dpi env env.raster h in record { size = e.size; copies = refl }
 effect_usual dpi TopMargin value m env h = margin_usual m (end_raster dpi env) (ended_usual dpi env env.raster h)
 effect_usual dpi HorizontalPosition value m env h = let e = ended_usual dpi env env.raster h in record { size = e.size; copies = e.copies }
 effect_usual dpi VerticalPosition value m env h = let e = ended_usual dpi env env.raster h in record { size = e.size; copies = e.copies }
 effect_usual dpi RasterResolution value m env h = if_usual (is_some env.raster) env _ h (record { size = h.size; copies = h.copies })
+effect_usual dpi RasterWidth value m env h = h
 effect_usual dpi StartRaster value m env h = if_usual (is_some env.raster) env _ h (record { size = h.size; copies = h.copies })
 effect_usual dpi EndRaster value m env h = ended_usual dpi env env.raster h
 effect_usual dpi EndRasterResetMethod value m env h = ended_usual dpi env env.raster h
 effect_usual dpi RasterMethod value m env h = h
+effect_usual dpi RasterOffset value m env h = record { size = h.size; copies = h.copies }
 effect_usual dpi RasterRow value m env h = record { size = h.size; copies = h.copies }
 
 -- the size is Letter and the copies are 1, whatever was performed
@@ -58,27 +62,35 @@ always_usual dpi (ended ∷ history) = record { size = refl; copies = refl }
 pub no_mark : (dpi : Dpi) (operation : Operation) (bytes : List ℕ) (env : Environment) → operation_marks operation ≡ false → operation_mark dpi operation bytes env ≡ []
 no_mark dpi Reset bytes env h = refl
 no_mark dpi FormFeed bytes env h = refl
+no_mark dpi PageSize bytes env h = refl
+no_mark dpi Copies bytes env h = refl
 no_mark dpi TopMargin bytes env h = refl
 no_mark dpi HorizontalPosition bytes env h = refl
 no_mark dpi VerticalPosition bytes env h = refl
 no_mark dpi RasterResolution bytes env h = refl
+no_mark dpi RasterWidth bytes env h = refl
 no_mark dpi StartRaster bytes env h = refl
 no_mark dpi EndRaster bytes env h = refl
 no_mark dpi EndRasterResetMethod bytes env h = refl
 no_mark dpi RasterMethod bytes env h = refl
+no_mark dpi RasterOffset bytes env h = refl
 no_mark dpi RasterRow bytes env h = absurd cc
 
 pub only_rows_mark : (operation : Operation) → operation_marks operation ≡ true → operation ≡ RasterRow
 only_rows_mark Reset h = absurd cc
 only_rows_mark FormFeed h = absurd cc
+only_rows_mark PageSize h = absurd cc
+only_rows_mark Copies h = absurd cc
 only_rows_mark TopMargin h = absurd cc
 only_rows_mark HorizontalPosition h = absurd cc
 only_rows_mark VerticalPosition h = absurd cc
 only_rows_mark RasterResolution h = absurd cc
+only_rows_mark RasterWidth h = absurd cc
 only_rows_mark StartRaster h = absurd cc
 only_rows_mark EndRaster h = absurd cc
 only_rows_mark EndRasterResetMethod h = absurd cc
 only_rows_mark RasterMethod h = absurd cc
+only_rows_mark RasterOffset h = absurd cc
 only_rows_mark RasterRow h = refl
 
 -- ---- the performer after a step
@@ -163,9 +175,9 @@ after_row dpi value bytes history old middle new r e s =
           (ap (λ (b : Picture). b.size) s.bitmap ∙ e.size) (ap (λ (b : Picture). b.dpi) s.bitmap ∙ e.resolution) (subst IsPicture (sym s.bitmap) e.picture)
           (s.copies ∙ ap (λ (env : Environment). env.copies) settings)
           (λ x y wide high.
-            ap (λ (b : Picture). dot b x y) s.bitmap ∙ e.dots x y wide high
-            ∙ ap (λ (env : Environment). (row_mark dpi env (raster_of dpi env) bytes).covers x y || dot old.page.bitmap x y) r.settings
-            ∙ ap (λ (b : Bool). (row_mark dpi (environment dpi history) (raster_of dpi (environment dpi history)) bytes).covers x y || b) (old_dots dpi history old r x y wide high));
+          ap (λ (b : Picture). dot b x y) s.bitmap ∙ e.dots x y wide high
+          ∙ ap (λ (env : Environment). (row_mark dpi env (raster_of dpi env) bytes).covers x y || dot old.page.bitmap x y) r.settings
+          ∙ ap (λ (b : Bool). (row_mark dpi (environment dpi history) (raster_of dpi (environment dpi history)) bytes).covers x y || b) (old_dots dpi history old r x y wide high));
     }
 
 pub after_paint : (dpi : Dpi) (operation : Operation) (value : Value) (bytes : List ℕ) (history : History) (old middle new : Performer)
@@ -188,8 +200,8 @@ after_other dpi operation value bytes history old new r s test unmarked =
           (ap (λ (b : Picture). b.size) s.bitmap) (ap (λ (b : Picture). b.dpi) s.bitmap) (subst IsPicture (sym s.bitmap) r.shown.picture)
           (s.copies ∙ ap (λ (env : Environment). env.copies) settings)
           (λ x y wide high.
-            ap (λ (b : Picture). dot b x y) s.bitmap ∙ old_dots dpi history old r x y wide high
-            ∙ rw (test, no_mark dpi operation bytes (environment dpi history) unmarked) refl);
+          ap (λ (b : Picture). dot b x y) s.bitmap ∙ old_dots dpi history old r x y wide high
+          ∙ rw (test, no_mark dpi operation bytes (environment dpi history) unmarked) refl);
     }
 
 -- ---- the sink

@@ -7,12 +7,12 @@ use Rattle.pcl_base.specs.declared.value.Sign.{Sign}
 use Rattle.pcl_base.specs.declared.value.Sign.TheVariants.{Absent, Plus, Minus}
 use Rattle.pcl_base.specs.declared.value.Value.{Value}
 use Rattle.pcl_base.specs.Dpi.{dots_per_inch, units_per_dot}
-use Rattle.pcl_base.specs.Size.{width_at_300, height_at_300}
+use Rattle.pcl_base.specs.Size.{width_at_300, height_at_300, page_width}
 use Rattle.pcl_base.specs.Value.{whole_of}
 use Rattle.pcl_escape.specs.Checks.{is_below_zero}
 use Rattle.pcl_escape.specs.Faults.{is_absent}
 use Rattle.pcl_escape.specs.declared.operation.Operation.{Operation}
-use Rattle.pcl_escape.specs.declared.operation.Operation.TheVariants.{Reset, FormFeed, TopMargin, HorizontalPosition, VerticalPosition, RasterResolution, StartRaster, EndRaster, EndRasterResetMethod, RasterMethod, RasterRow}
+use Rattle.pcl_escape.specs.declared.operation.Operation.TheVariants.{Reset, FormFeed, PageSize, Copies, TopMargin, HorizontalPosition, VerticalPosition, RasterResolution, RasterWidth, StartRaster, EndRaster, EndRasterResetMethod, RasterMethod, RasterOffset, RasterRow}
 use Rattle.pcl_page.specs.declared.environment.Environment.{Environment}
 use Rattle.pcl_page.specs.declared.environment.Raster.{Raster}
 
@@ -58,14 +58,19 @@ raster_in dpi env (Some raster) = raster
 abbrev pub raster_of : Dpi → Environment → Raster
 raster_of dpi env = raster_in dpi env env.raster
 
+-- rows that are skipped in a raster stay white; outside one nothing is skipped
+abbrev pub skip_rows : Value → Option Raster → Option Raster
+skip_rows value None = None
+skip_rows value (Some raster) = Some (record raster { rows = raster.rows + whole_of value })
+
 -- the end of a raster puts the cursor below its last row
 abbrev pub ended_raster : Dpi → Environment → Option Raster → Environment
 ended_raster dpi env None = env
 ended_raster dpi env (Some raster) = record env {
-    x = held_x env (raster.left * units_per_dot dpi);
-    y = held_y env ((raster.top + raster.rows) * units_per_dot dpi);
-    raster = None;
-  }
+  x = held_x env (raster.left * units_per_dot dpi);
+  y = held_y env ((raster.top + raster.rows) * units_per_dot dpi);
+  raster = None;
+}
 
 abbrev pub end_raster : Dpi → Environment → Environment
 end_raster dpi env = ended_raster dpi env env.raster
@@ -94,14 +99,18 @@ start_raster dpi value env =
 abbrev pub effect : Dpi → Operation → Value → Bool → Environment → Environment
 effect dpi Reset value is_marked env = default_environment
 effect dpi FormFeed value is_marked env = to_first_line (end_raster dpi env)
+effect dpi PageSize value is_marked env = record default_environment { copies = env.copies; resolution = env.resolution }
+effect dpi Copies value is_marked env = let e = end_raster dpi env in record e { copies = 1 }
 effect dpi TopMargin value is_marked env = set_top_margin is_marked (end_raster dpi env)
 effect dpi HorizontalPosition value is_marked env = let e = end_raster dpi env in record e { x = held_x e (in_pcl_units value) }
 effect dpi VerticalPosition value is_marked env = let e = end_raster dpi env in record e { y = held_y e (e.top_margin + in_pcl_units value) }
 effect dpi RasterResolution value is_marked env = set_resolution value env
+effect dpi RasterWidth value is_marked env = env
 effect dpi StartRaster value is_marked env = start_raster dpi value env
 effect dpi EndRaster value is_marked env = end_raster dpi env
 effect dpi EndRasterResetMethod value is_marked env = end_raster dpi env
 effect dpi RasterMethod value is_marked env = env
+effect dpi RasterOffset value is_marked env = record env { raster = skip_rows value env.raster }
 effect dpi RasterRow value is_marked env =
     let raster = raster_of dpi env in record env { raster = Some (record raster { rows = raster.rows + 1 }) }
 
@@ -115,14 +124,18 @@ is_plain_zero value = is_absent value.sign && whole_of value == 0
 abbrev pub accepts : Dpi → Operation → Value → Environment → Bool
 accepts dpi Reset value env = true
 accepts dpi FormFeed value env = true
+accepts dpi PageSize value env = not (is_below_zero value) && whole_of value == 2
+accepts dpi Copies value env = not (is_below_zero value) && whole_of value == 1
 accepts dpi TopMargin value env = is_plain_zero value
 accepts dpi HorizontalPosition value env = is_plain_zero value
 accepts dpi VerticalPosition value env = is_plain_zero value
 accepts dpi RasterResolution value env = is_some env.raster || (not (is_below_zero value) && whole_of value == dots_per_inch dpi)
+accepts dpi RasterWidth value env = is_some env.raster || (not (is_below_zero value) && whole_of value == page_width env.size dpi)
 accepts dpi StartRaster value env = is_some env.raster || (whole_of value == 0 || (not (is_below_zero value) && whole_of value == 1))
 accepts dpi EndRaster value env = true
 accepts dpi EndRasterResetMethod value env = true
 accepts dpi RasterMethod value env = whole_of value == 0
+accepts dpi RasterOffset value env = not (is_below_zero value)
 accepts dpi RasterRow value env = env.resolution == dots_per_inch dpi
 
 -- ---- bounds

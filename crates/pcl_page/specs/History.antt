@@ -10,7 +10,7 @@ use Rattle.pcl_base.specs.declared.value.Value.{Value}
 use Rattle.pcl_base.specs.Size.{page_width}
 use Rattle.pcl_bitmap.specs.Dots.{raster_dot}
 use Rattle.pcl_escape.specs.declared.operation.Operation.{Operation}
-use Rattle.pcl_escape.specs.declared.operation.Operation.TheVariants.{Reset, FormFeed, TopMargin, HorizontalPosition, VerticalPosition, RasterResolution, StartRaster, EndRaster, EndRasterResetMethod, RasterMethod, RasterRow}
+use Rattle.pcl_escape.specs.declared.operation.Operation.TheVariants.{Reset, FormFeed, PageSize, Copies, TopMargin, HorizontalPosition, VerticalPosition, RasterResolution, RasterWidth, StartRaster, EndRaster, EndRasterResetMethod, RasterMethod, RasterOffset, RasterRow}
 use Rattle.pcl_escape.specs.Said.{Said, zero_value}
 use Rattle.pcl_escape.specs.Operation.{operation_of}
 use Rattle.pcl_page.specs.declared.environment.Environment.{Environment}
@@ -27,32 +27,40 @@ History = List Event
 
 -- ---- pages and their ejects
 
--- form feed ejects a page marked or not, a reset a marked one
+-- form feed ejects a page marked or not, a reset and a page size a marked one
 abbrev pub operation_ejects : Operation → Bool → Bool
 operation_ejects Reset is_marked = is_marked
 operation_ejects FormFeed is_marked = true
+operation_ejects PageSize is_marked = is_marked
+operation_ejects Copies is_marked = false
 operation_ejects TopMargin is_marked = false
 operation_ejects HorizontalPosition is_marked = false
 operation_ejects VerticalPosition is_marked = false
 operation_ejects RasterResolution is_marked = false
+operation_ejects RasterWidth is_marked = false
 operation_ejects StartRaster is_marked = false
 operation_ejects EndRaster is_marked = false
 operation_ejects EndRasterResetMethod is_marked = false
 operation_ejects RasterMethod is_marked = false
+operation_ejects RasterOffset is_marked = false
 operation_ejects RasterRow is_marked = false
 
 -- a raster row marks the page, whatever it inks
 abbrev pub operation_marks : Operation → Bool
 operation_marks Reset = false
 operation_marks FormFeed = false
+operation_marks PageSize = false
+operation_marks Copies = false
 operation_marks TopMargin = false
 operation_marks HorizontalPosition = false
 operation_marks VerticalPosition = false
 operation_marks RasterResolution = false
+operation_marks RasterWidth = false
 operation_marks StartRaster = false
 operation_marks EndRaster = false
 operation_marks EndRasterResetMethod = false
 operation_marks RasterMethod = false
+operation_marks RasterOffset = false
 operation_marks RasterRow = true
 
 -- whether the event ejects the page, which is marked or not
@@ -104,14 +112,18 @@ row_mark dpi env raster bytes =
 abbrev pub operation_mark : Dpi → Operation → List ℕ → Environment → List Mark
 operation_mark dpi Reset bytes env = []
 operation_mark dpi FormFeed bytes env = []
+operation_mark dpi PageSize bytes env = []
+operation_mark dpi Copies bytes env = []
 operation_mark dpi TopMargin bytes env = []
 operation_mark dpi HorizontalPosition bytes env = []
 operation_mark dpi VerticalPosition bytes env = []
 operation_mark dpi RasterResolution bytes env = []
+operation_mark dpi RasterWidth bytes env = []
 operation_mark dpi StartRaster bytes env = []
 operation_mark dpi EndRaster bytes env = []
 operation_mark dpi EndRasterResetMethod bytes env = []
 operation_mark dpi RasterMethod bytes env = []
+operation_mark dpi RasterOffset bytes env = []
 operation_mark dpi RasterRow bytes env = row_mark dpi env (raster_of dpi env) bytes ∷ []
 
 abbrev pub event_marks : Dpi → Event → Environment → List Mark

@@ -43,12 +43,12 @@ pub struct Raster {
     pub left: u32,
     /// The dot row of its first row.
     pub top: u32,
-    /// The rows that were sent.
-    pub rows: u32,
+    /// The rows that were sent or skipped.
+    pub rows: u64,
 }
 
 impl Environment {
-    ghost use Rattle.pcl_page.specs.Environment.{default_environment, units_wide, units_high, held_x, held_y, to_first_line, raster_from, raster_of, end_raster, set_top_margin, set_resolution, start_raster, effect, is_plain_zero, accepts};
+    ghost use Rattle.pcl_page.specs.Environment.{default_environment, units_wide, units_high, held_x, held_y, to_first_line, raster_from, raster_of, end_raster, set_top_margin, set_resolution, start_raster, skip_rows, rows_of, effect, is_plain_zero, accepts};
 
     /// The settings that a reset leaves.
     pub fn new() -> Environment
@@ -70,17 +70,19 @@ impl Environment {
         ensures { result ≡ accepts dpi operation value self.now }
     {
         match operation {
-            Operation::TopMargin
-            | Operation::HorizontalPosition
-            | Operation::VerticalPosition => {
+            Operation::TopMargin | Operation::HorizontalPosition | Operation::VerticalPosition => {
                 value.sign == Sign::Absent && value.whole() == 0
             }
+            Operation::PageSize => value.whole() == Size::Letter.code() as i32,
+            Operation::Copies => value.whole() == 1,
             Operation::RasterResolution => {
                 self.raster.is_some() || value.whole() == dpi.dots() as i32
             }
-            Operation::StartRaster => {
-                self.raster.is_some() || matches!(value.whole(), 0 | 1)
+            Operation::RasterWidth => {
+                self.raster.is_some() || value.whole() == self.size.width(dpi) as i32
             }
+            Operation::RasterOffset => value.whole() >= 0,
+            Operation::StartRaster => { self.raster.is_some() || matches!(value.whole(), 0 | 1) }
             Operation::RasterMethod => value.whole() == 0,
             Operation::RasterRow => self.resolution == dpi.dots(),
             Operation::Reset
@@ -92,7 +94,7 @@ impl Environment {
 
     /// Does what the command does to the settings and the cursor, on a page that is marked or not.
     pub fn perform(&mut self, operation: Operation, value: Value, is_marked: bool, dpi: Dpi)
-        requires { (raster_of dpi self.old).rows + 1 < 2 ^ 32 }
+        requires { (raster_of dpi self.old).rows + 2 ^ 20 < 2 ^ 64 }
         ensures { self.new ≡ effect dpi operation value is_marked self.old }
     {
         match operation {
@@ -100,6 +102,17 @@ impl Environment {
             Operation::FormFeed => {
                 self.end_raster(dpi);
                 self.to_first_line();
+            }
+            Operation::PageSize => {
+                *self = Environment {
+                    copies: self.copies,
+                    resolution: self.resolution,
+                    ..Environment::new()
+                };
+            }
+            Operation::Copies => {
+                self.end_raster(dpi);
+                self.copies = 1;
             }
             Operation::TopMargin => {
                 self.end_raster(dpi);
@@ -116,7 +129,8 @@ impl Environment {
             Operation::RasterResolution => self.set_resolution(value),
             Operation::StartRaster => self.start_raster(value, dpi),
             Operation::EndRaster | Operation::EndRasterResetMethod => self.end_raster(dpi),
-            Operation::RasterMethod => {}
+            Operation::RasterMethod | Operation::RasterWidth => {}
+            Operation::RasterOffset => self.skip_rows(value),
             Operation::RasterRow => {
                 let mut raster = self.raster(dpi);
                 raster.rows += 1;
@@ -150,8 +164,23 @@ impl Environment {
         if let Some(raster) = self.raster {
             let unit = u64::from(dpi.unit());
             self.x = self.held_x(u64::from(raster.left) * unit);
-            self.y = self.held_y((u64::from(raster.top) + u64::from(raster.rows)) * unit);
+            self.y = self.held_y(
+                u64::from(raster.top)
+                    .saturating_add(raster.rows)
+                    .saturating_mul(unit),
+            );
             self.raster = None;
+        }
+    }
+
+    /// Skips rows of the raster; outside one it does nothing.
+    fn skip_rows(&mut self, value: Value)
+        requires { rows_of self.old.raster + 2 ^ 20 < 2 ^ 64 }
+        ensures { self.new ≡ record self.old { raster = skip_rows value self.old.raster } }
+    {
+        if let Some(mut raster) = self.raster {
+            raster.rows += u64::from(value.whole().unsigned_abs());
+            self.raster = Some(raster);
         }
     }
 

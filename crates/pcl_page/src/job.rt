@@ -8,8 +8,8 @@ ghost use Rattle.pcl_base.specs.declared.refusal.Refusal.{Refusal};
 ghost use Rattle.pcl_page.specs.History.{Sheet};
 ghost use Rattle.pcl_page.specs.Jobs.{HasPages, IsRefusal, Delivers, IsPagesOf};
 
-use crate::{Page, PageSink};
 use crate::performer::Performer;
+use crate::{Page, PageSink};
 use pcl_base::{Dpi, JobFault};
 use pcl_escape::{Command, one_outcome, read_job};
 use std::alloc::{AllocError, Global};

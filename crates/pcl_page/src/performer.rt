@@ -1,6 +1,6 @@
 //! Performing one command after the other.
 
-ghost use Rattle.std.specs.Prelude.{◌≤◌};
+ghost use Rattle.std.specs.Prelude.{◌≤◌, ◌*◌, ◌^◌};
 ghost use Rattle.pcl_page.specs.Environment.{rows_sent};
 
 use crate::{Environment, Page, PageSink};
@@ -28,7 +28,7 @@ pub struct Performer {
     pub ejected: u32,
     /// How many commands were performed.
     pub performed: u32,
-    ghost few_rows: { rows_sent environment ≤ performed },
+    ghost few_rows: { rows_sent environment ≤ 2 ^ 20 * performed },
 }
 
 impl Performer {
@@ -128,11 +128,7 @@ impl Performer {
     }
 
     /// Does what the end of the input does, `end` bytes from its begin: it acts as a reset.
-    pub fn finish<S: PageSink>(
-        &mut self,
-        end: usize,
-        sink: &mut S,
-    ) -> Result<(), JobFault>
+    pub fn finish<S: PageSink>(&mut self, end: usize, sink: &mut S) -> Result<(), JobFault>
         ensures { (dpi : Dpi) (history : History) → Reflects dpi history self.old → EndDone S.takes dpi end history result sink.old sink.new }
     {
         if self.is_marked {
@@ -169,8 +165,10 @@ impl Performer {
         let page_width = self.environment.size.width(dpi);
         let left_over = page_width.saturating_sub(raster.left) as usize;
         let width = left_over.min(bytes.len().saturating_mul(8)) as u32;
-        let top = u64::from(raster.top) + u64::from(raster.rows);
-        self.page.bitmap.paint_row(raster.left, top, 1, width, bytes);
+        let top = u64::from(raster.top) + raster.rows;
+        self.page
+            .bitmap
+            .paint_row(raster.left, top, 1, width, bytes);
         self.is_marked = true;
     }
 }
@@ -184,7 +182,7 @@ fn ejects(operation: Operation, is_marked: bool) -> bool
 {
     match operation {
         Operation::FormFeed => true,
-        Operation::Reset => is_marked,
+        Operation::Reset | Operation::PageSize => is_marked,
         _ => false,
     }
 }

@@ -27,6 +27,7 @@ header_stops old new picture NoSuchPage h = h
 
 pub stopped_in_header : (old new : Option (List ℕ)) (picture : Picture) (text : List ℕ) (fault : Fault) → text ≡ header_of picture.size picture.dpi → IsWritten old new text (Err fault) → IsImageWritten old new picture (Err fault)
 stopped_in_header old new picture text fault e h = header_stops old new picture fault (subst (λ (t : List ℕ). IsWritten old new t (Err fault)) e h)
+
 rows_stop : (old middle new : Option (List ℕ)) (picture : Picture) (fault : Fault) → Appends old middle (header_of picture.size picture.dpi) → IsWritten middle new picture.bytes (Err fault)
     → IsImageWritten old new picture (Err fault)
 rows_stop old middle new picture WriteFault a h = front_behind old middle new (header_of picture.size picture.dpi) picture.bytes a h

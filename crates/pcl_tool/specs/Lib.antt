@@ -3,3 +3,4 @@ pub mod Transfer
 pub mod Image
 pub mod Choice
 pub mod Preview
+pub mod Minimizing

@@ -3,10 +3,12 @@
 
 mod fault;
 mod image;
+mod minimizing;
 mod page_preview;
 mod reading;
 mod writing;
 
 pub use fault::Fault;
+pub use minimizing::{INPUT_LIMIT, Output, filter, minimize};
 pub use page_preview::preview;
 pub use reading::read_all;

@@ -5,24 +5,48 @@ use clap::{Arg, Command, Error, value_parser};
 use pcl_base::Dpi;
 use std::alloc::{AllocError, Global};
 
-/// What a run is asked to do: the preview of a page.
+/// What a run is asked to do with the job on standard input.
+#[derive(Clone, Copy, Debug, PartialEq, Eq)]
+pub enum Task {
+    /// Write it again as a raster job.
+    Minimize,
+    /// Write the image of the page of this number, from 1.
+    Preview { page: usize },
+}
+
+/// A run, and the resolution at which it sees the job.
 #[derive(Clone, Copy, Debug, PartialEq, Eq)]
 pub struct Usage {
-    /// The number of the page, from 1.
-    pub page: usize,
+    /// What is asked for.
+    pub task: Task,
     /// The resolution.
     pub dpi: Dpi,
+}
+
+impl Usage {
+    /// The number of the page that is asked for, 0 where none is.
+    pub fn page(self) -> usize {
+        match self.task {
+            Task::Minimize => 0,
+            Task::Preview { page } => page,
+        }
+    }
 }
 
 /// What the words of a command line ask for, or the help, the version or the fault to print.
 pub fn parse_arguments(alloc: Global, words: &[String]) -> Result<Usage, Error> {
     let matches = pclmin(alloc)?.try_get_matches_from(words)?;
-    let (page, dots) = match matches.subcommand() {
-        Some(("pbm", pbm)) => (pbm.get_one::<usize>("page"), pbm.get_one::<u16>("dpi")),
+    let (task, dots) = match matches.subcommand() {
+        Some(("min", min)) => (Some(Task::Minimize), min.get_one::<u16>("dpi")),
+        Some(("pbm", pbm)) => (
+            pbm.get_one::<usize>("page")
+                .map(|page| Task::Preview { page }),
+            pbm.get_one::<u16>("dpi"),
+        ),
         _ => (None, None),
     };
-    match (page, dots.and_then(resolution)) {
-        (Some(page), Some(dpi)) => Ok(Usage { page, dpi }),
+    match (task, dots.and_then(resolution)) {
+        (Some(task), Some(dpi)) => Ok(Usage { task, dpi }),
         _ => Err(pclmin(alloc)?.error(
             ErrorKind::InvalidValue,
             "the resolution of --dpi is 300 or 600",
@@ -43,12 +67,24 @@ fn resolution(dots: u16) -> Option<Dpi> {
 fn pclmin<'a>(alloc: Global) -> Result<Command<'a>, AllocError> {
     let command = Command::new(alloc, "pclmin")
         .version("0.1.0")
-        .about("A print filter for HP PCL 5: reads a job and shows what it prints.")
-        .after_help("Statuses: 0 done, 1 the job is refused or has no such page, 2 usage, 3 reading, writing or memory.")
+        .about("A print filter for HP PCL 5: reads a job, and writes or shows what it prints.")
+        .after_help(
+            "Statuses: 0 done, 1 the job is refused or has no such page, 2 usage, 3 reading, writing or memory.",
+        )
         .subcommand_required(true)
         .arg_required_else_help(true)
+        .subcommand(min(alloc)?)?
         .subcommand(pbm(alloc)?)?;
     Ok(command)
+}
+
+/// The command that writes a job again.
+fn min<'a>(alloc: Global) -> Result<Command<'a>, AllocError> {
+    Command::new(alloc, "min")
+        .about(
+            "Writes the job on standard input again as a raster job of the same pages to standard output",
+        )
+        .arg(dpi(alloc))
 }
 
 /// The command that previews a page.
@@ -59,14 +95,18 @@ fn pbm<'a>(alloc: Global) -> Result<Command<'a>, AllocError> {
         .value_parser(value_parser!(u16).range(1..=256))
         .required(true)
         .help("The number of the page, from 1 to 256");
-    let dpi = Arg::new(alloc, "dpi")
+    Command::new(alloc, "pbm")
+        .about("Writes a page of the job on standard input as a PBM image (P4) to standard output")
+        .arg(page)?
+        .arg(dpi(alloc))
+}
+
+/// The resolution, which both commands take.
+fn dpi<'a>(alloc: Global) -> Arg<'a> {
+    Arg::new(alloc, "dpi")
         .long("dpi")
         .value_name("N")
         .value_parser(value_parser!(u16))
         .default_value("300")
-        .help("The resolution in dots per inch, 300 or 600");
-    Command::new(alloc, "pbm")
-        .about("Writes a page of the job on standard input as a PBM image (P4) to standard output")
-        .arg(page)?
-        .arg(dpi)
+        .help("The resolution in dots per inch, 300 or 600")
 }

@@ -4,17 +4,14 @@
 mod arguments;
 mod messages;
 
-use arguments::{Usage, parse_arguments};
+use arguments::{Task, Usage, parse_arguments};
 use clap::Error;
 use messages::{fault_line, status_of};
-use pcl_tool::{Fault, preview, read_all};
+use pcl_tool::{Fault, INPUT_LIMIT, filter, preview, read_all};
 use std::io;
 use std::io::Write;
 use std::process::ExitCode;
 use std::rt::Env;
-
-/// The most bytes of an input.
-const INPUT_LIMIT: usize = 2_147_483_647;
 
 /// The status of a usage fault.
 const USAGE_STATUS: u8 = 2;
@@ -33,16 +30,22 @@ fn main(rt: HostRuntime) -> ExitCode {
     match parse_arguments(rt.alloc(), &words) {
         Ok(usage) => match run(&rt, usage) {
             Ok(()) => ExitCode::SUCCESS,
-            Err(fault) => report(&rt, &fault, usage.page),
+            Err(fault) => report(&rt, &fault, usage.page()),
         },
         Err(error) => show(&rt, &error),
     }
 }
 
-/// Previews a page of the job on standard input.
+/// Does what is asked for with the job on standard input.
 fn run(rt: &(impl Input + Print + AllocGlobal), usage: Usage) -> Result<(), Fault> {
-    let job = read_all(rt.alloc(), &mut rt.reader(), INPUT_LIMIT)?;
-    preview(rt.alloc(), &job, usage.page, usage.dpi, &mut io::writer(rt))
+    let alloc = rt.alloc();
+    match usage.task {
+        Task::Minimize => filter(alloc, &mut rt.reader(), usage.dpi, &mut io::writer(rt)),
+        Task::Preview { page } => {
+            let job = read_all(alloc, &mut rt.reader(), INPUT_LIMIT)?;
+            preview(alloc, &job, page, usage.dpi, &mut io::writer(rt))
+        }
+    }
 }
 
 /// Prints what is wrong with a run, and gives its status.
@@ -69,3 +72,6 @@ fn show(rt: &(impl Print + Eprint), error: &Error) -> ExitCode {
     let _ = error.print(rt);
     ExitCode::from(error.exit_code() as u8)
 }
+
+#[cfg(test)]
+mod tests;

@@ -1,31 +1,27 @@
-use Rattle.std.proofs.Common.{◌*◌, ◌<◌, ◌≤◌, ◌||◌, get_or, bit_and, bit_or, ap, ◌∙◌, arith}
-use Rattle.std.proofs.lemmas.Grind.{common_steps}
-use Rattle.std.proofs.lemmas.List.Elements.{All-get_or, All-set}
-use Rattle.std.proofs.lemmas.Nat.{and_le_l, or_of_8}
+use Rattle.std.proofs.Common.{List, ℕ, ◌+◌, ◌*◌, ◌||◌, ap, ◌∙◌, drop}
+use Rattle.std.proofs.lemmas.List.{take_rest}
 use Rattle.pcl_bitmap.specs.Bitmap.{dot_of_row}
-use Rattle.pcl_bitmap.proofs.Runs.{run_more, added_bits, run_dot-whole}
+use Rattle.pcl_bitmap.specs.Dots.{run_dot}
+use Rattle.pcl_bitmap.proofs.Runs.{run_dot-joined, run_dot-alone}
 use Rattle.pcl_bitmap.proofs.bits.or_bits.Goals as goal
+use Rattle.pcl_bitmap.proofs.bits.or_bits.Goals.{then-whole-gt0, else-whole-gt0}
 
 pub returns-clause-bits : goal.returns-clause-bits
-returns-clause-bits c =
-    let past : c.args.end ≤ 8 * c.loop-i.i = grind (arith, common_steps) in
-    λ k. c.loop-i.invariant.so_far k
-    ∙ ap (λ t. t || dot_of_row c.args.target.now k) (run_dot-whole c.args.from c.args.end c.loop-i.i c.args.source.now k past)
-
-pub loop-i-preserved : goal.loop-i-preserved
-loop-i-preserved c =
-    let i = c.loop-i.i in
-    let target = c.loop-i.target in
-    let here = get_or c.loop-i.target c.loop-i.i 0 in
-    let added = bit_and c.shifted_byte.result c.leading_ones.result in
-    let byte : here < 256 = All-get_or (λ n. n < 256) target i 0 (omega arith) c.loop-i.invariant.in_bytes in
-    let small : added < 256 = omega (arith, and_le_l c.shifted_byte.result c.leading_ones.result) in
-    let bits =
-    added_bits c.args.source.now c.args.from c.args.end i c.shifted_byte.result c.leading_ones.result (omega arith)
-    c.shifted_byte.ensures c.leading_ones.ensures in
-    record {
-      so_far =
-          run_more c.args.target.now target c.args.source.now c.args.from c.args.end i added (omega arith) bits
-          c.loop-i.invariant.so_far;
-      in_bytes = All-set (λ n. n < 256) target i (bit_or here added) (or_of_8 here added byte small) c.loop-i.invariant.in_bytes;
-    }
+returns-clause-bits c k =
+    let from = c.args.from in
+    let end = c.args.end in
+    let row = c.args.source.now in
+    let w = c.whole_bytes-whole.result in
+    let promise = c.whole_bytes-whole.ensures in
+    let target : List ℕ = c.if-whole-gt0.target in
+    c.or_shifted.ensures.bits k
+    ∙ ap (λ (rest : List ℕ). run_dot (from + 8 * w) end rest k || dot_of_row target k) (take_rest row w)
+    ∙ (elim c.if-whole-gt0.branch [
+      | then-whole-gt0 b ↦
+          let some = b.if-whole-gt0.true in
+          run_dot-joined from end w row k (dot_of_row c.args.target.now k) (dot_of_row target k) promise.within (promise.aligned some) (promise.in_run some)
+          (ap (λ (t : List ℕ). dot_of_row t k) b.target-is ∙ b.or_bytes.ensures k)
+      | else-whole-gt0 b ↦
+          ap (λ (t : List ℕ). run_dot (from + 8 * w) end (drop w row) k || dot_of_row t k) b.target-is
+          ∙ ap (λ t. t || dot_of_row c.args.target.now k) (run_dot-alone from end w row k b.if-whole-gt0.false)
+    ])

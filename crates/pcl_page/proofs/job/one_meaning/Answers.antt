@@ -18,13 +18,13 @@ pub returns-clause-refusal : goal.returns-clause-refusal
 returns-clause-refusal c = λ dpi job refusal other p q.
     elim p [
       | inl f ↦ elim q [
-          | inl k ↦ c.one_outcome.ensures.fault job refusal other f k
-          | inr s ↦ absurd (c.one_outcome.ensures.apart job s.commands refusal s.reading f)
-        ]
+        | inl k ↦ c.one_outcome.ensures.fault job refusal other f k
+        | inr s ↦ absurd (c.one_outcome.ensures.apart job s.commands refusal s.reading f)
+      ]
       | inr s ↦ elim q [
-          | inl k ↦ absurd (c.one_outcome.ensures.apart job s.commands other s.reading k)
-          | inr t ↦ same_stop dpi job refusal other s t (c.one_outcome.ensures.reading job s.commands t.commands s.reading t.reading)
-        ]
+        | inl k ↦ absurd (c.one_outcome.ensures.apart job s.commands other s.reading k)
+        | inr t ↦ same_stop dpi job refusal other s t (c.one_outcome.ensures.reading job s.commands t.commands s.reading t.reading)
+      ]
     ]
 
 pub returns-clause-apart : goal.returns-clause-apart

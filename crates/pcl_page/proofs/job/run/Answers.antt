@@ -29,8 +29,8 @@ returns-in_err-perform g c =
     let next = next_is c.args.commands.now c.loop-command.command-index _ c.loop-command-test.true in
     let p = err_from_is_err_and c.from_residual-in_err-perform.result c.from_residual-in_err-perform.ensures.1 in
     rw (p.1, p.2) (fault_reached g.S.PageSink.takes c.args.dpi c.args.end whole _ _ c.loop-command.performer c.perform.new.self c.args.sink.now c.loop-command.sink c.perform.new.sink _
-      (subst (λ (rest : List Said). IsReached g.S.PageSink.takes c.args.dpi c.args.end whole rest c.loop-command.performer c.args.sink.now c.loop-command.sink) next c.loop-command.invariant)
-      c.in_err-perform.ensures)
+    (subst (λ (rest : List Said). IsReached g.S.PageSink.takes c.args.dpi c.args.end whole rest c.loop-command.performer c.args.sink.now c.loop-command.sink) next c.loop-command.invariant)
+    c.in_err-perform.ensures)
 
 pub returns : goal.returns
 returns g c =

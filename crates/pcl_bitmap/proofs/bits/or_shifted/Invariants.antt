@@ -1,7 +1,7 @@
 use Rattle.std.proofs.Common.{◌≡◌, ℕ, ◌*◌, ◌<◌, min, ◌||◌, All}
 use Rattle.pcl_bitmap.specs.Bitmap.{dot_of_row}
 use Rattle.pcl_bitmap.specs.Dots.{run_dot}
-use Rattle.pcl_bitmap.proofs.bits.or_bits.Given as goal
+use Rattle.pcl_bitmap.proofs.bits.or_shifted.Given as goal
 
 -- the run is in place up to byte i
 abbrev pub invariant-loop-i : goal.invariant-loop-i

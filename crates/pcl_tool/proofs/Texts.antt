@@ -1,0 +1,33 @@
+-- The page texts that a sink gathers.
+use Rattle.std.proofs.Common.{◌≡◌, ℕ, List, [], ◌∷◌, ◌++◌, refl, sym, ap, ◌∙◌, append_assoc}
+use Rattle.std.proofs.lemmas.List.{append-nil}
+use Rattle.pcl_base.specs.declared.dpi.Dpi.{Dpi}
+use Rattle.pcl_page.specs.declared.page.Page.{Page}
+use Rattle.pcl_page.specs.History.{Sheet}
+use Rattle.pcl_page.specs.Performing.{Hands}
+use Rattle.pcl_page.specs.Jobs.{HasPages}
+use Rattle.pcl_writer.specs.PageText.{AppendsPage, frame_bytes}
+use Rattle.pcl_tool.specs.Minimizing.{PrintSheets, IsJobOf}
+
+pub texts_gathered : (dpi : Dpi) (sheets : List Sheet) (old new : List ℕ) → Hands (λ (o : List ℕ) (page : Page) (n : List ℕ). AppendsPage page o n) dpi sheets old new
+    → (texts : List ℕ) × PrintSheets dpi sheets texts × (new ≡ old ++ texts)
+texts_gathered dpi [] old new h = ([], refl, h ∙ sym (append-nil old))
+texts_gathered dpi (sheet ∷ sheets) old new h =
+    let rest = texts_gathered dpi sheets h.1 new h.4 in
+    let text = h.3.0 in (
+      text ++ rest.0,
+      (h.0, text, rest.0, h.2, h.3.2, refl, rest.1),
+      rest.2 ∙ ap (λ (t : List ℕ). t ++ rest.0) h.3.1 ∙ append_assoc old text rest.0,
+    )
+
+pub job_written : (dpi : Dpi) (job start body output : List ℕ) (pages : List Sheet) → HasPages dpi job pages → start ≡ frame_bytes
+    → Hands (λ (o : List ℕ) (page : Page) (n : List ℕ). AppendsPage page o n) dpi pages start body → output ≡ body ++ frame_bytes → IsJobOf dpi job output
+job_written dpi job start body output pages meaning opened handed closed =
+    let t = texts_gathered dpi pages start body handed in
+    record {
+      pages = pages;
+      meaning = meaning;
+      texts = t.0;
+      print = t.1;
+      spelled = closed ∙ ap (λ (b : List ℕ). b ++ frame_bytes) (t.2 ∙ ap (λ (s : List ℕ). s ++ t.0) opened) ∙ append_assoc frame_bytes t.0 frame_bytes;
+    }

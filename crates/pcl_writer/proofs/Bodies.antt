@@ -1,0 +1,222 @@
+-- The body of a page, row after row.
+use Rattle.std.proofs.Common.{◌≡◌, ℕ, zero, suc, ◌+◌, ◌-◌, ◌*◌, ◌^◌, ◌<◌, ◌≤◌, Bool, true, false, List, [], ◌∷◌, ◌++◌, length, take, drop, replicate, refl, sym, ap, subst, ◌∙◌, append_assoc, ltb, arith, add-one, lit≤}
+use Rattle.std.proofs.Math.ListN.{drop_of_length-le}
+use Rattle.std.proofs.lemmas.Bool.Decides.{nat_tests}
+use Rattle.pcl_base.specs.declared.dpi.Dpi.{Dpi}
+use Rattle.pcl_base.specs.declared.dpi.Dpi.TheVariants.{Dpi300, Dpi600}
+use Rattle.pcl_base.specs.declared.size.Size.{Size}
+use Rattle.pcl_base.specs.declared.size.Size.TheVariants.{Executive, Letter, Legal, A4}
+use Rattle.pcl_base.specs.Size.{page_row_bytes}
+use Rattle.std.specs.Prelude.{decimal}
+use Rattle.std.specs.List.{flat_map, AllByRecursion}
+use Rattle.std.proofs.lemmas.List.{append-nil, drop-drop, length-replicate, take_at}
+use Rattle.std.proofs.lemmas.List.Concat.{flat_map-append}
+use Rattle.pcl_base.specs.declared.method.Method.TheVariants.{Plain}
+use Rattle.pcl_rows.specs.Rows.{IsRowData, RowFrom}
+use Rattle.pcl_coders.specs.Coding.{IsLeastLength}
+use Rattle.pcl_writer.specs.PageText.{Token, opening, method, skip, send, token_bytes, IsSpelled, IsWhite, AreWhite, PrintsRows, rows_from, row_tokens, skip_bytes}
+use Rattle.pcl_writer.proofs.Numbers.{decimal_spelled}
+
+-- ---- data of the plain method
+
+-- plain data doesn't depend on what the seed row has
+pub any_seed : (seed other row bytes : List ℕ) → length seed ≡ length other → IsRowData Plain seed row bytes → IsRowData Plain other row bytes
+any_seed seed other row bytes e d =
+    record { whole = d.whole; decodes = subst (λ (n : ℕ). RowFrom Plain bytes (replicate n 0) row) e d.decodes; fits = d.fits }
+
+-- there is one least length
+pub one_least : (seed row : List ℕ) (m n : ℕ) → IsLeastLength Plain seed row m → IsLeastLength Plain seed row n → m ≡ n
+one_least seed row m n a b =
+    let below = a.shortest b.attained.0 b.attained.1 in
+    let above = b.shortest a.attained.0 a.attained.1 in
+    omega (arith, a.attained.2, b.attained.2, below, above)
+
+-- ---- rows
+
+pub drop_rows : (k n width : ℕ) (bytes : List ℕ) → drop k (rows_from n width bytes) ≡ rows_from (n - k) width (drop (k * width) bytes)
+unfolding rows_from
+drop_rows zero n width bytes =
+    let none : n ≡ n - 0 = omega arith in
+    let start : 0 * width ≡ 0 = omega arith in
+    ap (λ (m : ℕ). rows_from m width bytes) none ∙ ap (λ (place : ℕ). rows_from (n - 0) width (drop place bytes)) (sym start)
+drop_rows (suc k) zero width bytes =
+    let none : 0 - suc k ≡ 0 = omega arith in
+    ap (λ (m : ℕ). rows_from m width (drop (suc k * width) bytes)) (sym none)
+drop_rows (suc k) (suc n) width bytes =
+    let places : width + k * width ≡ suc k * width = grind arith in
+    let same : n - k ≡ suc n - suc k = omega arith in
+    drop_rows k n width (drop width bytes)
+    ∙ ap (rows_from (n - k) width) (drop-drop (k * width) width bytes ∙ ap (λ (place : ℕ). drop place bytes) places)
+    ∙ ap (λ (m : ℕ). rows_from m width (drop (suc k * width) bytes)) same
+
+-- the rows from one that is on the page
+pub rows_at : (y n width : ℕ) (bytes : List ℕ) → y < n → drop y (rows_from n width bytes) ≡ take width (drop (y * width) bytes) ∷ drop (y + 1) (rows_from n width bytes)
+unfolding rows_from
+rows_at y n width bytes lt =
+    let one : n - y ≡ suc (n - (y + 1)) = omega arith in
+    let step : drop width (drop (y * width) bytes) ≡ drop ((y + 1) * width) bytes =
+    (let places : y * width + width ≡ (y + 1) * width = grind arith in drop-drop width (y * width) bytes ∙ ap (λ (place : ℕ). drop place bytes) places) in
+    drop_rows y n width bytes ∙ ap (λ (m : ℕ). rows_from m width (drop (y * width) bytes)) one
+    ∙ ap (λ (rest : List (List ℕ)). take width (drop (y * width) bytes) ∷ rest)
+    (ap (rows_from (n - (y + 1)) width) step ∙ sym (drop_rows (y + 1) n width bytes))
+
+pub length_rows : (n width : ℕ) (bytes : List ℕ) → length (rows_from n width bytes) ≡ n
+unfolding rows_from
+length_rows zero width bytes = refl
+length_rows (suc n) width bytes = ap suc (length_rows n width (drop width bytes))
+
+pub no_rows : (y n width : ℕ) (bytes : List ℕ) → n ≤ y → drop y (rows_from n width bytes) ≡ []
+no_rows y n width bytes le =
+    let short : length (rows_from n width bytes) ≤ y = omega (arith, length_rows n width bytes) in
+    drop_of_length-le (rows_from n width bytes) short
+
+-- no row is longer than coders take
+pub row_small : (size : Size) (dpi : Dpi) → page_row_bytes size dpi ≤ 600
+row_small Executive Dpi300 = lit≤ tt
+row_small Letter Dpi300 = lit≤ tt
+row_small Legal Dpi300 = lit≤ tt
+row_small A4 Dpi300 = lit≤ tt
+row_small Executive Dpi600 = lit≤ tt
+row_small Letter Dpi600 = lit≤ tt
+row_small Legal Dpi600 = lit≤ tt
+row_small A4 Dpi600 = lit≤ tt
+
+-- what was there is the front of what is
+pub front_is : (old new more : List ℕ) → new ≡ old ++ more → take (length old) new ≡ old
+front_is old new more e = ap (take (length old)) e ∙ take_at old more (length old) refl
+
+-- ---- white rows
+
+pub white_more : (k : ℕ) (rows : List (List ℕ)) (row : List ℕ) (rest : List (List ℕ)) → AreWhite (take k rows) → drop k rows ≡ row ∷ rest → IsWhite row → AreWhite (take (suc k) rows)
+white_more zero [] row rest w e r = tt
+white_more zero (first ∷ rows) row rest w e r =
+    let same : first ≡ row = cc in (subst IsWhite (sym same) r, tt)
+white_more (suc k) [] row rest w e r = tt
+white_more (suc k) (first ∷ rows) row rest w e r = (w.0, white_more k rows row rest w.1 e r)
+
+pub all_white : (k : ℕ) (rows : List (List ℕ)) → AreWhite (take k rows) → drop k rows ≡ [] → AreWhite rows
+all_white zero [] w e = tt
+all_white zero (first ∷ rows) w e = absurd cc
+all_white (suc k) [] w e = tt
+all_white (suc k) (first ∷ rows) w e = (w.0, all_white k rows w.1 e)
+
+some_left : (k : ℕ) (rows : List (List ℕ)) (row : List ℕ) (rest : List (List ℕ)) → drop k rows ≡ row ∷ rest → k < length rows
+some_left zero [] row rest e = absurd cc
+some_left zero (first ∷ rows) row rest e = omega arith
+some_left (suc k) [] row rest e = absurd cc
+some_left (suc k) (first ∷ rows) row rest e = let below = some_left k rows row rest e in omega arith
+
+-- ---- a row that is sent
+
+pub prints_sent : (skipped : ℕ) (seed row bytes : List ℕ) (behind rest : List (List ℕ)) (more : List Token)
+    → skipped < 2 ^ 64 → length bytes < 2 ^ 64 → length seed ≡ length row → AreWhite (take skipped behind) → drop skipped behind ≡ row ∷ rest → IsRowData Plain seed row bytes
+    → PrintsRows false Plain row more rest → PrintsRows false Plain seed (row_tokens skipped bytes ++ more) behind
+unfolding PrintsRows
+prints_sent zero seed row bytes behind rest more few small sized white left d h =
+    subst (λ (rows : List (List ℕ)). PrintsRows false Plain seed (row_tokens 0 bytes ++ more) rows) (sym left) (decimal_spelled (length bytes) small, d, h)
+prints_sent (suc k) seed row bytes behind rest more few small sized white left d h =
+    let below : suc k < length behind = some_left (suc k) behind row rest left in
+    let seed_is : length seed ≡ length (replicate (length seed) 0) = sym (length-replicate (length seed) 0) in
+    let some : 0 < suc k = omega arith in
+    let within : suc k ≤ length behind = omega arith in (
+      decimal_spelled (suc k) few,
+      some,
+      within,
+      white,
+      subst (λ (rows : List (List ℕ)). PrintsRows true Plain (replicate (length seed) 0) (send (decimal (length bytes)) bytes ∷ more) rows) (sym left)
+          (decimal_spelled (length bytes) small, any_seed seed (replicate (length seed) 0) row bytes seed_is d, h),
+    )
+
+row_parts : (bytes old one two three four new skips : List ℕ) (count : ℕ) → one ≡ old ++ 27 ∷ 42 ∷ 98 ∷ [] → two ≡ one ++ skips → three ≡ two ++ decimal count → four ≡ three ++ 87 ∷ [] → new ≡ four ++ bytes
+    → new ≡ ((((old ++ 27 ∷ 42 ∷ 98 ∷ []) ++ skips) ++ decimal count) ++ 87 ∷ []) ++ bytes
+row_parts bytes old one two three four new skips count a b d e f =
+    f ∙ ap (λ (t : List ℕ). t ++ bytes) (e ∙ ap (λ (t : List ℕ). t ++ 87 ∷ []) (d ∙ ap (λ (t : List ℕ). t ++ decimal count) (b ∙ ap (λ (t : List ℕ). t ++ skips) a)))
+
+row_joined : (old skips digits bytes : List ℕ) → ((((old ++ 27 ∷ 42 ∷ 98 ∷ []) ++ skips) ++ digits) ++ 87 ∷ []) ++ bytes ≡ old ++ 27 ∷ 42 ∷ 98 ∷ (skips ++ (digits ++ 87 ∷ bytes))
+row_joined old skips digits bytes = simp append_assoc
+
+-- the bytes of a row's sequence, as they are written
+pub row_spelled : (skipped : ℕ) (bytes old one two three four new : List ℕ) (count : ℕ) → one ≡ old ++ 27 ∷ 42 ∷ 98 ∷ [] → two ≡ one ++ skip_bytes skipped → count ≡ length bytes
+    → three ≡ two ++ decimal count → four ≡ three ++ 87 ∷ [] → new ≡ four ++ bytes → new ≡ old ++ flat_map token_bytes (row_tokens skipped bytes)
+row_spelled zero bytes old one two three four new count a b c d e f =
+    row_parts bytes old one two three four new [] count a b d e f ∙ row_joined old [] (decimal count) bytes
+    ∙ ap (λ (n : ℕ). old ++ 27 ∷ 42 ∷ 98 ∷ (decimal n ++ 87 ∷ bytes)) c
+    ∙ ap (λ (t : List ℕ). old ++ 27 ∷ 42 ∷ 98 ∷ t) (sym (append-nil (decimal (length bytes) ++ 87 ∷ bytes)))
+row_spelled (suc k) bytes old one two three four new count a b c d e f =
+    let some : ltb 0 (suc k) ≡ true = grind (arith, nat_tests) in
+    let skip_is : skip_bytes (suc k) ≡ decimal (suc k) ++ 121 ∷ [] = rw some refl in
+    row_parts bytes old one two three four new (decimal (suc k) ++ 121 ∷ []) count a (b ∙ ap (λ (t : List ℕ). one ++ t) skip_is) d e f
+    ∙ row_joined old (decimal (suc k) ++ 121 ∷ []) (decimal count) bytes
+    ∙ ap (λ (n : ℕ). old ++ 27 ∷ 42 ∷ 98 ∷ ((decimal (suc k) ++ 121 ∷ []) ++ (decimal n ++ 87 ∷ bytes))) c
+    ∙ ap (λ (t : List ℕ). old ++ 27 ∷ 42 ∷ 98 ∷ ((decimal (suc k) ++ 121 ∷ []) ++ t)) (sym (append-nil (decimal (length bytes) ++ 87 ∷ bytes)))
+
+-- ---- how far the body is written
+
+pub record IsWritten (rows : List (List ℕ)) (width : ℕ) (old now : List ℕ) (y skipped : ℕ) : Type 0 where
+  pub tokens : List Token
+  pub spelled : now ≡ old ++ flat_map token_bytes tokens
+  pub seed : List ℕ
+  pub sized : length seed ≡ width
+  pub behind : List (List ℕ)
+  pub white : AreWhite (take skipped behind)
+  pub left : drop skipped behind ≡ drop y rows
+  pub goes_on : (more : List Token) → PrintsRows false Plain seed more behind → PrintsRows false Plain (replicate width 0) (tokens ++ more) rows
+
+pub begin : (rows : List (List ℕ)) (width : ℕ) (old : List ℕ) → IsWritten rows width old old 0 0
+begin rows width old = record {
+  tokens = [];
+  spelled = sym (append-nil old);
+  seed = replicate width 0;
+  sized = length-replicate width 0;
+  behind = rows;
+  white = tt;
+  left = refl;
+  goes_on = λ more h. h;
+}
+
+pub white_row : (rows : List (List ℕ)) (width : ℕ) (old now row : List ℕ) (y skipped : ℕ) → drop y rows ≡ row ∷ drop (y + 1) rows → IsWhite row
+    → IsWritten rows width old now y skipped → IsWritten rows width old now (y + 1) (skipped + 1)
+white_row rows width old now row y skipped at w h = record {
+  tokens = h.tokens;
+  spelled = h.spelled;
+  seed = h.seed;
+  sized = h.sized;
+  behind = h.behind;
+  white = rw add-one (white_more skipped h.behind row (drop (y + 1) rows) h.white (h.left ∙ at) w);
+  left = sym (drop-drop 1 skipped h.behind) ∙ ap (drop 1) h.left ∙ drop-drop 1 y rows;
+  goes_on = h.goes_on;
+}
+
+pub sent_row : (rows : List (List ℕ)) (width : ℕ) (old now new row seed bytes : List ℕ) (y skipped : ℕ) → drop y rows ≡ row ∷ drop (y + 1) rows → length row ≡ width → length seed ≡ width → skipped < 2 ^ 64
+    → IsRowData Plain seed row bytes → new ≡ now ++ flat_map token_bytes (row_tokens skipped bytes)
+    → IsWritten rows width old now y skipped → IsWritten rows width old new (y + 1) 0
+sent_row rows width old now new row seed bytes y skipped at row_sized sized few d e h = record {
+  tokens = h.tokens ++ row_tokens skipped bytes;
+  spelled = e ∙ ap (λ (t : List ℕ). t ++ flat_map token_bytes (row_tokens skipped bytes)) h.spelled ∙ append_assoc old (flat_map token_bytes h.tokens) (flat_map token_bytes (row_tokens skipped bytes))
+      ∙ ap (λ (t : List ℕ). old ++ t) (sym (flat_map-append token_bytes h.tokens (row_tokens skipped bytes)));
+  seed = row;
+  sized = row_sized;
+  behind = drop (y + 1) rows;
+  white = tt;
+  left = refl;
+  goes_on = λ more p.
+      subst (λ (tokens : List Token). PrintsRows false Plain (replicate width 0) tokens rows) (sym (append_assoc h.tokens (row_tokens skipped bytes) more))
+      (h.goes_on (row_tokens skipped bytes ++ more)
+      (prints_sent skipped h.seed row bytes h.behind (drop (y + 1) rows) more few (omega (arith, d.fits)) (h.sized ∙ sym row_sized) h.white (h.left ∙ at)
+      (any_seed seed h.seed row bytes (sized ∙ sym h.sized) d) p));
+}
+
+pub end : (rows : List (List ℕ)) (width : ℕ) (old now : List ℕ) (y skipped : ℕ) → drop y rows ≡ [] → IsWritten rows width old now y skipped
+    → (tokens : List Token) × (now ≡ old ++ flat_map token_bytes tokens) × PrintsRows false Plain (replicate width 0) tokens rows
+unfolding PrintsRows
+end rows width old now y skipped at h = (
+  h.tokens,
+  h.spelled,
+  subst (λ (tokens : List Token). PrintsRows false Plain (replicate width 0) tokens rows) (append-nil h.tokens) (h.goes_on [] (all_white skipped h.behind h.white (h.left ∙ at))),
+)
+
+-- ---- the page text
+
+pub page_joined : (old one two three start body tail : List ℕ) → one ≡ old ++ start → two ≡ one ++ body → three ≡ two ++ tail → three ≡ old ++ (start ++ body ++ tail)
+page_joined old one two three start body tail a b c =
+    c ∙ ap (λ (t : List ℕ). t ++ tail) (b ∙ ap (λ (t : List ℕ). t ++ body) a) ∙ simp append_assoc

@@ -1,0 +1,60 @@
+//! Page texts, and what stands around them.
+
+ghost use Rattle.std.specs.Prelude.{◌≡◌, ◌++◌, length, take, if◌then◌else◌, is_ok, OnOk, OnErr};
+ghost use Rattle.pcl_writer.specs.PageText.{start_bytes, end_bytes, frame_bytes, AppendsPage};
+
+use crate::body::append_body;
+use crate::number::append_number;
+use pcl_base::{Dpi, Size};
+use pcl_page::Page;
+use std::alloc::AllocError;
+
+/// Appends a page text that prints the page (docs/OUTPUT.md, "Page texts"). Where memory runs out `out`
+/// stays as it was.
+pub fn write_page(page: &Page, out: &mut Vec<u8>) -> Result<(), AllocError>
+    ensures ok { OnOk result (AppendsPage page.now out.old.items out.new.items) }
+    ensures err { OnErr result (out.new.items ≡ out.old.items) }
+{
+    let before = out.len();
+    let written = append_page(page, out);
+    if written.is_err() {
+        out.truncate(before);
+    }
+    written
+}
+
+/// Appends what stands before the page texts of a job and behind them: a reset. Where memory runs out
+/// `out` stays as it was.
+pub fn write_frame(out: &mut Vec<u8>) -> Result<(), AllocError>
+    ensures { out.new.items ≡ (if is_ok result then out.old.items ++ frame_bytes else out.old.items) }
+{
+    out.extend_from_slice(b"\x1bE")
+}
+
+/// Appends a page text, or a front of it where memory runs out.
+fn append_page(page: &Page, out: &mut Vec<u8>) -> Result<(), AllocError>
+    ensures ok { OnOk result (AppendsPage page.now out.old.items out.new.items) }
+    ensures front { take (length out.old.items) out.new.items ≡ out.old.items }
+{
+    append_start(page.copies, page.bitmap.size(), page.bitmap.dpi(), out)?;
+    append_body(&page.bitmap, out)?;
+    out.extend_from_slice(b"\x1b*rC\x0c")?;
+    Ok(())
+}
+
+/// Appends the copies, the size and the begin of the raster, or a front of it where memory runs out.
+fn append_start(copies: u8, size: Size, dpi: Dpi, out: &mut Vec<u8>) -> Result<(), AllocError>
+    ensures ok { OnOk result (out.new.items ≡ out.old.items ++ start_bytes dpi copies size) }
+    ensures front { take (length out.old.items) out.new.items ≡ out.old.items }
+{
+    out.extend_from_slice(b"\x1b&l")?;
+    append_number(u32::from(copies), out)?;
+    out.extend_from_slice(b"x")?;
+    append_number(size.code(), out)?;
+    out.extend_from_slice(b"a0E\x1b*p0x0Y\x1b*t")?;
+    append_number(dpi.dots(), out)?;
+    out.extend_from_slice(b"R\x1b*r")?;
+    append_number(size.width(dpi), out)?;
+    out.extend_from_slice(b"s0A")?;
+    Ok(())
+}

@@ -1,0 +1,10 @@
+mod ends;
+mod laws;
+mod memory;
+mod minimizing;
+mod outcome;
+mod pictures;
+mod reading;
+mod refusals;
+mod values;
+mod writing;
