@@ -1,4 +1,6 @@
 use super::*;
+use std::alloc::Global;
+use std::process::Abort;
 use std::test::Fail;
 
 #[test]
@@ -64,82 +66,97 @@ fn values(rt: HostRuntime) {
     }
 }
 
+/// A kind's number, and the parts and the text of a refusal.
+type Line = (u8, Kind, usize, Name, &'static str);
+
+const LINES: [Line; 14] = [
+    (1, Kind::Truncated, 0, Name::Empty, "Truncated at 0 -"),
+    (
+        2,
+        Kind::BadSequence,
+        10,
+        Name::One(b'*'),
+        "BadSequence at 10 *",
+    ),
+    (
+        3,
+        Kind::ValueRange,
+        7,
+        Name::Two(b'*', b'p'),
+        "ValueRange at 7 *p",
+    ),
+    (
+        4,
+        Kind::UnsupportedCommand,
+        1,
+        Name::TEXT,
+        "UnsupportedCommand at 1 text",
+    ),
+    (
+        5,
+        Kind::UnsupportedValue,
+        5,
+        Name::Three(b'*', b'b', b'M'),
+        "UnsupportedValue at 5 *bM",
+    ),
+    (6, Kind::FontHeader, 2, Name::One(8), "FontHeader at 2 BS"),
+    (
+        7,
+        Kind::CharacterData,
+        3,
+        Name::One(9),
+        "CharacterData at 3 HT",
+    ),
+    (8, Kind::NoFont, 4, Name::One(10), "NoFont at 4 LF"),
+    (9, Kind::MacroOpen, 99, Name::One(12), "MacroOpen at 99 FF"),
+    (
+        10,
+        Kind::MacroControl,
+        100,
+        Name::One(13),
+        "MacroControl at 100 CR",
+    ),
+    (11, Kind::MacroDepth, 6, Name::One(14), "MacroDepth at 6 SO"),
+    (
+        12,
+        Kind::TooManyCommands,
+        383,
+        Name::One(15),
+        "TooManyCommands at 383 SI",
+    ),
+    (
+        13,
+        Kind::TooManyPages,
+        256,
+        Name::One(b'E'),
+        "TooManyPages at 256 E",
+    ),
+    (
+        14,
+        Kind::NotPcl,
+        usize::MAX,
+        Name::Two(b'%', b'X'),
+        "NotPcl at 18446744073709551615 %X",
+    ),
+];
+
 // The number of each kind, and the text of a refusal.
 #[test]
 fn refusals(rt: HostRuntime) -> Result<(), Fail> {
-    for (number, kind, at, name, text) in [
-        (1, Kind::Truncated, 0, Name::Empty, "Truncated at 0 -"),
-        (
-            2,
-            Kind::BadSequence,
-            10,
-            Name::One(b'*'),
-            "BadSequence at 10 *",
-        ),
-        (
-            3,
-            Kind::ValueRange,
-            7,
-            Name::Two(b'*', b'p'),
-            "ValueRange at 7 *p",
-        ),
-        (
-            4,
-            Kind::UnsupportedCommand,
-            1,
-            Name::TEXT,
-            "UnsupportedCommand at 1 text",
-        ),
-        (
-            5,
-            Kind::UnsupportedValue,
-            5,
-            Name::Three(b'*', b'b', b'M'),
-            "UnsupportedValue at 5 *bM",
-        ),
-        (6, Kind::FontHeader, 2, Name::One(8), "FontHeader at 2 BS"),
-        (
-            7,
-            Kind::CharacterData,
-            3,
-            Name::One(9),
-            "CharacterData at 3 HT",
-        ),
-        (8, Kind::NoFont, 4, Name::One(10), "NoFont at 4 LF"),
-        (9, Kind::MacroOpen, 99, Name::One(12), "MacroOpen at 99 FF"),
-        (
-            10,
-            Kind::MacroControl,
-            100,
-            Name::One(13),
-            "MacroControl at 100 CR",
-        ),
-        (11, Kind::MacroDepth, 6, Name::One(14), "MacroDepth at 6 SO"),
-        (
-            12,
-            Kind::TooManyCommands,
-            383,
-            Name::One(15),
-            "TooManyCommands at 383 SI",
-        ),
-        (
-            13,
-            Kind::TooManyPages,
-            256,
-            Name::One(b'E'),
-            "TooManyPages at 256 E",
-        ),
-        (
-            14,
-            Kind::NotPcl,
-            usize::MAX,
-            Name::Two(b'%', b'X'),
-            "NotPcl at 18446744073709551615 %X",
-        ),
-    ] {
-        assert_eq!(rt; kind.number(), number);
-        let mut line = Vec::from_slice(rt.alloc(), b"# ")?;
-        Refusal { kind, at, name }.write_text(&mut line)?;
+    assert_lines(&rt, rt.alloc(), &LINES)
+}
+
+/// Asserts the number and the text of each line, behind bytes that stay.
+fn assert_lines(rt: &impl Abort, alloc: Global, lines: &[Line]) -> Result<(), Fail> {
+    for (number, kind, at, name, text) in lines {
+        assert_eq!(rt; kind.number(), *number);
+        let mut line = Vec::from_slice(alloc, b"# ")?;
+        let refusal = Refusal {
+            kind: *kind,
+            at: *at,
+            name: *name,
+        };
+        refusal.write_text(&mut line)?;
         assert_eq!(rt; line.strip_prefix(b"# "), Some(text.as_bytes()));
     }
     Ok(())

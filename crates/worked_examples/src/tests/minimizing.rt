@@ -3,8 +3,10 @@
 use pcl_base::{Dpi, Kind, Name, Refusal};
 use pcl_page::read_pages;
 use pcl_tool::{Fault, filter, minimize};
+use std::alloc::Global;
 use std::io;
 use std::io::{ErrorKind, Write};
+use std::process::Abort;
 use std::test::Fail;
 
 // A job, and what it is written as.
@@ -41,33 +43,43 @@ const JOBS: [(&[u8], &[u8]); 6] = [
 
 #[test]
 fn jobs_written_again(rt: HostRuntime) -> Result<(), Fail> {
-    for (job, written) in JOBS {
-        let output = minimize(rt.alloc(), job, Dpi::Dpi300)?;
-        assert_eq!(rt; &*output.job, written, "of {job:?}");
+    assert_written(&rt, rt.alloc(), &JOBS)
+}
+
+/// Asserts what each job of a table is written as.
+fn assert_written(
+    rt: &impl Abort,
+    alloc: Global,
+    cases: &[(&'static [u8], &'static [u8])],
+) -> Result<(), Fail> {
+    for (job, written) in cases {
+        let output = minimize(alloc, job, Dpi::Dpi300)?;
+        assert_eq!(rt; &*output.job, *written, "of {job:?}");
         assert!(rt; output.certificate.is_empty(), "of {job:?}");
+        assert_read_again(rt, alloc, job, &output.job)?;
     }
     Ok(())
 }
 
-// The written job has the job's pages, and is written again as it stands.
-#[test]
-fn written_jobs_read_again(rt: HostRuntime) -> Result<(), Fail> {
-    let alloc = rt.alloc();
-    for (job, _) in JOBS {
-        let output = minimize(alloc, job, Dpi::Dpi300)?;
-        let again = minimize(alloc, &output.job, Dpi::Dpi300)?;
-        assert_eq!(rt; &*again.job, &*output.job, "of {job:?}");
-        let pages = read_pages(alloc, job, Dpi::Dpi300)
-            .ok()
-            .ok_or("the job is right")?;
-        let read = read_pages(alloc, &output.job, Dpi::Dpi300)
-            .ok()
-            .ok_or("the written job is right")?;
-        assert_eq!(rt; read.len(), pages.len(), "pages of {job:?}");
-        for (page, read) in pages.iter().zip(read.iter()) {
-            assert_eq!(rt; read.copies, page.copies);
-            assert_eq!(rt; read.bitmap.bytes(), page.bitmap.bytes(), "of {job:?}");
-        }
+/// Asserts that a written job has the job's pages, and is written again as it stands.
+fn assert_read_again(
+    rt: &impl Abort,
+    alloc: Global,
+    job: &[u8],
+    written: &[u8],
+) -> Result<(), Fail> {
+    let again = minimize(alloc, written, Dpi::Dpi300)?;
+    assert_eq!(rt; &*again.job, written, "of {job:?}");
+    let pages = read_pages(alloc, job, Dpi::Dpi300)
+        .ok()
+        .ok_or("the job is right")?;
+    let read = read_pages(alloc, written, Dpi::Dpi300)
+        .ok()
+        .ok_or("the written job is right")?;
+    assert_eq!(rt; read.len(), pages.len(), "pages of {job:?}");
+    for (page, read) in pages.iter().zip(read.iter()) {
+        assert_eq!(rt; read.copies, page.copies);
+        assert_eq!(rt; read.bitmap.bytes(), page.bitmap.bytes(), "of {job:?}");
     }
     Ok(())
 }

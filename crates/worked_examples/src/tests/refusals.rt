@@ -53,7 +53,7 @@ fn bytes_and_names(rt: HostRuntime) -> Result<(), Fail> {
 // Combined sequences: their shape, and the places and names of their parameters.
 #[test]
 fn combined_sequences(rt: HostRuntime) -> Result<(), Fail> {
-    let cases: [(&[u8], &str); 36] = [
+    let cases: [(&[u8], &str); 37] = [
         (b"\x1b*", "Truncated at 0 *"),
         (b"\x1b*E", "BadSequence at 0 *"),
         (b"\x1b*_", "BadSequence at 0 *"),
