@@ -1,5 +1,5 @@
 -- Performing a job, command by command, up to the whole.
-use Rattle.std.proofs.Common.{◌≡◌, ℕ, ◌+◌, ◌<◌, Bool, true, false, List, [], ◌∷◌, ◌++◌, Option, Some, None, Result, Ok, Err, refl, sym, ap, subst, ◌∙◌, append_assoc, arith}
+use Rattle.std.proofs.Common.{◌≡◌, ℕ, List, [], ◌∷◌, ◌++◌, Option, Some, None, Result, Ok, Err, refl, sym, ap, subst, ◌∙◌, append_assoc}
 use Rattle.std.proofs.lemmas.List.{append-nil}
 use Rattle.pcl_base.specs.declared.dpi.Dpi.{Dpi}
 use Rattle.pcl_base.specs.declared.fault.JobFault.{JobFault}
@@ -12,7 +12,7 @@ use Rattle.pcl_escape.specs.Operation.{operation_of}
 use Rattle.pcl_escape.specs.Said.{Said}
 use Rattle.pcl_page.specs.declared.page.Page.{Page}
 use Rattle.pcl_page.specs.declared.performer.Performer.{Performer}
-use Rattle.pcl_page.specs.History.{Event, performed, ended, History, Sheet, sheet_of, ejected_sheets, sheets, eject_refusal, command_refusal}
+use Rattle.pcl_page.specs.History.{performed, ended, History, Sheet, ejected_sheets, sheets, eject_refusal, command_refusal}
 use Rattle.pcl_page.specs.Jobs.{AllShow}
 use Rattle.pcl_page.specs.Performing.{Shows, Hands, Reflects, CommandDone, EndDone, refusal_at, with_operation, with_command, Performance, end_performance, command_performance, performance, HandsOver}
 

@@ -1,5 +1,5 @@
 -- One step of the performer is one event more of the history.
-use Rattle.std.proofs.Common.{◌≡◌, ◌≢◌, ℕ, ◌+◌, ◌<◌, Bool, true, false, cond, ◌||◌, List, [], ◌∷◌, ◌++◌, Option, Some, None, is_some, refl, sym, ap, subst, ◌∙◌, arith}
+use Rattle.std.proofs.Common.{◌≡◌, ℕ, ◌+◌, ◌<◌, Bool, true, false, cond, ◌||◌, List, [], ◌∷◌, Option, Some, None, is_some, refl, sym, ap, subst, ◌∙◌}
 use Rattle.pcl_base.specs.declared.dpi.Dpi.{Dpi}
 use Rattle.pcl_base.specs.declared.size.Size.{Size}
 use Rattle.pcl_base.specs.declared.size.Size.TheVariants.{Letter}
@@ -12,8 +12,8 @@ use Rattle.pcl_page.specs.declared.environment.Environment.{Environment}
 use Rattle.pcl_page.specs.declared.environment.Raster.{Raster}
 use Rattle.pcl_page.specs.declared.page.Page.{Page}
 use Rattle.pcl_page.specs.declared.performer.Performer.{Performer}
-use Rattle.pcl_page.specs.Environment.{effect, ended_raster, end_raster, raster_of, set_top_margin, set_resolution, start_raster}
-use Rattle.pcl_page.specs.History.{Event, performed, ended, History, ejects, operation_ejects, operation_marks, operation_mark, is_marked, ejected_count, performed_count, environment, marks, Mark, row_mark, is_black, Sheet, sheet_of, ejected_sheets}
+use Rattle.pcl_page.specs.Environment.{effect, ended_raster, end_raster, raster_of, set_top_margin}
+use Rattle.pcl_page.specs.History.{Event, performed, ended, History, ejects, operation_ejects, operation_marks, operation_mark, is_marked, environment, marks, row_mark, is_black, sheet_of, ejected_sheets}
 use Rattle.pcl_page.specs.Performing.{Shows, Hands, Reflects, IsEjected, IsPainted}
 
 -- ---- the size and the copies of a page

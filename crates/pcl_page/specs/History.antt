@@ -1,17 +1,15 @@
 -- What was performed, newest first; all else about a job follows from it.
-use Rattle.std.specs.Prelude.{ℕ, ◌+◌, ◌-◌, ◌==◌, ◌&&◌, ◌||◌, Bool, true, false, nat_le, if◌then◌else◌, List, [], ◌∷◌, ◌++◌, Option, Some, None}
+use Rattle.std.specs.Prelude.{ℕ, ◌+◌, ◌-◌, ◌&&◌, ◌||◌, Bool, true, false, nat_le, if◌then◌else◌, List, [], ◌∷◌, ◌++◌, Option, Some, None}
 use Rattle.pcl_base.specs.declared.dpi.Dpi.{Dpi}
 use Rattle.pcl_base.specs.declared.size.Size.{Size}
 use Rattle.pcl_base.specs.declared.kind.Kind.{Kind}
 use Rattle.pcl_base.specs.declared.kind.Kind.TheVariants.{UnsupportedCommand, UnsupportedValue, TooManyCommands, TooManyPages}
-use Rattle.pcl_base.specs.declared.name.Name.TheVariants.{Empty}
-use Rattle.pcl_base.specs.declared.refusal.Refusal.{Refusal}
 use Rattle.pcl_base.specs.declared.value.Value.{Value}
 use Rattle.pcl_base.specs.Size.{page_width}
 use Rattle.pcl_bitmap.specs.Dots.{raster_dot}
 use Rattle.pcl_escape.specs.declared.operation.Operation.{Operation}
 use Rattle.pcl_escape.specs.declared.operation.Operation.TheVariants.{Reset, FormFeed, PageSize, Copies, TopMargin, HorizontalPosition, VerticalPosition, RasterResolution, RasterWidth, StartRaster, EndRaster, EndRasterResetMethod, RasterMethod, RasterOffset, RasterRow}
-use Rattle.pcl_escape.specs.Said.{Said, zero_value}
+use Rattle.pcl_escape.specs.Said.{Said}
 use Rattle.pcl_escape.specs.Operation.{operation_of}
 use Rattle.pcl_page.specs.declared.environment.Environment.{Environment}
 use Rattle.pcl_page.specs.declared.environment.Raster.{Raster}

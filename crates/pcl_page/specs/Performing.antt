@@ -1,5 +1,5 @@
 -- What performing a job does: how far it comes, what it refuses, and which pages it hands over.
-use Rattle.std.specs.Prelude.{◌≡◌, ℕ, ◌+◌, ◌<◌, ◌≤◌, ◌||◌, Bool, true, false, if◌then◌else◌, List, [], ◌∷◌, ◌++◌, Option, Some, None, Result, Ok, Err}
+use Rattle.std.specs.Prelude.{◌≡◌, ℕ, ◌+◌, ◌<◌, ◌||◌, true, false, List, [], ◌∷◌, ◌++◌, Option, Some, None, Result, Ok, Err}
 use Rattle.pcl_base.specs.declared.dpi.Dpi.{Dpi}
 use Rattle.pcl_base.specs.declared.fault.JobFault.{JobFault}
 use Rattle.pcl_base.specs.declared.fault.JobFault.TheVariants.{Refused, Memory}
@@ -15,7 +15,7 @@ use Rattle.pcl_escape.specs.Operation.{operation_of}
 use Rattle.pcl_page.specs.Environment.{raster_of}
 use Rattle.pcl_page.specs.declared.page.Page.{Page}
 use Rattle.pcl_page.specs.declared.performer.Performer.{Performer}
-use Rattle.pcl_page.specs.History.{History, Event, performed, ended, is_marked, ejects, ejected_count, performed_count, environment, marks, row_mark, is_black, Sheet, sheet_of, ejected_sheets, sheets, eject_refusal, command_refusal}
+use Rattle.pcl_page.specs.History.{History, Event, performed, ended, is_marked, ejected_count, performed_count, environment, row_mark, is_black, Sheet, sheet_of, ejected_sheets, sheets, eject_refusal, command_refusal}
 
 -- ---- pages handed over
 

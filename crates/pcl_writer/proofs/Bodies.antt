@@ -1,5 +1,5 @@
 -- The body of a page, row after row.
-use Rattle.std.proofs.Common.{◌≡◌, ℕ, zero, suc, ◌+◌, ◌-◌, ◌*◌, ◌^◌, ◌<◌, ◌≤◌, Bool, true, false, List, [], ◌∷◌, ◌++◌, length, take, drop, replicate, refl, sym, ap, subst, ◌∙◌, append_assoc, ltb, arith, add-one, lit≤}
+use Rattle.std.proofs.Common.{◌≡◌, ℕ, zero, suc, ◌+◌, ◌-◌, ◌*◌, ◌^◌, ◌<◌, ◌≤◌, true, false, List, [], ◌∷◌, ◌++◌, length, take, drop, replicate, refl, sym, ap, subst, ◌∙◌, append_assoc, ltb, arith, add-one, lit≤}
 use Rattle.std.proofs.Math.ListN.{drop_of_length-le}
 use Rattle.std.proofs.lemmas.Bool.Decides.{nat_tests}
 use Rattle.pcl_base.specs.declared.dpi.Dpi.{Dpi}
@@ -8,13 +8,13 @@ use Rattle.pcl_base.specs.declared.size.Size.{Size}
 use Rattle.pcl_base.specs.declared.size.Size.TheVariants.{Executive, Letter, Legal, A4}
 use Rattle.pcl_base.specs.Size.{page_row_bytes}
 use Rattle.std.specs.Prelude.{decimal}
-use Rattle.std.specs.List.{flat_map, AllByRecursion}
+use Rattle.std.specs.List.{flat_map}
 use Rattle.std.proofs.lemmas.List.{append-nil, drop-drop, length-replicate, take_at}
 use Rattle.std.proofs.lemmas.List.Concat.{flat_map-append}
 use Rattle.pcl_base.specs.declared.method.Method.TheVariants.{Plain}
 use Rattle.pcl_rows.specs.Rows.{IsRowData, RowFrom}
 use Rattle.pcl_coders.specs.Coding.{IsLeastLength}
-use Rattle.pcl_writer.specs.PageText.{Token, opening, method, skip, send, token_bytes, IsSpelled, IsWhite, AreWhite, PrintsRows, rows_from, row_tokens, skip_bytes}
+use Rattle.pcl_writer.specs.PageText.{Token, send, token_bytes, IsWhite, AreWhite, PrintsRows, rows_from, row_tokens, skip_bytes}
 use Rattle.pcl_writer.proofs.Numbers.{decimal_spelled}
 
 -- ---- data of the plain method

@@ -1,9 +1,9 @@
-use Rattle.std.proofs.Common.{◌≡◌, ◌∙◌, List, ℕ, Some, Option, sym, ap, inl, inr, refl}
+use Rattle.std.proofs.Common.{◌≡◌, ◌∙◌, List, ℕ, Some, sym, ap, inl, inr}
 use Rattle.pcl_base.specs.declared.dpi.Dpi.{Dpi}
 use Rattle.pcl_base.specs.declared.refusal.Refusal.{Refusal}
 use Rattle.pcl_escape.specs.Said.{Said}
-use Rattle.pcl_page.specs.History.{Sheet, sheets}
-use Rattle.pcl_page.specs.Jobs.{HasPages, IsStopped, IsRefusal, performance_of}
+use Rattle.pcl_page.specs.History.{sheets}
+use Rattle.pcl_page.specs.Jobs.{IsStopped, performance_of}
 use Rattle.pcl_page.proofs.job.one_meaning.Goals as goal
 
 pub returns-clause-pages : goal.returns-clause-pages

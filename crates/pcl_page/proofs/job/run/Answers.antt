@@ -1,11 +1,9 @@
-use Rattle.std.proofs.Common.{◌≡◌, ◌∙◌, ◌<◌, ◌∷◌, ◌+◌, [], List, ℕ, length, drop, get_or, refl, sym, ap, subst, arith, add-one, drop-cons}
-use Rattle.std.specs.Prelude.{Result}
+use Rattle.std.proofs.Common.{◌≡◌, ◌<◌, ◌∷◌, ◌+◌, [], List, ℕ, length, drop, get_or, refl, ap, subst, add-one, drop-cons}
 use Rattle.std.proofs.Math.ListN.{drop_of_length-le}
 use Rattle.std.proofs.lemmas.Result.{err_from_is_err_and}
-use Rattle.pcl_base.specs.declared.fault.JobFault.{JobFault}
 use Rattle.pcl_escape.specs.declared.command.Command.{Command}
 use Rattle.pcl_escape.specs.Said.{Said, view, views}
-use Rattle.pcl_page.specs.Performing.{performance, CommandDone, HandsOver}
+use Rattle.pcl_page.specs.Performing.{performance}
 use Rattle.pcl_page.proofs.Jobs.{IsReached, next_reached, fault_reached, end_reached}
 use Rattle.pcl_page.proofs.job.run.Goals as goal
 

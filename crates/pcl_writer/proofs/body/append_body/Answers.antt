@@ -1,4 +1,4 @@
-use Rattle.std.proofs.Common.{◌≡◌, ◌++◌, ◌∷◌, [], ◌∙◌, ◌+◌, ◌*◌, ◌<◌, ◌≤◌, ◌^◌, ℕ, List, length, take, drop, arith, refl, sym, ap, subst}
+use Rattle.std.proofs.Common.{◌≡◌, ◌∷◌, [], ◌∙◌, ◌+◌, ◌<◌, ◌≤◌, ◌^◌, ℕ, List, drop, arith, sym, ap, subst}
 use Rattle.std.proofs.lemmas.List.{append-nil}
 use Rattle.std.proofs.lemmas.List.Elements.{recursion_from_All}
 use Rattle.pcl_base.specs.declared.dpi.Dpi.{Dpi}
@@ -6,7 +6,7 @@ use Rattle.pcl_base.specs.declared.size.Size.{Size}
 use Rattle.pcl_base.specs.Size.{page_height, page_row_bytes}
 use Rattle.pcl_bitmap.specs.Bitmap.{row_of}
 use Rattle.pcl_writer.specs.PageText.{rows_of}
-use Rattle.pcl_writer.proofs.Bodies.{IsWritten, begin, white_row, sent_row, end, rows_at, no_rows, row_small, front_is}
+use Rattle.pcl_writer.proofs.Bodies.{begin, white_row, sent_row, end, rows_at, no_rows, row_small, front_is}
 use Rattle.pcl_writer.proofs.body.append_body.Goals as goal
 use Rattle.pcl_writer.proofs.body.append_body.Goals.{then-is_blank, else-is_blank+in_ok-append_row}
 

@@ -1,9 +1,9 @@
-use Rattle.std.proofs.Common.{◌≡◌, ◌+◌, Bool, true, false, ◌∙◌, refl, sym, ap, subst, arith}
+use Rattle.std.proofs.Common.{◌≡◌, ◌+◌, true, false, ◌∙◌, refl, sym, ap, subst}
 use Rattle.pcl_page.specs.declared.performer.Performer.{Performer}
 use Rattle.pcl_page.specs.Environment.{effect}
 use Rattle.pcl_page.specs.History.{performed, operation_ejects, is_marked}
 use Rattle.pcl_page.specs.Performing.{IsEjected, IsPainted}
-use Rattle.pcl_page.proofs.Steps.{Settles, after_eject, after_paint, after_other, only_rows_mark, hands_one, hands_none}
+use Rattle.pcl_page.proofs.Steps.{after_eject, after_paint, after_other, only_rows_mark, hands_one, hands_none}
 use Rattle.pcl_page.proofs.performer.Performer.apply.Goals as goal
 use Rattle.pcl_page.proofs.performer.Performer.apply.Goals.{then-ejects+in_ok-eject, else-ejects+then-marks, else-ejects+else-marks}
 

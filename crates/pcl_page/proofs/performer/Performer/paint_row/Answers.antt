@@ -1,4 +1,4 @@
-use Rattle.std.proofs.Common.{ℕ, Bool, rules, arith, ap, refl, ◌∙◌, ◌||◌, ◌≡◌, ◌+◌, ◌-◌, ◌*◌, min, length}
+use Rattle.std.proofs.Common.{ℕ, Bool, arith, ap, refl, ◌∙◌, ◌||◌, ◌≡◌, ◌+◌, ◌-◌, ◌*◌, min, length}
 use Rattle.pcl_base.specs.Size.{page_width}
 use Rattle.pcl_bitmap.specs.Bitmap.{dot}
 use Rattle.pcl_page.proofs.Rows.{covers_row}
