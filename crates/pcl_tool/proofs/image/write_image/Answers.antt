@@ -1,10 +1,8 @@
-use Rattle.std.proofs.Common.{◌≡◌, ◌∙◌, List, ℕ, ap, sym, subst, Err}
+use Rattle.std.proofs.Common.{◌≡◌, ◌∙◌, List, ℕ, ap}
 use Rattle.std.proofs.lemmas.Result.{err_from_is_err_and}
 use Rattle.pcl_base.specs.declared.dpi.Dpi.{Dpi}
 use Rattle.pcl_base.specs.declared.size.Size.{Size}
-use Rattle.std.specs.Io.KnownBytes.{Appends}
 use Rattle.pcl_tool.specs.Image.{header_of}
-use Rattle.pcl_tool.specs.Transfer.{IsWritten}
 use Rattle.pcl_tool.proofs.Writes.{stopped_in_header, stopped_in_rows, not_flushed}
 use Rattle.pcl_tool.proofs.image.write_image.Goals as goal
 

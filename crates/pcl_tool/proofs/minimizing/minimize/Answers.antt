@@ -1,4 +1,4 @@
-use Rattle.std.proofs.Common.{◌≡◌, ◌∙◌, List, ℕ, ◌++◌, ap}
+use Rattle.std.proofs.Common.{◌∙◌, List, ℕ, ◌++◌, ap}
 use Rattle.pcl_writer.specs.PageText.{frame_bytes}
 use Rattle.pcl_tool.proofs.Texts.{job_written}
 use Rattle.pcl_tool.proofs.minimizing.minimize.Goals as goal

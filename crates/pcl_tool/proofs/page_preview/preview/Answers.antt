@@ -1,4 +1,4 @@
-use Rattle.std.proofs.Common.{◌≡◌, refl, sym}
+use Rattle.std.proofs.Common.{refl}
 use Rattle.std.proofs.KnownBytes.{Keeps-refl}
 use Rattle.pcl_tool.proofs.Choices.{SkipsTo, skips_to, image_kept, none_kept, previewed}
 use Rattle.pcl_tool.proofs.page_preview.preview.Goals as goal
