@@ -1,5 +1,5 @@
 -- The page texts that a sink gathers.
-use Rattle.std.proofs.Common.{◌≡◌, ℕ, List, [], ◌∷◌, ◌++◌, refl, sym, ap, ◌∙◌, append_assoc}
+use Rattle.std.proofs.Common.{◌≡◌, ℕ, List, [], ◌∷◌, ◌++◌, refl, sym, ap, subst, ◌∙◌, append_assoc}
 use Rattle.std.proofs.lemmas.List.{append-nil}
 use Rattle.pcl_base.specs.declared.dpi.Dpi.{Dpi}
 use Rattle.pcl_page.specs.declared.page.Page.{Page}
@@ -8,6 +8,7 @@ use Rattle.pcl_page.specs.Performing.{Hands}
 use Rattle.pcl_page.specs.Jobs.{HasPages}
 use Rattle.pcl_writer.specs.PageText.{AppendsPage, frame_bytes}
 use Rattle.pcl_tool.specs.Minimizing.{PrintSheets, IsJobOf}
+use Rattle.pcl_tool.proofs.Jobs.{written_again}
 
 pub texts_gathered : (dpi : Dpi) (sheets : List Sheet) (old new : List ℕ) → Hands (λ (o : List ℕ) (page : Page) (n : List ℕ). AppendsPage page o n) dpi sheets old new
     → (texts : List ℕ) × PrintSheets dpi sheets texts × (new ≡ old ++ texts)
@@ -24,10 +25,16 @@ pub job_written : (dpi : Dpi) (job start body output : List ℕ) (pages : List S
     → Hands (λ (o : List ℕ) (page : Page) (n : List ℕ). AppendsPage page o n) dpi pages start body → output ≡ body ++ frame_bytes → IsJobOf dpi job output
 job_written dpi job start body output pages meaning opened handed closed =
     let t = texts_gathered dpi pages start body handed in
+    let spelled : output ≡ frame_bytes ++ t.0 ++ frame_bytes =
+    closed ∙ ap (λ (b : List ℕ). b ++ frame_bytes) (t.2 ∙ ap (λ (s : List ℕ). s ++ t.0) opened) ∙ append_assoc frame_bytes t.0 frame_bytes in
+    let w = written_again dpi job t.0 pages meaning t.1 in
     record {
       pages = pages;
       meaning = meaning;
       texts = t.0;
       print = t.1;
-      spelled = closed ∙ ap (λ (b : List ℕ). b ++ frame_bytes) (t.2 ∙ ap (λ (s : List ℕ). s ++ t.0) opened) ∙ append_assoc frame_bytes t.0 frame_bytes;
+      spelled = spelled;
+      again = w.0;
+      accepted = subst (λ (bytes : List ℕ). HasPages dpi bytes w.0) (sym spelled) w.1;
+      alike = w.2;
     }

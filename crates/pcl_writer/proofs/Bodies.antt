@@ -8,13 +8,13 @@ use Rattle.pcl_base.specs.declared.size.Size.{Size}
 use Rattle.pcl_base.specs.declared.size.Size.TheVariants.{Executive, Letter, Legal, A4}
 use Rattle.pcl_base.specs.Size.{page_row_bytes}
 use Rattle.std.specs.Prelude.{decimal}
-use Rattle.std.specs.List.{flat_map}
+use Rattle.std.specs.List.{flat_map, AllByRecursion}
 use Rattle.std.proofs.lemmas.List.{append-nil, drop-drop, length-replicate, take_at}
 use Rattle.std.proofs.lemmas.List.Concat.{flat_map-append}
 use Rattle.pcl_base.specs.declared.method.Method.TheVariants.{Plain}
 use Rattle.pcl_rows.specs.Rows.{IsRowData, RowFrom}
 use Rattle.pcl_coders.specs.Coding.{IsLeastLength}
-use Rattle.pcl_writer.specs.PageText.{Token, send, token_bytes, IsWhite, AreWhite, PrintsRows, rows_from, row_tokens, skip_bytes}
+use Rattle.pcl_writer.specs.PageText.{Token, send, token_bytes, IsWhite, AreWhite, PrintsRows, AreWithoutMethods, IsWithoutMethod, rows_from, row_tokens, skip_bytes}
 use Rattle.pcl_writer.proofs.Numbers.{decimal_spelled}
 
 -- ---- data of the plain method
@@ -150,6 +150,15 @@ row_spelled (suc k) bytes old one two three four new count a b c d e f =
     ∙ ap (λ (n : ℕ). old ++ 27 ∷ 42 ∷ 98 ∷ ((decimal (suc k) ++ 121 ∷ []) ++ (decimal n ++ 87 ∷ bytes))) c
     ∙ ap (λ (t : List ℕ). old ++ 27 ∷ 42 ∷ 98 ∷ ((decimal (suc k) ++ 121 ∷ []) ++ t)) (sym (append-nil (decimal (length bytes) ++ 87 ∷ bytes)))
 
+all_append : {X : Type 0} (P : X → Type 0) (one two : List X) → AllByRecursion P one → AllByRecursion P two → AllByRecursion P (one ++ two)
+all_append P [] two a b = b
+all_append P (x ∷ one) two a b = (a.0, all_append P one two a.1 b)
+
+-- a row's sequence sets no method
+row_plain : (skipped : ℕ) (bytes : List ℕ) → AreWithoutMethods (row_tokens skipped bytes)
+row_plain zero bytes = (tt, (tt, tt))
+row_plain (suc more) bytes = (tt, (tt, (tt, tt)))
+
 -- ---- how far the body is written
 
 pub record IsWritten (rows : List (List ℕ)) (width : ℕ) (old now : List ℕ) (y skipped : ℕ) : Type 0 where
@@ -160,6 +169,7 @@ pub record IsWritten (rows : List (List ℕ)) (width : ℕ) (old now : List ℕ)
   pub behind : List (List ℕ)
   pub white : AreWhite (take skipped behind)
   pub left : drop skipped behind ≡ drop y rows
+  pub plain : AreWithoutMethods tokens
   pub goes_on : (more : List Token) → PrintsRows false Plain seed more behind → PrintsRows false Plain (replicate width 0) (tokens ++ more) rows
 
 pub begin : (rows : List (List ℕ)) (width : ℕ) (old : List ℕ) → IsWritten rows width old old 0 0
@@ -171,6 +181,7 @@ begin rows width old = record {
   behind = rows;
   white = tt;
   left = refl;
+  plain = tt;
   goes_on = λ more h. h;
 }
 
@@ -184,6 +195,7 @@ white_row rows width old now row y skipped at w h = record {
   behind = h.behind;
   white = rw add-one (white_more skipped h.behind row (drop (y + 1) rows) h.white (h.left ∙ at) w);
   left = sym (drop-drop 1 skipped h.behind) ∙ ap (drop 1) h.left ∙ drop-drop 1 y rows;
+  plain = h.plain;
   goes_on = h.goes_on;
 }
 
@@ -199,6 +211,7 @@ sent_row rows width old now new row seed bytes y skipped at row_sized sized few 
   behind = drop (y + 1) rows;
   white = tt;
   left = refl;
+  plain = all_append IsWithoutMethod h.tokens (row_tokens skipped bytes) h.plain (row_plain skipped bytes);
   goes_on = λ more p.
       subst (λ (tokens : List Token). PrintsRows false Plain (replicate width 0) tokens rows) (sym (append_assoc h.tokens (row_tokens skipped bytes) more))
       (h.goes_on (row_tokens skipped bytes ++ more)
@@ -207,12 +220,13 @@ sent_row rows width old now new row seed bytes y skipped at row_sized sized few 
 }
 
 pub end : (rows : List (List ℕ)) (width : ℕ) (old now : List ℕ) (y skipped : ℕ) → drop y rows ≡ [] → IsWritten rows width old now y skipped
-    → (tokens : List Token) × (now ≡ old ++ flat_map token_bytes tokens) × PrintsRows false Plain (replicate width 0) tokens rows
+    → (tokens : List Token) × (now ≡ old ++ flat_map token_bytes tokens) × PrintsRows false Plain (replicate width 0) tokens rows × AreWithoutMethods tokens
 unfolding PrintsRows
 end rows width old now y skipped at h = (
   h.tokens,
   h.spelled,
   subst (λ (tokens : List Token). PrintsRows false Plain (replicate width 0) tokens rows) (append-nil h.tokens) (h.goes_on [] (all_white skipped h.behind h.white (h.left ∙ at))),
+  h.plain,
 )
 
 -- ---- the page text

@@ -94,6 +94,31 @@ pub record PrintsPage (page : Page) (text : List ℕ) : Type 0 where
   pub spelled : text ≡ start_bytes page.bitmap.dpi page.copies page.bitmap.size ++ flat_map token_bytes tokens ++ end_bytes
   pub prints : PrintsPicture tokens page.bitmap
 
+-- no token sets a method
+abbrev pub IsWithoutMethod : Token → Type 0
+IsWithoutMethod opening = Unit {0}
+IsWithoutMethod (method digits next ends) = ⊥
+IsWithoutMethod (skip digits count ends) = Unit {0}
+IsWithoutMethod (send digits bytes) = Unit {0}
+
+abbrev pub AreWithoutMethods : List Token → Type 0
+AreWithoutMethods tokens = AllByRecursion IsWithoutMethod tokens
+
+-- each parameter of a body is a command
+abbrev pub commands_in : Token → ℕ
+commands_in opening = 0
+commands_in (method digits next ends) = 1
+commands_in (skip digits count ends) = 1
+commands_in (send digits bytes) = 1
+
+abbrev pub command_count : List Token → ℕ
+command_count [] = 0
+command_count (token ∷ tokens) = commands_in token + command_count tokens
+
+-- the text is one that a page is written as: it prints the page, and all of its rows are plain
+abbrev pub IsWrittenPage : Page → List ℕ → Type 0
+IsWrittenPage page text = (printed : PrintsPage page text) × AreWithoutMethods printed.tokens
+
 -- what stands before the page texts of a job, and behind them
 abbrev pub frame_bytes : List ℕ
 frame_bytes = 27 ∷ codes "E"
@@ -101,10 +126,10 @@ frame_bytes = 27 ∷ codes "E"
 -- ---- what is appended
 
 abbrev pub AppendsPage : Page → List ℕ → List ℕ → Type 0
-AppendsPage page old new = (text : List ℕ) × (new ≡ old ++ text) × PrintsPage page text
+AppendsPage page old new = (text : List ℕ) × (new ≡ old ++ text) × IsWrittenPage page text
 
 abbrev pub AppendsBody : Picture → List ℕ → List ℕ → Type 0
-AppendsBody picture old new = (tokens : List Token) × (new ≡ old ++ flat_map token_bytes tokens) × PrintsPicture tokens picture
+AppendsBody picture old new = (tokens : List Token) × (new ≡ old ++ flat_map token_bytes tokens) × PrintsPicture tokens picture × AreWithoutMethods tokens
 
 -- white rows are skipped where there are any, and the row is sent
 abbrev pub row_tokens : ℕ → List ℕ → List Token
