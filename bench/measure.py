@@ -1,5 +1,5 @@
 #!/usr/bin/env python3
-"""Previews each job by two programs in turn and prints a table of their times and peak memory.
+"""Previews each job by two programs in turn, writes it again, and prints a table of their times and peak memory.
 
     python3 bench/measure.py PCLMIN PLAIN FOLDER
 
@@ -19,7 +19,7 @@ RUNS = 5
 JOBS = [("dense-300", 1, 300), ("dense-600", 1, 600), ("text-64", 32, 300)]
 
 
-def preview(command, job, page):
+def run(command, job, page):
     """Runs a command on a job, and gives the seconds that it took."""
     source = os.open(job, os.O_RDONLY)
     target = os.open(page, os.O_WRONLY | os.O_CREAT | os.O_TRUNC, 0o644)
@@ -43,19 +43,19 @@ def peak(command, job):
     return 1024 * int(result.stderr.split()[-1])
 
 
-def compare(programs, folder, name, page, dpi):
+def compare(programs, folder, name, words):
     job = os.path.join(folder, name + ".pcl")
-    outputs = [os.path.join(folder, "%s-%d.pbm" % (name, which)) for which in range(2)]
-    commands = [[program, "pbm", "--page", str(page), "--dpi", str(dpi)] for program in programs]
+    outputs = [os.path.join(folder, "%s-%s-%d" % (name, words[0], which)) for which in range(2)]
+    commands = [[program] + words for program in programs]
     seconds = [[], []]
     for _ in range(RUNS):
         for which in range(2):
-            seconds[which].append(preview(commands[which], job, outputs[which]))
+            seconds[which].append(run(commands[which], job, outputs[which]))
     if not filecmp.cmp(*outputs, shallow=False):
-        sys.exit("%s: the programs write different pages" % name)
+        sys.exit("%s: the programs write different bytes" % name)
     least = [min(runs) for runs in seconds]
     peaks = [peak(command, job) for command in commands]
-    row = [name, "{:,}".format(os.path.getsize(job))]
+    row = [words[0], name] + ["{:,}".format(os.path.getsize(path)) for path in (job, outputs[0])]
     row += ["%.4f" % least[0], "%.4f" % least[1], "%.2f" % (least[0] / least[1])]
     row += ["%.1f" % (peaks[0] / 1e6), "%.1f" % (peaks[1] / 1e6), "%.2f" % (peaks[0] / peaks[1])]
     print("| " + " | ".join(row) + " |", flush=True)
@@ -65,10 +65,12 @@ def main(arguments):
     if len(arguments) != 3:
         sys.exit(__doc__)
     programs, folder = arguments[:2], arguments[2]
-    print("| Job | Bytes | pclmin, s | plain, s | Ratio | pclmin, MB | plain, MB | Ratio |")
-    print("|---|---:|---:|---:|---:|---:|---:|---:|", flush=True)
+    print("| | Job | Bytes read | written | pclmin, s | plain, s | Ratio | pclmin, MB | plain, MB | Ratio |")
+    print("|---|---|---:|---:|---:|---:|---:|---:|---:|---:|", flush=True)
     for name, page, dpi in JOBS:
-        compare(programs, folder, name, page, dpi)
+        compare(programs, folder, name, ["pbm", "--page", str(page), "--dpi", str(dpi)])
+    for name, page, dpi in JOBS:
+        compare(programs, folder, name, ["min", "--dpi", str(dpi)])
 
 
 main(sys.argv[1:])

@@ -1,9 +1,10 @@
-//! The preview of `pclmin pbm`, written plainly over std alone, to compare its speed and memory with.
+//! What `pclmin pbm` and `pclmin min` do, written plainly over std alone, to compare their speed and memory with.
 //!
 //!     plain pbm --page N [--dpi 300|600] < job.pcl > page.pbm
+//!     plain min [--dpi 300|600] < job.pcl > written.pcl
 //!
-//! Status 0: the page was written. 1: the job is refused, or has no such page. 2: usage. 3: reading or writing
-//! failed. What a job means is in docs/LANGUAGE.md.
+//! Status 0: the page or the job was written. 1: the job is refused, or has no such page. 2: usage. 3: reading or
+//! writing failed. What a job means is in docs/LANGUAGE.md, and how it is written again in docs/OUTPUT.md.
 
 use std::io::{self, Read, Write};
 use std::process::ExitCode;
@@ -19,40 +20,64 @@ const PAGE_WIDTH: u64 = 2400 * 24;
 const PAGE_HEIGHT: u64 = 3300 * 24;
 
 fn main() -> ExitCode {
-    let Some((page, dpi)) = arguments() else {
-        eprintln!("usage: plain pbm --page N [--dpi 300|600]");
+    let Some((task, dpi)) = arguments() else {
+        eprintln!("usage: plain pbm --page N [--dpi 300|600], or plain min [--dpi 300|600]");
         return ExitCode::from(2);
     };
     let mut job = Vec::new();
     if io::stdin().lock().read_to_end(&mut job).is_err() {
         return ExitCode::from(3);
     }
-    match preview(&job, page, dpi) {
-        None => ExitCode::from(1),
-        Some(bitmap) => match bitmap.write(&mut io::stdout().lock()) {
-            Ok(()) => ExitCode::SUCCESS,
-            Err(_) => ExitCode::from(3),
-        },
+    let Some(done) = perform(&job, task, dpi) else {
+        return ExitCode::from(1);
+    };
+    let mut out = io::stdout().lock();
+    let written = match done {
+        Task::Preview { kept: None, .. } => return ExitCode::from(1),
+        Task::Preview { kept: Some(bitmap), .. } => bitmap.write(&mut out),
+        Task::Rewrite(mut text) => {
+            text.extend_from_slice(b"\x1bE");
+            out.write_all(&text).and_then(|()| out.flush())
+        }
+    };
+    match written {
+        Ok(()) => ExitCode::SUCCESS,
+        Err(_) => ExitCode::from(3),
     }
 }
 
-/// The page that is asked for, from 1, and the dots per inch.
-fn arguments() -> Option<(usize, u32)> {
+/// What becomes of the pages.
+enum Task {
+    /// The page of this number, from 1, is kept.
+    Preview { wanted: usize, kept: Option<Bitmap> },
+    /// Each is written again, behind these bytes.
+    Rewrite(Vec<u8>),
+}
+
+/// The task, and the dots per inch.
+fn arguments() -> Option<(Task, u32)> {
     let mut arguments = std::env::args().skip(1);
-    if arguments.next()? != "pbm" {
-        return None;
-    }
+    let is_preview = match arguments.next()?.as_str() {
+        "pbm" => true,
+        "min" => false,
+        _ => return None,
+    };
     let mut page = None;
     let mut dpi = 300;
     while let Some(option) = arguments.next() {
         let number: u32 = arguments.next()?.parse().ok()?;
         match (option.as_str(), number) {
-            ("--page", 1..=256) => page = Some(number as usize),
+            ("--page", 1..=256) if is_preview => page = Some(number as usize),
             ("--dpi", 300 | 600) => dpi = number,
             _ => return None,
         }
     }
-    Some((page?, dpi))
+    let task = if is_preview {
+        Task::Preview { wanted: page?, kept: None }
+    } else {
+        Task::Rewrite(b"\x1bE".to_vec())
+    };
+    Some((task, dpi))
 }
 
 // ---- the dots of a page
@@ -96,6 +121,30 @@ impl Bitmap {
         }
     }
 
+    /// Appends the page as a raster of its rows: white ones are skipped, and zeros at the end of a row left out.
+    fn rewrite(&self, dpi: u32, text: &mut Vec<u8>) {
+        let start = format!(
+            "\x1b&l1x2a0E\x1b*p0x0Y\x1b*t{dpi}R\x1b*r{}s0A",
+            self.width
+        );
+        text.extend_from_slice(start.as_bytes());
+        let mut skipped = 0;
+        for row in self.dots.chunks_exact(self.width / 8) {
+            let Some(last) = row.iter().rposition(|&byte| byte != 0) else {
+                skipped += 1;
+                continue;
+            };
+            text.extend_from_slice(b"\x1b*b");
+            if skipped > 0 {
+                text.extend_from_slice(format!("{skipped}y").as_bytes());
+                skipped = 0;
+            }
+            text.extend_from_slice(format!("{}W", last + 1).as_bytes());
+            text.extend_from_slice(&row[..=last]);
+        }
+        text.extend_from_slice(b"\x1b*rC\x0c");
+    }
+
     fn write(&self, out: &mut impl Write) -> io::Result<()> {
         write!(out, "P4\n{} {}\n", self.width, self.height)?;
         out.write_all(&self.dots)?;
@@ -113,8 +162,7 @@ struct Raster {
 
 struct Performer {
     dpi: u32,
-    wanted: usize,
-    kept: Option<Bitmap>,
+    task: Task,
     bitmap: Bitmap,
     is_marked: bool,
     ejected: usize,
@@ -126,12 +174,11 @@ struct Performer {
     raster: Option<Raster>,
 }
 
-/// The page of a job, or nothing where the job is refused or has no such page.
-fn preview(job: &[u8], wanted: usize, dpi: u32) -> Option<Bitmap> {
+/// The task with the pages of a job, or nothing where the job is refused.
+fn perform(job: &[u8], task: Task, dpi: u32) -> Option<Task> {
     let mut performer = Performer {
         dpi,
-        wanted,
-        kept: None,
+        task,
         bitmap: Bitmap::new(dpi),
         is_marked: false,
         ejected: 0,
@@ -151,7 +198,7 @@ fn preview(job: &[u8], wanted: usize, dpi: u32) -> Option<Bitmap> {
         performer.perform(&command)?;
     }
     performer.reset()?;
-    performer.kept
+    Some(performer.task)
 }
 
 impl Performer {
@@ -176,6 +223,15 @@ impl Performer {
                     self.to_first_line();
                 }
             }
+            b"&lA" if value.whole() == 2 => {
+                if self.is_marked {
+                    self.eject()?;
+                }
+                let resolution = self.resolution;
+                self.set_defaults();
+                self.resolution = resolution;
+            }
+            b"&lX" if value.whole() == 1 => self.end_raster(),
             b"*pX" if is_plain_zero => {
                 self.end_raster();
                 self.x = value.in_pcl_units();
@@ -189,8 +245,15 @@ impl Performer {
             b"*rA" if self.raster.is_some() => {}
             b"*rA" if value.whole() == 0 => self.raster = Some(self.raster_from(0)),
             b"*rA" if value.whole() == 1 => self.raster = Some(self.raster_from(self.dot(self.x))),
+            b"*rS" if self.raster.is_some() => {}
+            b"*rS" if value.whole() == self.bitmap.width as i64 => {}
             b"*rB" | b"*rC" => self.end_raster(),
             b"*bM" if value.whole() == 0 => {}
+            b"*bY" if value.whole() >= 0 => {
+                if let Some(raster) = &mut self.raster {
+                    raster.rows += value.whole() as usize;
+                }
+            }
             b"*bW" if self.resolution == self.dpi => {
                 let mut raster = self.raster.take().unwrap_or_else(|| self.raster_from(0));
                 self.bitmap
@@ -220,19 +283,23 @@ impl Performer {
         Some(())
     }
 
-    /// Ends the page, and keeps it if it is the one that is wanted.
+    /// Ends the page: keeps it if it is the one that is wanted, or writes it again.
     fn eject(&mut self) -> Option<()> {
         if self.ejected == PAGE_LIMIT {
             return None;
         }
         self.ejected += 1;
         self.is_marked = false;
-        if self.ejected == self.wanted {
-            let white = Bitmap::new(self.dpi);
-            self.kept = Some(std::mem::replace(&mut self.bitmap, white));
-        } else {
-            self.bitmap.dots.fill(0);
+        match &mut self.task {
+            Task::Preview { wanted, kept } if self.ejected == *wanted => {
+                let white = Bitmap::new(self.dpi);
+                *kept = Some(std::mem::replace(&mut self.bitmap, white));
+                return Some(());
+            }
+            Task::Preview { .. } => {}
+            Task::Rewrite(text) => self.bitmap.rewrite(self.dpi, text),
         }
+        self.bitmap.dots.fill(0);
         Some(())
     }
 

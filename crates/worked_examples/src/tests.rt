@@ -1,4 +1,6 @@
+mod devices;
 mod ends;
+mod filtering;
 mod laws;
 mod memory;
 mod minimizing;

@@ -1,16 +1,14 @@
 //! Jobs written again.
 
-use pcl_base::{Dpi, Kind, Name, Refusal};
+use pcl_base::Dpi;
 use pcl_page::read_pages;
-use pcl_tool::{Fault, filter, minimize};
+use pcl_tool::minimize;
 use std::alloc::Global;
-use std::io;
-use std::io::{ErrorKind, Write};
 use std::process::Abort;
 use std::test::Fail;
 
 // A job, and what it is written as.
-const JOBS: [(&[u8], &[u8]); 6] = [
+const JOBS: [(&[u8], &[u8]); 7] = [
     // No page.
     (b"", b"\x1bE\x1bE"),
     // A blank page of Letter.
@@ -32,6 +30,11 @@ const JOBS: [(&[u8], &[u8]); 6] = [
     (
         b"\x1b&l0E\x1b*p0x0Y\x1b*t300R\x1b*r0A\x1b*b2W\x80\x00\x1b*b1W\x80",
         b"\x1bE\x1b&l1x2a0E\x1b*p0x0Y\x1b*t300R\x1b*r2400s0A\x1b*b1W\x80\x1b*b1W\x80\x1b*rC\x0c\x1bE",
+    ),
+    // The dots (0, 0) and (0, 2): the white row between them is sent in the one, skipped in the other.
+    (
+        b"\x1b&l0E\x1b*p0x0Y\x1b*t300R\x1b*r0A\x1b*b1W\x80\x1b*bW\x1b*b1W\x80\x1b*rC",
+        b"\x1bE\x1b&l1x2a0E\x1b*p0x0Y\x1b*t300R\x1b*r2400s0A\x1b*b1W\x80\x1b*b1y1W\x80\x1b*rC\x0c\x1bE",
     ),
     // Two pages.
     (
@@ -81,71 +84,5 @@ fn assert_read_again(
         assert_eq!(rt; read.copies, page.copies);
         assert_eq!(rt; read.bitmap.bytes(), page.bitmap.bytes(), "of {job:?}");
     }
-    Ok(())
-}
-
-/// Holds what it takes, and fails once it holds so many bytes.
-#[derive(Drop)]
-struct Narrow {
-    bytes: Vec<u8>,
-    most: usize,
-}
-
-impl Write for Narrow {
-    fn write(&mut self, buf: &[u8]) -> io::Result<usize> {
-        let room = self.most.saturating_sub(self.bytes.len());
-        if room == 0 {
-            return Err(io::Error::from(ErrorKind::BrokenPipe));
-        }
-        let count = buf.len().min(room);
-        self.bytes.extend_from_slice(&buf[..count])?;
-        Ok(count)
-    }
-
-    fn flush(&mut self) -> io::Result<()> {
-        Ok(())
-    }
-}
-
-// A writer that takes all, one that takes a front, and one that takes nothing.
-#[test]
-fn filtered_into_narrow_writers(rt: HostRuntime) -> Result<(), Fail> {
-    let written = JOBS[1].1;
-    for most in [42, 41, 10, 1, 0] {
-        let mut out = Narrow {
-            bytes: Vec::new(rt.alloc()),
-            most,
-        };
-        let result = filter(rt.alloc(), &mut JOBS[1].0, Dpi::Dpi300, &mut out);
-        let expected = if most < 42 {
-            Err(Fault::WriteFault)
-        } else {
-            Ok(())
-        };
-        assert_eq!(rt; result, expected, "room for {most}");
-        assert_eq!(rt; &*out.bytes, &written[..most], "room for {most}");
-    }
-    Ok(())
-}
-
-// 256 blank pages are written; of one more nothing is.
-#[test]
-fn as_many_pages_as_there_may_be(rt: HostRuntime) -> Result<(), Fail> {
-    let alloc = rt.alloc();
-    let most = vec![in alloc; 12; 256]?;
-    assert_eq!(rt; minimize(alloc, &most, Dpi::Dpi300)?.job.len(), 9732);
-    let more = vec![in alloc; 12; 257]?;
-    let mut out = Narrow {
-        bytes: Vec::new(alloc),
-        most: 100_000,
-    };
-    let result = filter(alloc, &mut &*more, Dpi::Dpi300, &mut out);
-    let refusal = Refusal {
-        kind: Kind::TooManyPages,
-        at: 256,
-        name: Name::One(12),
-    };
-    assert_eq!(rt; result, Err(Fault::Refused(refusal)));
-    assert!(rt; out.bytes.is_empty());
     Ok(())
 }

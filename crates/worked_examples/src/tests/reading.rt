@@ -1,36 +1,9 @@
 //! Reading a whole input, from readers that give little or fail.
 
+use super::devices::Source;
 use pcl_tool::{Fault, read_all};
-use std::io;
-use std::io::{ErrorKind, Read};
+use std::io::ErrorKind;
 use std::test::Fail;
-
-/// Gives its bytes, at most so many a read; one of its reads fails.
-#[derive(Drop)]
-struct Source<'a> {
-    /// The bytes that are left.
-    rest: &'a [u8],
-    /// The most bytes of a read.
-    most: usize,
-    /// How many reads come before the one that fails.
-    good: Option<usize>,
-    /// How the read fails.
-    kind: ErrorKind,
-}
-
-impl Read for Source<'_> {
-    fn read(&mut self, buf: &mut [u8]) -> io::Result<usize> {
-        if self.good == Some(0) {
-            self.good = None;
-            return Err(io::Error::from(self.kind));
-        }
-        self.good = self.good.map(|good| good.saturating_sub(1));
-        let count = buf.len().min(self.most).min(self.rest.len());
-        buf[..count].copy_from_slice(&self.rest[..count]);
-        self.rest = &self.rest[count..];
-        Ok(count)
-    }
-}
 
 // The bytes of a source, how many a read gives, which read fails, the limit, and what is read; and how
 // many bytes the source still has.

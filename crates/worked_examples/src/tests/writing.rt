@@ -1,5 +1,6 @@
 //! Previews into writers that take little or fail.
 
+use super::devices::Held;
 use pcl_base::{Dpi, JobFault, Kind, Name, Refusal};
 use pcl_tool::{Fault, preview};
 use std::alloc::{AllocError, Global};
@@ -9,42 +10,6 @@ use std::test::Fail;
 
 /// The sample job, of one page with the dot (0, 0).
 const JOB: &[u8] = b"\x1bE\x1b&l0E\x1b*p0x0Y\x1b*t300R\x1b*r0A\x1b*b1W\x80\x1b*rC\x0c";
-
-/// Holds what it takes, at most so many bytes a write; one of its writes fails, and flushing may.
-#[derive(Drop)]
-struct Held {
-    /// The bytes that were taken.
-    bytes: Vec<u8>,
-    /// The most bytes of a write.
-    most: usize,
-    /// How many writes come before the one that fails.
-    good: Option<usize>,
-    /// Whether flushing fails.
-    flush_fails: bool,
-    /// How often it was flushed.
-    flushes: usize,
-}
-
-impl Write for Held {
-    fn write(&mut self, buf: &[u8]) -> io::Result<usize> {
-        if self.good == Some(0) {
-            self.good = None;
-            return Err(io::Error::from(ErrorKind::Interrupted));
-        }
-        self.good = self.good.map(|good| good.saturating_sub(1));
-        let count = buf.len().min(self.most);
-        self.bytes.extend_from_slice(&buf[..count])?;
-        Ok(count)
-    }
-
-    fn flush(&mut self) -> io::Result<()> {
-        self.flushes = self.flushes.saturating_add(1);
-        if self.flush_fails {
-            return Err(io::Error::from(ErrorKind::BrokenPipe));
-        }
-        Ok(())
-    }
-}
 
 /// The image of the sample's page: Letter at 300 dots per inch, 2400 by 3300 dots.
 fn image(alloc: Global) -> Result<Vec<u8>, AllocError> {
