@@ -25,7 +25,7 @@ hands_append {S} takes dpi (sheet ∷ front) back old middle new h k = (h.0, h.1
 
 -- ---- what a performance has of one command
 
-performed_next : (dpi : Dpi) (end : ℕ) (history : History) (command : Said) (commands : List Said) (operation : Operation)
+pub performed_next : (dpi : Dpi) (end : ℕ) (history : History) (command : Said) (commands : List Said) (operation : Operation)
     → operation_of command.name ≡ Some operation → command_refusal dpi command history ≡ None
     → performance dpi end history (command ∷ commands) ≡ performance dpi end (performed operation command.value command.bytes ∷ history) commands
 performed_next dpi end history command commands operation name none =

@@ -1,10 +1,10 @@
 -- A raster row whose data end before the page does.
-use Rattle.std.proofs.Common.{◌≡◌, ℕ, ◌+◌, ◌-◌, ◌*◌, ◌/◌, ◌%◌, ◌^◌, ◌≤◌, min, Bool, true, false, ◌&&◌, ltb, List, length, refl, ap, ◌∙◌, arith, inl, inr}
+use Rattle.std.proofs.Common.{◌≡◌, ℕ, ◌+◌, ◌-◌, ◌*◌, ◌/◌, ◌%◌, ◌≤◌, min, Bool, true, false, ◌&&◌, ltb, List, length, refl, ap, ◌∙◌, arith, inl, inr}
 use Rattle.std.proofs.Math.Bool.{and-false}
-use Rattle.std.proofs.Math.Nat.{zero-div}
 use Rattle.std.proofs.lemmas.Bool.{cases_lt}
 use Rattle.std.proofs.lemmas.Bool.Decides.{nat_tests}
 use Rattle.std.proofs.lemmas.List.{get_or_past}
+use Rattle.pcl_bitmap.proofs.Bytes.{bit_of_byte-zero}
 use Rattle.pcl_bitmap.specs.Bitmap.{bit_of_byte, dot_of_row}
 use Rattle.pcl_bitmap.specs.Dots.{raster_dot}
 use Rattle.pcl_base.specs.declared.dpi.Dpi.{Dpi}
@@ -14,12 +14,9 @@ use Rattle.pcl_page.specs.declared.environment.Raster.{Raster}
 use Rattle.pcl_page.specs.Environment.{raster_of}
 use Rattle.pcl_page.specs.History.{row_mark}
 
-bit_of_zero : (k : ℕ) → bit_of_byte 0 k ≡ false
-bit_of_zero k = rw (zero-div (2 ^ (7 - k))) refl
-
 -- past its data a row is white
 pub white_past : (row : List ℕ) (k : ℕ) → 8 * length row ≤ k → dot_of_row row k ≡ false
-white_past row k le = ap (λ (b : ℕ). bit_of_byte b (k % 8)) (get_or_past row (k / 8) 0 (omega arith)) ∙ bit_of_zero (k % 8)
+white_past row k le = ap (λ (b : ℕ). bit_of_byte b (k % 8)) (get_or_past row (k / 8) 0 (omega arith)) ∙ bit_of_byte-zero (k % 8)
 
 narrow : (before : Bool) (k width n : ℕ) (inked : Bool) → (n ≤ k → inked ≡ false) → (before && ltb k (min width n) && inked) ≡ (before && ltb k width && inked)
 narrow before k width n true h =

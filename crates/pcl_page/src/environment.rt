@@ -143,7 +143,10 @@ impl Environment {
     pub fn raster(&self, dpi: Dpi) -> Raster
         ensures { result ≡ raster_of dpi self.now }
     {
-        self.raster.unwrap_or(self.raster_from(0, dpi))
+        match self.raster {
+            Some(raster) => raster,
+            None => self.raster_from(0, dpi),
+        }
     }
 
     /// A raster that starts at a dot of the cursor's row.

@@ -127,9 +127,10 @@ impl Performer {
         Ok(())
     }
 
-    /// Does what the end of the input does, `end` bytes from its begin: it acts as a reset.
-    pub fn finish<S: PageSink>(&mut self, end: usize, sink: &mut S) -> Result<(), JobFault>
-        ensures { (dpi : Dpi) (history : History) → Reflects dpi history self.old → EndDone S.takes dpi end history result sink.old sink.new }
+    /// Does what the end of the input does, `end` bytes from its begin: it acts as a reset. Nothing is
+    /// performed behind it.
+    pub fn finish<S: PageSink>(mut self, end: usize, sink: &mut S) -> Result<(), JobFault>
+        ensures { (dpi : Dpi) (history : History) → Reflects dpi history self → EndDone S.takes dpi end history result sink.old sink.new }
     {
         if self.is_marked {
             if self.ejected >= PAGE_LIMIT {

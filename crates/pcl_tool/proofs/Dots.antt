@@ -1,13 +1,13 @@
 -- The dots of rows, as tokens print them and as they are inked.
-use Rattle.std.proofs.Common.{◌≡◌, ℕ, zero, suc, ◌+◌, ◌-◌, ◌*◌, ◌/◌, ◌%◌, ◌^◌, ◌<◌, ◌≤◌, Bool, true, false, ◌&&◌, ◌||◌, ◌==◌, nat_le, nat_lt, List, [], ◌∷◌, ◌++◌, length, take, drop, replicate, get_or, refl, sym, ap, ◌∙◌, append-nil, length-append, inl, inr, arith}
+use Rattle.std.proofs.Common.{◌≡◌, ℕ, zero, suc, ◌+◌, ◌-◌, ◌*◌, ◌/◌, ◌%◌, ◌<◌, ◌≤◌, Bool, true, false, ◌&&◌, ◌||◌, ◌==◌, nat_le, nat_lt, List, [], ◌∷◌, ◌++◌, length, take, drop, replicate, get_or, refl, sym, ap, ◌∙◌, append-nil, length-append, inl, inr, arith}
 use Rattle.std.specs.List.{flat_map}
 use Rattle.std.specs.Prelude.{slice_index}
 use Rattle.std.proofs.Math.Bool.{and-false}
-use Rattle.std.proofs.Math.Nat.{zero-div}
 use Rattle.std.proofs.lemmas.Bool.{cases_lt}
 use Rattle.std.proofs.lemmas.Bool.Decides.{nat_tests}
 use Rattle.std.proofs.lemmas.List.{get_or-take, get_or_append_left, get_or-append-add, get_or-replicate, get_or_past, drop-replicate, drop-drop, append_assoc, length-replicate, length-take}
 use Rattle.pcl_base.specs.declared.method.Method.TheVariants.{Plain}
+use Rattle.pcl_bitmap.proofs.Bytes.{bit_of_byte-zero}
 use Rattle.pcl_bitmap.specs.Bitmap.{bit_of_byte, dot_of_row}
 use Rattle.pcl_bitmap.specs.Dots.{raster_dot}
 use Rattle.pcl_rows.specs.Heads.{Head, Itself, Count, Literal, Skipped, Repeat, Near, Far, head_bytes, new_count, offset_of, method_of}
@@ -162,16 +162,13 @@ first_row k row rows x y =
           ]
     ]
 
-bit_of_zero : (k : ℕ) → bit_of_byte 0 k ≡ false
-bit_of_zero k = rw (zero-div (2 ^ (7 - k))) refl
-
 white_byte : (row : List ℕ) (i : ℕ) → IsWhite row → get_or row i 0 ≡ 0
 white_byte [] i w = get_or_past [] i 0 (omega arith)
 white_byte (byte ∷ row) zero w = w.0
 white_byte (byte ∷ row) (suc i) w = white_byte row i w.1
 
 pub white_dot : (row : List ℕ) (x : ℕ) → IsWhite row → dot_of_row row x ≡ false
-white_dot row x w = ap (λ (byte : ℕ). bit_of_byte byte (x % 8)) (white_byte row (x / 8) w) ∙ bit_of_zero (x % 8)
+white_dot row x w = ap (λ (byte : ℕ). bit_of_byte byte (x % 8)) (white_byte row (x / 8) w) ∙ bit_of_byte-zero (x % 8)
 
 white_dots : (rows : List (List ℕ)) (x y : ℕ) → AreWhite rows → dot_of_rows rows x y ≡ false
 white_dots [] x y w = refl

@@ -1,8 +1,7 @@
 -- Where a history stands, and how far one event more brings it.
-use Rattle.std.proofs.Common.{◌≡◌, ℕ, ◌+◌, ◌≤◌, ◌<◌, Bool, true, false, ◌&&◌, ◌||◌, cond, nat_le, List, [], ◌∷◌, ◌++◌, length, Option, Some, None, refl, ap, ◌∙◌, append-nil, length-append, arith}
+use Rattle.std.proofs.Common.{◌≡◌, ℕ, ◌+◌, ◌≤◌, ◌<◌, Bool, true, false, ◌&&◌, ◌||◌, cond, nat_le, List, [], ◌∷◌, ◌++◌, length, Some, None, refl, ap, ◌∙◌, append-nil, length-append, arith}
 use Rattle.std.proofs.lemmas.Bool.Decides.{nat_tests}
 use Rattle.pcl_base.specs.declared.dpi.Dpi.{Dpi}
-use Rattle.pcl_base.specs.declared.kind.Kind.{Kind}
 use Rattle.pcl_base.specs.declared.kind.Kind.TheVariants.{TooManyPages}
 use Rattle.pcl_base.specs.declared.value.Value.{Value}
 use Rattle.pcl_escape.specs.declared.operation.Operation.{Operation}
@@ -11,7 +10,8 @@ use Rattle.pcl_escape.specs.Said.{Said}
 use Rattle.pcl_page.specs.declared.environment.Environment.{Environment}
 use Rattle.pcl_page.specs.Environment.{accepts}
 use Rattle.pcl_page.specs.History.{Event, performed, ended, History, Mark, Sheet, ejects, marks_page, is_marked, ejected_count, performed_count, event_effect, environment, event_marks, marks, sheets, sheet_of, eject_refusal, command_refusal, command_limit, page_limit}
-use Rattle.pcl_page.specs.Performing.{with_operation, with_command, command_performance, performance}
+use Rattle.pcl_page.specs.Performing.{performance}
+use Rattle.pcl_page.proofs.Jobs.{performed_next}
 use Rattle.pcl_tool.proofs.Readings.{IsSaid, AreSaid}
 
 -- ---- events that are performed
@@ -54,20 +54,13 @@ not_refused dpi command operation history named accepted fits few =
     rw (under, named, accepted) fits
 
 -- performing a command that is an event
-command_done : (dpi : Dpi) (end : ℕ) (command : Said) (operation : Operation) (history : History) (commands : List Said)
-    → operation_of command.name ≡ Some operation → command_refusal dpi command history ≡ None
-    → performance dpi end history (command ∷ commands) ≡ performance dpi end (performed operation command.value command.bytes ∷ history) commands
-command_done dpi end command operation history commands named none =
-    ap (λ (o : Option Kind). command_performance command history o (performance dpi end (with_command command history) commands)) none
-    ∙ ap (λ (o : Option Operation). performance dpi end (with_operation o command history) commands) named
-
 event_done : (dpi : Dpi) (end : ℕ) (command : Said) (event : Event) (history : History) (commands : List Said) → IsSaid command event → IsTaken dpi event history → performed_count history < 100000000
     → performance dpi end history (command ∷ commands) ≡ performance dpi end (event ∷ history) commands
 event_done dpi end command (performed operation value bytes) history commands s t few =
     let accepted : accepts dpi operation command.value (environment dpi history) ≡ true = ap (λ (v : Value). accepts dpi operation v (environment dpi history)) s.1 ∙ t.0 in
     let fits : eject_refusal (performed operation command.value command.bytes) history ≡ None =
     ap (λ (v : Value). eject_refusal (performed operation v command.bytes) history) s.1 ∙ ap (λ (bs : List ℕ). eject_refusal (performed operation value bs) history) s.2 ∙ t.1 in
-    command_done dpi end command operation history commands s.0 (not_refused dpi command operation history s.0 accepted fits few)
+    performed_next dpi end history command commands operation s.0 (not_refused dpi command operation history s.0 accepted fits few)
     ∙ ap (λ (v : Value). performance dpi end (performed operation v command.bytes ∷ history) commands) s.1
     ∙ ap (λ (bs : List ℕ). performance dpi end (performed operation value bs ∷ history) commands) s.2
 event_done dpi end command ended history commands s t few = absurd s

@@ -22,7 +22,7 @@ use Rattle.pcl_page.specs.Performing.{Shows, Performance, end_performance, comma
 use Rattle.pcl_page.specs.Jobs.{HasPages, performance_of}
 use Rattle.pcl_page.proofs.Steps.{always_usual}
 use Rattle.pcl_writer.specs.PageText.{Token, opening, method, skip, send, commands_in, command_count, token_bytes, PrintsPage, AreWithoutMethods, rows_of, start_bytes, end_bytes, frame_bytes}
-use Rattle.pcl_writer.proofs.Bodies.{length_rows}
+use Rattle.pcl_writer.proofs.Bodies.{all_append, length_rows}
 use Rattle.pcl_tool.specs.Minimizing.{AreAlike, AllAlike, PrintSheets}
 use Rattle.pcl_tool.specs.PageTexts.{IsUsualPage, MeansPage, job_of, job_commands}
 use Rattle.pcl_tool.proofs.Readings.{ReadsAs, reads_joined, reads_none}
@@ -150,17 +150,13 @@ texts_taken dpi (sheet ∷ meant) texts history env pages p u a few =
 
 -- ---- the pages of an accepted job
 
-usual_append : (one two : List Sheet) → AllByRecursion IsUsualSheet one → AllByRecursion IsUsualSheet two → AllByRecursion IsUsualSheet (one ++ two)
-usual_append [] two a b = b
-usual_append (sheet ∷ one) two a b = (a.0, usual_append one two a.1 b)
-
 ejected_usual : (dpi : Dpi) (test : Bool) (history : History) → AllByRecursion IsUsualSheet (cond test (sheet_of dpi history ∷ []) [])
 ejected_usual dpi true history = let usual = always_usual dpi history in ((usual.size, usual.copies), tt)
 ejected_usual dpi false history = tt
 
 pub sheets_usual : (dpi : Dpi) (history : History) → AllByRecursion IsUsualSheet (sheets dpi history)
 sheets_usual dpi [] = tt
-sheets_usual dpi (event ∷ history) = usual_append (sheets dpi history) (ejected_sheets dpi event history) (sheets_usual dpi history) (ejected_usual dpi (ejects event (is_marked history)) history)
+sheets_usual dpi (event ∷ history) = all_append IsUsualSheet (sheets dpi history) (ejected_sheets dpi event history) (sheets_usual dpi history) (ejected_usual dpi (ejects event (is_marked history)) history)
 
 -- an event that isn't refused leaves no more pages than there may be
 fits : (count : ℕ) (test limit : Bool) → nat_le 256 count ≡ limit → count ≤ 256 → cond (test && limit) (Some TooManyPages) None ≡ None → cond test (count + 1) count ≤ 256

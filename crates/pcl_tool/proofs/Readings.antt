@@ -19,6 +19,7 @@ use Rattle.pcl_escape.specs.Pieces.{Piece, combined, Parameter, parameter_bytes,
 use Rattle.pcl_escape.proofs.Runs.{place_further}
 use Rattle.pcl_page.specs.History.{Event, performed, ended}
 use Rattle.pcl_writer.specs.PageText.{IsSpelled}
+use Rattle.pcl_writer.proofs.Bodies.{all_append}
 
 -- ---- commands and events
 
@@ -47,10 +48,6 @@ pub record ReadsAs (bytes : List ℕ) (events : List Event) : Type 0 where
   pub each : AllByRecursion IsPiece pieces
   pub spelled : bytes ≡ flat_map spelling pieces
   pub said : (at : ℕ) → AreSaid (commands_of at pieces) events
-
-all_append : {X : Type 0} (P : X → Type 0) (one two : List X) → AllByRecursion P one → AllByRecursion P two → AllByRecursion P (one ++ two)
-all_append P [] two a b = b
-all_append P (x ∷ one) two a b = (a.0, all_append P one two a.1 b)
 
 commands_append : (at : ℕ) (one two : List Piece) → commands_of at (one ++ two) ≡ commands_of at one ++ commands_of (at + length (flat_map spelling one)) two
 commands_append at [] two = let place : at ≡ at + 0 = omega arith in ap (λ (n : ℕ). commands_of n two) place

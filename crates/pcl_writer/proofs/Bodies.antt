@@ -150,7 +150,8 @@ row_spelled (suc k) bytes old one two three four new count a b c d e f =
     ∙ ap (λ (n : ℕ). old ++ 27 ∷ 42 ∷ 98 ∷ ((decimal (suc k) ++ 121 ∷ []) ++ (decimal n ++ 87 ∷ bytes))) c
     ∙ ap (λ (t : List ℕ). old ++ 27 ∷ 42 ∷ 98 ∷ ((decimal (suc k) ++ 121 ∷ []) ++ t)) (sym (append-nil (decimal (length bytes) ++ 87 ∷ bytes)))
 
-all_append : {X : Type 0} (P : X → Type 0) (one two : List X) → AllByRecursion P one → AllByRecursion P two → AllByRecursion P (one ++ two)
+-- what holds of two lists' elements holds of both together
+pub all_append : {X : Type 0} (P : X → Type 0) (one two : List X) → AllByRecursion P one → AllByRecursion P two → AllByRecursion P (one ++ two)
 all_append P [] two a b = b
 all_append P (x ∷ one) two a b = (a.0, all_append P one two a.1 b)
 
