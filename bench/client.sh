@@ -38,7 +38,7 @@ write_again() {
         echo "$job: the written job has more than $((page - 1)) pages"
         return 1
     fi
-    echo "$job: $(wc -c < "$job") bytes, written again in $(wc -c < "$written"), $((page - 1)) pages, each dot the same"
+    echo "$job: $(wc -c < "$job") bytes, written again in $(wc -c < "$written"); pages with each dot the same: $((page - 1))"
 }
 
 for job in examples/*.pcl build/client/*.pcl; do

@@ -3,18 +3,19 @@
 
     python3 bench/measure.py PCLMIN PLAIN FOLDER
 
-FOLDER holds the jobs that make_jobs.py makes. A time is the least of five runs, from the start of the process to
+FOLDER holds the jobs that make_jobs.py makes. A time is the median of 21 runs, from the start of the process to
 its end, with the input and the output in files. A peak is what GNU time tells of one more run. It fails where the
 two programs write different bytes.
 """
 
 import filecmp
 import os
+import statistics
 import subprocess
 import sys
 import time
 
-RUNS = 5
+RUNS = 21
 # each job with the page that is previewed, one of the middle, and the resolution
 JOBS = [("dense-300", 1, 300), ("dense-600", 1, 600), ("text-64", 32, 300)]
 
@@ -53,10 +54,10 @@ def compare(programs, folder, name, words):
             seconds[which].append(run(commands[which], job, outputs[which]))
     if not filecmp.cmp(*outputs, shallow=False):
         sys.exit("%s: the programs write different bytes" % name)
-    least = [min(runs) for runs in seconds]
+    times = [statistics.median(runs) for runs in seconds]
     peaks = [peak(command, job) for command in commands]
     row = [words[0], name] + ["{:,}".format(os.path.getsize(path)) for path in (job, outputs[0])]
-    row += ["%.4f" % least[0], "%.4f" % least[1], "%.2f" % (least[0] / least[1])]
+    row += ["%.4f" % times[0], "%.4f" % times[1], "%.2f" % (times[0] / times[1])]
     row += ["%.1f" % (peaks[0] / 1e6), "%.1f" % (peaks[1] / 1e6), "%.2f" % (peaks[0] / peaks[1])]
     print("| " + " | ".join(row) + " |", flush=True)
 

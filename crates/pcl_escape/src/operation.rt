@@ -42,6 +42,8 @@ pub enum Operation {
 
 impl Operation {
     /// The operation of a name, if a command of that name is performed.
+    // Inlined, so that what is known of a name where it is looked up isn't tested again.
+    #[inline(always)]
     #[tactic(auto, unfolding(crate::specs::Operation::operation_of))]
     pub fn with_name(name: Name) -> Option<Operation>
         ensures { result ≡ operation_of name }

@@ -80,6 +80,8 @@ impl Performer {
     }
 
     /// What a command does, or why it is refused.
+    // Inlined, as the operation's look-up in it.
+    #[inline(always)]
     fn check(&self, command: &Command<'_>, dpi: Dpi) -> Result<Operation, Kind>
         ensures checked { (history : History) → Reflects dpi history self.now → IsChecked dpi (view command.now) history result }
         ensures few_commands { IfOk result (λ operation. self.now.performed < 100000000) }
