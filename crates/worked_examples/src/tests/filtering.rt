@@ -7,11 +7,12 @@ use std::alloc::Global;
 use std::io::ErrorKind;
 use std::test::Fail;
 
-/// A job of 33 bytes with the dot (0, 0).
+/// A job of 30 bytes with the dot (0, 0).
 const JOB: &[u8] = b"\x1b&l0E\x1b*p0x0Y\x1b*t300R\x1b*r0A\x1b*b1W\x80";
 
 /// What it is written as, 48 bytes.
-const WRITTEN: &[u8] = b"\x1bE\x1b&l1x2a0E\x1b*p0x0Y\x1b*t300R\x1b*r2400s0A\x1b*b1W\x80\x1b*rC\x0c\x1bE";
+const WRITTEN: &[u8] =
+    b"\x1bE\x1b&l1x2a0E\x1b*p0x0Y\x1b*t300R\x1b*r2400s0A\x1b*b1W\x80\x1b*rC\x0c\x1bE";
 
 /// A writer that takes at most so many bytes a write, and never fails.
 fn taking(alloc: Global, most: usize) -> Held {
@@ -29,7 +30,7 @@ fn taking(alloc: Global, most: usize) -> Held {
 #[test]
 fn each_read_fails(rt: HostRuntime) -> Result<(), Fail> {
     for kind in [ErrorKind::BrokenPipe, ErrorKind::Interrupted] {
-        for (most, reads) in [(1, 34), (7, 6), (usize::MAX, 2)] {
+        for (most, reads) in [(1, 31), (7, 6), (usize::MAX, 2)] {
             for good in 0..=reads {
                 let mut source = Source {
                     rest: JOB,
@@ -64,7 +65,11 @@ fn each_write_fails(rt: HostRuntime) -> Result<(), Fail> {
             let result = filter(rt.alloc(), &mut &*JOB, Dpi::Dpi300, &mut out);
             if good < writes {
                 assert_eq!(rt; result, Err(Fault::WriteFault), "{most} a write, {good}");
-                assert_eq!(rt; &*out.bytes, &WRITTEN[..good * most], "{most} a write, {good}");
+                assert_eq!(rt;
+                    &*out.bytes,
+                    &WRITTEN[..good * most],
+                    "{most} a write, {good}"
+                );
                 assert_eq!(rt; out.flushes, 0, "{most} a write, {good}");
             } else {
                 assert_eq!(rt; result, Ok(()), "{most} a write, {good}");

@@ -2,7 +2,7 @@
 
 use pcl_base::{Dpi, JobFault, Kind, Name, Refusal};
 use pcl_page::read_pages;
-use pcl_tool::{Fault, preview, read_all};
+use pcl_tool::{Fault, filter, preview, read_all};
 use std::io;
 use std::io::Write;
 
@@ -75,5 +75,18 @@ fn for_an_input(rt: HostRuntime) {
     match read_all(rt.alloc(), &mut reader, 100) {
         Ok(bytes) => assert!(rt; bytes.as_slice() == JOB),
         Err(fault) => assert_eq!(rt; fault, Fault::Memory),
+    }
+}
+
+// The whole job is written again, or nothing where memory runs out.
+#[test]
+fn for_a_job_written_again(rt: HostRuntime) {
+    let mut out = Counted(0);
+    match filter(rt.alloc(), &mut &*JOB, Dpi::Dpi300, &mut out) {
+        Ok(()) => assert_eq!(rt; out.0, 48),
+        Err(fault) => {
+            assert_eq!(rt; fault, Fault::Memory);
+            assert_eq!(rt; out.0, 0);
+        }
     }
 }
