@@ -5,3 +5,4 @@ pub mod Starts
 pub mod Runs
 pub mod Again
 pub mod Loop
+pub mod Examples
