@@ -2,10 +2,10 @@
 use Rattle.std.proofs.Common.{◌≡◌, ℕ, zero, suc, ◌+◌, ◌-◌, ◌*◌, ◌/◌, ◌%◌, ◌<◌, ◌≤◌, Bool, true, false, ◌&&◌, ◌||◌, ◌==◌, nat_le, nat_lt, List, [], ◌∷◌, ◌++◌, length, take, drop, replicate, get_or, refl, sym, ap, ◌∙◌, append-nil, length-append, inl, inr, arith}
 use Rattle.std.specs.List.{flat_map}
 use Rattle.std.specs.Prelude.{slice_index}
-use Rattle.std.proofs.Math.Bool.{and-false}
+use Rattle.std.proofs.Math.Bool.{and-false, or-false}
 use Rattle.std.proofs.lemmas.Bool.{cases_lt}
 use Rattle.std.proofs.lemmas.Bool.Decides.{nat_tests}
-use Rattle.std.proofs.lemmas.List.{get_or-take, get_or_append_left, get_or-append-add, get_or-replicate, get_or_past, drop-replicate, drop-drop, append_assoc, length-replicate, length-take}
+use Rattle.std.proofs.lemmas.List.{nil_from_length, get_or-take, get_or_append_left, get_or-append-add, get_or-replicate, get_or_past, drop-replicate, drop-drop, append_assoc, length-replicate, length-take}
 use Rattle.pcl_base.specs.declared.method.Method.TheVariants.{Plain}
 use Rattle.pcl_bitmap.proofs.Bytes.{bit_of_byte-zero}
 use Rattle.pcl_bitmap.specs.Bitmap.{bit_of_byte, dot_of_row}
@@ -64,14 +64,10 @@ plain_reach : (es : List Element) → AreElements Plain es → reach es ≡ leng
 plain_reach [] a = refl
 plain_reach (e ∷ es) a = omega (arith, plain_stop e.head e.bytes a.0.head_is.method_is a.0.complete, plain_reach es a.1, length-append (spelling e) (flat_map spelling es))
 
-none : (xs : List ℕ) → length xs ≡ 0 → xs ≡ []
-none [] e = refl
-none (x ∷ xs) e = absurd (omega arith)
-
 -- no byte of a cut element of the plain method is there
 plain_cut : (cut : Element) (shown missing : List ℕ) → IsElement Plain cut → shown ++ missing ≡ spelling cut → 0 < length missing → shown ≡ []
 plain_cut cut shown missing is joined lacks =
-    none shown (omega (arith, ap length joined, length-append shown missing, plain_size cut.head cut.bytes is.head_is.method_is is.complete))
+    nil_from_length shown (omega (arith, ap length joined, length-append shown missing, plain_size cut.head cut.bytes is.head_is.method_is is.complete))
 
 plain_treated : (bytes : List ℕ) (whole : List Element) (cut : Element) (shown old : List ℕ) → IsReading Plain bytes whole cut shown → treated whole cut shown old ≡ bytes ++ drop (length bytes) old
 plain_treated bytes whole cut shown old r =
@@ -131,10 +127,6 @@ dot_of_rows (row ∷ rows) x (suc y) = dot_of_rows rows x y
 abbrev pub dot_from : ℕ → List (List ℕ) → ℕ → ℕ → Bool
 dot_from k rows x y = nat_le k y && dot_of_rows rows x (y - k)
 
-or_none : (b : Bool) → b ≡ (b || false)
-or_none true = refl
-or_none false = refl
-
 -- the topmost row, and the rows below it
 pub first_row : (k : ℕ) (row : List ℕ) (rows : List (List ℕ)) (x y : ℕ) → dot_from k (row ∷ rows) x y ≡ ((k == y && dot_of_row row x) || dot_from (k + 1) rows x y)
 first_row k row rows x y =
@@ -158,7 +150,7 @@ first_row k row rows x y =
                 let b : (k == y) ≡ true = grind (arith, nat_tests) in
                 let c : nat_le (k + 1) y ≡ false = grind (arith, nat_tests) in
                 let place : y - k ≡ 0 = omega arith in
-                rw (a, b, c, place) (or_none (dot_of_row row x))
+                rw (a, b, c, place) (sym (or-false (dot_of_row row x)))
           ]
     ]
 

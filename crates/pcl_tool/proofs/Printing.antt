@@ -1,6 +1,7 @@
 -- Performing the events of a page text prints its page.
 use Rattle.std.proofs.Common.{◌≡◌, ℕ, ◌+◌, ◌-◌, ◌<◌, ◌≤◌, Bool, true, false, not, ◌||◌, ◌&&◌, ◌==◌, nat_le, List, [], ◌∷◌, ◌++◌, length, drop, replicate, Some, refl, sym, ap, subst, ◌∙◌, arith}
 use Rattle.std.proofs.lemmas.List.{length-drop}
+use Rattle.std.proofs.Math.Bool.{or-false}
 use Rattle.std.proofs.lemmas.Bool.Decides.{nat_tests}
 use Rattle.pcl_base.specs.declared.dpi.Dpi.{Dpi}
 use Rattle.pcl_base.specs.declared.dpi.Dpi.TheVariants.{Dpi300, Dpi600}
@@ -185,15 +186,11 @@ pub record IsTextTaken (dpi : Dpi) (picture : Picture) (tokens : List Token) (hi
   pub at : IsAt dpi (after (text_events dpi tokens) history) false env [] (pages ++ sheet_with inked ∷ [])
   pub black : (x y : ℕ) → x < page_width Letter dpi → y < page_height Letter dpi → is_black inked x y ≡ dot picture x y
 
-or_false : (b : Bool) → (b || false) ≡ b
-or_false true = refl
-or_false false = refl
-
 all_rows : (rows : List (List ℕ)) (x y : ℕ) → (dot_from 0 rows x y || false) ≡ dot_of_rows rows x y
 all_rows rows x y =
     let place : y - 0 ≡ y = omega arith in
     let below : nat_le 0 y ≡ true = grind (arith, nat_tests) in
-    or_false (dot_from 0 rows x y) ∙ ap (λ (b : Bool). b && dot_of_rows rows x (y - 0)) below ∙ ap (λ (n : ℕ). dot_of_rows rows x n) place
+    or-false (dot_from 0 rows x y) ∙ ap (λ (b : Bool). b && dot_of_rows rows x (y - 0)) below ∙ ap (λ (n : ℕ). dot_of_rows rows x n) place
 
 text_dot : (dpi : Dpi) (picture : Picture) (x y : ℕ) → picture.size ≡ Letter → picture.dpi ≡ dpi → y < page_height Letter dpi → dot_of_rows (rows_of picture) x y ≡ dot picture x y
 text_dot dpi picture x y s d below =

@@ -1,6 +1,6 @@
 //! Jobs that end early.
 
-use super::outcome::outcome;
+use super::outcome;
 use pcl_base::Dpi;
 use std::test::Fail;
 

@@ -1,6 +1,6 @@
 //! Each public call of `pcl_page` that the other examples don't make.
 
-use super::outcome::Count;
+use super::Count;
 use pcl_base::{Dpi, JobFault, Kind, Name, Refusal, Sign, Value};
 use pcl_escape::{Command, Operation, read_job};
 use pcl_page::{Environment, Raster, one_meaning, run};

@@ -1,6 +1,6 @@
 //! Jobs that are refused, and their neighbours that aren't.
 
-use super::outcome::{assert_outcomes, outcome};
+use super::{assert_outcomes, outcome};
 use pcl_base::Dpi;
 use std::test::Fail;
 

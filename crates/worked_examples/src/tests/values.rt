@@ -1,6 +1,6 @@
 //! Spellings of values.
 
-use super::outcome::assert_outcomes;
+use super::assert_outcomes;
 use pcl_base::Dpi;
 use std::test::Fail;
 
