@@ -30,7 +30,7 @@ pub record MeansPage (dpi : Dpi) (page : Page) (job : List ℕ) : Type 0 where
   pub meaning : HasPages dpi job (sheet ∷ [])
   pub shows : Shows dpi page sheet
 
--- each page text of commands that are performed and are no more than a job may have
+-- each page text that sets no method, for a page of the usual size and copies, of no more commands than a job may have
 abbrev pub PageTextsMeanTheirPages : Type 0
 PageTextsMeanTheirPages =
     (dpi : Dpi) (page : Page) (text : List ℕ) (printed : PrintsPage page text) → IsUsualPage dpi page → AreWithoutMethods printed.tokens
