@@ -1,7 +1,9 @@
 pub mod Dpi
+pub mod Limits
 pub mod Size
 pub mod Method
 pub mod Value
 pub mod Kind
 pub mod Name
+pub mod Operation
 pub mod Refusal

@@ -20,3 +20,17 @@ name_text Empty = codes "-"
 name_text (One code) = code_text code
 name_text (Two first second) = first ∷ second ∷ []
 name_text (Three first second third) = first ∷ second ∷ third ∷ []
+
+-- how many bytes a name has
+abbrev pub name_len : Name → ℕ
+name_len Empty = 0
+name_len (One first) = 1
+name_len (Two first second) = 2
+name_len (Three first second third) = 3
+
+-- the bytes, and zeros past them
+abbrev pub name_bytes : Name → List ℕ
+name_bytes Empty = 0 ∷ 0 ∷ 0 ∷ []
+name_bytes (One first) = first ∷ 0 ∷ 0 ∷ []
+name_bytes (Two first second) = first ∷ second ∷ 0 ∷ []
+name_bytes (Three first second third) = first ∷ second ∷ third ∷ []

@@ -43,3 +43,10 @@ page_height size dpi = height_at_300 size * fineness dpi
 -- eight dots to a byte
 abbrev pub page_row_bytes : Size → Dpi → ℕ
 page_row_bytes size dpi = (page_width size dpi + 7) / 8
+
+-- width and height in units of 1/7200 inch, at either resolution
+abbrev pub units_wide : Size → ℕ
+units_wide size = 24 * width_at_300 size
+
+abbrev pub units_high : Size → ℕ
+units_high size = 24 * height_at_300 size

@@ -1,5 +1,5 @@
 -- The number of a value field: a sign as written, and a magnitude in ten-thousandths.
-use Rattle.std.specs.Prelude.{ℕ, ◌/◌, ℤ, pos, neg_ℤ}
+use Rattle.std.specs.Prelude.{ℕ, ◌*◌, ◌/◌, Bool, true, false, ◌&&◌, nat_lt, if◌then◌else◌, Option, Some, None, ℤ, pos, neg_ℤ}
 use Rattle.pcl_base.specs.declared.value.Sign.{Sign}
 use Rattle.pcl_base.specs.declared.value.Sign.TheVariants.{Absent, Plus, Minus}
 use Rattle.pcl_base.specs.declared.value.Value.{Value}
@@ -16,3 +16,29 @@ whole_of v = v.parts / 10000
 -- the same with its sign: the whole part of -0.5 is 0
 abbrev pub signed_whole : Value → ℤ
 signed_whole v = with_sign v.sign (whole_of v)
+
+-- the value of a command without a field
+abbrev pub zero_value : Value
+zero_value = record { sign = Absent; parts = 0 }
+
+abbrev pub is_absent : Sign → Bool
+is_absent Absent = true
+is_absent Plus = false
+is_absent Minus = false
+
+abbrev pub is_minus : Sign → Bool
+is_minus Absent = false
+is_minus Plus = false
+is_minus Minus = true
+
+-- the whole part is below 0
+abbrev pub is_below_zero : Value → Bool
+is_below_zero v = is_minus v.sign && nat_lt 0 (whole_of v)
+
+-- the whole part where it isn't below 0
+abbrev pub count_of : Value → Option ℕ
+count_of v = if is_below_zero v then None else Some (whole_of v)
+
+-- the magnitude times a number, rounded down
+abbrev pub scaled_by : ℕ → Value → ℕ
+scaled_by k v = v.parts * k / 10000

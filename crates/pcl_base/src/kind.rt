@@ -7,33 +7,33 @@ ghost use Rattle.pcl_base.specs.Kind.{kind_number, kind_name};
 #[derive(Clone, Copy, Debug, PartialEq, Eq)]
 pub enum Kind {
     /// The input ends inside a sequence or its data.
-    Truncated,
+    Truncated = 1,
     /// A byte has no place in a sequence.
-    BadSequence,
+    BadSequence = 2,
     /// A number is out of range.
-    ValueRange,
+    ValueRange = 3,
     /// No command of this name is performed.
-    UnsupportedCommand,
+    UnsupportedCommand = 4,
     /// The command doesn't take this value.
-    UnsupportedValue,
+    UnsupportedValue = 5,
     /// The header of a soft font is malformed.
-    FontHeader,
+    FontHeader = 6,
     /// The data of a character is malformed.
-    CharacterData,
+    CharacterData = 7,
     /// Text is printed with no font selected.
-    NoFont,
+    NoFont = 8,
     /// A reset or the end of the input comes inside a macro definition.
-    MacroOpen,
+    MacroOpen = 9,
     /// A macro command has no place here.
-    MacroControl,
+    MacroControl = 10,
     /// A fourth macro would run at once.
-    MacroDepth,
+    MacroDepth = 11,
     /// More than 100,000,000 commands would be performed.
-    TooManyCommands,
+    TooManyCommands = 12,
     /// More than 256 pages would be ejected.
-    TooManyPages,
+    TooManyPages = 13,
     /// The job asks for another language.
-    NotPcl,
+    NotPcl = 14,
 }
 
 impl Kind {
@@ -41,22 +41,7 @@ impl Kind {
     pub fn number(self) -> u8
         ensures { result ≡ kind_number self }
     {
-        match self {
-            Kind::Truncated => 1,
-            Kind::BadSequence => 2,
-            Kind::ValueRange => 3,
-            Kind::UnsupportedCommand => 4,
-            Kind::UnsupportedValue => 5,
-            Kind::FontHeader => 6,
-            Kind::CharacterData => 7,
-            Kind::NoFont => 8,
-            Kind::MacroOpen => 9,
-            Kind::MacroControl => 10,
-            Kind::MacroDepth => 11,
-            Kind::TooManyCommands => 12,
-            Kind::TooManyPages => 13,
-            Kind::NotPcl => 14,
-        }
+        self as u8
     }
 
     /// The name of the kind, as messages print it.

@@ -5,8 +5,10 @@
 mod dpi;
 mod fault;
 mod kind;
+mod limits;
 mod method;
 mod name;
+mod operation;
 mod refusal;
 mod size;
 mod value;
@@ -14,8 +16,12 @@ mod value;
 pub use dpi::Dpi;
 pub use fault::{CallFault, JobFault};
 pub use kind::Kind;
+pub use limits::{
+    COMMAND_LIMIT, COPIES_LIMIT, DOT_UNITS, INPUT_LIMIT, PAGE_LIMIT, ROW_LIMIT, STACK_LIMIT,
+};
 pub use method::Method;
 pub use name::Name;
+pub use operation::{Axis, Operation, Side, Unit};
 pub use refusal::Refusal;
 pub use size::Size;
 pub use value::{Sign, Value};

@@ -1,7 +1,7 @@
 //! The names of commands.
 
-ghost use Rattle.std.specs.Prelude.{◌≡◌, ◌++◌, if◌then◌else◌, is_ok};
-ghost use Rattle.pcl_base.specs.Name.{name_text};
+ghost use Rattle.std.specs.Prelude.{◌≡◌, ◌++◌, ◌==◌, if◌then◌else◌, is_ok};
+ghost use Rattle.pcl_base.specs.Name.{name_text, name_len, name_bytes};
 
 use std::alloc::AllocError;
 
@@ -22,6 +22,37 @@ pub enum Name {
 impl Name {
     /// The name of text.
     pub const TEXT: Name = Name::One(32);
+
+    /// How many bytes the name has, 0 to 3.
+    pub fn len(self) -> u8
+        ensures { result ≡ name_len self }
+    {
+        match self {
+            Name::Empty => 0,
+            Name::One(_) => 1,
+            Name::Two(_, _) => 2,
+            Name::Three(_, _, _) => 3,
+        }
+    }
+
+    /// Whether nothing of a name was read.
+    pub fn is_empty(self) -> bool
+        ensures { result ≡ (name_len self == 0) }
+    {
+        matches!(self, Name::Empty)
+    }
+
+    /// The bytes of the name; those past its length are 0.
+    pub fn bytes(self) -> [u8; 3]
+        ensures { result ≡ name_bytes self }
+    {
+        match self {
+            Name::Empty => [0, 0, 0],
+            Name::One(first) => [first, 0, 0],
+            Name::Two(first, second) => [first, second, 0],
+            Name::Three(first, second, third) => [first, second, third],
+        }
+    }
 
     /// Appends the name as messages print it: its bytes, `text` for text, the code's own name for a
     /// control code, and `-` for the empty name. Where memory runs out `out` stays as it was.

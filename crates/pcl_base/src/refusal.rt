@@ -1,7 +1,7 @@
 //! Refusals of a job.
 
 ghost use Rattle.std.specs.Prelude.{◌≡◌, ◌++◌, length, take, OnOk, OnErr};
-ghost use Rattle.pcl_base.specs.Refusal.{refusal_text};
+ghost use Rattle.pcl_base.specs.Refusal.{refusal, refusal_text};
 
 use crate::{Kind, Name};
 use itoa::Buffer;
@@ -19,6 +19,13 @@ pub struct Refusal {
 }
 
 impl Refusal {
+    /// The refusal of a command of this name at this place.
+    pub fn new(kind: Kind, at: usize, name: Name) -> Refusal
+        ensures { result ≡ refusal kind at name }
+    {
+        Refusal { kind, at, name }
+    }
+
     /// Appends the refusal as messages print it: the kind, ` at `, the place in decimal, a space and
     /// the name. Where memory runs out `out` stays as it was.
     pub fn write_text(&self, out: &mut Vec<u8>) -> Result<(), AllocError>

@@ -1,9 +1,10 @@
 //! The page sizes.
 
 ghost use Rattle.std.specs.Prelude.{◌≡◌};
-ghost use Rattle.pcl_base.specs.Size.{code_of, size_with_code, page_width, page_height, page_row_bytes};
+ghost use Rattle.pcl_base.specs.Size.{code_of, size_with_code, page_width, page_height, page_row_bytes, units_wide, units_high};
 
 use crate::Dpi;
+use crate::limits::DOT_UNITS;
 
 /// A size of page, in portrait. All of the logical page can be printed (docs/LANGUAGE.md, "Page sizes").
 #[derive(Clone, Copy, Debug, PartialEq, Eq)]
@@ -63,6 +64,20 @@ impl Size {
             Size::A4 => 3507,
         };
         at_300 * (dpi.dots() / 300)
+    }
+
+    /// The width of the page in units of 1/7200 inch, at either resolution.
+    pub fn units_wide(self) -> u32
+        ensures { result ≡ units_wide self }
+    {
+        self.width(Dpi::Dpi300) * DOT_UNITS
+    }
+
+    /// The height of the page in units of 1/7200 inch, at either resolution.
+    pub fn units_high(self) -> u32
+        ensures { result ≡ units_high self }
+    {
+        self.height(Dpi::Dpi300) * DOT_UNITS
     }
 
     /// The bytes of a row of the page: eight dots to a byte, the last perhaps partly used.

@@ -1,7 +1,7 @@
 //! The numbers of a job.
 
-ghost use Rattle.std.specs.Prelude.{◌≡◌, ◌*◌, ◌/◌, ◌≤◌};
-ghost use Rattle.pcl_base.specs.Value.{signed_whole};
+ghost use Rattle.std.specs.Prelude.{◌≡◌, ◌≤◌};
+ghost use Rattle.pcl_base.specs.Value.{signed_whole, count_of, scaled_by};
 
 /// The sign of a value field, as it is written: `-0` has one, and so has a sign without digits.
 #[derive(Clone, Copy, Debug, PartialEq, Eq)]
@@ -38,10 +38,20 @@ impl Value {
         }
     }
 
+    /// The whole part where it isn't below 0.
+    pub fn count(&self) -> Option<u32>
+        ensures { result ≡ count_of self.now }
+    {
+        match (self.sign, self.parts / 10_000) {
+            (Sign::Minus, 1..) => None,
+            (_, whole) => Some(whole),
+        }
+    }
+
     /// The magnitude times `k`, rounded down.
     pub fn scaled(&self, k: u64) -> u64
         requires { k ≤ 16000000 }
-        ensures { result ≡ self.now.parts * k / 10000 }
+        ensures { result ≡ scaled_by k self.now }
     {
         u64::from(self.parts) * k / 10_000
     }

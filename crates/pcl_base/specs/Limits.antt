@@ -1,0 +1,22 @@
+-- The limits of a job and of its pages.
+use Rattle.std.specs.Prelude.{ℕ}
+
+-- bytes of an input
+abbrev pub input_limit : ℕ
+input_limit = 2147483647
+
+-- commands that a job performs
+abbrev pub command_limit : ℕ
+command_limit = 100000000
+
+-- pages that a job ejects
+abbrev pub page_limit : ℕ
+page_limit = 256
+
+-- bytes of a row
+abbrev pub row_limit : ℕ
+row_limit = 600
+
+-- positions on the cursor stack
+abbrev pub stack_limit : ℕ
+stack_limit = 20

@@ -1,0 +1,107 @@
+-- The names that are performed.
+use Rattle.std.specs.Prelude.{ℕ, Bool, true, false, ◌==◌, ◌&&◌, ◌||◌, not, if◌then◌else◌, List, [], ◌∷◌, Option, Some, None, codes}
+use Rattle.pcl_base.specs.declared.name.Name.{Name}
+use Rattle.pcl_base.specs.declared.name.Name.TheVariants.{Empty, One, Two, Three}
+use Rattle.pcl_base.specs.declared.operation.Axis.TheVariants.{Horizontal, Vertical}
+use Rattle.pcl_base.specs.declared.operation.Unit.TheVariants.{PclUnit, Decipoint, Column}
+use Rattle.pcl_base.specs.declared.operation.Side.TheVariants.{Primary, Secondary}
+use Rattle.pcl_base.specs.declared.operation.Operation.{Operation}
+use Rattle.pcl_base.specs.declared.operation.Operation.TheVariants.{Reset, UniversalExit, ClearMargins, HalfLineFeed, HorizontalTab, LineFeed, FormFeed, CarriageReturn, Shift, PageSize, Copies, VerticalMotionIndex, LineSpacing, TopMargin, TextLength, PerforationSkip, OnlyZero, EjectMarked, UnitOfMeasure, HorizontalMotionIndex, LineTermination, LeftMargin, Move, CursorStack, RasterResolution, RasterWidth, StartRaster, EndRaster, EndRasterResetMethod, RasterMethod, RasterOffset, RasterRow, NoEffect}
+
+-- a name from its bytes
+abbrev pub named : List ℕ → Name
+named (first ∷ []) = One first
+named (first ∷ second ∷ []) = Two first second
+named (first ∷ second ∷ third ∷ []) = Three first second third
+named other = Empty
+
+-- control codes by their numbers: HT, LF, FF, CR, SO, SI
+abbrev pub control : ℕ → Name
+control code = One code
+
+-- each name, with what its command does
+abbrev pub operations : List (Name × Operation)
+operations =
+    (named (codes "E"), Reset) ∷
+    (named (codes "%X"), UniversalExit) ∷
+    (named (codes "9"), ClearMargins) ∷
+    (named (codes "="), HalfLineFeed) ∷
+    (control 9, HorizontalTab) ∷
+    (control 10, LineFeed) ∷
+    (control 12, FormFeed) ∷
+    (control 13, CarriageReturn) ∷
+    (control 14, Shift Secondary) ∷
+    (control 15, Shift Primary) ∷
+    (named (codes "%A"), NoEffect) ∷
+    (named (codes "&lA"), PageSize) ∷
+    (named (codes "&lX"), Copies) ∷
+    (named (codes "&lC"), VerticalMotionIndex) ∷
+    (named (codes "&lD"), LineSpacing) ∷
+    (named (codes "&lE"), TopMargin) ∷
+    (named (codes "&lF"), TextLength) ∷
+    (named (codes "&lL"), PerforationSkip) ∷
+    (named (codes "&lO"), OnlyZero) ∷
+    (named (codes "&lU"), OnlyZero) ∷
+    (named (codes "&lZ"), OnlyZero) ∷
+    (named (codes "&lH"), EjectMarked) ∷
+    (named (codes "&lS"), NoEffect) ∷
+    (named (codes "&lG"), NoEffect) ∷
+    (named (codes "&lM"), NoEffect) ∷
+    (named (codes "&lP"), NoEffect) ∷
+    (named (codes "&aP"), OnlyZero) ∷
+    (named (codes "&aG"), EjectMarked) ∷
+    (named (codes "&aL"), LeftMargin) ∷
+    (named (codes "&aH"), Move Horizontal Decipoint) ∷
+    (named (codes "&aV"), Move Vertical Decipoint) ∷
+    (named (codes "&aC"), Move Horizontal Column) ∷
+    (named (codes "&aR"), Move Vertical Column) ∷
+    (named (codes "&aM"), NoEffect) ∷
+    (named (codes "&uD"), UnitOfMeasure) ∷
+    (named (codes "&kH"), HorizontalMotionIndex) ∷
+    (named (codes "&kG"), LineTermination) ∷
+    (named (codes "&fS"), CursorStack) ∷
+    (named (codes "&sC"), NoEffect) ∷
+    (named (codes "&d@"), NoEffect) ∷
+    (named (codes "*pX"), Move Horizontal PclUnit) ∷
+    (named (codes "*pY"), Move Vertical PclUnit) ∷
+    (named (codes "*tR"), RasterResolution) ∷
+    (named (codes "*rS"), RasterWidth) ∷
+    (named (codes "*rA"), StartRaster) ∷
+    (named (codes "*rB"), EndRaster) ∷
+    (named (codes "*rC"), EndRasterResetMethod) ∷
+    (named (codes "*bM"), RasterMethod) ∷
+    (named (codes "*bY"), RasterOffset) ∷
+    (named (codes "*bW"), RasterRow) ∷
+    (named (codes "*vO"), NoEffect) ∷
+    (named (codes "*cG"), NoEffect) ∷
+    (named (codes "(sP"), NoEffect) ∷ (named (codes ")sP"), NoEffect) ∷
+    (named (codes "(sH"), NoEffect) ∷ (named (codes ")sH"), NoEffect) ∷
+    (named (codes "(sV"), NoEffect) ∷ (named (codes ")sV"), NoEffect) ∷
+    (named (codes "(sS"), NoEffect) ∷ (named (codes ")sS"), NoEffect) ∷
+    (named (codes "(sB"), NoEffect) ∷ (named (codes ")sB"), NoEffect) ∷
+    (named (codes "(sT"), NoEffect) ∷ (named (codes ")sT"), NoEffect) ∷ []
+
+abbrev pub is_name : Name → Name → Bool
+is_name Empty Empty = true
+is_name (One a) (One b) = a == b
+is_name (Two a b) (Two c d) = a == c && b == d
+is_name (Three a b c) (Three d e f) = a == d && (b == e && c == f)
+is_name name other = false
+
+-- symbol sets and fonts by characteristics, ESC ( or ESC ) and any ending byte but X: they select nothing
+abbrev pub operation_by_rule : Name → Option Operation
+operation_by_rule (Two first last) = if (first == 40 || first == 41) && not (last == 88) then Some NoEffect else None
+operation_by_rule name = None
+
+-- the operation of a name in a table, or else by the rule
+abbrev pub operation_in : List (Name × Operation) → Name → Option Operation
+operation_in [] name = operation_by_rule name
+operation_in (row ∷ rows) name = if is_name name row.0 then Some row.1 else operation_in rows name
+
+unfoldable pub operation_of : Name → Option Operation
+operation_of name = operation_in operations name
+
+-- a command with data behind it
+abbrev pub takes_data : Operation → Bool
+takes_data RasterRow = true
+takes_data other = false

@@ -1,0 +1,196 @@
+//! The operations of the language, and the names that ask for them.
+
+ghost use Rattle.std.specs.Prelude.{◌≡◌};
+ghost use Rattle.pcl_base.specs.Operation.{operation_of, takes_data};
+
+use crate::Name;
+
+/// The direction of a move or of a size.
+#[derive(Clone, Copy, Debug, PartialEq, Eq)]
+pub enum Axis {
+    /// Along the line: to the right.
+    Horizontal,
+    /// Down the page.
+    Vertical,
+}
+
+/// What a move or a size is counted in.
+#[derive(Clone, Copy, Debug, PartialEq, Eq)]
+pub enum Unit {
+    /// PCL units, as the unit of measure sets them.
+    PclUnit,
+    /// Tenths of a point: 10 units of 1/7200 inch.
+    Decipoint,
+    /// Columns and rows: HMI along the line, VMI down the page.
+    Column,
+}
+
+/// One of the two fonts that a job selects.
+#[derive(Clone, Copy, Debug, PartialEq, Eq)]
+pub enum Side {
+    /// The primary font.
+    Primary,
+    /// The secondary font.
+    Secondary,
+}
+
+/// What a command does. docs/LANGUAGE.md, "Commands", says of each which values it takes.
+#[derive(Clone, Copy, Debug, PartialEq, Eq)]
+pub enum Operation {
+    /// Ejects a marked page and sets the defaults (PCL 5 manual, "Printer Reset").
+    Reset,
+    /// The same, at the end of a job in the printer's job language ("Universal Exit Language").
+    UniversalExit,
+    /// Sets the left margin to 0 ("Clear Horizontal Margins").
+    ClearMargins,
+    /// Moves the cursor down by half a line ("Half-Line Feed").
+    HalfLineFeed,
+    /// Moves the cursor to the next tab stop.
+    HorizontalTab,
+    /// Moves the cursor down by a line.
+    LineFeed,
+    /// Ejects the page.
+    FormFeed,
+    /// Moves the cursor to the left margin.
+    CarriageReturn,
+    /// Takes a font into use: SI the primary one, SO the secondary one.
+    Shift(Side),
+    /// Sets the page size.
+    PageSize,
+    /// Sets the copies of each page ("Number of Copies").
+    Copies,
+    /// Sets the line spacing in 1/48 inch ("Vertical Motion Index").
+    VerticalMotionIndex,
+    /// Sets the line spacing in lines per inch ("Line Spacing").
+    LineSpacing,
+    /// Sets the top margin in lines.
+    TopMargin,
+    /// Sets the text length in lines.
+    TextLength,
+    /// Sets whether a line feed skips the bottom margin ("Perforation Skip").
+    PerforationSkip,
+    /// Takes 0 alone and does nothing: orientation, offsets, print direction, transparency.
+    OnlyZero,
+    /// Ejects a marked page: paper source and duplex side.
+    EjectMarked,
+    /// Sets the PCL unit ("Unit of Measure").
+    UnitOfMeasure,
+    /// Sets the column width in 1/120 inch ("Horizontal Motion Index").
+    HorizontalMotionIndex,
+    /// Sets what CR, LF and FF do besides ("Line Termination").
+    LineTermination,
+    /// Sets the left margin in columns.
+    LeftMargin,
+    /// Moves the cursor.
+    Move(Axis, Unit),
+    /// Keeps the cursor on the stack, or takes it back ("Push/Pop Cursor Position").
+    CursorStack,
+    /// Sets the ID of the macro that is meant.
+    MacroId,
+    /// Sets a size of the rectangle.
+    RectangleSize(Axis, Unit),
+    /// Fills the rectangle at the cursor ("Fill Rectangular Area").
+    FillRectangle,
+    /// Sets the ID of the font that is meant.
+    FontId,
+    /// Sets the code of the character that is meant.
+    CharacterCode,
+    /// Sets the raster resolution.
+    RasterResolution,
+    /// Sets the raster width ("Source Raster Width").
+    RasterWidth,
+    /// Sets the raster height ("Source Raster Height").
+    RasterHeight,
+    /// Takes 0 and 3 and does nothing: the two mean the same in portrait ("Raster Presentation Mode").
+    RasterPresentation,
+    /// Starts a raster.
+    StartRaster,
+    /// Ends a raster.
+    EndRaster,
+    /// Ends a raster and sets method 0.
+    EndRasterResetMethod,
+    /// Sets the method of row data ("Set Compression Method").
+    RasterMethod,
+    /// Skips raster rows ("Raster Y Offset").
+    RasterOffset,
+    /// Sends a raster row, with its data ("Transfer Raster Data by Row").
+    RasterRow,
+    /// Does nothing, whatever its value.
+    NoEffect,
+}
+
+impl Operation {
+    /// The operation of a name, if a command of that name is performed.
+    // Inlined, so that what is known of a name where it is looked up isn't tested again.
+    #[inline(always)]
+    #[tactic(auto, unfolding(crate::specs::Operation::operation_of))]
+    pub fn with_name(name: Name) -> Option<Operation>
+        ensures { result ≡ operation_of name }
+    {
+        Some(match name {
+            Name::One(b'E') => Operation::Reset,
+            Name::One(b'9') => Operation::ClearMargins,
+            Name::One(b'=') => Operation::HalfLineFeed,
+            Name::One(b'\x09') => Operation::HorizontalTab,
+            Name::One(b'\x0a') => Operation::LineFeed,
+            Name::One(b'\x0c') => Operation::FormFeed,
+            Name::One(b'\x0d') => Operation::CarriageReturn,
+            Name::One(b'\x0e') => Operation::Shift(Side::Secondary),
+            Name::One(b'\x0f') => Operation::Shift(Side::Primary),
+            Name::Two(b'%', b'X') => Operation::UniversalExit,
+            Name::Two(b'%', b'A') => Operation::NoEffect,
+            Name::Two(b'(' | b')', last) if last != b'X' => Operation::NoEffect,
+            Name::Three(b'&', b'l', b'A') => Operation::PageSize,
+            Name::Three(b'&', b'l', b'X') => Operation::Copies,
+            Name::Three(b'&', b'l', b'C') => Operation::VerticalMotionIndex,
+            Name::Three(b'&', b'l', b'D') => Operation::LineSpacing,
+            Name::Three(b'&', b'l', b'E') => Operation::TopMargin,
+            Name::Three(b'&', b'l', b'F') => Operation::TextLength,
+            Name::Three(b'&', b'l', b'L') => Operation::PerforationSkip,
+            Name::Three(b'&', b'l', b'O') => Operation::OnlyZero,
+            Name::Three(b'&', b'l', b'U') => Operation::OnlyZero,
+            Name::Three(b'&', b'l', b'Z') => Operation::OnlyZero,
+            Name::Three(b'&', b'l', b'H') => Operation::EjectMarked,
+            Name::Three(b'&', b'l', b'S') => Operation::NoEffect,
+            Name::Three(b'&', b'l', b'G') => Operation::NoEffect,
+            Name::Three(b'&', b'l', b'M') => Operation::NoEffect,
+            Name::Three(b'&', b'l', b'P') => Operation::NoEffect,
+            Name::Three(b'&', b'a', b'P') => Operation::OnlyZero,
+            Name::Three(b'&', b'a', b'G') => Operation::EjectMarked,
+            Name::Three(b'&', b'a', b'L') => Operation::LeftMargin,
+            Name::Three(b'&', b'a', b'H') => Operation::Move(Axis::Horizontal, Unit::Decipoint),
+            Name::Three(b'&', b'a', b'V') => Operation::Move(Axis::Vertical, Unit::Decipoint),
+            Name::Three(b'&', b'a', b'C') => Operation::Move(Axis::Horizontal, Unit::Column),
+            Name::Three(b'&', b'a', b'R') => Operation::Move(Axis::Vertical, Unit::Column),
+            Name::Three(b'&', b'a', b'M') => Operation::NoEffect,
+            Name::Three(b'&', b'u', b'D') => Operation::UnitOfMeasure,
+            Name::Three(b'&', b'k', b'H') => Operation::HorizontalMotionIndex,
+            Name::Three(b'&', b'k', b'G') => Operation::LineTermination,
+            Name::Three(b'&', b'f', b'S') => Operation::CursorStack,
+            Name::Three(b'&', b's', b'C') => Operation::NoEffect,
+            Name::Three(b'&', b'd', b'@') => Operation::NoEffect,
+            Name::Three(b'*', b'p', b'X') => Operation::Move(Axis::Horizontal, Unit::PclUnit),
+            Name::Three(b'*', b'p', b'Y') => Operation::Move(Axis::Vertical, Unit::PclUnit),
+            Name::Three(b'*', b't', b'R') => Operation::RasterResolution,
+            Name::Three(b'*', b'r', b'S') => Operation::RasterWidth,
+            Name::Three(b'*', b'r', b'A') => Operation::StartRaster,
+            Name::Three(b'*', b'r', b'B') => Operation::EndRaster,
+            Name::Three(b'*', b'r', b'C') => Operation::EndRasterResetMethod,
+            Name::Three(b'*', b'b', b'M') => Operation::RasterMethod,
+            Name::Three(b'*', b'b', b'Y') => Operation::RasterOffset,
+            Name::Three(b'*', b'b', b'W') => Operation::RasterRow,
+            Name::Three(b'*', b'v', b'O') => Operation::NoEffect,
+            Name::Three(b'*', b'c', b'G') => Operation::NoEffect,
+            Name::Three(b'(' | b')', b's', b'P' | b'H' | b'V' | b'S' | b'B' | b'T') =>
+                Operation::NoEffect,
+            _ => return None,
+        })
+    }
+
+    /// Whether as many bytes of data follow the command as its value says.
+    pub fn takes_data(self) -> bool
+        ensures { result ≡ takes_data self }
+    {
+        matches!(self, Operation::RasterRow)
+    }
+}

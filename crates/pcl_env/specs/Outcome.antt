@@ -1,0 +1,205 @@
+-- What each command does to the settings and to the page, and which values it takes.
+use Rattle.std.specs.Prelude.{◌≡◌, ℕ, ◌+◌, ◌-◌, ◌*◌, ◌/◌, ◌==◌, ◌&&◌, ◌||◌, nat_lt, nat_le, Bool, true, false, min, max, if◌then◌else◌, length, List, [], ◌∷◌, Option, Some, None, Result, Ok, IsErr}
+use Rattle.std.specs.List.{list_any}
+use Rattle.pcl_base.specs.declared.dpi.Dpi.{Dpi}
+use Rattle.pcl_base.specs.declared.dpi.Dpi.TheVariants.{Dpi300, Dpi600}
+use Rattle.pcl_base.specs.declared.method.Method.{Method}
+use Rattle.pcl_base.specs.declared.method.Method.TheVariants.{Plain}
+use Rattle.pcl_base.specs.declared.operation.Axis.{Axis}
+use Rattle.pcl_base.specs.declared.operation.Axis.TheVariants.{Horizontal, Vertical}
+use Rattle.pcl_base.specs.declared.operation.Unit.{Unit as Measure}
+use Rattle.pcl_base.specs.declared.operation.Unit.TheVariants.{PclUnit, Decipoint, Column}
+use Rattle.pcl_base.specs.declared.operation.Operation.{Operation}
+use Rattle.pcl_base.specs.declared.operation.Operation.TheVariants.{Reset, UniversalExit, ClearMargins, HalfLineFeed, HorizontalTab, LineFeed, FormFeed, CarriageReturn, Shift, PageSize, Copies, VerticalMotionIndex, LineSpacing, TopMargin, TextLength, PerforationSkip, OnlyZero, EjectMarked, UnitOfMeasure, HorizontalMotionIndex, LineTermination, LeftMargin, Move, CursorStack, MacroId, RectangleSize, FillRectangle, FontId, CharacterCode, RasterResolution, RasterWidth, RasterHeight, RasterPresentation, StartRaster, EndRaster, EndRasterResetMethod, RasterMethod, RasterOffset, RasterRow, NoEffect}
+use Rattle.pcl_base.specs.declared.size.Size.{Size}
+use Rattle.pcl_base.specs.declared.value.Sign.{Sign}
+use Rattle.pcl_base.specs.declared.value.Sign.TheVariants.{Absent, Plus, Minus}
+use Rattle.pcl_base.specs.declared.value.Value.{Value}
+use Rattle.pcl_base.specs.Method.{method_with_code}
+use Rattle.pcl_base.specs.Size.{size_with_code, units_wide, units_high}
+use Rattle.pcl_base.specs.Value.{whole_of, is_minus, is_below_zero, scaled_by}
+use Rattle.pcl_env.specs.declared.effect.Effect.{Effect}
+use Rattle.pcl_env.specs.declared.effect.Effect.TheVariants as page
+use Rattle.pcl_env.specs.declared.effect.Unsupported.{Unsupported}
+use Rattle.pcl_env.specs.Settings.{Position, Settings, put_x, put_y, put, to_first_line, defaults, with_size}
+
+-- the settings after a command and what becomes of the page; none where the value isn't taken
+abbrev pub Outcome : Type 0
+Outcome = Option (Settings × Effect)
+
+abbrev pub stays : Settings → Outcome
+stays s = Some (s, page.Stay)
+
+-- the same, where the test holds
+abbrev pub stays_if : Bool → Settings → Outcome
+stays_if test s = if test then stays s else None
+
+-- of the whole part, which isn't below 0
+abbrev pub counted : Value → (ℕ → Outcome) → Outcome
+counted v f = if is_below_zero v then None else f (whole_of v)
+
+abbrev pub is_one_of : List ℕ → ℕ → Bool
+is_one_of numbers n = list_any (λ m. m == n) numbers
+
+-- ---- lines and columns
+
+-- CR goes to the left margin
+abbrev pub return_carriage : Settings → Settings
+return_carriage s = put_x s.left s
+
+-- LF and FF do CR first where the line termination says so
+abbrev pub before_feed : Settings → Settings
+before_feed s = if s.feed_returns then return_carriage s else s
+
+-- how far down a line feed may go
+abbrev pub feed_limit : Settings → ℕ
+feed_limit s = if s.skips then min s.bottom (units_high s.size) else units_high s.size
+
+-- down by so much; past the limit the page is ejected instead
+abbrev pub feed : ℕ → Settings → Outcome
+feed by s = if nat_lt (feed_limit s) (s.cursor.y + by) then Some (s, page.Eject) else stays (put_y (s.cursor.y + by) s)
+
+-- the next place that is a multiple of eight columns from the left margin; from left of the margin it is the margin
+abbrev pub tab_stop : Settings → ℕ
+tab_stop s =
+    let tab = 8 * s.hmi in
+    if nat_lt s.cursor.x s.left then s.left
+    else (if s.hmi == 0 then s.cursor.x else s.left + ((s.cursor.x - s.left) / tab + 1) * tab)
+
+-- ---- margins
+
+-- a margin past the page's end isn't taken; on an unmarked page the cursor goes to the first line
+abbrev pub set_top : ℕ → Bool → Settings → Settings
+set_top top is_marked s =
+    let set = record s { top = top; bottom = units_high s.size - 3600 } in
+    if nat_lt (units_high s.size) top then s else (if is_marked then set else to_first_line set)
+
+abbrev pub set_bottom : ℕ → Settings → Settings
+set_bottom bottom s = if nat_lt (units_high s.size) bottom then s else record s { bottom = bottom }
+
+-- a margin from the page's right edge on isn't taken; a cursor left of it goes to it
+abbrev pub set_left : ℕ → Settings → Settings
+set_left left s =
+    if nat_lt left (units_wide s.size) then put_x (max s.cursor.x left) (record s { left = left }) else s
+
+-- ---- moves
+
+-- the length of one of the unit
+abbrev pub unit_of : Axis → Measure → Settings → ℕ
+unit_of axis PclUnit s = s.pcl_unit
+unit_of axis Decipoint s = 10
+unit_of Horizontal Column s = s.hmi
+unit_of Vertical Column s = s.vmi
+
+-- from where a move without a sign counts: the left edge, the top margin, or for rows the first line
+abbrev pub origin_of : Axis → Measure → Settings → ℕ
+origin_of Horizontal unit s = 0
+origin_of Vertical PclUnit s = s.top
+origin_of Vertical Decipoint s = s.top
+origin_of Vertical Column s = s.top + 3 * s.vmi / 4
+
+-- with a sign a move counts from the cursor
+abbrev pub moved : Sign → ℕ → ℕ → ℕ → ℕ
+moved Absent origin cursor amount = origin + amount
+moved Plus origin cursor amount = cursor + amount
+moved Minus origin cursor amount = cursor - amount
+
+abbrev pub move_along : Axis → Measure → Value → Settings → Settings
+move_along Horizontal unit v s = put_x (moved v.sign (origin_of Horizontal unit s) s.cursor.x (scaled_by (unit_of Horizontal unit s) v)) s
+move_along Vertical unit v s = put_y (moved v.sign (origin_of Vertical unit s) s.cursor.y (scaled_by (unit_of Vertical unit s) v)) s
+
+-- ---- the cursor stack
+
+-- a full stack stays as it is
+abbrev pub push : Settings → Settings
+push s = if nat_lt (length s.stack) 20 then record s { stack = s.cursor ∷ s.stack } else s
+
+-- the newest position comes back, if there is one
+abbrev pub popped : List Position → Settings → Settings
+popped [] s = s
+popped (place ∷ older) s = put place (record s { stack = older })
+
+abbrev pub pop : Settings → Settings
+pop s = popped s.stack s
+
+-- ---- sizes and rasters
+
+abbrev pub set_size : Option Size → Settings → Outcome
+set_size None s = None
+set_size (Some size) s = Some (with_size size s, page.EjectMarked)
+
+abbrev pub set_rectangle : Axis → ℕ → Settings → Settings
+set_rectangle Horizontal length s = record s { rectangle_width = length }
+set_rectangle Vertical length s = record s { rectangle_height = length }
+
+abbrev pub resolutions : Dpi → List ℕ
+resolutions Dpi300 = 75 ∷ 100 ∷ 150 ∷ 300 ∷ []
+resolutions Dpi600 = 75 ∷ 100 ∷ 150 ∷ 200 ∷ 300 ∷ 600 ∷ []
+
+-- 0 sets none
+abbrev pub none_if_zero : ℕ → Option ℕ
+none_if_zero n = if n == 0 then None else Some n
+
+abbrev pub set_method : Option Method → Settings → Outcome
+set_method None s = None
+set_method (Some method) s = stays (record s { method = method })
+
+-- ---- each command
+
+-- lines per inch that VMI can be set to, and PCL units per inch
+abbrev pub line_spacings : List ℕ
+line_spacings = 1 ∷ 2 ∷ 3 ∷ 4 ∷ 6 ∷ 8 ∷ 12 ∷ 16 ∷ 24 ∷ 48 ∷ []
+
+abbrev pub units_of_measure : List ℕ
+units_of_measure =
+    96 ∷ 100 ∷ 120 ∷ 144 ∷ 150 ∷ 160 ∷ 180 ∷ 200 ∷ 225 ∷ 240 ∷ 288 ∷ 300 ∷ 360 ∷ 400 ∷ 450 ∷ 480 ∷ 600 ∷ 720 ∷ 800 ∷ 900 ∷ 1200 ∷ 1440 ∷ 1800 ∷ 2400 ∷ 3600 ∷ 7200 ∷ []
+
+-- a command with this value, on a page that is marked or not
+unfoldable pub outcome : Dpi → Operation → Value → Bool → Settings → Outcome
+outcome dpi Reset v m s = Some (defaults, page.EjectMarked)
+outcome dpi UniversalExit v m s = if is_minus v.sign && whole_of v == 12345 then Some (defaults, page.EjectMarked) else None
+outcome dpi ClearMargins v m s = stays (record s { left = 0 })
+outcome dpi HalfLineFeed v m s = feed (s.vmi / 2) s
+outcome dpi HorizontalTab v m s = stays (put_x (tab_stop s) s)
+outcome dpi LineFeed v m s = feed s.vmi (before_feed s)
+outcome dpi FormFeed v m s = Some (before_feed s, page.Eject)
+outcome dpi CarriageReturn v m s = if s.return_feeds then feed s.vmi (return_carriage s) else stays (return_carriage s)
+outcome dpi (Shift side) v m s = stays (record s { in_use = side })
+outcome dpi PageSize v m s = counted v (λ n. set_size (size_with_code n) s)
+outcome dpi Copies v m s = counted v (λ n. stays_if (nat_le 1 n && nat_le n 99) (record s { copies = n }))
+outcome dpi VerticalMotionIndex v m s = counted v (λ n. stays (record s { vmi = scaled_by 150 v }))
+outcome dpi LineSpacing v m s = counted v (λ n. stays_if (is_one_of line_spacings n) (record s { vmi = 7200 / n }))
+outcome dpi TopMargin v m s = counted v (λ n. stays (set_top (n * s.vmi) m s))
+outcome dpi TextLength v m s = counted v (λ n. stays_if (nat_le 1 n) (set_bottom (s.top + n * s.vmi) s))
+outcome dpi PerforationSkip v m s = counted v (λ n. stays_if (nat_le n 1) (record s { skips = n == 1 }))
+outcome dpi OnlyZero v m s = stays_if (whole_of v == 0) s
+outcome dpi EjectMarked v m s = Some (s, page.EjectMarked)
+outcome dpi UnitOfMeasure v m s = counted v (λ n. stays_if (is_one_of units_of_measure n) (record s { pcl_unit = 7200 / n }))
+outcome dpi HorizontalMotionIndex v m s = counted v (λ n. stays (record s { hmi = scaled_by 60 v }))
+outcome dpi LineTermination v m s = counted v (λ n. stays_if (nat_le n 3) (record s { return_feeds = n == 1 || n == 3; feed_returns = n == 2 || n == 3 }))
+outcome dpi LeftMargin v m s = counted v (λ n. stays (set_left (n * s.hmi) s))
+outcome dpi (Move axis unit) v m s = stays (move_along axis unit v s)
+outcome dpi CursorStack v m s = counted v (λ n. if n == 0 then stays (push s) else stays_if (n == 1) (pop s))
+outcome dpi MacroId v m s = counted v (λ n. stays_if (nat_le n 32767) (record s { macro_id = n }))
+outcome dpi (RectangleSize axis unit) v m s = counted v (λ n. stays (set_rectangle axis (scaled_by (unit_of axis unit s) v) s))
+outcome dpi FillRectangle v m s = counted v (λ n. stays_if (is_one_of (0 ∷ 1 ∷ 5 ∷ []) n) s)
+outcome dpi FontId v m s = counted v (λ n. stays_if (nat_le n 32767) (record s { font_id = n }))
+outcome dpi CharacterCode v m s = counted v (λ n. stays_if (nat_le n 255) (record s { character_code = n }))
+outcome dpi RasterResolution v m s = counted v (λ n. stays_if (is_one_of (resolutions dpi) n) (record s { resolution = n }))
+outcome dpi RasterWidth v m s = counted v (λ n. stays (record s { raster_width = none_if_zero n }))
+outcome dpi RasterHeight v m s = counted v (λ n. stays (record s { raster_height = none_if_zero n }))
+outcome dpi RasterPresentation v m s = counted v (λ n. stays_if (n == 0 || n == 3) s)
+outcome dpi StartRaster v m s = counted v (λ n. stays_if (nat_le n 1) s)
+outcome dpi EndRaster v m s = stays s
+outcome dpi EndRasterResetMethod v m s = stays (record s { method = Plain })
+outcome dpi RasterMethod v m s = counted v (λ n. set_method (method_with_code n) s)
+outcome dpi RasterOffset v m s = counted v (λ n. stays s)
+outcome dpi RasterRow v m s = counted v (λ n. stays s)
+outcome dpi NoEffect v m s = stays s
+
+-- ---- what a call answers
+
+-- the settings and the effect of the outcome; where the value isn't taken, the settings stay
+abbrev pub Answers : Outcome → Result Effect Unsupported → Settings → Settings → Type 0
+Answers None answer old new = IsErr answer × (new ≡ old)
+Answers (Some done) answer old new = (answer ≡ Ok done.1) × (new ≡ done.0)

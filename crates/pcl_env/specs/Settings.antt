@@ -1,0 +1,119 @@
+-- What a job has set, and its cursor. Lengths and positions are in units of 1/7200 inch, those of rasters in raster dots.
+use Rattle.std.specs.Prelude.{ℕ, suc, ◌+◌, ◌-◌, ◌*◌, ◌/◌, Bool, true, false, min, List, [], ◌∷◌, Option, Some, None, ℤ, pos, negsuc}
+use Rattle.pcl_base.specs.declared.method.Method.{Method}
+use Rattle.pcl_base.specs.declared.method.Method.TheVariants.{Plain}
+use Rattle.pcl_base.specs.declared.operation.Side.{Side}
+use Rattle.pcl_base.specs.declared.operation.Side.TheVariants.{Primary, Secondary}
+use Rattle.pcl_base.specs.declared.size.Size.{Size}
+use Rattle.pcl_base.specs.declared.size.Size.TheVariants.{Letter}
+use Rattle.pcl_base.specs.Size.{units_wide, units_high}
+
+-- a place on the page, from its upper left corner
+pub record Position : Type 0 where
+  pub x : ℕ
+  pub y : ℕ
+
+pub record Settings : Type 0 where
+  pub size : Size
+  pub copies : ℕ
+  -- the PCL unit, the column width (HMI) and the line spacing (VMI)
+  pub pcl_unit : ℕ
+  pub hmi : ℕ
+  pub vmi : ℕ
+  -- the margins, as places on the page
+  pub top : ℕ
+  pub bottom : ℕ
+  pub left : ℕ
+  -- a line feed skips the bottom margin; CR does LF too; LF and FF do CR first
+  pub skips : Bool
+  pub return_feeds : Bool
+  pub feed_returns : Bool
+  -- the cursor, and the positions on its stack, the newest first
+  pub cursor : Position
+  pub stack : List Position
+  -- the macro, the font and the character that are meant, the fonts that are selected, and which of the two is in use
+  pub macro_id : ℕ
+  pub font_id : ℕ
+  pub character_code : ℕ
+  pub primary : Option ℕ
+  pub secondary : Option ℕ
+  pub in_use : Side
+  -- the sizes of a rectangle
+  pub rectangle_width : ℕ
+  pub rectangle_height : ℕ
+  -- rasters: dots per inch, the width and the height where they are set, and how row data are sent
+  pub resolution : ℕ
+  pub raster_width : Option ℕ
+  pub raster_height : Option ℕ
+  pub method : Method
+
+-- ---- moves
+
+-- the cursor is held within the page
+abbrev pub put_x : ℕ → Settings → Settings
+put_x x s = record s { cursor = record { x = min x (units_wide s.size); y = s.cursor.y } }
+
+abbrev pub put_y : ℕ → Settings → Settings
+put_y y s = record s { cursor = record { x = s.cursor.x; y = min y (units_high s.size) } }
+
+abbrev pub put : Position → Settings → Settings
+put place s = put_y place.y (put_x place.x s)
+
+-- the first line stands three quarters of a line below the top margin
+abbrev pub first_line : Settings → ℕ
+first_line s = s.top + 3 * s.vmi / 4
+
+abbrev pub to_first_line : Settings → Settings
+to_first_line s = put_y (first_line s) s
+
+-- to the right or to the left
+abbrev pub advance : ℤ → Settings → Settings
+advance (pos n) s = put_x (s.cursor.x + n) s
+advance (negsuc n) s = put_x (s.cursor.x - suc n) s
+
+-- ---- what a reset leaves
+
+abbrev pub defaults : Settings
+defaults = record {
+  size = Letter;
+  copies = 1;
+  pcl_unit = 24;
+  hmi = 720;
+  vmi = 1200;
+  top = 3600;
+  bottom = units_high Letter - 3600;
+  left = 0;
+  skips = true;
+  return_feeds = false;
+  feed_returns = false;
+  cursor = record { x = 0; y = 4500 };
+  stack = [];
+  macro_id = 0;
+  font_id = 0;
+  character_code = 0;
+  primary = None;
+  secondary = None;
+  in_use = Primary;
+  rectangle_width = 0;
+  rectangle_height = 0;
+  resolution = 75;
+  raster_width = None;
+  raster_height = None;
+  method = Plain;
+}
+
+-- a page size sets the margins, and moves the cursor to the left end of the first line
+abbrev pub with_size : Size → Settings → Settings
+with_size size s =
+    to_first_line (record s { size = size; top = 3600; bottom = units_high size - 3600; left = 0; cursor = record { x = 0; y = 0 } })
+
+-- ---- fonts and calls
+
+-- a font of this ID and pitch, in quarter dots at 300 per inch, is selected
+abbrev pub select : Side → ℕ → ℕ → Settings → Settings
+select Primary id pitch s = record s { primary = Some id; hmi = pitch * 6 }
+select Secondary id pitch s = record s { secondary = Some id; hmi = pitch * 6 }
+
+-- a call's return puts everything back but the page size, the cursor and its stack
+abbrev pub restored : Settings → Settings → Settings
+restored saved s = record saved { size = s.size; cursor = s.cursor; stack = s.stack }
