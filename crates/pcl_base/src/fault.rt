@@ -2,6 +2,7 @@
 
 ghost use Rattle.std.specs.Prelude.{◌≡◌};
 ghost use Rattle.pcl_base.specs.declared.fault.JobFault.TheVariants.{Memory};
+ghost use Rattle.pcl_base.specs.declared.fault.CallFault.TheVariants as call;
 
 use crate::{Kind, Refusal};
 use std::alloc::{AllocError, AllocFailed};
@@ -43,4 +44,12 @@ pub enum CallFault {
     /// Memory ran out.
     #[error("out of memory")]
     Memory,
+}
+
+impl From<AllocError> for CallFault {
+    ghost from_gives = { λ _ e. e ≡ call.Memory };
+
+    fn from(_e: AllocError) -> CallFault {
+        CallFault::Memory
+    }
 }

@@ -45,7 +45,7 @@ and_true true = refl
 and_true false = refl
 
 -- `& 0xFF` keeps the bits of the last byte
-bit_of_byte-low : (n k : ℕ) → k < 8 → bit_of_byte (bit_and n 255) k ≡ bit_of_byte n k
+pub bit_of_byte-low : (n k : ℕ) → k < 8 → bit_of_byte (bit_and n 255) k ≡ bit_of_byte n k
 bit_of_byte-low n k h =
     bit_of_byte-and n 255 k ∙ ap (λ b. bit_of_byte n k && b) (bit_of_byte-all k h) ∙ and_true (bit_of_byte n k)
 

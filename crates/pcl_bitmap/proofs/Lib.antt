@@ -2,3 +2,5 @@ pub mod Bytes
 pub mod Runs
 pub mod Pages
 pub mod Pictures
+pub mod Inked
+pub mod Spread

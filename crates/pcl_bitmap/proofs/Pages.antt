@@ -1,17 +1,14 @@
 -- Rows within the bytes of a page: r bytes a row.
-use Rattle.std.proofs.Common.{◌≡◌, ℕ, ◌+◌, ◌-◌, ◌*◌, ◌/◌, ◌%◌, ◌<◌, ◌≤◌, min, nat_le, nat_lt, nat_eq, false, ◌&&◌, List, length, get_or, take, drop, replicate, All, refl, sym, ap, ◌∙◌, inl, inr, lit<, arith, length-take}
+use Rattle.std.proofs.Common.{◌≡◌, ℕ, ◌+◌, ◌-◌, ◌*◌, ◌/◌, ◌%◌, ◌<◌, ◌≤◌, nat_eq, false, List, length, get_or, take, drop, replicate, All, refl, sym, ap, ◌∙◌, inl, inr, lit<, arith, length-take}
 use Rattle.std.specs.Int.{bit_at}
-use Rattle.std.proofs.Math.Nat.{div-one}
-use Rattle.std.proofs.lemmas.Bool.{cases_lt, cases_order, le-leb, lt-leb, eq-eqb, ne_eqb, and_left, and_right}
+use Rattle.std.proofs.lemmas.Bool.{cases_lt}
 use Rattle.std.proofs.lemmas.Bool.Decides.{nat_tests}
 use Rattle.std.proofs.lemmas.List.{get_or-take, get_or-drop, length-replicate, get_or-replicate, get_or_past, ext_get_or}
 use Rattle.std.proofs.lemmas.List.Elements.{All-get_or, All-from_get_or}
 use Rattle.std.proofs.lemmas.Nat.{row_fits, div_below, div-add-mod', mod_below}
 use Rattle.std.proofs.lemmas.Nat.Bits.{bit_at-lt, same_from_bits_below}
 use Rattle.pcl_bitmap.specs.Bitmap.{bit_of_byte, dot_of_row}
-use Rattle.pcl_bitmap.specs.Dots.{raster_dot, run_dot}
 use Rattle.pcl_bitmap.proofs.Bytes.{bit_of_byte-zero, dot_at}
-use Rattle.pcl_bitmap.proofs.Runs.{run_dot-before, run_dot-past, same_test}
 
 -- a dot of a row is a bit of the page's bytes
 pub dot_in_page : (bs : List ℕ) (r x y : ℕ) → x < 8 * r → dot_of_row (take r (drop (y * r) bs)) x ≡ dot_of_row bs (8 * (y * r) + x)
@@ -45,81 +42,8 @@ dot_of_zeros n r x y =
     let zero = zero_after_take r (drop (y * r) (replicate n 0)) (λ i. get_or-drop (y * r) (replicate n 0) i 0 ∙ zero_in_replicate n (y * r + i)) (x / 8) in
     ap (λ m. bit_of_byte m (x % 8)) zero ∙ bit_of_byte-zero (x % 8)
 
-rows_apart : (a b r : ℕ) → a < b → a * r + r ≤ b * r
+pub rows_apart : (a b r : ℕ) → a < b → a * r + r ≤ b * r
 rows_apart a b r h = row_fits a r b r h (omega arith)
-
-run_dot-at :
-    (from end : ℕ) (row : List ℕ) (k m width : ℕ)
-    → from ≤ k → k - from ≡ m → nat_lt k end ≡ nat_lt m width → run_dot from end row k ≡ (nat_lt m width && dot_of_row row m)
-run_dot-at from end row k m width h place stop =
-    ap (λ t. t && nat_lt k end && dot_of_row row (k - from)) (le-leb from k h)
-    ∙ ap (λ t. t && dot_of_row row (k - from)) stop
-    ∙ ap (λ n. nat_lt m width && dot_of_row row n) place
-
-raster_dot-at :
-    (x0 y0 scale width : ℕ) (row : List ℕ) (x y m : ℕ)
-    → x0 ≤ x → y0 ≤ y → (y - y0) / scale ≡ 0 → (x - x0) / scale ≡ m
-    → raster_dot x0 y0 scale width row x y ≡ (nat_lt m width && dot_of_row row m)
-raster_dot-at x0 y0 scale width row x y m right below down across =
-    ap (λ t. t && nat_le y0 y && nat_eq ((y - y0) / scale) 0 && nat_lt ((x - x0) / scale) width && dot_of_row row ((x - x0) / scale)) (le-leb x0 x right)
-    ∙ ap (λ t. t && nat_eq ((y - y0) / scale) 0 && nat_lt ((x - x0) / scale) width && dot_of_row row ((x - x0) / scale)) (le-leb y0 y below)
-    ∙ ap (λ t. t && nat_lt ((x - x0) / scale) width && dot_of_row row ((x - x0) / scale)) (eq-eqb ((y - y0) / scale) 0 down)
-    ∙ ap (λ n. nat_lt n width && dot_of_row row n) across
-
--- what is left of, above or below a row of raster data is not in it
-raster_dot-left : (x0 y0 scale width : ℕ) (row : List ℕ) (x y : ℕ) → x < x0 → raster_dot x0 y0 scale width row x y ≡ false
-raster_dot-left x0 y0 scale width row x y h = rw (lt-leb x0 x h)
-
-raster_dot-above : (x0 y0 scale width : ℕ) (row : List ℕ) (x y : ℕ) → y < y0 → raster_dot x0 y0 scale width row x y ≡ false
-raster_dot-above x0 y0 scale width row x y h =
-    and_left _ _ (and_left _ _ (and_left _ _ (and_right (nat_le x0 x) (nat_le y0 y) (lt-leb y0 y h))))
-
-raster_dot-below : (x0 y0 scale width : ℕ) (row : List ℕ) (x y : ℕ) → ((y - y0) / scale ≡ 0 → ⊥) → raster_dot x0 y0 scale width row x y ≡ false
-raster_dot-below x0 y0 scale width row x y h =
-    and_left _ _ (and_left _ _ (and_right (nat_le x0 x && nat_le y0 y) (nat_eq ((y - y0) / scale) 0) (ne_eqb ((y - y0) / scale) 0 h)))
-
--- the run that a row of raster data becomes: `width` bits at (x0, y0), cut at the page's right edge
-pub run_on_page :
-    (row : List ℕ) (r w x0 y0 scale width x y : ℕ)
-    → scale ≡ 1 → w ≤ 8 * r → x0 < w → x < w
-    → run_dot (8 * (y0 * r) + x0) (8 * (y0 * r) + x0 + min width (w - x0)) row (8 * (y * r) + x) ≡ raster_dot x0 y0 scale width row x y
-run_on_page row r w x0 y0 scale width x y one wide start within =
-    let from : ℕ = 8 * (y0 * r) + x0 in
-    let end : ℕ = from + min width (w - x0) in
-    let k : ℕ = 8 * (y * r) + x in
-    let across : (x - x0) / scale ≡ x - x0 = ap (λ n. (x - x0) / n) one ∙ div-one (x - x0) in
-    let down : (y - y0) / scale ≡ y - y0 = ap (λ n. (y - y0) / n) one ∙ div-one (y - y0) in
-    elim (cases_order y y0) [
-      | inr (inl above) ↦
-          run_dot-before from end row k (omega (arith, rows_apart y y0 r above))
-          ∙ sym (raster_dot-above x0 y0 scale width row x y above)
-      | inr (inr below) ↦
-          run_dot-past from end row k (omega (arith, rows_apart y0 y r below))
-          ∙ sym (raster_dot-below x0 y0 scale width row x y (λ none. omega (arith, down, none)))
-      | inl level ↦ elim (cases_lt x x0) [
-        | inl left ↦
-            run_dot-before from end row k (omega (arith, ap (λ n. n * r) level))
-            ∙ sym (raster_dot-left x0 y0 scale width row x y left)
-        | inr right ↦
-            run_dot-at from end row k (x - x0) width (omega (arith, ap (λ n. n * r) level)) (omega (arith, ap (λ n. n * r) level))
-            (same_test k end (x - x0) width (λ p. omega (arith, ap (λ n. n * r) level)) (λ p. omega (arith, ap (λ n. n * r) level)))
-            ∙ sym (raster_dot-at x0 y0 scale width row x y (x - x0) right (omega arith) (down ∙ (omega arith)) across)
-      ]
-    ]
-
--- it reaches no pad
-pub run_off_page :
-    (row : List ℕ) (r w x0 y0 width x y : ℕ)
-    → w ≤ 8 * r → x0 < w → w ≤ x → x < 8 * r
-    → run_dot (8 * (y0 * r) + x0) (8 * (y0 * r) + x0 + min width (w - x0)) row (8 * (y * r) + x) ≡ false
-run_off_page row r w x0 y0 width x y wide start off within =
-    elim (cases_lt y y0) [
-      | inl above ↦ run_dot-before _ _ row (8 * (y * r) + x) (omega (arith, rows_apart y y0 r above))
-      | inr rest ↦ elim (cases_lt y0 y) [
-        | inl below ↦ run_dot-past _ _ row (8 * (y * r) + x) (omega (arith, rows_apart y0 y r below))
-        | inr not_below ↦ run_dot-past _ _ row (8 * (y * r) + x) (let same : y ≡ y0 = omega arith in omega (arith, ap (λ n. n * r) same))
-      ]
-    ]
 
 same_small : (u v : ℕ) → u < 2 → v < 2 → nat_eq u 1 ≡ nat_eq v 1 → u ≡ v
 same_small u v p q h = grind (arith, nat_tests)

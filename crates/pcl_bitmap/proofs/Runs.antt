@@ -108,7 +108,7 @@ whole_bits row at i within k small =
     (sym (dot_at row (8 * i + k) i k small refl))
 
 -- the first bytes of a row have its first bits, and the bytes after them the others
-take_dots : (w : ℕ) (row : List ℕ) (x : ℕ) → x < 8 * w → dot_of_row (take w row) x ≡ dot_of_row row x
+pub take_dots : (w : ℕ) (row : List ℕ) (x : ℕ) → x < 8 * w → dot_of_row (take w row) x ≡ dot_of_row row x
 take_dots w row x h = ap (λ n. bit_of_byte n (x % 8)) (get_or-take w row (x / 8) 0 (omega arith))
 
 drop_dots : (w : ℕ) (row : List ℕ) (x y : ℕ) → y ≡ 8 * w + x → dot_of_row (drop w row) x ≡ dot_of_row row y

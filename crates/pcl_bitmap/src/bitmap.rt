@@ -1,11 +1,12 @@
 //! The bitmap of a page.
 
-ghost use Rattle.std.specs.Prelude.{◌≡◌, ℕ, ◌*◌, ◌<◌, ◌≤◌, ◌↔◌, ◌||◌, false, length, All, IsTrue, IfOk};
+ghost use Rattle.std.specs.Prelude.{◌≡◌, ℕ, ◌*◌, ◌<◌, ◌≤◌, ◌↔◌, ◌||◌, false, length, All, IsTrue, IfOk, if◌then◌else◌};
 ghost use Rattle.pcl_base.specs.Size.{page_width, page_height, page_row_bytes};
 ghost use Rattle.pcl_bitmap.specs.Bitmap.{IsPicture, row_of, dot_of_row, dot, blank_picture};
-ghost use Rattle.pcl_bitmap.specs.Dots.{raster_dot};
+ghost use Rattle.pcl_bitmap.specs.Dots.{is_black_ink, raster_dot, rectangle_dot};
 
-use crate::bits;
+use crate::area::Area;
+use crate::{Ink, bits, fills, squares};
 use pcl_base::{Dpi, Size};
 use std::alloc::{AllocError, Global};
 use std::marker::Model;
@@ -104,7 +105,7 @@ impl Bitmap {
     /// inks its square (docs/LANGUAGE.md, "Raster graphics"). What lies past the right or the lower
     /// edge of the page is left out, and a clear bit changes nothing.
     pub fn paint_row(&mut self, x: u32, y: u64, scale: u32, width: u32, row: &[u8])
-        requires one { scale ≡ 1 }
+        requires scale { (1 ≤ scale) × (scale ≤ 8) }
         requires bits { width ≤ 8 * length row.now }
         ensures size { self.new.size ≡ self.old.size }
         ensures dpi { self.new.dpi ≡ self.old.dpi }
@@ -113,11 +114,43 @@ impl Bitmap {
         ensures picture { IsPicture self.new }
     {
         let page_width = self.size.width(self.dpi);
-        if x >= page_width || y >= u64::from(self.size.height(self.dpi)) {
+        let page_height = u64::from(self.size.height(self.dpi));
+        if x >= page_width || y >= page_height {
             return;
         }
-        let start = 8 * (y as usize * self.size.row_bytes(self.dpi)) + x as usize;
-        let count = width.min(page_width - x) as usize;
-        bits::or_bits(&mut self.bytes, start, start + count, row);
+        let columns = u64::from(width) * u64::from(scale);
+        let area = Area {
+            x: x as usize,
+            y: y as usize,
+            width: columns.min(u64::from(page_width - x)) as usize,
+            height: u64::from(scale).min(page_height - y) as usize,
+        };
+        let row_bytes = self.size.row_bytes(self.dpi);
+        squares::paint_squares(&mut self.bytes, row_bytes, area, scale as usize, row);
+    }
+
+    /// Inks a rectangle of `w` by `h` dots whose upper left corner is the dot `(x, y)`
+    /// (docs/LANGUAGE.md, "Rectangles"). What lies past the right or the lower edge of the page is
+    /// left out.
+    pub fn fill(&mut self, x: u32, y: u32, w: u64, h: u64, ink: Ink)
+        ensures size { self.new.size ≡ self.old.size }
+        ensures dpi { self.new.dpi ≡ self.old.dpi }
+        ensures dots { (px py : ℕ) → px < page_width self.old.size self.old.dpi → py < page_height self.old.size self.old.dpi
+            → dot self.new px py ≡ (if rectangle_dot x y w h px py then is_black_ink ink else dot self.old px py) }
+        ensures picture { IsPicture self.new }
+    {
+        let page_width = self.size.width(self.dpi);
+        let page_height = self.size.height(self.dpi);
+        if x >= page_width || y >= page_height {
+            return;
+        }
+        let area = Area {
+            x: x as usize,
+            y: y as usize,
+            width: w.min(u64::from(page_width - x)) as usize,
+            height: h.min(u64::from(page_height - y)) as usize,
+        };
+        let row_bytes = self.size.row_bytes(self.dpi);
+        fills::fill_rows(&mut self.bytes, row_bytes, area, ink);
     }
 }

@@ -27,8 +27,8 @@ fn shifted_byte(source: &[u8], index: usize, shift: usize) -> u8
     ((pair >> shift) & 0xFF) as u8
 }
 
-// A byte whose first `count` bits are set, all where there are more.
-fn leading_ones(count: usize) -> u8
+/// A byte whose first `count` bits are set, all where there are more.
+pub fn leading_ones(count: usize) -> u8
     ensures { (k : ℕ) → k < 8 → bit_of_byte result k ≡ nat_lt k count }
 {
     if count < 8 { !(0xFF >> count) } else { 0xFF }

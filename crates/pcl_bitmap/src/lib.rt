@@ -1,10 +1,13 @@
 //! The dots of a page, one bit each: rows of whole bytes, the left dot in the highest bit, 1 black.
 #![tactic(auto)]
 
+mod area;
 mod bitmap;
 mod bits;
+mod fills;
 mod ink;
 mod laws;
+mod squares;
 
 pub use bitmap::Bitmap;
 pub use ink::Ink;

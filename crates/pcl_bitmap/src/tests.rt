@@ -46,6 +46,105 @@ fn paints_at_600(rt: HostRuntime) -> Result<(), Fail> {
     Ok(())
 }
 
+// Whether the dot at (x, y) is black; past the page none is.
+fn is_black(page: &Bitmap, x: u32, y: u32) -> bool {
+    if y >= page.size().height(page.dpi()) {
+        return false;
+    }
+    let byte = page.row(y).get(x as usize / 8).copied().unwrap_or(0);
+    (byte << (x % 8)) & 0x80 != 0
+}
+
+// Each with its upper left corner, its width and height, and its ink: over the whole page, of no size,
+// of one dot, within a byte, on whole bytes, past both edges, and from the last dot on.
+const RECTANGLES: [(u32, u32, u64, u64, Ink); 12] = [
+    (0, 0, u64::MAX, u64::MAX, Ink::Black),
+    (5, 1, 30, 2, Ink::White),
+    (8, 1, 16, 1, Ink::Black),
+    (9, 1, 3, 1, Ink::White),
+    (10, 1, 1, 1, Ink::Black),
+    (40, 0, 0, 9, Ink::White),
+    (40, 0, 9, 0, Ink::White),
+    (2330, 3505, 100, 100, Ink::White),
+    (2337, 3506, u64::MAX, 1, Ink::Black),
+    (2338, 0, 1, 1, Ink::White),
+    (0, 3507, 1, 1, Ink::White),
+    (u32::MAX, u32::MAX, 1, 1, Ink::White),
+];
+
+// The ink of the last rectangle that covers the dot.
+fn is_black_by_rectangles(x: u32, y: u32) -> bool {
+    let mut black = false;
+    for (left, top, width, height, ink) in RECTANGLES {
+        if x >= left && y >= top && u64::from(x - left) < width && u64::from(y - top) < height {
+            black = ink == Ink::Black;
+        }
+    }
+    black
+}
+
+#[test]
+fn fills_rectangles(rt: HostRuntime) -> Result<(), Fail> {
+    let mut page = Bitmap::new(rt.alloc(), Size::A4, Dpi::Dpi300)?;
+    for (x, y, width, height, ink) in RECTANGLES {
+        page.fill(x, y, width, height, ink);
+    }
+    for y in [0, 1, 2, 3, 3504, 3505, 3506] {
+        for x in 0..2344 {
+            let expected = x < 2338 && is_black_by_rectangles(x, y);
+            assert_eq!(rt; is_black(&page, x, y), expected, "dot ({x}, {y})");
+        }
+    }
+    Ok(())
+}
+
+// Each with its first dot, its scale, its width in bits, and its bytes: rows that end inside a byte, at
+// odd dots, at the right edge, past the lower edge, with bits past the width, and off the page.
+const ROWS: [(u32, u64, u32, u32, &[u8]); 13] = [
+    (3, 1, 1, 12, &[0xA5, 0xFF]),
+    (5, 3, 2, 11, &[0x93, 0xF1]),
+    (0, 6, 3, 24, &[0x81, 0, 0xFF]),
+    (17, 10, 4, 9, &[0x6D, 0x80]),
+    (8, 15, 5, 16, &[0xC3, 0x5A]),
+    (31, 21, 6, 15, &[0x01, 0x7E]),
+    (2, 28, 7, 8, &[0xB7]),
+    (13, 36, 8, 13, &[0x9A, 0xE8]),
+    (2325, 45, 8, 16, &[0xAA, 0xAA]),
+    (9, 3504, 8, 3, &[0xBF]),
+    (2337, 50, 2, 1, &[0x80]),
+    (2338, 52, 2, 8, &[0xFF]),
+    (0, u64::MAX, 8, 0, &[]),
+];
+
+// Whether the dot is in a square of a set bit of one of the rows.
+fn is_black_by_rows(x: u32, y: u32) -> bool {
+    let mut black = false;
+    for (left, top, scale, width, row) in ROWS {
+        if scale > 0 && x >= left && u64::from(y) >= top {
+            let bit = (x - left) / scale;
+            let byte = row.get(bit as usize / 8).copied().unwrap_or(0);
+            let set = (byte << (bit % 8)) & 0x80 != 0;
+            black |= set && bit < width && u64::from(y) - top < u64::from(scale);
+        }
+    }
+    black
+}
+
+#[test]
+fn paints_squares(rt: HostRuntime) -> Result<(), Fail> {
+    let mut page = Bitmap::new(rt.alloc(), Size::A4, Dpi::Dpi300)?;
+    for (x, y, scale, width, row) in ROWS {
+        page.paint_row(x, y, scale, width, row);
+    }
+    for y in (0..55).chain(3502..3507) {
+        for x in (0..200).chain(2300..2344) {
+            let expected = x < 2338 && is_black_by_rows(x, y);
+            assert_eq!(rt; is_black(&page, x, y), expected, "dot ({x}, {y})");
+        }
+    }
+    Ok(())
+}
+
 // The law does nothing.
 #[test]
 fn states_the_law() {

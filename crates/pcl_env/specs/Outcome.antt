@@ -1,5 +1,5 @@
 -- What each command does to the settings and to the page, and which values it takes.
-use Rattle.std.specs.Prelude.{◌≡◌, ℕ, ◌+◌, ◌-◌, ◌*◌, ◌/◌, ◌==◌, ◌&&◌, ◌||◌, nat_lt, nat_le, Bool, true, false, min, max, if◌then◌else◌, length, List, [], ◌∷◌, Option, Some, None, Result, Ok, IsErr}
+use Rattle.std.specs.Prelude.{◌≡◌, ℕ, ◌+◌, ◌-◌, ◌*◌, ◌/◌, ◌==◌, ◌&&◌, ◌||◌, nat_lt, nat_le, Bool, min, max, if◌then◌else◌, length, List, [], ◌∷◌, Option, Some, None, Result, Ok, IsErr}
 use Rattle.std.specs.List.{list_any}
 use Rattle.pcl_base.specs.declared.dpi.Dpi.{Dpi}
 use Rattle.pcl_base.specs.declared.dpi.Dpi.TheVariants.{Dpi300, Dpi600}
@@ -152,7 +152,8 @@ line_spacings = 1 ∷ 2 ∷ 3 ∷ 4 ∷ 6 ∷ 8 ∷ 12 ∷ 16 ∷ 24 ∷ 48 ∷ 
 
 abbrev pub units_of_measure : List ℕ
 units_of_measure =
-    96 ∷ 100 ∷ 120 ∷ 144 ∷ 150 ∷ 160 ∷ 180 ∷ 200 ∷ 225 ∷ 240 ∷ 288 ∷ 300 ∷ 360 ∷ 400 ∷ 450 ∷ 480 ∷ 600 ∷ 720 ∷ 800 ∷ 900 ∷ 1200 ∷ 1440 ∷ 1800 ∷ 2400 ∷ 3600 ∷ 7200 ∷ []
+    96 ∷ 100 ∷ 120 ∷ 144 ∷ 150 ∷ 160 ∷ 180 ∷ 200 ∷ 225 ∷ 240 ∷ 288 ∷ 300 ∷ 360
+    ∷ 400 ∷ 450 ∷ 480 ∷ 600 ∷ 720 ∷ 800 ∷ 900 ∷ 1200 ∷ 1440 ∷ 1800 ∷ 2400 ∷ 3600 ∷ 7200 ∷ []
 
 -- a command with this value, on a page that is marked or not
 unfoldable pub outcome : Dpi → Operation → Value → Bool → Settings → Outcome
@@ -176,7 +177,8 @@ outcome dpi OnlyZero v m s = stays_if (whole_of v == 0) s
 outcome dpi EjectMarked v m s = Some (s, page.EjectMarked)
 outcome dpi UnitOfMeasure v m s = counted v (λ n. stays_if (is_one_of units_of_measure n) (record s { pcl_unit = 7200 / n }))
 outcome dpi HorizontalMotionIndex v m s = counted v (λ n. stays (record s { hmi = scaled_by 60 v }))
-outcome dpi LineTermination v m s = counted v (λ n. stays_if (nat_le n 3) (record s { return_feeds = n == 1 || n == 3; feed_returns = n == 2 || n == 3 }))
+outcome dpi LineTermination v m s = counted v (λ n. stays_if (nat_le n 3)
+    (record s { return_feeds = n == 1 || n == 3; feed_returns = n == 2 || n == 3 }))
 outcome dpi LeftMargin v m s = counted v (λ n. stays (set_left (n * s.hmi) s))
 outcome dpi (Move axis unit) v m s = stays (move_along axis unit v s)
 outcome dpi CursorStack v m s = counted v (λ n. if n == 0 then stays (push s) else stays_if (n == 1) (pop s))

@@ -1,5 +1,5 @@
 -- What a job has set, and its cursor. Lengths and positions are in units of 1/7200 inch, those of rasters in raster dots.
-use Rattle.std.specs.Prelude.{ℕ, suc, ◌+◌, ◌-◌, ◌*◌, ◌/◌, Bool, true, false, min, List, [], ◌∷◌, Option, Some, None, ℤ, pos, negsuc}
+use Rattle.std.specs.Prelude.{ℕ, suc, ◌+◌, ◌-◌, ◌*◌, ◌/◌, Bool, true, false, min, List, [], Option, Some, None, ℤ, pos, negsuc}
 use Rattle.pcl_base.specs.declared.method.Method.{Method}
 use Rattle.pcl_base.specs.declared.method.Method.TheVariants.{Plain}
 use Rattle.pcl_base.specs.declared.operation.Side.{Side}
@@ -113,6 +113,18 @@ with_size size s =
 abbrev pub select : Side → ℕ → ℕ → Settings → Settings
 select Primary id pitch s = record s { primary = Some id; hmi = pitch * 6 }
 select Secondary id pitch s = record s { secondary = Some id; hmi = pitch * 6 }
+
+-- the font that is selected for a side, and for the side in use
+abbrev pub font_of : Side → Settings → Option ℕ
+font_of Primary s = s.primary
+font_of Secondary s = s.secondary
+
+abbrev pub font_in_use : Settings → Option ℕ
+font_in_use s = font_of s.in_use s
+
+-- what a call keeps: all but the page size, the cursor and its stack
+abbrev pub kept : Settings → Settings
+kept s = record s { size = Letter; cursor = record { x = 0; y = 0 }; stack = [] }
 
 -- a call's return puts everything back but the page size, the cursor and its stack
 abbrev pub restored : Settings → Settings → Settings

@@ -2,5 +2,11 @@
 #![tactic(auto)]
 
 mod effect;
+mod env;
+mod stack;
 
 pub use effect::{Effect, Unsupported};
+pub use env::{Env, Saved};
+
+#[cfg(test)]
+mod tests;

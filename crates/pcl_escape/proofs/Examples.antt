@@ -1,18 +1,21 @@
 -- Examples worked out by hand from docs/LANGUAGE.md, which the definitions compute.
 use Rattle.std.proofs.Common.{◌≡◌, ℕ, List, [], ◌∷◌, ◌++◌, refl}
 use Rattle.std.specs.Prelude.{codes}
-use Rattle.pcl_base.specs.declared.kind.Kind.TheVariants.{Truncated, BadSequence, ValueRange, UnsupportedCommand}
+use Rattle.pcl_base.specs.declared.kind.Kind.TheVariants.{Truncated, BadSequence, ValueRange, UnsupportedCommand, NotPcl}
 use Rattle.pcl_base.specs.declared.name.Name.{Name}
 use Rattle.pcl_base.specs.declared.name.Name.TheVariants.{Empty, One, Two, Three}
 use Rattle.pcl_base.specs.declared.value.Sign.{Sign}
 use Rattle.pcl_base.specs.declared.value.Sign.TheVariants.{Absent, Plus, Minus}
+use Rattle.pcl_base.specs.Operation.{operation_of}
+use Rattle.pcl_base.specs.Refusal.{refusal}
+use Rattle.pcl_base.specs.Value.{zero_value}
 use Rattle.pcl_escape.specs.Field.{field_at, field_value}
-use Rattle.pcl_escape.specs.Said.{Said, zero_value}
-use Rattle.pcl_escape.specs.Scan.{named_at, parameter_at, group_at, sequence_at, start_at, outcome}
-use Rattle.pcl_escape.specs.Operation.{operation_of}
+use Rattle.pcl_escape.specs.Said.{Said}
+use Rattle.pcl_escape.specs.Scan.{named_at, text_at, parameter_at, ungrouped_at, prefix_at, sequence_at, start_at, outcome}
 use Rattle.pcl_escape.specs.Checks.{parameter_checks}
+use Rattle.pcl_escape.specs.Exit.{lines_from}
 use Rattle.pcl_escape.specs.Pieces.{IsReading}
-use Rattle.pcl_escape.specs.Faults.{IsFault, refusal}
+use Rattle.pcl_escape.specs.Faults.{IsFault}
 use Rattle.pcl_escape.proofs.Runs.{reading_of, fault_of}
 
 abbrev said : ℕ → Name → Sign → ℕ → List ℕ → Said
@@ -47,26 +50,53 @@ silent_and_feed = reading_of (7 ∷ 12 ∷ []) (record { at = 1; name = One 12; 
 
 -- the first parameter of a sequence stands at ESC, the second right behind the first one's letter
 two_moves : IsReading (escape (codes "*p0x0Y")) (said 0 (Three 42 112 88) Absent 0 [] ∷ said 5 (Three 42 112 89) Absent 0 [] ∷ [])
-unfolding outcome start_at sequence_at group_at parameter_at field_at parameter_checks operation_of
+unfolding outcome start_at sequence_at prefix_at parameter_at field_at parameter_checks operation_of
 two_moves = reading_of (escape (codes "*p0x0Y")) (said 0 (Three 42 112 88) Absent 0 [] ∷ said 5 (Three 42 112 89) Absent 0 [] ∷ []) refl
 
 -- two bytes of data, the first of which would begin a sequence
 row_of_escape : IsReading (escape (codes "*b2W") ++ 27 ∷ 12 ∷ []) (said 0 (Three 42 98 87) Absent 20000 (27 ∷ 12 ∷ []) ∷ [])
-unfolding outcome start_at sequence_at group_at parameter_at field_at parameter_checks operation_of
+unfolding outcome start_at sequence_at prefix_at parameter_at field_at parameter_checks operation_of
 row_of_escape = reading_of (escape (codes "*b2W") ++ 27 ∷ 12 ∷ []) (said 0 (Three 42 98 87) Absent 20000 (27 ∷ 12 ∷ []) ∷ []) refl
+
+-- a sequence without a group character: its name has two bytes
+symbol_set : IsReading (escape (codes "(8U")) (said 0 (Two 40 85) Absent 80000 [] ∷ [])
+unfolding outcome start_at sequence_at prefix_at ungrouped_at parameter_at field_at parameter_checks operation_of lines_from
+symbol_set = reading_of (escape (codes "(8U")) (said 0 (Two 40 85) Absent 80000 [] ∷ []) refl
+
+-- the letter 96 is an upper-case 64
+clipping : IsReading (escape (codes "&d`0@")) (said 0 (Three 38 100 64) Absent 0 [] ∷ said 4 (Three 38 100 64) Absent 0 [] ∷ [])
+unfolding outcome start_at sequence_at prefix_at ungrouped_at parameter_at field_at parameter_checks operation_of lines_from
+clipping = reading_of (escape (codes "&d`0@")) (said 0 (Three 38 100 64) Absent 0 [] ∷ said 4 (Three 38 100 64) Absent 0 [] ∷ []) refl
+
+-- behind a universal exit a line is skipped up to its LF, and then one that asks for PCL; what is behind that is read
+leaving : IsReading (escape (codes "%-12345X@PJL x") ++ 10 ∷ (codes "@PJL Enter Language=P C L" ++ 13 ∷ 10 ∷ 12 ∷ []))
+    (said 0 (Two 37 88) Minus 123450000 [] ∷ said 43 (One 12) Absent 0 [] ∷ [])
+unfolding outcome start_at sequence_at prefix_at ungrouped_at parameter_at field_at parameter_checks operation_of lines_from named_at
+leaving = reading_of (escape (codes "%-12345X@PJL x") ++ 10 ∷ (codes "@PJL Enter Language=P C L" ++ 13 ∷ 10 ∷ 12 ∷ []))
+    (said 0 (Two 37 88) Minus 123450000 [] ∷ said 43 (One 12) Absent 0 [] ∷ []) refl
+
+-- a line without LF goes to the end, whatever it holds
+last_line : IsReading (escape (codes "%-12345X@PJL") ++ 27 ∷ 7 ∷ []) (said 0 (Two 37 88) Minus 123450000 [] ∷ [])
+unfolding outcome start_at sequence_at prefix_at ungrouped_at parameter_at field_at parameter_checks operation_of lines_from
+last_line = reading_of (escape (codes "%-12345X@PJL") ++ 27 ∷ 7 ∷ []) (said 0 (Two 37 88) Minus 123450000 [] ∷ []) refl
+
+-- another value of that name skips nothing
+staying : IsReading (escape (codes "%-12344X") ++ 12 ∷ []) (said 0 (Two 37 88) Minus 123440000 [] ∷ said 9 (One 12) Absent 0 [] ∷ [])
+unfolding outcome start_at sequence_at prefix_at ungrouped_at parameter_at field_at parameter_checks operation_of lines_from named_at
+staying = reading_of (escape (codes "%-12344X") ++ 12 ∷ []) (said 0 (Two 37 88) Minus 123440000 [] ∷ said 9 (One 12) Absent 0 [] ∷ []) refl
 
 -- ---- first faults
 
 short_row : IsFault (escape (codes "*b5W") ++ 1 ∷ 2 ∷ 3 ∷ 4 ∷ []) (refusal Truncated 0 (Three 42 98 87))
-unfolding outcome start_at sequence_at group_at parameter_at field_at parameter_checks operation_of
+unfolding outcome start_at sequence_at prefix_at parameter_at field_at parameter_checks operation_of
 short_row = fault_of (escape (codes "*b5W") ++ 1 ∷ 2 ∷ 3 ∷ 4 ∷ []) (refusal Truncated 0 (Three 42 98 87)) refl
 
 row_in_the_middle : IsFault (escape (codes "*b1w") ++ 128 ∷ []) (refusal BadSequence 0 (Three 42 98 87))
-unfolding outcome start_at sequence_at group_at parameter_at field_at parameter_checks operation_of
+unfolding outcome start_at sequence_at prefix_at parameter_at field_at parameter_checks operation_of
 row_in_the_middle = fault_of (escape (codes "*b1w") ++ 128 ∷ []) (refusal BadSequence 0 (Three 42 98 87)) refl
 
 far_move : IsFault (escape (codes "*p70000X")) (refusal ValueRange 0 (Three 42 112 88))
-unfolding outcome start_at sequence_at group_at parameter_at field_at parameter_checks operation_of
+unfolding outcome start_at sequence_at prefix_at parameter_at field_at parameter_checks operation_of
 far_move = fault_of (escape (codes "*p70000X")) (refusal ValueRange 0 (Three 42 112 88)) refl
 
 unknown_two : IsFault (escape (codes "Y")) (refusal UnsupportedCommand 0 (One 89))
@@ -78,14 +108,42 @@ unfolding outcome start_at sequence_at
 no_sequence = fault_of (27 ∷ 7 ∷ []) (refusal BadSequence 0 Empty) refl
 
 no_group : IsFault (escape (codes "*")) (refusal Truncated 0 (One 42))
-unfolding outcome start_at sequence_at group_at
+unfolding outcome start_at sequence_at prefix_at
 no_group = fault_of (escape (codes "*")) (refusal Truncated 0 (One 42)) refl
 
 -- the second parameter isn't there
 no_second_move : IsFault (escape (codes "*p0x")) (refusal Truncated 5 (Two 42 112))
-unfolding outcome start_at sequence_at group_at parameter_at field_at parameter_checks operation_of
+unfolding outcome start_at sequence_at prefix_at parameter_at field_at parameter_checks operation_of
 no_second_move = fault_of (escape (codes "*p0x")) (refusal Truncated 5 (Two 42 112)) refl
 
 backspace : IsFault (8 ∷ []) (refusal UnsupportedCommand 0 (One 8))
 unfolding outcome start_at named_at operation_of
 backspace = fault_of (8 ∷ []) (refusal UnsupportedCommand 0 (One 8)) refl
+
+-- text isn't performed
+unknown_text : IsFault (7 ∷ codes "A") (refusal UnsupportedCommand 1 (One 32))
+unfolding outcome start_at text_at operation_of
+unknown_text = fault_of (7 ∷ codes "A") (refusal UnsupportedCommand 1 (One 32)) refl
+
+-- nor is a line in lower case skipped
+lower_case_line : IsFault (escape (codes "%-12345X@pjl")) (refusal UnsupportedCommand 9 (One 32))
+unfolding outcome start_at sequence_at prefix_at ungrouped_at parameter_at field_at parameter_checks operation_of lines_from text_at
+lower_case_line = fault_of (escape (codes "%-12345X@pjl")) (refusal UnsupportedCommand 9 (One 32)) refl
+
+-- the second line asks for another language
+other_language : IsFault (escape (codes "%-12345X@PJL") ++ 10 ∷ codes "@PJL ENTER LANGUAGE=XL") (refusal NotPcl 14 (Two 37 88))
+unfolding outcome start_at sequence_at prefix_at ungrouped_at parameter_at field_at parameter_checks operation_of lines_from
+other_language = fault_of (escape (codes "%-12345X@PJL") ++ 10 ∷ codes "@PJL ENTER LANGUAGE=XL") (refusal NotPcl 14 (Two 37 88)) refl
+
+-- a sequence without a group character has one parameter
+second_parameter : IsFault (escape (codes "(0s")) (refusal BadSequence 0 (One 40))
+unfolding outcome start_at sequence_at prefix_at ungrouped_at parameter_at field_at parameter_checks operation_of lines_from
+second_parameter = fault_of (escape (codes "(0s")) (refusal BadSequence 0 (One 40)) refl
+
+cut_percent : IsFault (escape (codes "%")) (refusal Truncated 0 (One 37))
+unfolding outcome start_at sequence_at prefix_at
+cut_percent = fault_of (escape (codes "%")) (refusal Truncated 0 (One 37)) refl
+
+percent_in_group : IsFault (escape (codes "%a0X")) (refusal UnsupportedCommand 0 (Three 37 97 88))
+unfolding outcome start_at sequence_at prefix_at ungrouped_at parameter_at field_at parameter_checks operation_of lines_from
+percent_in_group = fault_of (escape (codes "%a0X")) (refusal UnsupportedCommand 0 (Three 37 97 88)) refl

@@ -1,6 +1,5 @@
 -- A value field that is read from the left is the field that was spelled there.
 use Rattle.std.proofs.Common.{◌≡◌, ℕ, Bool, true, false, ◌&&◌, ◌||◌, eqb, List, [], ◌∷◌, ◌++◌, Option, Some, None, refl, sym, ap, subst, ◌∙◌, append_assoc, arith}
-use Rattle.std.proofs.Math.Numerals.{one-add}
 use Rattle.std.proofs.lemmas.Bool.{eqb-true}
 use Rattle.std.proofs.lemmas.Bool.Decides.{nat_tests}
 use Rattle.std.specs.Prelude.{IfSome, is_none}
@@ -8,46 +7,15 @@ use Rattle.pcl_base.specs.declared.value.Sign.{Sign}
 use Rattle.pcl_base.specs.declared.value.Sign.TheVariants.{Absent, Plus, Minus}
 use Rattle.pcl_escape.specs.Field.{Spelled, is_digit, sign_bytes, fraction_bytes, field_bytes, sign_at, digits_at, fraction_at, field_at}
 use Rattle.pcl_escape.specs.Pieces.{AreDigits, IsField}
-use Rattle.pcl_escape.specs.Faults.{extends, is_bare, is_absent, is_empty}
+use Rattle.pcl_base.specs.Value.{is_absent}
+use Rattle.pcl_escape.specs.Faults.{extends, is_bare, is_empty}
+use Rattle.pcl_escape.proofs.Fronts.{StopsAt, front_split, front_again}
 
 -- ---- digits
 
 -- the bytes don't begin with a digit
 abbrev pub NoDigit : List ℕ → Type 0
-NoDigit [] = Unit {0}
-NoDigit (byte ∷ bytes) = is_digit byte ≡ false
-
--- all digits at the front, and what is behind them
-pub record IsSplit (bytes : List ℕ) (parts : List ℕ × List ℕ) : Type 0 where
-  pub joined : bytes ≡ parts.0 ++ parts.1
-  pub digits : AreDigits parts.0
-  pub stops : NoDigit parts.1
-
--- a digit in front is taken
-digits_yes : (byte : ℕ) (bytes : List ℕ) → is_digit byte ≡ true → digits_at (byte ∷ bytes) ≡ (byte ∷ (digits_at bytes).0, (digits_at bytes).1)
-digits_yes byte bytes e = rw (e, one-add) refl
-
--- at another byte the digits stop
-digits_no : (byte : ℕ) (bytes : List ℕ) → is_digit byte ≡ false → digits_at (byte ∷ bytes) ≡ ([], byte ∷ bytes)
-digits_no byte bytes e = rw e refl
-
--- the digits at the front, by the test of the first byte
-split_by : (byte : ℕ) (bytes : List ℕ) (test : Bool) → is_digit byte ≡ test → IsSplit bytes (digits_at bytes) → IsSplit (byte ∷ bytes) (digits_at (byte ∷ bytes))
-split_by byte bytes true e h =
-    rw (digits_yes byte bytes e) (record { joined = ap (λ (bs : List ℕ). byte ∷ bs) h.joined; digits = (e, h.digits); stops = h.stops })
-split_by byte bytes false e h = rw (digits_no byte bytes e) (record { joined = refl; digits = tt; stops = e })
-
--- the digits that are read are all at the front
-pub digits_split : (bytes : List ℕ) → IsSplit bytes (digits_at bytes)
-digits_split [] = record { joined = refl; digits = tt; stops = tt }
-digits_split (byte ∷ bytes) = split_by byte bytes (is_digit byte) refl (digits_split bytes)
-
--- digits are read up to where they stop
-pub digits_again : (digits rest : List ℕ) → AreDigits digits → NoDigit rest → digits_at (digits ++ rest) ≡ (digits, rest)
-digits_again [] [] d n = refl
-digits_again [] (byte ∷ rest) d n = digits_no byte rest n
-digits_again (digit ∷ digits) rest d n =
-    digits_yes digit (digits ++ rest) d.0 ∙ ap (λ (p : List ℕ × List ℕ). (digit ∷ p.0, p.1)) (digits_again digits rest d.1 n)
+NoDigit bytes = StopsAt is_digit bytes
 
 -- ---- tests
 
@@ -72,7 +40,7 @@ and_no true false h = refl
 and_no true true h = h refl
 
 -- where two tests hold both, each does
-and_parts : (a b : Bool) → (a && b) ≡ true → (a ≡ true) × (b ≡ true)
+pub and_parts : (a b : Bool) → (a && b) ≡ true → (a ≡ true) × (b ≡ true)
 and_parts true true p = (refl, refl)
 and_parts true false p = absurd cc
 and_parts false b p = absurd cc
@@ -100,7 +68,8 @@ record IsSignFront (bytes : List ℕ) (parts : Sign × List ℕ) : Type 0 where
   stops : is_absent parts.0 ≡ true → NoSign parts.1
 
 -- the sign that is read, by the tests of the byte
-sign_by : (byte : ℕ) (bytes : List ℕ) (plus minus : Bool) → eqb byte 43 ≡ plus → eqb byte 45 ≡ minus → IsSignFront (byte ∷ bytes) (sign_at (byte ∷ bytes))
+sign_by : (byte : ℕ) (bytes : List ℕ) (plus minus : Bool) → eqb byte 43 ≡ plus → eqb byte 45 ≡ minus
+    → IsSignFront (byte ∷ bytes) (sign_at (byte ∷ bytes))
 sign_by byte bytes true minus p m = rw p (record { joined = ap (λ (b : ℕ). b ∷ bytes) (eqb-true byte 43 p); stops = λ e. absurd cc })
 sign_by byte bytes false true p m = rw (p, m) (record { joined = ap (λ (b : ℕ). b ∷ bytes) (eqb-true byte 45 m); stops = λ e. absurd cc })
 sign_by byte bytes false false p m = rw (p, m) (record { joined = refl; stops = λ e. rw (p, m) refl })
@@ -137,12 +106,13 @@ record IsFractionFront (bytes : List ℕ) (parts : Option (List ℕ) × List ℕ
   same : is_none parts.0 ≡ true → parts.1 ≡ bytes
 
 -- the fraction that is read, by the test of the byte
-fraction_by : (byte : ℕ) (bytes : List ℕ) (point : Bool) → eqb byte 46 ≡ point → IsFractionFront (byte ∷ bytes) (fraction_at (byte ∷ bytes))
+fraction_by : (byte : ℕ) (bytes : List ℕ) (point : Bool) → eqb byte 46 ≡ point
+    → IsFractionFront (byte ∷ bytes) (fraction_at (byte ∷ bytes))
 fraction_by byte bytes true p =
-    let d = digits_split bytes in
+    let d = front_split is_digit bytes in
     rw p (record {
       joined = ap (λ (b : ℕ). b ∷ bytes) (eqb-true byte 46 p) ∙ ap (λ (bs : List ℕ). 46 ∷ bs) d.joined;
-      digits = d.digits;
+      digits = d.pass;
       no_point = λ e. absurd cc;
       no_digit = λ n. d.stops;
       same = λ e. absurd cc;
@@ -155,11 +125,12 @@ fraction_split [] = record { joined = refl; digits = tt; no_point = λ e. tt; no
 fraction_split (byte ∷ bytes) = fraction_by byte bytes (eqb byte 46) refl
 
 -- a fraction is read as it is spelled
-fraction_again : (fraction : Option (List ℕ)) (rest : List ℕ) → IfSome fraction AreDigits → (is_none fraction ≡ true → NoPoint rest) → NoDigit rest
+fraction_again : (fraction : Option (List ℕ)) (rest : List ℕ) → IfSome fraction AreDigits → (is_none fraction ≡ true → NoPoint rest)
+    → NoDigit rest
     → fraction_at (fraction_bytes fraction ++ rest) ≡ (fraction, rest)
 fraction_again None [] d p n = refl
 fraction_again None (byte ∷ rest) d p n = rw (p refl) refl
-fraction_again (Some digits) rest d p n = ap (λ (q : List ℕ × List ℕ). (Some q.0, q.1)) (digits_again digits rest d n)
+fraction_again (Some digits) rest d p n = ap (λ (q : List ℕ × List ℕ). (Some q.0, q.1)) (front_again is_digit digits rest d n)
 
 -- ---- fields
 
@@ -179,7 +150,8 @@ stops_from : (field : Spelled) (bytes : List ℕ) → NoDigit bytes → (is_none
     → (is_absent field.sign ≡ true → is_empty field.whole ≡ true → is_none field.fraction ≡ true → NoSign bytes) → FieldStops field bytes
 stops_from field [] d p s = tt
 stops_from field (byte ∷ bytes) d p s =
-    or_no (is_digit byte) (eqb byte 46 && is_none field.fraction) (is_sign byte && is_bare field) d (and_no (eqb byte 46) (is_none field.fraction) p)
+    or_no (is_digit byte) (eqb byte 46 && is_none field.fraction) (is_sign byte && is_bare field) d
+    (and_no (eqb byte 46) (is_none field.fraction) p)
     (and_no (is_sign byte) (is_bare field) (λ bare.
     let a = and_parts (is_absent field.sign) (is_empty field.whole && is_none field.fraction) bare in
     let b = and_parts (is_empty field.whole) (is_none field.fraction) a.1 in
@@ -198,14 +170,17 @@ field_split bytes =
     let whole = digits_at sign.1 in
     let fraction = fraction_at whole.1 in
     let s = sign_split bytes in
-    let w = digits_split sign.1 in
+    let w = front_split is_digit sign.1 in
     let f = fraction_split whole.1 in
-    let parts : field_bytes (record { sign = sign.0; whole = whole.0; fraction = fraction.0 }) ++ fraction.1 ≡ sign_bytes sign.0 ++ (whole.0 ++ (fraction_bytes fraction.0 ++ fraction.1)) = simp append_assoc in
+    let parts : field_bytes (record { sign = sign.0; whole = whole.0; fraction = fraction.0 }) ++ fraction.1
+    ≡ sign_bytes sign.0 ++ (whole.0 ++ (fraction_bytes fraction.0 ++ fraction.1)) = simp append_assoc in
     record {
-      joined = s.joined ∙ ap (λ (bs : List ℕ). sign_bytes sign.0 ++ bs) (w.joined ∙ ap (λ (bs : List ℕ). whole.0 ++ bs) f.joined) ∙ sym parts;
-      field = (w.digits, f.digits);
+      joined = s.joined ∙ ap (λ (bs : List ℕ). sign_bytes sign.0 ++ bs) (w.joined ∙ ap (λ (bs : List ℕ). whole.0 ++ bs) f.joined)
+          ∙ sym parts;
+      field = (w.pass, f.digits);
       stops = stops_from (record { sign = sign.0; whole = whole.0; fraction = fraction.0 }) fraction.1 (f.no_digit w.stops) f.no_point
-          (λ a e n. let same : fraction.1 ≡ sign.1 = f.same n ∙ sym (w.joined ∙ ap (λ (bs : List ℕ). bs ++ whole.1) (empty_is whole.0 e)) in
+          (λ a e n. let same : fraction.1 ≡ sign.1 = f.same n
+          ∙ sym (w.joined ∙ ap (λ (bs : List ℕ). bs ++ whole.1) (empty_is whole.0 e)) in
           subst NoSign (sym same) (s.stops a));
     }
 
@@ -222,7 +197,12 @@ stops_parts : (field : Spelled) (rest : List ℕ) → FieldStops field rest → 
 stops_parts field [] s = record { no_digit = tt; no_point = λ e. tt; no_sign = λ e. tt }
 stops_parts field (byte ∷ rest) s =
     let p = or_parts (is_digit byte) (eqb byte 46 && is_none field.fraction) (is_sign byte && is_bare field) s in
-    record { no_digit = p.0; no_point = and_left (eqb byte 46) (is_none field.fraction) p.1; no_sign = and_left (is_sign byte) (is_bare field) p.2 }
+    record {
+      no_digit = p.0;
+      no_point = and_left (eqb byte 46) (is_none field.fraction) p.1;
+      no_sign =
+          and_left (is_sign byte) (is_bare field) p.2;
+    }
 
 -- a digit is no sign
 digit_no_sign : (byte : ℕ) → is_digit byte ≡ true → is_sign byte ≡ false
@@ -234,22 +214,26 @@ no_digit_behind None rest n = n
 no_digit_behind (Some digits) rest n = refl
 
 -- no sign comes behind an absent one
-no_sign_behind : (whole : List ℕ) (fraction : Option (List ℕ)) (rest : List ℕ) → AreDigits whole → (is_empty whole ≡ true → is_none fraction ≡ true → NoSign rest) → NoSign (whole ++ (fraction_bytes fraction ++ rest))
+no_sign_behind : (whole : List ℕ) (fraction : Option (List ℕ)) (rest : List ℕ) → AreDigits whole
+    → (is_empty whole ≡ true → is_none fraction ≡ true → NoSign rest) → NoSign (whole ++ (fraction_bytes fraction ++ rest))
 no_sign_behind [] None rest d n = n refl refl
 no_sign_behind [] (Some digits) rest d n = refl
 no_sign_behind (digit ∷ whole) fraction rest d n = digit_no_sign digit d.0
 
 -- a field is read as it is spelled, where it stops
-pub field_again : (field : Spelled) (rest : List ℕ) → IsField field → FieldStops field rest → field_at (field_bytes field ++ rest) ≡ (field, rest)
+pub field_again : (field : Spelled) (rest : List ℕ) → IsField field → FieldStops field rest
+    → field_at (field_bytes field ++ rest) ≡ (field, rest)
 unfolding field_at
 field_again field rest f s =
     let p = stops_parts field rest s in
     let behind = fraction_bytes field.fraction ++ rest in
     let parts : field_bytes field ++ rest ≡ sign_bytes field.sign ++ (field.whole ++ behind) = simp append_assoc in
-    let sign = sign_again field.sign (field.whole ++ behind) (λ a. no_sign_behind field.whole field.fraction rest f.0 (λ e n. p.no_sign (rw (a, e, n) refl))) in
-    let whole = digits_again field.whole behind f.0 (no_digit_behind field.fraction rest p.no_digit) in
+    let sign = sign_again field.sign (field.whole ++ behind)
+    (λ a. no_sign_behind field.whole field.fraction rest f.0 (λ e n. p.no_sign (rw (a, e, n) refl))) in
+    let whole = front_again is_digit field.whole behind f.0 (no_digit_behind field.fraction rest p.no_digit) in
     let fraction = fraction_again field.fraction rest f.1 p.no_point p.no_digit in
     ap field_at parts
-    ∙ ap (λ (x : Sign × List ℕ). let w = digits_at x.1 in let g = fraction_at w.1 in (record { sign = x.0; whole = w.0; fraction = g.0 }, g.1)) sign
+    ∙ ap (λ (x : Sign × List ℕ). let w = digits_at x.1 in let g = fraction_at w.1 in
+    (record { sign = x.0; whole = w.0; fraction = g.0 }, g.1)) sign
     ∙ ap (λ (w : List ℕ × List ℕ). let g = fraction_at w.1 in (record { sign = field.sign; whole = w.0; fraction = g.0 }, g.1)) whole
     ∙ ap (λ (g : Option (List ℕ) × List ℕ). (record { sign = field.sign; whole = field.whole; fraction = g.0 }, g.1)) fraction

@@ -1,4 +1,7 @@
+pub mod Fronts
 pub mod Fields
+pub mod Lines
+pub mod Squeezed
 pub mod Checks
 pub mod Steps
 pub mod Starts

@@ -3,10 +3,10 @@ use Rattle.std.proofs.Common.{◌≡◌, ℕ, suc, ◌+◌, ◌-◌, ◌<◌, �
 use Rattle.pcl_base.specs.declared.refusal.Refusal.{Refusal}
 use Rattle.pcl_escape.specs.declared.step.Prefix.{Prefix}
 use Rattle.pcl_escape.specs.Said.{Said}
-use Rattle.pcl_escape.specs.Scan.{Reads, start_at, parameter_at, step_at, commands_said, with_front, after, outcome}
-use Rattle.pcl_escape.proofs.Steps.{parameter_step}
+use Rattle.pcl_escape.specs.Scan.{Reads, start_at, step_at, commands_said, with_front, after, outcome}
+use Rattle.pcl_escape.proofs.Steps.{parameter_shorter}
 use Rattle.pcl_escape.proofs.Starts.{start_step}
-use Rattle.pcl_escape.proofs.Runs.{with_fronts, parameter_shorter, start_shorter}
+use Rattle.pcl_escape.proofs.Runs.{with_fronts, start_shorter}
 use Rattle.pcl_escape.proofs.Again.{enough}
 
 -- there is more to read
@@ -27,14 +27,17 @@ goes_on_inside None bytes e = absurd cc
 goes_on_inside (Some prefix) bytes e = tt
 
 -- a step takes a byte
-pub step_shorter : (inside : Option Prefix) (at : ℕ) (bytes : List ℕ) (reads : Reads) → GoesOn inside bytes → step_at inside at bytes ≡ Ok reads → length reads.rest < length bytes
+pub step_shorter : (inside : Option Prefix) (at : ℕ) (bytes : List ℕ) (reads : Reads) → GoesOn inside bytes
+    → step_at inside at bytes ≡ Ok reads → length reads.rest < length bytes
 step_shorter None at [] reads goes e = absurd goes
-step_shorter None at (byte ∷ bytes) reads goes e = start_shorter at (byte ∷ bytes) (start_at at (byte ∷ bytes)) reads (start_step at byte bytes) e
-step_shorter (Some prefix) at bytes reads goes e = parameter_shorter prefix at bytes (parameter_at prefix at bytes) reads (parameter_step prefix at bytes) e
+step_shorter None at (byte ∷ bytes) reads goes e = start_shorter at (byte ∷ bytes) (start_at at (byte ∷ bytes)) reads
+    (start_step at byte bytes) e
+step_shorter (Some prefix) at bytes reads goes e = parameter_shorter prefix at bytes reads e
 
 -- the first step, and then the others
 first_step : (n : ℕ) (inside : Option Prefix) (at : ℕ) (bytes : List ℕ) → GoesOn inside bytes
-    → outcome (suc n) inside at bytes ≡ after (step_at inside at bytes) (λ reads. outcome n reads.inside (at + (length bytes - length reads.rest)) reads.rest)
+    → outcome (suc n) inside at bytes ≡ after (step_at inside at bytes)
+    (λ reads. outcome n reads.inside (at + (length bytes - length reads.rest)) reads.rest)
 unfolding outcome
 first_step n None at [] goes = absurd goes
 first_step n None at (byte ∷ bytes) goes = refl
@@ -45,26 +48,32 @@ abbrev pub so_far : List Said → ℕ → Option Prefix → List ℕ → Result 
 so_far front total inside rest = with_front front (outcome (suc (length rest)) inside (total - length rest) rest)
 
 -- a command goes over to what was read before
-pub one_more : (front : List Said) (total : ℕ) (inside : Option Prefix) (rest : List ℕ) (reads : Reads) → length rest ≤ total → GoesOn inside rest → step_at inside (total - length rest) rest ≡ Ok reads
+pub one_more : (front : List Said) (total : ℕ) (inside : Option Prefix) (rest : List ℕ) (reads : Reads) → length rest ≤ total
+    → GoesOn inside rest → step_at inside (total - length rest) rest ≡ Ok reads
     → so_far (front ++ commands_said reads.said) total reads.inside reads.rest ≡ so_far front total inside rest
 one_more front total inside rest reads h goes e =
     let shorter = step_shorter inside (total - length rest) rest reads goes e in
     let place : (total - length rest) + (length rest - length reads.rest) ≡ total - length reads.rest = omega arith in
-    let steps : outcome (suc (length reads.rest)) reads.inside (total - length reads.rest) reads.rest ≡ outcome (length rest) reads.inside (total - length reads.rest) reads.rest =
+    let steps : outcome (suc (length reads.rest)) reads.inside (total - length reads.rest) reads.rest
+    ≡ outcome (length rest) reads.inside (total - length reads.rest) reads.rest =
     enough (suc (length reads.rest)) (length rest) reads.inside (total - length reads.rest) reads.rest (omega arith) shorter in
-    let next : outcome (suc (length rest)) inside (total - length rest) rest ≡ with_front (commands_said reads.said) (outcome (length rest) reads.inside (total - length reads.rest) reads.rest) =
+    let next : outcome (suc (length rest)) inside (total - length rest) rest ≡ with_front (commands_said reads.said)
+    (outcome (length rest) reads.inside (total - length reads.rest) reads.rest) =
     first_step (length rest) inside (total - length rest) rest goes
-    ∙ ap (λ (r : Result Reads Refusal). after r (λ reads. outcome (length rest) reads.inside ((total - length rest) + (length rest - length reads.rest)) reads.rest)) e
+    ∙ ap (λ (r : Result Reads Refusal). after r (λ reads. outcome (length rest) reads.inside
+    ((total - length rest) + (length rest - length reads.rest)) reads.rest)) e
     ∙ ap (λ (k : ℕ). with_front (commands_said reads.said) (outcome (length rest) reads.inside k reads.rest)) place in
     ap (with_front (front ++ commands_said reads.said)) steps
     ∙ sym (with_fronts front (commands_said reads.said) (outcome (length rest) reads.inside (total - length reads.rest) reads.rest))
     ∙ ap (with_front front) (sym next)
 
 -- a fault of a step is the job's
-pub stops_at : (front : List Said) (total : ℕ) (inside : Option Prefix) (rest : List ℕ) (fault : Refusal) → GoesOn inside rest → step_at inside (total - length rest) rest ≡ Err fault → so_far front total inside rest ≡ Err fault
+pub stops_at : (front : List Said) (total : ℕ) (inside : Option Prefix) (rest : List ℕ) (fault : Refusal) → GoesOn inside rest
+    → step_at inside (total - length rest) rest ≡ Err fault → so_far front total inside rest ≡ Err fault
 stops_at front total inside rest fault goes e =
     ap (with_front front) (first_step (length rest) inside (total - length rest) rest goes
-    ∙ ap (λ (r : Result Reads Refusal). after r (λ reads. outcome (length rest) reads.inside ((total - length rest) + (length rest - length reads.rest)) reads.rest)) e)
+    ∙ ap (λ (r : Result Reads Refusal). after r (λ reads. outcome (length rest) reads.inside
+    ((total - length rest) + (length rest - length reads.rest)) reads.rest)) e)
 
 -- no bytes outside sequences give no commands
 all_done : (front : List Said) (total : ℕ) → so_far front total None [] ≡ Ok front
@@ -72,7 +81,8 @@ unfolding outcome
 all_done front total = ap (λ (cs : List Said). Ok cs) (append-nil front)
 
 -- at the end all was read
-pub is_done : (front : List Said) (total : ℕ) (inside : Option Prefix) (rest : List ℕ) → true ≡ (length rest == 0) → false ≡ is_some inside → so_far front total inside rest ≡ Ok front
+pub is_done : (front : List Said) (total : ℕ) (inside : Option Prefix) (rest : List ℕ) → true ≡ (length rest == 0) → false ≡ is_some inside
+    → so_far front total inside rest ≡ Ok front
 is_done front total None [] e i = all_done front total
 is_done front total None (byte ∷ rest) e i = let z : suc (length rest) ≡ 0 = eqb-true (suc (length rest)) 0 (sym e) in absurd (omega arith)
 is_done front total (Some prefix) rest e i = absurd cc

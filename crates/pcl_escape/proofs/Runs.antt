@@ -1,5 +1,5 @@
 -- All steps: what the reading of the bytes gives says what the bytes are.
-use Rattle.std.proofs.Common.{◌≡◌, ℕ, zero, suc, ◌+◌, ◌-◌, ◌<◌, List, [], ◌∷◌, ◌++◌, length, Option, Some, None, Result, Ok, Err, refl, sym, ap, subst, subst₂, ◌∙◌, append_assoc, append-nil, length-append, zero-add, arith}
+use Rattle.std.proofs.Common.{◌≡◌, ℕ, zero, suc, ◌+◌, ◌-◌, ◌<◌, true, is_some, List, [], ◌∷◌, ◌++◌, length, Option, Some, None, Result, Ok, Err, refl, sym, ap, subst, subst₂, ◌∙◌, append_assoc, append-nil, length-append, zero-add, arith}
 use Rattle.std.specs.List.{flat_map, AllByRecursion}
 use Rattle.std.specs.Prelude.{IfOk, IfErr}
 use Rattle.std.specs.Global.{Vec}
@@ -8,13 +8,14 @@ use Rattle.pcl_base.specs.declared.fault.JobFault.TheVariants.{Refused, Memory}
 use Rattle.pcl_base.specs.declared.refusal.Refusal.{Refusal}
 use Rattle.pcl_escape.specs.declared.command.Command.{Command}
 use Rattle.pcl_escape.specs.declared.step.Prefix.{Prefix}
-use Rattle.pcl_escape.specs.Field.{field_bytes}
+use Rattle.pcl_escape.specs.Letter.{goes_on, prefix_bytes}
 use Rattle.pcl_escape.specs.Said.{Said, views}
 use Rattle.pcl_escape.specs.Scan.{Reads, start_at, parameter_at, with_front, after, outcome, outcome_of, Yields}
-use Rattle.pcl_escape.specs.Pieces.{Parameter, Piece, silent, control, two_character, combined, IsPrefix, IsPiece, IsMiddle, IsEnd, parameter_bytes, spelling, bare_command, command_of, parameter_commands, commands_from, commands_of, IsReading}
-use Rattle.pcl_escape.specs.Faults.{Fails, IsFault, IsFaultOf, in_parameter, FailsParameter, place_behind}
-use Rattle.pcl_escape.proofs.Steps.{Inside, is_middle, is_end, is_wrong, parameter_step}
-use Rattle.pcl_escape.proofs.Starts.{Outside, silent_byte, control_code, two_characters, sequence, wrong, start_step}
+use Rattle.pcl_escape.specs.Pieces.{Parameter, Piece, combined, IsPrefix, IsPiece, ArePieces, IsMiddle, IsEnd, parameter_bytes, spelling, command_of, parameter_commands, first_place, commands_from, commands_of, IsReading}
+use Rattle.pcl_escape.specs.Faults.{Fails, IsFault, IsFaultOf, IsUngrouped, in_parameter, FailsParameter, place_behind}
+use Rattle.pcl_escape.proofs.Fields.{and_parts}
+use Rattle.pcl_escape.proofs.Steps.{Inside, is_middle, is_end, is_wrong, grouped_step, inside_shorter}
+use Rattle.pcl_escape.proofs.Starts.{Outside, whole_piece, sequence, wrong, start_step}
 
 -- ---- what bytes are
 
@@ -25,7 +26,8 @@ pub data Last (at : ℕ) : List ℕ → Result (List Said) Refusal → Type 0 wh
 
 -- bytes outside sequences are whole pieces and what stands behind them
 pub data Reading (at : ℕ) : List ℕ → Result (List Said) Refusal → Type 0 where
-  reading : (pieces : List Piece) (behind : List ℕ) (last : Result (List Said) Refusal) → AllByRecursion IsPiece pieces → Last (at + length (flat_map spelling pieces)) behind last
+  reading : (pieces : List Piece) (behind : List ℕ) (last : Result (List Said) Refusal) → ArePieces pieces behind
+      → Last (at + length (flat_map spelling pieces)) behind last
       → Reading at (flat_map spelling pieces ++ behind) (with_front (commands_of at pieces) last)
 
 -- the bytes of all parameters of a sequence, with the data
@@ -37,24 +39,29 @@ abbrev pub place_from : ℕ → ℕ → List Parameter → ℕ
 place_from at begin [] = at
 place_from at begin (parameter ∷ middle) = begin + length (flat_map parameter_bytes (parameter ∷ middle))
 
--- Bytes inside a sequence, which begin at the place begin, are the rest of the sequence, and behind it whole pieces and so on; or what first
+-- Bytes inside a sequence, which begin at the place begin, are the rest of the sequence, and behind it whole pieces and so on; or what
+-- first
 -- fails is in one of its parameters.
 pub data Rest (prefix : Prefix) (at begin : ℕ) : List ℕ → Result (List Said) Refusal → Type 0 where
-  whole : (middle : List Parameter) (end : Parameter) (bytes behind : List ℕ) (read : Result (List Said) Refusal) → AllByRecursion (IsMiddle prefix) middle → IsEnd prefix end bytes
+  whole : (middle : List Parameter) (end : Parameter) (bytes behind : List ℕ) (read : Result (List Said) Refusal)
+      → AllByRecursion (IsMiddle prefix) middle → IsEnd prefix end bytes
       → Reading (begin + length (sequence_bytes middle end bytes)) behind read
-      → Rest prefix at begin (sequence_bytes middle end bytes ++ behind) (with_front (parameter_commands prefix at begin middle end bytes) read)
-  broken : (middle : List Parameter) (bytes : List ℕ) (refusal : Refusal) → AllByRecursion (IsMiddle prefix) middle → FailsParameter prefix (place_from at begin middle) bytes refusal
+      → Rest prefix at begin (sequence_bytes middle end bytes ++ behind)
+      (with_front (parameter_commands prefix at begin middle end bytes) read)
+  broken : (middle : List Parameter) (bytes : List ℕ) (refusal : Refusal) → AllByRecursion (IsMiddle prefix) middle
+      → FailsParameter prefix (place_from at begin middle) bytes refusal
       → Rest prefix at begin (flat_map parameter_bytes middle ++ bytes) (Err refusal)
 
--- what bytes inside or outside a sequence are
+-- what bytes inside or outside a sequence are; only one with a group character goes on
 abbrev pub IsRead : Option Prefix → ℕ → List ℕ → Result (List Said) Refusal → Type 0
 IsRead None at bytes read = Reading at bytes read
-IsRead (Some prefix) at bytes read = Rest prefix at at bytes read
+IsRead (Some prefix) at bytes read = is_some prefix.group ≡ true → Rest prefix at at bytes read
 
 -- ---- one more in front
 
 -- two fronts are one
-pub with_fronts : (front more : List Said) (read : Result (List Said) Refusal) → with_front front (with_front more read) ≡ with_front (front ++ more) read
+pub with_fronts : (front more : List Said) (read : Result (List Said) Refusal)
+    → with_front front (with_front more read) ≡ with_front (front ++ more) read
 with_fronts front more (Ok commands) = ap (λ (cs : List Said). Ok cs) (sym (append_assoc front more commands))
 with_fronts front more (Err fault) = refl
 
@@ -72,164 +79,225 @@ pub place_further : (at : ℕ) (front more : List ℕ) → (at + length front) +
 place_further at front more = let e = length-append front more in omega arith
 
 -- a piece in front of a reading
-piece_first : (piece : Piece) (at : ℕ) (bytes : List ℕ) (read : Result (List Said) Refusal) → IsPiece piece → Reading (at + length (spelling piece)) bytes read
+piece_first : (piece : Piece) (at : ℕ) (bytes : List ℕ) (read : Result (List Said) Refusal) → IsPiece piece bytes
+    → Reading (at + length (spelling piece)) bytes read
     → Reading at (spelling piece ++ bytes) (with_front (commands_from at piece) read)
 piece_first piece at bytes read is (reading pieces behind last each ends) =
-    let more : Last (at + length (flat_map spelling (piece ∷ pieces))) behind last = subst (λ (n : ℕ). Last n behind last) (place_further at (spelling piece) (flat_map spelling pieces)) ends in
-    subst₂ (Reading at) (append_assoc (spelling piece) (flat_map spelling pieces) behind) (sym (with_fronts (commands_from at piece) (commands_of (at + length (spelling piece)) pieces) last))
+    let more : Last (at + length (flat_map spelling (piece ∷ pieces))) behind last =
+    subst (λ (n : ℕ). Last n behind last) (place_further at (spelling piece) (flat_map spelling pieces)) ends in
+    subst₂ (Reading at) (append_assoc (spelling piece) (flat_map spelling pieces) behind)
+    (sym (with_fronts (commands_from at piece) (commands_of (at + length (spelling piece)) pieces) last))
     (reading (piece ∷ pieces) behind last (is, each) more)
 
 -- a last parameter in front of a reading
-end_first : (prefix : Prefix) (at begin : ℕ) (end : Parameter) (bytes behind : List ℕ) (read : Result (List Said) Refusal) → IsEnd prefix end bytes → Reading (begin + length (parameter_bytes end ++ bytes)) behind read
+end_first : (prefix : Prefix) (at begin : ℕ) (end : Parameter) (bytes behind : List ℕ) (read : Result (List Said) Refusal)
+    → IsEnd prefix end bytes → Reading (begin + length (parameter_bytes end ++ bytes)) behind read
     → Rest prefix at begin (parameter_bytes end ++ (bytes ++ behind)) (with_front (command_of prefix at end bytes ∷ []) read)
 end_first prefix at begin end bytes behind read is r =
-    subst (λ (bs : List ℕ). Rest prefix at begin bs (with_front (command_of prefix at end bytes ∷ []) read)) (append_assoc (parameter_bytes end) bytes behind) (whole [] end bytes behind read tt is r)
+    subst (λ (bs : List ℕ). Rest prefix at begin bs (with_front (command_of prefix at end bytes ∷ []) read))
+    (append_assoc (parameter_bytes end) bytes behind) (whole [] end bytes behind read tt is r)
 
 -- the place behind one more parameter
-pub place_from_more : (begin : ℕ) (parameter : Parameter) (middle : List Parameter) → place_from (begin + length (parameter_bytes parameter)) (begin + length (parameter_bytes parameter)) middle ≡ begin + length (flat_map parameter_bytes (parameter ∷ middle))
+pub place_from_more : (begin : ℕ) (parameter : Parameter) (middle : List Parameter)
+    → place_from (begin + length (parameter_bytes parameter)) (begin + length (parameter_bytes parameter)) middle
+    ≡ begin + length (flat_map parameter_bytes (parameter ∷ middle))
 place_from_more begin parameter [] = ap (λ (bs : List ℕ). begin + length bs) (sym (append-nil (parameter_bytes parameter)))
-place_from_more begin parameter (next ∷ middle) = place_further begin (parameter_bytes parameter) (flat_map parameter_bytes (next ∷ middle))
+place_from_more begin parameter (next ∷ middle) = place_further begin (parameter_bytes parameter)
+    (flat_map parameter_bytes (next ∷ middle))
 
 -- a middle parameter in front of the rest of its sequence
-middle_first : (prefix : Prefix) (at begin : ℕ) (parameter : Parameter) (bytes : List ℕ) (read : Result (List Said) Refusal) → IsMiddle prefix parameter
+middle_first : (prefix : Prefix) (at begin : ℕ) (parameter : Parameter) (bytes : List ℕ) (read : Result (List Said) Refusal)
+    → IsMiddle prefix parameter
     → Rest prefix (begin + length (parameter_bytes parameter)) (begin + length (parameter_bytes parameter)) bytes read
     → Rest prefix at begin (parameter_bytes parameter ++ bytes) (with_front (command_of prefix at parameter [] ∷ []) read)
 middle_first prefix at begin parameter bytes read is (whole middle end sent behind more each last r) =
     let next = begin + length (parameter_bytes parameter) in
-    let joined : sequence_bytes (parameter ∷ middle) end sent ≡ parameter_bytes parameter ++ sequence_bytes middle end sent = append_assoc (parameter_bytes parameter) (flat_map parameter_bytes middle) (parameter_bytes end ++ sent) in
-    let place : next + length (sequence_bytes middle end sent) ≡ begin + length (sequence_bytes (parameter ∷ middle) end sent) = place_further begin (parameter_bytes parameter) (sequence_bytes middle end sent) ∙ ap (λ (bs : List ℕ). begin + length bs) (sym joined) in
-    subst₂ (Rest prefix at begin) (ap (λ (bs : List ℕ). bs ++ behind) joined ∙ append_assoc (parameter_bytes parameter) (sequence_bytes middle end sent) behind)
+    let joined : sequence_bytes (parameter ∷ middle) end sent ≡ parameter_bytes parameter ++ sequence_bytes middle end sent =
+    append_assoc (parameter_bytes parameter) (flat_map parameter_bytes middle) (parameter_bytes end ++ sent) in
+    let place : next + length (sequence_bytes middle end sent) ≡ begin + length (sequence_bytes (parameter ∷ middle) end sent) =
+    place_further begin (parameter_bytes parameter) (sequence_bytes middle end sent)
+    ∙ ap (λ (bs : List ℕ). begin + length bs) (sym joined) in
+    subst₂ (Rest prefix at begin)
+    (ap (λ (bs : List ℕ). bs ++ behind) joined ∙ append_assoc (parameter_bytes parameter) (sequence_bytes middle end sent) behind)
     (sym (with_fronts (command_of prefix at parameter [] ∷ []) (parameter_commands prefix next next middle end sent) more))
     (whole (parameter ∷ middle) end sent behind more (is, each) last (subst (λ (n : ℕ). Reading n behind more) place r))
 middle_first prefix at begin parameter bytes read is (broken middle behind refusal each f) =
-    subst (λ (bs : List ℕ). Rest prefix at begin bs (Err refusal)) (append_assoc (parameter_bytes parameter) (flat_map parameter_bytes middle) behind)
-    (broken (parameter ∷ middle) behind refusal (is, each) (subst (λ (n : ℕ). FailsParameter prefix n behind refusal) (place_from_more begin parameter middle) f))
+    subst (λ (bs : List ℕ). Rest prefix at begin bs (Err refusal))
+    (append_assoc (parameter_bytes parameter) (flat_map parameter_bytes middle) behind)
+    (broken (parameter ∷ middle) behind refusal (is, each)
+    (subst (λ (n : ℕ). FailsParameter prefix n behind refusal) (place_from_more begin parameter middle) f))
 
--- in a sequence that begins at ESC the parameters begin three bytes behind it
-pub place_in_sequence : (at : ℕ) (middle : List Parameter) → place_from at (at + 3) middle ≡ place_behind at middle
-place_in_sequence at [] = refl
-place_in_sequence at (parameter ∷ middle) = refl
+-- in a sequence that begins at ESC the parameters begin behind its prefix
+pub place_in_sequence : (at : ℕ) (prefix : Prefix) (middle : List Parameter)
+    → place_from at (first_place at prefix) middle ≡ place_behind at prefix middle
+place_in_sequence at prefix [] = refl
+place_in_sequence at prefix (parameter ∷ middle) = refl
+
+-- the place behind the prefix and more
+pub place_prefixed : (at : ℕ) (prefix : Prefix) (more : List ℕ)
+    → first_place at prefix + length more ≡ at + length (27 ∷ (prefix_bytes prefix ++ more))
+place_prefixed at prefix more = let e = length-append (prefix_bytes prefix) more in omega arith
+
+-- with a group character, the bytes behind it may be any
+pub grouped_any : (group : Option ℕ) (bytes : List ℕ) → is_some group ≡ true → IsUngrouped group bytes
+grouped_any None bytes g = absurd cc
+grouped_any (Some group) bytes g = tt
+
+-- a middle parameter stands behind a group character
+pub middle_grouped : (prefix : Prefix) (parameter : Parameter) → IsMiddle prefix parameter → is_some prefix.group ≡ true
+middle_grouped prefix parameter m = (and_parts (is_some prefix.group) (goes_on parameter.letter) m.letter).0
+
+-- the same of the bytes behind middle parameters
+ungrouped_behind : (prefix : Prefix) (middle : List Parameter) (bytes : List ℕ) → AllByRecursion (IsMiddle prefix) middle
+    → IsUngrouped prefix.group (flat_map parameter_bytes middle ++ bytes) → IsUngrouped prefix.group bytes
+ungrouped_behind prefix [] bytes each n = n
+ungrouped_behind prefix (parameter ∷ middle) bytes each n = grouped_any prefix.group bytes (middle_grouped prefix parameter each.0)
 
 -- what fails at once is a reading without pieces
 failing : (at : ℕ) (bytes : List ℕ) (refusal : Refusal) → Fails at bytes refusal → Reading at bytes (Err refusal)
-failing at bytes refusal f = reading [] bytes (Err refusal) tt (first_fault (subst (λ (n : ℕ). Fails n bytes refusal) (let e : at ≡ at + 0 = omega arith in e) f))
+failing at bytes refusal f = reading [] bytes (Err refusal) tt
+    (first_fault (subst (λ (n : ℕ). Fails n bytes refusal) (let e : at ≡ at + 0 = omega arith in e) f))
 
 -- ESC and a prefix in front of their parameters
-sequence_first : (prefix : Prefix) (at : ℕ) (bytes : List ℕ) (read : Result (List Said) Refusal) → IsPrefix prefix → Rest prefix at (at + 3) bytes read
-    → Reading at (27 ∷ prefix.parameterized ∷ prefix.group ∷ bytes) read
-sequence_first prefix at bytes read is (whole middle end sent behind more each last r) =
-    let place : (at + 3) + length (sequence_bytes middle end sent) ≡ at + length (spelling (combined prefix middle end sent)) = place_further at (27 ∷ prefix.parameterized ∷ prefix.group ∷ []) (sequence_bytes middle end sent) in
-    piece_first (combined prefix middle end sent) at behind more (is, each, last) (subst (λ (n : ℕ). Reading n behind more) place r)
-sequence_first prefix at bytes read is (broken middle behind refusal each f) =
-    failing at (27 ∷ prefix.parameterized ∷ prefix.group ∷ (flat_map parameter_bytes middle ++ behind)) refusal
-    (in_parameter prefix middle is each (subst (λ (n : ℕ). FailsParameter prefix n behind refusal) (place_in_sequence at middle) f))
+sequence_first : (prefix : Prefix) (at : ℕ) (bytes : List ℕ) (read : Result (List Said) Refusal) → IsPrefix prefix
+    → IsUngrouped prefix.group bytes → Rest prefix at (first_place at prefix) bytes read
+    → Reading at (27 ∷ (prefix_bytes prefix ++ bytes)) read
+sequence_first prefix at bytes read is n (whole middle end sent behind more each last r) =
+    let place : first_place at prefix + length (sequence_bytes middle end sent) ≡ at + length
+    (spelling (combined prefix middle end sent)) = place_prefixed at prefix (sequence_bytes middle end sent) in
+    let joined : spelling (combined prefix middle end sent) ++ behind
+    ≡ 27 ∷ (prefix_bytes prefix ++ (sequence_bytes middle end sent ++ behind)) =
+    ap (λ (bs : List ℕ). 27 ∷ bs) (append_assoc (prefix_bytes prefix) (sequence_bytes middle end sent) behind) in
+    subst (λ (bs : List ℕ). Reading at bs (with_front (parameter_commands prefix at (first_place at prefix) middle end sent) more)) joined
+    (piece_first (combined prefix middle end sent) at behind more (is, each, last) (subst (λ (n : ℕ). Reading n behind more) place r))
+sequence_first prefix at bytes read is n (broken middle behind refusal each f) =
+    failing at (27 ∷ (prefix_bytes prefix ++ (flat_map parameter_bytes middle ++ behind))) refusal
+    (in_parameter prefix middle is (ungrouped_behind prefix middle behind each n) each
+    (subst (λ (n : ℕ). FailsParameter prefix n behind refusal) (place_in_sequence at prefix middle) f))
 
 -- ---- each step goes on
 
--- a parameter has its letter
-pub parameter_long : (parameter : Parameter) → 0 < length (parameter_bytes parameter)
-parameter_long parameter = let e = length-append (field_bytes parameter.field) (parameter.letter ∷ []) in omega arith
-
--- each step inside a sequence takes a byte
-pub parameter_shorter : (prefix : Prefix) (at : ℕ) (bytes : List ℕ) (read : Result Reads Refusal) (reads : Reads) → Inside prefix at bytes read → read ≡ Ok reads → length reads.rest < length bytes
-parameter_shorter prefix at bytes read reads (is_middle parameter rest is) e =
-    let same : rest ≡ reads.rest = cc in
-    let joined = length-append (parameter_bytes parameter) rest in
-    let long = parameter_long parameter in
-    rw (← same) (omega arith)
-parameter_shorter prefix at bytes read reads (is_end parameter sent rest is) e =
-    let same : rest ≡ reads.rest = cc in
-    let joined = length-append (parameter_bytes parameter) (sent ++ rest) in
-    let behind = length-append sent rest in
-    let long = parameter_long parameter in
-    rw (← same) (omega arith)
-parameter_shorter prefix at bytes read reads (is_wrong f) e = absurd cc
-
 -- each step outside a sequence takes a byte
-pub start_shorter : (at : ℕ) (bytes : List ℕ) (read : Result Reads Refusal) (reads : Reads) → Outside at bytes read → read ≡ Ok reads → length reads.rest < length bytes
-start_shorter at bytes read reads (silent_byte byte rest is) e = let same : rest ≡ reads.rest = cc in rw (← same) (omega arith)
-start_shorter at bytes read reads (control_code code rest is other named) e = let same : rest ≡ reads.rest = cc in rw (← same) (omega arith)
-start_shorter at bytes read reads (two_characters byte rest is named) e = let same : rest ≡ reads.rest = cc in rw (← same) (omega arith)
-start_shorter at bytes read reads (sequence prefix more same is inside) e = let shorter = parameter_shorter prefix at more read reads inside e in omega arith
+pub start_shorter : (at : ℕ) (bytes : List ℕ) (read : Result Reads Refusal) (reads : Reads) → Outside at bytes read → read ≡ Ok reads
+    → length reads.rest < length bytes
+start_shorter at bytes read reads (whole_piece piece rest said is long gives) e =
+    let same : rest ≡ reads.rest = cc in
+    let joined = length-append (spelling piece) rest in
+    rw (← same) (omega arith)
+start_shorter at bytes read reads (sequence prefix more same is n inside) e =
+    let shorter = inside_shorter prefix at more read reads inside e in
+    let joined = length-append (prefix_bytes prefix) more in
+    omega arith
 start_shorter at bytes read reads (wrong f) e = absurd cc
 
 -- one step inside a sequence, and what the bytes behind it are, say what all the bytes are
-rest_after : (prefix : Prefix) (at begin : ℕ) (bytes : List ℕ) (read : Result Reads Refusal) (go_on : Reads → Result (List Said) Refusal) → Inside prefix at bytes read
-    → ((reads : Reads) → read ≡ Ok reads → IsRead reads.inside (begin + (length bytes - length reads.rest)) reads.rest (go_on reads)) → Rest prefix at begin bytes (after read go_on)
+rest_after : (prefix : Prefix) (at begin : ℕ) (bytes : List ℕ) (read : Result Reads Refusal) (go_on : Reads → Result (List Said) Refusal)
+    → Inside prefix at bytes read
+    → ((reads : Reads) → read ≡ Ok reads → IsRead reads.inside (begin + (length bytes - length reads.rest)) reads.rest (go_on reads))
+    → Rest prefix at begin bytes (after read go_on)
 rest_after prefix at begin bytes read go_on (is_middle parameter rest is) next =
     let reads : Reads = record { said = Some (command_of prefix at parameter []); rest = rest; inside = Some prefix } in
     let more : Rest prefix (begin + length (parameter_bytes parameter)) (begin + length (parameter_bytes parameter)) rest (go_on reads) =
-    subst (λ (n : ℕ). Rest prefix n n rest (go_on reads)) (place_of begin (parameter_bytes parameter) rest) (next reads refl) in
+    subst (λ (n : ℕ). Rest prefix n n rest (go_on reads)) (place_of begin (parameter_bytes parameter) rest)
+    (next reads refl (middle_grouped prefix parameter is)) in
     middle_first prefix at begin parameter rest (go_on reads) is more
 rest_after prefix at begin bytes read go_on (is_end parameter sent rest is) next =
     let reads : Reads = record { said = Some (command_of prefix at parameter sent); rest = rest; inside = None } in
-    let joined : parameter_bytes parameter ++ (sent ++ rest) ≡ (parameter_bytes parameter ++ sent) ++ rest = sym (append_assoc (parameter_bytes parameter) sent rest) in
-    let place : begin + (length (parameter_bytes parameter ++ (sent ++ rest)) - length rest) ≡ begin + length (parameter_bytes parameter ++ sent) =
+    let joined : parameter_bytes parameter ++ (sent ++ rest) ≡ (parameter_bytes parameter ++ sent) ++ rest =
+    sym (append_assoc (parameter_bytes parameter) sent rest) in
+    let place : begin + (length (parameter_bytes parameter ++ (sent ++ rest)) - length rest)
+    ≡ begin + length (parameter_bytes parameter ++ sent) =
     ap (λ (bs : List ℕ). begin + (length bs - length rest)) joined ∙ place_of begin (parameter_bytes parameter ++ sent) rest in
-    end_first prefix at begin parameter sent rest (go_on reads) is (subst (λ (n : ℕ). Reading n rest (go_on reads)) place (next reads refl))
+    end_first prefix at begin parameter sent rest (go_on reads) is
+    (subst (λ (n : ℕ). Reading n rest (go_on reads)) place (next reads refl))
 rest_after prefix at begin bytes read go_on (is_wrong {fault = refusal} f) next = broken [] bytes refusal tt f
 
 -- a place behind a sequence's step, counted from ESC and from the first parameter
-pub place_in : (at more rest : ℕ) → rest < more → at + (suc (suc (suc more)) - rest) ≡ (at + 3) + (more - rest)
-place_in at more rest h = omega arith
+pub place_in : (at : ℕ) (prefix : Prefix) (more : List ℕ) (rest : ℕ) → rest < length more
+    → at + (length (27 ∷ (prefix_bytes prefix ++ more)) - rest) ≡ first_place at prefix + (length more - rest)
+place_in at prefix more rest h = let e = length-append (prefix_bytes prefix) more in omega arith
+
+-- bytes at a place are also those at an equal place
+moved : (inside : Option Prefix) (n m : ℕ) (bytes : List ℕ) (read : Result (List Said) Refusal) → n ≡ m → IsRead inside n bytes read
+    → IsRead inside m bytes read
+moved inside n m bytes read e is = subst (λ (k : ℕ). IsRead inside k bytes read) e is
 
 -- one step outside sequences, and what the bytes behind it are, say so too
-reading_after : (at : ℕ) (bytes : List ℕ) (read : Result Reads Refusal) (go_on : Reads → Result (List Said) Refusal) → Outside at bytes read
-    → ((reads : Reads) → read ≡ Ok reads → IsRead reads.inside (at + (length bytes - length reads.rest)) reads.rest (go_on reads)) → Reading at bytes (after read go_on)
-reading_after at bytes read go_on (silent_byte byte rest is) next =
-    let reads : Reads = record { said = None; rest = rest; inside = None } in
-    piece_first (silent byte) at rest (go_on reads) is (subst (λ (n : ℕ). Reading n rest (go_on reads)) (place_of at (byte ∷ []) rest) (next reads refl))
-reading_after at bytes read go_on (control_code code rest is other named) next =
-    let reads : Reads = record { said = Some (bare_command at code); rest = rest; inside = None } in
-    piece_first (control code) at rest (go_on reads) (is, other, named) (subst (λ (n : ℕ). Reading n rest (go_on reads)) (place_of at (code ∷ []) rest) (next reads refl))
-reading_after at bytes read go_on (two_characters byte rest is named) next =
-    let reads : Reads = record { said = Some (bare_command at byte); rest = rest; inside = None } in
-    piece_first (two_character byte) at rest (go_on reads) (is, named) (subst (λ (n : ℕ). Reading n rest (go_on reads)) (place_of at (27 ∷ byte ∷ []) rest) (next reads refl))
-reading_after at bytes read go_on (sequence prefix more same is inside) next =
-    sequence_first prefix at more (after same go_on) is
-    (rest_after prefix at (at + 3) more same go_on inside
-    (λ reads e. subst (λ (n : ℕ). IsRead reads.inside n reads.rest (go_on reads))
-    (place_in at (length more) (length reads.rest) (parameter_shorter prefix at more same reads inside e)) (next reads e)))
+reading_after : (at : ℕ) (bytes : List ℕ) (read : Result Reads Refusal) (go_on : Reads → Result (List Said) Refusal)
+    → Outside at bytes read
+    → ((reads : Reads) → read ≡ Ok reads → IsRead reads.inside (at + (length bytes - length reads.rest)) reads.rest (go_on reads))
+    → Reading at bytes (after read go_on)
+reading_after at bytes read go_on (whole_piece piece rest said is long gives) next =
+    let reads : Reads = record { said = said; rest = rest; inside = None } in
+    subst (λ (front : List Said). Reading at (spelling piece ++ rest) (with_front front (go_on reads))) gives
+    (piece_first piece at rest (go_on reads) is (subst (λ (n : ℕ). Reading n rest (go_on reads)) (place_of at (spelling piece) rest)
+    (next reads refl)))
+reading_after at bytes read go_on (sequence prefix more same is n inside) next =
+    sequence_first prefix at more (after same go_on) is n
+    (rest_after prefix at (first_place at prefix) more same go_on inside
+    (λ reads e. moved reads.inside (at + (length bytes - length reads.rest)) (first_place at prefix + (length more - length reads.rest))
+    reads.rest (go_on reads)
+    (place_in at prefix more (length reads.rest) (inside_shorter prefix at more same reads inside e)) (next reads e)))
 reading_after at bytes read go_on (wrong {fault = refusal} f) next = failing at bytes refusal f
 
 -- all steps together say what the bytes are
-pub is_read : (n : ℕ) (inside : Option Prefix) (at : ℕ) (bytes : List ℕ) → length bytes < n → IsRead inside at bytes (outcome n inside at bytes)
+pub is_read : (n : ℕ) (inside : Option Prefix) (at : ℕ) (bytes : List ℕ) → length bytes < n
+    → IsRead inside at bytes (outcome n inside at bytes)
 unfolding outcome
 is_read zero inside at bytes h = absurd (omega arith)
 is_read (suc n) None at [] h = reading [] [] (Ok []) tt no_more
 is_read (suc n) None at (byte ∷ bytes) h =
-    reading_after at (byte ∷ bytes) (start_at at (byte ∷ bytes)) (λ reads. outcome n reads.inside (at + (length (byte ∷ bytes) - length reads.rest)) reads.rest) (start_step at byte bytes)
+    reading_after at (byte ∷ bytes) (start_at at (byte ∷ bytes))
+    (λ reads. outcome n reads.inside (at + (length (byte ∷ bytes) - length reads.rest)) reads.rest) (start_step at byte bytes)
     (λ reads e. let shorter = start_shorter at (byte ∷ bytes) (start_at at (byte ∷ bytes)) reads (start_step at byte bytes) e in
     is_read n reads.inside (at + (length (byte ∷ bytes) - length reads.rest)) reads.rest (omega arith))
-is_read (suc n) (Some prefix) at bytes h =
-    rest_after prefix at at bytes (parameter_at prefix at bytes) (λ reads. outcome n reads.inside (at + (length bytes - length reads.rest)) reads.rest) (parameter_step prefix at bytes)
-    (λ reads e. let shorter = parameter_shorter prefix at bytes (parameter_at prefix at bytes) reads (parameter_step prefix at bytes) e in
+is_read (suc n) (Some prefix) at bytes h = λ g.
+    rest_after prefix at at bytes (parameter_at prefix at bytes)
+    (λ reads. outcome n reads.inside (at + (length bytes - length reads.rest)) reads.rest) (grouped_step prefix at bytes g)
+    (λ reads e. let shorter = inside_shorter prefix at bytes (parameter_at prefix at bytes) reads (grouped_step prefix at bytes g) e in
     is_read n reads.inside (at + (length bytes - length reads.rest)) reads.rest (omega arith))
 
 -- ---- what a whole job is
 
 -- the commands that were read are those of the pieces, and nothing is behind these
-pieces_read : (pieces : List Piece) (behind : List ℕ) (last : Result (List Said) Refusal) (commands : List Said) → AllByRecursion IsPiece pieces → Last (0 + length (flat_map spelling pieces)) behind last
+pieces_read : (pieces : List Piece) (behind : List ℕ) (last : Result (List Said) Refusal) (commands : List Said) → ArePieces pieces behind
+    → Last (0 + length (flat_map spelling pieces)) behind last
     → with_front (commands_of 0 pieces) last ≡ Ok commands → IsReading (flat_map spelling pieces ++ behind) commands
 pieces_read pieces behind last commands each no_more e =
     let same : commands_of 0 pieces ++ [] ≡ commands = cc in
-    record { pieces = pieces; each = each; spelled = append-nil (flat_map spelling pieces); said = sym same ∙ append-nil (commands_of 0 pieces) }
+    record {
+      pieces = pieces;
+      each = each;
+      spelled = append-nil (flat_map spelling pieces);
+      said = sym same
+          ∙ append-nil (commands_of 0 pieces);
+    }
 pieces_read pieces behind last commands each (first_fault f) e = absurd cc
 
 -- the fault that was found is the one behind the pieces
-pieces_broken : (pieces : List Piece) (behind : List ℕ) (last : Result (List Said) Refusal) (fault : Refusal) → AllByRecursion IsPiece pieces → Last (0 + length (flat_map spelling pieces)) behind last
+pieces_broken : (pieces : List Piece) (behind : List ℕ) (last : Result (List Said) Refusal) (fault : Refusal) → ArePieces pieces behind
+    → Last (0 + length (flat_map spelling pieces)) behind last
     → with_front (commands_of 0 pieces) last ≡ Err fault → IsFault (flat_map spelling pieces ++ behind) fault
 pieces_broken pieces behind last fault each no_more e = absurd cc
 pieces_broken pieces behind last fault each (first_fault {refusal = refusal} f) e =
     let same : refusal ≡ fault = cc in
-    record { front = pieces; each = each; behind = behind; spelled = refl; fails = subst₂ (λ (n : ℕ) (r : Refusal). Fails n behind r) (zero-add (length (flat_map spelling pieces))) same f }
+    record {
+      front = pieces;
+      each = each;
+      behind = behind;
+      spelled = refl;
+      fails = subst₂ (λ (n : ℕ) (r : Refusal). Fails n behind r)
+          (zero-add (length (flat_map spelling pieces))) same f;
+    }
 
 -- what a reading without fault says of the job
-all_read : (job : List ℕ) (read : Result (List Said) Refusal) (commands : List Said) → Reading 0 job read → read ≡ Ok commands → IsReading job commands
+all_read : (job : List ℕ) (read : Result (List Said) Refusal) (commands : List Said) → Reading 0 job read → read ≡ Ok commands
+    → IsReading job commands
 all_read job read commands (reading pieces behind last each ends) e = pieces_read pieces behind last commands each ends e
 
 -- what a reading with a fault says of the job
-broken_off : (job : List ℕ) (read : Result (List Said) Refusal) (fault : Refusal) → Reading 0 job read → read ≡ Err fault → IsFault job fault
+broken_off : (job : List ℕ) (read : Result (List Said) Refusal) (fault : Refusal) → Reading 0 job read → read ≡ Err fault
+    → IsFault job fault
 broken_off job read fault (reading pieces behind last each ends) e = pieces_broken pieces behind last fault each ends e
 
 -- the commands that are read are those of a reading
@@ -241,12 +309,14 @@ pub fault_of : (job : List ℕ) (fault : Refusal) → outcome_of job ≡ Err fau
 fault_of job fault e = broken_off job (outcome_of job) fault (is_read (suc (length job)) None 0 job (omega arith)) e
 
 -- what a function that yields the outcome returned
-pub reading_of_scan : (job : List ℕ) (result : Result (Vec Command) JobFault) → Yields result (outcome_of job) → IfOk result (λ commands. IsReading job (views commands.items))
+pub reading_of_scan : (job : List ℕ) (result : Result (Vec Command) JobFault) → Yields result (outcome_of job)
+    → IfOk result (λ commands. IsReading job (views commands.items))
 reading_of_scan job (Ok commands) y = reading_of job (views commands.items) y
 reading_of_scan job (Err fault) y = tt
 
 -- the same for a fault
-pub fault_of_scan : (job : List ℕ) (result : Result (Vec Command) JobFault) → Yields result (outcome_of job) → IfErr result (λ fault. IsFaultOf job fault)
+pub fault_of_scan : (job : List ℕ) (result : Result (Vec Command) JobFault) → Yields result (outcome_of job)
+    → IfErr result (λ fault. IsFaultOf job fault)
 fault_of_scan job (Ok commands) y = tt
 fault_of_scan job (Err (Refused fault)) y = fault_of job fault y
 fault_of_scan job (Err Memory) y = tt

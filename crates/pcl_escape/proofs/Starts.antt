@@ -1,86 +1,261 @@
 -- What a step reads outside sequences: a whole piece, the first parameter of a sequence, or a fault.
-use Rattle.std.proofs.Common.{◌≡◌, ℕ, Bool, true, false, ◌==◌, if◌then◌else◌, IsTrue, is_some, List, [], ◌∷◌, Option, Some, None, Result, Ok, Err, refl, sym, ap, subst, ◌∙◌, arith}
+use Rattle.std.proofs.Common.{◌≡◌, ℕ, suc, ◌+◌, ◌-◌, ◌<◌, Bool, true, false, ◌==◌, ◌&&◌, if◌then◌else◌, IsTrue, is_some, List, [], ◌∷◌, ◌++◌, length, take, drop, Option, Some, None, Result, Ok, Err, refl, sym, ap, subst, subst₂, ◌∙◌, append_assoc, length-append, arith}
 use Rattle.std.proofs.lemmas.Bool.{eqb-true}
 use Rattle.std.proofs.lemmas.Bool.Decides.{nat_tests}
+use Rattle.std.specs.List.{prefix_len}
 use Rattle.pcl_base.specs.declared.name.Name.TheVariants.{Empty, One}
-use Rattle.pcl_base.specs.declared.kind.Kind.TheVariants.{Truncated, BadSequence, UnsupportedCommand}
+use Rattle.pcl_base.specs.declared.kind.Kind.TheVariants.{Truncated, BadSequence, UnsupportedCommand, NotPcl}
+use Rattle.pcl_base.specs.declared.operation.Operation.{Operation}
 use Rattle.pcl_base.specs.declared.refusal.Refusal.{Refusal}
-use Rattle.pcl_escape.specs.declared.operation.Operation.{Operation}
+use Rattle.pcl_base.specs.declared.value.Sign.{Sign}
+use Rattle.pcl_base.specs.declared.value.Sign.TheVariants.{Absent, Plus, Minus}
+use Rattle.pcl_base.specs.declared.value.Value.{Value}
+use Rattle.pcl_base.specs.Operation.{operation_of}
+use Rattle.pcl_base.specs.Refusal.{refusal}
 use Rattle.pcl_escape.specs.declared.step.Prefix.{Prefix}
-use Rattle.pcl_escape.specs.Operation.{operation_of}
-use Rattle.pcl_escape.specs.Letter.{is_silent, is_control, is_two_character, is_parameterized, is_unread, is_group}
-use Rattle.pcl_escape.specs.Scan.{Reads, refuse, named_by, named_at, group_at, sequence_at, start_at, parameter_at}
-use Rattle.pcl_escape.specs.Pieces.{IsPrefix, IsNamed, bare_command}
-use Rattle.pcl_escape.specs.Faults.{Fails, unknown_control, text, lone_escape, no_sequence, unknown_two, unread, no_group, bad_group, refusal}
-use Rattle.pcl_escape.proofs.Steps.{Inside, parameter_step}
+use Rattle.pcl_escape.specs.Letter.{is_silent, is_control, is_text, is_two_character, is_parameterized, is_ungrouped, is_group, is_last, goes_on, parameter_name, prefix_bytes}
+use Rattle.pcl_escape.specs.Field.{Spelled, is_digit, field_bytes, field_value, field_at}
+use Rattle.pcl_escape.specs.Checks.{exit_name, is_exit, parameter_checks}
+use Rattle.pcl_escape.specs.Exit.{joined, IsLine, AreOtherLines, names_language, names_pcl, lines_at}
+use Rattle.pcl_escape.specs.Said.{Said}
+use Rattle.pcl_escape.specs.Scan.{Reads, refuse, named_by, named_at, text_by, text_at, leaves, skipped_by, with_lines, ungrouped_at, prefix_at, sequence_at, start_at, parameter_at, commands_said}
+use Rattle.pcl_escape.specs.Pieces.{Parameter, Piece, silent, control, text, two_character, exit, IsField, IsPrefix, IsNamed, IsNoText, IsRun, IsExit, IsPiece, parameter_bytes, spelling, bare_command, text_command, exit_command, commands_from}
+use Rattle.pcl_escape.specs.Faults.{Fails, unknown_control, unknown_text, lone_escape, no_sequence, unknown_two, no_group, bad_group, in_line, IsUngrouped, cut}
+use Rattle.pcl_escape.proofs.Fields.{and_parts}
+use Rattle.pcl_escape.proofs.Fronts.{Pass, StopsAt, front_yes, front_split, front_again}
+use Rattle.pcl_escape.proofs.Lines.{Lines, skipped, foreign, lines_split, lines_again, foreign_again}
+use Rattle.pcl_escape.proofs.Checks.{exit_takes_none}
+use Rattle.pcl_escape.proofs.Steps.{Inside, is_middle, is_end, is_wrong, Found, is_inside, is_leave, IsLast, is_leaving, end_reads, parameter_step, grouped_step, parameter_joined, last_stops, last_again, middle_stays}
 
--- what a step reads of a silent byte
-abbrev pub silent_reads : List ℕ → Result Reads Refusal
-silent_reads rest = Ok record { said = None; rest = rest; inside = None }
-
--- what a step reads of a command without parameters
-abbrev pub bare_reads : ℕ → ℕ → List ℕ → Result Reads Refusal
-bare_reads at code rest = Ok record { said = Some (bare_command at code); rest = rest; inside = None }
+-- what a step reads of a whole piece, which gives a command or none
+abbrev pub piece_reads : Option Said → List ℕ → Result Reads Refusal
+piece_reads said rest = Ok record { said = said; rest = rest; inside = None }
 
 -- what the bytes outside sequences begin with, and what a step reads of them
 pub data Outside (at : ℕ) : List ℕ → Result Reads Refusal → Type 0 where
-  silent_byte : (byte : ℕ) (rest : List ℕ) → IsTrue (is_silent byte) → Outside at (byte ∷ rest) (silent_reads rest)
-  control_code : (code : ℕ) (rest : List ℕ) → IsTrue (is_control code) → is_silent code ≡ false → IsNamed (One code) → Outside at (code ∷ rest) (bare_reads at code rest)
-  two_characters : (byte : ℕ) (rest : List ℕ) → IsTrue (is_two_character byte) → IsNamed (One byte) → Outside at (27 ∷ byte ∷ rest) (bare_reads at byte rest)
-  sequence : (prefix : Prefix) (bytes : List ℕ) (read : Result Reads Refusal) → IsPrefix prefix → Inside prefix at bytes read → Outside at (27 ∷ prefix.parameterized ∷ prefix.group ∷ bytes) read
+  whole_piece : (piece : Piece) (rest : List ℕ) (said : Option Said) → IsPiece piece rest → 0 < length (spelling piece)
+      → commands_from at piece ≡ commands_said said
+      → Outside at (spelling piece ++ rest) (piece_reads said rest)
+  sequence : (prefix : Prefix) (bytes : List ℕ) (read : Result Reads Refusal) → IsPrefix prefix → IsUngrouped prefix.group bytes
+      → Inside prefix at bytes read
+      → Outside at (27 ∷ (prefix_bytes prefix ++ bytes)) read
   wrong : {bytes : List ℕ} {fault : Refusal} → Fails at bytes fault → Outside at bytes (Err fault)
 
--- ---- from the step to the parts
+-- ---- names
 
 -- a control code, by whether its name is performed
-control_named : (at code : ℕ) (rest : List ℕ) (operation : Option Operation) → operation_of (One code) ≡ operation → IsTrue (is_control code) → is_silent code ≡ false
+control_named : (at code : ℕ) (rest : List ℕ) (operation : Option Operation) → operation_of (One code) ≡ operation
+    → IsTrue (is_control code) → is_silent code ≡ false
     → Outside at (code ∷ rest) (named_by operation at code rest)
 control_named at code rest None o c s = wrong (unknown_control c s (ap (λ (x : Option Operation). is_some x) o))
-control_named at code rest (Some operation) o c s = control_code code rest c s (ap (λ (x : Option Operation). is_some x) o)
+control_named at code rest (Some operation) o c s =
+    whole_piece (control code) rest (Some (bare_command at code)) (c, s, ap (λ (x : Option Operation). is_some x) o) (omega arith) refl
 
 -- a two-character sequence, by whether its name is performed
-two_named : (at byte : ℕ) (rest : List ℕ) (operation : Option Operation) → operation_of (One byte) ≡ operation → IsTrue (is_two_character byte)
+two_named : (at byte : ℕ) (rest : List ℕ) (operation : Option Operation) → operation_of (One byte) ≡ operation
+    → IsTrue (is_two_character byte)
     → Outside at (27 ∷ byte ∷ rest) (named_by operation at byte rest)
 two_named at byte rest None o t = wrong (unknown_two t (ap (λ (x : Option Operation). is_some x) o))
-two_named at byte rest (Some operation) o t = two_characters byte rest t (ap (λ (x : Option Operation). is_some x) o)
+two_named at byte rest (Some operation) o t =
+    whole_piece (two_character byte) rest (Some (bare_command at byte)) (t, ap (λ (x : Option Operation). is_some x) o) (omega arith) refl
 
--- a combined sequence, by whether its third byte is a group character
-group_by : (at byte group : ℕ) (rest : List ℕ) (is : Bool) → is_group group ≡ is → IsTrue (is_parameterized byte) → is_unread byte ≡ false
-    → Outside at (27 ∷ byte ∷ group ∷ rest) (if is then parameter_at (record { parameterized = byte; group = group }) at rest else refuse BadSequence at (One byte))
-group_by at byte group rest true g p u = sequence (record { parameterized = byte; group = group }) rest (parameter_at (record { parameterized = byte; group = group }) at rest) (p, u, g) (parameter_step (record { parameterized = byte; group = group }) at rest)
-group_by at byte group rest false g p u = wrong (bad_group p u g)
+-- ---- text
 
--- a combined sequence, by whether it has a third byte
-group_step : (at byte : ℕ) (rest : List ℕ) → IsTrue (is_parameterized byte) → is_unread byte ≡ false → Outside at (27 ∷ byte ∷ rest) (group_at at byte rest)
-unfolding group_at
-group_step at byte [] p u = wrong (no_group p u)
-group_step at byte (group ∷ rest) p u = group_by at byte group rest (is_group group) refl p u
+-- where bytes that are text stop, no text goes on
+no_text : (rest : List ℕ) → StopsAt is_text rest → IsNoText rest
+no_text [] s = tt
+no_text (byte ∷ rest) s = s
+
+-- the same the other way
+text_stops : (rest : List ℕ) → IsNoText rest → StopsAt is_text rest
+text_stops [] s = tt
+text_stops (byte ∷ rest) s = s
+
+-- a run of text, by whether text is performed
+text_named : (at byte : ℕ) (rest : List ℕ) (operation : Option Operation) → operation_of (One 32) ≡ operation → is_text byte ≡ true
+    → Outside at (byte ∷ rest) (text_by operation at (byte ∷ rest))
+text_named at byte rest None o t = wrong (unknown_text t (ap (λ (x : Option Operation). is_some x) o))
+text_named at byte rest (Some operation) o t =
+    let f = front_split is_text rest in
+    let run = take (prefix_len is_text rest) rest in
+    let behind = drop (prefix_len is_text rest) rest in
+    let reads : List ℕ × List ℕ → Result Reads Refusal = λ parts. piece_reads (Some (text_command at parts.0)) parts.1 in
+    subst₂ (Outside at) (ap (λ (bs : List ℕ). byte ∷ bs) (sym f.joined)) (ap reads (sym (front_yes is_text byte rest t)))
+    (whole_piece (text (byte ∷ run)) behind (Some (text_command at (byte ∷ run)))
+    (((t, f.pass), no_text behind f.stops), ap (λ (x : Option Operation). is_some x) o) (omega arith) refl)
+
+-- ---- universal exits
+
+abbrev percent : Prefix
+percent = record { parameterized = 37; group = None }
+
+abbrev exit_parameter : Spelled → Parameter
+exit_parameter field = record { field = field; letter = 88 }
+
+-- a list of no length
+no_bytes : (bytes : List ℕ) → length bytes ≡ 0 → bytes ≡ []
+no_bytes [] e = refl
+no_bytes (byte ∷ bytes) e = absurd (omega arith)
+
+-- the bytes of a universal exit with its lines, and what is behind them
+pub exit_joined : (field : Spelled) (lines rest : List ℕ)
+    → (field_bytes field ++ 88 ∷ lines) ++ rest ≡ parameter_bytes (exit_parameter field) ++ (lines ++ rest)
+exit_joined field lines rest = append_assoc (field_bytes field) (88 ∷ lines) rest ∙ sym (parameter_joined field 88 (lines ++ rest))
+
+-- the lines of an exit begin behind its letter
+exit_place : (at : ℕ) (field : Spelled) (bytes : List ℕ)
+    → (at + 2) + (length (parameter_bytes (exit_parameter field) ++ bytes) - length bytes) ≡ at + 3 + length (field_bytes field)
+exit_place at field bytes =
+    let whole = length-append (parameter_bytes (exit_parameter field)) bytes in
+    let own = length-append (field_bytes field) (88 ∷ []) in
+    omega arith
+
+-- an exit without data and the lines behind it
+exit_lines : (at : ℕ) (field : Spelled) (bytes : List ℕ) (read : Result (List ℕ) ℕ) → IsField field
+    → is_exit exit_name (field_value field) ≡ true → parameter_checks exit_name 88 (field_value field) 0 ≡ Ok 0
+    → Lines (at + 3 + length (field_bytes field)) bytes read → Outside at (27 ∷ 37 ∷ (parameter_bytes (exit_parameter field) ++ bytes))
+    (skipped_by (Some (exit_command at field)) read)
+exit_lines at field bytes read f x e (skipped lines rest each) =
+    subst (λ (bs : List ℕ). Outside at (27 ∷ 37 ∷ bs) (piece_reads (Some (exit_command at field)) rest))
+    (exit_joined field (joined lines) rest)
+    (whole_piece (exit field lines) rest (Some (exit_command at field)) (record { field_is = f; leaves = x; checks = e; lines_are = each })
+    (omega arith) refl)
+exit_lines at field bytes read f x e (foreign lines line rest each ends l p) =
+    subst (λ (bs : List ℕ). Outside at (27 ∷ 37 ∷ bs)
+    (refuse NotPcl (at + 3 + length (field_bytes field) + length (joined lines)) exit_name))
+    (sym (parameter_joined field 88 (joined lines ++ (line ++ rest))))
+    (wrong (in_line field lines line f x e each ends l p))
+
+-- what a step reads of the bytes of an exit and those behind it
+exit_reads : (at : ℕ) (field : Spelled) (bytes : List ℕ) → is_exit exit_name (field_value field) ≡ true
+    → with_lines (at + 2) (length (parameter_bytes (exit_parameter field) ++ bytes)) (end_reads percent at (exit_parameter field) [] bytes)
+    ≡ skipped_by (Some (exit_command at field)) (lines_at (at + 3 + length (field_bytes field)) bytes)
+exit_reads at field bytes x = rw (x, exit_place at field bytes) refl
+
+-- a last parameter of this name has no data
+exit_at : (at : ℕ) (field : Spelled) (sent rest : List ℕ) → IsLast percent (exit_parameter field) sent
+    → is_exit exit_name (field_value field) ≡ true → sent ≡ []
+    → Outside at (27 ∷ 37 ∷ (parameter_bytes (exit_parameter field) ++ (sent ++ rest)))
+    (with_lines (at + 2) (length (parameter_bytes (exit_parameter field) ++ (sent ++ rest)))
+    (end_reads percent at (exit_parameter field) sent rest))
+exit_at at field sent rest is x none =
+    let checks : parameter_checks exit_name 88 (field_value field) 0 ≡ Ok 0 =
+    subst (λ (bs : List ℕ). parameter_checks exit_name 88 (field_value field) (length bs) ≡ Ok (length bs)) none is.checks in
+    subst (λ (bs : List ℕ). Outside at (27 ∷ 37 ∷ (parameter_bytes (exit_parameter field) ++ (bs ++ rest)))
+    (with_lines (at + 2) (length (parameter_bytes (exit_parameter field) ++ (bs ++ rest)))
+    (end_reads percent at (exit_parameter field) bs rest))) (sym none)
+    (subst (Outside at (27 ∷ 37 ∷ (parameter_bytes (exit_parameter field) ++ rest))) (sym (exit_reads at field rest x))
+    (exit_lines at field rest (lines_at (at + 3 + length (field_bytes field)) rest) is.field x checks
+    (lines_split (suc (length rest)) (at + 3 + length (field_bytes field)) rest (omega arith))))
+
+-- an exit's name is spelled with % and X
+exit_spelled : (byte letter : ℕ) (value : Value) → is_last letter ≡ true
+    → is_exit (parameter_name (record { parameterized = byte; group = None }) letter) value ≡ true → (37 ≡ byte) × (88 ≡ letter)
+exit_spelled byte letter value l x =
+    let stops : goes_on letter ≡ false = last_stops letter l in
+    let named : ((37 == byte && 88 == letter) && is_exit exit_name value) ≡ true = rw stops at x in
+    let both = and_parts (37 == byte) (88 == letter) (and_parts (37 == byte && 88 == letter) (is_exit exit_name value) named).0 in
+    (eqb-true 37 byte both.0, eqb-true 88 letter both.1)
+
+-- a leaving parameter of a sequence without a group character
+abbrev LeavesAt : ℕ → Spelled → List ℕ → List ℕ → ℕ → ℕ → Type 0
+LeavesAt at field sent rest byte letter =
+    let prefix : Prefix = record { parameterized = byte; group = None } in
+    let parameter : Parameter = record { field = field; letter = letter } in
+    IsLast prefix parameter sent → is_leaving prefix parameter ≡ true
+    → Outside at (27 ∷ byte ∷ (parameter_bytes parameter ++ (sent ++ rest)))
+    (with_lines (at + 2) (length (parameter_bytes parameter ++ (sent ++ rest))) (end_reads prefix at parameter sent rest))
+
+leave_step : (at : ℕ) (field : Spelled) (sent rest : List ℕ) (byte letter : ℕ) → LeavesAt at field sent rest byte letter
+leave_step at field sent rest byte letter is x =
+    let spelled = exit_spelled byte letter (field_value field) is.letter x in
+    let here : LeavesAt at field sent rest 37 88 = λ last leaving. exit_at at field sent rest last leaving
+    (no_bytes sent (exit_takes_none 88 (field_value field) (length sent) (length sent) last.checks)) in
+    subst₂ (LeavesAt at field sent rest) spelled.0 spelled.1 here is x
+
+-- ---- sequences without a group character
+
+-- what was found there
+ungrouped_found : (at byte : ℕ) (bytes : List ℕ) (read : Result Reads Refusal) → is_ungrouped byte ≡ true → IsUngrouped None bytes
+    → Found (record { parameterized = byte; group = None }) at bytes read
+    → Outside at (27 ∷ byte ∷ bytes) (with_lines (at + 2) (length bytes) read)
+ungrouped_found at byte bytes read u n (is_inside (is_middle parameter rest m)) = absurd (let never = m.letter in cc)
+ungrouped_found at byte bytes read u n (is_inside (is_end parameter sent rest e)) =
+    let prefix : Prefix = record { parameterized = byte; group = None } in
+    rw e.stays (sequence prefix bytes (end_reads prefix at parameter sent rest) u n (is_end parameter sent rest e))
+ungrouped_found at byte bytes read u n (is_inside (is_wrong f)) = sequence (record { parameterized = byte; group = None }) bytes read u n
+    (is_wrong f)
+ungrouped_found at byte bytes read u n (is_leave parameter sent rest is x) = leave_step at parameter.field sent rest byte parameter.letter
+    is x
+
+ungrouped_step : (at byte : ℕ) (bytes : List ℕ) → is_ungrouped byte ≡ true → IsUngrouped None bytes
+    → Outside at (27 ∷ byte ∷ bytes) (ungrouped_at at byte bytes)
+unfolding ungrouped_at
+ungrouped_step at byte bytes u n =
+    let prefix : Prefix = record { parameterized = byte; group = None } in
+    ungrouped_found at byte bytes (parameter_at prefix at bytes) u n (parameter_step prefix at bytes)
+
+-- ---- sequences
+
+-- the bytes ( ) % are parameterized characters
+ungrouped_is : (byte : ℕ) → is_ungrouped byte ≡ true → is_parameterized byte ≡ true
+ungrouped_is byte u = grind (arith, nat_tests)
+
+-- by whether the third byte is a group character, or may be missing
+group_by : (at byte group : ℕ) (rest : List ℕ) (is may : Bool) → is_group group ≡ is → is_ungrouped byte ≡ may
+    → IsTrue (is_parameterized byte)
+    → Outside at (27 ∷ byte ∷ group ∷ rest)
+    (if is then parameter_at (record { parameterized = byte; group = Some group }) at rest else (if may then ungrouped_at at byte
+    (group ∷ rest) else refuse BadSequence at (One byte)))
+group_by at byte group rest true may g u p =
+    let prefix : Prefix = record { parameterized = byte; group = Some group } in
+    sequence prefix rest (parameter_at prefix at rest) (p, g) tt (grouped_step prefix at rest refl)
+group_by at byte group rest false true g u p = ungrouped_step at byte (group ∷ rest) u g
+group_by at byte group rest false false g u p = wrong (bad_group p u g)
+
+-- nothing behind the second byte
+none_behind_second : (at byte : ℕ) (may : Bool) → is_ungrouped byte ≡ may → IsTrue (is_parameterized byte)
+    → Outside at (27 ∷ byte ∷ []) (refuse Truncated at (One byte))
+none_behind_second at byte true u p =
+    let prefix : Prefix = record { parameterized = byte; group = None } in
+    let nothing : Spelled = record { sign = Absent; whole = []; fraction = None } in
+    sequence prefix [] (refuse Truncated at (One byte)) u tt (is_wrong (cut nothing (tt, tt)))
+none_behind_second at byte false u p = wrong (no_group p u)
+
+-- by whether there is a third byte
+prefix_step : (at byte : ℕ) (rest : List ℕ) → IsTrue (is_parameterized byte) → Outside at (27 ∷ byte ∷ rest) (prefix_at at byte rest)
+unfolding prefix_at
+prefix_step at byte [] p = none_behind_second at byte (is_ungrouped byte) refl p
+prefix_step at byte (group ∷ rest) p = group_by at byte group rest (is_group group) (is_ungrouped byte) refl refl p
 
 -- a sequence, by what its second byte is
-sequence_by : (at byte : ℕ) (rest : List ℕ) (two un parameterized : Bool) → is_two_character byte ≡ two → is_unread byte ≡ un → is_parameterized byte ≡ parameterized
+sequence_by : (at byte : ℕ) (rest : List ℕ) (two parameterized : Bool) → is_two_character byte ≡ two
+    → is_parameterized byte ≡ parameterized
     → Outside at (27 ∷ byte ∷ rest)
-    (if two then named_at at byte rest else (if un then refuse UnsupportedCommand at (One byte) else (if parameterized then group_at at byte rest else refuse BadSequence at Empty)))
+    (if two then named_at at byte rest else (if parameterized then prefix_at at byte rest else refuse BadSequence at Empty))
 unfolding named_at
-sequence_by at byte rest true un parameterized t u p = two_named at byte rest (operation_of (One byte)) refl t
-sequence_by at byte rest false true parameterized t u p = wrong (unread u)
-sequence_by at byte rest false false true t u p = group_step at byte rest p u
-sequence_by at byte rest false false false t u p = wrong (no_sequence t p)
+sequence_by at byte rest true parameterized t p = two_named at byte rest (operation_of (One byte)) refl t
+sequence_by at byte rest false true t p = prefix_step at byte rest p
+sequence_by at byte rest false false t p = wrong (no_sequence t p)
 
 -- a sequence, by whether it has a second byte
 sequence_step : (at : ℕ) (rest : List ℕ) → Outside at (27 ∷ rest) (sequence_at at rest)
 unfolding sequence_at
 sequence_step at [] = wrong lone_escape
-sequence_step at (byte ∷ rest) = sequence_by at byte rest (is_two_character byte) (is_unread byte) (is_parameterized byte) refl refl refl
+sequence_step at (byte ∷ rest) = sequence_by at byte rest (is_two_character byte) (is_parameterized byte) refl refl
 
 -- bytes outside sequences, by what their first one is
-start_by : (at byte : ℕ) (rest : List ℕ) (silent escape control : Bool) → is_silent byte ≡ silent → (byte == 27) ≡ escape → is_control byte ≡ control
+start_by : (at byte : ℕ) (rest : List ℕ) (quiet escape code : Bool) → is_silent byte ≡ quiet → (byte == 27) ≡ escape
+    → is_control byte ≡ code
     → Outside at (byte ∷ rest)
-    (if silent then silent_reads rest else (if escape then sequence_at at rest else (if control then named_at at byte rest else refuse UnsupportedCommand at (One 32))))
-unfolding named_at
-start_by at byte rest true escape control s e c = silent_byte byte rest s
-start_by at byte rest false true control s e c = subst (λ (b : ℕ). Outside at (b ∷ rest) (sequence_at at rest)) (sym (eqb-true byte 27 e)) (sequence_step at rest)
+    (if quiet then piece_reads None rest else (if
+    escape then sequence_at at rest else (if code then named_at at byte rest else text_at at (byte ∷ rest))))
+unfolding named_at text_at
+start_by at byte rest true escape code s e c = whole_piece (silent byte) rest None s (omega arith) refl
+start_by at byte rest false true code s e c = subst (λ (b : ℕ). Outside at (b ∷ rest) (sequence_at at rest)) (sym (eqb-true byte 27 e))
+    (sequence_step at rest)
 start_by at byte rest false false true s e c = control_named at byte rest (operation_of (One byte)) refl c s
-start_by at byte rest false false false s e c = wrong (text s c e)
+start_by at byte rest false false false s e c = text_named at byte rest (operation_of (One 32)) refl (rw (s, c, e) refl)
 
 -- a step outside sequences reads what the bytes begin with
 pub start_step : (at byte : ℕ) (rest : List ℕ) → Outside at (byte ∷ rest) (start_at at (byte ∷ rest))
@@ -90,72 +265,208 @@ start_step at byte rest = start_by at byte rest (is_silent byte) (byte == 27) (i
 -- ---- from the parts to the step
 
 -- a name that is performed gives its command
-named_again : (at code : ℕ) (rest : List ℕ) (operation : Option Operation) → is_some operation ≡ true → named_by operation at code rest ≡ bare_reads at code rest
+named_again : (at code : ℕ) (rest : List ℕ) (operation : Option Operation) → is_some operation ≡ true
+    → named_by operation at code rest ≡ piece_reads (Some (bare_command at code)) rest
 named_again at code rest None s = absurd cc
 named_again at code rest (Some operation) s = refl
 
 -- a name that isn't performed is refused
-unknown_again : (at code : ℕ) (rest : List ℕ) (operation : Option Operation) → is_some operation ≡ false → named_by operation at code rest ≡ refuse UnsupportedCommand at (One code)
+unknown_again : (at code : ℕ) (rest : List ℕ) (operation : Option Operation) → is_some operation ≡ false
+    → named_by operation at code rest ≡ refuse UnsupportedCommand at (One code)
 unknown_again at code rest None s = refl
 unknown_again at code rest (Some operation) s = absurd cc
+
+-- text that is performed gives its run
+run_again : (at : ℕ) (bytes : List ℕ) (operation : Option Operation) → is_some operation ≡ true
+    → text_by operation at bytes ≡ piece_reads (Some (text_command at (take (prefix_len is_text bytes) bytes)))
+    (drop (prefix_len is_text bytes) bytes)
+run_again at bytes None s = absurd cc
+run_again at bytes (Some operation) s = refl
+
+-- text that isn't is refused
+unknown_run_again : (at : ℕ) (bytes : List ℕ) (operation : Option Operation) → is_some operation ≡ false
+    → text_by operation at bytes ≡ refuse UnsupportedCommand at (One 32)
+unknown_run_again at bytes None s = refl
+unknown_run_again at bytes (Some operation) s = absurd cc
 
 -- ESC is no control code
 control_apart : (code : ℕ) → is_control code ≡ true → (code == 27) ≡ false
 control_apart code c = grind (arith, nat_tests)
 
--- the bytes ( ) % begin no two-character sequence
-unread_apart : (byte : ℕ) → is_unread byte ≡ true → is_two_character byte ≡ false
-unread_apart byte u = grind (arith, nat_tests)
+-- text is nothing else
+text_apart : (byte : ℕ) → is_text byte ≡ true → (is_silent byte ≡ false) × ((byte == 27) ≡ false) × (is_control byte ≡ false)
+text_apart byte t = (grind (arith, nat_tests), grind (arith, nat_tests), grind (arith, nat_tests))
 
--- nor does a parameterized character
+-- a parameterized character begins no two-character sequence
 parameterized_apart : (byte : ℕ) → is_parameterized byte ≡ true → is_two_character byte ≡ false
 parameterized_apart byte p = grind (arith, nat_tests)
 
--- the bytes ( ) % are parameterized characters
-no_sequence_apart : (byte : ℕ) → is_parameterized byte ≡ false → is_unread byte ≡ false
-no_sequence_apart byte p = grind (arith, nat_tests)
-
 -- a step reads a silent byte
-pub silent_again : (at byte : ℕ) (rest : List ℕ) → is_silent byte ≡ true → start_at at (byte ∷ rest) ≡ silent_reads rest
+pub silent_again : (at byte : ℕ) (rest : List ℕ) → is_silent byte ≡ true → start_at at (byte ∷ rest) ≡ piece_reads None rest
 unfolding start_at
 silent_again at byte rest s = rw s refl
 
 -- a step at a control code looks at its name
-at_control : (at code : ℕ) (rest : List ℕ) → is_control code ≡ true → is_silent code ≡ false → start_at at (code ∷ rest) ≡ named_by (operation_of (One code)) at code rest
+at_control : (at code : ℕ) (rest : List ℕ) → is_control code ≡ true → is_silent code ≡ false
+    → start_at at (code ∷ rest) ≡ named_by (operation_of (One code)) at code rest
 unfolding start_at named_at
 at_control at code rest c s = rw (s, control_apart code c, c) refl
 
+-- a step at text looks whether text is performed
+at_text : (at byte : ℕ) (rest : List ℕ) → is_text byte ≡ true
+    → start_at at (byte ∷ rest) ≡ text_by (operation_of (One 32)) at (byte ∷ rest)
+unfolding start_at text_at
+at_text at byte rest t = let apart = text_apart byte t in rw (apart.0, apart.1, apart.2) refl
+
 -- a step at a two-character sequence looks at its name
-at_two : (at byte : ℕ) (rest : List ℕ) → is_two_character byte ≡ true → start_at at (27 ∷ byte ∷ rest) ≡ named_by (operation_of (One byte)) at byte rest
+at_two : (at byte : ℕ) (rest : List ℕ) → is_two_character byte ≡ true
+    → start_at at (27 ∷ byte ∷ rest) ≡ named_by (operation_of (One byte)) at byte rest
 unfolding start_at sequence_at named_at
 at_two at byte rest t = rw t refl
 
--- a step at a parameterized character that is read looks at the group character
-at_group : (at byte : ℕ) (rest : List ℕ) → is_parameterized byte ≡ true → is_unread byte ≡ false → start_at at (27 ∷ byte ∷ rest) ≡ group_at at byte rest
+-- a step at a parameterized character looks at the group character
+at_prefix : (at byte : ℕ) (rest : List ℕ) → is_parameterized byte ≡ true → start_at at (27 ∷ byte ∷ rest) ≡ prefix_at at byte rest
 unfolding start_at sequence_at
-at_group at byte rest p u = rw (parameterized_apart byte p, u, p) refl
+at_prefix at byte rest p = rw (parameterized_apart byte p, p) refl
 
 -- a step reads a control code
-pub control_again : (at code : ℕ) (rest : List ℕ) → is_control code ≡ true → is_silent code ≡ false → IsNamed (One code) → start_at at (code ∷ rest) ≡ bare_reads at code rest
+pub control_again : (at code : ℕ) (rest : List ℕ) → is_control code ≡ true → is_silent code ≡ false → IsNamed (One code)
+    → start_at at (code ∷ rest) ≡ piece_reads (Some (bare_command at code)) rest
 control_again at code rest c s n = at_control at code rest c s ∙ named_again at code rest (operation_of (One code)) n
 
+-- a step reads a run of text
+pub text_again : (at byte : ℕ) (more rest : List ℕ) → IsRun (byte ∷ more) rest → IsNamed (One 32)
+    → start_at at ((byte ∷ more) ++ rest) ≡ piece_reads (Some (text_command at (byte ∷ more))) rest
+text_again at byte more rest is n =
+    let reads : List ℕ × List ℕ → Result Reads Refusal = λ parts. piece_reads (Some (text_command at parts.0)) parts.1 in
+    at_text at byte (more ++ rest) is.0.0
+    ∙ run_again at ((byte ∷ more) ++ rest) (operation_of (One 32)) n
+    ∙ ap reads (front_again is_text (byte ∷ more) rest is.0 (text_stops rest is.1))
+
 -- a step reads a two-character sequence
-pub two_again : (at byte : ℕ) (rest : List ℕ) → is_two_character byte ≡ true → IsNamed (One byte) → start_at at (27 ∷ byte ∷ rest) ≡ bare_reads at byte rest
+pub two_again : (at byte : ℕ) (rest : List ℕ) → is_two_character byte ≡ true → IsNamed (One byte)
+    → start_at at (27 ∷ byte ∷ rest) ≡ piece_reads (Some (bare_command at byte)) rest
 two_again at byte rest t n = at_two at byte rest t ∙ named_again at byte rest (operation_of (One byte)) n
 
--- a step reads the first parameter of a sequence as it would inside
-pub first_again : (prefix : Prefix) (at : ℕ) (bytes : List ℕ) → IsPrefix prefix → start_at at (27 ∷ prefix.parameterized ∷ prefix.group ∷ bytes) ≡ parameter_at prefix at bytes
-unfolding group_at
-first_again prefix at bytes p = at_group at prefix.parameterized (prefix.group ∷ bytes) p.0 p.1 ∙ rw p.2 refl
+-- ---- the first parameter of a sequence
+
+-- a parameter begins with no group character
+digit_apart : (digit : ℕ) → is_digit digit ≡ true → is_group digit ≡ false
+digit_apart digit d = grind (arith, nat_tests)
+
+last_apart : (letter : ℕ) → is_last letter ≡ true → is_group letter ≡ false
+last_apart letter l = grind (arith, nat_tests)
+
+unsigned_apart : (whole : List ℕ) (fraction : Option (List ℕ)) (letter : ℕ) (rest : List ℕ) → Pass is_digit whole → is_last letter ≡ true
+    → IsUngrouped None (field_bytes (record { sign = Absent; whole = whole; fraction = fraction }) ++ letter ∷ rest)
+unsigned_apart [] None letter rest d l = last_apart letter l
+unsigned_apart [] (Some digits) letter rest d l = refl
+unsigned_apart (digit ∷ whole) fraction letter rest d l = digit_apart digit d.0
+
+signed_apart : (sign : Sign) (whole : List ℕ) (fraction : Option (List ℕ)) (letter : ℕ) (rest : List ℕ) → Pass is_digit whole
+    → is_last letter ≡ true
+    → IsUngrouped None (field_bytes (record { sign = sign; whole = whole; fraction = fraction }) ++ letter ∷ rest)
+signed_apart Absent whole fraction letter rest d l = unsigned_apart whole fraction letter rest d l
+signed_apart Plus whole fraction letter rest d l = refl
+signed_apart Minus whole fraction letter rest d l = refl
+
+pub field_apart : (field : Spelled) (letter : ℕ) (rest : List ℕ) → IsField field → is_last letter ≡ true
+    → IsUngrouped None (field_bytes field ++ letter ∷ rest)
+field_apart field letter rest f l = signed_apart field.sign field.whole field.fraction letter rest f.0 l
+
+-- what a step reads of the first parameter: as it would inside, and where there is no group character, with lines
+abbrev pub first_reads : ℕ → Prefix → List ℕ → Result Reads Refusal
+first_reads at prefix bytes = if is_some prefix.group then parameter_at prefix at bytes else with_lines (at + 2) (length bytes)
+    (parameter_at prefix at bytes)
+
+first_by : (parameterized : ℕ) (group : Option ℕ) (at : ℕ) (bytes : List ℕ)
+    → IsPrefix (record { parameterized = parameterized; group = group }) → IsUngrouped group bytes
+    → start_at at (27 ∷ (prefix_bytes (record { parameterized = parameterized; group = group }) ++ bytes))
+    ≡ first_reads at (record { parameterized = parameterized; group = group }) bytes
+unfolding prefix_at ungrouped_at parameter_at field_at
+first_by parameterized None at [] p n = at_prefix at parameterized [] (ungrouped_is parameterized p)
+first_by parameterized None at (byte ∷ bytes) p n = at_prefix at parameterized (byte ∷ bytes) (ungrouped_is parameterized p)
+    ∙ rw (n, p) refl
+first_by parameterized (Some group) at bytes p n = at_prefix at parameterized (group ∷ bytes) p.0 ∙ rw p.1 refl
+
+pub first_again : (prefix : Prefix) (at : ℕ) (bytes : List ℕ) → IsPrefix prefix → IsUngrouped prefix.group bytes
+    → start_at at (27 ∷ (prefix_bytes prefix ++ bytes)) ≡ first_reads at prefix bytes
+first_again prefix at bytes p n = first_by prefix.parameterized prefix.group at bytes p n
+
+-- where it is no universal exit, nothing more is read
+abbrev Stays : Result Reads Refusal → Type 0
+Stays (Ok reads) = leaves reads.said ≡ false
+Stays (Err fault) = Unit {0}
+
+no_lines : (begin len : ℕ) (read : Result Reads Refusal) → Stays read → with_lines begin len read ≡ read
+no_lines begin len (Ok reads) s = rw s refl
+no_lines begin len (Err fault) s = refl
+
+first_stays : (grouped : Bool) (begin len : ℕ) (read : Result Reads Refusal) → Stays read
+    → (if grouped then read else with_lines begin len read) ≡ read
+first_stays true begin len read s = refl
+first_stays false begin len read s = no_lines begin len read s
+
+-- what stands inside a sequence is no universal exit
+inside_stays : (prefix : Prefix) (at : ℕ) (bytes : List ℕ) (read : Result Reads Refusal) → Inside prefix at bytes read → Stays read
+inside_stays prefix at bytes read (is_middle parameter rest m) = middle_stays prefix parameter m
+inside_stays prefix at bytes read (is_end parameter sent rest e) = e.stays
+inside_stays prefix at bytes read (is_wrong f) = tt
+
+-- a step reads the first parameter as it would inside
+pub inside_again : (prefix : Prefix) (at : ℕ) (bytes : List ℕ) (read : Result Reads Refusal) → IsPrefix prefix
+    → IsUngrouped prefix.group bytes → Inside prefix at bytes read → parameter_at prefix at bytes ≡ read
+    → start_at at (27 ∷ (prefix_bytes prefix ++ bytes)) ≡ read
+inside_again prefix at bytes read p n inside e =
+    first_again prefix at bytes p n
+    ∙ ap (λ (r : Result Reads Refusal). if is_some prefix.group then r else with_lines (at + 2) (length bytes) r) e
+    ∙ first_stays (is_some prefix.group) (at + 2) (length bytes) read (inside_stays prefix at bytes read inside)
+
+-- ---- universal exits
+
+-- a step reads a universal exit and then its lines
+exit_first : (at : ℕ) (field : Spelled) (bytes : List ℕ) → IsField field → is_exit exit_name (field_value field) ≡ true
+    → parameter_checks exit_name 88 (field_value field) 0 ≡ Ok 0
+    → start_at at (27 ∷ 37 ∷ (parameter_bytes (exit_parameter field) ++ bytes)) ≡ skipped_by (Some (exit_command at field))
+    (lines_at (at + 3 + length (field_bytes field)) bytes)
+exit_first at field bytes f x e =
+    let last : IsLast percent (exit_parameter field) [] = record { field = f; letter = refl; checks = e } in
+    let apart : IsUngrouped None (parameter_bytes (exit_parameter field) ++ bytes) =
+    subst (IsUngrouped None) (sym (parameter_joined field 88 bytes)) (field_apart field 88 bytes f refl) in
+    first_again percent at (parameter_bytes (exit_parameter field) ++ bytes) refl apart
+    ∙ ap (with_lines (at + 2) (length (parameter_bytes (exit_parameter field) ++ bytes)))
+    (last_again percent at (exit_parameter field) [] bytes last)
+    ∙ exit_reads at field bytes x
+
+pub exit_again : (at : ℕ) (field : Spelled) (lines : List (List ℕ)) (rest : List ℕ) → IsExit field lines rest
+    → start_at at (spelling (exit field lines) ++ rest) ≡ piece_reads (Some (exit_command at field)) rest
+exit_again at field lines rest is =
+    ap (λ (bs : List ℕ). start_at at (27 ∷ 37 ∷ bs)) (exit_joined field (joined lines) rest)
+    ∙ exit_first at field (joined lines ++ rest) is.field_is is.leaves is.checks
+    ∙ ap (skipped_by (Some (exit_command at field))) (lines_again lines (at + 3 + length (field_bytes field)) rest is.lines_are)
+
+-- a step finds a line that asks for another language
+pub in_line_again : (at : ℕ) (field : Spelled) (lines : List (List ℕ)) (line rest : List ℕ) → IsField field
+    → is_exit exit_name (field_value field) ≡ true → parameter_checks exit_name 88 (field_value field) 0 ≡ Ok 0
+    → AreOtherLines lines (line ++ rest) → IsLine line rest → IsTrue (names_language line) → names_pcl line ≡ false
+    → start_at at (27 ∷ 37 ∷ (field_bytes field ++ 88 ∷ (joined lines ++ (line ++ rest))))
+    ≡ Err (refusal NotPcl (at + 3 + length (field_bytes field) + length (joined lines)) exit_name)
+in_line_again at field lines line rest f x e each ends l p =
+    ap (λ (bs : List ℕ). start_at at (27 ∷ 37 ∷ bs)) (sym (parameter_joined field 88 (joined lines ++ (line ++ rest))))
+    ∙ exit_first at field (joined lines ++ (line ++ rest)) f x e
+    ∙ ap (skipped_by (Some (exit_command at field))) (foreign_again lines (at + 3 + length (field_bytes field)) line rest each ends l p)
+
+-- ---- faults
 
 -- a step refuses a control code that isn't performed
-pub unknown_control_again : (at code : ℕ) (rest : List ℕ) → is_control code ≡ true → is_silent code ≡ false → is_some (operation_of (One code)) ≡ false → start_at at (code ∷ rest) ≡ Err (refusal UnsupportedCommand at (One code))
+pub unknown_control_again : (at code : ℕ) (rest : List ℕ) → is_control code ≡ true → is_silent code ≡ false
+    → is_some (operation_of (One code)) ≡ false → start_at at (code ∷ rest) ≡ Err (refusal UnsupportedCommand at (One code))
 unknown_control_again at code rest c s n = at_control at code rest c s ∙ unknown_again at code rest (operation_of (One code)) n
 
--- a step refuses text
-pub text_again : (at byte : ℕ) (rest : List ℕ) → is_silent byte ≡ false → is_control byte ≡ false → (byte == 27) ≡ false → start_at at (byte ∷ rest) ≡ Err (refusal UnsupportedCommand at (One 32))
-unfolding start_at
-text_again at byte rest s c e = rw (s, e, c) refl
+-- a step refuses text that isn't performed
+pub unknown_text_again : (at byte : ℕ) (rest : List ℕ) → is_text byte ≡ true → is_some (operation_of (One 32)) ≡ false
+    → start_at at (byte ∷ rest) ≡ Err (refusal UnsupportedCommand at (One 32))
+unknown_text_again at byte rest t n = at_text at byte rest t ∙ unknown_run_again at (byte ∷ rest) (operation_of (One 32)) n
 
 -- a step refuses an ESC with nothing behind it
 pub lone_escape_again : (at : ℕ) → start_at at (27 ∷ []) ≡ Err (refusal Truncated at Empty)
@@ -163,25 +474,23 @@ unfolding start_at sequence_at
 lone_escape_again at = refl
 
 -- a step refuses an ESC with no second byte of a sequence behind it
-pub no_sequence_again : (at byte : ℕ) (rest : List ℕ) → is_two_character byte ≡ false → is_parameterized byte ≡ false → start_at at (27 ∷ byte ∷ rest) ≡ Err (refusal BadSequence at Empty)
+pub no_sequence_again : (at byte : ℕ) (rest : List ℕ) → is_two_character byte ≡ false → is_parameterized byte ≡ false
+    → start_at at (27 ∷ byte ∷ rest) ≡ Err (refusal BadSequence at Empty)
 unfolding start_at sequence_at
-no_sequence_again at byte rest t p = rw (t, no_sequence_apart byte p, p) refl
+no_sequence_again at byte rest t p = rw (t, p) refl
 
 -- a step refuses a two-character sequence that isn't performed
-pub unknown_two_again : (at byte : ℕ) (rest : List ℕ) → is_two_character byte ≡ true → is_some (operation_of (One byte)) ≡ false → start_at at (27 ∷ byte ∷ rest) ≡ Err (refusal UnsupportedCommand at (One byte))
+pub unknown_two_again : (at byte : ℕ) (rest : List ℕ) → is_two_character byte ≡ true → is_some (operation_of (One byte)) ≡ false
+    → start_at at (27 ∷ byte ∷ rest) ≡ Err (refusal UnsupportedCommand at (One byte))
 unknown_two_again at byte rest t n = at_two at byte rest t ∙ unknown_again at byte rest (operation_of (One byte)) n
 
--- a step refuses ESC and one of ( ) %
-pub unread_again : (at byte : ℕ) (rest : List ℕ) → is_unread byte ≡ true → start_at at (27 ∷ byte ∷ rest) ≡ Err (refusal UnsupportedCommand at (One byte))
-unfolding start_at sequence_at
-unread_again at byte rest u = rw (unread_apart byte u, u) refl
+-- a step refuses a sequence that ends before its group character
+pub no_group_again : (at byte : ℕ) → is_parameterized byte ≡ true → start_at at (27 ∷ byte ∷ []) ≡ Err (refusal Truncated at (One byte))
+unfolding prefix_at
+no_group_again at byte p = at_prefix at byte [] p
 
--- a step refuses a combined sequence that ends before its group character
-pub no_group_again : (at byte : ℕ) → is_parameterized byte ≡ true → is_unread byte ≡ false → start_at at (27 ∷ byte ∷ []) ≡ Err (refusal Truncated at (One byte))
-unfolding group_at
-no_group_again at byte p u = at_group at byte [] p u
-
--- a step refuses a combined sequence with another byte in place of the group character
-pub bad_group_again : (at byte group : ℕ) (rest : List ℕ) → is_parameterized byte ≡ true → is_unread byte ≡ false → is_group group ≡ false → start_at at (27 ∷ byte ∷ group ∷ rest) ≡ Err (refusal BadSequence at (One byte))
-unfolding group_at
-bad_group_again at byte group rest p u g = at_group at byte (group ∷ rest) p u ∙ rw g refl
+-- a step refuses a sequence with another byte in place of the group character
+pub bad_group_again : (at byte group : ℕ) (rest : List ℕ) → is_parameterized byte ≡ true → is_ungrouped byte ≡ false
+    → is_group group ≡ false → start_at at (27 ∷ byte ∷ group ∷ rest) ≡ Err (refusal BadSequence at (One byte))
+unfolding prefix_at
+bad_group_again at byte group rest p u g = at_prefix at byte (group ∷ rest) p ∙ rw (g, u) refl

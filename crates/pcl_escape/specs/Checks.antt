@@ -1,25 +1,15 @@
 -- The checks of a parameter whose shape is right, in their order: the range of its value, its name, its data.
-use Rattle.std.specs.Prelude.{ℕ, Bool, true, false, ◌==◌, ◌&&◌, nat_lt, if◌then◌else◌, Option, Some, None, Result, Ok, Err}
+use Rattle.std.specs.Prelude.{ℕ, Bool, ◌==◌, ◌&&◌, nat_lt, if◌then◌else◌, Option, Some, None, Result, Ok, Err}
 use Rattle.pcl_base.specs.declared.name.Name.{Name}
+use Rattle.pcl_base.specs.declared.name.Name.TheVariants.{Two}
 use Rattle.pcl_base.specs.declared.kind.Kind.{Kind}
 use Rattle.pcl_base.specs.declared.kind.Kind.TheVariants.{Truncated, BadSequence, ValueRange, UnsupportedCommand}
-use Rattle.pcl_base.specs.declared.value.Sign.{Sign}
-use Rattle.pcl_base.specs.declared.value.Sign.TheVariants.{Absent, Plus, Minus}
+use Rattle.pcl_base.specs.declared.operation.Operation.{Operation}
 use Rattle.pcl_base.specs.declared.value.Value.{Value}
-use Rattle.pcl_base.specs.Value.{whole_of}
-use Rattle.pcl_escape.specs.declared.operation.Operation.{Operation}
-use Rattle.pcl_escape.specs.Operation.{operation_of, takes_data}
+use Rattle.pcl_base.specs.Operation.{operation_of, takes_data, is_name}
+use Rattle.pcl_base.specs.Value.{whole_of, is_minus, is_below_zero}
 use Rattle.pcl_escape.specs.Letter.{goes_on}
 use Rattle.pcl_escape.specs.Field.{in_range}
-
-abbrev pub is_minus : Sign → Bool
-is_minus Absent = false
-is_minus Plus = false
-is_minus Minus = true
-
--- the whole part is below 0
-abbrev pub is_below_zero : Value → Bool
-is_below_zero value = is_minus value.sign && nat_lt 0 (whole_of value)
 
 -- as many bytes as the whole part says, which only a last parameter can have; left is how many there are
 abbrev pub data_checks : ℕ → Value → ℕ → Result ℕ Kind
@@ -29,10 +19,22 @@ data_checks letter value left =
     else (if goes_on letter then Err BadSequence
     else (if nat_lt left (whole_of value) then Err Truncated else Ok (whole_of value))))
 
+-- a name that is performed, and then its data
 abbrev pub operation_checks : Option Operation → ℕ → Value → ℕ → Result ℕ Kind
 operation_checks None letter value left = Err UnsupportedCommand
 operation_checks (Some operation) letter value left = if takes_data operation then data_checks letter value left else Ok 0
 
 -- the count of the data bytes of a parameter, or the kind of the first check that fails
 unfoldable pub parameter_checks : Name → ℕ → Value → ℕ → Result ℕ Kind
-parameter_checks name letter value left = if in_range value then operation_checks (operation_of name) letter value left else Err ValueRange
+parameter_checks name letter value left =
+    if in_range value then operation_checks (operation_of name) letter value left else Err ValueRange
+
+-- ---- the universal exit
+
+-- %X
+abbrev pub exit_name : Name
+exit_name = Two 37 88
+
+-- whether the command is a universal exit, behind which lines of the job language are skipped
+abbrev pub is_exit : Name → Value → Bool
+is_exit name value = is_name exit_name name && (is_minus value.sign && whole_of value == 12345)

@@ -1,32 +1,25 @@
 -- What the first fault of a job is: a front that reads without fault, and what first fails behind it.
-use Rattle.std.specs.Prelude.{◌≡◌, ℕ, ◌+◌, Bool, true, false, ◌==◌, ◌&&◌, ◌||◌, is_none, IsTrue, IsNone, List, [], ◌∷◌, ◌++◌, length, Err}
+use Rattle.std.specs.Prelude.{◌≡◌, ℕ, ◌+◌, Bool, true, false, ◌==◌, ◌&&◌, ◌||◌, is_none, IsTrue, IsNone, List, [], ◌∷◌, ◌++◌, length, Option, Some, None, Ok, Err}
 use Rattle.std.specs.List.{flat_map, AllByRecursion}
-use Rattle.pcl_base.specs.declared.name.Name.{Name}
 use Rattle.pcl_base.specs.declared.name.Name.TheVariants.{Empty, One}
 use Rattle.pcl_base.specs.declared.kind.Kind.{Kind}
-use Rattle.pcl_base.specs.declared.kind.Kind.TheVariants.{Truncated, BadSequence, UnsupportedCommand}
+use Rattle.pcl_base.specs.declared.kind.Kind.TheVariants.{Truncated, BadSequence, UnsupportedCommand, NotPcl}
 use Rattle.pcl_base.specs.declared.refusal.Refusal.{Refusal}
 use Rattle.pcl_base.specs.declared.fault.JobFault.{JobFault}
 use Rattle.pcl_base.specs.declared.fault.JobFault.TheVariants.{Refused, Memory}
-use Rattle.pcl_base.specs.declared.value.Sign.{Sign}
-use Rattle.pcl_base.specs.declared.value.Sign.TheVariants.{Absent, Plus, Minus}
 use Rattle.pcl_escape.specs.declared.step.Prefix.{Prefix}
-use Rattle.pcl_escape.specs.Operation.{operation_of}
-use Rattle.pcl_escape.specs.Letter.{is_silent, is_control, is_two_character, is_parameterized, is_unread, is_group, is_letter, prefix_name, parameter_name}
+use Rattle.pcl_base.specs.Operation.{operation_of}
+use Rattle.pcl_base.specs.Refusal.{refusal}
+use Rattle.pcl_base.specs.Value.{is_absent}
+use Rattle.pcl_escape.specs.Letter.{is_silent, is_control, is_text, is_two_character, is_parameterized, is_ungrouped, is_group, is_letter, prefix_name, parameter_name, prefix_bytes}
 use Rattle.pcl_escape.specs.Field.{Spelled, is_digit, field_bytes, field_value}
-use Rattle.pcl_escape.specs.Checks.{parameter_checks}
-use Rattle.pcl_escape.specs.Pieces.{Parameter, Piece, IsField, IsPrefix, IsMiddle, IsPiece, parameter_bytes, spelling}
-
-abbrev pub refusal : Kind → ℕ → Name → Refusal
-refusal kind at name = record { kind = kind; at = at; name = name }
+use Rattle.pcl_escape.specs.Checks.{parameter_checks, exit_name, is_exit}
+use Rattle.pcl_escape.specs.Exit.{joined, IsLine, AreOtherLines, names_language, names_pcl}
+use Rattle.pcl_escape.specs.Pieces.{Parameter, Piece, IsField, IsPrefix, IsMiddle, ArePieces, parameter_bytes, spelling, first_place}
 
 -- ---- where a value field stops
 
-abbrev pub is_absent : Sign → Bool
-is_absent Absent = true
-is_absent Plus = false
-is_absent Minus = false
-
+-- no digits are there
 abbrev pub is_empty : List ℕ → Bool
 is_empty [] = true
 is_empty (byte ∷ bytes) = false
@@ -45,42 +38,55 @@ extends field byte = is_digit byte || (byte == 46 && is_none field.fraction) || 
 pub data FailsParameter : Prefix → ℕ → List ℕ → Refusal → Type 0 where
   cut : {prefix : Prefix} {at : ℕ} (field : Spelled) → IsField field
       → FailsParameter prefix at (field_bytes field) (refusal Truncated at (prefix_name prefix))
-  no_letter : {prefix : Prefix} {at : ℕ} (field : Spelled) (byte : ℕ) (bytes : List ℕ) → IsField field → extends field byte ≡ false → is_letter byte ≡ false
+  no_letter : {prefix : Prefix} {at : ℕ} (field : Spelled) (byte : ℕ) (bytes : List ℕ)
+      → IsField field → extends field byte ≡ false → is_letter prefix byte ≡ false
       → FailsParameter prefix at (field_bytes field ++ byte ∷ bytes) (refusal BadSequence at (prefix_name prefix))
-  check : {prefix : Prefix} {at : ℕ} (field : Spelled) (letter : ℕ) (bytes : List ℕ) (kind : Kind) → IsField field → IsTrue (is_letter letter)
+  check : {prefix : Prefix} {at : ℕ} (field : Spelled) (letter : ℕ) (bytes : List ℕ) (kind : Kind)
+      → IsField field → IsTrue (is_letter prefix letter)
       → parameter_checks (parameter_name prefix letter) letter (field_value field) (length bytes) ≡ Err kind
       → FailsParameter prefix at (field_bytes field ++ letter ∷ bytes) (refusal kind at (parameter_name prefix letter))
 
 -- the place of the parameter behind these: of the first one, the place of ESC
-abbrev pub place_behind : ℕ → List Parameter → ℕ
-place_behind at [] = at
-place_behind at (parameter ∷ middle) = at + 3 + length (flat_map parameter_bytes (parameter ∷ middle))
+abbrev pub place_behind : ℕ → Prefix → List Parameter → ℕ
+place_behind at prefix [] = at
+place_behind at prefix (parameter ∷ middle) = first_place at prefix + length (flat_map parameter_bytes (parameter ∷ middle))
+
+-- what stands behind ESC and one of ( ) % is no group character
+abbrev pub IsUngrouped : Option ℕ → List ℕ → Type 0
+IsUngrouped (Some group) bytes = Unit {0}
+IsUngrouped None [] = Unit {0}
+IsUngrouped None (byte ∷ bytes) = is_group byte ≡ false
 
 -- what first fails in the bytes, which begin at a place outside sequences
 pub data Fails : ℕ → List ℕ → Refusal → Type 0 where
   unknown_control : {at code : ℕ} {bytes : List ℕ} → IsTrue (is_control code) → is_silent code ≡ false → IsNone (operation_of (One code))
       → Fails at (code ∷ bytes) (refusal UnsupportedCommand at (One code))
-  text : {at byte : ℕ} {bytes : List ℕ} → is_silent byte ≡ false → is_control byte ≡ false → (byte == 27) ≡ false
+  unknown_text : {at byte : ℕ} {bytes : List ℕ} → IsTrue (is_text byte) → IsNone (operation_of (One 32))
       → Fails at (byte ∷ bytes) (refusal UnsupportedCommand at (One 32))
   lone_escape : {at : ℕ} → Fails at (27 ∷ []) (refusal Truncated at Empty)
   no_sequence : {at byte : ℕ} {bytes : List ℕ} → is_two_character byte ≡ false → is_parameterized byte ≡ false
       → Fails at (27 ∷ byte ∷ bytes) (refusal BadSequence at Empty)
   unknown_two : {at byte : ℕ} {bytes : List ℕ} → IsTrue (is_two_character byte) → IsNone (operation_of (One byte))
       → Fails at (27 ∷ byte ∷ bytes) (refusal UnsupportedCommand at (One byte))
-  unread : {at byte : ℕ} {bytes : List ℕ} → IsTrue (is_unread byte)
-      → Fails at (27 ∷ byte ∷ bytes) (refusal UnsupportedCommand at (One byte))
-  no_group : {at byte : ℕ} → IsTrue (is_parameterized byte) → is_unread byte ≡ false
+  no_group : {at byte : ℕ} → IsTrue (is_parameterized byte) → is_ungrouped byte ≡ false
       → Fails at (27 ∷ byte ∷ []) (refusal Truncated at (One byte))
-  bad_group : {at byte group : ℕ} {bytes : List ℕ} → IsTrue (is_parameterized byte) → is_unread byte ≡ false → is_group group ≡ false
+  bad_group : {at byte group : ℕ} {bytes : List ℕ} → IsTrue (is_parameterized byte) → is_ungrouped byte ≡ false → is_group group ≡ false
       → Fails at (27 ∷ byte ∷ group ∷ bytes) (refusal BadSequence at (One byte))
-  in_parameter : {at : ℕ} {bytes : List ℕ} {fault : Refusal} (prefix : Prefix) (middle : List Parameter) → IsPrefix prefix → AllByRecursion (IsMiddle prefix) middle
-      → FailsParameter prefix (place_behind at middle) bytes fault
-      → Fails at (27 ∷ prefix.parameterized ∷ prefix.group ∷ (flat_map parameter_bytes middle ++ bytes)) fault
+  in_parameter : {at : ℕ} {bytes : List ℕ} {fault : Refusal} (prefix : Prefix) (middle : List Parameter)
+      → IsPrefix prefix → IsUngrouped prefix.group bytes → AllByRecursion (IsMiddle prefix) middle
+      → FailsParameter prefix (place_behind at prefix middle) bytes fault
+      → Fails at (27 ∷ (prefix_bytes prefix ++ (flat_map parameter_bytes middle ++ bytes))) fault
+  in_line : {at : ℕ} {bytes : List ℕ} (field : Spelled) (lines : List (List ℕ)) (line : List ℕ)
+      → IsField field → IsTrue (is_exit exit_name (field_value field)) → parameter_checks exit_name 88 (field_value field) 0 ≡ Ok 0
+      → AreOtherLines lines (line ++ bytes) → IsLine line bytes → IsTrue (names_language line) → names_pcl line ≡ false
+      → Fails at (27 ∷ 37 ∷ (field_bytes field ++ 88 ∷ (joined lines ++ (line ++ bytes))))
+      (refusal NotPcl (at + 3 + length (field_bytes field) + length (joined lines)) exit_name)
 
+-- the first fault of a job: behind a front of whole pieces something fails
 pub record IsFault (job : List ℕ) (fault : Refusal) : Type 0 where
   pub front : List Piece
-  pub each : AllByRecursion IsPiece front
   pub behind : List ℕ
+  pub each : ArePieces front behind
   pub spelled : job ≡ flat_map spelling front ++ behind
   pub fails : Fails (length (flat_map spelling front)) behind fault
 

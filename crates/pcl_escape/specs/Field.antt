@@ -15,20 +15,24 @@ pub record Spelled : Type 0 where
 
 -- ---- how a field is spelled
 
+-- a sign, or nothing
 abbrev pub sign_bytes : Sign → List ℕ
 sign_bytes Absent = []
 sign_bytes Plus = 43 ∷ []
 sign_bytes Minus = 45 ∷ []
 
+-- a point with digits, or nothing
 abbrev pub fraction_bytes : Option (List ℕ) → List ℕ
 fraction_bytes None = []
 fraction_bytes (Some digits) = 46 ∷ digits
 
+-- the three one behind the other
 abbrev pub field_bytes : Spelled → List ℕ
 field_bytes field = sign_bytes field.sign ++ field.whole ++ fraction_bytes field.fraction
 
 -- ---- what it says
 
+-- a decimal digit
 abbrev pub is_digit : ℕ → Bool
 is_digit byte = nat_le 48 byte && nat_le byte 57
 
@@ -44,10 +48,12 @@ digit_at digits place = slice_index digits place - 48
 abbrev pub ten_thousandths : List ℕ → ℕ
 ten_thousandths digits = 1000 * digit_at digits 0 + 100 * digit_at digits 1 + 10 * digit_at digits 2 + digit_at digits 3
 
+-- a missing fraction is 0
 abbrev pub fraction_parts : Option (List ℕ) → ℕ
 fraction_parts None = 0
 fraction_parts (Some digits) = ten_thousandths digits
 
+-- the value in ten-thousandths, with the sign as written
 abbrev pub field_value : Spelled → Value
 field_value field = record { sign = field.sign; parts = number_of field.whole * 10000 + fraction_parts field.fraction }
 
@@ -57,15 +63,18 @@ greatest_parts Absent = 655350000
 greatest_parts Plus = 655350000
 greatest_parts Minus = 327670000
 
+-- the magnitude is at most that
 abbrev pub in_range : Value → Bool
 in_range value = nat_le value.parts (greatest_parts value.sign)
 
 -- ---- reading one from the left
 
+-- the sign at the front, and the bytes behind it
 abbrev pub sign_at : List ℕ → Sign × List ℕ
 sign_at [] = (Absent, [])
 sign_at (byte ∷ bytes) = if byte == 43 then (Plus, bytes) else (if byte == 45 then (Minus, bytes) else (Absent, byte ∷ bytes))
 
+-- all digits at the front, and the bytes behind them
 abbrev pub digits_at : List ℕ → List ℕ × List ℕ
 digits_at bytes = (take (prefix_len is_digit bytes) bytes, drop (prefix_len is_digit bytes) bytes)
 
@@ -74,6 +83,7 @@ abbrev pub fraction_at : List ℕ → Option (List ℕ) × List ℕ
 fraction_at [] = (None, [])
 fraction_at (byte ∷ bytes) = if byte == 46 then (let digits = digits_at bytes in (Some digits.0, digits.1)) else (None, byte ∷ bytes)
 
+-- the field at the front, and the bytes behind it
 unfoldable pub field_at : List ℕ → Spelled × List ℕ
 field_at bytes =
     let sign = sign_at bytes in
@@ -83,9 +93,11 @@ field_at bytes =
 
 -- ---- a field of the code
 
+-- the digits of a slice
 abbrev pub contents : Option (Bor (List ℕ)) → Option (List ℕ)
 contents None = None
 contents (Some digits) = Some digits.now
 
+-- the field as it is spelled
 abbrev pub spelled : Field → Spelled
 spelled field = record { sign = field.sign; whole = field.whole.now; fraction = contents field.fraction }

@@ -1,7 +1,7 @@
-pub mod Operation
 pub mod Field
 pub mod Letter
 pub mod Checks
+pub mod Exit
 pub mod Said
 pub mod Scan
 pub mod Pieces

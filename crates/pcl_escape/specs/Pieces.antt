@@ -1,14 +1,16 @@
 -- What a reading of a job is: the job is cut into whole pieces of the language, and each gives its commands.
-use Rattle.std.specs.Prelude.{◌≡◌, ℕ, ◌+◌, false, IsTrue, List, [], ◌∷◌, ◌++◌, length, IfSome, IsSome, Ok}
+use Rattle.std.specs.Prelude.{◌≡◌, ℕ, ◌+◌, false, IsTrue, List, [], ◌∷◌, ◌++◌, length, Option, Some, None, IfSome, IsSome, Ok}
 use Rattle.std.specs.List.{flat_map, AllByRecursion}
 use Rattle.pcl_base.specs.declared.name.Name.{Name}
 use Rattle.pcl_base.specs.declared.name.Name.TheVariants.{One}
+use Rattle.pcl_base.specs.Operation.{operation_of}
+use Rattle.pcl_base.specs.Value.{zero_value}
 use Rattle.pcl_escape.specs.declared.step.Prefix.{Prefix}
-use Rattle.pcl_escape.specs.Operation.{operation_of}
-use Rattle.pcl_escape.specs.Letter.{is_silent, is_control, is_two_character, is_parameterized, is_unread, is_group, goes_on, is_last, parameter_name}
+use Rattle.pcl_escape.specs.Letter.{is_silent, is_control, is_text, is_two_character, is_parameterized, is_ungrouped, is_group, may_go_on, is_last, parameter_name, prefix_bytes}
 use Rattle.pcl_escape.specs.Field.{Spelled, is_digit, field_bytes, field_value}
-use Rattle.pcl_escape.specs.Checks.{parameter_checks}
-use Rattle.pcl_escape.specs.Said.{Said, zero_value}
+use Rattle.pcl_escape.specs.Checks.{parameter_checks, exit_name, is_exit}
+use Rattle.pcl_escape.specs.Exit.{joined, AreLines}
+use Rattle.pcl_escape.specs.Said.{Said}
 
 -- ---- pieces and their spellings
 
@@ -17,63 +19,118 @@ pub record Parameter : Type 0 where
   pub field : Spelled
   pub letter : ℕ
 
--- a combined sequence has middle parameters, a last one, and the data behind it
+-- A text run is as long as text goes. A combined sequence has middle parameters, a last one, and the data behind it; one without a group
+-- character has no middle ones. A universal exit takes the lines of the job language behind it.
 pub data Piece : Type 0 where
   silent : ℕ → Piece
   control : ℕ → Piece
+  text : List ℕ → Piece
   two_character : ℕ → Piece
   combined : Prefix → List Parameter → Parameter → List ℕ → Piece
+  exit : Spelled → List (List ℕ) → Piece
 
+-- a field and its byte
 abbrev pub parameter_bytes : Parameter → List ℕ
 parameter_bytes parameter = field_bytes parameter.field ++ parameter.letter ∷ []
 
+-- the bytes of a piece
 abbrev pub spelling : Piece → List ℕ
 spelling (silent byte) = byte ∷ []
 spelling (control code) = code ∷ []
+spelling (text bytes) = bytes
 spelling (two_character byte) = 27 ∷ byte ∷ []
 spelling (combined prefix middle end bytes) =
-    27 ∷ prefix.parameterized ∷ prefix.group ∷ (flat_map parameter_bytes middle ++ (parameter_bytes end ++ bytes))
+    27 ∷ (prefix_bytes prefix ++ (flat_map parameter_bytes middle ++ (parameter_bytes end ++ bytes)))
+spelling (exit field lines) = 27 ∷ 37 ∷ (field_bytes field ++ 88 ∷ joined lines)
 
 -- ---- what each piece must be
 
+-- decimal digits and nothing else
 abbrev pub AreDigits : List ℕ → Type 0
 AreDigits digits = AllByRecursion (λ digit. IsTrue (is_digit digit)) digits
 
+-- a value field has digits on both sides of its point
 abbrev pub IsField : Spelled → Type 0
 IsField field = AreDigits field.whole × IfSome field.fraction AreDigits
 
+-- a parameterized character and a group character, or one of ( ) % alone
+abbrev pub IsPrefixOf : ℕ → Option ℕ → Type 0
+IsPrefixOf parameterized None = IsTrue (is_ungrouped parameterized)
+IsPrefixOf parameterized (Some group) = IsTrue (is_parameterized parameterized) × IsTrue (is_group group)
+
+-- the bytes behind ESC begin a sequence
 abbrev pub IsPrefix : Prefix → Type 0
-IsPrefix prefix = IsTrue (is_parameterized prefix.parameterized) × (is_unread prefix.parameterized ≡ false) × IsTrue (is_group prefix.group)
+IsPrefix prefix = IsPrefixOf prefix.parameterized prefix.group
 
 -- a parameter that passes the checks with these data behind it
 abbrev pub PassesChecks : Prefix → Parameter → List ℕ → Type 0
 PassesChecks prefix parameter bytes =
-    parameter_checks (parameter_name prefix parameter.letter) parameter.letter (field_value parameter.field) (length bytes) ≡ Ok (length bytes)
+    let name = parameter_name prefix parameter.letter in
+    parameter_checks name parameter.letter (field_value parameter.field) (length bytes) ≡ Ok (length bytes)
 
+-- a parameter behind which the sequence goes on has no data
 pub record IsMiddle (prefix : Prefix) (parameter : Parameter) : Type 0 where
   pub field : IsField parameter.field
-  pub letter : IsTrue (goes_on parameter.letter)
+  pub letter : IsTrue (may_go_on prefix parameter.letter)
   pub checks : PassesChecks prefix parameter []
 
+-- a last parameter with its data, which is no universal exit
 pub record IsEnd (prefix : Prefix) (parameter : Parameter) (bytes : List ℕ) : Type 0 where
   pub field : IsField parameter.field
   pub letter : IsTrue (is_last parameter.letter)
   pub checks : PassesChecks prefix parameter bytes
+  pub stays : is_exit (parameter_name prefix parameter.letter) (field_value parameter.field) ≡ false
 
+-- a command of this name is performed
 abbrev pub IsNamed : Name → Type 0
 IsNamed name = IsSome (operation_of name)
 
-abbrev pub IsPiece : Piece → Type 0
-IsPiece (silent byte) = IsTrue (is_silent byte)
-IsPiece (control code) = IsTrue (is_control code) × (is_silent code ≡ false) × IsNamed (One code)
-IsPiece (two_character byte) = IsTrue (is_two_character byte) × IsNamed (One byte)
-IsPiece (combined prefix middle end bytes) = IsPrefix prefix × AllByRecursion (IsMiddle prefix) middle × IsEnd prefix end bytes
+-- no text goes on there
+abbrev pub IsNoText : List ℕ → Type 0
+IsNoText [] = Unit {0}
+IsNoText (byte ∷ bytes) = is_text byte ≡ false
+
+-- a run of text is there, and ends there
+abbrev pub IsRun : List ℕ → List ℕ → Type 0
+IsRun [] behind = ⊥
+IsRun (byte ∷ bytes) behind = AllByRecursion (λ byte. IsTrue (is_text byte)) (byte ∷ bytes) × IsNoText behind
+
+-- a universal exit, before the bytes that stand behind its lines
+pub record IsExit (field : Spelled) (lines : List (List ℕ)) (behind : List ℕ) : Type 0 where
+  pub field_is : IsField field
+  pub leaves : IsTrue (is_exit exit_name (field_value field))
+  pub checks : parameter_checks exit_name 88 (field_value field) 0 ≡ Ok 0
+  pub lines_are : AreLines lines behind
+
+-- a piece, before the bytes that stand behind it
+abbrev pub IsPiece : Piece → List ℕ → Type 0
+IsPiece (silent byte) behind = IsTrue (is_silent byte)
+IsPiece (control code) behind = IsTrue (is_control code) × (is_silent code ≡ false) × IsNamed (One code)
+IsPiece (text bytes) behind = IsRun bytes behind × IsNamed (One 32)
+IsPiece (two_character byte) behind = IsTrue (is_two_character byte) × IsNamed (One byte)
+IsPiece (combined prefix middle end bytes) behind = IsPrefix prefix × AllByRecursion (IsMiddle prefix) middle × IsEnd prefix end bytes
+IsPiece (exit field lines) behind = IsExit field lines behind
+
+-- pieces one behind the other, and what stands behind the last
+abbrev pub ArePieces : List Piece → List ℕ → Type 0
+ArePieces [] behind = Unit {0}
+ArePieces (piece ∷ pieces) behind = IsPiece piece (flat_map spelling pieces ++ behind) × ArePieces pieces behind
 
 -- ---- what each piece says
 
+-- a command without a value and data
 abbrev pub bare_command : ℕ → ℕ → Said
 bare_command at code = record { at = at; name = One code; value = zero_value; bytes = [] }
 
+-- a run of text
+abbrev pub text_command : ℕ → List ℕ → Said
+text_command at bytes = record { at = at; name = One 32; value = zero_value; bytes = bytes }
+
+-- a universal exit says its value, and nothing of the lines
+abbrev pub exit_command : ℕ → Spelled → Said
+exit_command at field = record { at = at; name = exit_name; value = field_value field; bytes = [] }
+
+-- a parameter with its data
 abbrev pub command_of : Prefix → ℕ → Parameter → List ℕ → Said
 command_of prefix at parameter bytes =
     record { at = at; name = parameter_name prefix parameter.letter; value = field_value parameter.field; bytes = bytes }
@@ -86,11 +143,18 @@ parameter_commands prefix at begin (parameter ∷ middle) end bytes =
     let behind = begin + length (parameter_bytes parameter) in
     command_of prefix at parameter [] ∷ parameter_commands prefix behind behind middle end bytes
 
+-- where the first parameter of a sequence begins that begins at a place
+abbrev pub first_place : ℕ → Prefix → ℕ
+first_place at prefix = at + 1 + length (prefix_bytes prefix)
+
+-- the commands of a piece that begins at a place
 abbrev pub commands_from : ℕ → Piece → List Said
 commands_from at (silent byte) = []
 commands_from at (control code) = bare_command at code ∷ []
+commands_from at (text bytes) = text_command at bytes ∷ []
 commands_from at (two_character byte) = bare_command at byte ∷ []
-commands_from at (combined prefix middle end bytes) = parameter_commands prefix at (at + 3) middle end bytes
+commands_from at (combined prefix middle end bytes) = parameter_commands prefix at (first_place at prefix) middle end bytes
+commands_from at (exit field lines) = exit_command at field ∷ []
 
 -- the commands of pieces that begin at a place
 abbrev pub commands_of : ℕ → List Piece → List Said
@@ -99,8 +163,9 @@ commands_of at (piece ∷ pieces) = commands_from at piece ++ commands_of (at + 
 
 -- ---- a reading
 
+-- a reading of a job: whole pieces from its first byte to its last, and their commands
 pub record IsReading (job : List ℕ) (commands : List Said) : Type 0 where
   pub pieces : List Piece
-  pub each : AllByRecursion IsPiece pieces
+  pub each : ArePieces pieces []
   pub spelled : job ≡ flat_map spelling pieces
   pub said : commands ≡ commands_of 0 pieces

@@ -1,23 +1,27 @@
 -- Reading from left to right, as a function: one step after the other, each by the checks in their order.
-use Rattle.std.specs.Prelude.{◌≡◌, ℕ, zero, suc, ◌+◌, ◌-◌, ◌==◌, if◌then◌else◌, List, [], ◌∷◌, ◌++◌, length, take, drop, Option, Some, None, Result, Ok, Err}
+use Rattle.std.specs.Prelude.{◌≡◌, ℕ, zero, suc, ◌+◌, ◌-◌, Bool, false, ◌==◌, if◌then◌else◌, List, [], ◌∷◌, ◌++◌, length, take, drop, Option, Some, None, Result, Ok, Err}
 use Rattle.pcl_base.specs.declared.kind.Kind.{Kind}
-use Rattle.pcl_base.specs.declared.kind.Kind.TheVariants.{Truncated, BadSequence, UnsupportedCommand}
+use Rattle.pcl_base.specs.declared.kind.Kind.TheVariants.{Truncated, BadSequence, UnsupportedCommand, NotPcl}
 use Rattle.pcl_base.specs.declared.refusal.Refusal.{Refusal}
 use Rattle.pcl_base.specs.declared.fault.JobFault.{JobFault}
 use Rattle.pcl_base.specs.declared.fault.JobFault.TheVariants.{Refused, Memory}
 use Rattle.pcl_base.specs.declared.name.Name.{Name}
 use Rattle.pcl_base.specs.declared.name.Name.TheVariants.{Empty, One}
+use Rattle.pcl_base.specs.declared.operation.Operation.{Operation}
 use Rattle.pcl_base.specs.declared.value.Value.{Value}
+use Rattle.pcl_base.specs.Operation.{operation_of}
+use Rattle.pcl_base.specs.Refusal.{refusal}
+use Rattle.pcl_base.specs.Value.{zero_value}
 use Rattle.pcl_escape.specs.declared.command.Command.{Command}
-use Rattle.pcl_escape.specs.declared.operation.Operation.{Operation}
 use Rattle.pcl_escape.specs.declared.step.Prefix.{Prefix}
 use Rattle.pcl_escape.specs.declared.step.Step.{Step}
-use Rattle.pcl_escape.specs.Operation.{operation_of}
-use Rattle.pcl_escape.specs.Letter.{is_silent, is_control, is_two_character, is_parameterized, is_unread, is_group, goes_on, is_letter, prefix_name, parameter_name}
+use Rattle.std.specs.List.{prefix_len}
+use Rattle.pcl_escape.specs.Letter.{is_silent, is_control, is_text, is_two_character, is_parameterized, is_ungrouped, is_group, goes_on, is_letter, prefix_name, parameter_name}
 use Rattle.pcl_escape.specs.Field.{Spelled, field_at, field_value}
-use Rattle.pcl_escape.specs.Checks.{parameter_checks}
+use Rattle.pcl_escape.specs.Checks.{parameter_checks, exit_name, is_exit}
+use Rattle.pcl_escape.specs.Exit.{lines_at}
 use Rattle.std.specs.Global.{Vec}
-use Rattle.pcl_escape.specs.Said.{Said, zero_value, view, views}
+use Rattle.pcl_escape.specs.Said.{Said, view, views}
 
 -- what a step reads: a command or none, the bytes behind it, and the sequence that goes on there
 pub record Reads : Type 0 where
@@ -25,16 +29,31 @@ pub record Reads : Type 0 where
   pub rest : List ℕ
   pub inside : Option Prefix
 
+-- a step that finds a fault
 abbrev pub refuse : Kind → ℕ → Name → Result Reads Refusal
-refuse kind at name = Err record { kind = kind; at = at; name = name }
+refuse kind at name = Err (refusal kind at name)
 
+-- a command without a value and data, where its name is performed
 abbrev pub named_by : Option Operation → ℕ → ℕ → List ℕ → Result Reads Refusal
 named_by None at code rest = refuse UnsupportedCommand at (One code)
 named_by (Some operation) at code rest =
     Ok record { said = Some record { at = at; name = One code; value = zero_value; bytes = [] }; rest = rest; inside = None }
 
+-- a control code or a two-character sequence
 unfoldable pub named_at : ℕ → ℕ → List ℕ → Result Reads Refusal
 named_at at code rest = named_by (operation_of (One code)) at code rest
+
+-- a run of text, where text is performed
+abbrev pub text_by : Option Operation → ℕ → List ℕ → Result Reads Refusal
+text_by None at bytes = refuse UnsupportedCommand at (One 32)
+text_by (Some operation) at bytes =
+    let len = prefix_len is_text bytes in
+    let said : Said = record { at = at; name = One 32; value = zero_value; bytes = take len bytes } in
+    Ok record { said = Some said; rest = drop len bytes; inside = None }
+
+-- text
+unfoldable pub text_at : ℕ → List ℕ → Result Reads Refusal
+text_at at bytes = text_by (operation_of (One 32)) at bytes
 
 -- a parameter whose checks are done
 abbrev pub checked_at : Prefix → ℕ → ℕ → Value → List ℕ → Result ℕ Kind → Result Reads Refusal
@@ -46,46 +65,74 @@ checked_at prefix at letter value bytes (Ok len) =
     }
 checked_at prefix at letter value bytes (Err kind) = refuse kind at (parameter_name prefix letter)
 
+-- the byte behind a value field, and then the checks
 abbrev pub letter_at : Prefix → ℕ → Spelled → List ℕ → Result Reads Refusal
 letter_at prefix at field [] = refuse Truncated at (prefix_name prefix)
 letter_at prefix at field (letter ∷ bytes) =
-    if is_letter letter
-    then checked_at prefix at letter (field_value field) bytes (parameter_checks (parameter_name prefix letter) letter (field_value field) (length bytes))
+    let checks = parameter_checks (parameter_name prefix letter) letter (field_value field) (length bytes) in
+    if is_letter prefix letter then checked_at prefix at letter (field_value field) bytes checks
     else refuse BadSequence at (prefix_name prefix)
 
+-- a parameter with its data
 unfoldable pub parameter_at : Prefix → ℕ → List ℕ → Result Reads Refusal
 parameter_at prefix at bytes = let field = field_at bytes in letter_at prefix at field.0 field.1
 
-unfoldable pub group_at : ℕ → ℕ → List ℕ → Result Reads Refusal
-group_at at parameterized [] = refuse Truncated at (One parameterized)
-group_at at parameterized (group ∷ bytes) =
-    if is_group group then parameter_at (record { parameterized = parameterized; group = group }) at bytes
-    else refuse BadSequence at (One parameterized)
+-- the command is a universal exit
+abbrev pub leaves : Option Said → Bool
+leaves None = false
+leaves (Some said) = is_exit said.name said.value
 
+-- an exit, by what its lines give
+abbrev pub skipped_by : Option Said → Result (List ℕ) ℕ → Result Reads Refusal
+skipped_by said (Ok rest) = Ok record { said = said; rest = rest; inside = None }
+skipped_by said (Err place) = refuse NotPcl place exit_name
+
+-- what was read of so many bytes, which begin at a place, and the lines behind it where it is a universal exit
+abbrev pub with_lines : ℕ → ℕ → Result Reads Refusal → Result Reads Refusal
+with_lines begin len (Ok reads) =
+    if leaves reads.said then skipped_by reads.said (lines_at (begin + (len - length reads.rest)) reads.rest) else Ok reads
+with_lines begin len (Err fault) = Err fault
+
+-- the parameter of a sequence without a group character, which begins at a place
+unfoldable pub ungrouped_at : ℕ → ℕ → List ℕ → Result Reads Refusal
+ungrouped_at at parameterized bytes =
+    with_lines (at + 2) (length bytes) (parameter_at (record { parameterized = parameterized; group = None }) at bytes)
+
+-- the group character or none, and the first parameter
+unfoldable pub prefix_at : ℕ → ℕ → List ℕ → Result Reads Refusal
+prefix_at at parameterized [] = refuse Truncated at (One parameterized)
+prefix_at at parameterized (group ∷ bytes) =
+    if is_group group then parameter_at (record { parameterized = parameterized; group = Some group }) at bytes
+    else (if is_ungrouped parameterized then ungrouped_at at parameterized (group ∷ bytes) else refuse BadSequence at (One parameterized))
+
+-- the byte behind ESC, and so on
 unfoldable pub sequence_at : ℕ → List ℕ → Result Reads Refusal
 sequence_at at [] = refuse Truncated at Empty
 sequence_at at (byte ∷ bytes) =
     if is_two_character byte then named_at at byte bytes
-    else (if is_unread byte then refuse UnsupportedCommand at (One byte)
-    else (if is_parameterized byte then group_at at byte bytes else refuse BadSequence at Empty))
+    else (if is_parameterized byte then prefix_at at byte bytes else refuse BadSequence at Empty)
 
+-- bytes outside sequences
 unfoldable pub start_at : ℕ → List ℕ → Result Reads Refusal
 start_at at [] = Ok record { said = None; rest = []; inside = None }
 start_at at (byte ∷ bytes) =
     if is_silent byte then Ok record { said = None; rest = bytes; inside = None }
     else (if byte == 27 then sequence_at at bytes
-    else (if is_control byte then named_at at byte bytes else refuse UnsupportedCommand at (One 32)))
+    else (if is_control byte then named_at at byte bytes else text_at at (byte ∷ bytes)))
 
+-- a step inside a sequence or outside
 abbrev pub step_at : Option Prefix → ℕ → List ℕ → Result Reads Refusal
 step_at None at bytes = start_at at bytes
 step_at (Some prefix) at bytes = parameter_at prefix at bytes
 
 -- ---- a step of the code
 
+-- what a command of the code says, if there is one
 abbrev pub said_of : Option Command → Option Said
 said_of None = None
 said_of (Some command) = Some (view command)
 
+-- what a step of the code read
 abbrev pub step_view : Step → Reads
 step_view step = record { said = said_of step.command; rest = step.rest.now; inside = step.inside }
 
@@ -96,6 +143,7 @@ Gives (Err refusal) reads = reads ≡ Err refusal
 
 -- ---- all steps
 
+-- one command or none
 abbrev pub commands_said : Option Said → List Said
 commands_said None = []
 commands_said (Some command) = command ∷ []
@@ -105,6 +153,7 @@ abbrev pub with_front : List Said → Result (List Said) Refusal → Result (Lis
 with_front front (Ok commands) = Ok (front ++ commands)
 with_front front (Err fault) = Err fault
 
+-- a step, and the rest of the reading unless it found a fault
 abbrev pub after : Result Reads Refusal → (Reads → Result (List Said) Refusal) → Result (List Said) Refusal
 after (Ok reads) go_on = with_front (commands_said reads.said) (go_on reads)
 after (Err fault) go_on = Err fault
@@ -114,7 +163,8 @@ unfoldable pub outcome : ℕ → Option Prefix → ℕ → List ℕ → Result (
 outcome zero inside at bytes = Ok []
 outcome (suc steps) None at [] = Ok []
 outcome (suc steps) None at (byte ∷ bytes) =
-    after (step_at None at (byte ∷ bytes)) (λ reads. outcome steps reads.inside (at + (length (byte ∷ bytes) - length reads.rest)) reads.rest)
+    after (step_at None at (byte ∷ bytes))
+    (λ reads. outcome steps reads.inside (at + (length (byte ∷ bytes) - length reads.rest)) reads.rest)
 outcome (suc steps) (Some prefix) at bytes =
     after (step_at (Some prefix) at bytes) (λ reads. outcome steps reads.inside (at + (length bytes - length reads.rest)) reads.rest)
 

@@ -6,13 +6,13 @@ use pcl_base::{Name, Value};
 #[derive(Clone, Copy, Debug)]
 pub struct Command<'a> {
     /// Where the command stands, in bytes from the job's begin: the place of ESC for the first command of
-    /// a sequence, the place behind the parameter before it for a later one, and its own place for a
-    /// control code.
+    /// a sequence, the place behind the parameter before it for a later one, its own place for a control
+    /// code, and that of its first byte for a run of text.
     pub at: usize,
     /// The name.
     pub name: Name,
     /// The value of its field, 0 with no sign where it has none.
     pub value: Value,
-    /// The data that follow it, a slice of the job.
+    /// The data that follow it, or the run of text: a slice of the job.
     pub bytes: &'a [u8],
 }

@@ -2,14 +2,13 @@
 #![tactic(auto)]
 
 mod command;
+mod exit;
 mod field;
 mod job;
-mod operation;
 mod step;
 
 pub use command::Command;
 pub use job::{one_outcome, read_job};
-pub use operation::Operation;
 
 #[cfg(test)]
 mod tests;

@@ -1,25 +1,32 @@
-//! One step of the reading: a silent byte, a control code, a two-character sequence, or one parameter.
+//! One step of the reading: a silent byte, a control code, a run of text, a two-character sequence, or one
+//! parameter; and behind a universal exit the lines of the job language.
 
-ghost use Rattle.std.specs.Prelude.{◌≡◌, ◌≤◌, IsTrue, IfOk, Err, None};
-ghost use Rattle.pcl_escape.specs.Letter.{goes_on, is_letter, prefix_name, parameter_name};
-ghost use Rattle.pcl_escape.specs.Operation.{operation_of};
-ghost use Rattle.pcl_escape.specs.Checks.{operation_checks};
-ghost use Rattle.pcl_escape.specs.Scan.{Gives, step_view, step_at, start_at, sequence_at, group_at, parameter_at, named_at};
+ghost use Rattle.std.specs.Prelude.{◌≡◌, ◌≤◌, ◌+◌, length, IsTrue, IfOk, Err, None};
+ghost use Rattle.std.specs.List.{prefix_len};
+ghost use Rattle.pcl_base.specs.Operation.{operation_of};
+ghost use Rattle.pcl_base.specs.Refusal.{refusal};
+ghost use Rattle.pcl_escape.specs.Letter.{goes_on, is_text, is_letter, prefix_name, parameter_name};
+ghost use Rattle.pcl_escape.specs.Checks.{operation_checks, is_exit};
+ghost use Rattle.pcl_escape.specs.Scan.{Gives, step_view, step_at, start_at, sequence_at, prefix_at, ungrouped_at, parameter_at, named_at, text_at};
 
+use crate::Command;
+use crate::exit::skip_lines;
 use crate::field::read_field;
-use crate::{Command, Operation};
-use pcl_base::{Kind, Name, Refusal, Value};
+use pcl_base::{Kind, Name, Operation, Refusal, Value};
 
 /// The byte that begins a sequence.
 const ESC: u8 = 27;
 
-/// What the parameters of a combined sequence share: the two bytes after ESC.
+/// The name of a universal exit.
+const EXIT: Name = Name::Two(b'%', b'X');
+
+/// What the parameters of a sequence share: the bytes after ESC.
 #[derive(Clone, Copy, Debug, PartialEq, Eq)]
 pub struct Prefix {
     /// The parameterized character, 33 to 47.
     pub parameterized: u8,
-    /// The group character, 96 to 126.
-    pub group: u8,
+    /// The group character, 96 to 126; `(`, `)` and `%` may stand without one.
+    pub group: Option<u8>,
 }
 
 /// What one step read.
@@ -40,6 +47,7 @@ pub fn read_step<'a>(
     at: usize,
     bytes: &'a [u8],
 ) -> Result<Step<'a>, Refusal>
+    requires { at + length bytes.now ≤ 18446744073709551615 }
     ensures { Gives result (step_at inside at bytes.now) }
 {
     match inside {
@@ -51,6 +59,7 @@ pub fn read_step<'a>(
 /// Reads what stands at the front of the bytes, outside sequences.
 #[tactic(auto, unfolding(crate::specs::Scan::start_at))]
 fn read_start<'a>(at: usize, bytes: &'a [u8]) -> Result<Step<'a>, Refusal>
+    requires { at + length bytes.now ≤ 18446744073709551615 }
     ensures { Gives result (start_at at bytes.now) }
 {
     let Some((&first, after)) = bytes.split_first() else {
@@ -60,13 +69,15 @@ fn read_start<'a>(at: usize, bytes: &'a [u8]) -> Result<Step<'a>, Refusal>
         0 | 7 | 11 => Ok(silent(after)),
         ESC => read_sequence(at, after),
         8..=15 => read_named(at, first, after),
-        _ => refused(Kind::UnsupportedCommand, at, Name::TEXT),
+        _ => read_text(at, bytes),
     }
 }
 
-/// Reads the sequence whose ESC stands before the bytes, up to its first parameter.
+/// Reads the sequence whose ESC stands before the bytes, up to its first parameter. `at` is the place of
+/// ESC.
 #[tactic(auto, unfolding(crate::specs::Scan::sequence_at))]
 fn read_sequence<'a>(at: usize, bytes: &'a [u8]) -> Result<Step<'a>, Refusal>
+    requires { at + 1 + length bytes.now ≤ 18446744073709551615 }
     ensures { Gives result (sequence_at at bytes.now) }
 {
     let Some((&first, after)) = bytes.split_first() else {
@@ -74,28 +85,58 @@ fn read_sequence<'a>(at: usize, bytes: &'a [u8]) -> Result<Step<'a>, Refusal>
     };
     match first {
         48..=126 => read_named(at, first, after),
-        b'(' | b')' | b'%' => refused(Kind::UnsupportedCommand, at, Name::One(first)),
-        33..=47 => read_group(at, first, after),
+        33..=47 => read_prefix(at, first, after),
         _ => refused(Kind::BadSequence, at, Name::Empty),
     }
 }
 
-/// Reads the group character of a combined sequence, and its first parameter.
-#[tactic(auto, unfolding(crate::specs::Scan::group_at))]
-fn read_group<'a>(at: usize, parameterized: u8, bytes: &'a [u8]) -> Result<Step<'a>, Refusal>
-    ensures { Gives result (group_at at parameterized bytes.now) }
+/// Reads the group character of a sequence, if it has one, and its first parameter.
+#[tactic(auto, unfolding(crate::specs::Scan::prefix_at))]
+fn read_prefix<'a>(at: usize, parameterized: u8, bytes: &'a [u8]) -> Result<Step<'a>, Refusal>
+    requires { at + 2 + length bytes.now ≤ 18446744073709551615 }
+    ensures { Gives result (prefix_at at parameterized bytes.now) }
 {
     let Some((&group, after)) = bytes.split_first() else {
         return refused(Kind::Truncated, at, Name::One(parameterized));
     };
-    if !matches!(group, 96..=126) {
-        return refused(Kind::BadSequence, at, Name::One(parameterized));
+    if matches!(group, 96..=126) {
+        let prefix = Prefix {
+            parameterized,
+            group: Some(group),
+        };
+        return read_parameter(prefix, at, after);
     }
+    match parameterized {
+        b'(' | b')' | b'%' => read_ungrouped(at, parameterized, bytes),
+        _ => refused(Kind::BadSequence, at, Name::One(parameterized)),
+    }
+}
+
+/// Reads the parameter of a sequence without a group character, and the lines behind a universal exit.
+#[tactic(auto, unfolding(crate::specs::Scan::ungrouped_at))]
+fn read_ungrouped<'a>(at: usize, parameterized: u8, bytes: &'a [u8]) -> Result<Step<'a>, Refusal>
+    requires { at + 2 + length bytes.now ≤ 18446744073709551615 }
+    ensures { Gives result (ungrouped_at at parameterized bytes.now) }
+{
     let prefix = Prefix {
         parameterized,
-        group,
+        group: None,
     };
-    read_parameter(prefix, at, after)
+    let step = read_parameter(prefix, at, bytes)?;
+    match step.command {
+        Some(command) if is_exit(command.name, command.value) => {
+            let place = at + 2 + (bytes.len() - step.rest.len());
+            match skip_lines(place, step.rest) {
+                Ok(rest) => Ok(Step {
+                    command: step.command,
+                    rest,
+                    inside: None,
+                }),
+                Err(line) => refused(Kind::NotPcl, line, EXIT),
+            }
+        }
+        _ => Ok(step),
+    }
 }
 
 /// A control code or a two-character sequence: a command whose name is one byte, without value or data.
@@ -120,6 +161,41 @@ fn read_named<'a>(at: usize, code: u8, rest: &'a [u8]) -> Result<Step<'a>, Refus
     })
 }
 
+/// Reads the run of text at the front of the bytes, as long as it goes.
+#[tactic(auto, unfolding(crate::specs::Scan::text_at))]
+fn read_text<'a>(at: usize, bytes: &'a [u8]) -> Result<Step<'a>, Refusal>
+    ensures { Gives result (text_at at bytes.now) }
+{
+    if Operation::with_name(Name::TEXT).is_none() {
+        return refused(Kind::UnsupportedCommand, at, Name::TEXT);
+    }
+    let (text, rest) = bytes.split_at(text_len(bytes));
+    let command = Command {
+        at,
+        name: Name::TEXT,
+        value: Value::ZERO,
+        bytes: text,
+    };
+    Ok(Step {
+        command: Some(command),
+        rest,
+        inside: None,
+    })
+}
+
+/// How many bytes of text stand at the front of the bytes.
+fn text_len(bytes: &[u8]) -> usize
+    ensures count { result ≡ prefix_len is_text bytes.now }
+    ensures within { result ≤ length bytes.now }
+{
+    for (i, byte) in bytes.iter().enumerate() {
+        if matches!(*byte, 0 | 7..=15 | ESC) {
+            return i;
+        }
+    }
+    bytes.len()
+}
+
 /// Reads a parameter: its field, its letter, and its data.
 // Inlined, so that a step of each command isn't passed on through memory.
 #[inline(always)]
@@ -131,7 +207,7 @@ fn read_parameter<'a>(prefix: Prefix, at: usize, bytes: &'a [u8]) -> Result<Step
     let Some((&letter, after)) = rest.split_first() else {
         return refused(Kind::Truncated, at, prefix.name());
     };
-    if !is_letter(letter) {
+    if !is_letter(prefix, letter) {
         return refused(Kind::BadSequence, at, prefix.name());
     }
     let name = parameter_name(prefix, letter);
@@ -189,9 +265,9 @@ fn silent(rest: &[u8]) -> Step<'_>
 
 /// The fault of a step.
 fn refused<'a>(kind: Kind, at: usize, name: Name) -> Result<Step<'a>, Refusal>
-    ensures { result ≡ Err record { kind = kind; at = at; name = name } }
+    ensures { result ≡ Err (refusal kind at name) }
 {
-    Err(Refusal { kind, at, name })
+    Err(Refusal::new(kind, at, name))
 }
 
 impl Prefix {
@@ -199,7 +275,10 @@ impl Prefix {
     fn name(self) -> Name
         ensures { result ≡ prefix_name self }
     {
-        Name::Two(self.parameterized, self.group)
+        match self.group {
+            None => Name::One(self.parameterized),
+            Some(group) => Name::Two(self.parameterized, group),
+        }
     }
 }
 
@@ -210,18 +289,32 @@ fn goes_on(letter: u8) -> bool
     matches!(letter, 96..=126)
 }
 
-/// Whether the byte ends a parameter.
-fn is_letter(byte: u8) -> bool
-    ensures { result ≡ is_letter byte }
+/// Whether the byte ends a parameter. A sequence without a group character has one parameter.
+fn is_letter(prefix: Prefix, byte: u8) -> bool
+    ensures { result ≡ is_letter prefix byte }
 {
-    matches!(byte, 64..=94 | 96..=126)
+    match byte {
+        64..=94 => true,
+        96..=126 => prefix.group.is_some(),
+        _ => false,
+    }
 }
 
 /// The name of a parameter: the letter is named as an upper-case one.
 fn parameter_name(prefix: Prefix, letter: u8) -> Name
-    requires { IsTrue (is_letter letter) }
+    requires { IsTrue (is_letter prefix letter) }
     ensures { result ≡ parameter_name prefix letter }
 {
     let upper_case = if goes_on(letter) { letter - 32 } else { letter };
-    Name::Three(prefix.parameterized, prefix.group, upper_case)
+    match prefix.group {
+        None => Name::Two(prefix.parameterized, upper_case),
+        Some(group) => Name::Three(prefix.parameterized, group, upper_case),
+    }
+}
+
+/// Whether the command is a universal exit.
+fn is_exit(name: Name, value: Value) -> bool
+    ensures { result ≡ is_exit name value }
+{
+    name == EXIT && value.whole() == -12_345
 }

@@ -55,14 +55,69 @@ fn reads_the_greatest_values(rt: HostRuntime) -> Result<(), Fail> {
     Ok(())
 }
 
+// Jobs, and the commands that they give, by place and name.
+#[test]
+fn reads_sequences(rt: HostRuntime) -> Result<(), Fail> {
+    let exit = Name::Two(b'%', b'X');
+    let reset = Name::One(b'E');
+    let clipping = Name::Three(b'&', b'd', b'@');
+    let read: [(&[u8], &[(usize, Name)]); 16] = [
+        (b"", &[]),
+        (b"\x1b(8U", &[(0, Name::Two(b'(', b'U'))]),
+        (b"\x1b)-.5@", &[(0, Name::Two(b')', b'@'))]),
+        (b"\x1b(^", &[(0, Name::Two(b'(', b'^'))]),
+        (
+            b"\x1b%0A\x1b(s0P",
+            &[
+                (0, Name::Two(b'%', b'A')),
+                (4, Name::Three(b'(', b's', b'P')),
+            ],
+        ),
+        (b"\x1b&d`0@", &[(0, clipping), (4, clipping)]),
+        (b"\x1b%-12345X\x1bE", &[(0, exit), (9, reset)]),
+        (b"\x1b%-12345.9X@PJL\n\x1bE", &[(0, exit), (16, reset)]),
+        (
+            b"\x1b%-12345X@PJL EOJ\r\n@PJLX\n\x1bE",
+            &[(0, exit), (25, reset)],
+        ),
+        (
+            b"\x1b%-12345X@PJL enter\tLanguage = P C L\r\n\x1bE",
+            &[(0, exit), (38, reset)],
+        ),
+        (b"\x1b%-12345X@PJL ENTER LANGUAGE=PCL", &[(0, exit)]),
+        (b"\x1b%-12345X@PJL EOJ\x1b%-12345X\x1bE", &[(0, exit)]),
+        (
+            b"\x1b%-12345X@PJL EOJ\x1b%-12345X\n\x1bE",
+            &[(0, exit), (27, reset)],
+        ),
+        (
+            b"\x1b%-12345X@PJL COMMENT LANGUAGE=XL\n\x1bE",
+            &[(0, exit), (34, reset)],
+        ),
+        (b"\x1b%12345X\x1bE", &[(0, exit), (8, reset)]),
+        (b"\x1b%-12344X\x1bE", &[(0, exit), (9, reset)]),
+    ];
+    for (job, expected) in read {
+        let commands = read_job(rt.alloc(), job).ok().ok_or("the job is right")?;
+        assert_eq!(rt; commands.len(), expected.len(), "{job:?}");
+        for (command, (at, name)) in commands.iter().zip(expected) {
+            assert_eq!(rt; command.at, *at, "{job:?}");
+            assert_eq!(rt; command.name, *name, "{job:?}");
+        }
+    }
+    Ok(())
+}
+
 #[test]
 fn refuses(rt: HostRuntime) {
     let p_x = Name::Three(b'*', b'p', b'X');
     let b_w = Name::Three(b'*', b'b', b'W');
-    let refused: [(&[u8], Kind, usize, Name); 18] = [
+    let exit = Name::Two(b'%', b'X');
+    let refused: [(&[u8], Kind, usize, Name); 45] = [
         (b"\x1b*b5WABCD", Kind::Truncated, 0, b_w),
         (b"\x1b*b1w\x80", Kind::BadSequence, 0, b_w),
         (b"\x1b*b-1w", Kind::ValueRange, 0, b_w),
+        (b"\x1b*b99999w", Kind::ValueRange, 0, b_w),
         (b"\x1b*p70000X", Kind::ValueRange, 0, p_x),
         (b"\x1b*p65535.0001X", Kind::ValueRange, 0, p_x),
         (b"\x1b*p-32768X", Kind::ValueRange, 0, p_x),
@@ -74,28 +129,111 @@ fn refuses(rt: HostRuntime) {
         (b"\x1b", Kind::Truncated, 0, Name::Empty),
         (b"\x1b\x07", Kind::BadSequence, 0, Name::Empty),
         (b"\x1bY", Kind::UnsupportedCommand, 0, Name::One(b'Y')),
-        (b"\x1b(", Kind::UnsupportedCommand, 0, Name::One(b'(')),
+        (b"\x1be", Kind::UnsupportedCommand, 0, Name::One(b'e')),
         (
             b"\x1b*q0x",
             Kind::UnsupportedCommand,
             0,
             Name::Three(b'*', b'q', b'X'),
         ),
+        (
+            b"\x1b&q70000Q",
+            Kind::ValueRange,
+            0,
+            Name::Three(b'&', b'q', b'Q'),
+        ),
+        (b"\x1b(", Kind::Truncated, 0, Name::One(b'(')),
+        (b"\x1b(12", Kind::Truncated, 0, Name::One(b'(')),
+        (b"\x1b(s", Kind::Truncated, 0, Name::Two(b'(', b's')),
+        (b"\x1b)!", Kind::BadSequence, 0, Name::One(b')')),
+        (b"\x1b%1\x00", Kind::BadSequence, 0, Name::One(b'%')),
+        (b"\x1b(0s", Kind::BadSequence, 0, Name::One(b'(')),
+        (b"\x1b(0`", Kind::BadSequence, 0, Name::One(b'(')),
+        (
+            b"\x1b(3X",
+            Kind::UnsupportedCommand,
+            0,
+            Name::Two(b'(', b'X'),
+        ),
+        (b"\x1b(70000X", Kind::ValueRange, 0, Name::Two(b'(', b'X')),
+        (
+            b"\x1b%a0X",
+            Kind::UnsupportedCommand,
+            0,
+            Name::Three(b'%', b'a', b'X'),
+        ),
+        (b"\x1b%-40000X", Kind::ValueRange, 0, exit),
+        (
+            b"\x1b%-12345X@pjl x\n",
+            Kind::UnsupportedCommand,
+            9,
+            Name::TEXT,
+        ),
+        (
+            b"\x1b%-12345X @PJL\n",
+            Kind::UnsupportedCommand,
+            9,
+            Name::TEXT,
+        ),
+        (
+            b"\x1b%-12345X@PJ\n",
+            Kind::UnsupportedCommand,
+            9,
+            Name::TEXT,
+        ),
+        (
+            b"\x1b%12345X@PJL\n",
+            Kind::UnsupportedCommand,
+            8,
+            Name::TEXT,
+        ),
+        (
+            b"\x1b%-12345X@PJL ENTER LANGUAGE=PCL\n@PJL x\n",
+            Kind::UnsupportedCommand,
+            33,
+            Name::TEXT,
+        ),
+        (
+            b"\x1b%-12345X@PJL ENTER LANGUAGE=HPGL\n",
+            Kind::NotPcl,
+            9,
+            exit,
+        ),
+        (
+            b"\x1b%-12345X@PJL enter language=PCL;\n",
+            Kind::NotPcl,
+            9,
+            exit,
+        ),
+        (
+            b"\x1b%-12345X@PJL ENTER LANGUAGE=PCLXL",
+            Kind::NotPcl,
+            9,
+            exit,
+        ),
+        (b"\x1b%-12345X@PJL ENTER LANGUAGE=\n", Kind::NotPcl, 9, exit),
+        (
+            b"\x1b%-12345X@PJL\n@PJLENTERLANGUAGE=PCL5",
+            Kind::NotPcl,
+            14,
+            exit,
+        ),
+        (
+            b"\x1bE\x1b%-12345X@PJL\x1b\n@PJL ENTER LANGUAGE=X\n",
+            Kind::NotPcl,
+            17,
+            exit,
+        ),
         (b"\x08", Kind::UnsupportedCommand, 0, Name::One(8)),
+        (b"A", Kind::UnsupportedCommand, 0, Name::TEXT),
         (b"\x00A", Kind::UnsupportedCommand, 1, Name::TEXT),
+        (b" \x00A", Kind::UnsupportedCommand, 0, Name::TEXT),
+        (b"\x1bE\xff\x0bA", Kind::UnsupportedCommand, 2, Name::TEXT),
     ];
     for (job, kind, at, name) in refused {
         let fault = JobFault::Refused(Refusal { kind, at, name });
         assert_eq!(rt; read_job(rt.alloc(), job).err(), Some(fault), "{job:?}");
     }
-}
-
-#[test]
-fn names_operations(rt: HostRuntime) {
-    let row = Operation::with_name(Name::Three(b'*', b'b', b'W'));
-    assert_eq!(rt; row, Some(Operation::RasterRow));
-    assert!(rt; Operation::RasterRow.takes_data());
-    assert!(rt; !Operation::Reset.takes_data());
 }
 
 // The law does nothing.

@@ -1,4 +1,5 @@
-pub mod Rows
+pub mod Pads
+pub mod Painted
+pub mod Sizes
 pub mod Steps
 pub mod Jobs
-pub mod Examples

@@ -1,116 +1,37 @@
--- One step of the performer is one event more of the history.
-use Rattle.std.proofs.Common.{◌≡◌, ℕ, ◌+◌, ◌<◌, Bool, true, false, cond, ◌||◌, List, [], ◌∷◌, Option, Some, None, is_some, refl, sym, ap, subst, ◌∙◌}
+-- The performer follows the situation, step by step.
+use Rattle.std.proofs.Common.{◌≡◌, ℕ, ◌+◌, ◌<◌, ◌≤◌, Bool, true, false, cond, nat_le, List, [], ◌∷◌, ◌++◌, length, Option, Some, None, Result, Ok, Err, refl, sym, ap, subst, ◌∙◌, append-nil, length-append, inl, inr, arith}
+use Rattle.std.specs.Prelude.{is_some, ◌&&◌, IsErr}
+use Rattle.std.proofs.lemmas.Bool.Decides.{nat_tests}
 use Rattle.pcl_base.specs.declared.dpi.Dpi.{Dpi}
+use Rattle.pcl_base.specs.declared.fault.CallFault.{CallFault}
+use Rattle.pcl_base.specs.declared.fault.CallFault.TheVariants.{Refused, Memory}
+use Rattle.pcl_base.specs.declared.kind.Kind.{Kind}
+use Rattle.pcl_base.specs.declared.kind.Kind.TheVariants.{UnsupportedCommand, UnsupportedValue, TooManyCommands, TooManyPages}
+use Rattle.pcl_base.specs.declared.operation.Operation.{Operation}
+use Rattle.pcl_base.specs.declared.operation.Operation.TheVariants.{FillRectangle, StartRaster, RasterOffset, RasterRow}
+use Rattle.pcl_base.specs.Limits.{command_limit, page_limit}
+use Rattle.pcl_base.specs.Operation.{operation_of}
 use Rattle.pcl_base.specs.declared.size.Size.{Size}
-use Rattle.pcl_base.specs.declared.size.Size.TheVariants.{Letter}
 use Rattle.pcl_base.specs.declared.value.Value.{Value}
 use Rattle.pcl_base.specs.Size.{page_width, page_height}
-use Rattle.pcl_bitmap.specs.Bitmap.{Picture, IsPicture, dot}
-use Rattle.pcl_escape.specs.declared.operation.Operation.{Operation}
-use Rattle.pcl_escape.specs.declared.operation.Operation.TheVariants.{Reset, FormFeed, PageSize, Copies, TopMargin, HorizontalPosition, VerticalPosition, RasterResolution, RasterWidth, StartRaster, EndRaster, EndRasterResetMethod, RasterMethod, RasterOffset, RasterRow}
-use Rattle.pcl_page.specs.declared.environment.Environment.{Environment}
-use Rattle.pcl_page.specs.declared.environment.Raster.{Raster}
+use Rattle.pcl_bitmap.specs.Bitmap.{Picture, dot}
+use Rattle.pcl_escape.specs.Said.{Said}
+use Rattle.pcl_env.specs.declared.effect.Effect.{Effect}
+use Rattle.pcl_env.specs.declared.effect.Effect.TheVariants.{Stay, Eject, EjectMarked}
+use Rattle.pcl_env.specs.declared.effect.Unsupported.{Unsupported}
+use Rattle.pcl_env.specs.Settings.{Settings, defaults, to_first_line}
+use Rattle.pcl_env.specs.Outcome.{Outcome, outcome, Answers}
 use Rattle.pcl_page.specs.declared.page.Page.{Page}
 use Rattle.pcl_page.specs.declared.performer.Performer.{Performer}
-use Rattle.pcl_page.specs.Environment.{effect, ended_raster, end_raster, raster_of, set_top_margin}
-use Rattle.pcl_page.specs.History.{Event, performed, ended, History, ejects, operation_ejects, operation_marks, operation_mark, is_marked, environment, marks, row_mark, is_black, sheet_of, ejected_sheets}
-use Rattle.pcl_page.specs.Performing.{Shows, Hands, Reflects, IsEjected, IsPainted}
+use Rattle.pcl_bitmap.specs.Dots.{is_black_ink}
+use Rattle.pcl_page.specs.Marks.{Mark, is_black}
+use Rattle.pcl_page.specs.Raster.{Raster, ends_raster, is_ignored_in_raster}
+use Rattle.pcl_page.specs.History.{Sheet, Situation, settings_below, end_raster, is_marked, ejects, sheet_of, turned, drawn, done_with, taken, counted, prepared, is_ignored, after, at_end, page_refusal, value_refusal, operation_refusal, command_refusal}
+use Rattle.pcl_page.specs.Performing.{Shows, Hands}
+use Rattle.pcl_page.specs.Reflecting.{IsPainted, IsIn, IsWhite, IsFollowed, IsEjected, IsHanded, Takes, HasRaster, IsPrepared, IsDrawn, HandsMore, IsTurned, IsTried}
+use Rattle.pcl_page.proofs.Sizes.{size_kept}
 
--- ---- the size and the copies of a page
-
-pub record IsUsual (env : Environment) : Type 0 where
-  pub size : env.size ≡ Letter
-  pub copies : env.copies ≡ 1
-
-if_usual : (test : Bool) (one other : Environment) → IsUsual one → IsUsual other → IsUsual (cond test one other)
-if_usual true one other p q = p
-if_usual false one other p q = q
-
-ended_usual : (dpi : Dpi) (env : Environment) (raster : Option Raster) → IsUsual env → IsUsual (ended_raster dpi env raster)
-ended_usual dpi env None h = h
-ended_usual dpi env (Some raster) h = record { size = h.size; copies = h.copies }
-
-margin_usual : (is_marked : Bool) (env : Environment) → IsUsual env → IsUsual (set_top_margin is_marked env)
-margin_usual true env h = record { size = h.size; copies = h.copies }
-margin_usual false env h = record { size = h.size; copies = h.copies }
-
-effect_usual : (dpi : Dpi) (operation : Operation) (value : Value) (is_marked : Bool) (env : Environment) → IsUsual env → IsUsual (effect dpi operation value is_marked env)
-effect_usual dpi Reset value m env h = record { size = refl; copies = refl }
-effect_usual dpi FormFeed value m env h = let e = ended_usual dpi env env.raster h in record { size = e.size; copies = e.copies }
-effect_usual dpi PageSize value m env h = record { size = refl; copies = h.copies }
-effect_usual dpi Copies value m env h = let e = ended_usual dpi env env.raster h in record { size = e.size; copies = refl }
-effect_usual dpi TopMargin value m env h = margin_usual m (end_raster dpi env) (ended_usual dpi env env.raster h)
-effect_usual dpi HorizontalPosition value m env h = let e = ended_usual dpi env env.raster h in record { size = e.size; copies = e.copies }
-effect_usual dpi VerticalPosition value m env h = let e = ended_usual dpi env env.raster h in record { size = e.size; copies = e.copies }
-effect_usual dpi RasterResolution value m env h = if_usual (is_some env.raster) env _ h (record { size = h.size; copies = h.copies })
-effect_usual dpi RasterWidth value m env h = h
-effect_usual dpi StartRaster value m env h = if_usual (is_some env.raster) env _ h (record { size = h.size; copies = h.copies })
-effect_usual dpi EndRaster value m env h = ended_usual dpi env env.raster h
-effect_usual dpi EndRasterResetMethod value m env h = ended_usual dpi env env.raster h
-effect_usual dpi RasterMethod value m env h = h
-effect_usual dpi RasterOffset value m env h = record { size = h.size; copies = h.copies }
-effect_usual dpi RasterRow value m env h = record { size = h.size; copies = h.copies }
-
--- the size is Letter and the copies are 1, whatever was performed
-pub always_usual : (dpi : Dpi) (history : History) → IsUsual (environment dpi history)
-always_usual dpi [] = record { size = refl; copies = refl }
-always_usual dpi (performed operation value bytes ∷ history) = effect_usual dpi operation value (is_marked history) (environment dpi history) (always_usual dpi history)
-always_usual dpi (ended ∷ history) = record { size = refl; copies = refl }
-
--- ---- what a command marks
-
-pub no_mark : (dpi : Dpi) (operation : Operation) (bytes : List ℕ) (env : Environment) → operation_marks operation ≡ false → operation_mark dpi operation bytes env ≡ []
-no_mark dpi Reset bytes env h = refl
-no_mark dpi FormFeed bytes env h = refl
-no_mark dpi PageSize bytes env h = refl
-no_mark dpi Copies bytes env h = refl
-no_mark dpi TopMargin bytes env h = refl
-no_mark dpi HorizontalPosition bytes env h = refl
-no_mark dpi VerticalPosition bytes env h = refl
-no_mark dpi RasterResolution bytes env h = refl
-no_mark dpi RasterWidth bytes env h = refl
-no_mark dpi StartRaster bytes env h = refl
-no_mark dpi EndRaster bytes env h = refl
-no_mark dpi EndRasterResetMethod bytes env h = refl
-no_mark dpi RasterMethod bytes env h = refl
-no_mark dpi RasterOffset bytes env h = refl
-no_mark dpi RasterRow bytes env h = absurd cc
-
-pub only_rows_mark : (operation : Operation) → operation_marks operation ≡ true → operation ≡ RasterRow
-only_rows_mark Reset h = absurd cc
-only_rows_mark FormFeed h = absurd cc
-only_rows_mark PageSize h = absurd cc
-only_rows_mark Copies h = absurd cc
-only_rows_mark TopMargin h = absurd cc
-only_rows_mark HorizontalPosition h = absurd cc
-only_rows_mark VerticalPosition h = absurd cc
-only_rows_mark RasterResolution h = absurd cc
-only_rows_mark RasterWidth h = absurd cc
-only_rows_mark StartRaster h = absurd cc
-only_rows_mark EndRaster h = absurd cc
-only_rows_mark EndRasterResetMethod h = absurd cc
-only_rows_mark RasterMethod h = absurd cc
-only_rows_mark RasterOffset h = absurd cc
-only_rows_mark RasterRow h = refl
-
--- ---- the performer after a step
-
--- the settings change last
-pub record Settles (dpi : Dpi) (operation : Operation) (value : Value) (old middle new : Performer) : Type 0 where
-  pub settings : new.environment ≡ effect dpi operation value old.is_marked middle.environment
-  pub copies : new.page.copies ≡ new.environment.copies
-  pub bitmap : new.page.bitmap ≡ middle.page.bitmap
-  pub marked : new.is_marked ≡ middle.is_marked
-  pub ejected : new.ejected ≡ middle.ejected
-  pub performed : new.performed ≡ middle.performed + 1
-
--- the parts of a reflection that don't depend on what the command does to the page
-settled : (dpi : Dpi) (operation : Operation) (value : Value) (bytes : List ℕ) (history : History) (old middle new : Performer)
-    → Reflects dpi history old → Settles dpi operation value old middle new → middle.environment ≡ old.environment
-    → new.environment ≡ environment dpi (performed operation value bytes ∷ history)
-settled dpi operation value bytes history old middle new r s e =
-    s.settings ∙ ap (λ (env : Environment). effect dpi operation value old.is_marked env) (e ∙ r.settings)
-    ∙ ap (λ (m : Bool). effect dpi operation value m (environment dpi history)) r.marked
+-- ---- pages
 
 width_same : {one other : Size} {dpi same : Dpi} → one ≡ other → dpi ≡ same → page_width one dpi ≡ page_width other same
 width_same {one} {other} {dpi} {same} p q = ap (λ (size : Size). page_width size dpi) p ∙ ap (λ (d : Dpi). page_width other d) q
@@ -118,98 +39,497 @@ width_same {one} {other} {dpi} {same} p q = ap (λ (size : Size). page_width siz
 height_same : {one other : Size} {dpi same : Dpi} → one ≡ other → dpi ≡ same → page_height one dpi ≡ page_height other same
 height_same {one} {other} {dpi} {same} p q = ap (λ (size : Size). page_height size dpi) p ∙ ap (λ (d : Dpi). page_height other d) q
 
--- the dots of the page before the step
-old_dots : (dpi : Dpi) (history : History) (old : Performer) → Reflects dpi history old → (x y : ℕ) → x < page_width old.page.bitmap.size old.page.bitmap.dpi → y < page_height old.page.bitmap.size old.page.bitmap.dpi
-    → dot old.page.bitmap x y ≡ is_black (marks dpi history) x y
-old_dots dpi history old r x y wide high =
-    let w : page_width old.page.bitmap.size old.page.bitmap.dpi ≡ page_width (sheet_of dpi history).size dpi = width_same r.shown.size r.shown.resolution in
-    let h : page_height old.page.bitmap.size old.page.bitmap.dpi ≡ page_height (sheet_of dpi history).size dpi = height_same r.shown.size r.shown.resolution in
-    r.shown.dots x y (subst (λ (n : ℕ). x < n) w wide) (subst (λ (n : ℕ). y < n) h high)
+-- the same bitmap, of the same size, shows the same marks
+painted_same : {dpi : Dpi} {size other : Size} {marks : List Mark} {old new : Picture} → IsPainted dpi size marks old → new ≡ old → other ≡ size
+    → IsPainted dpi other marks new
+painted_same {dpi} {size} {other} {marks} {old} {new} p e s =
+    subst (λ (b : Picture). IsPainted dpi other marks b) (sym e) (subst (λ (z : Size). IsPainted dpi z marks old) (sym s) p)
 
--- a page of the usual size with these dots shows the sheet after the event
-shows_after : (dpi : Dpi) (event : Event) (history : History) (page : Page) (old : Performer) → Reflects dpi history old
-    → page.bitmap.size ≡ old.page.bitmap.size → page.bitmap.dpi ≡ old.page.bitmap.dpi → IsPicture page.bitmap
-    → page.copies ≡ (environment dpi (event ∷ history)).copies
-    → ((x y : ℕ) → x < page_width old.page.bitmap.size old.page.bitmap.dpi → y < page_height old.page.bitmap.size old.page.bitmap.dpi → dot page.bitmap x y ≡ is_black (marks dpi (event ∷ history)) x y)
-    → Shows dpi page (sheet_of dpi (event ∷ history))
-shows_after dpi event history page old r size resolution picture copies dots =
-    let was = always_usual dpi history in
-    let is = always_usual dpi (event ∷ history) in
-    let old_size : old.page.bitmap.size ≡ (environment dpi (event ∷ history)).size = r.shown.size ∙ was.size ∙ sym is.size in
+-- ---- the end of a raster
+
+size_below : (dpi : Dpi) (raster : Option Raster) (s : Settings) → (settings_below dpi raster s).size ≡ s.size
+size_below dpi None s = refl
+size_below dpi (Some r) s = refl
+
+-- the settings and the raster of a prepared situation
+prepared_settings : (dpi : Dpi) (ends : Bool) (s : Situation)
+    → (cond ends (end_raster dpi s) s).settings ≡ cond ends (settings_below dpi s.raster s.settings) s.settings
+prepared_settings dpi true s = refl
+prepared_settings dpi false s = refl
+
+prepared_raster : (dpi : Dpi) (ends : Bool) (s : Situation) → (cond ends (end_raster dpi s) s).raster ≡ cond ends None s.raster
+prepared_raster dpi true s = refl
+prepared_raster dpi false s = refl
+
+record KeepsPage (s other : Situation) : Type 0 where
+  size : other.settings.size ≡ s.settings.size
+  marks : other.marks ≡ s.marks
+  pages : other.pages ≡ s.pages
+  performed : other.performed ≡ s.performed
+
+prepared_page : (dpi : Dpi) (ends : Bool) (s : Situation) → KeepsPage s (cond ends (end_raster dpi s) s)
+prepared_page dpi true s = record { size = size_below dpi s.raster s.settings; marks = refl; pages = refl; performed = refl }
+prepared_page dpi false s = record { size = refl; marks = refl; pages = refl; performed = refl }
+
+pub prepared_in : (dpi : Dpi) (operation : Operation) (s : Situation) (old new : Performer) → IsIn dpi s old → IsPrepared dpi operation old new
+    → IsIn dpi (prepared dpi operation s) new
+prepared_in dpi operation s old new i p =
+    let ends = ends_raster operation in
+    let k = prepared_page dpi ends s in
     record {
-      size = size ∙ old_size;
-      resolution = resolution ∙ r.shown.resolution;
-      copies = copies;
+      settings = p.settings
+          ∙ ap (λ (r : Option Raster). cond ends (settings_below dpi r old.environment) old.environment) i.raster
+          ∙ ap (λ (e : Settings). cond ends (settings_below dpi s.raster e) e) i.settings
+          ∙ sym (prepared_settings dpi ends s);
+      raster = p.raster ∙ ap (λ (r : Option Raster). cond ends None r) i.raster ∙ sym (prepared_raster dpi ends s);
+      marked = p.marked ∙ i.marked ∙ ap (λ (ms : List Mark). is_marked (record s { marks = ms })) (sym k.marks);
+      ejected = p.ejected ∙ i.ejected ∙ ap (λ (ps : List Sheet). length ps) (sym k.pages);
+      performed = p.performed ∙ i.performed ∙ sym k.performed;
+      painted = subst (λ (ms : List Mark). IsPainted dpi (prepared dpi operation s).settings.size ms new.page.bitmap) (sym k.marks) (painted_same i.painted p.bitmap k.size);
+    }
+
+-- ---- the outcome of a command
+
+pub answered : (o : Outcome) (effect : Effect) (old new : Settings) → Answers o (Ok effect) old new
+    → (done : Settings × Effect) × (o ≡ Some done) × (effect ≡ done.1) × (new ≡ done.0)
+answered None effect old new a = let e = a.0 in absurd cc
+answered (Some done) effect old new a = (done, refl, (let e : ◌≡◌ {A = Result Effect Unsupported} (Ok effect) (Ok done.1) = a.0 in cc), a.1)
+
+pub unanswered : (o : Outcome) (e : Unsupported) (old new : Settings) → Answers o (Err e) old new → o ≡ None
+unanswered None e old new a = refl
+unanswered (Some done) e old new a = let f : ◌≡◌ {A = Result Effect Unsupported} (Err e) (Ok done.1) = a.0 in absurd cc
+
+-- the outcome in the situation is that of the performer
+pub outcome_in : (dpi : Dpi) (operation : Operation) (value : Value) (s : Situation) (old : Performer) → IsIn dpi s old
+    → outcome dpi operation value old.is_marked old.environment ≡ outcome dpi operation value (is_marked s) s.settings
+outcome_in dpi operation value s old i =
+    ap (λ (m : Bool). outcome dpi operation value m old.environment) i.marked ∙ ap (λ (e : Settings). outcome dpi operation value (is_marked s) e) i.settings
+
+-- ---- pages that stay
+
+-- with no marks every dot is white
+white_in : (dpi : Dpi) (s : Situation) (old : Performer) → IsIn dpi s old → s.marks ≡ [] → IsWhite old.page.bitmap
+white_in dpi s old i none x y wide high =
+    i.painted.dots x y (subst (λ (n : ℕ). x < n) (width_same i.painted.size_is i.painted.dpi_is) wide) (subst (λ (n : ℕ). y < n) (height_same i.painted.size_is i.painted.dpi_is) high)
+    ∙ ap (λ (ms : List Mark). is_black ms x y) none
+
+unmarked : (marks : List Mark) (s : Situation) → s.marks ≡ marks → is_marked s ≡ false → s.marks ≡ []
+unmarked [] s e m = e
+unmarked (mark ∷ older) s e m = absurd (let t : is_marked s ≡ true = ap (λ (ms : List Mark). is_marked (record s { marks = ms })) e in cc)
+
+-- the page that follows the settings shows the same marks
+followed_page : (dpi : Dpi) (operation : Operation) (value : Value) (s : Situation) (settings : Settings) (effect : Effect) (old middle new : Performer)
+    → IsIn dpi s old → outcome dpi operation value (is_marked s) s.settings ≡ Some (settings, effect) → ejects effect (is_marked s) ≡ false
+    → middle.page.bitmap ≡ old.page.bitmap → middle.environment ≡ settings → IsFollowed middle new → IsPainted dpi settings.size s.marks new.page.bitmap
+followed_page dpi operation value s settings Eject old middle new i o e b env f = absurd cc
+followed_page dpi operation value s settings Stay old middle new i o e b env f =
+    let kept : settings.size ≡ s.settings.size = size_kept dpi operation value (is_marked s) s.settings settings o in
+    let before : middle.page.bitmap.size ≡ middle.environment.size =
+    ap (λ (p : Picture). p.size) b ∙ i.painted.size_is ∙ sym kept ∙ ap (λ (t : Settings). t.size) (sym env) in
+    painted_same i.painted (f.same before ∙ b) kept
+followed_page dpi operation value s settings EjectMarked old middle new i o e b env f =
+    let none = unmarked s.marks s refl e in
+    let white : IsWhite new.page.bitmap = f.white (subst IsWhite (sym b) (white_in dpi s old i none)) in
+    let size : new.page.bitmap.size ≡ settings.size = f.size ∙ ap (λ (t : Settings). t.size) env in
+    let resolution : new.page.bitmap.dpi ≡ dpi = f.resolution ∙ ap (λ (p : Picture). p.dpi) b ∙ i.painted.dpi_is in
+    record {
+      size_is = size;
+      dpi_is = resolution;
       dots = λ x y wide high.
-          dots x y (subst (λ (n : ℕ). x < n) (sym (width_same old_size r.shown.resolution)) wide) (subst (λ (n : ℕ). y < n) (sym (height_same old_size r.shown.resolution)) high);
-      picture = picture;
+          white x y (subst (λ (n : ℕ). x < n) (sym (width_same size resolution)) wide) (subst (λ (n : ℕ). y < n) (sym (height_same size resolution)) high)
+          ∙ ap (λ (ms : List Mark). is_black ms x y) (sym none);
     }
 
-pub after_eject : (dpi : Dpi) (operation : Operation) (value : Value) (bytes : List ℕ) (history : History) (old middle new : Performer)
-    → Reflects dpi history old → IsEjected old middle → Settles dpi operation value old middle new → operation_ejects operation (is_marked history) ≡ true
-    → Reflects dpi (performed operation value bytes ∷ history) new
-after_eject dpi operation value bytes history old middle new r e s test =
-    let settings = settled dpi operation value bytes history old middle new r s e.settings in
+-- as many pages as there may be
+pages_fit : (s : Situation) → length s.pages ≤ 256 → page_refusal s ≡ None
+pages_fit s le = let t : nat_le (length s.pages) 256 ≡ true = grind (arith, nat_tests) in rw t refl
+
+pages_past : (s : Situation) → 256 < length s.pages → page_refusal s ≡ Some TooManyPages
+pages_past s gt = let t : nat_le (length s.pages) 256 ≡ false = grind (arith, nat_tests) in rw t refl
+
+-- what a situation is whose page isn't ejected
+abbrev with_settings : Settings → Situation → Situation
+with_settings settings s = record s { settings = settings }
+
+abbrev turned_page : Settings → Situation → Situation
+turned_page settings s = record s { settings = to_first_line settings; marks = []; pages = s.pages ++ sheet_of s ∷ [] }
+
+turned_no : (settings : Settings) (effect : Effect) (s : Situation) → ejects effect (is_marked s) ≡ false → turned settings effect s ≡ with_settings settings s
+turned_no settings effect s e = ap (λ (b : Bool). cond b (turned_page settings s) (with_settings settings s)) e
+
+turned_yes : (settings : Settings) (effect : Effect) (s : Situation) → ejects effect (is_marked s) ≡ true → turned settings effect s ≡ turned_page settings s
+turned_yes settings effect s e = ap (λ (b : Bool). cond b (turned_page settings s) (with_settings settings s)) e
+
+-- the facts of a turn, as one record
+record Turns {S : Type 0} (takes : S → Page → S → Type 0) (dpi : Dpi) (s later : Situation) (new : Performer) (old_sink new_sink : S) : Type 0 where
+  is_in : IsIn dpi later new
+  fits : page_refusal later ≡ None
+  handed : HandsMore takes dpi s later old_sink new_sink
+
+turns_to : {S : Type 0} (takes : S → Page → S → Type 0) (dpi : Dpi) (o : Outcome) (done : Settings × Effect) (s later : Situation) (new : Performer) (old_sink new_sink : S)
+    → o ≡ Some done → turned done.0 done.1 s ≡ later → Turns takes dpi s later new old_sink new_sink → IsTurned takes dpi o s (Ok tt) new old_sink new_sink
+turns_to {S} takes dpi o done s later new old_sink new_sink e t w =
+    subst (λ (p : Outcome). IsTurned takes dpi p s (Ok tt) new old_sink new_sink) (sym e)
+    (let is : Turns takes dpi s (turned done.0 done.1 s) new old_sink new_sink = subst (λ (z : Situation). Turns takes dpi s z new old_sink new_sink) (sym t) w in
+    (is.is_in, is.fits, is.handed))
+
+pub turned_stays : {S : Type 0} (takes : S → Page → S → Type 0) (dpi : Dpi) (operation : Operation) (value : Value) (effect : Effect) (s : Situation)
+    (old middle new : Performer) (sink later : S)
+    → IsIn dpi s old → Answers (outcome dpi operation value old.is_marked old.environment) (Ok effect) old.environment middle.environment
+    → ejects effect old.is_marked ≡ false → old.ejected ≤ 256 → middle.page.bitmap ≡ old.page.bitmap → middle.is_marked ≡ old.is_marked
+    → middle.ejected ≡ old.ejected → middle.performed ≡ old.performed → middle.raster ≡ old.raster → IsFollowed middle new → later ≡ sink
+    → IsTurned takes dpi (outcome dpi operation value (is_marked s) s.settings) s (Ok tt) new sink later
+turned_stays {S} takes dpi operation value effect s old middle new sink later i a e few b m j p r f same =
+    let d = answered (outcome dpi operation value old.is_marked old.environment) effect old.environment middle.environment a in
+    let o : outcome dpi operation value (is_marked s) s.settings ≡ Some d.0 = sym (outcome_in dpi operation value s old i) ∙ d.1 in
+    let no : ejects d.0.1 (is_marked s) ≡ false =
+    ap (λ (x : Effect). ejects x (is_marked s)) (sym d.2) ∙ ap (ejects effect) (sym i.marked) ∙ e in
+    turns_to takes dpi (outcome dpi operation value (is_marked s) s.settings) d.0 s (with_settings d.0.0 s) new sink later o (turned_no d.0.0 d.0.1 s no)
+    (record {
+      is_in = record {
+        settings = f.settings ∙ d.3;
+        raster = f.raster ∙ r ∙ i.raster;
+        marked = f.marked ∙ m ∙ i.marked;
+        ejected = f.ejected ∙ j ∙ i.ejected;
+        performed = f.performed ∙ p ∙ i.performed;
+        painted = followed_page dpi operation value s d.0.0 d.0.1 old middle new i o no b d.3 f;
+      };
+      fits = pages_fit (with_settings d.0.0 s) (omega (arith, i.ejected));
+      handed = ([], sym (append-nil s.pages), same);
+    })
+
+-- the page that was ejected is the situation's
+handed_sheet : (dpi : Dpi) (s : Situation) (copies : ℕ) (old middle : Performer) (page : Page) → IsIn dpi s old → middle.page ≡ old.page
+    → copies ≡ old.environment.copies → IsHanded copies middle page → Shows dpi page (sheet_of s)
+handed_sheet dpi s copies old middle page i b c handed =
+    let same : page.bitmap ≡ old.page.bitmap = handed.bitmap ∙ ap (λ (q : Page). q.bitmap) b in
     record {
-      settings = settings;
-      marked = s.marked ∙ e.marked ∙ rw test refl;
-      ejected = s.ejected ∙ e.ejected ∙ ap (λ (n : ℕ). n + 1) r.ejected ∙ rw test refl;
-      performed = s.performed ∙ ap (λ (n : ℕ). n + 1) (e.performed ∙ r.performed);
-      shown = shows_after dpi (performed operation value bytes) history new.page old r
-          (ap (λ (b : Picture). b.size) s.bitmap ∙ e.size) (ap (λ (b : Picture). b.dpi) s.bitmap ∙ e.resolution) (subst IsPicture (sym s.bitmap) e.picture)
-          (s.copies ∙ ap (λ (env : Environment). env.copies) settings)
-          (λ x y wide high. ap (λ (b : Picture). dot b x y) s.bitmap ∙ e.white x y ∙ rw test refl);
+      size = sym page.size_is ∙ ap (λ (q : Picture). q.size) same ∙ i.painted.size_is;
+      resolution = sym page.dpi_is ∙ ap (λ (q : Picture). q.dpi) same ∙ i.painted.dpi_is;
+      copies = handed.copies_are ∙ c ∙ ap (λ (z : Settings). z.copies) i.settings;
+      dots = λ x y wide high. ap (λ (q : Picture). dot q x y) same ∙ i.painted.dots x y wide high;
     }
 
-after_row : (dpi : Dpi) (value : Value) (bytes : List ℕ) (history : History) (old middle new : Performer)
-    → Reflects dpi history old → IsPainted dpi bytes old middle → Settles dpi RasterRow value old middle new
-    → Reflects dpi (performed RasterRow value bytes ∷ history) new
-after_row dpi value bytes history old middle new r e s =
-    let settings = settled dpi RasterRow value bytes history old middle new r s e.settings in
+-- what is known where the page was ejected: the settings were set, the page was handed over, and a white one began
+pub record Ejected {S : Type 0} (takes : S → Page → S → Type 0) (dpi : Dpi) (operation : Operation) (value : Value) (effect : Effect) (copies : ℕ)
+    (s : Situation) (old middle last : Performer) (sink later : S) : Type 0 where
+  pub is_in : IsIn dpi s old
+  pub answered_as : Answers (outcome dpi operation value old.is_marked old.environment) (Ok effect) old.environment middle.environment
+  pub yes : ejects effect old.is_marked ≡ true
+  pub few : old.ejected < 256
+  pub page : middle.page ≡ old.page
+  pub ejected : middle.ejected ≡ old.ejected
+  pub performed : middle.performed ≡ old.performed
+  pub raster : middle.raster ≡ old.raster
+  pub copies_are : copies ≡ old.environment.copies
+  pub is_ejected : IsEjected middle last
+  pub taken : Takes takes copies middle sink later
+
+ejected_done : {S : Type 0} (takes : S → Page → S → Type 0) (dpi : Dpi) (operation : Operation) (value : Value) (effect : Effect) (copies : ℕ) (s : Situation)
+    (old middle last : Performer) (sink later : S) → Ejected takes dpi operation value effect copies s old middle last sink later
+    → (done : Settings × Effect) × (outcome dpi operation value (is_marked s) s.settings ≡ Some done) × (middle.environment ≡ done.0)
+    × (turned done.0 done.1 s ≡ turned_page done.0 s)
+ejected_done {S} takes dpi operation value effect copies s old middle last sink later e =
+    let d = answered (outcome dpi operation value old.is_marked old.environment) effect old.environment middle.environment e.answered_as in
+    let yes : ejects d.0.1 (is_marked s) ≡ true =
+    ap (λ (x : Effect). ejects x (is_marked s)) (sym d.2) ∙ ap (ejects effect) (sym e.is_in.marked) ∙ e.yes in
+    (d.0, sym (outcome_in dpi operation value s old e.is_in) ∙ d.1, d.3, turned_yes d.0.0 d.0.1 s yes)
+
+ejected_handed : {S : Type 0} (takes : S → Page → S → Type 0) (dpi : Dpi) (operation : Operation) (value : Value) (effect : Effect) (copies : ℕ) (s : Situation)
+    (old middle last : Performer) (sink later : S) (settings : Settings) → Ejected takes dpi operation value effect copies s old middle last sink later
+    → (page_refusal (turned_page settings s) ≡ None) × HandsMore takes dpi s (turned_page settings s) sink later
+ejected_handed {S} takes dpi operation value effect copies s old middle last sink later settings e =
+    let count = length-append s.pages (sheet_of s ∷ []) in (
+      pages_fit (turned_page settings s) (omega (arith, e.is_in.ejected, e.few, count)),
+      (
+        sheet_of s ∷ [],
+        refl,
+        (e.taken.0, later, handed_sheet dpi s copies old middle e.taken.0 e.is_in e.page e.copies_are e.taken.1, e.taken.2, refl),
+      ),
+    )
+
+pub turned_ejects : {S : Type 0} (takes : S → Page → S → Type 0) (dpi : Dpi) (operation : Operation) (value : Value) (effect : Effect) (copies : ℕ) (s : Situation)
+    (old middle last new : Performer) (sink later : S) → Ejected takes dpi operation value effect copies s old middle last sink later → IsFollowed last new
+    → IsTurned takes dpi (outcome dpi operation value (is_marked s) s.settings) s (Ok tt) new sink later
+turned_ejects {S} takes dpi operation value effect copies s old middle last new sink later e f =
+    let i = e.is_in in
+    let d = ejected_done takes dpi operation value effect copies s old middle last sink later e in
+    let h = ejected_handed takes dpi operation value effect copies s old middle last sink later d.0.0 e in
+    let size : new.page.bitmap.size ≡ d.0.0.size = f.size ∙ ap (λ (z : Settings). z.size) (e.is_ejected.settings ∙ ap to_first_line d.2) in
+    let resolution : new.page.bitmap.dpi ≡ dpi = f.resolution ∙ e.is_ejected.resolution ∙ ap (λ (q : Page). q.bitmap.dpi) e.page ∙ i.painted.dpi_is in
+    let count = length-append s.pages (sheet_of s ∷ []) in
+    turns_to takes dpi (outcome dpi operation value (is_marked s) s.settings) d.0 s (turned_page d.0.0 s) new sink later d.1 d.3
+    (record {
+      is_in = record {
+        settings = f.settings ∙ e.is_ejected.settings ∙ ap to_first_line d.2;
+        raster = f.raster ∙ e.is_ejected.raster ∙ e.raster ∙ i.raster;
+        marked = f.marked ∙ e.is_ejected.marked;
+        ejected = omega (arith, f.ejected, e.is_ejected.ejected, e.ejected, i.ejected, count);
+        performed = f.performed ∙ e.is_ejected.performed ∙ e.performed ∙ i.performed;
+        painted = record {
+          size_is = size;
+          dpi_is = resolution;
+          dots = λ x y wide high.
+              f.white e.is_ejected.white x y (subst (λ (n : ℕ). x < n) (sym (width_same size resolution)) wide)
+              (subst (λ (n : ℕ). y < n) (sym (height_same size resolution)) high);
+        };
+      };
+      fits = h.0;
+      handed = h.1;
+    })
+
+pub turned_short : {S : Type 0} (takes : S → Page → S → Type 0) (dpi : Dpi) (operation : Operation) (value : Value) (effect : Effect) (copies : ℕ) (s : Situation)
+    (old middle last new : Performer) (sink later : S) → Ejected takes dpi operation value effect copies s old middle last sink later
+    → IsTurned takes dpi (outcome dpi operation value (is_marked s) s.settings) s (Err Memory) new sink later
+turned_short {S} takes dpi operation value effect copies s old middle last new sink later e =
+    let d = ejected_done takes dpi operation value effect copies s old middle last sink later e in
+    let h = ejected_handed takes dpi operation value effect copies s old middle last sink later d.0.0 e in
+    subst (λ (o : Outcome). IsTurned takes dpi o s (Err Memory) new sink later) (sym d.1)
+    (inr (subst (λ (z : Situation). (page_refusal z ≡ None) × HandsMore takes dpi s z sink later) (sym d.3) h))
+
+pub turned_past : {S : Type 0} (takes : S → Page → S → Type 0) (dpi : Dpi) (operation : Operation) (value : Value) (effect : Effect) (s : Situation)
+    (old new : Performer) (now : Settings) (sink later : S)
+    → IsIn dpi s old → Answers (outcome dpi operation value old.is_marked old.environment) (Ok effect) old.environment now
+    → ejects effect old.is_marked ≡ true → 256 ≤ old.ejected → later ≡ sink
+    → IsTurned takes dpi (outcome dpi operation value (is_marked s) s.settings) s (Err (Refused TooManyPages)) new sink later
+turned_past {S} takes dpi operation value effect s old new now sink later i a e many same =
+    let d = answered (outcome dpi operation value old.is_marked old.environment) effect old.environment now a in
+    let o : outcome dpi operation value (is_marked s) s.settings ≡ Some d.0 = sym (outcome_in dpi operation value s old i) ∙ d.1 in
+    let yes : ejects d.0.1 (is_marked s) ≡ true =
+    ap (λ (x : Effect). ejects x (is_marked s)) (sym d.2) ∙ ap (ejects effect) (sym i.marked) ∙ e in
+    let count = length-append s.pages (sheet_of s ∷ []) in
+    subst (λ (q : Outcome). IsTurned takes dpi q s (Err (Refused TooManyPages)) new sink later) (sym o)
+    (ap (λ (z : Situation). page_refusal z) (turned_yes d.0.0 d.0.1 s yes) ∙ pages_past (turned_page d.0.0 s) (omega (arith, i.ejected, count)), same)
+
+pub turned_none : {S : Type 0} (takes : S → Page → S → Type 0) (dpi : Dpi) (operation : Operation) (value : Value) (why : Unsupported) (s : Situation)
+    (old new : Performer) (now : Settings) (sink later : S)
+    → IsIn dpi s old → Answers (outcome dpi operation value old.is_marked old.environment) (Err why) old.environment now → later ≡ sink
+    → IsTurned takes dpi (outcome dpi operation value (is_marked s) s.settings) s (Err (Refused UnsupportedValue)) new sink later
+turned_none {S} takes dpi operation value why s old new now sink later i a same =
+    let n = unanswered (outcome dpi operation value old.is_marked old.environment) why old.environment now a in
+    subst (λ (q : Outcome). IsTurned takes dpi q s (Err (Refused UnsupportedValue)) new sink later)
+    (sym (sym (outcome_in dpi operation value s old i) ∙ n)) (refl, same)
+
+pub turned_memory : {S : Type 0} (takes : S → Page → S → Type 0) (dpi : Dpi) (o : Outcome) (s : Situation) (new : Performer) (sink later : S) → later ≡ sink
+    → IsTurned takes dpi o s (Err Memory) new sink later
+turned_memory takes dpi None s new sink later same = same
+turned_memory takes dpi (Some done) s new sink later same = inl same
+
+-- ---- what is drawn
+
+pub drawn_in : (dpi : Dpi) (mark : Mark) (raster : Option Raster) (s : Situation) (old new : Performer) → IsIn dpi s old → IsDrawn mark old new → new.raster ≡ raster
+    → IsIn dpi (record s { raster = raster; marks = mark ∷ s.marks }) new
+drawn_in dpi mark raster s old new i d r =
+    let size : old.page.bitmap.size ≡ s.settings.size = i.painted.size_is in
+    let resolution : old.page.bitmap.dpi ≡ dpi = i.painted.dpi_is in
     record {
-      settings = settings;
-      marked = s.marked ∙ e.marked;
-      ejected = s.ejected ∙ e.ejected ∙ r.ejected;
-      performed = s.performed ∙ ap (λ (n : ℕ). n + 1) (e.performed ∙ r.performed);
-      shown = shows_after dpi (performed RasterRow value bytes) history new.page old r
-          (ap (λ (b : Picture). b.size) s.bitmap ∙ e.size) (ap (λ (b : Picture). b.dpi) s.bitmap ∙ e.resolution) (subst IsPicture (sym s.bitmap) e.picture)
-          (s.copies ∙ ap (λ (env : Environment). env.copies) settings)
-          (λ x y wide high.
-          ap (λ (b : Picture). dot b x y) s.bitmap ∙ e.dots x y wide high
-          ∙ ap (λ (env : Environment). (row_mark dpi env (raster_of dpi env) bytes).covers x y || dot old.page.bitmap x y) r.settings
-          ∙ ap (λ (b : Bool). (row_mark dpi (environment dpi history) (raster_of dpi (environment dpi history)) bytes).covers x y || b) (old_dots dpi history old r x y wide high));
+      settings = d.settings ∙ i.settings;
+      raster = r;
+      marked = d.marked;
+      ejected = d.ejected ∙ i.ejected;
+      performed = d.performed ∙ i.performed;
+      painted = record {
+        size_is = d.size ∙ size;
+        dpi_is = d.resolution ∙ resolution;
+        dots = λ x y wide high.
+            d.dots x y (subst (λ (n : ℕ). x < n) (sym (width_same size resolution)) wide) (subst (λ (n : ℕ). y < n) (sym (height_same size resolution)) high)
+            ∙ ap (λ (b : Bool). cond (mark.covers x y) (is_black_ink mark.ink) b) (i.painted.dots x y wide high);
+      };
     }
 
-pub after_paint : (dpi : Dpi) (operation : Operation) (value : Value) (bytes : List ℕ) (history : History) (old middle new : Performer)
-    → operation ≡ RasterRow → Reflects dpi history old → IsPainted dpi bytes old middle → Settles dpi operation value old middle new
-    → Reflects dpi (performed operation value bytes ∷ history) new
-after_paint dpi operation value bytes history old middle new is r e s =
-    subst (λ (o : Operation). Settles dpi o value old middle new → Reflects dpi (performed o value bytes ∷ history) new) (sym is) (after_row dpi value bytes history old middle new r e) s
+pub drawn_pages : (dpi : Dpi) (operation : Operation) (command : Said) (s : Situation) → (drawn dpi operation command s).pages ≡ s.pages
+drawn_pages dpi FillRectangle command s = refl
+drawn_pages dpi StartRaster command s = refl
+drawn_pages dpi RasterOffset command s = refl
+drawn_pages dpi RasterRow command s = refl
+drawn_pages dpi other command s = refl
 
-pub after_other : (dpi : Dpi) (operation : Operation) (value : Value) (bytes : List ℕ) (history : History) (old new : Performer)
-    → Reflects dpi history old → Settles dpi operation value old old new → operation_ejects operation (is_marked history) ≡ false → operation_marks operation ≡ false
-    → Reflects dpi (performed operation value bytes ∷ history) new
-after_other dpi operation value bytes history old new r s test unmarked =
-    let settings = settled dpi operation value bytes history old old new r s refl in
+-- ---- a command
+
+pub prepared_pages : (dpi : Dpi) (ends : Bool) (s : Situation) → (cond ends (end_raster dpi s) s).pages ≡ s.pages
+prepared_pages dpi ends s = (prepared_page dpi ends s).pages
+
+pub counted_in : (dpi : Dpi) (s : Situation) (old new : Performer) → IsIn dpi s old → new.environment ≡ old.environment → new.raster ≡ old.raster
+    → new.page ≡ old.page → new.is_marked ≡ old.is_marked → new.ejected ≡ old.ejected → new.performed ≡ old.performed + 1 → IsIn dpi (counted s) new
+counted_in dpi s old new i e r b m j p = record {
+  settings = e ∙ i.settings;
+  raster = r ∙ i.raster;
+  marked = m ∙ i.marked;
+  ejected = j ∙ i.ejected;
+  performed = p ∙ ap (λ (n : ℕ). n + 1) i.performed;
+  painted = painted_same i.painted (ap (λ (q : Page). q.bitmap) b) refl;
+}
+
+-- why a command is refused that is known and not past the limit
+refusal_is : (dpi : Dpi) (command : Said) (operation : Operation) (s : Situation) → s.performed < 100000000 → operation_of command.name ≡ Some operation
+    → command_refusal dpi command s ≡ value_refusal (after dpi operation command s)
+refusal_is dpi command operation s few named =
+    let under : nat_le command_limit s.performed ≡ false = grind (arith, nat_tests) in
+    ap (λ (b : Bool). cond b (Some TooManyCommands) (operation_refusal dpi (operation_of command.name) command s)) under
+    ∙ ap (λ (o : Option Operation). operation_refusal dpi o command s) named
+
+pub refused_many : (dpi : Dpi) (command : Said) (s : Situation) → 100000000 ≤ s.performed → command_refusal dpi command s ≡ Some TooManyCommands
+refused_many dpi command s many =
+    let past : nat_le command_limit s.performed ≡ true = grind (arith, nat_tests) in
+    ap (λ (b : Bool). cond b (Some TooManyCommands) (operation_refusal dpi (operation_of command.name) command s)) past
+
+pub refused_unknown : (dpi : Dpi) (command : Said) (s : Situation) → s.performed < 100000000 → operation_of command.name ≡ None
+    → command_refusal dpi command s ≡ Some UnsupportedCommand
+refused_unknown dpi command s few named =
+    let under : nat_le command_limit s.performed ≡ false = grind (arith, nat_tests) in
+    ap (λ (b : Bool). cond b (Some TooManyCommands) (operation_refusal dpi (operation_of command.name) command s)) under
+    ∙ ap (λ (o : Option Operation). operation_refusal dpi o command s) named
+
+after_ignored : (dpi : Dpi) (operation : Operation) (command : Said) (s : Situation) → is_ignored operation s ≡ true → after dpi operation command s ≡ Some (counted s)
+unfolding after
+after_ignored dpi operation command s e = ap (λ (b : Bool). cond b (Some (counted s)) (taken dpi operation command (prepared dpi operation (counted s)))) e
+
+after_taken : (dpi : Dpi) (operation : Operation) (command : Said) (s : Situation) (o : Outcome) → is_ignored operation s ≡ false
+    → outcome dpi operation command.value (is_marked (prepared dpi operation (counted s))) (prepared dpi operation (counted s)).settings ≡ o
+    → after dpi operation command s ≡ done_with dpi operation command o (prepared dpi operation (counted s))
+unfolding after
+after_taken dpi operation command s o e is =
+    ap (λ (b : Bool). cond b (Some (counted s)) (taken dpi operation command (prepared dpi operation (counted s)))) e
+    ∙ ap (λ (p : Outcome). done_with dpi operation command p (prepared dpi operation (counted s))) is
+
+pub tried_ignored : {S : Type 0} (takes : S → Page → S → Type 0) (dpi : Dpi) (operation : Operation) (command : Said) (s : Situation) (old new : Performer) (sink : S)
+    → IsIn dpi s old → old.performed < 100000000 → old.ejected ≤ 256 → operation_of command.name ≡ Some operation
+    → (is_some old.raster && is_ignored_in_raster operation) ≡ true → IsIn dpi (counted s) new
+    → IsTried takes dpi command s (Ok tt) new sink sink
+tried_ignored {S} takes dpi operation command s old new sink i few fit named e now =
+    let ignored : is_ignored operation s ≡ true = ap (λ (r : Option Raster). is_some r && is_ignored_in_raster operation) (sym i.raster) ∙ e in
+    let done = after_ignored dpi operation command s ignored in (
+      operation,
+      counted s,
+      named,
+      done,
+      refusal_is dpi command operation s (omega (arith, i.performed)) named ∙ ap value_refusal done ∙ pages_fit (counted s) (omega (arith, i.ejected)),
+      now,
+      ([], sym (append-nil s.pages), refl),
+    )
+
+-- what is known of a command that isn't ignored, at the turn of the page
+pub record AtTurn (dpi : Dpi) (operation : Operation) (command : Said) (s : Situation) (old : Performer) : Type 0 where
+  pub is_in : IsIn dpi s old
+  pub few : old.performed < 100000000
+  pub named : operation_of command.name ≡ Some operation
+  pub performed : (is_some old.raster && is_ignored_in_raster operation) ≡ false
+
+-- the situation after a command whose page was turned
+record Reaches (dpi : Dpi) (operation : Operation) (command : Said) (s before : Situation) (done : Settings × Effect) : Type 0 where
+  after_is : after dpi operation command s ≡ Some (drawn dpi operation command (turned done.0 done.1 before))
+  refusal : command_refusal dpi command s ≡ page_refusal (turned done.0 done.1 before)
+
+reaches : (dpi : Dpi) (operation : Operation) (command : Said) (s : Situation) (old : Performer) (done : Settings × Effect) → AtTurn dpi operation command s old
+    → outcome dpi operation command.value (is_marked (prepared dpi operation (counted s))) (prepared dpi operation (counted s)).settings ≡ Some done
+    → Reaches dpi operation command s (prepared dpi operation (counted s)) done
+reaches dpi operation command s old done a is =
+    let now = turned done.0 done.1 (prepared dpi operation (counted s)) in
+    let ignored : is_ignored operation s ≡ false = ap (λ (r : Option Raster). is_some r && is_ignored_in_raster operation) (sym a.is_in.raster) ∙ a.performed in
+    let after_is = after_taken dpi operation command s (Some done) ignored is in
+    let same : page_refusal (drawn dpi operation command now) ≡ page_refusal now =
+    ap (λ (ps : List Sheet). cond (nat_le (length ps) page_limit) None (Some TooManyPages)) (drawn_pages dpi operation command now) in
+    record { after_is = after_is; refusal = refusal_is dpi command operation s (omega (arith, a.few, a.is_in.performed)) a.named ∙ ap value_refusal after_is ∙ same }
+
+-- the pages of a turn, behind those from before the command
+handed_on : {S : Type 0} (takes : S → Page → S → Type 0) (dpi : Dpi) (operation : Operation) (command : Said) (s now : Situation) (sink later : S)
+    → HandsMore takes dpi (prepared dpi operation (counted s)) now sink later → HandsMore takes dpi s (drawn dpi operation command now) sink later
+handed_on {S} takes dpi operation command s now sink later h = (
+  h.0,
+  drawn_pages dpi operation command now ∙ h.1 ∙ ap (λ (ps : List Sheet). ps ++ h.0) (prepared_pages dpi (ends_raster operation) (counted s)),
+  h.2,
+)
+
+-- the same for a turn that a command's refusal comes from
+turn_refused : {S : Type 0} (takes : S → Page → S → Type 0) (dpi : Dpi) (operation : Operation) (command : Said) (s : Situation) (old new : Performer) (sink later : S) (kind : Kind)
+    (o : Outcome) → AtTurn dpi operation command s old
+    → outcome dpi operation command.value (is_marked (prepared dpi operation (counted s))) (prepared dpi operation (counted s)).settings ≡ o
+    → IsTurned takes dpi o (prepared dpi operation (counted s)) (Err (Refused kind)) new sink later → IsTried takes dpi command s (Err (Refused kind)) new sink later
+turn_refused {S} takes dpi operation command s old new sink later kind None a is t =
+    let ignored : is_ignored operation s ≡ false = ap (λ (r : Option Raster). is_some r && is_ignored_in_raster operation) (sym a.is_in.raster) ∙ a.performed in
+    let done = after_taken dpi operation command s None ignored is in
+    (refusal_is dpi command operation s (omega (arith, a.few, a.is_in.performed)) a.named ∙ ap value_refusal done ∙ ap (λ (k : Kind). Some k) (sym t.0), t.1)
+turn_refused {S} takes dpi operation command s old new sink later kind (Some done) a is t =
+    ((reaches dpi operation command s old done a is).refusal ∙ t.0, t.1)
+
+turn_short : {S : Type 0} (takes : S → Page → S → Type 0) (dpi : Dpi) (operation : Operation) (command : Said) (s : Situation) (old new : Performer) (sink later : S) (o : Outcome)
+    → AtTurn dpi operation command s old
+    → outcome dpi operation command.value (is_marked (prepared dpi operation (counted s))) (prepared dpi operation (counted s)).settings ≡ o
+    → IsTurned takes dpi o (prepared dpi operation (counted s)) (Err Memory) new sink later → IsTried takes dpi command s (Err Memory) new sink later
+turn_short {S} takes dpi operation command s old new sink later None a is t = inl t
+turn_short {S} takes dpi operation command s old new sink later (Some done) a is t =
+    let r = reaches dpi operation command s old done a is in
+    let now = turned done.0 done.1 (prepared dpi operation (counted s)) in
+    elim t [
+      | inl same ↦ inl same
+      | inr h ↦ inr (operation, drawn dpi operation command now, a.named, r.after_is, r.refusal ∙ h.0, handed_on takes dpi operation command s now sink later h.1)
+    ]
+
+pub tried_refused : {S : Type 0} (takes : S → Page → S → Type 0) (dpi : Dpi) (operation : Operation) (command : Said) (s : Situation) (old new : Performer) (sink later : S) (fault : CallFault)
+    → AtTurn dpi operation command s old
+    → IsTurned takes dpi (outcome dpi operation command.value (is_marked (prepared dpi operation (counted s))) (prepared dpi operation (counted s)).settings)
+    (prepared dpi operation (counted s)) (Err fault) new sink later
+    → IsTried takes dpi command s (Err fault) new sink later
+tried_refused {S} takes dpi operation command s old new sink later (Refused kind) a t = turn_refused takes dpi operation command s old new sink later kind _ a refl t
+tried_refused {S} takes dpi operation command s old new sink later Memory a t = turn_short takes dpi operation command s old new sink later _ a refl t
+
+-- the page was turned: what holds before anything is drawn, and what then is the situation after the command
+pub record IsGone {S : Type 0} (takes : S → Page → S → Type 0) (dpi : Dpi) (operation : Operation) (command : Said) (s : Situation) (middle : Performer) (sink later : S) : Type 0 where
+  pub turned_to : Situation
+  pub is_in : IsIn dpi turned_to middle
+  pub after_is : after dpi operation command s ≡ Some (drawn dpi operation command turned_to)
+  pub accepted : command_refusal dpi command s ≡ None
+  pub handed : HandsMore takes dpi s (drawn dpi operation command turned_to) sink later
+
+gone_by : {S : Type 0} (takes : S → Page → S → Type 0) (dpi : Dpi) (operation : Operation) (command : Said) (s : Situation) (old middle : Performer) (sink later : S) (o : Outcome)
+    → AtTurn dpi operation command s old
+    → outcome dpi operation command.value (is_marked (prepared dpi operation (counted s))) (prepared dpi operation (counted s)).settings ≡ o
+    → IsTurned takes dpi o (prepared dpi operation (counted s)) (Ok tt) middle sink later → IsGone takes dpi operation command s middle sink later
+gone_by {S} takes dpi operation command s old middle sink later None a is t = absurd t
+gone_by {S} takes dpi operation command s old middle sink later (Some done) a is t =
+    let r = reaches dpi operation command s old done a is in
+    let now = turned done.0 done.1 (prepared dpi operation (counted s)) in
     record {
-      settings = settings;
-      marked = s.marked ∙ r.marked ∙ rw (test, unmarked) refl;
-      ejected = s.ejected ∙ r.ejected ∙ rw test refl;
-      performed = s.performed ∙ ap (λ (n : ℕ). n + 1) r.performed;
-      shown = shows_after dpi (performed operation value bytes) history new.page old r
-          (ap (λ (b : Picture). b.size) s.bitmap) (ap (λ (b : Picture). b.dpi) s.bitmap) (subst IsPicture (sym s.bitmap) r.shown.picture)
-          (s.copies ∙ ap (λ (env : Environment). env.copies) settings)
-          (λ x y wide high.
-          ap (λ (b : Picture). dot b x y) s.bitmap ∙ old_dots dpi history old r x y wide high
-          ∙ rw (test, no_mark dpi operation bytes (environment dpi history) unmarked) refl);
+      turned_to = now;
+      is_in = t.0;
+      after_is = r.after_is;
+      accepted = r.refusal ∙ t.1;
+      handed = handed_on takes dpi operation command s now sink later t.2;
     }
 
--- ---- the sink
+pub gone : {S : Type 0} (takes : S → Page → S → Type 0) (dpi : Dpi) (operation : Operation) (command : Said) (s : Situation) (old middle : Performer) (sink later : S)
+    → AtTurn dpi operation command s old
+    → IsTurned takes dpi (outcome dpi operation command.value (is_marked (prepared dpi operation (counted s))) (prepared dpi operation (counted s)).settings)
+    (prepared dpi operation (counted s)) (Ok tt) middle sink later
+    → IsGone takes dpi operation command s middle sink later
+gone {S} takes dpi operation command s old middle sink later a t = gone_by takes dpi operation command s old middle sink later _ a refl t
 
-pub hands_one : {S : Type 0} (takes : S → Page → S → Type 0) (dpi : Dpi) (event : Event) (history : History) (page : Page) (old new : S)
-    → ejects event (is_marked history) ≡ true → Shows dpi page (sheet_of dpi history) → takes old page new → Hands takes dpi (ejected_sheets dpi event history) old new
-hands_one takes dpi event history page old new e shown taken = rw e (page, new, shown, taken, refl)
+-- ---- the end of the input
 
-pub hands_none : {S : Type 0} (takes : S → Page → S → Type 0) (dpi : Dpi) (event : Event) (history : History) (old new : S)
-    → ejects event (is_marked history) ≡ false → new ≡ old → Hands takes dpi (ejected_sheets dpi event history) old new
-hands_none takes dpi event history old new e same = rw e same
+-- the end of a raster changes nothing of the page that is ejected
+sheet_below : (dpi : Dpi) (raster : Option Raster) (s : Situation)
+    → sheet_of (record s { settings = settings_below dpi raster s.settings; raster = None }) ≡ sheet_of s
+sheet_below dpi None s = refl
+sheet_below dpi (Some r) s = refl
+
+end_turned : (dpi : Dpi) (s : Situation) (marked : Bool) → is_marked s ≡ marked
+    → at_end dpi s ≡ cond marked (turned_page defaults (end_raster dpi s)) (with_settings defaults (end_raster dpi s))
+end_turned dpi s marked e = ap (λ (b : Bool). cond b (turned_page defaults (end_raster dpi s)) (with_settings defaults (end_raster dpi s))) e
+
+pub end_marked : {S : Type 0} (takes : S → Page → S → Type 0) (dpi : Dpi) (s : Situation) (copies : ℕ) (old : Performer) (sink later : S) → IsIn dpi s old
+    → old.is_marked ≡ true → old.ejected < 256 → copies ≡ old.environment.copies → Takes takes copies old sink later
+    → (page_refusal (at_end dpi s) ≡ None) × HandsMore takes dpi s (at_end dpi s) sink later
+end_marked {S} takes dpi s copies old sink later i m few c t =
+    let end = end_raster dpi s in
+    let is = end_turned dpi s true (sym i.marked ∙ m) in
+    let count = length-append s.pages (sheet_of end ∷ []) in
+    let shows = subst (λ (sheet : Sheet). Shows dpi t.0 sheet) (sym (sheet_below dpi s.raster s)) (handed_sheet dpi s copies old old t.0 i refl c t.1) in
+    subst (λ (z : Situation). (page_refusal z ≡ None) × HandsMore takes dpi s z sink later) (sym is)
+    (pages_fit (turned_page defaults end) (omega (arith, i.ejected, count)), (sheet_of end ∷ [], refl, (t.0, later, shows, t.2, refl)))
+
+pub end_unmarked : {S : Type 0} (takes : S → Page → S → Type 0) (dpi : Dpi) (s : Situation) (old : Performer) (sink later : S) → IsIn dpi s old
+    → old.is_marked ≡ false → old.ejected ≤ 256 → later ≡ sink → (page_refusal (at_end dpi s) ≡ None) × HandsMore takes dpi s (at_end dpi s) sink later
+end_unmarked {S} takes dpi s old sink later i m few same =
+    let end = end_raster dpi s in
+    subst (λ (z : Situation). (page_refusal z ≡ None) × HandsMore takes dpi s z sink later) (sym (end_turned dpi s false (sym i.marked ∙ m)))
+    (pages_fit (with_settings defaults end) (omega (arith, i.ejected)), ([], sym (append-nil s.pages), same))

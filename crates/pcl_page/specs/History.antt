@@ -1,186 +1,191 @@
 -- What was performed, newest first; all else about a job follows from it.
-use Rattle.std.specs.Prelude.{ℕ, ◌+◌, ◌-◌, ◌&&◌, ◌||◌, Bool, true, false, nat_le, if◌then◌else◌, List, [], ◌∷◌, ◌++◌, Option, Some, None}
+use Rattle.std.specs.Prelude.{ℕ, ◌+◌, ◌*◌, ◌==◌, ◌&&◌, is_some, Bool, true, false, nat_lt, nat_le, if◌then◌else◌, length, List, [], ◌∷◌, ◌++◌, Option, Some, None}
 use Rattle.pcl_base.specs.declared.dpi.Dpi.{Dpi}
-use Rattle.pcl_base.specs.declared.size.Size.{Size}
 use Rattle.pcl_base.specs.declared.kind.Kind.{Kind}
 use Rattle.pcl_base.specs.declared.kind.Kind.TheVariants.{UnsupportedCommand, UnsupportedValue, TooManyCommands, TooManyPages}
+use Rattle.pcl_base.specs.declared.operation.Operation.{Operation}
+use Rattle.pcl_base.specs.declared.operation.Operation.TheVariants.{Reset, FillRectangle, StartRaster, RasterOffset, RasterRow}
+use Rattle.pcl_base.specs.declared.name.Name.TheVariants.{Empty}
+use Rattle.pcl_base.specs.declared.size.Size.{Size}
 use Rattle.pcl_base.specs.declared.value.Value.{Value}
-use Rattle.pcl_base.specs.Size.{page_width}
-use Rattle.pcl_bitmap.specs.Dots.{raster_dot}
-use Rattle.pcl_escape.specs.declared.operation.Operation.{Operation}
-use Rattle.pcl_escape.specs.declared.operation.Operation.TheVariants.{Reset, FormFeed, PageSize, Copies, TopMargin, HorizontalPosition, VerticalPosition, RasterResolution, RasterWidth, StartRaster, EndRaster, EndRasterResetMethod, RasterMethod, RasterOffset, RasterRow}
+use Rattle.pcl_base.specs.Dpi.{units_per_dot}
+use Rattle.pcl_base.specs.Limits.{command_limit, page_limit}
+use Rattle.pcl_base.specs.Operation.{operation_of}
+use Rattle.pcl_base.specs.Value.{whole_of, zero_value}
+use Rattle.pcl_bitmap.specs.declared.ink.Ink.{Ink}
+use Rattle.pcl_bitmap.specs.declared.ink.Ink.TheVariants.{Black, White}
+use Rattle.pcl_bitmap.specs.Dots.{rectangle_dot}
 use Rattle.pcl_escape.specs.Said.{Said}
-use Rattle.pcl_escape.specs.Operation.{operation_of}
-use Rattle.pcl_page.specs.declared.environment.Environment.{Environment}
-use Rattle.pcl_page.specs.declared.environment.Raster.{Raster}
-use Rattle.pcl_page.specs.Environment.{default_environment, effect, accepts, raster_of}
+use Rattle.pcl_env.specs.declared.effect.Effect.{Effect}
+use Rattle.pcl_env.specs.declared.effect.Effect.TheVariants.{Stay, Eject, EjectMarked}
+use Rattle.pcl_env.specs.Settings.{Position, Settings, defaults, put, to_first_line}
+use Rattle.pcl_env.specs.Outcome.{Outcome, outcome}
+use Rattle.pcl_page.specs.Marks.{Mark, are_marked, dot_at, dots_of}
+use Rattle.pcl_page.specs.Raster.{Raster, raster_from, skipped, row_sent, with_row, row_mark, is_ignored_in_raster, ends_raster}
 
--- a command that was performed, or the end of the input, which acts as a reset
+-- a command that was performed, as it was said, or the end of the input, which acts as a reset
 pub data Event : Type 0 where
-  performed : Operation → Value → List ℕ → Event
+  performed : Operation → Said → Event
   ended : Event
 
+-- the newest event first
 abbrev pub History : Type 0
 History = List Event
 
--- ---- pages and their ejects
-
--- form feed ejects a page marked or not, a reset and a page size a marked one
-abbrev pub operation_ejects : Operation → Bool → Bool
-operation_ejects Reset is_marked = is_marked
-operation_ejects FormFeed is_marked = true
-operation_ejects PageSize is_marked = is_marked
-operation_ejects Copies is_marked = false
-operation_ejects TopMargin is_marked = false
-operation_ejects HorizontalPosition is_marked = false
-operation_ejects VerticalPosition is_marked = false
-operation_ejects RasterResolution is_marked = false
-operation_ejects RasterWidth is_marked = false
-operation_ejects StartRaster is_marked = false
-operation_ejects EndRaster is_marked = false
-operation_ejects EndRasterResetMethod is_marked = false
-operation_ejects RasterMethod is_marked = false
-operation_ejects RasterOffset is_marked = false
-operation_ejects RasterRow is_marked = false
-
--- a raster row marks the page, whatever it inks
-abbrev pub operation_marks : Operation → Bool
-operation_marks Reset = false
-operation_marks FormFeed = false
-operation_marks PageSize = false
-operation_marks Copies = false
-operation_marks TopMargin = false
-operation_marks HorizontalPosition = false
-operation_marks VerticalPosition = false
-operation_marks RasterResolution = false
-operation_marks RasterWidth = false
-operation_marks StartRaster = false
-operation_marks EndRaster = false
-operation_marks EndRasterResetMethod = false
-operation_marks RasterMethod = false
-operation_marks RasterOffset = false
-operation_marks RasterRow = true
-
--- whether the event ejects the page, which is marked or not
-abbrev pub ejects : Event → Bool → Bool
-ejects (performed operation value bytes) is_marked = operation_ejects operation is_marked
-ejects ended is_marked = is_marked
-
-abbrev pub marks_page : Event → Bool
-marks_page (performed operation value bytes) = operation_marks operation
-marks_page ended = false
-
--- whether something was performed on the page that marks it
-abbrev pub is_marked : History → Bool
-is_marked [] = false
-is_marked (event ∷ history) = if ejects event (is_marked history) then false else marks_page event || is_marked history
-
--- how many pages were ejected
-abbrev pub ejected_count : History → ℕ
-ejected_count [] = 0
-ejected_count (event ∷ history) = if ejects event (is_marked history) then ejected_count history + 1 else ejected_count history
-
--- how many commands were performed: the input's end counts nothing
-abbrev pub performed_count : History → ℕ
-performed_count [] = 0
-performed_count (performed operation value bytes ∷ history) = performed_count history + 1
-performed_count (ended ∷ history) = performed_count history
-
--- ---- the environment
-
-abbrev pub event_effect : Dpi → Event → Bool → Environment → Environment
-event_effect dpi (performed operation value bytes) is_marked env = effect dpi operation value is_marked env
-event_effect dpi ended is_marked env = default_environment
-
-abbrev pub environment : Dpi → History → Environment
-environment dpi [] = default_environment
-environment dpi (event ∷ history) = event_effect dpi event (is_marked history) (environment dpi history)
-
--- ---- marks
-
--- a set of dots that is inked black
-pub record Mark : Type 0 where
-  pub covers : ℕ → ℕ → Bool
-
--- a raster row, from its raster's left end to the page's right edge
-abbrev pub row_mark : Dpi → Environment → Raster → List ℕ → Mark
-row_mark dpi env raster bytes =
-    record { covers = raster_dot raster.left (raster.top + raster.rows) 1 (page_width env.size dpi - raster.left) bytes }
-
-abbrev pub operation_mark : Dpi → Operation → List ℕ → Environment → List Mark
-operation_mark dpi Reset bytes env = []
-operation_mark dpi FormFeed bytes env = []
-operation_mark dpi PageSize bytes env = []
-operation_mark dpi Copies bytes env = []
-operation_mark dpi TopMargin bytes env = []
-operation_mark dpi HorizontalPosition bytes env = []
-operation_mark dpi VerticalPosition bytes env = []
-operation_mark dpi RasterResolution bytes env = []
-operation_mark dpi RasterWidth bytes env = []
-operation_mark dpi StartRaster bytes env = []
-operation_mark dpi EndRaster bytes env = []
-operation_mark dpi EndRasterResetMethod bytes env = []
-operation_mark dpi RasterMethod bytes env = []
-operation_mark dpi RasterOffset bytes env = []
-operation_mark dpi RasterRow bytes env = row_mark dpi env (raster_of dpi env) bytes ∷ []
-
-abbrev pub event_marks : Dpi → Event → Environment → List Mark
-event_marks dpi (performed operation value bytes) env = operation_mark dpi operation bytes env
-event_marks dpi ended env = []
-
--- the marks of the page that is being painted, newest first
-abbrev pub marks : Dpi → History → List Mark
-marks dpi [] = []
-marks dpi (event ∷ history) =
-    if ejects event (is_marked history) then [] else event_marks dpi event (environment dpi history) ++ marks dpi history
-
--- whether a dot is black: the newest mark that covers it gives its ink, and each mark inks black
-abbrev pub is_black : List Mark → ℕ → ℕ → Bool
-is_black [] x y = false
-is_black (mark ∷ older) x y = mark.covers x y || is_black older x y
-
--- ---- the pages
-
--- a page as the job means it
+-- a page as the job means it, where `Page` of the code is one that was painted
 pub record Sheet : Type 0 where
   pub size : Size
   pub copies : ℕ
   pub marks : List Mark
 
-abbrev pub sheet_of : Dpi → History → Sheet
-sheet_of dpi history = let env = environment dpi history in record { size = env.size; copies = env.copies; marks = marks dpi history }
+-- where a job stands: what is set, the raster that has begun, the marks of the page, the newest first, the pages that were ejected, in order,
+-- and how many commands were performed
+pub record Situation : Type 0 where
+  pub settings : Settings
+  pub raster : Option Raster
+  pub marks : List Mark
+  pub pages : List Sheet
+  pub performed : ℕ
 
--- the page that an event ejects, if it ejects one
-abbrev pub ejected_sheets : Dpi → Event → History → List Sheet
-ejected_sheets dpi event history = if ejects event (is_marked history) then sheet_of dpi history ∷ [] else []
+abbrev pub at_begin : Situation
+at_begin = record { settings = defaults; raster = None; marks = []; pages = []; performed = 0 }
 
--- the pages that were ejected, in order
-abbrev pub sheets : Dpi → History → List Sheet
-sheets dpi [] = []
-sheets dpi (event ∷ history) = sheets dpi history ++ ejected_sheets dpi event history
+abbrev pub is_marked : Situation → Bool
+is_marked s = are_marked s.marks
+
+-- ---- the end of a raster
+
+-- the end of a raster puts the cursor below its last row
+abbrev pub below : Dpi → Raster → Position
+below dpi r = record { x = r.left * units_per_dot dpi; y = (r.top + r.rows * r.scale) * units_per_dot dpi }
+
+abbrev pub settings_below : Dpi → Option Raster → Settings → Settings
+settings_below dpi None s = s
+settings_below dpi (Some r) s = put (below dpi r) s
+
+abbrev pub end_raster : Dpi → Situation → Situation
+end_raster dpi s = record s { settings = settings_below dpi s.raster s.settings; raster = None }
+
+-- ---- the page
+
+abbrev pub sheet_of : Situation → Sheet
+sheet_of s = record { size = s.settings.size; copies = s.settings.copies; marks = s.marks }
+
+abbrev pub ejects : Effect → Bool → Bool
+ejects Stay marked = false
+ejects Eject marked = true
+ejects EjectMarked marked = marked
+
+-- The settings change, and the page is ejected where the command says so: it has the size and the copies from before. The cursor then goes to
+-- the first line.
+abbrev pub turned : Settings → Effect → Situation → Situation
+turned settings effect s =
+    if ejects effect (is_marked s) then record s { settings = to_first_line settings; marks = []; pages = s.pages ++ sheet_of s ∷ [] }
+    else record s { settings = settings }
+
+-- ---- marks and rasters
+
+abbrev pub rectangle_ink : Value → Ink
+rectangle_ink value = if whole_of value == 1 then White else Black
+
+abbrev pub rectangle_mark : Dpi → Value → Settings → Mark
+rectangle_mark dpi value s = record {
+  covers = rectangle_dot (dot_at dpi s.cursor.x) (dot_at dpi s.cursor.y) (dots_of dpi s.rectangle_width) (dots_of dpi s.rectangle_height);
+  ink = rectangle_ink value;
+}
+
+-- the raster that a row goes to: a row outside a raster starts one at the page's left edge
+abbrev pub raster_for_row : Dpi → Option Raster → Settings → Raster
+raster_for_row dpi None s = raster_from dpi 0 s
+raster_for_row dpi (Some r) s = r
+
+-- rows are skipped in a raster alone
+abbrev pub skipped_in : ℕ → Option Raster → Option Raster
+skipped_in count None = None
+skipped_in count (Some r) = Some (skipped count r)
+
+abbrev pub with_row_in : Dpi → Said → Raster → Situation → Situation
+with_row_in dpi command r s =
+    let row = row_sent s.settings.method command.bytes r in
+    record s { raster = Some (with_row row r); marks = row_mark row r ∷ s.marks }
+
+-- what a command draws, or does to the raster
+abbrev pub drawn : Dpi → Operation → Said → Situation → Situation
+drawn dpi FillRectangle command s = record s { marks = rectangle_mark dpi command.value s.settings ∷ s.marks }
+drawn dpi StartRaster command s =
+    record s { raster = Some (raster_from dpi (if whole_of command.value == 0 then 0 else dot_at dpi s.settings.cursor.x) s.settings) }
+drawn dpi RasterOffset command s = record s { raster = skipped_in (whole_of command.value) s.raster }
+drawn dpi RasterRow command s = with_row_in dpi command (raster_for_row dpi s.raster s.settings) s
+drawn dpi other command s = s
+
+-- ---- one command
+
+-- what becomes of the page is known before anything is drawn
+abbrev pub done_with : Dpi → Operation → Said → Outcome → Situation → Option Situation
+done_with dpi operation command None s = None
+done_with dpi operation command (Some done) s = Some (drawn dpi operation command (turned done.0 done.1 s))
+
+abbrev pub taken : Dpi → Operation → Said → Situation → Option Situation
+taken dpi operation command s = done_with dpi operation command (outcome dpi operation command.value (is_marked s) s.settings) s
+
+-- a raster that the command ends is ended first
+abbrev pub prepared : Dpi → Operation → Situation → Situation
+prepared dpi operation s = if ends_raster operation then end_raster dpi s else s
+
+abbrev pub is_ignored : Operation → Situation → Bool
+is_ignored operation s = is_some s.raster && is_ignored_in_raster operation
+
+abbrev pub counted : Situation → Situation
+counted s = record s { performed = s.performed + 1 }
+
+-- the situation after a command; none where its value isn't taken
+unfoldable pub after : Dpi → Operation → Said → Situation → Option Situation
+after dpi operation command s =
+    if is_ignored operation s then Some (counted s) else taken dpi operation command (prepared dpi operation (counted s))
+
+-- the end of the input acts as a reset that counts nothing
+abbrev pub at_end : Dpi → Situation → Situation
+at_end dpi s = turned defaults EjectMarked (end_raster dpi s)
+
+-- ---- histories
+
+-- the newest of situations
+abbrev pub newest : List Situation → Situation
+newest [] = at_begin
+newest (s ∷ older) = s
+
+-- an event whose value isn't taken is in no history of a job
+abbrev pub reached : Option Situation → Situation → Situation
+reached None s = s
+reached (Some s') s = s'
+
+abbrev pub next : Dpi → Event → Situation → Situation
+next dpi (performed operation command) s = reached (after dpi operation command s) s
+next dpi ended s = at_end dpi s
+
+-- the situation after each front of the history, the newest first
+abbrev pub situations : Dpi → History → List Situation
+situations dpi [] = at_begin ∷ []
+situations dpi (event ∷ history) = next dpi event (newest (situations dpi history)) ∷ situations dpi history
+
+abbrev pub situation : Dpi → History → Situation
+situation dpi history = newest (situations dpi history)
 
 -- ---- refusals
 
-abbrev pub command_limit : ℕ
-command_limit = 100000000
+-- one page more than there may be was ejected
+abbrev pub page_refusal : Situation → Option Kind
+page_refusal s = if nat_le (length s.pages) page_limit then None else Some TooManyPages
 
-abbrev pub page_limit : ℕ
-page_limit = 256
+abbrev pub value_refusal : Option Situation → Option Kind
+value_refusal None = Some UnsupportedValue
+value_refusal (Some s) = page_refusal s
 
--- an eject would be one too many
-abbrev pub eject_refusal : Event → History → Option Kind
-eject_refusal event history =
-    if ejects event (is_marked history) && nat_le page_limit (ejected_count history) then Some TooManyPages else None
-
-abbrev pub operation_refusal : Dpi → Option Operation → Said → History → Option Kind
-operation_refusal dpi None command history = Some UnsupportedCommand
-operation_refusal dpi (Some operation) command history =
-    if accepts dpi operation command.value (environment dpi history)
-    then eject_refusal (performed operation command.value command.bytes) history
-    else Some UnsupportedValue
+abbrev pub operation_refusal : Dpi → Option Operation → Said → Situation → Option Kind
+operation_refusal dpi None command s = Some UnsupportedCommand
+operation_refusal dpi (Some operation) command s = value_refusal (after dpi operation command s)
 
 -- why a command is refused, the first reason in order
-abbrev pub command_refusal : Dpi → Said → History → Option Kind
-command_refusal dpi command history =
-    if nat_le command_limit (performed_count history) then Some TooManyCommands
-    else operation_refusal dpi (operation_of command.name) command history
+abbrev pub command_refusal : Dpi → Said → Situation → Option Kind
+command_refusal dpi command s =
+    if nat_le command_limit s.performed then Some TooManyCommands else operation_refusal dpi (operation_of command.name) command s

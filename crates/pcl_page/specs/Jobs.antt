@@ -9,8 +9,8 @@ use Rattle.pcl_escape.specs.Said.{Said}
 use Rattle.pcl_escape.specs.Pieces.{IsReading}
 use Rattle.pcl_escape.specs.Faults.{IsFault}
 use Rattle.pcl_page.specs.declared.page.Page.{Page}
-use Rattle.pcl_page.specs.History.{Sheet, sheets}
-use Rattle.pcl_page.specs.Performing.{Shows, Hands, Performance, performance}
+use Rattle.pcl_page.specs.History.{Sheet}
+use Rattle.pcl_page.specs.Performing.{Shows, Hands, Performance, performance, pages_of, HandsOver}
 
 -- what is performed of a job whose reading is these commands
 abbrev pub performance_of : Dpi → List ℕ → List Said → Performance
@@ -21,7 +21,7 @@ pub record HasPages (dpi : Dpi) (job : List ℕ) (pages : List Sheet) : Type 0 w
   pub commands : List Said
   pub reading : IsReading job commands
   pub accepted : (performance_of dpi job commands).refusal ≡ None
-  pub ejected : pages ≡ sheets dpi (performance_of dpi job commands).history
+  pub ejected : pages ≡ pages_of dpi (performance_of dpi job commands)
 
 -- the job is read, and the performing refuses it
 pub record IsStopped (dpi : Dpi) (job : List ℕ) (refusal : Refusal) : Type 0 where
@@ -33,11 +33,18 @@ pub record IsStopped (dpi : Dpi) (job : List ℕ) (refusal : Refusal) : Type 0 w
 abbrev pub IsRefusal : Dpi → List ℕ → Refusal → Type 0
 IsRefusal dpi job refusal = IsFault job refusal ⊎ IsStopped dpi job refusal
 
--- the sink takes the pages of an accepted job, in order; a refusal is the job's; memory may run out
+-- what the sink takes of a job whose reading is these commands, or that has no reading
+pub record IsPerformed {S : Type 0} (takes : S → Page → S → Type 0) (dpi : Dpi) (job : List ℕ) (result : Result (Unit {0}) JobFault) (old new : S) : Type 0 where
+  pub commands : List Said
+  pub reading : IsReading job commands
+  pub handed : HandsOver takes dpi (performance_of dpi job commands) result old new
+
+-- The sink takes the pages of an accepted job, in order; those before the refused command; or the first of these where memory runs out. A job
+-- that has no reading gives it none.
 abbrev pub Delivers : {S : Type 0} → (S → Page → S → Type 0) → Dpi → List ℕ → Result (Unit {0}) JobFault → S → S → Type 0
-Delivers {S} takes dpi job (Ok unit) old new = (pages : List Sheet) × HasPages dpi job pages × Hands takes dpi pages old new
-Delivers {S} takes dpi job (Err (Refused refusal)) old new = IsRefusal dpi job refusal
-Delivers {S} takes dpi job (Err Memory) old new = Unit {0}
+Delivers {S} takes dpi job (Ok unit) old new = IsPerformed takes dpi job (Ok unit) old new
+Delivers {S} takes dpi job (Err (Refused refusal)) old new = (IsFault job refusal × (new ≡ old)) ⊎ IsPerformed takes dpi job (Err (Refused refusal)) old new
+Delivers {S} takes dpi job (Err Memory) old new = (new ≡ old) ⊎ IsPerformed takes dpi job (Err Memory) old new
 
 -- pages show the sheets, one by one
 abbrev pub AllShow : Dpi → List Page → List Sheet → Type 0

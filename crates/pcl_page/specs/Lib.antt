@@ -1,4 +1,6 @@
-pub mod Environment
+pub mod Marks
+pub mod Raster
 pub mod History
 pub mod Performing
+pub mod Reflecting
 pub mod Jobs

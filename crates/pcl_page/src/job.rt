@@ -2,7 +2,7 @@
 
 ghost use Rattle.pcl_escape.specs.Said.{views};
 ghost use Rattle.pcl_page.specs.Performing.{HandsOver, performance};
-ghost use Rattle.std.specs.Prelude.{◌≡◌, ◌++◌, ◌∷◌, [], ℕ, List};
+ghost use Rattle.std.specs.Prelude.{◌≡◌, [], ℕ, List};
 ghost use Rattle.pcl_base.specs.declared.dpi.Dpi.{Dpi};
 ghost use Rattle.pcl_base.specs.declared.refusal.Refusal.{Refusal};
 ghost use Rattle.pcl_page.specs.History.{Sheet};
@@ -86,10 +86,14 @@ impl Model for Collected {
 }
 
 impl PageSink for Collected {
-    ghost takes = { λ old page new. new ≡ old ++ page ∷ [] };
+    ghost use Rattle.std.specs.Prelude.{◌≡◌, ◌++◌, ◌∷◌, []};
+    ghost use Rattle.pcl_page.specs.declared.page.Page.{Page};
+    ghost use Rattle.pcl_page.specs.Performing.{IsSamePage};
+
+    ghost takes = { λ old page new. (copy : Page) × (new ≡ old ++ copy ∷ []) × IsSamePage page copy };
 
     fn page(&mut self, page: &Page) -> Result<(), AllocError> {
-        self.pages.push(page.clone()?)?;
+        self.pages.push(page.try_clone()?)?;
         Ok(())
     }
 }

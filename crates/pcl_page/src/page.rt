@@ -1,17 +1,42 @@
 //! Pages, and what takes them.
 
-ghost use Rattle.std.specs.Prelude.{◌≡◌, OnOk, OnErr};
+ghost use Rattle.std.specs.Prelude.{◌≡◌, ◌≤◌, OnOk, OnErr};
 
+use pcl_base::{Dpi, Size};
 use pcl_bitmap::Bitmap;
 use std::alloc::AllocError;
 
 /// A page that a job ejected.
-#[derive(Clone, Debug, Drop)]
+#[derive(Debug, Drop)]
 pub struct Page {
+    /// The size of the page.
+    pub size: Size,
     /// How many copies are printed, 1 to 99.
     pub copies: u8,
+    /// The resolution of the page.
+    pub dpi: Dpi,
     /// The dots, which have the page's size and resolution.
     pub bitmap: Bitmap,
+    ghost copies_in_range: { (1 ≤ copies) × (copies ≤ 99) },
+    ghost size_is: { bitmap.size ≡ size },
+    ghost dpi_is: { bitmap.dpi ≡ dpi },
+}
+
+impl Page {
+    ghost use Rattle.std.specs.Prelude.{IfOk};
+    ghost use Rattle.pcl_page.specs.Performing.{IsSamePage};
+
+    /// The same page once more.
+    pub fn try_clone(&self) -> Result<Page, AllocError>
+        ensures { IfOk result (λ page. IsSamePage self.now page) }
+    {
+        Ok(Page {
+            size: self.size,
+            copies: self.copies,
+            dpi: self.dpi,
+            bitmap: self.bitmap.clone()?,
+        })
+    }
 }
 
 /// What takes the pages of a job, one at a time.

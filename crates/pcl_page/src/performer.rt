@@ -1,26 +1,27 @@
 //! Performing one command after the other.
 
 ghost use Rattle.std.specs.Prelude.{◌≤◌, ◌*◌, ◌^◌};
-ghost use Rattle.pcl_page.specs.Environment.{rows_sent};
+ghost use Rattle.pcl_page.specs.Raster.{rows_in};
 
-use crate::{Environment, Page, PageSink};
-use pcl_base::{Dpi, JobFault, Kind, Name, Refusal, Size, Value};
-use pcl_bitmap::Bitmap;
-use pcl_escape::{Command, Operation};
+use crate::raster::{Raster, ends_raster, is_ignored_in_raster};
+use crate::{Page, PageSink};
+use pcl_base::{
+    COMMAND_LIMIT, CallFault, Dpi, JobFault, Kind, Name, Operation, PAGE_LIMIT, Refusal, Size,
+    Value,
+};
+use pcl_bitmap::{Bitmap, Ink};
+use pcl_env::{Effect, Env};
+use pcl_escape::Command;
 use std::alloc::{AllocError, Global};
-
-/// The most commands of a job.
-const COMMAND_LIMIT: u32 = 100_000_000;
-
-/// The most pages of a job.
-const PAGE_LIMIT: u32 = 256;
 
 /// How far the performing of a job has come.
 #[derive(Drop)]
 pub struct Performer {
     /// What is set, and the cursor.
-    pub environment: Environment,
-    /// The page that is being painted.
+    pub environment: Env,
+    /// The raster that has begun, if one has.
+    pub raster: Option<Raster>,
+    /// The page that is being painted. Its copies are those of the page before until it is ejected.
     pub page: Page,
     /// Whether something on the page marks it.
     pub is_marked: bool,
@@ -28,171 +29,286 @@ pub struct Performer {
     pub ejected: u32,
     /// How many commands were performed.
     pub performed: u32,
-    ghost few_rows: { rows_sent environment ≤ 2 ^ 20 * performed },
+    /// Where pages and rasters take their memory.
+    pub alloc: Global,
+    ghost few_pages: { ejected ≤ 256 },
+    ghost few_rows: { rows_in raster ≤ 2 ^ 20 * performed },
 }
 
 impl Performer {
-    ghost use Rattle.std.specs.Prelude.{◌≡◌, ◌<◌, [], IsTrue, IfOk, OnOk, OnErr};
+    ghost use Rattle.std.specs.Prelude.{◌≡◌, ◌<◌, ◌==◌, ◌&&◌, is_some, ◌≤◌, ◌+◌, ◌*◌, ◌^◌, if◌then◌else◌, Some, IfOk, OnOk, OnErr};
+    ghost use Rattle.pcl_base.specs.Value.{whole_of};
+    ghost use Rattle.pcl_page.specs.Marks.{dot_at};
+    ghost use Rattle.pcl_page.specs.Raster.{raster_from, rows_in, is_ignored_in_raster};
     ghost use Rattle.pcl_base.specs.declared.dpi.Dpi.{Dpi};
-    ghost use Rattle.pcl_escape.specs.Said.{view};
-    ghost use Rattle.pcl_page.specs.History.{History, performed, operation_ejects};
+    ghost use Rattle.pcl_escape.specs.Said.{Said, view};
+    ghost use Rattle.pcl_env.specs.Outcome.{outcome};
+    ghost use Rattle.pcl_page.specs.History.{Situation, at_begin, is_marked, drawn, rectangle_mark, skipped_in};
     ghost use Rattle.pcl_page.specs.declared.page.Page.{Page};
-    ghost use Rattle.pcl_page.specs.Performing.{Reflects, IsChecked, IsPerformed, CommandDone, EndDone, IsEjected, IsPainted};
+    ghost use Rattle.pcl_page.specs.Reflecting.{IsIn, IsPrepared, HasRaster, Takes, IsFollowed, IsEjected, IsDrawn, IsSent, IsTurned, IsTried, CommandDone, EndDone};
 
     /// The begin of a job: a white page, and the defaults.
     pub fn new(alloc: Global, dpi: Dpi) -> Result<Performer, AllocError>
-        ensures { IfOk result (λ performer. Reflects dpi [] performer) }
+        ensures { IfOk result (λ performer. IsIn dpi at_begin performer) }
     {
-        let environment = Environment::new();
+        let environment = Env::new();
         let page = Page {
-            copies: environment.copies,
+            size: Size::Letter,
+            copies: 1,
+            dpi,
             bitmap: Bitmap::new(alloc, Size::Letter, dpi)?,
         };
         Ok(Performer {
             environment,
+            raster: None,
             page,
             is_marked: false,
             ejected: 0,
             performed: 0,
+            alloc,
         })
     }
 
-    /// Performs a command, and hands over the page that it ejects. After a fault the sink is as before.
+    /// Performs a command, and hands over the page that it ejects.
     pub fn perform<S: PageSink>(
         &mut self,
         command: &Command<'_>,
         dpi: Dpi,
         sink: &mut S,
     ) -> Result<(), JobFault>
-        ensures { (history : History) → Reflects dpi history self.old → CommandDone S.takes dpi (view command.now) history result self.new sink.old sink.new }
+        ensures { (s : Situation) → IsIn dpi s self.old → CommandDone S.takes dpi (view command.now) s result self.new sink.old sink.new }
     {
-        match self.check(command, dpi) {
-            Ok(operation) => {
-                self.apply(operation, command.value, command.bytes, dpi, sink)?;
-                Ok(())
-            }
-            Err(kind) => Err(JobFault::Refused(Refusal {
+        match self.try_command(command, dpi, sink) {
+            Ok(()) => Ok(()),
+            Err(CallFault::Refused(kind)) => Err(JobFault::Refused(Refusal::new(
                 kind,
-                at: command.at,
-                name: command.name,
-            })),
+                command.at,
+                command.name,
+            ))),
+            Err(CallFault::Memory) => Err(JobFault::Memory),
         }
     }
 
-    /// What a command does, or why it is refused.
-    // Inlined, as the operation's look-up in it.
-    #[inline(always)]
-    fn check(&self, command: &Command<'_>, dpi: Dpi) -> Result<Operation, Kind>
-        ensures checked { (history : History) → Reflects dpi history self.now → IsChecked dpi (view command.now) history result }
-        ensures few_commands { IfOk result (λ operation. self.now.performed < 100000000) }
-        ensures few_pages { IfOk result (λ operation. IsTrue (operation_ejects operation self.now.is_marked) → self.now.ejected < 256) }
+    /// Performs a command, or says why it is refused.
+    fn try_command<S: PageSink>(
+        &mut self,
+        command: &Command<'_>,
+        dpi: Dpi,
+        sink: &mut S,
+    ) -> Result<(), CallFault>
+        ensures { (s : Situation) → IsIn dpi s self.old → IsTried S.takes dpi (view command.now) s result self.new sink.old sink.new }
     {
         if self.performed >= COMMAND_LIMIT {
-            return Err(Kind::TooManyCommands);
+            return Err(CallFault::Refused(Kind::TooManyCommands));
         }
         let Some(operation) = Operation::with_name(command.name) else {
-            return Err(Kind::UnsupportedCommand);
+            return Err(CallFault::Refused(Kind::UnsupportedCommand));
         };
-        if !self.environment.accepts(operation, command.value, dpi) {
-            return Err(Kind::UnsupportedValue);
+        self.performed += 1;
+        if self.is_ignored(operation) {
+            return Ok(());
         }
-        if ejects(operation, self.is_marked) && self.ejected >= PAGE_LIMIT {
-            return Err(Kind::TooManyPages);
-        }
-        Ok(operation)
+        self.prepare(operation, dpi);
+        self.turn(operation, command.value, dpi, sink)?;
+        self.draw(operation, command, dpi)?;
+        Ok(())
     }
 
-    /// Does what a command does that was checked.
-    fn apply<S: PageSink>(
+    /// Whether a raster has begun that ignores the command.
+    fn is_ignored(&self, operation: Operation) -> bool
+        ensures { result ≡ (is_some self.now.raster && is_ignored_in_raster operation) }
+    {
+        self.raster.is_some() && is_ignored_in_raster(operation)
+    }
+
+    /// Ends a raster that has begun and that the command ends: the cursor stands below its last row.
+    fn prepare(&mut self, operation: Operation, dpi: Dpi)
+        requires { self.old.performed ≤ 2 ^ 27 }
+        ensures { IsPrepared dpi operation self.old self.new }
+    {
+        if !ends_raster(operation) {
+            return;
+        }
+        if let Some(raster) = &self.raster {
+            let (x, y) = raster.below(dpi);
+            self.environment.move_to(x, y);
+        }
+        self.raster = None;
+    }
+
+    /// Sets what a command sets, and ejects the page where it says so: the page has the size and the
+    /// copies from before. After a refusal the sink is as before.
+    fn turn<S: PageSink>(
         &mut self,
         operation: Operation,
         value: Value,
-        bytes: &[u8],
         dpi: Dpi,
         sink: &mut S,
-    ) -> Result<(), AllocError>
-        requires few_commands { self.old.performed < 100000000 }
-        requires few_pages { IsTrue (operation_ejects operation self.old.is_marked) → self.old.ejected < 256 }
-        ensures ok { OnOk result ((history : History) → Reflects dpi history self.old
-            → IsPerformed S.takes dpi (performed operation value bytes.now) history self.new sink.old sink.new) }
+    ) -> Result<(), CallFault>
+        ensures turned { (s : Situation) → IsIn dpi s self.old
+            → IsTurned S.takes dpi (outcome dpi operation value (is_marked s) s.settings) s result self.new sink.old sink.new }
+        ensures rest { OnOk result ((self.new.performed ≡ self.old.performed) × (self.new.raster ≡ self.old.raster)) }
+    {
+        let copies = self.environment.copies();
+        let Ok(effect) = self
+            .environment
+            .perform(operation, value, self.is_marked, dpi)
+        else {
+            return Err(CallFault::Refused(Kind::UnsupportedValue));
+        };
+        if ejects(effect, self.is_marked) {
+            if self.ejected >= PAGE_LIMIT {
+                return Err(CallFault::Refused(Kind::TooManyPages));
+            }
+            self.eject(copies, sink)?;
+        }
+        Ok(self.follow_size()?)
+    }
+
+    /// Hands over the page with these copies, and begins a white one, with the cursor on the first line.
+    fn eject<S: PageSink>(&mut self, copies: u8, sink: &mut S) -> Result<(), AllocError>
+        requires few { self.old.ejected < 256 }
+        requires copies { (1 ≤ copies) × (copies ≤ 99) }
+        ensures ok { OnOk result (IsEjected self.old self.new × Takes S.takes copies self.old sink.old sink.new) }
         ensures err { OnErr result (sink.new ≡ sink.old) }
     {
-        let was_marked = self.is_marked;
-        if ejects(operation, was_marked) {
-            self.eject(sink)?;
-        } else if marks(operation) {
-            self.paint_row(bytes, dpi);
+        self.page.copies = copies;
+        sink.page(&self.page)?;
+        self.page.bitmap.clear();
+        self.is_marked = false;
+        self.ejected += 1;
+        self.environment.new_page();
+        Ok(())
+    }
+
+    /// Makes the page one of the size that is set, where it isn't yet.
+    fn follow_size(&mut self) -> Result<(), AllocError>
+        ensures { OnOk result (IsFollowed self.old self.new) }
+    {
+        let size = self.environment.size();
+        if size != self.page.size {
+            let dpi = self.page.dpi;
+            self.page = Page {
+                size,
+                copies: self.page.copies,
+                dpi,
+                bitmap: Bitmap::new(self.alloc, size, dpi)?,
+            };
         }
-        self.performed += 1;
-        self.environment.perform(operation, value, was_marked, dpi);
-        self.page.copies = self.environment.copies;
+        Ok(())
+    }
+
+    /// Draws what a command draws, and does to the raster what it does.
+    fn draw(
+        &mut self,
+        operation: Operation,
+        command: &Command<'_>,
+        dpi: Dpi,
+    ) -> Result<(), AllocError>
+        requires few { self.old.performed ≤ 2 ^ 27 }
+        requires rows { rows_in self.old.raster + 2 ^ 20 ≤ 2 ^ 20 * self.old.performed }
+        ensures { OnOk result ((s : Situation) → IsIn dpi s self.old → IsIn dpi (drawn dpi operation (view command.now) s) self.new) }
+    {
+        match operation {
+            Operation::FillRectangle => self.fill_rectangle(command.value, dpi),
+            Operation::StartRaster => self.start_raster(command.value, dpi)?,
+            Operation::RasterOffset => self.skip_rows(command.value),
+            Operation::RasterRow => self.send_row(command.bytes, dpi)?,
+            _ => {}
+        }
+        Ok(())
+    }
+
+    /// Fills the rectangle whose upper left corner is the cursor's dot.
+    fn fill_rectangle(&mut self, value: Value, dpi: Dpi)
+        ensures drawn { IsDrawn (rectangle_mark dpi value self.old.environment) self.old self.new }
+        ensures raster { self.new.raster ≡ self.old.raster }
+    {
+        let unit = u64::from(dpi.unit());
+        let width = self.environment.rectangle_width().div_ceil(unit);
+        let height = self.environment.rectangle_height().div_ceil(unit);
+        let ink = rectangle_ink(value);
+        let x = self.environment.x() / dpi.unit();
+        let y = self.environment.y() / dpi.unit();
+        self.page.bitmap.fill(x, y, width, height, ink);
+        self.is_marked = true;
+    }
+
+    /// Starts a raster at the page's left edge or at the cursor.
+    fn start_raster(&mut self, value: Value, dpi: Dpi) -> Result<(), AllocError>
+        ensures { OnOk result (HasRaster (Some (raster_from dpi (if whole_of value == 0 then 0 else dot_at dpi self.old.environment.cursor.x) self.old.environment)) self.old self.new) }
+    {
+        let left = match value.whole() {
+            0 => 0,
+            _ => self.environment.x() / dpi.unit(),
+        };
+        self.raster = Some(Raster::start(self.alloc, left, &self.environment, dpi)?);
+        Ok(())
+    }
+
+    /// Skips rows of the raster that has begun; outside one it does nothing.
+    fn skip_rows(&mut self, value: Value)
+        requires few { self.old.performed ≤ 2 ^ 27 }
+        requires rows { rows_in self.old.raster + 2 ^ 20 ≤ 2 ^ 20 * self.old.performed }
+        ensures { HasRaster (skipped_in (whole_of value) self.old.raster) self.old self.new }
+    {
+        if let Some(raster) = &mut self.raster {
+            raster.skip(value.whole().unsigned_abs());
+        }
+    }
+
+    /// Sends a row to the raster that has begun, or to one that starts at the page's left edge.
+    fn send_row(&mut self, bytes: &[u8], dpi: Dpi) -> Result<(), AllocError>
+        requires few { self.old.performed ≤ 2 ^ 27 }
+        requires rows { rows_in self.old.raster + 2 ^ 20 ≤ 2 ^ 20 * self.old.performed }
+        ensures { OnOk result (IsSent dpi bytes.now self.old self.new) }
+    {
+        let mut raster = match self.raster.take() {
+            Some(raster) => raster,
+            None => Raster::start(self.alloc, 0, &self.environment, dpi)?,
+        };
+        raster.send(self.environment.method(), bytes, &mut self.page.bitmap);
+        self.raster = Some(raster);
+        self.is_marked = true;
         Ok(())
     }
 
     /// Does what the end of the input does, `end` bytes from its begin: it acts as a reset. Nothing is
     /// performed behind it.
     pub fn finish<S: PageSink>(mut self, end: usize, sink: &mut S) -> Result<(), JobFault>
-        ensures { (dpi : Dpi) (history : History) → Reflects dpi history self → EndDone S.takes dpi end history result sink.old sink.new }
+        ensures { (dpi : Dpi) (s : Situation) → IsIn dpi s self → EndDone S.takes dpi end s result sink.old sink.new }
     {
         if self.is_marked {
             if self.ejected >= PAGE_LIMIT {
-                return Err(JobFault::Refused(Refusal {
-                    kind: Kind::TooManyPages,
-                    at: end,
-                    name: Name::Empty,
-                }));
+                return Err(JobFault::Refused(Refusal::new(Kind::TooManyPages, end, Name::Empty)));
             }
-            self.eject(sink)?;
+            let copies = self.environment.copies();
+            self.eject(copies, sink)?;
         }
         Ok(())
-    }
-
-    /// Hands over the page, and begins a white one.
-    fn eject<S: PageSink>(&mut self, sink: &mut S) -> Result<(), AllocError>
-        requires { self.old.ejected < 256 }
-        ensures ok { OnOk result (IsEjected self.old self.new × S.takes sink.old self.old.page sink.new) }
-        ensures err { OnErr result (sink.new ≡ sink.old) }
-    {
-        sink.page(&self.page)?;
-        self.page.bitmap.clear();
-        self.is_marked = false;
-        self.ejected += 1;
-        Ok(())
-    }
-
-    /// Paints a raster row on the page, and marks it.
-    fn paint_row(&mut self, bytes: &[u8], dpi: Dpi)
-        ensures { IsPainted dpi bytes.now self.old self.new }
-    {
-        let raster = self.environment.raster(dpi);
-        let page_width = self.environment.size.width(dpi);
-        let left_over = page_width.saturating_sub(raster.left) as usize;
-        let width = left_over.min(bytes.len().saturating_mul(8)) as u32;
-        let top = u64::from(raster.top) + raster.rows;
-        self.page
-            .bitmap
-            .paint_row(raster.left, top, 1, width, bytes);
-        self.is_marked = true;
     }
 }
 
 ghost use Rattle.std.specs.Prelude.{◌≡◌};
-ghost use Rattle.pcl_page.specs.History.{operation_ejects, operation_marks};
+ghost use Rattle.pcl_page.specs.History.{ejects, rectangle_ink};
 
-/// Whether a command ejects the page, which is marked or not.
-fn ejects(operation: Operation, is_marked: bool) -> bool
-    ensures { result ≡ operation_ejects operation is_marked }
+/// Whether a page is ejected that is marked or not.
+fn ejects(effect: Effect, is_marked: bool) -> bool
+    ensures { result ≡ ejects effect is_marked }
 {
-    match operation {
-        Operation::FormFeed => true,
-        Operation::Reset | Operation::PageSize => is_marked,
-        _ => false,
+    match effect {
+        Effect::Stay => false,
+        Effect::Eject => true,
+        Effect::EjectMarked => is_marked,
     }
 }
 
-/// Whether a command marks the page.
-fn marks(operation: Operation) -> bool
-    ensures { result ≡ operation_marks operation }
+/// The ink of a rectangle: white where the value is 1.
+fn rectangle_ink(value: Value) -> Ink
+    ensures { result ≡ rectangle_ink value }
 {
-    operation == Operation::RasterRow
+    match value.whole().unsigned_abs() {
+        1 => Ink::White,
+        _ => Ink::Black,
+    }
 }

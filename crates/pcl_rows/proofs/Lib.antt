@@ -3,4 +3,5 @@ pub mod Beginnings
 pub mod Spellings
 pub mod Readings
 pub mod OneReading
+pub mod Decoded
 pub mod Examples

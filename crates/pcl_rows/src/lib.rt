@@ -8,7 +8,7 @@ mod laws;
 mod whole;
 
 pub use decoding::decode;
-pub use laws::data_makes_one_row;
+pub use laws::{data_makes_one_row, row_is_decoded};
 pub use whole::is_whole;
 
 #[cfg(test)]

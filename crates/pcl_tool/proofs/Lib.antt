@@ -1,9 +1,3 @@
 pub mod Writes
 pub mod Choices
 pub mod Texts
-pub mod Readings
-pub mod Sequences
-pub mod Following
-pub mod Dots
-pub mod Printing
-pub mod Jobs

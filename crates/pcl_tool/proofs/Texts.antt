@@ -6,9 +6,11 @@ use Rattle.pcl_page.specs.declared.page.Page.{Page}
 use Rattle.pcl_page.specs.History.{Sheet}
 use Rattle.pcl_page.specs.Performing.{Hands}
 use Rattle.pcl_page.specs.Jobs.{HasPages}
-use Rattle.pcl_writer.specs.PageText.{AppendsPage, frame_bytes}
-use Rattle.pcl_tool.specs.Minimizing.{PrintSheets, IsJobOf}
-use Rattle.pcl_tool.proofs.Jobs.{written_again}
+use Rattle.pcl_writer.specs.Tokens.{frame_bytes}
+use Rattle.pcl_writer.specs.PageText.{AppendsPage}
+use Rattle.pcl_meaning.specs.Alike.{PrintSheets}
+use Rattle.pcl_meaning.proofs.Jobs.{written_again}
+use Rattle.pcl_tool.specs.Minimizing.{IsJobOf}
 
 pub texts_gathered : (dpi : Dpi) (sheets : List Sheet) (old new : List ℕ) → Hands (λ (o : List ℕ) (page : Page) (n : List ℕ). AppendsPage page o n) dpi sheets old new
     → (texts : List ℕ) × PrintSheets dpi sheets texts × (new ≡ old ++ texts)

@@ -4,4 +4,3 @@ pub mod Image
 pub mod Choice
 pub mod Preview
 pub mod Minimizing
-pub mod PageTexts

@@ -1,36 +1,15 @@
 -- A job written again.
-use Rattle.std.specs.Prelude.{◌≡◌, ℕ, ◌+◌, ◌<◌, List, [], ◌∷◌, ◌++◌, length, Option, Result, Ok, Err}
+use Rattle.std.specs.Prelude.{◌≡◌, ℕ, ◌+◌, List, [], ◌++◌, length, Option, Result, Ok, Err}
 use Rattle.std.specs.Io.KnownBytes.{Consumes, Appends, IsAtEnd, Keeps}
 use Rattle.pcl_base.specs.declared.dpi.Dpi.{Dpi}
-use Rattle.pcl_page.specs.declared.page.Page.{Page}
-use Rattle.pcl_base.specs.Size.{page_width, page_height}
-use Rattle.pcl_page.specs.History.{Sheet, is_black}
-use Rattle.pcl_page.specs.Performing.{Shows}
+use Rattle.pcl_page.specs.History.{Sheet}
 use Rattle.pcl_page.specs.Jobs.{HasPages, IsRefusal}
-use Rattle.pcl_writer.specs.PageText.{IsWrittenPage, frame_bytes}
+use Rattle.pcl_writer.specs.Tokens.{frame_bytes}
+use Rattle.pcl_meaning.specs.Alike.{AllAlike, PrintSheets}
 use Rattle.pcl_tool.specs.declared.fault.Fault.{Fault}
 use Rattle.pcl_tool.specs.declared.fault.Fault.TheVariants.{Refused, Memory, ReadFault, TooLong, WriteFault, NoSuchPage}
 use Rattle.pcl_tool.specs.declared.minimizing.Output.{Output}
 use Rattle.pcl_tool.specs.Transfer.{GivesAtMost, AppendsFront}
-
--- two sheets of one size and with as many copies, of the same dots
-pub record AreAlike (dpi : Dpi) (one other : Sheet) : Type 0 where
-  pub size : one.size ≡ other.size
-  pub copies : one.copies ≡ other.copies
-  pub dots : (x y : ℕ) → x < page_width one.size dpi → y < page_height one.size dpi → is_black one.marks x y ≡ is_black other.marks x y
-
--- the same number of sheets, alike one by one
-abbrev pub AllAlike : Dpi → List Sheet → List Sheet → Type 0
-AllAlike dpi [] [] = Unit {0}
-AllAlike dpi [] (other ∷ others) = ⊥
-AllAlike dpi (sheet ∷ sheets) [] = ⊥
-AllAlike dpi (sheet ∷ sheets) (other ∷ others) = AreAlike dpi sheet other × AllAlike dpi sheets others
-
--- page texts, one for each sheet in order, each printing a page that shows it dot for dot
-abbrev pub PrintSheets : Dpi → List Sheet → List ℕ → Type 0
-PrintSheets dpi [] texts = texts ≡ []
-PrintSheets dpi (sheet ∷ sheets) texts =
-    (page : Page) × (text rest : List ℕ) × Shows dpi page sheet × IsWrittenPage page text × (texts ≡ text ++ rest) × PrintSheets dpi sheets rest
 
 -- A job text whose page texts print the pages of a job. It is accepted by the same rules, and its pages are the same.
 pub record IsJobOf (dpi : Dpi) (job output : List ℕ) : Type 0 where

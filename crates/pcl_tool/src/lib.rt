@@ -3,14 +3,12 @@
 
 mod fault;
 mod image;
-mod laws;
 mod minimizing;
 mod page_preview;
 mod reading;
 mod writing;
 
 pub use fault::Fault;
-pub use laws::page_texts_mean_their_pages;
 pub use minimizing::{INPUT_LIMIT, Output, filter, minimize};
 pub use page_preview::preview;
 pub use reading::read_all;

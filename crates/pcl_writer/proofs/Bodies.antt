@@ -1,5 +1,5 @@
 -- The body of a page, row after row.
-use Rattle.std.proofs.Common.{◌≡◌, ℕ, zero, suc, ◌+◌, ◌-◌, ◌*◌, ◌^◌, ◌<◌, ◌≤◌, true, false, List, [], ◌∷◌, ◌++◌, length, take, drop, replicate, refl, sym, ap, subst, ◌∙◌, append_assoc, ltb, arith, add-one, lit≤}
+use Rattle.std.proofs.Common.{◌≡◌, ℕ, Bool, length-take-le, length-drop, zero, suc, ◌+◌, ◌-◌, ◌*◌, ◌^◌, ◌<◌, ◌≤◌, true, false, List, [], ◌∷◌, ◌++◌, length, take, drop, replicate, refl, sym, ap, subst, ◌∙◌, append_assoc, ltb, arith, add-one, lit≤}
 use Rattle.std.proofs.Math.ListN.{drop_of_length-le}
 use Rattle.std.proofs.lemmas.Bool.Decides.{nat_tests}
 use Rattle.pcl_base.specs.declared.dpi.Dpi.{Dpi}
@@ -14,7 +14,12 @@ use Rattle.std.proofs.lemmas.List.Concat.{flat_map-append}
 use Rattle.pcl_base.specs.declared.method.Method.TheVariants.{Plain}
 use Rattle.pcl_rows.specs.Rows.{IsRowData, RowFrom}
 use Rattle.pcl_coders.specs.Coding.{IsLeastLength}
-use Rattle.pcl_writer.specs.PageText.{Token, send, token_bytes, IsWhite, AreWhite, PrintsRows, AreWithoutMethods, IsWithoutMethod, rows_from, row_tokens, skip_bytes}
+use Rattle.std.specs.Prelude.{not}
+use Rattle.pcl_base.specs.declared.method.Method.{Method}
+use Rattle.pcl_base.specs.Size.{page_width, page_height}
+use Rattle.pcl_bitmap.specs.Bitmap.{Picture, IsPicture}
+use Rattle.pcl_writer.specs.Tokens.{Token, opening, method, skip, command_count, send, token_bytes, IsWhite, AreWhite, PrintsRows}
+use Rattle.pcl_writer.specs.PageText.{IsRowOf, bitmap_rows, AreWithoutMethods, IsWithoutMethod, rows_from, row_tokens, skip_bytes}
 use Rattle.pcl_writer.proofs.Numbers.{decimal_spelled}
 
 -- ---- data of the plain method
@@ -235,3 +240,53 @@ end rows width old now y skipped at h = (
 pub page_joined : (old one two three start body tail : List ℕ) → one ≡ old ++ start → two ≡ one ++ body → three ≡ two ++ tail → three ≡ old ++ (start ++ body ++ tail)
 page_joined old one two three start body tail a b c =
     c ∙ ap (λ (t : List ℕ). t ++ tail) (b ∙ ap (λ (t : List ℕ). t ++ body) a) ∙ simp append_assoc
+
+-- ---- rows of bitmaps
+
+-- a row has its bytes
+row_room : (k n width : ℕ) (bytes : List ℕ) (height : ℕ) → length bytes ≡ height * width → k + suc n ≡ height → width ≤ length (drop (k * width) bytes)
+row_room k n width bytes height whole e =
+    let all : (k + suc n) * width ≡ k * width + (width + n * width) = grind arith in
+    let same : height * width ≡ (k + suc n) * width = ap (λ (m : ℕ). m * width) (sym e) in
+    omega (arith, length-drop (k * width) bytes, all, same)
+
+rows_from_are : (n k : ℕ) (picture : Picture) → IsPicture picture → k + n ≡ page_height picture.size picture.dpi
+    → AllByRecursion (IsRowOf picture.size picture.dpi)
+    (rows_from n (page_row_bytes picture.size picture.dpi) (drop (k * page_row_bytes picture.size picture.dpi) picture.bytes))
+unfolding rows_from
+rows_from_are zero k picture is e = tt
+rows_from_are (suc n) k picture is e =
+    let width = page_row_bytes picture.size picture.dpi in
+    let bytes = picture.bytes in
+    let next : drop width (drop (k * width) bytes) ≡ drop ((k + 1) * width) bytes =
+    drop-drop width (k * width) bytes ∙ (let place : k * width + width ≡ (k + 1) * width = grind arith in ap (λ (m : ℕ). drop m bytes) place) in
+    let room : width ≤ length (drop (k * width) bytes) = row_room k n width bytes (page_height picture.size picture.dpi) is.whole e in (
+      (length-take-le width (drop (k * width) bytes) room, λ x past. is.clear_pads x k past),
+      subst (λ (rest : List ℕ). AllByRecursion (IsRowOf picture.size picture.dpi) (rows_from n width rest)) (sym next) (rows_from_are n (k + 1) picture is (omega arith)),
+    )
+
+-- the rows of a bitmap are rows of its size
+pub bitmap_rows_are : (picture : Picture) → IsPicture picture → AllByRecursion (IsRowOf picture.size picture.dpi) (bitmap_rows picture)
+bitmap_rows_are picture is =
+    let width = page_row_bytes picture.size picture.dpi in
+    let none : 0 * width ≡ 0 = omega arith in
+    subst (λ (bytes : List ℕ). AllByRecursion (IsRowOf picture.size picture.dpi) (rows_from (page_height picture.size picture.dpi) width bytes))
+    (ap (λ (m : ℕ). drop m picture.bytes) none) (rows_from_are (page_height picture.size picture.dpi) 0 picture is (omega arith))
+
+-- each command of a body that sets no method stands for a row at least
+pub few_commands : (inside : Bool) (current : Method) (seed : List ℕ) (tokens : List Token) (rows : List (List ℕ)) → PrintsRows inside current seed tokens rows
+    → AreWithoutMethods tokens → command_count tokens ≤ length rows
+unfolding PrintsRows
+few_commands false current seed [] rows p w = omega arith
+few_commands true current seed [] rows p w = absurd p
+few_commands false current seed (opening ∷ tokens) rows p w =
+    let more = few_commands true current seed tokens rows p w.1 in omega (arith, more)
+few_commands true current seed (opening ∷ tokens) rows p w = absurd p
+few_commands inside current seed (method digits next ends ∷ tokens) rows p w = absurd w.0
+few_commands false current seed (skip digits count ends ∷ tokens) rows p w = absurd p
+few_commands true current seed (skip digits count ends ∷ tokens) rows p w =
+    let below = few_commands (not ends) current (replicate (length seed) 0) tokens (drop count rows) p.4 w.1 in
+    omega (arith, below, p.1, p.2, length-drop count rows)
+few_commands false current seed (send digits bytes ∷ tokens) rows p w = absurd p
+few_commands true current seed (send digits bytes ∷ tokens) [] p w = absurd p
+few_commands true current seed (send digits bytes ∷ tokens) (row ∷ rest) p w = let below = few_commands false current row tokens rest p.2 w.1 in omega (arith, below)

@@ -2,21 +2,21 @@
 
 ghost use Rattle.std.specs.Prelude.{◌≡◌, ◌++◌, ◌<◌, ◌≤◌, length, take, if◌then◌else◌, is_ok, OnOk};
 ghost use Rattle.pcl_base.specs.Size.{page_height, page_row_bytes};
+ghost use Rattle.pcl_bitmap.specs.Bitmap.{IsPicture};
 ghost use Rattle.pcl_coders.specs.Coding.{IsCodable};
 ghost use Rattle.pcl_writer.specs.PageText.{AppendsBody, AppendsRow, row_above, skip_bytes};
 
 use crate::number::append_number;
+use pcl_base::ROW_LIMIT;
 use pcl_bitmap::Bitmap;
 use pcl_coders::{Plain, RowCoder};
 use std::alloc::AllocError;
-
-/// The most bytes of a row.
-const ROW_LIMIT: usize = 600;
 
 /// Appends the body of a page: for each row that isn't white, the count of white rows before it where
 /// there are any, and the row. Where memory runs out a front of it is appended.
 pub fn append_body(bitmap: &Bitmap, out: &mut Vec<u8>) -> Result<(), AllocError>
     ensures ok { OnOk result (AppendsBody bitmap.now out.old.items out.new.items) }
+    ensures picture { IsPicture bitmap.now }
     ensures front { take (length out.old.items) out.new.items ≡ out.old.items }
 {
     let zeros = [0; ROW_LIMIT];

@@ -1,7 +1,8 @@
 //! Page texts, and what stands around them.
 
 ghost use Rattle.std.specs.Prelude.{◌≡◌, ◌++◌, length, take, if◌then◌else◌, is_ok, OnOk, OnErr};
-ghost use Rattle.pcl_writer.specs.PageText.{start_bytes, end_bytes, frame_bytes, AppendsPage};
+ghost use Rattle.pcl_writer.specs.Tokens.{start_bytes, end_bytes, frame_bytes};
+ghost use Rattle.pcl_writer.specs.PageText.{AppendsPage};
 
 use crate::body::append_body;
 use crate::number::append_number;
@@ -36,7 +37,7 @@ fn append_page(page: &Page, out: &mut Vec<u8>) -> Result<(), AllocError>
     ensures ok { OnOk result (AppendsPage page.now out.old.items out.new.items) }
     ensures front { take (length out.old.items) out.new.items ≡ out.old.items }
 {
-    append_start(page.copies, page.bitmap.size(), page.bitmap.dpi(), out)?;
+    append_start(page.copies, page.size, page.dpi, out)?;
     append_body(&page.bitmap, out)?;
     out.extend_from_slice(b"\x1b*rC\x0c")?;
     Ok(())

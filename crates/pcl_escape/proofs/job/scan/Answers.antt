@@ -7,30 +7,39 @@ use Rattle.pcl_escape.proofs.job.scan.Goals.{After-read_step, then-not-is_empty,
 
 -- what the loop's test says
 more_to_read : (c : After-read_step) → GoesOn c.loop-inside.inside c.loop-inside.rest.now
-more_to_read c = elim c.if-not-is_empty.branch [ then-not-is_empty w ↦ goes_on_bytes _ _ w.if-not-is_empty.ensures | else-not-is_empty+then-is_some w ↦ goes_on_inside _ _ w.if-is_some.ensures ]
+more_to_read c = elim c.if-not-is_empty.branch [
+  | then-not-is_empty w ↦ goes_on_bytes _ _ w.if-not-is_empty.ensures
+  | else-not-is_empty+then-is_some w ↦ goes_on_inside _ _
+      w.if-is_some.ensures
+]
 
 pub returns-in-Err : goal.returns-in-Err
 returns-in-Err c =
     let goes = more_to_read (goal.at.returns-in-Err c).After-read_step in
-    sym c.loop-inside.invariant.same ∙ stops_at (views c.loop-inside.commands.items) (length c.args.job.now) c.loop-inside.inside c.loop-inside.rest.now c.in-Err.refusal goes c.in-Err.ensures
+    sym c.loop-inside.invariant.same ∙ stops_at (views c.loop-inside.commands.items)
+    (length c.args.job.now) c.loop-inside.inside c.loop-inside.rest.now c.in-Err.refusal goes c.in-Err.ensures
 
 pub loop-inside-smaller : goal.loop-inside-smaller
 loop-inside-smaller c =
     let goes = more_to_read (goal.at.loop-inside-smaller c).After-read_step in
-    step_shorter c.loop-inside.inside (length c.args.job.now - length c.loop-inside.rest.now) c.loop-inside.rest.now (step_view c.in-Ok.step) goes c.in-Ok.ensures
+    step_shorter c.loop-inside.inside (length c.args.job.now - length c.loop-inside.rest.now) c.loop-inside.rest.now
+    (step_view c.in-Ok.step) goes c.in-Ok.ensures
 
 pub loop-inside-preserved : goal.loop-inside-preserved
 loop-inside-preserved c =
     let goes = more_to_read (goal.at.loop-inside-preserved c).After-read_step in
     let total = length c.args.job.now in
-    let shorter = step_shorter c.loop-inside.inside (total - length c.loop-inside.rest.now) c.loop-inside.rest.now (step_view c.in-Ok.step) goes c.in-Ok.ensures in
+    let shorter = step_shorter c.loop-inside.inside (total - length c.loop-inside.rest.now) c.loop-inside.rest.now
+    (step_view c.in-Ok.step) goes c.in-Ok.ensures in
     let within = c.loop-inside.invariant.within in
     record {
       within = omega arith;
       same = ap (λ front. so_far front total c.in-Ok.step.inside c.in-Ok.step.rest.now) c.in_ok-append.ensures
-          ∙ one_more (views c.loop-inside.commands.items) total c.loop-inside.inside c.loop-inside.rest.now (step_view c.in-Ok.step) within goes c.in-Ok.ensures
+          ∙ one_more (views c.loop-inside.commands.items) total c.loop-inside.inside c.loop-inside.rest.now
+          (step_view c.in-Ok.step) within goes c.in-Ok.ensures
           ∙ c.loop-inside.invariant.same;
     }
 
 pub returns : goal.returns
-returns c = sym c.loop-inside.invariant.same ∙ is_done (views c.loop-inside.commands.items) (length c.args.job.now) c.loop-inside.inside c.loop-inside.rest.now c.if-not-is_empty.ensures c.if-is_some.ensures
+returns c = sym c.loop-inside.invariant.same ∙ is_done (views c.loop-inside.commands.items)
+    (length c.args.job.now) c.loop-inside.inside c.loop-inside.rest.now c.if-not-is_empty.ensures c.if-is_some.ensures

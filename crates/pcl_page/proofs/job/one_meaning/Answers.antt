@@ -2,13 +2,13 @@ use Rattle.std.proofs.Common.{◌≡◌, ◌∙◌, List, ℕ, Some, sym, ap, in
 use Rattle.pcl_base.specs.declared.dpi.Dpi.{Dpi}
 use Rattle.pcl_base.specs.declared.refusal.Refusal.{Refusal}
 use Rattle.pcl_escape.specs.Said.{Said}
-use Rattle.pcl_page.specs.History.{sheets}
+use Rattle.pcl_page.specs.Performing.{pages_of}
 use Rattle.pcl_page.specs.Jobs.{IsStopped, performance_of}
 use Rattle.pcl_page.proofs.job.one_meaning.Goals as goal
 
 pub returns-clause-pages : goal.returns-clause-pages
 returns-clause-pages c = λ dpi job pages others p q.
-    p.ejected ∙ ap (λ (commands : List Said). sheets dpi (performance_of dpi job commands).history) (c.one_outcome.ensures.reading job p.commands q.commands p.reading q.reading) ∙ sym q.ejected
+    p.ejected ∙ ap (λ (commands : List Said). pages_of dpi (performance_of dpi job commands)) (c.one_outcome.ensures.reading job p.commands q.commands p.reading q.reading) ∙ sym q.ejected
 
 same_stop : (dpi : Dpi) (job : List ℕ) (refusal other : Refusal) (p : IsStopped dpi job refusal) (q : IsStopped dpi job other) → p.commands ≡ q.commands → refusal ≡ other
 same_stop dpi job refusal other p q e =

@@ -5,7 +5,7 @@ use Rattle.pcl_base.specs.declared.dpi.Dpi.{Dpi}
 use Rattle.pcl_base.specs.declared.size.Size.{Size}
 use Rattle.pcl_base.specs.Size.{page_height, page_row_bytes}
 use Rattle.pcl_bitmap.specs.Bitmap.{row_of}
-use Rattle.pcl_writer.specs.PageText.{rows_of}
+use Rattle.pcl_writer.specs.PageText.{bitmap_rows}
 use Rattle.pcl_writer.proofs.Bodies.{begin, white_row, sent_row, end, rows_at, no_rows, row_small, front_is}
 use Rattle.pcl_writer.proofs.body.append_body.Goals as goal
 use Rattle.pcl_writer.proofs.body.append_body.Goals.{then-is_blank, else-is_blank+in_ok-append_row}
@@ -17,7 +17,7 @@ pub loop-y-init : goal.loop-y-init
 loop-y-init c = record {
   few = omega arith;
   front = front_is c.args.out.now.items c.args.out.now.items [] (sym (append-nil c.args.out.now.items));
-  written = begin (rows_of c.args.bitmap.now) (page_row_bytes c.args.bitmap.now.size c.args.bitmap.now.dpi) c.args.out.now.items;
+  written = begin (bitmap_rows c.args.bitmap.now) (page_row_bytes c.args.bitmap.now.size c.args.bitmap.now.dpi) c.args.out.now.items;
 }
 
 pub append_row-requires : goal.append_row-requires
@@ -29,7 +29,7 @@ append_row-requires c = record {
 pub loop-y-preserved : goal.loop-y-preserved
 loop-y-preserved c =
     let picture = c.args.bitmap.now in
-    let rows = rows_of picture in
+    let rows = bitmap_rows picture in
     let width = page_row_bytes picture.size picture.dpi in
     let old = c.args.out.now.items in
     let y = c.loop-y.y in
@@ -62,4 +62,4 @@ returns-clause-ok c =
     let width = page_row_bytes picture.size picture.dpi in
     let height = height_is c.height-y-end.result c.size.result picture.size c.dpi.result picture.dpi c.height-y-end.ensures c.size.ensures.value c.dpi.ensures.value in
     let past : page_height picture.size picture.dpi ≤ c.loop-y.y = subst (λ (n : ℕ). n ≤ c.loop-y.y) height c.loop-y-test.false in
-    end (rows_of picture) width c.args.out.now.items c.loop-y.out.items c.loop-y.y c.loop-y.skipped (no_rows c.loop-y.y (page_height picture.size picture.dpi) width picture.bytes past) c.loop-y.invariant.written
+    end (bitmap_rows picture) width c.args.out.now.items c.loop-y.out.items c.loop-y.y c.loop-y.skipped (no_rows c.loop-y.y (page_height picture.size picture.dpi) width picture.bytes past) c.loop-y.invariant.written

@@ -1,21 +1,39 @@
-use Rattle.std.proofs.Common.{◌≡◌, ◌++◌, ◌∙◌, ℕ, List, ap, refl}
-use Rattle.std.specs.List.{flat_map}
+use Rattle.std.proofs.Common.{◌≡◌, ◌++◌, ◌*◌, ◌≤◌, ◌∙◌, ℕ, List, length, replicate, refl, sym, ap, subst, arith}
+use Rattle.std.specs.List.{flat_map, AllByRecursion}
 use Rattle.pcl_base.specs.declared.dpi.Dpi.{Dpi}
 use Rattle.pcl_base.specs.declared.size.Size.{Size}
-use Rattle.pcl_writer.specs.PageText.{start_bytes, end_bytes, token_bytes}
-use Rattle.pcl_writer.proofs.Bodies.{page_joined}
+use Rattle.pcl_base.specs.Size.{page_height, page_row_bytes}
+use Rattle.pcl_page.specs.declared.page.Page.{Page}
+use Rattle.pcl_writer.specs.Tokens.{Token, start_bytes, end_bytes, token_bytes, command_count}
+use Rattle.pcl_writer.specs.PageText.{IsRowOf, PrintsAll, PrintsPage, IsPageText, bitmap_rows}
+use Rattle.pcl_writer.proofs.Bodies.{page_joined, length_rows, bitmap_rows_are, few_commands}
 use Rattle.pcl_writer.proofs.text.append_page.Goals as goal
 
-start_is : (old new : List ℕ) (copies : ℕ) (dpi same_dpi : Dpi) (size same_size : Size) → new ≡ old ++ start_bytes dpi copies size → dpi ≡ same_dpi → size ≡ same_size → new ≡ old ++ start_bytes same_dpi copies same_size
-start_is old new copies dpi same_dpi size same_size e d s = e ∙ ap (λ (x : Dpi). old ++ start_bytes x copies size) d ∙ ap (λ (z : Size). old ++ start_bytes same_dpi copies z) s
+-- of the bitmap's size and resolution, and so of the page's
+as_page : (page : Page) (P : Size → Dpi → Type 0) → P page.bitmap.size page.bitmap.dpi → P page.size page.dpi
+as_page page P p = subst (λ (d : Dpi). P page.size d) page.dpi_is (subst (λ (z : Size). P z page.bitmap.dpi) page.size_is p)
 
 pub returns-clause-ok : goal.returns-clause-ok
 returns-clause-ok c =
     let page = c.args.page.now in
     let old = c.args.out.now.items in
+    let rows = bitmap_rows page.bitmap in
     let body = c.in_ok-append_body.ensures.ok in
-    let start = start_is old c.append_start.new.out.items page.copies c.dpi.result page.bitmap.dpi c.size.result page.bitmap.size c.in_ok-append_start.ensures.ok c.dpi.ensures.value c.size.ensures.value in (
-      start_bytes page.bitmap.dpi page.copies page.bitmap.size ++ flat_map token_bytes body.0 ++ end_bytes,
-      page_joined old c.append_start.new.out.items c.append_body.new.out.items c.extend_from_slice.new.self.items _ _ _ start body.1 c.in_ok-extend_from_slice.ensures.items,
-      (record { tokens = body.0; spelled = refl; prints = body.2 }, body.3),
+    let picture = c.in_ok-append_body.ensures.picture in
+    let count : length rows ≡ page_height page.size page.dpi =
+    as_page page (λ (z : Size) (d : Dpi). length rows ≡ page_height z d) (length_rows (page_height page.bitmap.size page.bitmap.dpi) (page_row_bytes page.bitmap.size page.bitmap.dpi) page.bitmap.bytes) in
+    let prints : PrintsAll page.size page.dpi body.0 rows = as_page page (λ (z : Size) (d : Dpi). PrintsAll z d body.0 rows) body.2 in
+    let text = start_bytes page.dpi page.copies page.size ++ flat_map token_bytes body.0 ++ end_bytes in
+    let printed : PrintsPage page text = record {
+      some_copies = page.copies_in_range.0;
+      few_copies = omega (arith, page.copies_in_range.1);
+      count = count;
+      rows_are = as_page page (λ (z : Size) (d : Dpi). AllByRecursion (IsRowOf z d) rows) (bitmap_rows_are page.bitmap picture);
+      tokens = body.0;
+      spelled = refl;
+      prints = prints;
+    } in (
+      text,
+      page_joined old c.append_start.new.out.items c.append_body.new.out.items c.extend_from_slice.new.self.items _ _ _ c.in_ok-append_start.ensures.ok body.1 c.in_ok-extend_from_slice.ensures.items,
+      (printed, omega (arith, count, few_commands _ _ _ body.0 rows prints body.3)),
     )

@@ -1,31 +1,42 @@
-use Rattle.std.proofs.Common.{◌≡◌, ℕ, List, sym, ap, ◌∙◌, subst, arith}
+use Rattle.std.proofs.Common.{◌≡◌, ℕ, ◌-◌, ◌*◌, ◌/◌, ◌||◌, List, length, sym, ap, ◌∙◌, subst, arith}
 use Rattle.std.proofs.lemmas.List.{with_items_is}
+use Rattle.std.proofs.lemmas.Nat.{mul-le}
 use Rattle.std.specs.Vec.{with_items}
-use Rattle.pcl_bitmap.specs.Bitmap.{IsPicture, dot}
-use Rattle.pcl_bitmap.proofs.Pictures.{picture_of, IsPainted, painted, painted_dots, painted_picture}
+use Rattle.pcl_base.specs.Size.{page_width, page_height}
+use Rattle.pcl_bitmap.specs.Bitmap.{IsPicture, dot, dot_of_row}
+use Rattle.pcl_bitmap.proofs.Pictures.{picture_of}
+use Rattle.pcl_bitmap.proofs.Inked.{IsFilled, filled, filled_picture, filled_dots}
+use Rattle.pcl_bitmap.proofs.Spread.{squares_dot}
 use Rattle.pcl_bitmap.proofs.bitmap.Bitmap.paint_row.Goals as goal
 
--- the bytes after the run
-kept : (c : goal.After-self-1) → (with_items c.self.inside.bytes c.or_bits.new.target).items ≡ c.or_bits.new.target
-kept c = with_items_is c.self.inside.bytes c.or_bits.new.target (omega arith)
+-- the bytes after the row
+kept : (c : goal.After-self-1) → (with_items c.self.inside.bytes c.paint_squares.new.page).items ≡ c.paint_squares.new.page
+kept c = with_items_is c.self.inside.bytes c.paint_squares.new.page (omega arith)
 
 row_painted :
     (c : goal.After-self-1)
     → let a = c.self.inside in
-    IsPainted a.size a.dpi a.bytes.items c.or_bits.new.target c.args.row.now c.args.x c.args.y c.args.width
+    IsFilled a.size a.dpi a.bytes.items c.paint_squares.new.page c.args.x c.args.y c.min.result c.min-2.result
+    (λ px before. dot_of_row c.args.row.now ((px - c.args.x) / c.args.scale) || before)
 row_painted c =
-    painted _ _ c.self.inside.bytes.items c.deref_mut.result.now c.or_bits.new.target c.args.row.now
-    c.args.x c.args.y c.args.width c.row_bytes.result c.width-page_width.result c.min-count.result
-    c.deref_mut.ensures.value c.or_bits.auto.target c.or_bits.ensures.in_bytes (omega arith)
-    c.row_bytes.ensures c.width-page_width.ensures c.min-count.ensures c.or_bits.ensures.bits
+    filled _ _ c.self.inside.bytes.items c.deref_mut.result.now c.paint_squares.new.page c.args.x c.args.y c.min.result c.min-2.result
+    c.row_bytes-row_bytes.result (λ px before. dot_of_row c.args.row.now ((px - c.args.x) / c.args.scale) || before)
+    c.deref_mut.ensures.value c.paint_squares.auto.page c.paint_squares.ensures.in_bytes
+    (omega arith) c.row_bytes-row_bytes.ensures c.paint_squares.ensures.dots
+
+pub paint_squares-requires-clause-bits : goal.paint_squares-requires-clause-bits
+paint_squares-requires-clause-bits c =
+    let product : c.from.result * c.from-2.result ≡ c.args.width * c.args.scale =
+    ap (λ n. n * c.from-2.result) c.from.ensures ∙ ap (λ n. c.args.width * n) c.from-2.ensures in
+    omega (arith, mul-le c.args.width c.args.scale (8 * length c.args.row.now) c.args.scale c.requires.bits (omega arith))
 
 pub invariant_of-self : goal.invariant_of-self
 invariant_of-self c =
     let a = c.self.inside in
     let P : List ℕ → Type 0 = λ bs. IsPicture (picture_of a.size a.dpi bs) in
     subst P (sym (kept c))
-    (painted_picture a.size a.dpi a.bytes.items c.or_bits.new.target c.args.row.now c.args.x c.args.y c.args.width
-    c.self.invariant (row_painted c))
+    (filled_picture a.size a.dpi a.bytes.items c.paint_squares.new.page c.args.x c.args.y c.min.result c.min-2.result
+    (λ px before. dot_of_row c.args.row.now ((px - c.args.x) / c.args.scale) || before) c.self.invariant (row_painted c))
 
 pub returns-clause-picture : goal.returns-clause-picture
 returns-clause-picture c = invariant_of-self c
@@ -34,7 +45,12 @@ pub returns-clause-dots : goal.returns-clause-dots
 returns-clause-dots c =
     let a = c.self.inside in
     let args = c.args in
-    rw (← c.self.view_is) (λ px py in_row _.
+    let product : c.from.result * c.from-2.result ≡ args.width * args.scale =
+    ap (λ n. n * c.from-2.result) c.from.ensures ∙ ap (λ n. args.width * n) c.from-2.ensures in
+    rw (← c.self.view_is) (λ px py in_row on_page.
     ap (λ (t : List ℕ). dot (picture_of a.size a.dpi t) px py) (kept c)
-    ∙ painted_dots a.size a.dpi a.bytes.items c.or_bits.new.target args.row.now args.x args.y args.scale args.width
-    (row_painted c) c.requires.one px py in_row)
+    ∙ filled_dots a.size a.dpi a.bytes.items c.paint_squares.new.page args.x args.y c.min.result c.min-2.result
+    (λ px before. dot_of_row args.row.now ((px - args.x) / args.scale) || before) (row_painted c) px py in_row
+    ∙ squares_dot (page_width a.size a.dpi) (page_height a.size a.dpi) args.x args.y c.min.result c.min-2.result args.scale args.width px py
+    args.row.now (dot (picture_of a.size a.dpi a.bytes.items) px py) (omega arith) (omega arith) (omega arith) (omega arith) (omega arith)
+    in_row on_page)

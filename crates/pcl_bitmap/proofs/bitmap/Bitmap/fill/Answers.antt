@@ -1,0 +1,41 @@
+use Rattle.std.proofs.Common.{◌≡◌, ℕ, List, sym, ap, ◌∙◌, subst, arith}
+use Rattle.std.proofs.lemmas.List.{with_items_is}
+use Rattle.std.specs.Vec.{with_items}
+use Rattle.pcl_bitmap.specs.Bitmap.{IsPicture, dot}
+use Rattle.pcl_bitmap.specs.Dots.{is_black_ink}
+use Rattle.pcl_bitmap.proofs.Pictures.{picture_of}
+use Rattle.pcl_bitmap.proofs.Inked.{IsFilled, filled, filled_picture, one_ink}
+use Rattle.pcl_bitmap.proofs.bitmap.Bitmap.fill.Goals as goal
+
+-- the bytes after the rectangle
+kept : (c : goal.After-self-1) → (with_items c.self.inside.bytes c.fill_rows.new.page).items ≡ c.fill_rows.new.page
+kept c = with_items_is c.self.inside.bytes c.fill_rows.new.page (omega arith)
+
+page_filled :
+    (c : goal.After-self-1)
+    → let a = c.self.inside in
+    IsFilled a.size a.dpi a.bytes.items c.fill_rows.new.page c.args.x c.args.y c.min.result c.min-2.result (λ _ _. is_black_ink c.args.ink)
+page_filled c =
+    filled _ _ c.self.inside.bytes.items c.deref_mut.result.now c.fill_rows.new.page c.args.x c.args.y c.min.result c.min-2.result
+    c.row_bytes-row_bytes.result (λ _ _. is_black_ink c.args.ink) c.deref_mut.ensures.value c.fill_rows.auto.page c.fill_rows.ensures.in_bytes
+    (omega arith) c.row_bytes-row_bytes.ensures c.fill_rows.ensures.dots
+
+pub invariant_of-self : goal.invariant_of-self
+invariant_of-self c =
+    let a = c.self.inside in
+    let P : List ℕ → Type 0 = λ bs. IsPicture (picture_of a.size a.dpi bs) in
+    subst P (sym (kept c))
+    (filled_picture a.size a.dpi a.bytes.items c.fill_rows.new.page c.args.x c.args.y c.min.result c.min-2.result
+    (λ _ _. is_black_ink c.args.ink) c.self.invariant (page_filled c))
+
+pub returns-clause-picture : goal.returns-clause-picture
+returns-clause-picture c = invariant_of-self c
+
+pub returns-clause-dots : goal.returns-clause-dots
+returns-clause-dots c =
+    let a = c.self.inside in
+    let args = c.args in
+    rw (← c.self.view_is) (λ px py in_row on_page.
+    ap (λ (t : List ℕ). dot (picture_of a.size a.dpi t) px py) (kept c)
+    ∙ one_ink a.size a.dpi a.bytes.items c.fill_rows.new.page args.x args.y c.min.result c.min-2.result args.w args.h
+    (is_black_ink args.ink) (page_filled c) (omega arith) (omega arith) (omega arith) (omega arith) px py in_row on_page)

@@ -1,0 +1,20 @@
+use Rattle.std.proofs.Common.{◌*◌, ◌+◌, ◌-◌, ◌||◌, ◌∙◌, arith}
+use Rattle.pcl_bitmap.specs.Bitmap.{dot_of_row}
+use Rattle.pcl_bitmap.proofs.Inked.{row_added}
+use Rattle.pcl_bitmap.proofs.Spread.{run_or}
+use Rattle.pcl_bitmap.proofs.squares.or_rows.Goals as goal
+
+pub loop-row-preserved : goal.loop-row-preserved
+loop-row-preserved c = record {
+  so_far = λ px py within.
+      let a = c.args in
+      let row = c.loop-row.row in
+      let source = a.source.now in
+      let k = 8 * (py * a.row_bytes) + px in
+      let here = dot_of_row c.loop-row.page k in
+      row_added a.row_bytes a.area.x a.area.y a.area.width row px py (λ d. dot_of_row source (px - a.area.x) || d)
+      (dot_of_row a.page.now k) here (dot_of_row c.or_bits.new.target k)
+      c.requires.wide within (omega arith) (c.loop-row.invariant.so_far px py within)
+      (c.or_bits.ensures.bits k ∙ run_or source a.row_bytes a.area.x a.area.width row px py here c.requires.wide within);
+  in_bytes = c.or_bits.ensures.in_bytes;
+}

@@ -1,0 +1,86 @@
+//! Resets, page sizes and copies.
+
+ghost use Rattle.std.specs.Prelude.{◌≡◌, false};
+ghost use Rattle.pcl_base.specs.Value.{zero_value};
+ghost use Rattle.pcl_base.specs.declared.operation.Operation.TheVariants.{Reset, UniversalExit, PageSize, Copies, FormFeed, EjectMarked};
+ghost use Rattle.pcl_env.specs.Settings.{to_first_line, with_size};
+ghost use Rattle.pcl_base.specs.declared.dpi.Dpi.TheVariants.{Dpi300};
+ghost use Rattle.pcl_env.specs.Outcome.{outcome, Answers};
+
+use super::{Env, MARGIN};
+use crate::stack::Position;
+use crate::{Effect, Unsupported};
+use pcl_base::{Size, Value};
+
+/// The whole part of a universal exit.
+const EXIT: i32 = -12_345;
+
+impl Env {
+    /// Sets what a job begins with (PCL 5 manual, "Printer Reset").
+    #[tactic(auto, unfolding(crate::specs::Outcome::outcome))]
+    pub fn reset(&mut self) -> Result<Effect, Unsupported>
+        ensures { Answers (outcome Dpi300 Reset zero_value false self.old) result self.old self.new }
+    {
+        *self = Env::new();
+        Ok(Effect::EjectMarked)
+    }
+
+    /// Sets what a job begins with, where the value is -12345 ("Universal Exit Language").
+    #[tactic(auto, unfolding(crate::specs::Outcome::outcome))]
+    pub fn universal_exit(&mut self, value: Value) -> Result<Effect, Unsupported>
+        ensures { Answers (outcome Dpi300 UniversalExit value false self.old) result self.old self.new }
+    {
+        if value.whole() == EXIT {
+            self.reset()
+        } else {
+            Err(Unsupported)
+        }
+    }
+
+    /// Sets the page size by its number, and with it the margins and the cursor ("Page Size").
+    #[tactic(auto, unfolding(crate::specs::Outcome::outcome))]
+    pub fn set_page_size(&mut self, value: Value) -> Result<Effect, Unsupported>
+        ensures { Answers (outcome Dpi300 PageSize value false self.old) result self.old self.new }
+    {
+        match value.count().and_then(Size::from_code) {
+            Some(size) => {
+                self.set_size(size);
+                Ok(Effect::EjectMarked)
+            }
+            None => Err(Unsupported),
+        }
+    }
+
+    /// Sets the copies of each page ("Number of Copies").
+    #[tactic(auto, unfolding(crate::specs::Outcome::outcome))]
+    pub fn set_copies(&mut self, value: Value) -> Result<Effect, Unsupported>
+        ensures { Answers (outcome Dpi300 Copies value false self.old) result self.old self.new }
+    {
+        match value.count() {
+            Some(copies @ 1..=99) => {
+                self.setup.copies = copies as u8;
+                Ok(Effect::Stay)
+            }
+            _ => Err(Unsupported),
+        }
+    }
+
+    /// Puts the cursor on the first line, as each eject does. It keeps its place along the line.
+    pub fn new_page(&mut self)
+        ensures { self.new ≡ to_first_line self.old }
+    {
+        let first_line = self.first_line();
+        self.put_y(first_line);
+    }
+
+    fn set_size(&mut self, size: Size)
+        ensures { self.new ≡ with_size size self.old }
+    {
+        self.size = size;
+        self.cursor = Position { x: 0, y: 0 };
+        self.setup.top = MARGIN;
+        self.setup.bottom = size.units_high() - MARGIN;
+        self.setup.left = 0;
+        self.new_page();
+    }
+}

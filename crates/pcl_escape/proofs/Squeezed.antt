@@ -1,0 +1,95 @@
+-- The front of what a line says tells what it asks for.
+use Rattle.std.proofs.Common.{◌≡◌, ℕ, zero, suc, ◌<◌, ◌≤◌, ◌==◌, Bool, true, false, ◌&&◌, not, nat_eq, List, [], ◌∷◌, ◌++◌, length, take, refl, sym, ap, ◌∙◌, append-nil, eqb-true, arith}
+use Rattle.std.specs.Prelude.{codes, map, filter}
+use Rattle.std.specs.List.{starts_with}
+use Rattle.std.specs.Char.{to_ascii_uppercase}
+use Rattle.std.specs.Str.{bytes_eq}
+use Rattle.std.proofs.lemmas.List.{map-append}
+use Rattle.std.proofs.lemmas.List.Elements.{filter-append}
+use Rattle.std.proofs.lemmas.Bool.Decides.{nat_tests}
+use Rattle.pcl_escape.specs.Exit.{is_blank, squeezed, names_language, names_pcl}
+
+-- a byte behind the line says what it says alone
+squeezed_more : (line : List ℕ) (byte : ℕ) → squeezed (line ++ byte ∷ []) ≡ squeezed line ++ squeezed (byte ∷ [])
+squeezed_more line byte =
+    ap (map to_ascii_uppercase) (filter-append (λ (byte : ℕ). not (is_blank byte)) line (byte ∷ []))
+    ∙ map-append to_ascii_uppercase (filter (λ (byte : ℕ). not (is_blank byte)) line)
+    (filter (λ (byte : ℕ). not (is_blank byte)) (byte ∷ []))
+
+-- a front that has all its bytes stays
+full_front : (n : ℕ) (said : List ℕ) (byte : ℕ) → length (take n said) ≡ n → take n said ≡ take n (said ++ byte ∷ [])
+full_front zero said byte e = refl
+full_front (suc n) [] byte e = absurd (omega arith)
+full_front (suc n) (first ∷ said) byte e = ap (λ (bs : List ℕ). first ∷ bs) (full_front n said byte (omega arith))
+
+-- one that lacks bytes takes one more
+longer_front : (n : ℕ) (said : List ℕ) (byte : ℕ) → length (take n said) < n → take n said ++ byte ∷ [] ≡ take n (said ++ byte ∷ [])
+longer_front zero said byte h = absurd (omega arith)
+longer_front (suc zero) [] byte h = refl
+longer_front (suc (suc n)) [] byte h = refl
+longer_front (suc n) (first ∷ said) byte h = ap (λ (bs : List ℕ). first ∷ bs) (longer_front n said byte (omega arith))
+
+-- ---- one byte more of the line
+
+pub blank_step : (front line : List ℕ) (byte : ℕ) → front ≡ take 22 (squeezed line) → true ≡ is_blank byte
+    → front ≡ take 22 (squeezed (line ++ byte ∷ []))
+blank_step front line byte so_far e = so_far ∙ ap (take 22) (sym (squeezed_more line byte ∙ rw (sym e) (append-nil (squeezed line))))
+
+-- a byte that says something, in upper case
+squeezed_other : (line : List ℕ) (byte : ℕ) → false ≡ is_blank byte
+    → squeezed (line ++ byte ∷ []) ≡ squeezed line ++ to_ascii_uppercase byte ∷ []
+squeezed_other line byte e = squeezed_more line byte ∙ rw (sym e) refl
+
+pub full_step : (front line : List ℕ) (byte : ℕ) → front ≡ take 22 (squeezed line) → false ≡ is_blank byte → true ≡ (length front == 22)
+    → front ≡ take 22 (squeezed (line ++ byte ∷ []))
+full_step front line byte so_far e full =
+    let long : length (take 22 (squeezed line)) ≡ 22 = ap length (sym so_far) ∙ eqb-true (length front) 22 (sym full) in
+    so_far ∙ full_front 22 (squeezed line) (to_ascii_uppercase byte) long ∙ ap (take 22) (sym (squeezed_other line byte e))
+
+-- a front that isn't full has room
+has_room : (n m : ℕ) → false ≡ (n == m) → n ≤ m → n < m
+has_room n m e h = grind (arith, nat_tests)
+
+pub push_step : (front line : List ℕ) (byte : ℕ) → front ≡ take 22 (squeezed line) → false ≡ is_blank byte → false ≡ (length front == 22)
+    → length front ≤ 22 → front ++ to_ascii_uppercase byte ∷ [] ≡ take 22 (squeezed (line ++ byte ∷ []))
+push_step front line byte so_far e other within =
+    let room = has_room (length front) 22 other within in
+    let short : length (take 22 (squeezed line)) < 22 = let same = ap length so_far in omega arith in
+    ap (λ (bs : List ℕ). bs ++ to_ascii_uppercase byte ∷ []) so_far ∙ longer_front 22 (squeezed line) (to_ascii_uppercase byte) short
+    ∙ ap (take 22) (sym (squeezed_other line byte e))
+
+-- ---- what the front tells
+
+-- a front longer than a word is the word where all is
+front_is : (word : List ℕ) (n : ℕ) (said : List ℕ) → length word < n → bytes_eq (take n said) word ≡ bytes_eq said word
+front_is word zero said h = absurd (omega arith)
+front_is [] (suc n) [] h = refl
+front_is [] (suc n) (first ∷ said) h = refl
+front_is (c ∷ word) (suc n) [] h = refl
+front_is (c ∷ word) (suc n) (first ∷ said) h = ap (λ (b : Bool). nat_eq first c && b) (front_is word n said (omega arith))
+
+-- a front as long as a word begins with the word where all does
+front_begins : (word : List ℕ) (n : ℕ) (said : List ℕ) → length word ≤ n
+    → starts_with nat_eq (take n said) word ≡ starts_with nat_eq said word
+front_begins [] n said h = refl
+front_begins (c ∷ word) zero said h = absurd (omega arith)
+front_begins (c ∷ word) (suc n) [] h = refl
+front_begins (c ∷ word) (suc n) (first ∷ said) h = ap (λ (b : Bool). nat_eq c first && b) (front_begins word n said (omega arith))
+
+pub front_names_language : (line : List ℕ) → starts_with nat_eq (take 22 (squeezed line)) (codes "@PJLENTERLANGUAGE=")
+    ≡ names_language line
+front_names_language line = front_begins (codes "@PJLENTERLANGUAGE=") 22 (squeezed line) (omega arith)
+
+pub front_names_pcl : (line : List ℕ) → bytes_eq (take 22 (squeezed line)) (codes "@PJLENTERLANGUAGE=PCL") ≡ names_pcl line
+front_names_pcl line = front_is (codes "@PJLENTERLANGUAGE=PCL") 22 (squeezed line) (omega arith)
+
+-- the same of a slice that holds the front
+pub slice_names_language : (b : Bool) (slice front line : List ℕ) → b ≡ starts_with nat_eq slice (codes "@PJLENTERLANGUAGE=")
+    → slice ≡ front → front ≡ take 22 (squeezed line) → b ≡ names_language line
+slice_names_language b slice front line e s f = e ∙ ap (λ (bs : List ℕ). starts_with nat_eq bs (codes "@PJLENTERLANGUAGE=")) (s ∙ f)
+    ∙ front_names_language line
+
+pub slice_names_pcl : (b : Bool) (slice front line : List ℕ) → b ≡ bytes_eq slice (codes "@PJLENTERLANGUAGE=PCL") → slice ≡ front
+    → front ≡ take 22 (squeezed line) → b ≡ names_pcl line
+slice_names_pcl b slice front line e s f = e ∙ ap (λ (bs : List ℕ). bytes_eq bs (codes "@PJLENTERLANGUAGE=PCL")) (s ∙ f)
+    ∙ front_names_pcl line

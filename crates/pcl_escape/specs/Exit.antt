@@ -1,0 +1,82 @@
+-- The lines of the printer's job language behind a universal exit.
+use Rattle.std.specs.Prelude.{◌≡◌, ℕ, zero, suc, ◌+◌, Bool, false, ◌==◌, ◌||◌, not, nat_eq, if◌then◌else◌, IsTrue, List, [], ◌∷◌, ◌++◌, length, take, drop, map, filter, codes, ◌⊎◌, Result, Ok, Err}
+use Rattle.std.specs.List.{starts_with, flat_map, AllByRecursion}
+use Rattle.std.specs.Borrow.{Bor}
+use Rattle.std.specs.Char.{to_ascii_uppercase}
+use Rattle.std.specs.Str.{bytes_eq}
+
+-- blanks, tabs, CR and LF say nothing in a line
+abbrev pub is_blank : ℕ → Bool
+is_blank byte = byte == 32 || byte == 9 || byte == 13 || byte == 10
+
+-- a line without what says nothing, in upper case
+abbrev pub squeezed : List ℕ → List ℕ
+squeezed line = map to_ascii_uppercase (filter (λ byte. not (is_blank byte)) line)
+
+-- the bytes begin with a line of the job language
+abbrev pub is_job_line : List ℕ → Bool
+is_job_line bytes = starts_with nat_eq bytes (codes "@PJL")
+
+-- the line asks for a language
+abbrev pub names_language : List ℕ → Bool
+names_language line = starts_with nat_eq (squeezed line) (codes "@PJLENTERLANGUAGE=")
+
+-- the line asks for PCL
+abbrev pub names_pcl : List ℕ → Bool
+names_pcl line = bytes_eq (squeezed line) (codes "@PJLENTERLANGUAGE=PCL")
+
+-- ---- lines as parts of a job
+
+-- no LF is there
+abbrev pub HasNoFeed : List ℕ → Type 0
+HasNoFeed bytes = AllByRecursion (λ byte. (byte == 10) ≡ false) bytes
+
+-- a line goes up to its LF, or to the end of the job
+abbrev pub IsLine : List ℕ → List ℕ → Type 0
+IsLine line behind =
+    IsTrue (is_job_line line)
+    × (((text : List ℕ) × (line ≡ text ++ 10 ∷ []) × HasNoFeed text) ⊎ ((behind ≡ []) × HasNoFeed line))
+
+-- lines one behind the other
+abbrev pub joined : List (List ℕ) → List ℕ
+joined lines = flat_map (λ line. line) lines
+
+-- lines that ask for no language, before what stands behind them
+abbrev pub AreOtherLines : List (List ℕ) → List ℕ → Type 0
+AreOtherLines [] behind = Unit {0}
+AreOtherLines (line ∷ lines) behind = IsLine line (joined lines ++ behind) × (names_language line ≡ false) × AreOtherLines lines behind
+
+-- All lines behind a universal exit: lines that ask for no language, as far as they go; or such lines and one that asks for PCL, behind
+-- which nothing more is skipped.
+pub data AreLines : List (List ℕ) → List ℕ → Type 0 where
+  to_other_bytes : {behind : List ℕ} (lines : List (List ℕ))
+      → AreOtherLines lines behind → is_job_line behind ≡ false → AreLines lines behind
+  to_pcl : {behind : List ℕ} (lines : List (List ℕ)) (line : List ℕ)
+      → AreOtherLines lines (line ++ behind) → IsLine line behind → IsTrue (names_language line) → IsTrue (names_pcl line)
+      → AreLines (lines ++ line ∷ []) behind
+
+-- ---- the same from the left
+
+-- how many bytes a line has
+abbrev pub line_len : List ℕ → ℕ
+line_len [] = 0
+line_len (byte ∷ bytes) = if byte == 10 then 1 else suc (line_len bytes)
+
+-- what stands behind the lines, or where a line asks for another language; the bytes begin at a place
+unfoldable pub lines_from : ℕ → ℕ → List ℕ → Result (List ℕ) ℕ
+lines_from zero place bytes = Ok bytes
+lines_from (suc more) place bytes =
+    let line = take (line_len bytes) bytes in
+    let behind = drop (line_len bytes) bytes in
+    if not (is_job_line bytes) then Ok bytes
+    else (if not (names_language line) then lines_from more (place + line_len bytes) behind
+    else (if names_pcl line then Ok behind else Err place))
+
+-- each line has bytes
+abbrev pub lines_at : ℕ → List ℕ → Result (List ℕ) ℕ
+lines_at place bytes = lines_from (suc (length bytes)) place bytes
+
+-- what a function returned is what stands behind the lines
+abbrev pub GivesRest : Result (Bor (List ℕ)) ℕ → Result (List ℕ) ℕ → Type 0
+GivesRest (Ok rest) read = read ≡ Ok rest.now
+GivesRest (Err place) read = read ≡ Err place

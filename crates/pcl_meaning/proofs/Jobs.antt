@@ -1,0 +1,265 @@
+-- Whole jobs of page texts are accepted, and mean the pages of the texts.
+use Rattle.std.proofs.Common.{◌≡◌, ℕ, ◌+◌, ◌*◌, ◌<◌, ◌≤◌, Bool, true, false, nat_le, List, [], ◌∷◌, ◌++◌, length, Option, Some, None, refl, sym, ap, subst, ◌∙◌, append_assoc, append-nil, length-append, arith, lit≤}
+use Rattle.std.specs.List.{flat_map}
+use Rattle.std.proofs.lemmas.Bool.Decides.{nat_tests}
+use Rattle.pcl_base.specs.declared.dpi.Dpi.{Dpi}
+use Rattle.pcl_base.specs.declared.dpi.Dpi.TheVariants.{Dpi300, Dpi600}
+use Rattle.pcl_base.specs.declared.kind.Kind.{Kind}
+use Rattle.pcl_base.specs.declared.kind.Kind.TheVariants.{TooManyPages, TooManyCommands, UnsupportedValue}
+use Rattle.pcl_base.specs.declared.size.Size.{Size}
+use Rattle.pcl_base.specs.declared.size.Size.TheVariants.{Executive, Letter, Legal, A4}
+use Rattle.pcl_base.specs.declared.operation.Operation.{Operation}
+use Rattle.pcl_base.specs.declared.operation.Operation.TheVariants.{Reset}
+use Rattle.pcl_base.specs.declared.refusal.Refusal.{Refusal}
+use Rattle.pcl_base.specs.Limits.{command_limit, page_limit}
+use Rattle.pcl_base.specs.Operation.{operation_of}
+use Rattle.pcl_base.specs.Size.{page_width, page_height, page_row_bytes}
+use Rattle.pcl_escape.specs.Said.{Said}
+use Rattle.pcl_escape.specs.Pieces.{commands_of}
+use Rattle.pcl_env.specs.Settings.{Settings, defaults}
+use Rattle.pcl_env.specs.Outcome.{outcome}
+use Rattle.pcl_bitmap.specs.Bitmap.{dot}
+use Rattle.pcl_page.specs.declared.page.Page.{Page}
+use Rattle.pcl_page.specs.Marks.{Mark, is_black}
+use Rattle.pcl_page.specs.History.{ended, History, Sheet, Situation, at_begin, at_end, after, situation, page_refusal, command_refusal, operation_refusal, value_refusal}
+use Rattle.pcl_page.specs.Performing.{Shows, Performance, after_end, after_command, after_all, performance, pages_of, with_operation, then_on}
+use Rattle.pcl_page.specs.Jobs.{HasPages, performance_of}
+use Rattle.pcl_writer.specs.Tokens.{Token, opening, method, skip, send, commands_in, command_count, token_bytes, start_bytes, end_bytes, frame_bytes}
+use Rattle.pcl_writer.specs.PageText.{IsPageText, PrintsPage, IsWrittenPage, bitmap_rows}
+use Rattle.pcl_meaning.specs.Alike.{AreAlike, AllAlike, PrintSheets}
+use Rattle.pcl_meaning.specs.PageTexts.{dot_of_rows, job_of, job_commands, MeansRows, PageTextsMeanTheirPages}
+use Rattle.pcl_meaning.proofs.Deeds.{Deed}
+use Rattle.pcl_meaning.proofs.Readings.{ReadsAs, reads_joined, reads_none}
+use Rattle.pcl_meaning.proofs.Sequences.{token_deeds, body_deeds, start_deeds, end_deeds, reset, body_read, start_read, end_read, frame_read}
+use Rattle.pcl_meaning.proofs.Following.{said_of, Leads, leads_append, leads_counts, ComesTo, commands_done}
+use Rattle.pcl_meaning.proofs.Dots.{page_dot}
+use Rattle.pcl_meaning.proofs.Printing.{IsBetween, between, pages_fit, text_deeds, IsTextTaken, text_taken}
+
+-- ---- a page text
+
+height_small : (size : Size) (dpi : Dpi) → page_height size dpi ≤ 8400
+height_small Executive Dpi300 = lit≤ tt
+height_small Executive Dpi600 = lit≤ tt
+height_small Letter Dpi300 = lit≤ tt
+height_small Letter Dpi600 = lit≤ tt
+height_small Legal Dpi300 = lit≤ tt
+height_small Legal Dpi600 = lit≤ tt
+height_small A4 Dpi300 = lit≤ tt
+height_small A4 Dpi600 = lit≤ tt
+
+-- what stands in a text
+pub text_read : (dpi : Dpi) (size : Size) (copies : ℕ) (rows : List (List ℕ)) (text : List ℕ) (printed : IsPageText dpi size copies rows text)
+    → ReadsAs text (text_deeds dpi size copies printed.tokens)
+text_read dpi size copies rows text printed =
+    let few : length rows ≤ 65535 = omega (arith, printed.count, height_small size dpi) in
+    let small : copies ≤ 65535 = omega (arith, printed.few_copies) in
+    let start = start_bytes dpi copies size in
+    let body = flat_map token_bytes printed.tokens in
+    subst (λ (bytes : List ℕ). ReadsAs bytes (text_deeds dpi size copies printed.tokens)) (sym (printed.spelled ∙ append_assoc start body end_bytes))
+    (reads_joined start (body ++ end_bytes) (start_deeds dpi copies size) (body_deeds printed.tokens ++ end_deeds) (start_read dpi copies size small)
+    (reads_joined body end_bytes (body_deeds printed.tokens) end_deeds (body_read _ _ printed.tokens rows printed.prints few) end_read))
+
+token_counted : (token : Token) → length (token_deeds token) ≡ commands_in token
+token_counted opening = refl
+token_counted (method digits next ends) = refl
+token_counted (skip digits count ends) = refl
+token_counted (send digits bytes) = refl
+
+body_counted : (tokens : List Token) → length (body_deeds tokens) ≡ command_count tokens
+body_counted [] = refl
+body_counted (token ∷ tokens) = omega (arith, length-append (token_deeds token) (body_deeds tokens), token_counted token, body_counted tokens)
+
+text_counted : (dpi : Dpi) (size : Size) (copies : ℕ) (tokens : List Token) → length (text_deeds dpi size copies tokens) ≡ command_count tokens + 10
+text_counted dpi size copies tokens =
+    omega (
+      arith,
+      body_counted tokens,
+      length-append (start_deeds dpi copies size) (body_deeds tokens ++ end_deeds),
+      length-append (body_deeds tokens) end_deeds,
+    )
+
+-- ---- between two resets
+
+reset_first : (dpi : Dpi) → after dpi Reset (said_of reset) at_begin ≡ Some (between defaults [] 1)
+unfolding after outcome
+reset_first dpi = refl
+
+reset_last : (dpi : Dpi) (t : Settings) (pages : List Sheet) (n : ℕ) → after dpi Reset (said_of reset) (between t pages n) ≡ Some (between defaults pages (n + 1))
+unfolding after outcome
+reset_last dpi t pages n = refl
+
+-- the end of the input changes nothing behind a reset
+end_refused : (dpi : Dpi) (pages : List Sheet) (n : ℕ) → length pages ≤ 256 → page_refusal (at_end dpi (between defaults pages n)) ≡ None
+end_refused dpi pages n few = pages_fit (at_end dpi (between defaults pages n)) few
+
+ended_there : (dpi : Dpi) (end : ℕ) (history : History) (pages : List Sheet) (n : ℕ) → situation dpi history ≡ between defaults pages n → length pages ≤ 256
+    → performance dpi end history [] ≡ record { history = ended ∷ history; refusal = None }
+ended_there dpi end history pages n at few =
+    ap (λ (s : Situation). after_end end history (page_refusal (at_end dpi s))) at ∙ ap (after_end end history) (end_refused dpi pages n few)
+
+-- bytes that are read as deeds that eject these pages
+pub job_accepted : (dpi : Dpi) (text : List ℕ) (deeds : List Deed) (t : Settings) (pages : List Sheet) (n : ℕ)
+    → ReadsAs text deeds → Leads dpi deeds (between defaults [] 1) (between t pages n) → length pages ≤ 256 → length deeds ≤ 99999998
+    → HasPages dpi (frame_bytes ++ text ++ frame_bytes) pages
+job_accepted dpi text deeds t pages n read leads fits few =
+    let all = reset ∷ (deeds ++ reset ∷ []) in
+    let r = reads_joined frame_bytes (text ++ frame_bytes) (reset ∷ []) (deeds ++ reset ∷ []) frame_read (reads_joined text frame_bytes deeds (reset ∷ []) read frame_read) in
+    let end = length (frame_bytes ++ text ++ frame_bytes) in
+    let commands = commands_of 0 r.pieces in
+    let first = between defaults [] 1 in
+    let last = between defaults pages (n + 1) in
+    let closes : Leads dpi (reset ∷ []) (between t pages n) last = (last, reset_last dpi t pages n, pages_fit last fits, refl) in
+    let whole : Leads dpi all (situation dpi []) last =
+    (first, reset_first dpi, pages_fit first (lit≤ tt), leads_append dpi deeds (reset ∷ []) first (between t pages n) last leads closes) in
+    let count : (situation dpi []).performed + length all ≤ 100000000 = omega (arith, length-append deeds (reset ∷ [])) in
+    let c = commands_done dpi end commands all [] last (r.said 0) whole count in
+    let done : performance_of dpi (frame_bytes ++ text ++ frame_bytes) commands ≡ record { history = ended ∷ c.reached; refusal = None } =
+    c.same ∙ ended_there dpi end c.reached pages (n + 1) c.at fits in
+    record {
+      commands = commands;
+      reading = record { pieces = r.pieces; each = r.each []; spelled = r.spelled; said = refl };
+      accepted = ap (λ (p : Performance). p.refusal) done;
+      ejected = sym (ap (pages_of dpi) done ∙ ap (λ (s : Situation). (at_end dpi s).pages) c.at);
+    }
+
+-- ---- a job of one text
+
+pub text_means_page : PageTextsMeanTheirPages
+text_means_page dpi size copies rows text printed few =
+    let t = text_taken dpi size copies rows text printed defaults [] 1 (record { method = refl; height = refl }) (lit≤ tt) in
+    let sheet : Sheet = record { size = size; copies = copies; marks = t.inked } in
+    record {
+      sheet = sheet;
+      meaning = job_accepted dpi text (text_deeds dpi size copies printed.tokens) t.settings (sheet ∷ []) t.count (text_read dpi size copies rows text printed) t.leads (lit≤ tt)
+          (omega (arith, few, text_counted dpi size copies printed.tokens));
+      size_is = refl;
+      copies_are = refl;
+      dots = λ x y wide high. t.black x y wide;
+    }
+
+-- ---- texts one after the other
+
+-- texts lead from between texts to between texts, and eject sheets like these
+pub record AreTextsTaken (dpi : Dpi) (meant : List Sheet) (texts : List ℕ) (from : Situation) (pages : List Sheet) : Type 0 where
+  pub deeds : List Deed
+  pub read : ReadsAs texts deeds
+  pub again : List Sheet
+  pub settings : Settings
+  pub count : ℕ
+  pub leads : Leads dpi deeds from (between settings (pages ++ again) count)
+  pub alike : AllAlike dpi meant again
+  pub same_many : length again ≡ length meant
+  pub few : length deeds ≤ 25210 * length meant
+
+rows_dot : (size : Size) (dpi : Dpi) (page : Page) (x y : ℕ) → page.bitmap.size ≡ size → page.bitmap.dpi ≡ dpi → y < page_height size dpi
+    → dot_of_rows (bitmap_rows page.bitmap) x y ≡ dot page.bitmap x y
+rows_dot size dpi page x y s d below =
+    let height : page_height size dpi ≡ page_height page.bitmap.size page.bitmap.dpi =
+    ap (λ (z : Size). page_height z dpi) (sym s) ∙ ap (λ (r : Dpi). page_height page.bitmap.size r) (sym d) in
+    page_dot (page_height page.bitmap.size page.bitmap.dpi) (page_row_bytes page.bitmap.size page.bitmap.dpi) page.bitmap.bytes x y (subst (λ (n : ℕ). y < n) height below)
+
+sheet_alike : (dpi : Dpi) (sheet : Sheet) (page : Page) (inked : List Mark) → Shows dpi page sheet
+    → ((x y : ℕ) → x < page_width page.size page.dpi → is_black inked x y ≡ dot_of_rows (bitmap_rows page.bitmap) x y)
+    → AreAlike dpi sheet (record { size = page.size; copies = page.copies; marks = inked })
+sheet_alike dpi sheet page inked shows black = record {
+  size = sym shows.size;
+  copies = sym shows.copies;
+  dots = λ x y wide high.
+      let width : page_width sheet.size dpi ≡ page_width page.size page.dpi =
+      ap (λ (z : Size). page_width z dpi) (sym shows.size) ∙ ap (λ (r : Dpi). page_width page.size r) (sym shows.resolution) in
+      sym (black x y (subst (λ (n : ℕ). x < n) width wide)
+      ∙ rows_dot sheet.size dpi page x y (page.size_is ∙ shows.size) (page.dpi_is ∙ shows.resolution) high
+      ∙ shows.dots x y wide high);
+}
+
+-- a written page, said with the resolution of its job
+at_resolution : (page : Page) (text : List ℕ) (dpi : Dpi) → page.dpi ≡ dpi → IsWrittenPage page text
+    → (printed : IsPageText dpi page.size page.copies (bitmap_rows page.bitmap) text) × (command_count printed.tokens ≤ 3 * page_height page.size dpi)
+at_resolution page text dpi e w =
+    subst (λ (r : Dpi). (printed : IsPageText r page.size page.copies (bitmap_rows page.bitmap) text) × (command_count printed.tokens ≤ 3 * page_height page.size r)) e w
+
+pub texts_taken : (dpi : Dpi) (meant : List Sheet) (texts : List ℕ) (t : Settings) (pages : List Sheet) (n : ℕ)
+    → PrintSheets dpi meant texts → IsBetween t → length pages + length meant ≤ 256 → AreTextsTaken dpi meant texts (between t pages n) pages
+texts_taken dpi [] texts t pages n p b few = record {
+  deeds = [];
+  read = subst (λ (bytes : List ℕ). ReadsAs bytes []) (sym p) reads_none;
+  again = [];
+  settings = t;
+  count = n;
+  leads = ap (λ (ps : List Sheet). between t ps n) (append-nil pages);
+  alike = tt;
+  same_many = refl;
+  few = omega arith;
+}
+texts_taken dpi (sheet ∷ meant) texts t pages n p b few =
+    let page = p.0 in
+    let shows = p.3 in
+    let written = at_resolution page p.1 dpi shows.resolution p.4 in
+    let printed = written.0 in
+    let deeds = text_deeds dpi page.size page.copies printed.tokens in
+    let one = text_taken dpi page.size page.copies (bitmap_rows page.bitmap) p.1 printed t pages n b (omega arith) in
+    let again : Sheet = record { size = page.size; copies = page.copies; marks = one.inked } in
+    let more = pages ++ again ∷ [] in
+    let rest = texts_taken dpi meant p.2 one.settings more one.count p.6 one.stands (omega (arith, length-append pages (again ∷ []))) in
+    let middle = between one.settings more one.count in
+    let last = between rest.settings (pages ++ (again ∷ rest.again)) rest.count in
+    let behind : Leads dpi rest.deeds middle last =
+    subst (λ (ps : List Sheet). Leads dpi rest.deeds middle (between rest.settings ps rest.count)) (append_assoc pages (again ∷ []) rest.again) rest.leads in
+    record {
+      deeds = deeds ++ rest.deeds;
+      read = subst (λ (bytes : List ℕ). ReadsAs bytes (deeds ++ rest.deeds)) (sym p.5)
+          (reads_joined p.1 p.2 deeds rest.deeds (text_read dpi page.size page.copies (bitmap_rows page.bitmap) p.1 printed) rest.read);
+      again = again ∷ rest.again;
+      settings = rest.settings;
+      count = rest.count;
+      leads = leads_append dpi deeds rest.deeds (between t pages n) middle last one.leads behind;
+      alike = (sheet_alike dpi sheet page one.inked shows (subst (λ (r : Dpi). (x y : ℕ) → x < page_width page.size r → is_black one.inked x y ≡ dot_of_rows (bitmap_rows page.bitmap) x y) (sym shows.resolution) one.black), rest.alike);
+      same_many = omega (arith, rest.same_many);
+      few = omega (arith, rest.few, written.1, height_small page.size dpi, text_counted dpi page.size page.copies printed.tokens, length-append deeds rest.deeds);
+    }
+
+-- ---- the pages of an accepted job
+
+abbrev Fits : Dpi → Performance → Type 0
+Fits dpi done = done.refusal ≡ None → length (pages_of dpi done) ≤ 256
+
+-- no more pages than there may be, where none is refused
+fits_of : (s : Situation) (test : Bool) → nat_le (length s.pages) 256 ≡ test → page_refusal s ≡ None → length s.pages ≤ 256
+fits_of s true e n = grind (arith, nat_tests)
+fits_of s false e n = let refused : page_refusal s ≡ Some TooManyPages = rw e refl in absurd cc
+
+end_fits : (dpi : Dpi) (end : ℕ) (history : History) (kind : Option Kind) → kind ≡ page_refusal (at_end dpi (situation dpi history))
+    → Fits dpi (after_end end history kind)
+end_fits dpi end history None e = λ n. fits_of (at_end dpi (situation dpi history)) (nat_le (length (at_end dpi (situation dpi history)).pages) 256) refl (sym e)
+end_fits dpi end history (Some kind) e = λ n. absurd cc
+
+-- the performance of commands behind one, by why that one is refused
+abbrev from_refusal : Dpi → ℕ → History → Said → List Said → Option Kind → Performance
+from_refusal dpi end history command commands kind =
+    then_on (then_on (after_command command history kind) (after_all dpi commands)) (λ all. after_end end all (page_refusal (at_end dpi (situation dpi all))))
+
+command_fits : (dpi : Dpi) (end : ℕ) (history : History) (command : Said) (commands : List Said) (kind : Option Kind)
+    → (kind ≡ None → Fits dpi (performance dpi end (with_operation (operation_of command.name) command history) commands))
+    → Fits dpi (from_refusal dpi end history command commands kind)
+command_fits dpi end history command commands None f = f refl
+command_fits dpi end history command commands (Some kind) f = λ n. absurd cc
+
+performance_fits : (dpi : Dpi) (end : ℕ) (commands : List Said) (history : History) → Fits dpi (performance dpi end history commands)
+performance_fits dpi end [] history = end_fits dpi end history (page_refusal (at_end dpi (situation dpi history))) refl
+performance_fits dpi end (command ∷ commands) history =
+    command_fits dpi end history command commands (command_refusal dpi command (situation dpi history))
+    (λ none. performance_fits dpi end commands (with_operation (operation_of command.name) command history))
+
+pub job_fits : (dpi : Dpi) (job : List ℕ) (pages : List Sheet) → HasPages dpi job pages → length pages ≤ 256
+job_fits dpi job pages h =
+    subst (λ (ps : List Sheet). length ps ≤ 256) (sym h.ejected) (performance_fits dpi (length job) h.commands [] h.accepted)
+
+-- ---- a job that is written again
+
+-- the written job is accepted, and its pages are alike
+pub written_again : (dpi : Dpi) (job texts : List ℕ) (pages : List Sheet) → HasPages dpi job pages → PrintSheets dpi pages texts
+    → (again : List Sheet) × HasPages dpi (frame_bytes ++ texts ++ frame_bytes) again × AllAlike dpi pages again
+written_again dpi job texts pages h p =
+    let few = job_fits dpi job pages h in
+    let t = texts_taken dpi pages texts defaults [] 1 p (record { method = refl; height = refl }) (omega (arith, few)) in
+    (t.again, job_accepted dpi texts t.deeds t.settings t.again t.count t.read t.leads (omega (arith, t.same_many, few)) (omega (arith, few, t.few)), t.alike)

@@ -1,0 +1,227 @@
+-- Bytes that are read as deeds, wherever in a job they stand.
+use Rattle.std.proofs.Common.{◌≡◌, ℕ, zero, suc, ◌+◌, ◌*◌, ◌≤◌, true, false, List, [], ◌∷◌, ◌++◌, length, Some, None, Ok, refl, sym, ap, subst, ◌∙◌, append_assoc, append-nil, arith}
+use Rattle.std.specs.List.{flat_map, AllByRecursion}
+use Rattle.std.proofs.lemmas.List.Concat.{flat_map-append}
+use Rattle.std.proofs.lemmas.Bool.Decides.{nat_tests}
+use Rattle.pcl_base.specs.declared.name.Name.TheVariants.{Three}
+use Rattle.pcl_base.specs.declared.operation.Operation.{Operation}
+use Rattle.pcl_base.specs.declared.operation.Operation.TheVariants.{RasterRow}
+use Rattle.pcl_base.specs.declared.value.Sign.TheVariants.{Absent}
+use Rattle.pcl_base.specs.declared.value.Value.{Value}
+use Rattle.pcl_base.specs.Operation.{operation_of, takes_data}
+use Rattle.pcl_base.specs.Value.{whole_of}
+use Rattle.pcl_escape.specs.declared.step.Prefix.{Prefix}
+use Rattle.pcl_escape.specs.Letter.{may_go_on, is_last, parameter_name, prefix_bytes}
+use Rattle.pcl_escape.specs.Field.{Spelled, number_of, field_value, in_range}
+use Rattle.pcl_escape.specs.Checks.{parameter_checks, data_checks, is_exit}
+use Rattle.pcl_escape.specs.Said.{Said}
+use Rattle.pcl_escape.specs.Pieces.{Piece, combined, Parameter, parameter_bytes, spelling, IsPrefix, IsMiddle, IsEnd, IsPiece, ArePieces, parameter_commands, first_place, commands_from, commands_of}
+use Rattle.pcl_escape.proofs.Runs.{place_further}
+use Rattle.pcl_writer.specs.Tokens.{IsSpelled}
+use Rattle.pcl_meaning.proofs.Deeds.{Deed, deed}
+
+-- ---- commands and deeds
+
+-- performing the command is the deed
+abbrev pub IsSaid : Said → Deed → Type 0
+IsSaid command deed = (operation_of command.name ≡ Some deed.operation) × (command.value ≡ deed.value) × (command.bytes ≡ deed.bytes)
+
+abbrev pub AreSaid : List Said → List Deed → Type 0
+AreSaid [] [] = Unit {0}
+AreSaid [] (deed ∷ deeds) = ⊥
+AreSaid (command ∷ commands) [] = ⊥
+AreSaid (command ∷ commands) (deed ∷ deeds) = IsSaid command deed × AreSaid commands deeds
+
+said_append : (one : List Said) (before : List Deed) (two : List Said) (after : List Deed)
+    → AreSaid one before → AreSaid two after → AreSaid (one ++ two) (before ++ after)
+said_append [] [] two after a b = b
+said_append [] (deed ∷ before) two after a b = absurd a
+said_append (command ∷ one) [] two after a b = absurd a
+said_append (command ∷ one) (deed ∷ before) two after a b = (a.0, said_append one before two after a.1 b)
+
+-- ---- pieces
+
+-- the bytes are whole pieces, whose commands are the deeds, whatever stands before them and behind them
+pub record ReadsAs (bytes : List ℕ) (deeds : List Deed) : Type 0 where
+  pub pieces : List Piece
+  pub each : (behind : List ℕ) → ArePieces pieces behind
+  pub spelled : bytes ≡ flat_map spelling pieces
+  pub said : (at : ℕ) → AreSaid (commands_of at pieces) deeds
+
+-- pieces before other pieces are pieces with them
+pub pieces_append : (one two : List Piece) (behind : List ℕ)
+    → ArePieces one (flat_map spelling two ++ behind) → ArePieces two behind → ArePieces (one ++ two) behind
+pieces_append [] two behind a b = b
+pieces_append (piece ∷ one) two behind a b =
+    let same : flat_map spelling one ++ (flat_map spelling two ++ behind) ≡ flat_map spelling (one ++ two) ++ behind =
+    sym (append_assoc (flat_map spelling one) (flat_map spelling two) behind)
+    ∙ ap (λ (bytes : List ℕ). bytes ++ behind) (sym (flat_map-append spelling one two)) in
+    (subst (IsPiece piece) same a.0, pieces_append one two behind a.1 b)
+
+commands_append : (at : ℕ) (one two : List Piece)
+    → commands_of at (one ++ two) ≡ commands_of at one ++ commands_of (at + length (flat_map spelling one)) two
+commands_append at [] two = let place : at ≡ at + 0 = omega arith in ap (λ (n : ℕ). commands_of n two) place
+commands_append at (piece ∷ one) two =
+    let next = at + length (spelling piece) in
+    ap (λ (commands : List Said). commands_from at piece ++ commands) (commands_append next one two)
+    ∙ sym (append_assoc (commands_from at piece) (commands_of next one) (commands_of (next + length (flat_map spelling one)) two))
+    ∙ ap (λ (n : ℕ). commands_of at (piece ∷ one) ++ commands_of n two) (place_further at (spelling piece) (flat_map spelling one))
+
+pub reads_joined : (one two : List ℕ) (before after : List Deed) → ReadsAs one before → ReadsAs two after
+    → ReadsAs (one ++ two) (before ++ after)
+reads_joined one two before after a b = record {
+  pieces = a.pieces ++ b.pieces;
+  each = λ behind. pieces_append a.pieces b.pieces behind (a.each (flat_map spelling b.pieces ++ behind)) (b.each behind);
+  spelled =
+      ap (λ (bytes : List ℕ). bytes ++ two) a.spelled ∙ ap (λ (bytes : List ℕ). flat_map spelling a.pieces ++ bytes) b.spelled
+      ∙ sym (flat_map-append spelling a.pieces b.pieces);
+  said = λ at.
+      let next = at + length (flat_map spelling a.pieces) in
+      subst (λ (commands : List Said). AreSaid commands (before ++ after)) (sym (commands_append at a.pieces b.pieces))
+      (said_append (commands_of at a.pieces) before (commands_of next b.pieces) after (a.said at) (b.said next));
+}
+
+pub reads_none : ReadsAs [] []
+reads_none = record { pieces = []; each = λ behind. tt; spelled = refl; said = λ at. tt }
+
+pub reads_piece : (piece : Piece) (deeds : List Deed)
+    → ((behind : List ℕ) → IsPiece piece behind) → ((at : ℕ) → AreSaid (commands_from at piece) deeds) → ReadsAs (spelling piece) deeds
+reads_piece piece deeds is said = record {
+  pieces = piece ∷ [];
+  each = λ behind. (is behind, tt);
+  spelled = sym (append-nil (spelling piece));
+  said = λ at. subst (λ (commands : List Said). AreSaid commands deeds) (sym (append-nil (commands_from at piece))) (said at);
+}
+
+-- ---- combined sequences
+
+-- performing the parameter's command is the deed
+abbrev pub IsMeant : Prefix → Parameter → List ℕ → Deed → Type 0
+IsMeant prefix parameter bytes deed =
+    (operation_of (parameter_name prefix parameter.letter) ≡ Some deed.operation)
+    × (field_value parameter.field ≡ deed.value) × (bytes ≡ deed.bytes)
+
+abbrev pub AreMeant : Prefix → List Parameter → List Deed → Type 0
+AreMeant prefix [] [] = Unit {0}
+AreMeant prefix [] (deed ∷ deeds) = ⊥
+AreMeant prefix (parameter ∷ middle) [] = ⊥
+AreMeant prefix (parameter ∷ middle) (deed ∷ deeds) = IsMeant prefix parameter [] deed × AreMeant prefix middle deeds
+
+pub meant_more : (prefix : Prefix) (middle : List Parameter) (deeds : List Deed) (parameter : Parameter) (deed : Deed)
+    → AreMeant prefix middle deeds → IsMeant prefix parameter [] deed
+    → AreMeant prefix (middle ++ parameter ∷ []) (deeds ++ deed ∷ [])
+meant_more prefix [] [] parameter deed a m = (m, tt)
+meant_more prefix [] (first ∷ deeds) parameter deed a m = absurd a
+meant_more prefix (first ∷ middle) [] parameter deed a m = absurd a
+meant_more prefix (first ∷ middle) (one ∷ deeds) parameter deed a m = (a.0, meant_more prefix middle deeds parameter deed a.1 m)
+
+pub middle_more : (prefix : Prefix) (middle : List Parameter) (parameter : Parameter)
+    → AllByRecursion (IsMiddle prefix) middle → IsMiddle prefix parameter → AllByRecursion (IsMiddle prefix) (middle ++ parameter ∷ [])
+middle_more prefix [] parameter a m = (m, tt)
+middle_more prefix (first ∷ middle) parameter a m = (a.0, middle_more prefix middle parameter a.1 m)
+
+parameters_said : (prefix : Prefix) (middle : List Parameter) (end : Parameter) (bytes : List ℕ) (deeds : List Deed) (last : Deed)
+    (at begin : ℕ) → AreMeant prefix middle deeds → IsMeant prefix end bytes last
+    → AreSaid (parameter_commands prefix at begin middle end bytes) (deeds ++ last ∷ [])
+parameters_said prefix [] end bytes [] last at begin a m = (m, tt)
+parameters_said prefix [] end bytes (deed ∷ deeds) last at begin a m = absurd a
+parameters_said prefix (parameter ∷ middle) end bytes [] last at begin a m = absurd a
+parameters_said prefix (parameter ∷ middle) end bytes (deed ∷ deeds) last at begin a m =
+    let behind = begin + length (parameter_bytes parameter) in
+    (a.0, parameters_said prefix middle end bytes deeds last behind behind a.1 m)
+
+pub reads_sequence : (prefix : Prefix) (middle : List Parameter) (end : Parameter) (bytes : List ℕ) (deeds : List Deed) (last : Deed)
+    → IsPrefix prefix → AllByRecursion (IsMiddle prefix) middle → AreMeant prefix middle deeds
+    → IsEnd prefix end bytes → IsMeant prefix end bytes last
+    → ReadsAs (27 ∷ (prefix_bytes prefix ++ (flat_map parameter_bytes middle ++ (parameter_bytes end ++ bytes)))) (deeds ++ last ∷ [])
+reads_sequence prefix middle end bytes deeds last is each meant ends m =
+    reads_piece (combined prefix middle end bytes) (deeds ++ last ∷ []) (λ behind. (is, each, ends))
+    (λ at. parameters_said prefix middle end bytes deeds last at (first_place at prefix) meant m)
+
+-- ---- parameters that are numbers
+
+abbrev pub number_field : List ℕ → Spelled
+number_field digits = record { sign = Absent; whole = digits; fraction = None }
+
+abbrev pub number_parameter : List ℕ → ℕ → Parameter
+number_parameter digits letter = record { field = number_field digits; letter = letter }
+
+abbrev pub number_value : ℕ → Value
+number_value n = record { sign = Absent; parts = n * 10000 }
+
+value_is : (digits : List ℕ) (n : ℕ) → IsSpelled digits n → field_value (number_field digits) ≡ number_value n
+value_is digits n s =
+    let parts : number_of digits * 10000 + 0 ≡ n * 10000 = omega (arith, s.1) in
+    ap (λ (p : ℕ). record { sign = Absent; parts = p }) parts
+
+pub whole_is : (n : ℕ) → whole_of (number_value n) ≡ n
+whole_is n = omega arith
+
+pub number_bytes : (digits : List ℕ) (letter : ℕ) → parameter_bytes (number_parameter digits letter) ≡ digits ++ letter ∷ []
+number_bytes digits letter = ap (λ (bytes : List ℕ). bytes ++ letter ∷ []) (append-nil digits)
+
+in_range_is : (n : ℕ) → n ≤ 65535 → in_range (number_value n) ≡ true
+in_range_is n le = grind (arith, nat_tests)
+
+-- a parameter that sets something: its number, in range, and an operation without data, which is no universal exit
+pub record IsSetting (prefix : Prefix) (letter : ℕ) (digits : List ℕ) (n : ℕ) (operation : Operation) : Type 0 where
+  pub spelled : IsSpelled digits n
+  pub small : n ≤ 65535
+  pub named : operation_of (parameter_name prefix letter) ≡ Some operation
+  pub alone : takes_data operation ≡ false
+  pub stays : is_exit (parameter_name prefix letter) (field_value (number_field digits)) ≡ false
+
+setting_checks : (prefix : Prefix) (letter : ℕ) (digits : List ℕ) (n : ℕ) (operation : Operation)
+    → IsSetting prefix letter digits n operation
+    → parameter_checks (parameter_name prefix letter) letter (field_value (number_field digits)) 0 ≡ Ok 0
+unfolding parameter_checks
+setting_checks prefix letter digits n operation s =
+    ap (λ (value : Value). parameter_checks (parameter_name prefix letter) letter value 0) (value_is digits n s.spelled)
+    ∙ rw (in_range_is n s.small, s.named, s.alone) refl
+
+pub setting_middle : (prefix : Prefix) (letter : ℕ) (digits : List ℕ) (n : ℕ) (operation : Operation) → may_go_on prefix letter ≡ true
+    → IsSetting prefix letter digits n operation → IsMiddle prefix (number_parameter digits letter)
+setting_middle prefix letter digits n operation g s =
+    record { field = (s.spelled.0, tt); letter = g; checks = setting_checks prefix letter digits n operation s }
+
+pub setting_end : (prefix : Prefix) (letter : ℕ) (digits : List ℕ) (n : ℕ) (operation : Operation) → is_last letter ≡ true
+    → IsSetting prefix letter digits n operation → IsEnd prefix (number_parameter digits letter) []
+setting_end prefix letter digits n operation l s = record {
+  field = (s.spelled.0, tt);
+  letter = l;
+  checks = setting_checks prefix letter digits n operation s;
+  stays = s.stays;
+}
+
+pub setting_meant : (prefix : Prefix) (letter : ℕ) (digits : List ℕ) (n : ℕ) (operation : Operation)
+    → IsSetting prefix letter digits n operation
+    → IsMeant prefix (number_parameter digits letter) [] (deed operation (number_value n) [])
+setting_meant prefix letter digits n operation s = (s.named, value_is digits n s.spelled, refl)
+
+-- ---- a row that is sent
+
+abbrev pub row_prefix : Prefix
+row_prefix = record { parameterized = 42; group = Some 98 }
+
+row_named : operation_of (Three 42 98 87) ≡ Some RasterRow
+unfolding operation_of
+row_named = refl
+
+count_checks : (n whole : ℕ) → whole ≡ n → data_checks 87 (number_value n) n ≡ Ok n
+count_checks zero whole e = refl
+count_checks (suc n) whole e = rw (whole_is (suc n)) (grind (arith, nat_tests))
+
+row_checks : (digits : List ℕ) (n : ℕ) → IsSpelled digits n → n ≤ 65535
+    → parameter_checks (Three 42 98 87) 87 (field_value (number_field digits)) n ≡ Ok n
+unfolding parameter_checks
+row_checks digits n s le =
+    ap (λ (value : Value). parameter_checks (Three 42 98 87) 87 value n) (value_is digits n s)
+    ∙ rw (in_range_is n le, row_named) (count_checks n n refl)
+
+pub row_end : (digits bytes : List ℕ) → IsSpelled digits (length bytes) → length bytes ≤ 65535
+    → IsEnd row_prefix (number_parameter digits 87) bytes
+row_end digits bytes s le = record { field = (s.0, tt); letter = refl; checks = row_checks digits (length bytes) s le; stays = refl }
+
+pub row_meant : (digits bytes : List ℕ) → IsSpelled digits (length bytes)
+    → IsMeant row_prefix (number_parameter digits 87) bytes (deed RasterRow (number_value (length bytes)) bytes)
+row_meant digits bytes s = (row_named, value_is digits (length bytes) s, refl)

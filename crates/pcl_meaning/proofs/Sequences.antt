@@ -1,0 +1,426 @@
+-- Page texts are read as deeds.
+use Rattle.std.proofs.Common.{◌≡◌, ℕ, ◌≤◌, true, false, List, [], ◌∷◌, ◌++◌, length, drop, replicate, Some, refl, ap, subst, subst₂, ◌∙◌, append_assoc, append-nil, arith, lit≤}
+use Rattle.std.specs.Prelude.{decimal}
+use Rattle.std.specs.List.{flat_map, AllByRecursion}
+use Rattle.std.proofs.lemmas.List.{length-drop}
+use Rattle.std.proofs.lemmas.List.Concat.{flat_map-append}
+use Rattle.pcl_base.specs.declared.dpi.Dpi.{Dpi}
+use Rattle.pcl_base.specs.declared.dpi.Dpi.TheVariants.{Dpi300, Dpi600}
+use Rattle.pcl_base.specs.declared.method.Method.{Method}
+use Rattle.pcl_base.specs.declared.method.Method.TheVariants.{Plain, Runs, Packed, Delta}
+use Rattle.pcl_base.specs.declared.name.Name.TheVariants.{One, Three}
+use Rattle.pcl_base.specs.declared.operation.Axis.TheVariants.{Horizontal, Vertical}
+use Rattle.pcl_base.specs.declared.operation.Unit.TheVariants.{PclUnit}
+use Rattle.pcl_base.specs.declared.operation.Operation.{Operation}
+use Rattle.pcl_base.specs.declared.operation.Operation.TheVariants.{Reset, FormFeed, PageSize, Copies, TopMargin, Move, RasterResolution, RasterWidth, StartRaster, EndRasterResetMethod, RasterMethod, RasterOffset, RasterRow}
+use Rattle.pcl_base.specs.declared.size.Size.{Size}
+use Rattle.pcl_base.specs.declared.size.Size.TheVariants.{Executive, Letter, Legal, A4}
+use Rattle.pcl_base.specs.Dpi.{dots_per_inch}
+use Rattle.pcl_base.specs.Method.{method_code}
+use Rattle.pcl_base.specs.Operation.{operation_of}
+use Rattle.pcl_base.specs.Size.{code_of, page_width}
+use Rattle.pcl_base.specs.Value.{zero_value}
+use Rattle.pcl_escape.specs.declared.step.Prefix.{Prefix}
+use Rattle.pcl_escape.specs.Letter.{may_go_on, is_last}
+use Rattle.pcl_escape.specs.Pieces.{Parameter, parameter_bytes, control, two_character, IsPrefix, IsMiddle}
+use Rattle.pcl_writer.specs.Tokens.{Token, opening, method, skip, send, token_bytes, IsSpelled, PrintsRows, start_bytes, end_bytes, frame_bytes}
+use Rattle.pcl_meaning.proofs.Deeds.{Deed, deed}
+use Rattle.pcl_writer.proofs.Numbers.{decimal_spelled}
+use Rattle.pcl_meaning.proofs.Readings.{ReadsAs, reads_joined, reads_none, reads_piece, reads_sequence, AreMeant, meant_more, middle_more, number_parameter, number_value, number_bytes, IsSetting, setting_middle, setting_end, setting_meant, row_prefix, row_end, row_meant}
+
+-- ---- the deeds of a text
+
+-- a setting to a number
+abbrev set_to : Operation → ℕ → Deed
+set_to operation n = deed operation (number_value n) []
+
+-- what the commands of a token do
+abbrev pub token_deeds : Token → List Deed
+token_deeds opening = []
+token_deeds (method digits next ends) = deed RasterMethod (number_value (method_code next)) [] ∷ []
+token_deeds (skip digits count ends) = deed RasterOffset (number_value count) [] ∷ []
+token_deeds (send digits bytes) = deed RasterRow (number_value (length bytes)) bytes ∷ []
+
+-- what those of a body do
+abbrev pub body_deeds : List Token → List Deed
+body_deeds tokens = flat_map token_deeds tokens
+
+-- what those before a body do
+abbrev pub start_deeds : Dpi → ℕ → Size → List Deed
+start_deeds dpi copies size =
+    deed Copies (number_value copies) []
+    ∷ deed PageSize (number_value (code_of size)) []
+    ∷ deed TopMargin (number_value 0) []
+    ∷ deed (Move Horizontal PclUnit) (number_value 0) []
+    ∷ deed (Move Vertical PclUnit) (number_value 0) []
+    ∷ deed RasterResolution (number_value (dots_per_inch dpi)) []
+    ∷ deed RasterWidth (number_value (page_width size dpi)) []
+    ∷ deed StartRaster (number_value 0) []
+    ∷ []
+
+-- what those behind it do
+abbrev pub end_deeds : List Deed
+end_deeds = deed EndRasterResetMethod (number_value 0) [] ∷ deed FormFeed zero_value [] ∷ []
+
+abbrev pub reset : Deed
+reset = deed Reset zero_value []
+
+-- ---- sequences of a body
+
+row_prefix_is : IsPrefix row_prefix
+row_prefix_is = (refl, refl)
+
+offset_named : operation_of (Three 42 98 89) ≡ Some RasterOffset
+unfolding operation_of
+offset_named = refl
+
+method_named : operation_of (Three 42 98 77) ≡ Some RasterMethod
+unfolding operation_of
+method_named = refl
+
+code_small : (m : Method) → method_code m ≤ 65535
+code_small Plain = lit≤ tt
+code_small Runs = lit≤ tt
+code_small Packed = lit≤ tt
+code_small Delta = lit≤ tt
+
+-- the bytes of a sequence's parameters so far, and behind them those of tokens
+abbrev inside_bytes : List Parameter → List Token → List ℕ
+inside_bytes middle tokens = 27 ∷ 42 ∷ 98 ∷ (flat_map parameter_bytes middle ++ flat_map token_bytes tokens)
+
+-- outside a sequence tokens are read as their deeds; inside one they are read with the parameters before them
+abbrev IsTokensRead : List Token → Type 0
+IsTokensRead tokens =
+    ((current : Method) (seed : List ℕ) (rows : List (List ℕ)) → PrintsRows false current seed tokens rows → length rows ≤ 65535
+    → ReadsAs (flat_map token_bytes tokens) (body_deeds tokens))
+    × ((current : Method) (seed : List ℕ) (rows : List (List ℕ)) (middle : List Parameter) (deeds : List Deed)
+    → PrintsRows true current seed tokens rows → length rows ≤ 65535
+    → AllByRecursion (IsMiddle row_prefix) middle → AreMeant row_prefix middle deeds
+    → ReadsAs (inside_bytes middle tokens) (deeds ++ body_deeds tokens))
+
+-- a setting behind which the sequence goes on
+more_inside : (tokens : List Token) (digits : List ℕ) (n letter : ℕ) (operation : Operation) (middle : List Parameter) (deeds : List Deed)
+    → ReadsAs (inside_bytes (middle ++ number_parameter digits letter ∷ []) tokens)
+    ((deeds ++ set_to operation n ∷ []) ++ body_deeds tokens)
+    → ReadsAs (27 ∷ 42 ∷ 98 ∷ (flat_map parameter_bytes middle ++ ((digits ++ letter ∷ []) ++ flat_map token_bytes tokens)))
+    (deeds ++ (set_to operation n ∷ body_deeds tokens))
+more_inside tokens digits n letter operation middle deeds r =
+    let parameter = number_parameter digits letter in
+    let front = flat_map parameter_bytes middle in
+    let behind = flat_map token_bytes tokens in
+    let last : flat_map parameter_bytes (parameter ∷ []) ≡ digits ++ letter ∷ [] =
+    append-nil (parameter_bytes parameter) ∙ number_bytes digits letter in
+    let spelled : flat_map parameter_bytes (middle ++ parameter ∷ []) ++ behind ≡ front ++ ((digits ++ letter ∷ []) ++ behind) =
+    ap (λ (bytes : List ℕ). bytes ++ behind)
+    (flat_map-append parameter_bytes middle (parameter ∷ []) ∙ ap (λ (bytes : List ℕ). front ++ bytes) last)
+    ∙ append_assoc front (digits ++ letter ∷ []) behind in
+    subst₂ ReadsAs (ap (λ (bytes : List ℕ). 27 ∷ 42 ∷ 98 ∷ bytes) spelled)
+    (append_assoc deeds (set_to operation n ∷ []) (body_deeds tokens)) r
+
+-- a setting that ends the sequence
+ended_inside : (tokens : List Token) (digits : List ℕ) (n letter : ℕ) (operation : Operation) (bytes : List ℕ)
+    (middle : List Parameter) (deeds : List Deed)
+    → ReadsAs (27 ∷ 42 ∷ 98 ∷ (flat_map parameter_bytes middle ++ (parameter_bytes (number_parameter digits letter) ++ bytes)))
+    (deeds ++ deed operation (number_value n) bytes ∷ [])
+    → ReadsAs (flat_map token_bytes tokens) (body_deeds tokens)
+    → ReadsAs (27 ∷ 42 ∷ 98 ∷ (flat_map parameter_bytes middle ++ ((digits ++ letter ∷ bytes) ++ flat_map token_bytes tokens)))
+    (deeds ++ (deed operation (number_value n) bytes ∷ body_deeds tokens))
+ended_inside tokens digits n letter operation bytes middle deeds first rest =
+    let done = deed operation (number_value n) bytes in
+    let front = flat_map parameter_bytes middle in
+    let end = parameter_bytes (number_parameter digits letter) ++ bytes in
+    let behind = flat_map token_bytes tokens in
+    let last : end ≡ digits ++ letter ∷ bytes =
+    ap (λ (t : List ℕ). t ++ bytes) (number_bytes digits letter) ∙ append_assoc digits (letter ∷ []) bytes in
+    let spelled : (front ++ end) ++ behind ≡ front ++ ((digits ++ letter ∷ bytes) ++ behind) =
+    ap (λ (t : List ℕ). (front ++ t) ++ behind) last ∙ append_assoc front (digits ++ letter ∷ bytes) behind in
+    subst₂ ReadsAs (ap (λ (t : List ℕ). 27 ∷ 42 ∷ 98 ∷ t) spelled) (append_assoc deeds (done ∷ []) (body_deeds tokens))
+    (reads_joined (27 ∷ 42 ∷ 98 ∷ (front ++ end)) behind (deeds ++ done ∷ []) (body_deeds tokens) first rest)
+
+-- what is read of a row's token and what stands behind it
+record IsSent (digits bytes : List ℕ) (tokens : List Token) (rows : List (List ℕ)) (current : Method) : Type 0 where
+  spelled : IsSpelled digits (length bytes)
+  small : length bytes ≤ 65535
+  row : List ℕ
+  rest : List (List ℕ)
+  prints : PrintsRows false current row tokens rest
+  fewer : length rest ≤ length rows
+
+sent_parts : (current : Method) (seed digits bytes : List ℕ) (tokens : List Token) (rows : List (List ℕ))
+    → PrintsRows true current seed (send digits bytes ∷ tokens) rows → IsSent digits bytes tokens rows current
+unfolding PrintsRows
+sent_parts current seed digits bytes tokens [] p = absurd p
+sent_parts current seed digits bytes tokens (first ∷ rest) p =
+    record { spelled = p.0; small = p.1.fits; row = first; rest = rest; prints = p.2; fewer = omega arith }
+
+-- a method that is set, and rows that are skipped, with a capital or without
+method_setting : (digits : List ℕ) (next : Method) → IsSpelled digits (method_code next)
+    → IsSetting row_prefix 77 digits (method_code next) RasterMethod
+method_setting digits next spelled =
+    record { spelled = spelled; small = code_small next; named = method_named; alone = refl; stays = refl }
+
+method_setting_more : (digits : List ℕ) (next : Method) → IsSpelled digits (method_code next)
+    → IsSetting row_prefix 109 digits (method_code next) RasterMethod
+method_setting_more digits next spelled =
+    record { spelled = spelled; small = code_small next; named = method_named; alone = refl; stays = refl }
+
+offset_setting : (digits : List ℕ) (count : ℕ) → IsSpelled digits count → count ≤ 65535
+    → IsSetting row_prefix 89 digits count RasterOffset
+offset_setting digits count spelled small =
+    record { spelled = spelled; small = small; named = offset_named; alone = refl; stays = refl }
+
+offset_setting_more : (digits : List ℕ) (count : ℕ) → IsSpelled digits count → count ≤ 65535
+    → IsSetting row_prefix 121 digits count RasterOffset
+offset_setting_more digits count spelled small =
+    record { spelled = spelled; small = small; named = offset_named; alone = refl; stays = refl }
+
+-- one more parameter of a sequence that goes on
+setting_more : (letter : ℕ) (digits : List ℕ) (n : ℕ) (operation : Operation) (middle : List Parameter)
+    → may_go_on row_prefix letter ≡ true → IsSetting row_prefix letter digits n operation
+    → AllByRecursion (IsMiddle row_prefix) middle
+    → AllByRecursion (IsMiddle row_prefix) (middle ++ number_parameter digits letter ∷ [])
+setting_more letter digits n operation middle goes s each =
+    middle_more row_prefix middle _ each (setting_middle row_prefix letter digits n operation goes s)
+
+-- and what it means
+setting_meant_more : (letter : ℕ) (digits : List ℕ) (n : ℕ) (operation : Operation) (middle : List Parameter) (deeds : List Deed)
+    → IsSetting row_prefix letter digits n operation → AreMeant row_prefix middle deeds
+    → AreMeant row_prefix (middle ++ number_parameter digits letter ∷ []) (deeds ++ set_to operation n ∷ [])
+setting_meant_more letter digits n operation middle deeds s meant =
+    meant_more row_prefix middle deeds _ _ meant (setting_meant row_prefix letter digits n operation s)
+
+-- the last one
+setting_read : (letter : ℕ) (digits : List ℕ) (n : ℕ) (operation : Operation) (middle : List Parameter) (deeds : List Deed)
+    → is_last letter ≡ true → IsSetting row_prefix letter digits n operation
+    → AllByRecursion (IsMiddle row_prefix) middle → AreMeant row_prefix middle deeds
+    → ReadsAs (27 ∷ 42 ∷ 98 ∷ (flat_map parameter_bytes middle ++ (parameter_bytes (number_parameter digits letter) ++ [])))
+    (deeds ++ set_to operation n ∷ [])
+setting_read letter digits n operation middle deeds last s each meant =
+    reads_sequence row_prefix middle (number_parameter digits letter) [] deeds _ row_prefix_is each meant
+    (setting_end row_prefix letter digits n operation last s) (setting_meant row_prefix letter digits n operation s)
+
+tokens_read : (tokens : List Token) → IsTokensRead tokens
+unfolding PrintsRows
+tokens_read [] = (λ current seed rows p few. reads_none, λ current seed rows middle deeds p few each meant. absurd p)
+tokens_read (opening ∷ tokens) = (
+  λ current seed rows p few. (tokens_read tokens).1 current seed rows [] [] p few tt tt,
+  λ current seed rows middle deeds p few each meant. absurd p,
+)
+tokens_read (method digits next false ∷ tokens) = (
+  λ current seed rows p few. absurd p,
+  λ current seed rows middle deeds p few each meant.
+      let s = method_setting_more digits next p.0 in
+      let code = method_code next in
+      more_inside tokens digits code 109 RasterMethod middle deeds
+      ((tokens_read tokens).1 next seed rows _ _ p.1 few
+      (setting_more 109 digits code RasterMethod middle refl s each)
+      (setting_meant_more 109 digits code RasterMethod middle deeds s meant)),
+)
+tokens_read (method digits next true ∷ tokens) = (
+  λ current seed rows p few. absurd p,
+  λ current seed rows middle deeds p few each meant.
+      let s = method_setting digits next p.0 in
+      let code = method_code next in
+      ended_inside tokens digits code 77 RasterMethod [] middle deeds
+      (setting_read 77 digits code RasterMethod middle deeds refl s each meant)
+      ((tokens_read tokens).0 next seed rows p.1 few),
+)
+tokens_read (skip digits count false ∷ tokens) = (
+  λ current seed rows p few. absurd p,
+  λ current seed rows middle deeds p few each meant.
+      let s = offset_setting_more digits count p.0 (omega (arith, p.2)) in
+      more_inside tokens digits count 121 RasterOffset middle deeds
+      ((tokens_read tokens).1 current (replicate (length seed) 0) (drop count rows) _ _ p.4 (omega (arith, length-drop count rows))
+      (setting_more 121 digits count RasterOffset middle refl s each)
+      (setting_meant_more 121 digits count RasterOffset middle deeds s meant)),
+)
+tokens_read (skip digits count true ∷ tokens) = (
+  λ current seed rows p few. absurd p,
+  λ current seed rows middle deeds p few each meant.
+      let s = offset_setting digits count p.0 (omega (arith, p.2)) in
+      ended_inside tokens digits count 89 RasterOffset [] middle deeds
+      (setting_read 89 digits count RasterOffset middle deeds refl s each meant)
+      ((tokens_read tokens).0 current (replicate (length seed) 0) (drop count rows) p.4 (omega (arith, length-drop count rows))),
+)
+tokens_read (send digits bytes ∷ tokens) = (
+  λ current seed rows p few. absurd p,
+  λ current seed rows middle deeds p few each meant.
+      let s = sent_parts current seed digits bytes tokens rows p in
+      ended_inside tokens digits (length bytes) 87 RasterRow bytes middle deeds
+      (reads_sequence row_prefix middle (number_parameter digits 87) bytes deeds _ row_prefix_is each meant
+      (row_end digits bytes s.spelled s.small) (row_meant digits bytes s.spelled))
+      ((tokens_read tokens).0 current s.row s.rest s.prints (omega (arith, s.fewer))),
+)
+
+pub body_read : (current : Method) (seed : List ℕ) (tokens : List Token) (rows : List (List ℕ))
+    → PrintsRows false current seed tokens rows → length rows ≤ 65535 → ReadsAs (flat_map token_bytes tokens) (body_deeds tokens)
+body_read current seed tokens rows p few = (tokens_read tokens).0 current seed rows p few
+
+-- ---- begin and end
+
+abbrev page_prefix : Prefix
+page_prefix = record { parameterized = 38; group = Some 108 }
+
+abbrev place_prefix : Prefix
+place_prefix = record { parameterized = 42; group = Some 112 }
+
+abbrev resolution_prefix : Prefix
+resolution_prefix = record { parameterized = 42; group = Some 116 }
+
+abbrev raster_prefix : Prefix
+raster_prefix = record { parameterized = 42; group = Some 114 }
+
+no_digits : IsSpelled [] 0
+no_digits = (tt, refl)
+
+zero_digit : IsSpelled (48 ∷ []) 0
+zero_digit = ((refl, tt), refl)
+
+copies_setting : (copies : ℕ) → copies ≤ 65535 → IsSetting page_prefix 120 (decimal copies) copies Copies
+unfolding operation_of
+copies_setting copies le =
+    record { spelled = decimal_spelled copies (omega arith); small = le; named = refl; alone = refl; stays = refl }
+
+size_code_small : (size : Size) → code_of size ≤ 65535
+size_code_small Executive = lit≤ tt
+size_code_small Letter = lit≤ tt
+size_code_small Legal = lit≤ tt
+size_code_small A4 = lit≤ tt
+
+size_setting : (size : Size) → IsSetting page_prefix 97 (decimal (code_of size)) (code_of size) PageSize
+unfolding operation_of
+size_setting size =
+    let small = size_code_small size in
+    record { spelled = decimal_spelled (code_of size) (omega (arith, small)); small = small; named = refl; alone = refl; stays = refl }
+
+margin_setting : IsSetting page_prefix 69 (48 ∷ []) 0 TopMargin
+unfolding operation_of
+margin_setting = record { spelled = zero_digit; small = lit≤ tt; named = refl; alone = refl; stays = refl }
+
+across_setting : IsSetting place_prefix 120 (48 ∷ []) 0 (Move Horizontal PclUnit)
+unfolding operation_of
+across_setting = record { spelled = zero_digit; small = lit≤ tt; named = refl; alone = refl; stays = refl }
+
+down_setting : IsSetting place_prefix 89 (48 ∷ []) 0 (Move Vertical PclUnit)
+unfolding operation_of
+down_setting = record { spelled = zero_digit; small = lit≤ tt; named = refl; alone = refl; stays = refl }
+
+dots_small : (dpi : Dpi) → dots_per_inch dpi ≤ 65535
+dots_small Dpi300 = lit≤ tt
+dots_small Dpi600 = lit≤ tt
+
+resolution_setting : (dpi : Dpi) → IsSetting resolution_prefix 82 (decimal (dots_per_inch dpi)) (dots_per_inch dpi) RasterResolution
+unfolding operation_of
+resolution_setting dpi =
+    let small = dots_small dpi in
+    record { spelled = decimal_spelled (dots_per_inch dpi) (omega (arith, small)); small = small; named = refl; alone = refl; stays = refl }
+
+width_small : (size : Size) (dpi : Dpi) → page_width size dpi ≤ 65535
+width_small Executive Dpi300 = lit≤ tt
+width_small Letter Dpi300 = lit≤ tt
+width_small Legal Dpi300 = lit≤ tt
+width_small A4 Dpi300 = lit≤ tt
+width_small Executive Dpi600 = lit≤ tt
+width_small Letter Dpi600 = lit≤ tt
+width_small Legal Dpi600 = lit≤ tt
+width_small A4 Dpi600 = lit≤ tt
+
+width_setting : (size : Size) (dpi : Dpi) → IsSetting raster_prefix 115 (decimal (page_width size dpi)) (page_width size dpi) RasterWidth
+unfolding operation_of
+width_setting size dpi =
+    let small = width_small size dpi in
+    let spelled = decimal_spelled (page_width size dpi) (omega (arith, small)) in
+    record { spelled = spelled; small = small; named = refl; alone = refl; stays = refl }
+
+raster_setting : IsSetting raster_prefix 65 (48 ∷ []) 0 StartRaster
+unfolding operation_of
+raster_setting = record { spelled = zero_digit; small = lit≤ tt; named = refl; alone = refl; stays = refl }
+
+end_setting : IsSetting raster_prefix 67 [] 0 EndRasterResetMethod
+unfolding operation_of
+end_setting = record { spelled = no_digits; small = lit≤ tt; named = refl; alone = refl; stays = refl }
+
+-- sequences of settings alone, by their bytes
+abbrev page_bytes : ℕ → Size → List ℕ
+page_bytes copies size =
+    27 ∷ 38 ∷ 108 ∷ (flat_map parameter_bytes (number_parameter (decimal copies) 120 ∷ number_parameter (decimal (code_of size)) 97 ∷ [])
+    ++ (parameter_bytes (number_parameter (48 ∷ []) 69) ++ []))
+
+abbrev place_bytes : List ℕ
+place_bytes = 27 ∷ 42 ∷ 112 ∷ 48 ∷ 120 ∷ 48 ∷ 89 ∷ []
+
+abbrev resolution_bytes : Dpi → List ℕ
+resolution_bytes dpi = 27 ∷ 42 ∷ 116 ∷ (parameter_bytes (number_parameter (decimal (dots_per_inch dpi)) 82) ++ [])
+
+abbrev raster_bytes : Size → Dpi → List ℕ
+raster_bytes size dpi =
+    27 ∷ 42 ∷ 114 ∷ (flat_map parameter_bytes (number_parameter (decimal (page_width size dpi)) 115 ∷ []) ++ (48 ∷ 65 ∷ []))
+
+page_read : (copies : ℕ) (size : Size) → copies ≤ 65535
+    → ReadsAs (page_bytes copies size) (set_to Copies copies ∷ set_to PageSize (code_of size) ∷ set_to TopMargin 0 ∷ [])
+page_read copies size le =
+    let c = copies_setting copies le in
+    let s = size_setting size in
+    reads_sequence page_prefix (number_parameter (decimal copies) 120 ∷ number_parameter (decimal (code_of size)) 97 ∷ [])
+    (number_parameter (48 ∷ []) 69) [] (set_to Copies copies ∷ set_to PageSize (code_of size) ∷ []) (set_to TopMargin 0) (refl, refl)
+    (setting_middle page_prefix 120 _ _ Copies refl c, (setting_middle page_prefix 97 _ _ PageSize refl s, tt))
+    (setting_meant page_prefix 120 _ _ Copies c, (setting_meant page_prefix 97 _ _ PageSize s, tt))
+    (setting_end page_prefix 69 _ _ TopMargin refl margin_setting) (setting_meant page_prefix 69 _ _ TopMargin margin_setting)
+
+place_read : ReadsAs place_bytes (set_to (Move Horizontal PclUnit) 0 ∷ set_to (Move Vertical PclUnit) 0 ∷ [])
+place_read =
+    let across = Move Horizontal PclUnit in
+    let down = Move Vertical PclUnit in
+    reads_sequence place_prefix (number_parameter (48 ∷ []) 120 ∷ []) (number_parameter (48 ∷ []) 89) []
+    (set_to across 0 ∷ []) (set_to down 0) (refl, refl)
+    (setting_middle place_prefix 120 _ _ across refl across_setting, tt) (setting_meant place_prefix 120 _ _ across across_setting, tt)
+    (setting_end place_prefix 89 _ _ down refl down_setting) (setting_meant place_prefix 89 _ _ down down_setting)
+
+resolution_read : (dpi : Dpi) → ReadsAs (resolution_bytes dpi) (set_to RasterResolution (dots_per_inch dpi) ∷ [])
+resolution_read dpi =
+    let r = resolution_setting dpi in
+    reads_sequence resolution_prefix [] (number_parameter (decimal (dots_per_inch dpi)) 82) []
+    [] (set_to RasterResolution (dots_per_inch dpi)) (refl, refl) tt tt
+    (setting_end resolution_prefix 82 _ _ RasterResolution refl r) (setting_meant resolution_prefix 82 _ _ RasterResolution r)
+
+raster_read : (size : Size) (dpi : Dpi)
+    → ReadsAs (raster_bytes size dpi) (set_to RasterWidth (page_width size dpi) ∷ set_to StartRaster 0 ∷ [])
+raster_read size dpi =
+    let w = width_setting size dpi in
+    reads_sequence raster_prefix (number_parameter (decimal (page_width size dpi)) 115 ∷ []) (number_parameter (48 ∷ []) 65) []
+    (set_to RasterWidth (page_width size dpi) ∷ []) (set_to StartRaster 0) (refl, refl)
+    (setting_middle raster_prefix 115 _ _ RasterWidth refl w, tt) (setting_meant raster_prefix 115 _ _ RasterWidth w, tt)
+    (setting_end raster_prefix 65 _ _ StartRaster refl raster_setting) (setting_meant raster_prefix 65 _ _ StartRaster raster_setting)
+
+start_spelled : (dpi : Dpi) (copies : ℕ) (size : Size)
+    → page_bytes copies size ++ (place_bytes ++ (resolution_bytes dpi ++ raster_bytes size dpi)) ≡ start_bytes dpi copies size
+start_spelled dpi copies size = simp (append_assoc, append-nil)
+
+pub start_read : (dpi : Dpi) (copies : ℕ) (size : Size) → copies ≤ 65535
+    → ReadsAs (start_bytes dpi copies size) (start_deeds dpi copies size)
+start_read dpi copies size le =
+    subst (λ (bytes : List ℕ). ReadsAs bytes (start_deeds dpi copies size)) (start_spelled dpi copies size)
+    (reads_joined _ _ _ _ (page_read copies size le)
+    (reads_joined _ _ _ _ place_read (reads_joined _ _ _ _ (resolution_read dpi) (raster_read size dpi))))
+
+feed_named : operation_of (One 12) ≡ Some FormFeed
+unfolding operation_of
+feed_named = refl
+
+reset_named : operation_of (One 69) ≡ Some Reset
+unfolding operation_of
+reset_named = refl
+
+pub end_read : ReadsAs end_bytes end_deeds
+unfolding operation_of
+end_read =
+    reads_joined (27 ∷ 42 ∷ 114 ∷ 67 ∷ []) (12 ∷ []) (set_to EndRasterResetMethod 0 ∷ []) (deed FormFeed zero_value [] ∷ [])
+    (reads_sequence raster_prefix [] (number_parameter [] 67) [] [] (set_to EndRasterResetMethod 0) (refl, refl) tt tt
+    (setting_end raster_prefix 67 [] 0 EndRasterResetMethod refl end_setting)
+    (setting_meant raster_prefix 67 [] 0 EndRasterResetMethod end_setting))
+    (reads_piece (control 12) (deed FormFeed zero_value [] ∷ []) (λ behind. (refl, refl, refl))
+    (λ at. ((feed_named, refl, refl), tt)))
+
+pub frame_read : ReadsAs frame_bytes (reset ∷ [])
+unfolding operation_of
+frame_read = reads_piece (two_character 69) (reset ∷ []) (λ behind. (refl, refl)) (λ at. ((reset_named, refl, refl), tt))

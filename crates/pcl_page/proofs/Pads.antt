@@ -1,0 +1,44 @@
+-- The bits of a row past its width.
+use Rattle.std.proofs.Common.{◌≡◌, ℕ, zero, suc, ◌+◌, ◌-◌, ◌*◌, ◌/◌, ◌%◌, ◌^◌, ◌<◌, ◌≤◌, List, [], ◌∷◌, length, get_or, refl, sym, ap, ◌∙◌, arith}
+use Rattle.std.proofs.Math.ListN.{set}
+use Rattle.std.proofs.Math.Pow.{pow_mono}
+use Rattle.std.proofs.lemmas.Nat.{pow_pos}
+use Rattle.pcl_page.specs.Raster.{first_bits, cleared_past}
+
+-- eight bits are a whole byte
+pub whole_byte : (width byte : ℕ) → 8 ≤ width → first_bits width byte ≡ byte
+whole_byte width byte le =
+    let none : 8 - width ≡ 0 = omega arith in
+    ap (λ (n : ℕ). byte / 2 ^ n * 2 ^ n) none ∙ (let one : byte / 1 * 1 ≡ byte = omega arith in one)
+
+-- a row that is as wide as its bytes
+pub cleared_whole : (row : List ℕ) (width : ℕ) → width ≡ 8 * length row → row ≡ cleared_past width row
+cleared_whole [] width e = refl
+cleared_whole (byte ∷ row) width e =
+    ap (λ (bs : List ℕ). byte ∷ bs) (cleared_whole row (width - 8) (omega arith))
+    ∙ ap (λ (b : ℕ). b ∷ cleared_past (width - 8) row) (sym (whole_byte width byte (omega arith)))
+
+-- what is cut off a byte is its remainder
+bits_less : (step byte : ℕ) → 0 < step → byte - byte % step ≡ byte / step * step
+bits_less step byte some = omega arith
+
+-- in the last byte of a row some bits are kept
+cleared_at : (row : List ℕ) (width last rest : ℕ) → length row ≡ last + 1 → width ≡ 8 * last + rest → 0 < rest → rest < 8
+    → set row last (get_or row last 0 - get_or row last 0 % 2 ^ (8 - rest)) ≡ cleared_past width row
+cleared_at [] width last rest long e some few = absurd (omega arith)
+cleared_at (byte ∷ next ∷ row) width zero rest long e some few = absurd (omega arith)
+cleared_at (byte ∷ []) width zero rest long e some few =
+    let same : rest ≡ width = omega arith in
+    ap (λ (b : ℕ). b ∷ []) (bits_less (2 ^ (8 - rest)) byte (pow_pos (8 - rest)) ∙ ap (λ (n : ℕ). first_bits n byte) same)
+cleared_at (byte ∷ row) width (suc last) rest long e some few =
+    ap (λ (bs : List ℕ). byte ∷ bs) (cleared_at row (width - 8) last rest (omega arith) (omega arith) some few)
+    ∙ ap (λ (b : ℕ). b ∷ cleared_past (width - 8) row) (sym (whole_byte width byte (omega arith)))
+
+-- the same with the numbers of the code
+pub cleared_last : (row : List ℕ) (width : ℕ) → length row ≡ (width + 7) / 8 → 0 < width % 8
+    → set row (length row - 1) (get_or row (length row - 1) 0 - get_or row (length row - 1) 0 % (1 * 2 ^ (8 - width % 8) % 256)) ≡ cleared_past width row
+cleared_last row width long some =
+    let small : 2 ^ (8 - width % 8) ≤ 2 ^ 7 = pow_mono {i = 8 - width % 8} {j = 7} (omega arith) in
+    let step : 1 * 2 ^ (8 - width % 8) % 256 ≡ 2 ^ (8 - width % 8) = omega (arith, small) in
+    ap (λ (n : ℕ). set row (length row - 1) (get_or row (length row - 1) 0 - get_or row (length row - 1) 0 % n)) step
+    ∙ cleared_at row width (length row - 1) (width % 8) (omega arith) (omega arith) some (omega arith)

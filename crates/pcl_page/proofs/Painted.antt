@@ -1,0 +1,22 @@
+-- What a row inks that was decoded and painted.
+use Rattle.std.proofs.Common.{◌≡◌, ℕ, ◌+◌, ◌*◌, Bool, true, false, ◌||◌, ◌&&◌, List, [], ◌∷◌, ◌++◌, length, take, drop, refl, sym, ap, ◌∙◌, arith}
+use Rattle.std.proofs.lemmas.List.{take_at}
+use Rattle.pcl_bitmap.specs.Dots.{raster_dot}
+use Rattle.pcl_page.specs.Raster.{Raster, row_mark, is_below_height}
+
+-- bytes that were written over a whole buffer
+pub written : (new items : List ℕ) (len : ℕ) → length new ≡ len → take len (new ++ drop (length new) items) ≡ new
+written new items len e = take_at new (drop (length new) items) len e
+
+-- a row below the height
+pub painted_dot : (r : Raster) (row sent : List ℕ) (place x y : ℕ) (before after : Bool) → after ≡ (raster_dot r.left place r.scale r.width sent x y || before)
+    → is_below_height r.height r.rows ≡ true → place ≡ r.top + r.rows * r.scale → sent ≡ row → after ≡ ((row_mark row r).covers x y || before)
+painted_dot r row sent place x y before after e below p s =
+    e ∙ ap (λ (n : ℕ). raster_dot r.left n r.scale r.width sent x y || before) p
+    ∙ ap (λ (bs : List ℕ). raster_dot r.left (r.top + r.rows * r.scale) r.scale r.width bs x y || before) s
+    ∙ ap (λ (b : Bool). (b && raster_dot r.left (r.top + r.rows * r.scale) r.scale r.width row x y) || before) (sym below)
+
+-- a row past the height
+pub unpainted_dot : (r : Raster) (row : List ℕ) (x y : ℕ) (before : Bool) → is_below_height r.height r.rows ≡ false → before ≡ ((row_mark row r).covers x y || before)
+unpainted_dot r row x y before below =
+    ap (λ (b : Bool). (b && raster_dot r.left (r.top + r.rows * r.scale) r.scale r.width row x y) || before) (sym below)

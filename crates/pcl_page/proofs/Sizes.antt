@@ -1,0 +1,188 @@
+-- A command that lets the page stay keeps its size.
+use Rattle.std.specs.Prelude.{◌==◌, ◌&&◌, ◌||◌, ◌*◌, ◌/◌, if◌then◌else◌, max, nat_lt, nat_le, length}
+use Rattle.std.proofs.Common.{◌≡◌, ℕ, ◌+◌, Bool, true, false, cond, List, [], ◌∷◌, Option, Some, None, refl, sym, ap, subst, ◌∙◌}
+use Rattle.pcl_base.specs.declared.dpi.Dpi.{Dpi}
+use Rattle.pcl_base.specs.declared.method.Method.{Method}
+use Rattle.pcl_base.specs.declared.operation.Axis.{Axis}
+use Rattle.pcl_base.specs.declared.operation.Axis.TheVariants.{Horizontal, Vertical}
+use Rattle.pcl_base.specs.declared.operation.Unit.{Unit as Measure}
+use Rattle.pcl_base.specs.declared.operation.Operation.{Operation}
+use Rattle.pcl_base.specs.declared.operation.Operation.TheVariants.{Reset, UniversalExit, ClearMargins, HalfLineFeed, HorizontalTab, LineFeed, FormFeed, CarriageReturn, Shift, PageSize, Copies, VerticalMotionIndex, LineSpacing, TopMargin, TextLength, PerforationSkip, OnlyZero, EjectMarked as EjectMarkedPage, UnitOfMeasure, HorizontalMotionIndex, LineTermination, LeftMargin, Move, CursorStack, MacroId, RectangleSize, FillRectangle, FontId, CharacterCode, RasterResolution, RasterWidth, RasterHeight, RasterPresentation, StartRaster, EndRaster, EndRasterResetMethod, RasterMethod, RasterOffset, RasterRow, NoEffect}
+use Rattle.pcl_base.specs.declared.size.Size.{Size}
+use Rattle.pcl_base.specs.declared.value.Value.{Value}
+use Rattle.pcl_base.specs.Size.{size_with_code, units_wide, units_high}
+use Rattle.pcl_base.specs.Method.{method_with_code}
+use Rattle.pcl_base.specs.Value.{whole_of, is_minus, is_below_zero, scaled_by}
+use Rattle.pcl_env.specs.declared.effect.Effect.{Effect}
+use Rattle.pcl_env.specs.declared.effect.Effect.TheVariants.{Stay, Eject, EjectMarked}
+use Rattle.pcl_env.specs.Settings.{Position, Settings, put_x, put_y, defaults, with_size}
+use Rattle.pcl_env.specs.Outcome.{Outcome, stays, stays_if, counted, set_top, set_bottom, set_left, before_feed, return_carriage, feed_limit, feed, move_along, push, pop, popped, set_size, set_rectangle, set_method, unit_of, none_if_zero, is_one_of, line_spacings, units_of_measure, resolutions, outcome}
+
+-- where the page stays, the size does
+abbrev Keeps : Settings → Outcome → Type 0
+Keeps s None = Unit {0}
+Keeps s (Some done) = done.1 ≡ Stay → done.0.size ≡ s.size
+
+record KeepsSize (s : Settings) (o : Outcome) : Type 0 where
+  same : Keeps s o
+
+if_keeps : (test : Bool) (s : Settings) (one other : Outcome) → KeepsSize s one → KeepsSize s other → KeepsSize s (cond test one other)
+if_keeps true s one other p q = p
+if_keeps false s one other p q = q
+
+none_keeps : (s : Settings) → KeepsSize s None
+none_keeps s = record { same = tt }
+
+eject_keeps : (s t : Settings) → KeepsSize s (Some (t, Eject))
+eject_keeps s t = record { same = λ stay. absurd cc }
+
+marked_keeps : (s t : Settings) → KeepsSize s (Some (t, EjectMarked))
+marked_keeps s t = record { same = λ stay. absurd cc }
+
+stay_keeps : (s t : Settings) → t.size ≡ s.size → KeepsSize s (stays t)
+stay_keeps s t e = record { same = λ stay. e }
+
+counted_keeps : (value : Value) (s : Settings) (f : ℕ → Outcome) → ((n : ℕ) → KeepsSize s (f n)) → KeepsSize s (counted value f)
+counted_keeps value s f k = if_keeps (is_below_zero value) s None (f (whole_of value)) (none_keeps s) (k (whole_of value))
+
+stays_if_keeps : (test : Bool) (s t : Settings) → t.size ≡ s.size → KeepsSize s (stays_if test t)
+stays_if_keeps test s t e = if_keeps test s (stays t) None (stay_keeps s t e) (none_keeps s)
+
+feed_keeps : (by : ℕ) (s t : Settings) → t.size ≡ s.size → KeepsSize s (feed by t)
+feed_keeps by s t e =
+    if_keeps (nat_lt (feed_limit t) (t.cursor.y + by)) s (Some (t, Eject)) (stays (put_y (t.cursor.y + by) t)) (eject_keeps s t)
+    (stay_keeps s (put_y (t.cursor.y + by) t) e)
+
+if_size : (test : Bool) (size : Size) (one other : Settings) → one.size ≡ size → other.size ≡ size → (cond test one other).size ≡ size
+if_size true size one other p q = p
+if_size false size one other p q = q
+
+top_size : (top : ℕ) (marked : Bool) (s : Settings) → (set_top top marked s).size ≡ s.size
+top_size top marked s = if_size _ s.size s _ refl (if_size marked s.size _ _ refl refl)
+
+left_size : (left : ℕ) (s : Settings) → (set_left left s).size ≡ s.size
+left_size left s = if_size (nat_lt left (units_wide s.size)) s.size (put_x (max s.cursor.x left) (record s { left = left })) s refl refl
+
+bottom_size : (bottom : ℕ) (s : Settings) → (set_bottom bottom s).size ≡ s.size
+bottom_size bottom s = if_size (nat_lt (units_high s.size) bottom) s.size s (record s { bottom = bottom }) refl refl
+
+push_size : (s : Settings) → (push s).size ≡ s.size
+push_size s = if_size (nat_lt (length s.stack) 20) s.size (record s { stack = s.cursor ∷ s.stack }) s refl refl
+
+axis_size : (axis : Axis) (unit : Measure) (value : Value) (s : Settings) → (move_along axis unit value s).size ≡ s.size
+axis_size Horizontal unit value s = refl
+axis_size Vertical unit value s = refl
+
+rectangle_size : (axis : Axis) (length : ℕ) (s : Settings) → (set_rectangle axis length s).size ≡ s.size
+rectangle_size Horizontal length s = refl
+rectangle_size Vertical length s = refl
+
+pop_size : (stack : List Position) (s : Settings) → (popped stack s).size ≡ s.size
+pop_size [] s = refl
+pop_size (place ∷ older) s = refl
+
+size_keeps : (size : Option Size) (s : Settings) → KeepsSize s (set_size size s)
+size_keeps None s = none_keeps s
+size_keeps (Some size) s = marked_keeps s (with_size size s)
+
+method_keeps : (method : Option Method) (s : Settings) → KeepsSize s (set_method method s)
+method_keeps None s = none_keeps s
+method_keeps (Some method) s = stay_keeps s (record s { method = method }) refl
+
+keeps : (dpi : Dpi) (operation : Operation) (value : Value) (marked : Bool) (s : Settings) → KeepsSize s (outcome dpi operation value marked s)
+unfolding outcome
+keeps dpi Reset v m s = marked_keeps s defaults
+keeps dpi UniversalExit v m s = if_keeps (is_minus v.sign && whole_of v == 12345) s (Some (defaults, EjectMarked)) None (marked_keeps s defaults) (none_keeps s)
+keeps dpi ClearMargins v m s = stay_keeps s _ refl
+keeps dpi HalfLineFeed v m s = feed_keeps (s.vmi / 2) s s refl
+keeps dpi HorizontalTab v m s = stay_keeps s _ refl
+keeps dpi LineFeed v m s = feed_keeps s.vmi s (before_feed s) (if_size s.feed_returns s.size (return_carriage s) s refl refl)
+keeps dpi FormFeed v m s = eject_keeps s (before_feed s)
+keeps dpi CarriageReturn v m s = if_keeps s.return_feeds s (feed s.vmi (return_carriage s)) (stays (return_carriage s)) (feed_keeps s.vmi s (return_carriage s) refl)
+    (stay_keeps s (return_carriage s) refl)
+keeps dpi (Shift side) v m s = stay_keeps s _ refl
+keeps dpi PageSize v m s =
+    counted_keeps v s (λ n. set_size (size_with_code n) s)
+    (λ n. size_keeps (size_with_code n) s)
+keeps dpi Copies v m s =
+    counted_keeps v s (λ n. stays_if (nat_le 1 n && nat_le n 99) (record s { copies = n }))
+    (λ n. stays_if_keeps _ s _ refl)
+keeps dpi VerticalMotionIndex v m s =
+    counted_keeps v s (λ n. stays (record s { vmi = scaled_by 150 v }))
+    (λ n. stay_keeps s _ refl)
+keeps dpi LineSpacing v m s =
+    counted_keeps v s (λ n. stays_if (is_one_of line_spacings n) (record s { vmi = 7200 / n }))
+    (λ n. stays_if_keeps _ s _ refl)
+keeps dpi TopMargin v m s =
+    counted_keeps v s (λ n. stays (set_top (n * s.vmi) m s))
+    (λ n. stay_keeps s (set_top (n * s.vmi) m s) (top_size (n * s.vmi) m s))
+keeps dpi TextLength v m s =
+    counted_keeps v s (λ n. stays_if (nat_le 1 n) (set_bottom (s.top + n * s.vmi) s))
+    (λ n. stays_if_keeps (nat_le 1 n) s (set_bottom (s.top + n * s.vmi) s) (bottom_size (s.top + n * s.vmi) s))
+keeps dpi PerforationSkip v m s =
+    counted_keeps v s (λ n. stays_if (nat_le n 1) (record s { skips = n == 1 }))
+    (λ n. stays_if_keeps _ s _ refl)
+keeps dpi OnlyZero v m s = stays_if_keeps (whole_of v == 0) s s refl
+keeps dpi EjectMarkedPage v m s = marked_keeps s s
+keeps dpi UnitOfMeasure v m s =
+    counted_keeps v s (λ n. stays_if (is_one_of units_of_measure n) (record s { pcl_unit = 7200 / n }))
+    (λ n. stays_if_keeps _ s _ refl)
+keeps dpi HorizontalMotionIndex v m s =
+    counted_keeps v s (λ n. stays (record s { hmi = scaled_by 60 v }))
+    (λ n. stay_keeps s _ refl)
+keeps dpi LineTermination v m s =
+    counted_keeps v s (λ n. stays_if (nat_le n 3) (record s { return_feeds = n == 1 || n == 3; feed_returns = n == 2 || n == 3 }))
+    (λ n. stays_if_keeps _ s _ refl)
+keeps dpi LeftMargin v m s =
+    counted_keeps v s (λ n. stays (set_left (n * s.hmi) s))
+    (λ n. stay_keeps s (set_left (n * s.hmi) s) (left_size (n * s.hmi) s))
+keeps dpi (Move axis unit) v m s = stay_keeps s (move_along axis unit v s) (axis_size axis unit v s)
+keeps dpi CursorStack v m s =
+    counted_keeps v s (λ n. if n == 0 then stays (push s) else stays_if (n == 1) (pop s))
+    (λ n. if_keeps (n == 0) s (stays (push s)) (stays_if (n == 1) (pop s)) (stay_keeps s (push s) (push_size s)) (stays_if_keeps (n == 1) s (pop s) (pop_size s.stack s)))
+keeps dpi MacroId v m s =
+    counted_keeps v s (λ n. stays_if (nat_le n 32767) (record s { macro_id = n }))
+    (λ n. stays_if_keeps _ s _ refl)
+keeps dpi (RectangleSize axis unit) v m s =
+    counted_keeps v s (λ n. stays (set_rectangle axis (scaled_by (unit_of axis unit s) v) s))
+    (λ n. stay_keeps s (set_rectangle axis (scaled_by (unit_of axis unit s) v) s) (rectangle_size axis (scaled_by (unit_of axis unit s) v) s))
+keeps dpi FillRectangle v m s =
+    counted_keeps v s (λ n. stays_if (is_one_of (0 ∷ 1 ∷ 5 ∷ []) n) s)
+    (λ n. stays_if_keeps _ s _ refl)
+keeps dpi FontId v m s =
+    counted_keeps v s (λ n. stays_if (nat_le n 32767) (record s { font_id = n }))
+    (λ n. stays_if_keeps _ s _ refl)
+keeps dpi CharacterCode v m s =
+    counted_keeps v s (λ n. stays_if (nat_le n 255) (record s { character_code = n }))
+    (λ n. stays_if_keeps _ s _ refl)
+keeps dpi RasterResolution v m s =
+    counted_keeps v s (λ n. stays_if (is_one_of (resolutions dpi) n) (record s { resolution = n }))
+    (λ n. stays_if_keeps _ s _ refl)
+keeps dpi RasterWidth v m s =
+    counted_keeps v s (λ n. stays (record s { raster_width = none_if_zero n }))
+    (λ n. stay_keeps s _ refl)
+keeps dpi RasterHeight v m s =
+    counted_keeps v s (λ n. stays (record s { raster_height = none_if_zero n }))
+    (λ n. stay_keeps s _ refl)
+keeps dpi RasterPresentation v m s =
+    counted_keeps v s (λ n. stays_if (n == 0 || n == 3) s)
+    (λ n. stays_if_keeps _ s _ refl)
+keeps dpi StartRaster v m s =
+    counted_keeps v s (λ n. stays_if (nat_le n 1) s)
+    (λ n. stays_if_keeps _ s _ refl)
+keeps dpi EndRaster v m s = stay_keeps s _ refl
+keeps dpi EndRasterResetMethod v m s = stay_keeps s _ refl
+keeps dpi RasterMethod v m s =
+    counted_keeps v s (λ n. set_method (method_with_code n) s)
+    (λ n. method_keeps (method_with_code n) s)
+keeps dpi RasterOffset v m s =
+    counted_keeps v s (λ n. stays s)
+    (λ n. stay_keeps s _ refl)
+keeps dpi RasterRow v m s =
+    counted_keeps v s (λ n. stays s)
+    (λ n. stay_keeps s _ refl)
+keeps dpi NoEffect v m s = stay_keeps s _ refl
+
+pub size_kept : (dpi : Dpi) (operation : Operation) (value : Value) (marked : Bool) (s settings : Settings) → outcome dpi operation value marked s ≡ Some (settings, Stay)
+    → settings.size ≡ s.size
+size_kept dpi operation value marked s settings o = (subst (KeepsSize s) o (keeps dpi operation value marked s)).same refl

@@ -1,0 +1,41 @@
+use Rattle.std.proofs.Common.{◌≡◌, ◌∙◌, Bool, Option, Some, None, refl, sym, ap, cond, ◌||◌, true, false}
+use Rattle.pcl_base.specs.declared.method.Method.{Method}
+use Rattle.pcl_bitmap.specs.Bitmap.{dot}
+use Rattle.pcl_page.specs.Raster.{Raster, row_sent, with_row, row_mark}
+use Rattle.pcl_page.specs.History.{raster_for_row}
+use Rattle.pcl_page.proofs.performer.Performer.send_row.Goals as goal
+use Rattle.pcl_page.proofs.performer.Performer.send_row.Goals.{in-Some, in-None+in_ok-raster-in-None}
+
+-- black over another ink
+or_is : (covered before : Bool) → (covered || before) ≡ cond covered true before
+or_is true before = refl
+or_is false before = refl
+
+pub returns : goal.returns
+returns c =
+    let old = c.args.self.now in
+    let raster = c.match-take.raster in
+    let is : raster ≡ raster_for_row c.args.dpi old.raster old.environment =
+    elim c.match-take.branch [
+      | in-Some w ↦ w.raster-is ∙ sym (ap (λ (r : Option Raster). raster_for_row c.args.dpi r old.environment) (sym c.take.ensures.value ∙ w.in-Some.is))
+      | in-None+in_ok-raster-in-None w ↦
+          w.raster-is ∙ w.in_ok-raster-in-None.ensures ∙ sym (ap (λ (r : Option Raster). raster_for_row c.args.dpi r old.environment) (sym c.take.ensures.value ∙ w.in-None.is))
+    ] in
+    let method = c.method.ensures in
+    record {
+      raster = raster;
+      raster_is = is;
+      sent = ap (λ (r : Raster). Some r) c.send.ensures.raster ∙ ap (λ (m : Method). Some (with_row (row_sent m c.args.bytes.now raster) raster)) method;
+      drawn = record {
+        settings = refl;
+        marked = refl;
+        ejected = refl;
+        performed = refl;
+        size = c.send.ensures.size;
+        resolution = c.send.ensures.dpi;
+        dots = λ x y wide high.
+            c.send.ensures.dots x y wide high
+            ∙ ap (λ (m : Method). (row_mark (row_sent m c.args.bytes.now raster) raster).covers x y || dot old.page.bitmap x y) method
+            ∙ or_is ((row_mark (row_sent old.environment.method c.args.bytes.now raster) raster).covers x y) (dot old.page.bitmap x y);
+      };
+    }

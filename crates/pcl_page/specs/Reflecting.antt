@@ -1,0 +1,165 @@
+-- The performer and the situation that it is in. Only contracts of private functions cite this.
+use Rattle.std.specs.Prelude.{◌≡◌, ℕ, ◌+◌, ◌<◌, true, false, if◌then◌else◌, List, [], ◌∷◌, ◌++◌, length, ◌⊎◌, Option, Some, None, Result, Ok, Err}
+use Rattle.pcl_base.specs.declared.dpi.Dpi.{Dpi}
+use Rattle.pcl_base.specs.declared.fault.JobFault.{JobFault}
+use Rattle.pcl_base.specs.declared.fault.JobFault.TheVariants as job
+use Rattle.pcl_base.specs.declared.fault.CallFault.{CallFault}
+use Rattle.pcl_base.specs.declared.fault.CallFault.TheVariants.{Refused, Memory}
+use Rattle.pcl_base.specs.declared.kind.Kind.{Kind}
+use Rattle.pcl_base.specs.declared.kind.Kind.TheVariants.{UnsupportedValue}
+use Rattle.pcl_base.specs.declared.name.Name.TheVariants.{Empty}
+use Rattle.pcl_base.specs.declared.operation.Operation.{Operation}
+use Rattle.pcl_base.specs.declared.refusal.Refusal.{Refusal}
+use Rattle.pcl_base.specs.declared.size.Size.{Size}
+use Rattle.pcl_base.specs.Operation.{operation_of}
+use Rattle.pcl_base.specs.Refusal.{refusal}
+use Rattle.pcl_base.specs.Size.{page_width, page_height}
+use Rattle.pcl_bitmap.specs.Bitmap.{Picture, dot}
+use Rattle.pcl_escape.specs.Said.{Said}
+use Rattle.pcl_env.specs.Settings.{Settings, to_first_line}
+use Rattle.pcl_env.specs.Outcome.{Outcome, outcome}
+use Rattle.pcl_page.specs.declared.page.Page.{Page}
+use Rattle.pcl_page.specs.declared.performer.Performer.{Performer}
+use Rattle.pcl_bitmap.specs.Dots.{is_black_ink}
+use Rattle.pcl_page.specs.Marks.{Mark, is_black}
+use Rattle.pcl_page.specs.Raster.{Raster, row_sent, with_row, row_mark, ends_raster}
+use Rattle.pcl_page.specs.History.{Sheet, Situation, raster_for_row, settings_below, is_marked, turned, at_end, page_refusal, command_refusal, after}
+use Rattle.pcl_page.specs.Performing.{Hands}
+
+-- a bitmap of this size shows marks
+pub record IsPainted (dpi : Dpi) (size : Size) (marks : List Mark) (bitmap : Picture) : Type 0 where
+  pub size_is : bitmap.size ≡ size
+  pub dpi_is : bitmap.dpi ≡ dpi
+  pub dots : (x y : ℕ) → x < page_width size dpi → y < page_height size dpi → dot bitmap x y ≡ is_black marks x y
+
+-- the performer is in the situation
+pub record IsIn (dpi : Dpi) (s : Situation) (performer : Performer) : Type 0 where
+  pub settings : performer.environment ≡ s.settings
+  pub raster : performer.raster ≡ s.raster
+  pub marked : performer.is_marked ≡ is_marked s
+  pub ejected : performer.ejected ≡ length s.pages
+  pub performed : performer.performed ≡ s.performed
+  pub painted : IsPainted dpi s.settings.size s.marks performer.page.bitmap
+
+-- no dot is black
+abbrev pub IsWhite : Picture → Type 0
+IsWhite bitmap = (x y : ℕ) → x < page_width bitmap.size bitmap.dpi → y < page_height bitmap.size bitmap.dpi → dot bitmap x y ≡ false
+
+-- the page has the size that is set: it is the same where it had that already, and white where it was white
+pub record IsFollowed (old new : Performer) : Type 0 where
+  pub settings : new.environment ≡ old.environment
+  pub raster : new.raster ≡ old.raster
+  pub marked : new.is_marked ≡ old.is_marked
+  pub ejected : new.ejected ≡ old.ejected
+  pub performed : new.performed ≡ old.performed
+  pub size : new.page.bitmap.size ≡ old.environment.size
+  pub resolution : new.page.bitmap.dpi ≡ old.page.bitmap.dpi
+  pub same : old.page.bitmap.size ≡ old.environment.size → new.page.bitmap ≡ old.page.bitmap
+  pub white : IsWhite old.page.bitmap → IsWhite new.page.bitmap
+
+-- the page was handed over, and a white one of its size begins
+pub record IsEjected (old new : Performer) : Type 0 where
+  pub settings : new.environment ≡ to_first_line old.environment
+  pub raster : new.raster ≡ old.raster
+  pub marked : new.is_marked ≡ false
+  pub ejected : new.ejected ≡ old.ejected + 1
+  pub performed : new.performed ≡ old.performed
+  pub size : new.page.bitmap.size ≡ old.page.bitmap.size
+  pub resolution : new.page.bitmap.dpi ≡ old.page.bitmap.dpi
+  pub white : IsWhite new.page.bitmap
+
+-- the page is the performer's with these copies
+pub record IsHanded (copies : ℕ) (performer : Performer) (page : Page) : Type 0 where
+  pub size : page.size ≡ performer.page.size
+  pub resolution : page.dpi ≡ performer.page.dpi
+  pub copies_are : page.copies ≡ copies
+  pub bitmap : page.bitmap ≡ performer.page.bitmap
+
+-- the sink took the page with these copies
+abbrev pub Takes : {S : Type 0} → (S → Page → S → Type 0) → ℕ → Performer → S → S → Type 0
+Takes {S} takes copies performer old new = (page : Page) × IsHanded copies performer page × takes old page new
+
+-- the raster is this one, and all else is as before
+pub record HasRaster (raster : Option Raster) (old new : Performer) : Type 0 where
+  pub settings : new.environment ≡ old.environment
+  pub raster_is : new.raster ≡ raster
+  pub marked : new.is_marked ≡ old.is_marked
+  pub ejected : new.ejected ≡ old.ejected
+  pub performed : new.performed ≡ old.performed
+  pub bitmap : new.page.bitmap ≡ old.page.bitmap
+
+-- a raster that the command ends has ended, and all else but the cursor is as before
+pub record IsPrepared (dpi : Dpi) (operation : Operation) (old new : Performer) : Type 0 where
+  pub settings : new.environment ≡ (if ends_raster operation then settings_below dpi old.raster old.environment else old.environment)
+  pub raster : new.raster ≡ (if ends_raster operation then None else old.raster)
+  pub marked : new.is_marked ≡ old.is_marked
+  pub ejected : new.ejected ≡ old.ejected
+  pub performed : new.performed ≡ old.performed
+  pub bitmap : new.page.bitmap ≡ old.page.bitmap
+
+-- something was drawn on the page
+pub record IsDrawn (mark : Mark) (old new : Performer) : Type 0 where
+  pub settings : new.environment ≡ old.environment
+  pub marked : new.is_marked ≡ true
+  pub ejected : new.ejected ≡ old.ejected
+  pub performed : new.performed ≡ old.performed
+  pub size : new.page.bitmap.size ≡ old.page.bitmap.size
+  pub resolution : new.page.bitmap.dpi ≡ old.page.bitmap.dpi
+  pub dots : (x y : ℕ) → x < page_width old.page.bitmap.size old.page.bitmap.dpi → y < page_height old.page.bitmap.size old.page.bitmap.dpi
+      → dot new.page.bitmap x y ≡ (if mark.covers x y then is_black_ink mark.ink else dot old.page.bitmap x y)
+
+-- a row was sent to the raster that has begun, or to one that starts at the page's left edge
+pub record IsSent (dpi : Dpi) (bytes : List ℕ) (old new : Performer) : Type 0 where
+  pub raster : Raster
+  pub raster_is : raster ≡ raster_for_row dpi old.raster old.environment
+  pub sent : new.raster ≡ Some (with_row (row_sent old.environment.method bytes raster) raster)
+  pub drawn : IsDrawn (row_mark (row_sent old.environment.method bytes raster) raster) old new
+
+-- the sink took the pages by which a situation has more than another
+abbrev pub HandsMore : {S : Type 0} → (S → Page → S → Type 0) → Dpi → Situation → Situation → S → S → Type 0
+HandsMore {S} takes dpi before now old new = (more : List Sheet) × (now.pages ≡ before.pages ++ more) × Hands takes dpi more old new
+
+-- the settings of an outcome were set and the page was turned; or why not, and then the sink is as before; or memory ran out, before the page
+-- was handed over that is ejected or after that
+abbrev pub IsTurned : {S : Type 0} → (S → Page → S → Type 0) → Dpi → Outcome → Situation → Result (Unit {0}) CallFault → Performer → S → S → Type 0
+IsTurned {S} takes dpi (Some done) s (Ok unit) new old_sink new_sink =
+    IsIn dpi (turned done.0 done.1 s) new × (page_refusal (turned done.0 done.1 s) ≡ None) × HandsMore takes dpi s (turned done.0 done.1 s) old_sink new_sink
+IsTurned {S} takes dpi (Some done) s (Err (Refused kind)) new old_sink new_sink =
+    (page_refusal (turned done.0 done.1 s) ≡ Some kind) × (new_sink ≡ old_sink)
+IsTurned {S} takes dpi None s (Ok unit) new old_sink new_sink = ⊥
+IsTurned {S} takes dpi None s (Err (Refused kind)) new old_sink new_sink = (kind ≡ UnsupportedValue) × (new_sink ≡ old_sink)
+IsTurned {S} takes dpi None s (Err Memory) new old_sink new_sink = new_sink ≡ old_sink
+IsTurned {S} takes dpi (Some done) s (Err Memory) new old_sink new_sink =
+    (new_sink ≡ old_sink)
+    ⊎ ((page_refusal (turned done.0 done.1 s) ≡ None) × HandsMore takes dpi s (turned done.0 done.1 s) old_sink new_sink)
+
+-- a command was performed, or it is refused, or memory ran out, before the page was handed over that it ejects or after that
+abbrev pub IsTried : {S : Type 0} → (S → Page → S → Type 0) → Dpi → Said → Situation → Result (Unit {0}) CallFault → Performer → S → S → Type 0
+IsTried {S} takes dpi command s (Ok unit) new old_sink new_sink =
+    (operation : Operation) × (later : Situation) × (operation_of command.name ≡ Some operation) × (after dpi operation command s ≡ Some later)
+    × (command_refusal dpi command s ≡ None) × IsIn dpi later new × HandsMore takes dpi s later old_sink new_sink
+IsTried {S} takes dpi command s (Err (Refused kind)) new old_sink new_sink = (command_refusal dpi command s ≡ Some kind) × (new_sink ≡ old_sink)
+IsTried {S} takes dpi command s (Err Memory) new old_sink new_sink =
+    (new_sink ≡ old_sink)
+    ⊎ ((operation : Operation) × (later : Situation) × (operation_of command.name ≡ Some operation) × (after dpi operation command s ≡ Some later)
+    × (command_refusal dpi command s ≡ None) × HandsMore takes dpi s later old_sink new_sink)
+
+-- the refusal of a command names it
+abbrev pub fault_of : Said → CallFault → JobFault
+fault_of command (Refused kind) = job.Refused (refusal kind command.at command.name)
+fault_of command Memory = job.Memory
+
+abbrev pub result_of : Said → Result (Unit {0}) CallFault → Result (Unit {0}) JobFault
+result_of command (Ok unit) = Ok unit
+result_of command (Err fault) = Err (fault_of command fault)
+
+abbrev pub CommandDone : {S : Type 0} → (S → Page → S → Type 0) → Dpi → Said → Situation → Result (Unit {0}) JobFault → Performer → S → S → Type 0
+CommandDone {S} takes dpi command s result new old_sink new_sink =
+    (tried : Result (Unit {0}) CallFault) × (result ≡ result_of command tried) × IsTried takes dpi command s tried new old_sink new_sink
+
+-- the input's end was performed, or it is refused at the end with the empty name, or memory ran out
+abbrev pub EndDone : {S : Type 0} → (S → Page → S → Type 0) → Dpi → ℕ → Situation → Result (Unit {0}) JobFault → S → S → Type 0
+EndDone {S} takes dpi end s (Ok unit) old_sink new_sink = (page_refusal (at_end dpi s) ≡ None) × HandsMore takes dpi s (at_end dpi s) old_sink new_sink
+EndDone {S} takes dpi end s (Err (job.Refused why)) old_sink new_sink =
+    (kind : Kind) × (page_refusal (at_end dpi s) ≡ Some kind) × (why ≡ refusal kind end Empty) × (new_sink ≡ old_sink)
+EndDone {S} takes dpi end s (Err job.Memory) old_sink new_sink = new_sink ≡ old_sink
