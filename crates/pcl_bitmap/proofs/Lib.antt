@@ -2,3 +2,4 @@ pub mod Bytes
 pub mod Runs
 pub mod Pages
 pub mod Pictures
+pub mod KernelLanes

@@ -5,7 +5,7 @@ ghost use Rattle.pcl_base.specs.Size.{page_width, page_height, page_row_bytes};
 ghost use Rattle.pcl_bitmap.specs.Bitmap.{IsPicture, row_of, dot_of_row, dot, blank_picture};
 ghost use Rattle.pcl_bitmap.specs.Dots.{raster_dot};
 
-use crate::bits;
+use crate::{bits, kernels};
 use pcl_base::{Dpi, Size};
 use std::alloc::{AllocError, Global};
 use std::marker::Model;
@@ -87,7 +87,7 @@ impl Bitmap {
         ensures bytes { IsTrue result ↔ All (λ byte. byte ≡ 0) (row_of self.now y) }
         ensures dots { IsTrue result ↔ ((x : ℕ) → x < page_width self.now.size self.now.dpi → dot self.now x y ≡ false) }
     {
-        bits::is_zero(self.row(y))
+        kernels::is_zero(self.row(y))
     }
 
     /// Makes the page white. It takes no memory.

@@ -1,0 +1,18 @@
+use Rattle.std.proofs.Common.{◌≡◌, ◌+◌, ℕ, subst, arith}
+use Rattle.pcl_bitmap.proofs.KernelLanes.{AreSameTo, same_more}
+use Rattle.pcl_bitmap.proofs.kernels.first_difference.Goals as goal
+
+pub returns-then-same-lt32 : goal.returns-then-same-lt32
+returns-then-same-lt32 c =
+    let a = c.args.a.now in
+    let b = c.args.b.now in
+    let count = c.same_lanes-same.result in
+    let to = same_more a b c.loop-place.place count c.loop-place.invariant (omega (arith, c.same_lanes-same.ensures.within)) c.same_lanes-same.ensures.same in
+    record { within = to.within; same = to.same; differs = λ inside. c.same_lanes-same.ensures.differs c.if-same-lt32.true }
+
+pub loop-place-preserved : goal.loop-place-preserved
+loop-place-preserved c =
+    let all : c.same_lanes-same.result ≡ 32 = omega (arith, c.same_lanes-same.ensures.within, c.if-same-lt32.false) in
+    let count = c.same_lanes-same.result in
+    subst (λ (n : ℕ). AreSameTo c.args.a.now c.args.b.now (c.loop-place.place + n)) all
+    (same_more c.args.a.now c.args.b.now c.loop-place.place count c.loop-place.invariant (omega (arith, c.same_lanes-same.ensures.within)) c.same_lanes-same.ensures.same)
