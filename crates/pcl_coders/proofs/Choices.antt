@@ -8,7 +8,8 @@ use Rattle.pcl_base.specs.declared.method.Method.TheVariants.{Plain, Runs, Packe
 use Rattle.pcl_rows.specs.Heads.{Head, head_bytes, offset_of}
 use Rattle.pcl_rows.specs.Elements.{Element, IsElement, given, given_by, stop}
 use Rattle.pcl_coders.specs.RowWalks.{Agrees, cost}
-use Rattle.pcl_coders.specs.Choosing.{IsRunLen, IsSameLen, IsLeastLen, IsPlace}
+use Rattle.pcl_coders.specs.Choosing.{IsLeastLen, IsPlace}
+use Rattle.pcl_coders.proofs.Prefixes.{IsRunLen, IsSameLen}
 use Rattle.pcl_coders.specs.Replacement.{replacement, replacement_bytes}
 use Rattle.pcl_coders.specs.declared.step.Step.{Step}
 use Rattle.pcl_coders.specs.declared.step.Step.TheVariants.{SingleByte, Run, LiteralRun, RepeatRun, Replace}

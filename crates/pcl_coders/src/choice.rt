@@ -4,9 +4,9 @@ ghost use Rattle.std.specs.Prelude.{◌≡◌, ℕ, List, ◌+◌, ◌*◌, ◌<
 ghost use Rattle.pcl_coders.specs.Choosing.{IsLeastLen, IsPlace};
 ghost use Rattle.pcl_base.specs.declared.method.Method.TheVariants as methods;
 
-use crate::prefix::{run_len, same_len};
 use crate::step::Step;
 use pcl_base::Method;
+use pcl_bitmap::{first_difference, run_end};
 
 /// An element, and how many bytes it and least data behind it have together.
 #[derive(Clone, Copy)]
@@ -41,7 +41,7 @@ impl Choice {
         requires { IsPlace wanted.now numbers.now }
         ensures { (old : List ℕ) → length old ≡ length wanted.now → IsStepChoice methods.Runs old wanted.now numbers.now result.step result.sum }
     {
-        let longest = run_len(wanted).min(256);
+        let longest = run_end(wanted, 0).min(256);
         let best = LeastLen::among(numbers, 1, longest, 2, 0, Tie::Longest);
         Choice {
             step: Step::Run { len: best.len },
@@ -54,7 +54,7 @@ impl Choice {
         ensures { (old : List ℕ) → length old ≡ length wanted.now → IsStepChoice methods.Packed old wanted.now numbers.now result.step result.sum }
     {
         let literal = LeastLen::among(numbers, 1, wanted.len().min(128), 1, 1, Tie::Longest);
-        let longest = run_len(wanted).min(128);
+        let longest = run_end(wanted, 0).min(128);
         if longest >= 2 {
             let repeat = LeastLen::among(numbers, 2, longest, 2, 0, Tie::Longest);
             if repeat.beats(literal, Tie::Longest) {
@@ -75,7 +75,7 @@ impl Choice {
         requires place { IsPlace wanted.now numbers.now }
         ensures { IsStepChoice methods.Delta old.now wanted.now numbers.now result.step result.sum }
     {
-        let same = same_len(old, wanted).min(wanted.len() - 1);
+        let same = first_difference(old, wanted).min(wanted.len() - 1);
         let mut best = Choice::behind(0, wanted.len(), numbers);
         for offset in 1..same + 1 {
             let next = Choice::behind(offset, wanted.len(), numbers);

@@ -4,7 +4,6 @@
 mod choice;
 mod coder;
 mod laws;
-mod prefix;
 mod step;
 mod table;
 
