@@ -4,3 +4,8 @@ pub mod Shapes
 pub mod Prefixes
 pub mod Choices
 pub mod Filling
+pub mod Ends
+pub mod Places
+pub mod Queues
+pub mod Literals
+pub mod Tables

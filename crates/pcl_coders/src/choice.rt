@@ -1,7 +1,8 @@
 //! The element that begins the least data for the rest of a row.
 
-ghost use Rattle.std.specs.Prelude.{◌≡◌, ℕ, List, ◌+◌, ◌*◌, ◌<◌, ◌≤◌, length, slice_index, IsTrue, IsFalse};
+ghost use Rattle.std.specs.Prelude.{◌≡◌, ℕ, List, ◌+◌, ◌-◌, ◌*◌, ◌<◌, ◌≤◌, min, length, slice_index, IsTrue, IsFalse};
 ghost use Rattle.pcl_coders.specs.Choosing.{IsLeastLen, IsPlace};
+ghost use Rattle.pcl_coders.specs.Replacement.{replacement_bytes};
 ghost use Rattle.pcl_base.specs.declared.method.Method.TheVariants as methods;
 
 use crate::step::Step;
@@ -93,16 +94,11 @@ impl Choice {
         requires small { row_bytes ≤ 600 }
         ensures { IsReplacement offset row_bytes numbers.now result.step result.sum }
     {
-        let head = if offset < 31 {
-            1
-        } else {
-            2 + (offset - 31) / 255
-        };
         let best = LeastLen::among(
             &numbers[offset..],
             1,
             (row_bytes - offset).min(8),
-            head,
+            command_bytes(offset),
             1,
             Tie::Shortest,
         );
@@ -114,6 +110,26 @@ impl Choice {
             sum: best.sum,
         }
     }
+}
+
+/// How many bytes the command of a replacement has, with those that lengthen its offset.
+pub fn command_bytes(offset: usize) -> usize
+    ensures { result ≡ replacement_bytes offset }
+{
+    if offset < 31 {
+        1
+    } else {
+        2 + (offset - 31) / 255
+    }
+}
+
+/// The least of the replaced bytes and the number behind them, where a replacement starts at the first place.
+pub fn least_behind(numbers: &[u16]) -> usize
+    requires some { 1 < length numbers.now }
+    requires small { length numbers.now ≤ 601 }
+    ensures { (len : ℕ) × IsLeastLen numbers.now 1 (min (length numbers.now - 1) 8) 0 1 len result }
+{
+    LeastLen::among(numbers, 1, (numbers.len() - 1).min(8), 0, 1, Tie::Shortest).sum
 }
 
 /// Which length is taken among several that give the least sum.

@@ -3,12 +3,15 @@
 
 mod choice;
 mod coder;
+mod fill;
 mod laws;
 mod step;
 mod table;
+mod window;
 
 pub use coder::{Delta, Packed, Plain, RowCoder, Runs};
 pub use laws::{first_number_is_least, numbers_are_least, row_table_bounds_data};
+pub use window::Window;
 
 #[cfg(test)]
 mod tests;
