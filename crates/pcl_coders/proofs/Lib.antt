@@ -9,3 +9,4 @@ pub mod Places
 pub mod Queues
 pub mod Literals
 pub mod Tables
+pub mod Starts

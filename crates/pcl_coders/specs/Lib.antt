@@ -7,3 +7,4 @@ pub mod Choosing
 pub mod Filling
 pub mod Windows
 pub mod WindowModel
+pub mod Starts
