@@ -16,4 +16,6 @@ pub use laws::{
 pub use window::Window;
 
 #[cfg(test)]
+mod plain_tables;
+#[cfg(test)]
 mod tests;

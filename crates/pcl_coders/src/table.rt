@@ -113,7 +113,7 @@ fn base_row<'a>(method: Method, seed: &'a [u8], zeros: &'a [u8]) -> &'a [u8]
 
 /// Appends the best element of each place, up to where no more data is needed. Where memory runs out, some
 /// of the bytes may stand there.
-fn append_steps(
+pub fn append_steps(
     method: Method,
     old: &[u8],
     row: &[u8],
