@@ -1,8 +1,8 @@
 -- The numbers of places, one after the other from the row's end.
-use Rattle.std.proofs.Common.{◌≡◌, ◌≢◌, ℕ, zero, suc, ◌+◌, ◌-◌, ◌*◌, ◌/◌, ◌<◌, ◌≤◌, ◌⊎◌, min, List, [], ◌∷◌, length, get_or, set, take, drop, replicate, refl, sym, ap, ◌∙◌, subst, inl, inr, arith}
+use Rattle.std.proofs.Common.{◌≡◌, ◌≢◌, ℕ, zero, suc, ◌+◌, ◌-◌, ◌*◌, ◌<◌, ◌≤◌, min, List, length, get_or, set, take, drop, replicate, refl, sym, ap, ◌∙◌, subst, inl, inr, arith}
 use Rattle.std.specs.Prelude.{slice_index}
 use Rattle.std.proofs.lemmas.Bool.{cases_lt}
-use Rattle.std.proofs.lemmas.List.{ext_get_or, drop-drop, length-drop, length-take, length-take-le, length-replicate, take_at, take-take, take-replicate, get_or-drop, get_or-take, get_or-replicate, get_or-set_same}
+use Rattle.std.proofs.lemmas.List.{ext_get_or, drop-drop, length-drop, length-take, length-take-le, length-replicate, get_or-drop, get_or-take, get_or-replicate, get_or-set_same}
 use Rattle.pcl_base.specs.declared.method.Method.{Method}
 use Rattle.pcl_base.specs.declared.method.Method.TheVariants.{Plain, Runs, Packed, Delta}
 use Rattle.pcl_bitmap.specs.Kernels.{IsFirstDifference, IsRunEnd}
@@ -10,13 +10,13 @@ use Rattle.pcl_rows.specs.Elements.{Element, IsElement, given, stop}
 use Rattle.pcl_coders.specs.RowWalks.{Agrees, Ends, cost}
 use Rattle.pcl_coders.specs.Choosing.{IsLeastLen, IsPlace}
 use Rattle.pcl_coders.specs.Replacement.{replacement_bytes}
-use Rattle.pcl_coders.specs.Filling.{IsPlaceNumber, AreRightFrom, IsFirstEnd, IsBegun}
+use Rattle.pcl_coders.specs.Filling.{IsPlaceNumber, AreRightFrom, IsBegun}
 use Rattle.pcl_coders.specs.declared.step.Step.{Step}
 use Rattle.pcl_coders.specs.declared.step.Step.TheVariants.{SingleByte, Run, LiteralRun, RepeatRun, Replace}
 use Rattle.pcl_coders.specs.Step.{element_of, step_stop, IsStepChoice}
 use Rattle.pcl_coders.proofs.Shapes.{runs_shape, packed_shape, near_bytes, far_bytes}
 use Rattle.pcl_coders.proofs.Prefixes.{run_len_of, same_len_of}
-use Rattle.pcl_coders.proofs.Choices.{agrees_gives, IsStepElement, run_step, repeat_step, literal_step, plain_choice, runs_choice, IsBestReplacement, delta_choice}
+use Rattle.pcl_coders.proofs.Choices.{agrees_gives, IsStepElement, run_step, repeat_step, literal_step, plain_choice, runs_choice, delta_choice}
 use Rattle.pcl_coders.proofs.Filling.{number_behind, number_of_choice, choice_small, right_more, ends_here, ends_behind}
 use Rattle.pcl_coders.proofs.Ends.{ends_on, ends_at, white_byte}
 

@@ -1,5 +1,5 @@
 -- How far the bytes at the front of a list are alike.
-use Rattle.std.proofs.Common.{◌≡◌, ◌≢◌, ℕ, ◌+◌, ◌-◌, ◌*◌, ◌<◌, ◌≤◌, List, length, get_or, take, drop, replicate, sym, ap, ◌∙◌, inl, inr, arith}
+use Rattle.std.proofs.Common.{◌≡◌, ℕ, ◌+◌, ◌-◌, ◌*◌, ◌<◌, ◌≤◌, min, List, length, get_or, take, drop, replicate, refl, sym, ap, ◌∙◌, subst, inl, inr, arith}
 use Rattle.std.specs.Prelude.{slice_index}
 use Rattle.std.proofs.lemmas.Bool.{cases_lt}
 use Rattle.std.proofs.lemmas.List.{ext_get_or, get_or-take, get_or-drop, get_or-replicate, length-drop, length-take-le, length-replicate}
@@ -90,3 +90,19 @@ least_len_stays numbers from to head each sum l s best e worse = record {
         | inr above ↦ let same : k ≡ to = omega arith in rw (same, ← e) worse
       ];
 }
+
+-- the lesser of the best so far and the next
+pub least_min_one : (numbers : List ℕ) → (len : ℕ) × IsLeastLen numbers 1 1 0 1 len (slice_index numbers 1 + 1)
+least_min_one numbers = (1, least_len_one numbers 1 0 1 1 (slice_index numbers 1 + 1) refl (omega arith))
+
+pub least_min_next : (numbers : List ℕ) (to best now : ℕ) → 1 ≤ to → (len : ℕ) × IsLeastLen numbers 1 (to - 1) 0 1 len best → now ≡ min best (slice_index numbers to + to) → (len : ℕ) × IsLeastLen numbers 1 to 0 1 len now
+least_min_next numbers to best now order b now-is =
+    let sum : ℕ = slice_index numbers to + to in
+    elim (cases_lt sum best) [
+      | inl better ↦
+          let e : sum ≡ now = omega arith in
+          (to, subst (IsLeastLen numbers 1 to 0 1 to) e (least_len_next numbers 1 to 0 1 to sum order b.0 best b.1 refl (omega arith) (omega arith)))
+      | inr worse ↦
+          let e : best ≡ now = omega arith in
+          (b.0, subst (IsLeastLen numbers 1 to 0 1 b.0) e (least_len_stays numbers 1 to 0 1 sum b.0 best b.1 (omega arith) worse))
+    ]

@@ -1,5 +1,5 @@
 -- Tables that are known without being filled, and what a table of least numbers says of its places.
-use Rattle.std.proofs.Common.{◌≡◌, ℕ, zero, suc, ◌+◌, ◌-◌, ◌*◌, ◌<◌, ◌≤◌, List, [], ◌∷◌, length, get_or, drop, replicate, refl, sym, ap, ◌∙◌, subst, inl, inr, arith}
+use Rattle.std.proofs.Common.{◌≡◌, ℕ, zero, suc, ◌+◌, ◌-◌, ◌<◌, ◌≤◌, List, [], ◌∷◌, length, get_or, drop, replicate, refl, ap, ◌∙◌, subst, inl, inr, arith}
 use Rattle.std.specs.Prelude.{slice_index}
 use Rattle.std.proofs.lemmas.Bool.{cases_lt}
 use Rattle.std.proofs.lemmas.List.{length-drop, length-replicate, get_or_past}
@@ -11,13 +11,13 @@ use Rattle.pcl_rows.proofs.Spellings.{spelling_has_byte}
 use Rattle.pcl_coders.specs.Walks.{Walk, total}
 use Rattle.pcl_coders.specs.RowWalks.{Leads, Ends, cost, IsRowTable, IsLeastTable}
 use Rattle.pcl_coders.specs.Coding.{IsCodable, IsLeastLength}
-use Rattle.pcl_coders.specs.Filling.{IsPlaceNumber, IsNext, AreRightFrom, IsFirstEnd, IsBegun}
+use Rattle.pcl_coders.specs.Filling.{IsPlaceNumber, AreRightFrom, IsFirstEnd, IsBegun}
 use Rattle.pcl_coders.specs.declared.step.Step.TheVariants.{SingleByte}
 use Rattle.pcl_coders.specs.Step.{element_of}
 use Rattle.pcl_coders.proofs.Walks.{feasible_bounds}
 use Rattle.pcl_coders.proofs.RowWalks.{length-base}
 use Rattle.pcl_coders.proofs.Shapes.{plain_shape}
-use Rattle.pcl_coders.proofs.Choices.{agrees_gives, byte_step}
+use Rattle.pcl_coders.proofs.Choices.{byte_step}
 use Rattle.pcl_coders.proofs.Filling.{table_is_least, first_is_least, row_table_small}
 use Rattle.pcl_coders.proofs.Ends.{ends_on, white_byte}
 use Rattle.pcl_coders.proofs.Places.{begun_right}

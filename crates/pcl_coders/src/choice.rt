@@ -126,10 +126,32 @@ pub fn command_bytes(offset: usize) -> usize
 /// The least of the replaced bytes and the number behind them, where a replacement starts at the first place.
 pub fn least_behind(numbers: &[u16]) -> usize
     requires some { 1 < length numbers.now }
-    requires small { length numbers.now ≤ 601 }
+    requires short { length numbers.now ≤ 601 }
+    requires small { (k : ℕ) → 1 ≤ k → slice_index numbers.now k ≤ 1200 }
     ensures { (len : ℕ) × IsLeastLen numbers.now 1 (min (length numbers.now - 1) 8) 0 1 len result }
 {
-    LeastLen::among(numbers, 1, (numbers.len() - 1).min(8), 0, 1, Tie::Shortest).sum
+    if numbers.len() > 8 {
+        usize::from(least_of_eight(numbers))
+    } else {
+        LeastLen::among(numbers, 1, numbers.len() - 1, 0, 1, Tie::Shortest).sum
+    }
+}
+
+/// The same where eight places are behind the first: one instruction for vectors.
+#[inline(always)]
+fn least_of_eight(numbers: &[u16]) -> u16
+    requires long { 8 < length numbers.now }
+    requires small { (k : ℕ) → 1 ≤ k → slice_index numbers.now k ≤ 1200 }
+    ensures { (len : ℕ) × IsLeastLen numbers.now 1 8 0 1 len result }
+{
+    (numbers[1] + 1)
+        .min(numbers[2] + 2)
+        .min(numbers[3] + 3)
+        .min(numbers[4] + 4)
+        .min(numbers[5] + 5)
+        .min(numbers[6] + 6)
+        .min(numbers[7] + 7)
+        .min(numbers[8] + 8)
 }
 
 /// Which length is taken among several that give the least sum.

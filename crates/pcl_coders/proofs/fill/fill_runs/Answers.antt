@@ -1,5 +1,4 @@
-use Rattle.std.proofs.Common.{◌≡◌, ◌<◌, ◌+◌, ◌-◌, ℕ, min, length, refl, sym, ◌∙◌, subst, arith}
-use Rattle.std.specs.Prelude.{slice_index}
+use Rattle.std.proofs.Common.{◌≡◌, ◌<◌, ◌+◌, ◌-◌, ℕ, min, length, refl, ◌∙◌, subst, arith}
 use Rattle.pcl_base.specs.declared.method.Method.TheVariants.{Runs}
 use Rattle.pcl_bitmap.specs.Kernels.{IsRunEnd}
 use Rattle.pcl_coders.specs.Filling.{AreRightFrom, white_like}

@@ -1,4 +1,4 @@
-use Rattle.std.proofs.Common.{◌<◌, ℕ, List, length, ap, subst, arith}
+use Rattle.std.proofs.Common.{◌<◌, length, ap, subst, arith}
 use Rattle.std.specs.Prelude.{slice_index}
 use Rattle.pcl_coders.specs.Windows.{Numbers, IsLeastOf}
 use Rattle.pcl_coders.proofs.Queues.{length-in_window, queue_least}

@@ -1,5 +1,4 @@
-use Rattle.std.proofs.Common.{◌<◌, ◌+◌, ◌-◌, ◌++◌, [], ◌∷◌, ℕ, List, length, sym, ap, ◌∙◌, arith}
-use Rattle.std.specs.Prelude.{slice_index}
+use Rattle.std.proofs.Common.{◌<◌, ◌++◌, [], ◌∷◌, length, ap, ◌∙◌, arith}
 use Rattle.pcl_coders.specs.Windows.{Numbers}
 use Rattle.pcl_coders.proofs.Queues.{queue_put, window_put}
 use Rattle.pcl_coders.proofs.window.Window.put.Goals as goal
