@@ -10,3 +10,4 @@ pub mod Queues
 pub mod Literals
 pub mod Tables
 pub mod Starts
+pub mod Along

@@ -1,5 +1,5 @@
 -- The element that begins the least data for the rest of a row.
-use Rattle.std.specs.Prelude.{◌≡◌, ℕ, ◌+◌, ◌*◌, ◌<◌, ◌≤◌, List, length, slice_index}
+use Rattle.std.specs.Prelude.{◌≡◌, ◌≢◌, ℕ, ◌+◌, ◌*◌, ◌<◌, ◌≤◌, List, length, slice_index}
 use Rattle.pcl_base.specs.declared.method.Method.{Method}
 use Rattle.pcl_rows.specs.Elements.{Element, IsElement, stop}
 use Rattle.pcl_coders.specs.RowWalks.{Agrees, cost}
@@ -11,6 +11,16 @@ pub record IsLeastLen (numbers : List ℕ) (from to head each : ℕ) (len sum : 
   pub below : len ≤ to
   pub sum_is : sum ≡ head + each * len + slice_index numbers len
   pub least : (k : ℕ) → from ≤ k → k ≤ to → sum ≤ head + each * k + slice_index numbers k
+
+-- a literal begins data of the first number
+pub record IsLiteralLen (numbers : List ℕ) (most len : ℕ) : Type 0 where
+  pub some : 1 ≤ len
+  pub within : len ≤ most
+  pub sum_is : slice_index numbers 0 ≡ 1 + len + slice_index numbers len
+
+-- no literal does
+abbrev pub NoLiteral : List ℕ → ℕ → Type 0
+NoLiteral numbers most = (k : ℕ) → 1 ≤ k → k ≤ most → slice_index numbers 0 ≢ 1 + k + slice_index numbers k
 
 -- an element that begins least data for the wanted bytes, where the numbers are those of the places from the first on
 pub record IsChoice (method : Method) (old wanted numbers : List ℕ) (e : Element) (sum : ℕ) : Type 0 where

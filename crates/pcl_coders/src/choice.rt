@@ -1,7 +1,8 @@
 //! The element that begins the least data for the rest of a row.
 
-ghost use Rattle.std.specs.Prelude.{◌≡◌, ℕ, List, ◌+◌, ◌-◌, ◌*◌, ◌<◌, ◌≤◌, min, length, slice_index, IsTrue, IsFalse};
-ghost use Rattle.pcl_coders.specs.Choosing.{IsLeastLen, IsPlace};
+ghost use Rattle.std.specs.Prelude.{◌≡◌, ℕ, List, ◌+◌, ◌-◌, ◌*◌, ◌<◌, ◌≤◌, min, length, slice_index, IsTrue, IsFalse, MatchOption};
+ghost use Rattle.pcl_coders.specs.Choosing.{IsLeastLen, IsLiteralLen, NoLiteral, IsPlace};
+ghost use Rattle.pcl_coders.specs.Filling.{AreRightFrom};
 ghost use Rattle.pcl_coders.specs.Replacement.{replacement_bytes};
 ghost use Rattle.pcl_base.specs.declared.method.Method.TheVariants as methods;
 
@@ -35,6 +36,35 @@ impl Choice {
             Method::Runs => Choice::runs(wanted, numbers),
             Method::Packed => Choice::packed(wanted, numbers),
             Method::Delta => Choice::delta(old, wanted, numbers),
+        }
+    }
+
+    /// The same where the numbers are the least ones and data is needed: no length of a literal or of a repeat
+    /// is tried that can't be the best.
+    pub fn along(method: Method, old: &[u8], wanted: &[u8], numbers: &[u16]) -> Choice
+        requires same { length old.now ≡ length wanted.now }
+        requires place { IsPlace wanted.now numbers.now }
+        requires right { AreRightFrom method old.now wanted.now numbers.now 0 }
+        requires needed { 0 < slice_index numbers.now 0 }
+        ensures { IsStepChoice method old.now wanted.now numbers.now result.step result.sum }
+    {
+        match method {
+            Method::Plain | Method::Runs | Method::Delta => Choice::of(
+                method, old, wanted, numbers,
+            ),
+            Method::Packed => {
+                let sum = usize::from(numbers[0]);
+                let run = run_end(wanted, 0).min(128);
+                let is_repeat = run >= 2 && usize::from(numbers[run]) + 2 == sum;
+                if let Some(len) = literal_len(numbers, wanted.len().min(128)) {
+                    if !is_repeat || run < len {
+                        let step = Step::LiteralRun { len };
+                        return Choice { step, sum };
+                    }
+                }
+                let step = Step::RepeatRun { len: run };
+                Choice { step, sum }
+            }
         }
     }
 
@@ -152,6 +182,27 @@ fn least_of_eight(numbers: &[u16]) -> u16
         .min(numbers[6] + 6)
         .min(numbers[7] + 7)
         .min(numbers[8] + 8)
+}
+
+/// The longest literal, of at most so many bytes, that begins data of the first number. Numbers never grow to the
+/// right, so a length that has some bytes too many is that far from the next that may do.
+fn literal_len(numbers: &[u16], most: usize) -> Option<usize>
+    requires within { most < length numbers.now }
+    requires small { most ≤ 128 }
+    requires falls { (i j : ℕ) → i ≤ j → j ≤ most → slice_index numbers.now j ≤ slice_index numbers.now i }
+    requires least { (k : ℕ) → 1 ≤ k → k ≤ most → slice_index numbers.now 0 ≤ 1 + k + slice_index numbers.now k }
+    ensures { MatchOption result (NoLiteral numbers.now most) (IsLiteralLen numbers.now most) }
+{
+    let least = usize::from(numbers[0]);
+    let mut len = most;
+    while len > 0 {
+        let excess = 1 + len + usize::from(numbers[len]) - least;
+        if excess == 0 {
+            return Some(len);
+        }
+        len = len.saturating_sub(excess);
+    }
+    None
 }
 
 /// Which length is taken among several that give the least sum.

@@ -130,7 +130,7 @@ pub fn append_steps(
     let mut place = 0;
     while numbers[place] > 0 {
         let wanted = &row[place..];
-        let choice = Choice::of(method, &old[place..], wanted, &numbers[place..]);
+        let choice = Choice::along(method, &old[place..], wanted, &numbers[place..]);
         choice.step.append(wanted, out)?;
         place += choice.step.stop();
     }
