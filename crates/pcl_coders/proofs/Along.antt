@@ -1,22 +1,30 @@
 -- The choice of an element along a table that is right.
-use Rattle.std.proofs.Common.{◌≡◌, ◌≢◌, ℕ, ◌+◌, ◌-◌, ◌*◌, ◌<◌, ◌≤◌, ◌⊎◌, min, List, length, take, drop, replicate, refl, sym, ap, ◌∙◌, subst, inl, inr, arith}
+use Rattle.std.proofs.Common.{◌≡◌, ◌≢◌, ℕ, ◌+◌, ◌-◌, ◌<◌, ◌≤◌, min, List, [], ◌∷◌, length, take, drop, sym, ap, ◌∙◌, subst, inl, inr, arith}
 use Rattle.std.specs.Prelude.{slice_index}
 use Rattle.std.proofs.lemmas.Bool.{cases_lt}
-use Rattle.std.proofs.lemmas.List.{drop-drop, length-drop, get_or-drop, take-take, take-replicate, length-replicate}
+use Rattle.std.proofs.lemmas.List.{drop-drop, length-drop, get_or-drop, take-take, take-replicate}
 use Rattle.pcl_base.specs.declared.method.Method.{Method}
-use Rattle.pcl_base.specs.declared.method.Method.TheVariants.{Packed}
-use Rattle.pcl_bitmap.specs.Kernels.{IsRunEnd}
+use Rattle.pcl_base.specs.declared.method.Method.TheVariants.{Runs, Packed, Delta}
+use Rattle.pcl_bitmap.specs.Kernels.{IsFirstDifference, IsRunEnd}
+use Rattle.pcl_rows.specs.Heads.{offset_of}
 use Rattle.pcl_rows.specs.Elements.{Element, given, stop}
-use Rattle.pcl_coders.specs.RowWalks.{Agrees, Ends, cost}
-use Rattle.pcl_coders.specs.Choosing.{IsPlace, NoLiteral, IsLiteralLen}
-use Rattle.pcl_coders.specs.Filling.{IsPlaceNumber, AreRightFrom}
+use Rattle.pcl_coders.specs.Walks.{Walk, total}
+use Rattle.pcl_coders.specs.Starts.{IsLatestStart}
+use Rattle.pcl_coders.specs.Replacement.{replacement_bytes}
+use Rattle.pcl_coders.specs.RowWalks.{Leads, Ends, cost}
+use Rattle.pcl_coders.specs.Choosing.{NoLiteral, IsLiteralLen}
+use Rattle.pcl_coders.specs.Filling.{AreRightFrom}
 use Rattle.pcl_coders.specs.declared.step.Step.{Step}
-use Rattle.pcl_coders.specs.declared.step.Step.TheVariants.{LiteralRun, RepeatRun}
-use Rattle.pcl_coders.specs.Step.{element_of, step_stop, IsStepChoice}
+use Rattle.pcl_coders.specs.declared.step.Step.TheVariants.{Run, LiteralRun, RepeatRun, Replace}
+use Rattle.pcl_coders.specs.Step.{element_of, step_stop, IsStepChoice, IsReplacement}
 use Rattle.pcl_coders.proofs.Shapes.{packed_shape}
-use Rattle.pcl_coders.proofs.Prefixes.{IsRunLen, run_len_of}
-use Rattle.pcl_coders.proofs.Choices.{agrees_gives, IsStepElement, step_choice, repeat_step, literal_step, within_run}
-use Rattle.pcl_coders.proofs.Places.{packed_shorten, falls}
+use Rattle.pcl_coders.proofs.Prefixes.{IsRunLen, run_len_of, same_len_of}
+use Rattle.pcl_coders.proofs.Choices.{agrees_gives, IsStepElement, step_choice, runs_choice, repeat_step, literal_step, replace_step, within_run}
+use Rattle.pcl_coders.proofs.RowWalks.{stop_within}
+use Rattle.pcl_coders.proofs.Filling.{attained_from}
+use Rattle.pcl_coders.proofs.Ends.{ends_by}
+use Rattle.pcl_coders.proofs.Starts.{delta_step, latest_is_as_good}
+use Rattle.pcl_coders.proofs.Places.{runs_shorten, packed_shorten, falls}
 
 -- the numbers of the rest of a row
 pub right_from_drop : (method : Method) (old row table : List ℕ) (place : ℕ) → place ≤ length row → AreRightFrom method old row table 0 → AreRightFrom method (drop place old) (drop place row) (drop place table) 0
@@ -111,3 +119,63 @@ literal_skip numbers most len excess next fall within excess-is some next-is non
       | inl behind ↦ none k behind high
       | inr here ↦ λ same. absurd (omega (arith, fall k len here within))
     ]
+
+-- ---- methods 1 and 3
+
+-- right numbers bound walks from places of the row
+walk_bounds : (old row table : List ℕ) (es : List Element) (place : ℕ) → length old ≡ length row → AreRightFrom Delta old row table 0 → place ≤ length row → Walk (Leads Delta old row) (Ends old row) place es → slice_index table place ≤ total cost es
+walk_bounds old row table [] place size right within walk = omega (arith, (right place (omega arith) within).ends walk)
+walk_bounds old row table (e ∷ es) place size right within walk =
+    let next : walk.0 ≡ place + stop e = walk.1.next_is in
+    let inside = stop_within Delta old row place e size walk.1.element walk.1.agrees in
+    let rest = walk_bounds old row table es walk.0 size right (omega arith) walk.2 in
+    omega (arith, (right place (omega arith) within).steps e walk.1.element walk.1.agrees, ap (slice_index table) next, rest)
+
+pub along_run : (old wanted numbers : List ℕ) (end len : ℕ) → length old ≡ length wanted → AreRightFrom Runs old wanted numbers 0 → IsRunEnd wanted 0 end → len ≡ min end 256 → IsStepChoice Runs old wanted numbers (Run len) (2 + slice_index numbers len)
+along_run old wanted numbers end len size right is len-is =
+    let run-len = run_len_of wanted 0 end end is (omega arith) in
+    runs_choice old wanted numbers end len (2 + slice_index numbers len) size run-len
+    (record {
+      above = omega (arith, is.after);
+      below = omega arith;
+      sum_is = omega arith;
+      least = λ k low high. omega (arith, falls Runs old wanted numbers 0 k len runs_shorten size right (omega arith) (omega arith) (omega (arith, is.within)));
+    })
+
+-- data is needed, so the rows differ
+pub along_start : (old wanted numbers : List ℕ) (start : ℕ) → length old ≡ length wanted → AreRightFrom Delta old wanted numbers 0 → 0 < slice_index numbers 0 → IsFirstDifference old wanted start → start < length wanted
+along_start old wanted numbers start size right needed is =
+    elim (cases_lt start (length wanted)) [
+      | inl inside ↦ inside
+      | inr all ↦ absurd (omega (arith, (right 0 (omega arith) (omega arith)).ends (ends_by old wanted 0 size (λ k low high. sym (is.same k (omega arith))))))
+    ]
+
+-- the best replacement at the latest start is a best element
+pub along_replacement : (old wanted numbers : List ℕ) (start : ℕ) (step : Step) (sum : ℕ) → length old ≡ length wanted → length numbers ≡ length wanted + 1 → AreRightFrom Delta old wanted numbers 0 → 0 < slice_index numbers 0 → IsFirstDifference old wanted start
+    → IsReplacement start (length wanted) numbers step sum → IsStepChoice Delta old wanted numbers step sum
+along_replacement old wanted numbers start step sum size long right needed is r =
+    let inside : start < length wanted = along_start old wanted numbers start size right needed is in
+    let latest : IsLatestStart old wanted 0 start = record {
+      order = omega arith;
+      within = inside;
+      same = λ k low high. is.same k high;
+      differs = is.differs (omega arith);
+    } in
+    let walk = attained_from Delta old wanted numbers (length wanted) 0 size right (omega arith) (omega arith) in
+    let s = latest_is_as_good old wanted walk.0 0 start size latest walk.1 in
+    let d = delta_step old wanted 0 start s.walk.0 s.first size latest s.walk.1 in
+    let rest = walk_bounds old wanted numbers s.rest s.walk.0 size right d.within s.walk.2 in
+    let at : (k : ℕ) → slice_index (drop start numbers) k ≡ slice_index numbers (start + k) = λ k. get_or-drop start numbers k 0 in
+    let begins : offset_of s.first.head ≡ start = omega (arith, s.offset_is) in
+    let there : s.walk.0 ≡ start + d.len = omega (arith, d.next_is, begins) in
+    let most : sum ≤ slice_index numbers 0 = omega (arith, r.best.least d.len d.some (omega (arith, d.few, d.within, there)), at d.len, d.cost_is, ap replacement_bytes begins, ap (slice_index numbers) there, rest, s.cheap, walk.2) in
+    let len : ℕ = r.len in
+    let front : take start wanted ≡ take start old = (same_len_of old wanted start size is).equal in
+    let e = replace_step old wanted start len r.best.above (omega (arith, r.best.below)) (omega (arith, r.best.below)) front in
+    let m : Element = element_of (Replace start len) wanted in
+    let ends : 0 + stop m ≡ start + len = omega (arith, e.stop_is) in
+    let least = (right 0 (omega arith) (omega arith)).steps m e.element e.agrees in
+    let equal : slice_index numbers 0 ≡ sum = omega (arith, most, least, e.bytes_are, ap (slice_index numbers) ends, r.best.sum_is, at len) in
+    subst (λ (n : ℕ). IsStepChoice Delta old wanted numbers step n) equal
+    (subst (λ (t : Step). IsStepChoice Delta old wanted numbers t (slice_index numbers 0)) (sym r.step_is)
+    (along_choice Delta old wanted numbers (Replace start len) (replacement_bytes start + len) right e (omega (arith, r.best.above)) (omega (arith, equal, r.best.sum_is, at len))))

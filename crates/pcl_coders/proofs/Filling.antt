@@ -139,7 +139,7 @@ right_more method old row table place number behind here q low high =
 pub ends_past : (old row : List ℕ) (place : ℕ) → length old ≡ length row → length row ≤ place → Ends old row place
 ends_past old row place size past = drop_all place row past ∙ sym (drop_all place old (omega arith))
 
-attained_from : (method : Method) (old row table : List ℕ) (rest place : ℕ) → length old ≡ length row → AreRightFrom method old row table 0 → place ≤ length row → length row - place ≤ rest → IsAttained (Leads method old row) (Ends old row) cost place (slice_index table place)
+pub attained_from : (method : Method) (old row table : List ℕ) (rest place : ℕ) → length old ≡ length row → AreRightFrom method old row table 0 → place ≤ length row → length row - place ≤ rest → IsAttained (Leads method old row) (Ends old row) cost place (slice_index table place)
 attained_from method old row table zero place size right within left =
     let end : Ends old row place = ends_past old row place size (omega arith) in
     ([], end, sym ((right place (omega arith) within).ends end))

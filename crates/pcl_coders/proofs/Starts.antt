@@ -52,7 +52,7 @@ latest_step old row place start len size is some few fits =
     )
 
 -- what an element of a walk gives
-record IsDeltaStep (old row : List ℕ) (place start next : ℕ) (e : Element) : Type 0 where
+pub record IsDeltaStep (old row : List ℕ) (place start next : ℕ) (e : Element) : Type 0 where
   pub len : ℕ
   pub some : 1 ≤ len
   pub few : len ≤ 8
@@ -61,7 +61,7 @@ record IsDeltaStep (old row : List ℕ) (place start next : ℕ) (e : Element) :
   pub within : next ≤ length row
   pub cost_is : cost e ≡ replacement_bytes (offset_of e.head) + len
 
-delta_step : (old row : List ℕ) (place start next : ℕ) (e : Element) → length old ≡ length row → IsLatestStart old row place start → Leads Delta old row place e next → IsDeltaStep old row place start next e
+pub delta_step : (old row : List ℕ) (place start next : ℕ) (e : Element) → length old ≡ length row → IsLatestStart old row place start → Leads Delta old row place e next → IsDeltaStep old row place start next e
 delta_step old row place start next e size is l =
     let wanted : List ℕ = drop place row in
     let long = length-drop place row in

@@ -21,26 +21,9 @@ impl Choice {
     ghost use Rattle.pcl_coders.specs.Step.{IsStepChoice, IsReplacement};
 
     /// The element that begins least data of a method for the wanted bytes, over the old ones, where the
-    /// numbers are those of their places. Among several: of methods 1 and 2 the one that gives the most
-    /// bytes, a repeat before a literal; of method 3 the one of the greatest offset, then of the fewest bytes.
-    pub fn of(method: Method, old: &[u8], wanted: &[u8], numbers: &[u16]) -> Choice
-        requires same { length old.now ≡ length wanted.now }
-        requires place { IsPlace wanted.now numbers.now }
-        ensures { IsStepChoice method old.now wanted.now numbers.now result.step result.sum }
-    {
-        match method {
-            Method::Plain => Choice {
-                step: Step::SingleByte,
-                sum: 1 + usize::from(numbers[1]),
-            },
-            Method::Runs => Choice::runs(wanted, numbers),
-            Method::Packed => Choice::packed(wanted, numbers),
-            Method::Delta => Choice::delta(old, wanted, numbers),
-        }
-    }
-
-    /// The same where the numbers are the least ones and data is needed: no length of a literal or of a repeat
-    /// is tried that can't be the best.
+    /// numbers are the least ones of their places and data is needed. Among several: of methods 1 and 2 the
+    /// one that gives the most bytes, a repeat before a literal; of method 3 the one of the greatest offset,
+    /// then of the fewest bytes. No length and no offset is tried that can't be the best.
     pub fn along(method: Method, old: &[u8], wanted: &[u8], numbers: &[u16]) -> Choice
         requires same { length old.now ≡ length wanted.now }
         requires place { IsPlace wanted.now numbers.now }
@@ -49,9 +32,20 @@ impl Choice {
         ensures { IsStepChoice method old.now wanted.now numbers.now result.step result.sum }
     {
         match method {
-            Method::Plain | Method::Runs | Method::Delta => Choice::of(
-                method, old, wanted, numbers,
-            ),
+            Method::Plain => Choice {
+                step: Step::SingleByte,
+                sum: 1 + usize::from(numbers[1]),
+            },
+            Method::Runs => {
+                let len = run_end(wanted, 0).min(256);
+                let sum = 2 + usize::from(numbers[len]);
+                let step = Step::Run { len };
+                Choice { step, sum }
+            }
+            Method::Delta => {
+                let start = first_difference(old, wanted);
+                Choice::behind(start, wanted.len(), numbers)
+            }
             Method::Packed => {
                 let sum = usize::from(numbers[0]);
                 let run = run_end(wanted, 0).min(128);
@@ -65,6 +59,24 @@ impl Choice {
                 let step = Step::RepeatRun { len: run };
                 Choice { step, sum }
             }
+        }
+    }
+
+    /// The same for any numbers, by each length and each offset in turn: the plain choice, which tests compare
+    /// tables and data with.
+    pub fn of(method: Method, old: &[u8], wanted: &[u8], numbers: &[u16]) -> Choice
+        requires same { length old.now ≡ length wanted.now }
+        requires place { IsPlace wanted.now numbers.now }
+        ensures { IsStepChoice method old.now wanted.now numbers.now result.step result.sum }
+    {
+        match method {
+            Method::Plain => Choice {
+                step: Step::SingleByte,
+                sum: 1 + usize::from(numbers[1]),
+            },
+            Method::Runs => Choice::runs(wanted, numbers),
+            Method::Packed => Choice::packed(wanted, numbers),
+            Method::Delta => Choice::delta(old, wanted, numbers),
         }
     }
 
