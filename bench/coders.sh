@@ -46,12 +46,14 @@ for ask in length data; do
             times=40
             [ "$kind" = blank ] && times=2000
             [ "$ask$method" = length0 ] && times=2000
+            few=2
+            if [ "$kind" = blank ] || [ "$method" -lt 2 ]; then few=40; fi
             ours=$(row_time "$ask" "$method" "$kind" "$times" "$bench")
             total=$(cat build/bench/coders.out)
             linear=$(row_time "$ask" "$method" "$kind" "$times" build/bench/coders linear)
             same_total "$total" "$(cat build/bench/coders.out)" "$ask, method $method, $kind"
-            tried=$(row_time "$ask" "$method" "$kind" 2 build/bench/coders tried)
-            same_total "$((total / times * 2))" "$(cat build/bench/coders.out)" "$ask, method $method, $kind, tried"
+            tried=$(row_time "$ask" "$method" "$kind" "$few" build/bench/coders tried)
+            same_total "$((total / times * few))" "$(cat build/bench/coders.out)" "$ask, method $method, $kind, tried"
             awk -v a="$ask" -v m="$method" -v k="$kind" -v b="$((total / times))" -v o="$ours" -v l="$linear" -v t="$tried" \
                 'BEGIN { printf "| %s | %d | %s | %d | %d | %d | %.2f | %d |\n", a, m, k, b, 1e9 / o, 1e9 / l, o / l, 1e9 / t }'
         done
