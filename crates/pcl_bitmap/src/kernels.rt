@@ -6,7 +6,8 @@ ghost use Rattle.pcl_bitmap.specs.Kernels.{IsFirstDifference, IsRunEnd, IsTrimme
 
 use std::simd::prelude::*;
 
-/// The first place where two rows of one length differ, or their length.
+/// The first place where two rows of one length differ, or their length. The last 32 bytes may go over some
+/// again that are the same.
 pub fn first_difference(a: &[u8], b: &[u8]) -> usize
     requires { length a.now ≡ length b.now }
     ensures { IsFirstDifference a.now b.now result }
@@ -18,6 +19,11 @@ pub fn first_difference(a: &[u8], b: &[u8]) -> usize
             return place + same;
         }
         place += 32;
+    }
+    if a.len() >= 32 {
+        let last = a.len() - 32;
+        let count = same_lanes(a, b, last);
+        return last + count;
     }
     while place < a.len() && a[place] == b[place] {
         place += 1;
