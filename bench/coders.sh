@@ -45,7 +45,7 @@ for ask in length data; do
         for kind in blank text dithered noisy random; do
             times=40
             [ "$kind" = blank ] && times=2000
-            [ "$ask$method" = length0 ] && times=2000
+            [ "$ask$method" = length0 ] && times=20000
             few=2
             if [ "$kind" = blank ] || [ "$method" -lt 2 ]; then few=40; fi
             ours=$(row_time "$ask" "$method" "$kind" "$times" "$bench")
