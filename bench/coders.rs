@@ -1,8 +1,10 @@
-// The least data of rows by each method, by the same tables as pcl_coders fills: what crates/coder_bench is timed
-// beside. Its arguments are the method's number, the kind of rows (blank, text, dithered or random) and their count;
-// it prints how many bytes all rows take.
+// The least data of rows by each method, in plain Rust over std alone: what crates/coder_bench is timed beside. Its
+// arguments are the tables (linear: those that pcl_coders fills, without lanes; tried: each length and each offset
+// tried at each place), what is asked (length or data), the method's number, the kind of rows (blank, text, dithered,
+// noisy or random) and how often the rows of a page are gone through; it prints how many bytes all rows take.
 
 const ROW_BYTES: usize = 300;
+const ROWS: usize = 500;
 
 struct Generator {
     state: u32,
@@ -12,6 +14,94 @@ impl Generator {
     fn next(&mut self) -> u32 {
         self.state = self.state.wrapping_mul(1_664_525).wrapping_add(1_013_904_223);
         self.state >> 16
+    }
+}
+
+mod linear {
+    use std::collections::VecDeque;
+
+    pub fn needed_len(method: u32, old: &[u8], row: &[u8]) -> usize {
+        let kept = if method == 3 {
+            if old == row {
+                return 0;
+            }
+            row.iter().rev().zip(old.iter().rev()).take_while(|(a, b)| a == b).count()
+        } else {
+            row.iter().rev().take_while(|byte| **byte == 0).count()
+        };
+        row.len() - kept
+    }
+
+    pub fn least(method: u32, old: &[u8], row: &[u8]) -> usize {
+        let end = needed_len(method, old, row);
+        if end == 0 || method == 0 {
+            return end;
+        }
+        let mut numbers = [0u16; super::ROW_BYTES + 1];
+        fill_before(method, old, row, end, &mut numbers);
+        numbers[0] as usize
+    }
+
+    pub fn fill(method: u32, old: &[u8], row: &[u8], numbers: &mut [u16]) {
+        fill_before(method, old, row, needed_len(method, old, row), numbers);
+    }
+
+    fn fill_before(method: u32, old: &[u8], row: &[u8], end: usize, numbers: &mut [u16]) {
+        numbers[end..].fill(0);
+        match method {
+            0 => (0..end).rev().for_each(|place| numbers[place] = numbers[place + 1] + 1),
+            1 => fill_runs(row, end, numbers),
+            2 => fill_packed(row, end, numbers),
+            _ => fill_delta(old, row, end, numbers),
+        }
+    }
+
+    fn fill_runs(row: &[u8], end: usize, numbers: &mut [u16]) {
+        let mut run_end = end;
+        for place in (0..end).rev() {
+            if place + 1 < end && row[place] != row[place + 1] {
+                run_end = place + 1;
+            }
+            numbers[place] = numbers[run_end.min(place + 256)] + 2;
+        }
+    }
+
+    fn fill_packed(row: &[u8], end: usize, numbers: &mut [u16]) {
+        let mut window: VecDeque<(usize, usize)> = VecDeque::with_capacity(129);
+        let mut run_end = end;
+        for place in (0..end).rev() {
+            let number = place + 1 + numbers[place + 1] as usize;
+            while window.back().is_some_and(|(_, last)| *last >= number) {
+                window.pop_back();
+            }
+            window.push_back((place + 1, number));
+            if window[0].0 > place + 128 {
+                window.pop_front();
+            }
+            if place + 1 < end && row[place] != row[place + 1] {
+                run_end = place + 1;
+            }
+            let mut number = window[0].1 + 1 - place;
+            if run_end > place + 1 {
+                number = number.min(numbers[run_end.min(place + 128)] as usize + 2);
+            }
+            numbers[place] = number as u16;
+        }
+    }
+
+    fn fill_delta(old: &[u8], row: &[u8], end: usize, numbers: &mut [u16]) {
+        let mut start = end;
+        let mut best = 0;
+        for place in (0..end).rev() {
+            if old[place] != row[place] {
+                start = place;
+                let most = (row.len() - place).min(8);
+                best = (1..=most).map(|len| len + numbers[place + len] as usize).min().unwrap();
+            }
+            let offset = start - place;
+            let head = if offset < 31 { 1 } else { 2 + (offset - 31) / 255 };
+            numbers[place] = (head + best) as u16;
+        }
     }
 }
 
@@ -87,11 +177,11 @@ fn fill(method: u32, old: &[u8], row: &[u8], numbers: &mut [u16]) {
     }
 }
 
-fn write(method: u32, seed: &[u8], row: &[u8], out: &mut Vec<u8>) {
+fn write(linear: bool, method: u32, seed: &[u8], row: &[u8], out: &mut Vec<u8>) {
     let zeros = [0u8; ROW_BYTES];
     let old = if method == 3 { seed } else { &zeros[..] };
     let mut numbers = [0u16; ROW_BYTES + 1];
-    fill(method, old, row, &mut numbers);
+    if linear { linear::fill(method, old, row, &mut numbers) } else { fill(method, old, row, &mut numbers) }
     let mut place = 0;
     while numbers[place] > 0 {
         let wanted = &row[place..];
@@ -129,7 +219,7 @@ fn write(method: u32, seed: &[u8], row: &[u8], out: &mut Vec<u8>) {
     }
 }
 
-fn next_row(kind: &str, generator: &mut Generator, row: &mut [u8]) {
+fn next_row(kind: &str, generator: &mut Generator, y: usize, row: &mut [u8]) {
     match kind {
         "blank" => {}
         "text" => {
@@ -139,28 +229,65 @@ fn next_row(kind: &str, generator: &mut Generator, row: &mut [u8]) {
                 row.iter_mut().skip(start).take(3).for_each(|byte| *byte = ink);
             }
         }
-        "dithered" => row
+        "dithered" => row.iter_mut().enumerate().for_each(|(x, byte)| *byte = dithered_byte(x, y)),
+        "noisy" => row
             .iter_mut()
             .for_each(|byte| *byte = if generator.next() % 8 == 0 { 0x55 } else { 0xAA }),
         _ => row.iter_mut().for_each(|byte| *byte = generator.next() as u8),
     }
 }
 
+// A byte of an ordered dither of eight by eight dots.
+fn dithered_byte(x: usize, y: usize) -> u8 {
+    const THRESHOLDS: [[u8; 8]; 8] = [
+        [0, 32, 8, 40, 2, 34, 10, 42],
+        [48, 16, 56, 24, 50, 18, 58, 26],
+        [12, 44, 4, 36, 14, 46, 6, 38],
+        [60, 28, 52, 20, 62, 30, 54, 22],
+        [3, 35, 11, 43, 1, 33, 9, 41],
+        [51, 19, 59, 27, 49, 17, 57, 25],
+        [15, 47, 7, 39, 13, 45, 5, 37],
+        [63, 31, 55, 23, 61, 29, 53, 21],
+    ];
+    let gray = ((x + y) / 5 % 64) as u8;
+    THRESHOLDS[y % 8].iter().fold(0, |byte, threshold| byte << 1 | u8::from(gray > *threshold))
+}
+
 fn main() {
     let words: Vec<String> = std::env::args().collect();
-    let method: u32 = words[1].parse().unwrap();
-    let count: u32 = words[3].parse().unwrap();
+    let linear = words[1] == "linear";
+    let method: u32 = words[3].parse().unwrap();
+    let times: u32 = words[5].parse().unwrap();
     let mut generator = Generator { state: 1 };
-    let mut seed = [0u8; ROW_BYTES];
+    let mut page = Vec::new();
+    let mut row = [0u8; ROW_BYTES];
+    for y in 0..ROWS {
+        next_row(&words[4], &mut generator, y, &mut row);
+        page.extend_from_slice(&row);
+    }
+    let zeros = [0u8; ROW_BYTES];
     let mut data = Vec::new();
     let mut total = 0u64;
-    for _ in 0..count {
-        let mut row = seed;
-        next_row(&words[2], &mut generator, &mut row);
-        data.clear();
-        write(method, &seed, &row, &mut data);
-        total += data.len() as u64;
-        seed = row;
+    for _ in 0..times {
+        let mut seed = &zeros[..];
+        for row in page.chunks_exact(ROW_BYTES) {
+            let bytes = if words[2] == "length" {
+                let old = if method == 3 { seed } else { &zeros[..] };
+                if linear {
+                    linear::least(method, old, row)
+                } else {
+                    let mut numbers = [0u16; ROW_BYTES + 1];
+                    fill(method, old, row, &mut numbers);
+                    numbers[0] as usize
+                }
+            } else {
+                data.clear();
+                write(linear, method, seed, row, &mut data);
+                data.len()
+            };
+            total += bytes as u64;
+            seed = row;
+        }
     }
     println!("{total}");
 }

@@ -1,15 +1,17 @@
 #!/usr/bin/env bash
-# Rows a second of each coder of pcl_coders beside a plain Rust program with the same tables (coders.rs), as a table
-# for bench/README.md. CODER_BENCH names another build of crates/coder_bench. Needs rustc.
+# Rows a second of each coder of pcl_coders beside plain Rust programs (coders.rs), one with the same linear tables and
+# one that tries each length and each offset at each place, as a table for bench/README.md. CODER_BENCH names another
+# build of crates/coder_bench. Needs rustc.
 set -euo pipefail
 cd "$(dirname "$0")/.."
 bench=${CODER_BENCH:-crates/coder_bench/out/coder_bench}
-[ -x "$bench" ] || (cd crates/coder_bench && rt run -- 0 blank 0 > /dev/null)
+[ -x "$bench" ] || (cd crates/coder_bench && rt run -- length 0 blank 0 > /dev/null)
 mkdir -p build/bench
 rustc -O --edition 2024 -o build/bench/coders bench/coders.rs
+rows=500
 
-# the least seconds of five runs
-seconds() {
+# the least nanoseconds of five runs
+nanoseconds() {
     local best="" begin end
     for _ in 1 2 3 4 5; do
         begin=$(date +%s%N)
@@ -20,20 +22,40 @@ seconds() {
     echo "$best"
 }
 
-echo "| Method | Rows | Bytes | pcl_coders, rows/s | plain, rows/s | Ratio of times |"
-echo "|---|---|---:|---:|---:|---:|"
-for method in 0 1 2 3; do
-    for kind in blank text dithered random; do
-        count=2000
-        [ "$kind" = blank ] && count=50000
-        ours=$(seconds "$bench" "$method" "$kind" "$count")
-        total=$(cat build/bench/coders.out)
-        plain=$(seconds build/bench/coders "$method" "$kind" "$count")
-        if [ "$total" != "$(cat build/bench/coders.out)" ]; then
-            echo "method $method on $kind rows: $total bytes, and $(cat build/bench/coders.out) by the plain program" >&2
-            exit 1
-        fi
-        awk -v m="$method" -v k="$kind" -v b="$total" -v c="$count" -v o="$ours" -v p="$plain" \
-            'BEGIN { printf "| %d | %s | %d | %d | %d | %.2f |\n", m, k, b, c * 1e9 / o, c * 1e9 / p, o / p }'
+# nanoseconds a row: ASK METHOD KIND TIMES COMMAND.., less those of a run that goes through no row
+row_time() {
+    local ask=$1 method=$2 kind=$3 times=$4 none all
+    shift 4
+    none=$(nanoseconds "$@" "$ask" "$method" "$kind" 0)
+    all=$(nanoseconds "$@" "$ask" "$method" "$kind" "$times")
+    awk -v a="$all" -v n="$none" -v c="$((times * rows))" 'BEGIN { t = (a - n) / c; printf "%.2f", t < 0.01 ? 0.01 : t }'
+}
+
+same_total() {
+    if [ "$1" != "$2" ]; then
+        echo "$1 bytes by pcl_coders, and $2 by the plain program: $3" >&2
+        exit 1
+    fi
+}
+
+echo "| Asked | Method | Rows | Bytes | pcl_coders, rows/s | linear, rows/s | Ratio of times | tried, rows/s |"
+echo "|---|---|---|---:|---:|---:|---:|---:|"
+for ask in length data; do
+    for method in 0 1 2 3; do
+        for kind in blank text dithered noisy random; do
+            times=40
+            [ "$kind" = blank ] && times=2000
+            [ "$ask$method" = length0 ] && times=20000
+            few=2
+            if [ "$kind" = blank ] || [ "$method" -lt 2 ]; then few=40; fi
+            ours=$(row_time "$ask" "$method" "$kind" "$times" "$bench")
+            total=$(cat build/bench/coders.out)
+            linear=$(row_time "$ask" "$method" "$kind" "$times" build/bench/coders linear)
+            same_total "$total" "$(cat build/bench/coders.out)" "$ask, method $method, $kind"
+            tried=$(row_time "$ask" "$method" "$kind" "$few" build/bench/coders tried)
+            same_total "$((total / times * few))" "$(cat build/bench/coders.out)" "$ask, method $method, $kind, tried"
+            awk -v a="$ask" -v m="$method" -v k="$kind" -v b="$((total / times))" -v o="$ours" -v l="$linear" -v t="$tried" \
+                'BEGIN { printf "| %s | %d | %s | %d | %d | %d | %.2f | %d |\n", a, m, k, b, 1e9 / o, 1e9 / l, o / l, 1e9 / t }'
+        done
     done
 done

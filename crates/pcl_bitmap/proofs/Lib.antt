@@ -4,3 +4,4 @@ pub mod Pages
 pub mod Pictures
 pub mod Inked
 pub mod Spread
+pub mod KernelLanes

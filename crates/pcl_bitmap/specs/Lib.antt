@@ -1,2 +1,3 @@
 pub mod Bitmap
 pub mod Dots
+pub mod Kernels

@@ -6,7 +6,7 @@ ghost use Rattle.pcl_bitmap.specs.Bitmap.{IsPicture, row_of, dot_of_row, dot, bl
 ghost use Rattle.pcl_bitmap.specs.Dots.{is_black_ink, raster_dot, rectangle_dot};
 
 use crate::area::Area;
-use crate::{Ink, bits, fills, squares};
+use crate::{Ink, bits, fills, kernels, squares};
 use pcl_base::{Dpi, Size};
 use std::alloc::{AllocError, Global};
 use std::marker::Model;
@@ -88,7 +88,7 @@ impl Bitmap {
         ensures bytes { IsTrue result ↔ All (λ byte. byte ≡ 0) (row_of self.now y) }
         ensures dots { IsTrue result ↔ ((x : ℕ) → x < page_width self.now.size self.now.dpi → dot self.now x y ≡ false) }
     {
-        bits::is_zero(self.row(y))
+        kernels::is_zero(self.row(y))
     }
 
     /// Makes the page white. It takes no memory.

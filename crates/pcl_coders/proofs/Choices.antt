@@ -8,7 +8,8 @@ use Rattle.pcl_base.specs.declared.method.Method.TheVariants.{Plain, Runs, Packe
 use Rattle.pcl_rows.specs.Heads.{Head, head_bytes, offset_of}
 use Rattle.pcl_rows.specs.Elements.{Element, IsElement, given, given_by, stop}
 use Rattle.pcl_coders.specs.RowWalks.{Agrees, cost}
-use Rattle.pcl_coders.specs.Choosing.{IsRunLen, IsSameLen, IsLeastLen, IsPlace}
+use Rattle.pcl_coders.specs.Choosing.{IsLeastLen, IsPlace}
+use Rattle.pcl_coders.proofs.Prefixes.{IsRunLen, IsSameLen}
 use Rattle.pcl_coders.specs.Replacement.{replacement, replacement_bytes}
 use Rattle.pcl_coders.specs.declared.step.Step.{Step}
 use Rattle.pcl_coders.specs.declared.step.Step.TheVariants.{SingleByte, Run, LiteralRun, RepeatRun, Replace}
@@ -173,7 +174,7 @@ front_given wanted d count none size gives =
     gives ∙ ap (λ (n : ℕ). take n (drop (offset_of d.head) wanted)) size ∙ ap (λ (n : ℕ). take count (drop n wanted)) none
 
 -- an element that repeats a byte is within the run
-within_run : (wanted : List ℕ) (run least most : ℕ) (d : Element) → IsRunLen wanted run → offset_of d.head ≡ 0 → (r : IsRepeat d.head d.bytes least most) → stop d ≤ length wanted → given d ≡ take (length (given d)) (drop (offset_of d.head) wanted)
+pub within_run : (wanted : List ℕ) (run least most : ℕ) (d : Element) → IsRunLen wanted run → offset_of d.head ≡ 0 → (r : IsRepeat d.head d.bytes least most) → stop d ≤ length wanted → given d ≡ take (length (given d)) (drop (offset_of d.head) wanted)
     → (r.count ≤ run) × (stop d ≡ r.count)
 within_run wanted run least most d is none r fits gives =
     let size : length (given d) ≡ r.count = ap length r.given_is ∙ length-replicate r.count r.byte in

@@ -41,7 +41,7 @@ one_byte Delta old wanted some = one_byte_of Delta old wanted (Replace 0 1) 2 (r
 -- ---- the numbers of a table
 
 -- a number behind the place that is set
-number_behind : (table : List ℕ) (at number place : ℕ) → at < place → slice_index (set table at number) place ≡ slice_index table place
+pub number_behind : (table : List ℕ) (at number place : ℕ) → at < place → slice_index (set table at number) place ≡ slice_index table place
 number_behind table at number place behind = let other : place ≢ at = omega arith in get_or-set_other table at place number 0 other
 
 -- what is right stays right where a number before it is set
@@ -139,7 +139,7 @@ right_more method old row table place number behind here q low high =
 pub ends_past : (old row : List ℕ) (place : ℕ) → length old ≡ length row → length row ≤ place → Ends old row place
 ends_past old row place size past = drop_all place row past ∙ sym (drop_all place old (omega arith))
 
-attained_from : (method : Method) (old row table : List ℕ) (rest place : ℕ) → length old ≡ length row → AreRightFrom method old row table 0 → place ≤ length row → length row - place ≤ rest → IsAttained (Leads method old row) (Ends old row) cost place (slice_index table place)
+pub attained_from : (method : Method) (old row table : List ℕ) (rest place : ℕ) → length old ≡ length row → AreRightFrom method old row table 0 → place ≤ length row → length row - place ≤ rest → IsAttained (Leads method old row) (Ends old row) cost place (slice_index table place)
 attained_from method old row table zero place size right within left =
     let end : Ends old row place = ends_past old row place size (omega arith) in
     ([], end, sym ((right place (omega arith) within).ends end))
@@ -194,7 +194,7 @@ first_bounds method seed row table bytes same is has =
     omega (arith, feasible_bounds (Leads method (base method seed) row) (Ends (base method seed) row) cost (slice_index table) is.feasible 0 w.0 w.1, w.2)
 
 -- no number of a row table is above two bytes for each byte of the row
-row_table_small : (method : Method) (seed row table : List ℕ) (rest place : ℕ) → length seed ≡ length row → IsRowTable method seed row table → place + rest ≡ length row → slice_index table place ≤ 2 * rest
+pub row_table_small : (method : Method) (seed row table : List ℕ) (rest place : ℕ) → length seed ≡ length row → IsRowTable method seed row table → place + rest ≡ length row → slice_index table place ≤ 2 * rest
 row_table_small method seed row table zero place same is at =
     omega (arith, is.feasible.ends place (ends_past (base method seed) row place (length-base method seed ∙ same) (omega arith)))
 row_table_small method seed row table (suc rest) place same is at =

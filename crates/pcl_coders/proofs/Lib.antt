@@ -4,3 +4,10 @@ pub mod Shapes
 pub mod Prefixes
 pub mod Choices
 pub mod Filling
+pub mod Ends
+pub mod Places
+pub mod Queues
+pub mod Literals
+pub mod Tables
+pub mod Starts
+pub mod Along

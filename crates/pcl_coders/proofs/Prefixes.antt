@@ -1,34 +1,57 @@
 -- How far the bytes at the front of a list are alike.
-use Rattle.std.proofs.Common.{◌≡◌, ◌≢◌, ℕ, ◌+◌, ◌-◌, ◌*◌, ◌<◌, ◌≤◌, List, length, get_or, take, replicate, sym, ap, ◌∙◌, inl, inr, arith}
+use Rattle.std.proofs.Common.{◌≡◌, ℕ, ◌+◌, ◌-◌, ◌*◌, ◌<◌, ◌≤◌, min, List, length, get_or, take, drop, replicate, refl, sym, ap, ◌∙◌, subst, inl, inr, arith}
 use Rattle.std.specs.Prelude.{slice_index}
 use Rattle.std.proofs.lemmas.Bool.{cases_lt}
-use Rattle.std.proofs.lemmas.List.{get_or-take, get_or-replicate}
-use Rattle.pcl_coders.specs.Choosing.{IsRunLen, IsSameLen, IsLeastLen}
+use Rattle.std.proofs.lemmas.List.{ext_get_or, get_or-take, get_or-drop, get_or-replicate, length-drop, length-take-le, length-replicate}
+use Rattle.pcl_bitmap.specs.Kernels.{IsFirstDifference, IsRunEnd}
+use Rattle.pcl_coders.specs.Choosing.{IsLeastLen}
 
--- where a byte is another one, no run of one byte goes further
-run_stops : (wanted : List ℕ) (len : ℕ) → get_or wanted len 0 ≢ get_or wanted 0 0 → (k byte : ℕ) → take k wanted ≡ replicate k byte → k ≤ len
-run_stops wanted len other k byte alike =
-    elim (cases_lt len k) [
-      | inr le ↦ le
-      | inl past ↦
-          let at : (i : ℕ) → i < k → get_or wanted i 0 ≡ byte = λ i h. sym (get_or-take k wanted i 0 h) ∙ ap (λ (xs : List ℕ). get_or xs i 0) alike ∙ get_or-replicate k i byte 0 h in
-          absurd (other (at len past ∙ sym (at 0 (omega arith))))
-    ]
+-- how many wanted bytes at the front are one byte again and again
+pub record IsRunLen (wanted : List ℕ) (len : ℕ) : Type 0 where
+  pub within : len ≤ length wanted
+  pub equal : take len wanted ≡ replicate len (slice_index wanted 0)
+  pub longest : (k byte : ℕ) → k ≤ length wanted → take k wanted ≡ replicate k byte → k ≤ len
 
-pub run_to : (wanted : List ℕ) (len : ℕ) → len < length wanted → take len wanted ≡ replicate len (get_or wanted 0 0) → get_or wanted len 0 ≢ get_or wanted 0 0 → IsRunLen wanted len
-run_to wanted len within equal other = record { within = omega arith; equal = equal; longest = λ k byte fits alike. run_stops wanted len other k byte alike }
+-- how many bytes at the front of two lists are the same
+pub record IsSameLen (old wanted : List ℕ) (len : ℕ) : Type 0 where
+  pub within : len ≤ length wanted
+  pub equal : take len wanted ≡ take len old
+  pub longest : (k : ℕ) → k ≤ length wanted → take k wanted ≡ take k old → k ≤ len
 
-pub run_all : (wanted : List ℕ) (len : ℕ) → len ≡ length wanted → take len wanted ≡ replicate len (get_or wanted 0 0) → IsRunLen wanted len
-run_all wanted len end equal = record { within = omega arith; equal = equal; longest = λ k byte fits alike. omega arith }
+-- the run at a place, of which the end is known
+pub run_len_of : (row : List ℕ) (from end run : ℕ) → IsRunEnd row from end → end ≡ from + run → IsRunLen (drop from row) run
+run_len_of row from end run is there =
+    let at : (k : ℕ) → slice_index (drop from row) k ≡ slice_index row (from + k) = λ k. get_or-drop from row k 0 in
+    let first : slice_index (drop from row) 0 ≡ slice_index row from = at 0 ∙ ap (slice_index row) (omega arith) in
+    let size : length (take run (drop from row)) ≡ run = length-take-le run (drop from row) (omega (arith, length-drop from row, is.within)) in
+    record {
+      within = omega (arith, length-drop from row, is.within);
+      equal = ext_get_or 0 (take run (drop from row)) (replicate run (slice_index (drop from row) 0)) (size ∙ sym (length-replicate run (slice_index (drop from row) 0)))
+          (λ k below.
+          let inside : k < run = omega arith in
+          get_or-take run (drop from row) k 0 inside ∙ at k ∙ is.same (from + k) (omega arith) (omega arith) ∙ sym first ∙ sym (get_or-replicate run k (slice_index (drop from row) 0) 0 inside));
+      longest = λ k byte fits alike.
+          elim (cases_lt run k) [
+            | inr le ↦ le
+            | inl past ↦
+                let each : (i : ℕ) → i < k → slice_index (drop from row) i ≡ byte = λ i h. sym (get_or-take k (drop from row) i 0 h) ∙ ap (λ (xs : List ℕ). get_or xs i 0) alike ∙ get_or-replicate k i byte 0 h in
+                absurd (is.differs (omega (arith, length-drop from row)) (ap (slice_index row) there ∙ sym (at run) ∙ each run past ∙ sym (each 0 (omega arith)) ∙ first))
+          ];
+    }
 
-pub same_to : (old wanted : List ℕ) (len : ℕ) → len < length wanted → take len wanted ≡ take len old → get_or old len 0 ≢ get_or wanted len 0 → IsSameLen old wanted len
-same_to old wanted len within equal other = record {
-  within = omega arith;
-  equal = equal;
+-- the front of two rows that is the same
+pub same_len_of : (old wanted : List ℕ) (place : ℕ) → length old ≡ length wanted → IsFirstDifference old wanted place → IsSameLen old wanted place
+same_len_of old wanted place size is = record {
+  within = omega (arith, is.within);
+  equal = ext_get_or 0 (take place wanted) (take place old)
+      (length-take-le place wanted (omega (arith, is.within)) ∙ sym (length-take-le place old is.within))
+      (λ k below.
+      let inside : k < place = omega (arith, length-take-le place wanted (omega (arith, is.within))) in
+      get_or-take place wanted k 0 inside ∙ sym (is.same k inside) ∙ sym (get_or-take place old k 0 inside));
   longest = λ k fits alike.
-      elim (cases_lt len k) [
+      elim (cases_lt place k) [
         | inr le ↦ le
-        | inl past ↦ absurd (other (sym (get_or-take k old len 0 past) ∙ ap (λ (xs : List ℕ). get_or xs len 0) (sym alike) ∙ get_or-take k wanted len 0 past))
+        | inl past ↦ absurd (is.differs (omega arith) (sym (get_or-take k old place 0 past) ∙ ap (λ (xs : List ℕ). get_or xs place 0) (sym alike) ∙ get_or-take k wanted place 0 past))
       ];
 }
 
@@ -67,3 +90,19 @@ least_len_stays numbers from to head each sum l s best e worse = record {
         | inr above ↦ let same : k ≡ to = omega arith in rw (same, ← e) worse
       ];
 }
+
+-- the lesser of the best so far and the next
+pub least_min_one : (numbers : List ℕ) → (len : ℕ) × IsLeastLen numbers 1 1 0 1 len (slice_index numbers 1 + 1)
+least_min_one numbers = (1, least_len_one numbers 1 0 1 1 (slice_index numbers 1 + 1) refl (omega arith))
+
+pub least_min_next : (numbers : List ℕ) (to best now : ℕ) → 1 ≤ to → (len : ℕ) × IsLeastLen numbers 1 (to - 1) 0 1 len best → now ≡ min best (slice_index numbers to + to) → (len : ℕ) × IsLeastLen numbers 1 to 0 1 len now
+least_min_next numbers to best now order b now-is =
+    let sum : ℕ = slice_index numbers to + to in
+    elim (cases_lt sum best) [
+      | inl better ↦
+          let e : sum ≡ now = omega arith in
+          (to, subst (IsLeastLen numbers 1 to 0 1 to) e (least_len_next numbers 1 to 0 1 to sum order b.0 best b.1 refl (omega arith) (omega arith)))
+      | inr worse ↦
+          let e : best ≡ now = omega arith in
+          (b.0, subst (IsLeastLen numbers 1 to 0 1 b.0) e (least_len_stays numbers 1 to 0 1 sum b.0 best b.1 (omega arith) worse))
+    ]

@@ -1,5 +1,5 @@
 -- The element that begins the least data for the rest of a row.
-use Rattle.std.specs.Prelude.{◌≡◌, ℕ, ◌+◌, ◌*◌, ◌<◌, ◌≤◌, List, length, take, replicate, slice_index}
+use Rattle.std.specs.Prelude.{◌≡◌, ◌≢◌, ℕ, ◌+◌, ◌*◌, ◌<◌, ◌≤◌, List, length, slice_index}
 use Rattle.pcl_base.specs.declared.method.Method.{Method}
 use Rattle.pcl_rows.specs.Elements.{Element, IsElement, stop}
 use Rattle.pcl_coders.specs.RowWalks.{Agrees, cost}
@@ -12,17 +12,15 @@ pub record IsLeastLen (numbers : List ℕ) (from to head each : ℕ) (len sum : 
   pub sum_is : sum ≡ head + each * len + slice_index numbers len
   pub least : (k : ℕ) → from ≤ k → k ≤ to → sum ≤ head + each * k + slice_index numbers k
 
--- how many wanted bytes at the front are one byte again and again
-pub record IsRunLen (wanted : List ℕ) (len : ℕ) : Type 0 where
-  pub within : len ≤ length wanted
-  pub equal : take len wanted ≡ replicate len (slice_index wanted 0)
-  pub longest : (k byte : ℕ) → k ≤ length wanted → take k wanted ≡ replicate k byte → k ≤ len
+-- a literal begins data of the first number
+pub record IsLiteralLen (numbers : List ℕ) (most len : ℕ) : Type 0 where
+  pub some : 1 ≤ len
+  pub within : len ≤ most
+  pub sum_is : slice_index numbers 0 ≡ 1 + len + slice_index numbers len
 
--- how many bytes at the front of two lists are the same
-pub record IsSameLen (old wanted : List ℕ) (len : ℕ) : Type 0 where
-  pub within : len ≤ length wanted
-  pub equal : take len wanted ≡ take len old
-  pub longest : (k : ℕ) → k ≤ length wanted → take k wanted ≡ take k old → k ≤ len
+-- no literal does
+abbrev pub NoLiteral : List ℕ → ℕ → Type 0
+NoLiteral numbers most = (k : ℕ) → 1 ≤ k → k ≤ most → slice_index numbers 0 ≢ 1 + k + slice_index numbers k
 
 -- an element that begins least data for the wanted bytes, where the numbers are those of the places from the first on
 pub record IsChoice (method : Method) (old wanted numbers : List ℕ) (e : Element) (sum : ℕ) : Type 0 where

@@ -1,5 +1,5 @@
 -- A table of least numbers while it is filled, and data while it is appended.
-use Rattle.std.specs.Prelude.{◌≡◌, ℕ, ◌+◌, ◌-◌, ◌*◌, ◌<◌, ◌≤◌, ◌⊎◌, List, ◌++◌, length, drop, slice_index, flat_map}
+use Rattle.std.specs.Prelude.{◌≡◌, ℕ, ◌+◌, ◌-◌, ◌*◌, ◌<◌, ◌≤◌, ◌⊎◌, List, ◌++◌, length, drop, replicate, slice_index, flat_map}
 use Rattle.pcl_base.specs.declared.method.Method.{Method}
 use Rattle.pcl_rows.specs.Elements.{Element, IsElement, spelling, stop}
 use Rattle.pcl_coders.specs.Walks.{Walk, total}
@@ -22,6 +22,24 @@ pub record IsPlaceNumber (method : Method) (old row table : List ℕ) (place : �
 -- the numbers from a place on are right
 abbrev pub AreRightFrom : Method → List ℕ → List ℕ → List ℕ → ℕ → Type 0
 AreRightFrom method old row table from = (place : ℕ) → from ≤ place → place ≤ length row → IsPlaceNumber method old row table place
+
+-- the first place from which no more data is needed
+pub record IsFirstEnd (old row : List ℕ) (end : ℕ) : Type 0 where
+  pub within : end ≤ length row
+  pub ends : Ends old row end
+  pub first : (place : ℕ) → Ends old row place → end ≤ place
+
+-- a table that is filled where no more data is needed: with 0 from the first such place on
+pub record IsBegun (old row table : List ℕ) (end : ℕ) : Type 0 where
+  pub same_size : length old ≡ length row
+  pub small : length row ≤ 600
+  pub size : length table ≡ length row + 1
+  pub first_end : IsFirstEnd old row end
+  pub zeros : (place : ℕ) → end ≤ place → slice_index table place ≡ 0
+
+-- a row of white as long as another one
+abbrev pub white_like : List ℕ → List ℕ
+white_like row = replicate (length row) 0
 
 -- now is before with the bytes of a walk that costs the number of the first place
 pub record AppendsWalk (method : Method) (old row table before now : List ℕ) : Type 0 where

@@ -5,3 +5,6 @@ pub mod Replacement
 pub mod Step
 pub mod Choosing
 pub mod Filling
+pub mod Windows
+pub mod WindowModel
+pub mod Starts

@@ -1,12 +1,14 @@
 //! The element that begins the least data for the rest of a row.
 
-ghost use Rattle.std.specs.Prelude.{◌≡◌, ℕ, List, ◌+◌, ◌*◌, ◌<◌, ◌≤◌, length, slice_index, IsTrue, IsFalse};
-ghost use Rattle.pcl_coders.specs.Choosing.{IsLeastLen, IsPlace};
+ghost use Rattle.std.specs.Prelude.{◌≡◌, ℕ, List, ◌+◌, ◌-◌, ◌*◌, ◌<◌, ◌≤◌, min, length, slice_index, IsTrue, IsFalse, MatchOption};
+ghost use Rattle.pcl_coders.specs.Choosing.{IsLeastLen, IsLiteralLen, NoLiteral, IsPlace};
+ghost use Rattle.pcl_coders.specs.Filling.{AreRightFrom};
+ghost use Rattle.pcl_coders.specs.Replacement.{replacement_bytes};
 ghost use Rattle.pcl_base.specs.declared.method.Method.TheVariants as methods;
 
-use crate::prefix::{run_len, same_len};
 use crate::step::Step;
 use pcl_base::Method;
+use pcl_bitmap::{first_difference, run_end};
 
 /// An element, and how many bytes it and least data behind it have together.
 #[derive(Clone, Copy)]
@@ -19,8 +21,49 @@ impl Choice {
     ghost use Rattle.pcl_coders.specs.Step.{IsStepChoice, IsReplacement};
 
     /// The element that begins least data of a method for the wanted bytes, over the old ones, where the
-    /// numbers are those of their places. Among several: of methods 1 and 2 the one that gives the most
-    /// bytes, a repeat before a literal; of method 3 the one of the greatest offset, then of the fewest bytes.
+    /// numbers are the least ones of their places and data is needed. Among several: of methods 1 and 2 the
+    /// one that gives the most bytes, a repeat before a literal; of method 3 the one of the greatest offset,
+    /// then of the fewest bytes. No length and no offset is tried that can't be the best.
+    pub fn along(method: Method, old: &[u8], wanted: &[u8], numbers: &[u16]) -> Choice
+        requires same { length old.now ≡ length wanted.now }
+        requires place { IsPlace wanted.now numbers.now }
+        requires right { AreRightFrom method old.now wanted.now numbers.now 0 }
+        requires needed { 0 < slice_index numbers.now 0 }
+        ensures { IsStepChoice method old.now wanted.now numbers.now result.step result.sum }
+    {
+        match method {
+            Method::Plain => Choice {
+                step: Step::SingleByte,
+                sum: 1 + usize::from(numbers[1]),
+            },
+            Method::Runs => {
+                let len = run_end(wanted, 0).min(256);
+                let sum = 2 + usize::from(numbers[len]);
+                let step = Step::Run { len };
+                Choice { step, sum }
+            }
+            Method::Delta => {
+                let start = first_difference(old, wanted);
+                Choice::behind(start, wanted.len(), numbers)
+            }
+            Method::Packed => {
+                let sum = usize::from(numbers[0]);
+                let run = run_end(wanted, 0).min(128);
+                let is_repeat = run >= 2 && usize::from(numbers[run]) + 2 == sum;
+                if let Some(len) = literal_len(numbers, wanted.len().min(128)) {
+                    if !is_repeat || run < len {
+                        let step = Step::LiteralRun { len };
+                        return Choice { step, sum };
+                    }
+                }
+                let step = Step::RepeatRun { len: run };
+                Choice { step, sum }
+            }
+        }
+    }
+
+    /// The same for any numbers, by each length and each offset in turn: the plain choice, which tests compare
+    /// tables and data with.
     pub fn of(method: Method, old: &[u8], wanted: &[u8], numbers: &[u16]) -> Choice
         requires same { length old.now ≡ length wanted.now }
         requires place { IsPlace wanted.now numbers.now }
@@ -41,7 +84,7 @@ impl Choice {
         requires { IsPlace wanted.now numbers.now }
         ensures { (old : List ℕ) → length old ≡ length wanted.now → IsStepChoice methods.Runs old wanted.now numbers.now result.step result.sum }
     {
-        let longest = run_len(wanted).min(256);
+        let longest = run_end(wanted, 0).min(256);
         let best = LeastLen::among(numbers, 1, longest, 2, 0, Tie::Longest);
         Choice {
             step: Step::Run { len: best.len },
@@ -54,7 +97,7 @@ impl Choice {
         ensures { (old : List ℕ) → length old ≡ length wanted.now → IsStepChoice methods.Packed old wanted.now numbers.now result.step result.sum }
     {
         let literal = LeastLen::among(numbers, 1, wanted.len().min(128), 1, 1, Tie::Longest);
-        let longest = run_len(wanted).min(128);
+        let longest = run_end(wanted, 0).min(128);
         if longest >= 2 {
             let repeat = LeastLen::among(numbers, 2, longest, 2, 0, Tie::Longest);
             if repeat.beats(literal, Tie::Longest) {
@@ -75,7 +118,7 @@ impl Choice {
         requires place { IsPlace wanted.now numbers.now }
         ensures { IsStepChoice methods.Delta old.now wanted.now numbers.now result.step result.sum }
     {
-        let same = same_len(old, wanted).min(wanted.len() - 1);
+        let same = first_difference(old, wanted).min(wanted.len() - 1);
         let mut best = Choice::behind(0, wanted.len(), numbers);
         for offset in 1..same + 1 {
             let next = Choice::behind(offset, wanted.len(), numbers);
@@ -93,16 +136,11 @@ impl Choice {
         requires small { row_bytes ≤ 600 }
         ensures { IsReplacement offset row_bytes numbers.now result.step result.sum }
     {
-        let head = if offset < 31 {
-            1
-        } else {
-            2 + (offset - 31) / 255
-        };
         let best = LeastLen::among(
             &numbers[offset..],
             1,
             (row_bytes - offset).min(8),
-            head,
+            command_bytes(offset),
             1,
             Tie::Shortest,
         );
@@ -114,6 +152,69 @@ impl Choice {
             sum: best.sum,
         }
     }
+}
+
+/// How many bytes the command of a replacement has, with those that lengthen its offset.
+pub fn command_bytes(offset: usize) -> usize
+    ensures { result ≡ replacement_bytes offset }
+{
+    if offset < 31 {
+        1
+    } else {
+        2 + (offset - 31) / 255
+    }
+}
+
+/// The least of the replaced bytes and the number behind them, where a replacement starts at the first place.
+pub fn least_behind(numbers: &[u16]) -> usize
+    requires some { 1 < length numbers.now }
+    requires short { length numbers.now ≤ 601 }
+    requires small { (k : ℕ) → 1 ≤ k → slice_index numbers.now k ≤ 1200 }
+    ensures { (len : ℕ) × IsLeastLen numbers.now 1 (min (length numbers.now - 1) 8) 0 1 len result }
+{
+    if numbers.len() > 8 {
+        usize::from(least_of_eight(numbers))
+    } else {
+        LeastLen::among(numbers, 1, numbers.len() - 1, 0, 1, Tie::Shortest).sum
+    }
+}
+
+/// The same where eight places are behind the first: one instruction for vectors.
+#[inline(always)]
+fn least_of_eight(numbers: &[u16]) -> u16
+    requires long { 8 < length numbers.now }
+    requires small { (k : ℕ) → 1 ≤ k → slice_index numbers.now k ≤ 1200 }
+    ensures { (len : ℕ) × IsLeastLen numbers.now 1 8 0 1 len result }
+{
+    (numbers[1] + 1)
+        .min(numbers[2] + 2)
+        .min(numbers[3] + 3)
+        .min(numbers[4] + 4)
+        .min(numbers[5] + 5)
+        .min(numbers[6] + 6)
+        .min(numbers[7] + 7)
+        .min(numbers[8] + 8)
+}
+
+/// The longest literal, of at most so many bytes, that begins data of the first number. Numbers never grow to the
+/// right, so a length that has some bytes too many is that far from the next that may do.
+fn literal_len(numbers: &[u16], most: usize) -> Option<usize>
+    requires within { most < length numbers.now }
+    requires small { most ≤ 128 }
+    requires falls { (i j : ℕ) → i ≤ j → j ≤ most → slice_index numbers.now j ≤ slice_index numbers.now i }
+    requires least { (k : ℕ) → 1 ≤ k → k ≤ most → slice_index numbers.now 0 ≤ 1 + k + slice_index numbers.now k }
+    ensures { MatchOption result (NoLiteral numbers.now most) (IsLiteralLen numbers.now most) }
+{
+    let least = usize::from(numbers[0]);
+    let mut len = most;
+    while len > 0 {
+        let excess = 1 + len + usize::from(numbers[len]) - least;
+        if excess == 0 {
+            return Some(len);
+        }
+        len = len.saturating_sub(excess);
+    }
+    None
 }
 
 /// Which length is taken among several that give the least sum.

@@ -47,6 +47,23 @@ pub trait RowCoder {
     {
         table::append(self.method(), row, seed, out)
     }
+
+    /// The same along the least numbers of the row, as `places` gives them: a table is filled once for the
+    /// length, its first number, and for the data.
+    fn write_along(
+        &self,
+        row: &[u8],
+        seed: &[u8],
+        numbers: &[u16],
+        out: &mut Vec<u8>,
+    ) -> Result<(), AllocError>
+        requires codable { IsCodable seed.now row.now }
+        requires least { IsLeastTable (of self.now) seed.now row.now numbers.now }
+        ensures ok { OnOk result (AppendsLeast (of self.now) seed.now row.now out.old.items out.new.items) }
+        ensures err { OnErr result (out.new.items ≡ out.old.items) }
+    {
+        table::append_along(self.method(), row, seed, numbers, out)
+    }
 }
 
 /// No compression (method 0).

@@ -3,7 +3,10 @@
 ghost use Rattle.std.specs.Prelude.{◌≡◌, ℕ, ◌≤◌, List, length, slice_index};
 ghost use Rattle.pcl_base.specs.declared.method.Method.{Method};
 ghost use Rattle.pcl_rows.specs.Rows.{IsRowData, base};
-ghost use Rattle.pcl_coders.specs.Walks.{IsLeastCost};
+ghost use Rattle.pcl_base.specs.declared.method.Method.TheVariants as methods;
+ghost use Rattle.pcl_rows.specs.Elements.{Element};
+ghost use Rattle.pcl_coders.specs.Walks.{Walk, total, IsLeastCost};
+ghost use Rattle.pcl_coders.specs.Starts.{IsLatestStart, StartsAt};
 ghost use Rattle.pcl_coders.specs.RowWalks.{IsRowTable, IsLeastTable, Leads, Ends, cost};
 ghost use Rattle.pcl_coders.specs.Coding.{IsCodable, IsLeastLength};
 
@@ -22,4 +25,11 @@ pub fn first_number_is_least()
 pub fn numbers_are_least()
     ensures { (method : Method) (seed row table : List ℕ) (place : ℕ) → IsLeastTable method seed row table → place ≤ length row
         → IsLeastCost (Leads method (base method seed) row) (Ends (base method seed) row) cost place (slice_index table place) }
+{}
+
+/// An earlier start of a replacement is never shorter: for elements of method 3 that give the rest of a row there
+/// are others of no more bytes whose first one starts at the first byte that differs from the row before.
+pub fn latest_start_is_as_good()
+    ensures { (old row : List ℕ) (steps : List Element) (place start : ℕ) → length old ≡ length row → IsLatestStart old row place start
+        → Walk (Leads methods.Delta old row) (Ends old row) place steps → StartsAt old row place start (total cost steps) }
 {}

@@ -3,13 +3,19 @@
 
 mod choice;
 mod coder;
+mod fill;
 mod laws;
-mod prefix;
 mod step;
 mod table;
+mod window;
 
 pub use coder::{Delta, Packed, Plain, RowCoder, Runs};
-pub use laws::{first_number_is_least, numbers_are_least, row_table_bounds_data};
+pub use laws::{
+    first_number_is_least, latest_start_is_as_good, numbers_are_least, row_table_bounds_data,
+};
+pub use window::Window;
 
+#[cfg(test)]
+mod plain_tables;
 #[cfg(test)]
 mod tests;

@@ -4,14 +4,12 @@ ghost use Rattle.std.specs.Prelude.{◌≡◌, ◌+◌, ◌≤◌, ◌++◌, len
 ghost use Rattle.pcl_rows.specs.Rows.{base};
 ghost use Rattle.pcl_coders.specs.RowWalks.{IsLeastTable};
 ghost use Rattle.pcl_coders.specs.Coding.{IsCodable, IsLeastLength, AppendsLeast};
-ghost use Rattle.pcl_coders.specs.Filling.{AreRightFrom, AppendsWalk};
+ghost use Rattle.pcl_coders.specs.Filling.{AreRightFrom, AppendsWalk, IsFirstEnd};
 
 use crate::choice::Choice;
+use crate::fill::{MOST_BYTES, fill_before, needed_len};
 use pcl_base::Method;
 use std::alloc::AllocError;
-
-/// The most bytes of a row.
-const MOST_BYTES: usize = 600;
 
 /// Fills in the least number of bytes of each place of a row, and of its end.
 pub fn fill(method: Method, row: &[u8], seed: &[u8], out: &mut [u16])
@@ -19,8 +17,7 @@ pub fn fill(method: Method, row: &[u8], seed: &[u8], out: &mut [u16])
     requires size { length out.old ≡ length row.now + 1 }
     ensures { IsLeastTable method seed.now row.now out.new }
 {
-    let zeros = [0; MOST_BYTES];
-    fill_over(method, base_row(method, seed, &zeros), row, out);
+    fill_before(method, row, seed, needed_len(method, row, seed), out);
 }
 
 /// The least length of whole data for a row.
@@ -28,17 +25,27 @@ pub fn least(method: Method, row: &[u8], seed: &[u8]) -> usize
     requires { IsCodable seed.now row.now }
     ensures { IsLeastLength method seed.now row.now result }
 {
-    let mut numbers = [0; MOST_BYTES + 1];
-    least_in(method, row, seed, &mut numbers[..row.len() + 1])
+    let end = needed_len(method, row, seed);
+    if end == 0 {
+        return 0;
+    }
+    match method {
+        Method::Plain => end,
+        Method::Runs | Method::Packed | Method::Delta => {
+            let mut numbers = [0; MOST_BYTES + 1];
+            least_in(method, row, seed, end, &mut numbers[..row.len() + 1])
+        }
+    }
 }
 
-/// The same, in a lent table.
-fn least_in(method: Method, row: &[u8], seed: &[u8], numbers: &mut [u16]) -> usize
+/// The same, in a lent table, where no more data is needed from `end` on.
+fn least_in(method: Method, row: &[u8], seed: &[u8], end: usize, numbers: &mut [u16]) -> usize
     requires codable { IsCodable seed.now row.now }
     requires size { length numbers.old ≡ length row.now + 1 }
+    requires end { IsFirstEnd (base method seed.now) row.now end }
     ensures { IsLeastLength method seed.now row.now result }
 {
-    fill(method, row, seed, numbers);
+    fill_before(method, row, seed, end, numbers);
     usize::from(numbers[0])
 }
 
@@ -49,11 +56,11 @@ pub fn append(method: Method, row: &[u8], seed: &[u8], out: &mut Vec<u8>) -> Res
     ensures err { OnErr result (out.new.items ≡ out.old.items) }
 {
     let mut numbers = [0; MOST_BYTES + 1];
-    append_along(method, row, seed, &mut numbers[..row.len() + 1], out)
+    append_in(method, row, seed, &mut numbers[..row.len() + 1], out)
 }
 
-/// The same, along a lent table.
-fn append_along(
+/// The same, in a lent table.
+fn append_in(
     method: Method,
     row: &[u8],
     seed: &[u8],
@@ -65,9 +72,25 @@ fn append_along(
     ensures ok { OnOk result (AppendsLeast method seed.now row.now out.old.items out.new.items) }
     ensures err { OnErr result (out.new.items ≡ out.old.items) }
 {
+    fill(method, row, seed, numbers);
+    append_along(method, row, seed, numbers, out)
+}
+
+/// Appends whole data of least length along the least numbers of a row.
+pub fn append_along(
+    method: Method,
+    row: &[u8],
+    seed: &[u8],
+    numbers: &[u16],
+    out: &mut Vec<u8>,
+) -> Result<(), AllocError>
+    requires codable { IsCodable seed.now row.now }
+    requires least { IsLeastTable method seed.now row.now numbers.now }
+    ensures ok { OnOk result (AppendsLeast method seed.now row.now out.old.items out.new.items) }
+    ensures err { OnErr result (out.new.items ≡ out.old.items) }
+{
     let zeros = [0; MOST_BYTES];
     let old = base_row(method, seed, &zeros);
-    fill_over(method, old, row, numbers);
     let start = out.len();
     let appended = append_steps(method, old, row, numbers, out);
     if appended.is_err() {
@@ -88,28 +111,9 @@ fn base_row<'a>(method: Method, seed: &'a [u8], zeros: &'a [u8]) -> &'a [u8]
     }
 }
 
-/// Fills in the numbers from the row's end.
-fn fill_over(method: Method, old: &[u8], row: &[u8], out: &mut [u16])
-    requires same { length old.now ≡ length row.now }
-    requires small { length row.now ≤ 600 }
-    requires size { length out.old ≡ length row.now + 1 }
-    ensures { AreRightFrom method old.now row.now out.new 0 }
-{
-    out[row.len()] = 0;
-    let mut is_end = true;
-    for place in (0..row.len()).rev() {
-        is_end = is_end && row[place] == old[place];
-        out[place] = if is_end {
-            0
-        } else {
-            Choice::of(method, &old[place..], &row[place..], &out[place..]).sum as u16
-        };
-    }
-}
-
 /// Appends the best element of each place, up to where no more data is needed. Where memory runs out, some
 /// of the bytes may stand there.
-fn append_steps(
+pub fn append_steps(
     method: Method,
     old: &[u8],
     row: &[u8],
@@ -126,7 +130,7 @@ fn append_steps(
     let mut place = 0;
     while numbers[place] > 0 {
         let wanted = &row[place..];
-        let choice = Choice::of(method, &old[place..], wanted, &numbers[place..]);
+        let choice = Choice::along(method, &old[place..], wanted, &numbers[place..]);
         choice.step.append(wanted, out)?;
         place += choice.step.stop();
     }

@@ -15,6 +15,11 @@ fn data_of<C: RowCoder>(
     assert!(rt; row.len() == seed.len() && row.len() <= 600);
     let mut bytes = vec![in alloc; 9]?;
     coder.write(row, seed, &mut bytes)?;
+    let mut numbers = vec![in alloc; 7; row.len() + 1]?;
+    coder.places(row, seed, &mut numbers);
+    let mut along = vec![in alloc; 9]?;
+    coder.write_along(row, seed, &numbers, &mut along)?;
+    assert_eq!(rt; along.as_slice(), bytes.as_slice());
     assert_eq!(rt; bytes.remove(0), 9);
     assert_eq!(rt; bytes.len(), coder.least(row, seed));
     assert!(rt; is_whole(coder.method(), bytes.as_slice(), row.len()));
@@ -125,11 +130,18 @@ fn ties(rt: HostRuntime) -> Result<(), AllocError> {
         data_of(&rt, rt.alloc(), &Runs, &long, &[0; 257])?.as_slice(),
         &[255, 4, 0, 4][..]
     );
-    let packed: [(&[u8], &[u8]); 8] = [
+    let mut equal = [0; 129];
+    equal.fill(7);
+    assert_eq!(rt;
+        data_of(&rt, rt.alloc(), &Packed, &equal, &[0; 129])?.as_slice(),
+        &[129, 7, 0, 7][..]
+    );
+    let packed: [(&[u8], &[u8]); 9] = [
         (&[1, 1], &[255, 1]),
         (&[1, 1, 2], &[2, 1, 1, 2]),
         (&[1, 1, 1, 2], &[254, 1, 0, 2]),
         (&[1, 2, 2, 2], &[0, 1, 254, 2]),
+        (&[1, 2, 2], &[2, 1, 2, 2]),
         (&[0, 0, 1], &[2, 0, 0, 1]),
         (&[1, 0, 0], &[0, 1]),
         (&[1, 1, 2, 2], &[255, 1, 255, 2]),
@@ -177,6 +189,28 @@ fn tables(rt: HostRuntime) {
     assert_eq!(rt; out, [4, 3, 2, 0]);
     Delta.places(&[1, 1, 2], &[1, 0, 2], &mut out);
     assert_eq!(rt; out, [2, 2, 0, 0]);
+}
+
+/// Numbers that are put in and taken out.
+#[test]
+fn windows(rt: HostRuntime) {
+    let mut numbers = [0; 5];
+    let mut places = [0; 5];
+    let mut window = Window::new(&mut numbers, &mut places);
+    window.put(4);
+    window.put(7);
+    assert_eq!(rt; window.least(), 4);
+    window.take();
+    assert_eq!(rt; window.least(), 7);
+    window.put(5);
+    window.put(5);
+    assert_eq!(rt; window.least(), 5);
+    window.take();
+    window.take();
+    window.put(9);
+    assert_eq!(rt; window.least(), 5);
+    window.take();
+    assert_eq!(rt; window.least(), 9);
 }
 
 /// How many rows of four bytes there are, where a byte is 0, 1 or 2.

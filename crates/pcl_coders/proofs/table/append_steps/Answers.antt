@@ -4,6 +4,7 @@ use Rattle.pcl_coders.specs.Step.{element_of}
 use Rattle.std.specs.Prelude.{slice_index}
 use Rattle.pcl_rows.specs.Elements.{spelling}
 use Rattle.std.specs.List.{flat_map}
+use Rattle.pcl_coders.proofs.Along.{right_from_drop}
 use Rattle.pcl_coders.proofs.Filling.{appended_more, appended_all, choice_to_ends, front_stays}
 use Rattle.pcl_coders.proofs.table.append_steps.Goals as goal
 
@@ -13,14 +14,22 @@ returns-in_err-append-clause-err c =
     let front = front_stays c.args.out.now.items c.loop-place.out.items c.append.new.out.items (flat_map spelling a.done) a.joined c.in_err-append.ensures.err in
     search (rules, front)
 
+pub along-choice-requires-clause-right : goal.along-choice-requires-clause-right
+along-choice-requires-clause-right c =
+    let old = c.args.old.now in
+    let row = c.args.row.now in
+    let numbers = c.args.numbers.now in
+    let place = c.loop-place.place in
+    rw (take_rest old place, take_rest row place, take_rest numbers place) (right_from_drop c.args.method old row numbers place c.loop-place.invariant.within c.requires.right)
+
 pub loop-place-preserved : goal.loop-place-preserved
 loop-place-preserved c =
     let old = c.args.old.now in
     let row = c.args.row.now in
     let numbers = c.args.numbers.now in
     let place = c.loop-place.place in
-    let choice = c.of-choice.result in
-    let best = choice_to_ends c.args.method old row numbers place choice.step choice.sum c.of-choice.ensures in
+    let choice = c.along-choice.result in
+    let best = choice_to_ends c.args.method old row numbers place choice.step choice.sum c.along-choice.ensures in
     appended_more c.args.method old row numbers c.args.out.now.items c.loop-place.out.items place choice.step choice.sum c.append.new.out.items (place + c.stop-place.result)
     c.requires.same c.requires.right c.loop-place-test.true c.loop-place.invariant best
     (c.in_ok-append.ensures.ok ∙ ap (λ (bs : List ℕ). c.loop-place.out.items ++ spelling (element_of choice.step bs)) (take_rest row place)) (omega (arith, c.stop-place.ensures))

@@ -1,5 +1,6 @@
 use Rattle.std.proofs.Common.{◌≡◌, ℕ, ◌+◌, ◌-◌, length, min, arith}
 use Rattle.pcl_coders.proofs.Choices.{best_replacement_next, best_replacement_stays, delta_choice}
+use Rattle.pcl_coders.proofs.Prefixes.{same_len_of}
 use Rattle.pcl_coders.proofs.choice.Choice.delta.Goals as goal
 use Rattle.pcl_coders.proofs.choice.Choice.delta.Goals.{then-next-best, else-next-best}
 
@@ -20,5 +21,5 @@ loop-offset-preserved c =
 pub returns : goal.returns
 returns c =
     let last : ℕ = c.loop-offset.offset - 1 in
-    let at : last ≡ min c.same_len.result (length c.args.wanted.now - 1) = omega (arith, c.min-same.ensures) in
-    delta_choice c.args.old.now c.args.wanted.now c.args.numbers.now c.same_len.result last c.loop-offset.best.step c.loop-offset.best.sum c.requires.same c.requires.place c.same_len.ensures at c.loop-offset.invariant
+    let at : last ≡ min c.first_difference.result (length c.args.wanted.now - 1) = omega (arith, c.min-same.ensures) in
+    delta_choice c.args.old.now c.args.wanted.now c.args.numbers.now c.first_difference.result last c.loop-offset.best.step c.loop-offset.best.sum c.requires.same c.requires.place (same_len_of c.args.old.now c.args.wanted.now c.first_difference.result c.requires.same c.first_difference.ensures) at c.loop-offset.invariant

@@ -1,0 +1,141 @@
+-- Lanes of bytes, and places where rows change.
+use Rattle.std.proofs.Common.{◌≡◌, ◌≢◌, ℕ, ◌+◌, ◌-◌, ◌<◌, ◌≤◌, ◌^◌, ◌%◌, min, Bool, true, false, not, cond, eqb, map, List, length, get_or, refl, sym, ap, ◌∙◌, subst, inl, inr, arith, w8, w64}
+use Rattle.std.specs.Int.{bit_at, trailing_zeros}
+use Rattle.std.specs.Simd.Lanes.{zip2, mask_l, top}
+use Rattle.std.proofs.lemmas.Simd.{length-zip2, get_or-zip2, bit_mask_l, tops_compared, mask_l-mod}
+use Rattle.std.proofs.lemmas.Bool.{cases_lt, eqb-true, eqb-false}
+use Rattle.std.proofs.lemmas.List.{get_or_past}
+use Rattle.std.proofs.lemmas.Nat.Bits.{bit_at-zero, bit_at-trailing_zeros}
+
+-- the place of the lowest bit that is set, or 32
+pub record IsFirstSet (mask count : ℕ) : Type 0 where
+  pub clear : (k : ℕ) → k < count → bit_at mask k ≡ 0
+  pub set : count < 32 → bit_at mask count ≡ 1
+
+pub first_set_is : (mask count : ℕ) → mask < 2 ^ 64 → count ≡ min (trailing_zeros w64 mask) 32 → IsFirstSet mask count
+unfolding lib.Count.count_trailing_zeros
+first_set_is mask count fits is =
+    elim (cases_lt 0 mask) [
+      | inl some ↦
+          let h = bit_at-trailing_zeros w64 mask some fits in
+          record {
+            clear = λ k below. h.2 k (omega arith);
+            set = λ below. let at : count ≡ trailing_zeros w64 mask = omega arith in rw at h.1;
+          }
+      | inr none ↦
+          let zero : mask ≡ 0 = omega arith in
+          let all : count ≡ 32 = is ∙ ap (λ (m : ℕ). min (trailing_zeros w64 m) 32) zero in
+          record {
+            clear = λ k below. rw zero (bit_at-zero k);
+            set = λ below. absurd (omega arith);
+          }
+    ]
+
+not_is_false : (b : Bool) → not b ≡ false → b ≡ true
+not_is_false true e = refl
+not_is_false false e = absurd cc
+
+not_is_true : (b : Bool) → not b ≡ true → b ≡ false
+not_is_true false e = refl
+not_is_true true e = absurd cc
+
+-- whether two lanes differ
+abbrev pub differ : ℕ → ℕ → Bool
+differ x y = not (eqb x y)
+
+-- a bit of the mask of a comparison
+pub mask_bit : (test : ℕ → ℕ → Bool) (a b : List ℕ) (k : ℕ) → length a ≡ 32 → length b ≡ 32 → k < 32
+    → bit_at (mask_l (zip2 test a b)) k ≡ cond (test (get_or a k 0) (get_or b k 0)) 1 0
+mask_bit test a b k size size' within =
+    bit_mask_l (zip2 test a b) k ∙ ap (λ (t : Bool). cond t 1 0) (get_or-zip2 test a b k 0 0 false (omega arith) (omega arith))
+
+differ_not : (x y : ℕ) (d : Bool) → differ x y ≡ d → cond {A = ℕ} d 1 0 ≡ 0 → x ≡ y
+differ_not x y false e clear = eqb-true x y (not_is_false (eqb x y) e)
+differ_not x y true e clear = absurd cc
+
+differ_so : (x y : ℕ) (d : Bool) → differ x y ≡ d → cond {A = ℕ} d 1 0 ≡ 1 → x ≢ y
+differ_so x y true e set = eqb-false x y (not_is_true (eqb x y) e)
+differ_so x y false e set = absurd cc
+
+-- what a mask's first bit says of the lanes
+pub lanes_same : (a b : List ℕ) (k : ℕ) → length a ≡ 32 → length b ≡ 32 → k < 32 → bit_at (mask_l (zip2 differ a b)) k ≡ 0 → get_or a k 0 ≡ get_or b k 0
+lanes_same a b k size size' within clear = differ_not (get_or a k 0) (get_or b k 0) (differ (get_or a k 0) (get_or b k 0)) refl (sym (mask_bit differ a b k size size' within) ∙ clear)
+
+pub lanes_differ : (a b : List ℕ) (k : ℕ) → length a ≡ 32 → length b ≡ 32 → k < 32 → bit_at (mask_l (zip2 differ a b)) k ≡ 1 → get_or a k 0 ≢ get_or b k 0
+lanes_differ a b k size size' within set = differ_so (get_or a k 0) (get_or b k 0) (differ (get_or a k 0) (get_or b k 0)) refl (sym (mask_bit differ a b k size size' within) ∙ set)
+
+-- the mask as the code computes it
+pub whole_mask : (a b : List ℕ) → length a ≡ 32 → length b ≡ 32 → mask_l (map (top 7) (zip2 (λ x y. cond (differ x y) 255 0) a b)) % 2 ^ 64 ≡ mask_l (zip2 differ a b)
+whole_mask a b size size' =
+    ap (λ (ms : List Bool). mask_l ms % 2 ^ 64) (tops_compared w8 differ a b) ∙ mask_l-mod (zip2 differ a b) 64 (omega (arith, length-zip2 differ a b (size ∙ sym size')))
+
+-- ---- rows, as far as they are known
+
+-- two rows are the same up to a place
+pub record AreSameTo (a b : List ℕ) (place : ℕ) : Type 0 where
+  pub within : place ≤ length a
+  pub same : (k : ℕ) → k < place → get_or a k 0 ≡ get_or b k 0
+
+pub same_more : (a b : List ℕ) (place count : ℕ) → AreSameTo a b place → place + count ≤ length a → ((k : ℕ) → k < count → get_or a (place + k) 0 ≡ get_or b (place + k) 0) → AreSameTo a b (place + count)
+same_more a b place count to fits more = record {
+  within = fits;
+  same = λ k below.
+      elim (cases_lt k place) [
+        | inl before ↦ to.same k before
+        | inr past ↦ let at : place + (k - place) ≡ k = omega arith in subst (λ (n : ℕ). get_or a n 0 ≡ get_or b n 0) at (more (k - place) (omega arith))
+      ];
+}
+
+pub same_one : (a b : List ℕ) (place : ℕ) → AreSameTo a b place → place < length a → get_or a place 0 ≡ get_or b place 0 → AreSameTo a b (place + 1)
+same_one a b place to fits here =
+    same_more a b place 1 to (omega arith) (λ k below. let at : place ≡ place + k = omega arith in subst (λ (n : ℕ). get_or a n 0 ≡ get_or b n 0) at here)
+
+-- a byte stands again and again from one place up to another
+pub record IsRunTo (row : List ℕ) (from place : ℕ) : Type 0 where
+  pub after : from < place
+  pub within : place ≤ length row
+  pub same : (k : ℕ) → from ≤ k → k < place → get_or row k 0 ≡ get_or row from 0
+
+pub run_one : (row : List ℕ) (from : ℕ) → from < length row → IsRunTo row from (from + 1)
+run_one row from fits = record {
+  after = omega arith;
+  within = omega arith;
+  same = λ k low high. let at : k ≡ from = omega arith in ap (λ (n : ℕ). get_or row n 0) at;
+}
+
+pub run_more : (row : List ℕ) (from place count : ℕ) → IsRunTo row from place → place + count ≤ length row → ((k : ℕ) → k < count → get_or row (place + k) 0 ≡ get_or row from 0) → IsRunTo row from (place + count)
+run_more row from place count to fits more = record {
+  after = omega (arith, to.after);
+  within = fits;
+  same = λ k low high.
+      elim (cases_lt k place) [
+        | inl before ↦ to.same k low before
+        | inr past ↦ let at : place + (k - place) ≡ k = omega arith in subst (λ (n : ℕ). get_or row n 0 ≡ get_or row from 0) at (more (k - place) (omega arith))
+      ];
+}
+
+pub run_next : (row : List ℕ) (from place : ℕ) → IsRunTo row from place → place < length row → get_or row place 0 ≡ get_or row from 0 → IsRunTo row from (place + 1)
+run_next row from place to fits here =
+    run_more row from place 1 to (omega arith) (λ k below. let at : place ≡ place + k = omega arith in subst (λ (n : ℕ). get_or row n 0 ≡ get_or row from 0) at here)
+
+-- there are only zeros from a place on
+pub record AreZerosFrom (row : List ℕ) (len : ℕ) : Type 0 where
+  pub within : len ≤ length row
+  pub zeros : (k : ℕ) → len ≤ k → get_or row k 0 ≡ 0
+
+pub zeros_past : (row : List ℕ) → AreZerosFrom row (length row)
+zeros_past row = record { within = omega arith; zeros = λ k past. get_or_past row k 0 past }
+
+pub zeros_more : (row : List ℕ) (len count : ℕ) → AreZerosFrom row len → count ≤ len → ((k : ℕ) → k < count → get_or row (len - count + k) 0 ≡ 0) → AreZerosFrom row (len - count)
+zeros_more row len count from fits more = record {
+  within = omega (arith, from.within);
+  zeros = λ k low.
+      elim (cases_lt k len) [
+        | inr past ↦ from.zeros k past
+        | inl before ↦ let at : len - count + (k - (len - count)) ≡ k = omega arith in subst (λ (n : ℕ). get_or row n 0 ≡ 0) at (more (k - (len - count)) (omega arith))
+      ];
+}
+
+pub zeros_one : (row : List ℕ) (len : ℕ) → AreZerosFrom row len → 0 < len → get_or row (len - 1) 0 ≡ 0 → AreZerosFrom row (len - 1)
+zeros_one row len from some here =
+    zeros_more row len 1 from (omega arith) (λ k below. let at : len - 1 ≡ len - 1 + k = omega arith in subst (λ (n : ℕ). get_or row n 0 ≡ 0) at here)

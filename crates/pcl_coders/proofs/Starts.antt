@@ -1,0 +1,118 @@
+-- An earlier start of a replacement is never shorter than the latest.
+use Rattle.std.proofs.Common.{◌≡◌, ℕ, ◌+◌, ◌-◌, ◌≤◌, List, [], ◌∷◌, length, drop, sym, ap, ◌∙◌, subst, inl, inr, arith}
+use Rattle.std.specs.Prelude.{slice_index}
+use Rattle.std.proofs.lemmas.Bool.{cases_lt}
+use Rattle.std.proofs.lemmas.List.{length-drop, get_or-drop}
+use Rattle.pcl_base.specs.declared.method.Method.TheVariants.{Delta}
+use Rattle.pcl_bitmap.specs.Kernels.{IsFirstDifference}
+use Rattle.pcl_rows.specs.Heads.{offset_of}
+use Rattle.pcl_rows.specs.Elements.{Element, given}
+use Rattle.pcl_coders.specs.Walks.{Walk, total}
+use Rattle.pcl_coders.specs.RowWalks.{Leads, Ends, cost}
+use Rattle.pcl_coders.specs.Starts.{IsLatestStart, StartsAt}
+use Rattle.pcl_coders.specs.Replacement.{replacement_bytes}
+use Rattle.pcl_coders.specs.declared.step.Step.TheVariants.{Replace}
+use Rattle.pcl_coders.specs.Step.{element_of}
+use Rattle.pcl_coders.proofs.Shapes.{delta_shape, replacement_is}
+use Rattle.pcl_coders.proofs.Prefixes.{IsSameLen, same_len_of}
+use Rattle.pcl_coders.proofs.Choices.{agrees_gives, replace_step}
+use Rattle.pcl_coders.proofs.Ends.{ends_at}
+use Rattle.pcl_coders.proofs.Places.{command_grows, command_joins}
+
+-- as many bytes are left as are the same
+same_to_start : (old row : List ℕ) (place start : ℕ) → length old ≡ length row → IsLatestStart old row place start → IsSameLen (drop place old) (drop place row) (start - place)
+same_to_start old row place start size is =
+    let last : ℕ = start - place in
+    let there : place + last ≡ start = omega (arith, is.order) in
+    let long : length (drop place old) ≡ length row - place = omega (arith, length-drop place old) in
+    let difference : IsFirstDifference (drop place old) (drop place row) last = record {
+      within = omega (arith, long, is.within);
+      same = λ k below. get_or-drop place old k 0 ∙ is.same (place + k) (omega arith) (omega arith) ∙ sym (get_or-drop place row k 0);
+      differs = λ _ same. is.differs (ap (slice_index old) (sym there) ∙ sym (get_or-drop place old last 0) ∙ same ∙ get_or-drop place row last 0 ∙ ap (slice_index row) there);
+    } in
+    same_len_of (drop place old) (drop place row) last (omega (arith, long, length-drop place row)) difference
+
+-- a replacement at the latest start
+record IsLatestStep (old row : List ℕ) (place start len : ℕ) (e : Element) : Type 0 where
+  pub offset_is : offset_of e.head ≡ start - place
+  pub leads : Leads Delta old row place e (start + len)
+  pub cost_is : cost e ≡ replacement_bytes (start - place) + len
+
+latest_step : (old row : List ℕ) (place start len : ℕ) → length old ≡ length row → IsLatestStart old row place start → 1 ≤ len → len ≤ 8 → start + len ≤ length row → (e : Element) × IsLatestStep old row place start len e
+latest_step old row place start len size is some few fits =
+    let last : ℕ = start - place in
+    let wanted : List ℕ = drop place row in
+    let s = replace_step (drop place old) wanted last len some few (omega (arith, length-drop place row, is.order)) (same_to_start old row place start size is).equal in (
+      element_of (Replace last len) wanted,
+      record {
+        offset_is = (replacement_is last len some few).offset_is;
+        leads = record { element = s.element; agrees = s.agrees; next_is = omega (arith, s.stop_is, is.order) };
+        cost_is = s.bytes_are;
+      },
+    )
+
+-- what an element of a walk gives
+pub record IsDeltaStep (old row : List ℕ) (place start next : ℕ) (e : Element) : Type 0 where
+  pub len : ℕ
+  pub some : 1 ≤ len
+  pub few : len ≤ 8
+  pub early : offset_of e.head ≤ start - place
+  pub next_is : next ≡ place + (offset_of e.head + len)
+  pub within : next ≤ length row
+  pub cost_is : cost e ≡ replacement_bytes (offset_of e.head) + len
+
+pub delta_step : (old row : List ℕ) (place start next : ℕ) (e : Element) → length old ≡ length row → IsLatestStart old row place start → Leads Delta old row place e next → IsDeltaStep old row place start next e
+delta_step old row place start next e size is l =
+    let wanted : List ℕ = drop place row in
+    let long = length-drop place row in
+    let s = delta_shape e.head e.bytes l.element.head_is.method_is l.element.head_is.in_range l.element.complete in
+    let g = agrees_gives Delta (drop place old) wanted e (omega (arith, long, length-drop place old)) l.element l.agrees in
+    record {
+      len = length (given e);
+      some = s.above;
+      few = s.below;
+      early = (same_to_start old row place start size is).longest (offset_of e.head) (omega (arith, g.0)) g.1;
+      next_is = l.next_is;
+      within = omega (arith, l.next_is, g.0, long, is.within, is.order);
+      cost_is = s.bytes_are;
+    }
+
+pub latest_is_as_good : (old row : List ℕ) (steps : List Element) (place start : ℕ) → length old ≡ length row → IsLatestStart old row place start → Walk (Leads Delta old row) (Ends old row) place steps → StartsAt old row place start (total cost steps)
+latest_is_as_good old row [] place start size is walk = absurd (is.differs (sym (ends_at old row place start walk is.order)))
+latest_is_as_good old row (e ∷ es) place start size is walk =
+    let b : ℕ = walk.0 in
+    let last : ℕ = start - place in
+    let o : ℕ = offset_of e.head in
+    let d = delta_step old row place start b e size is walk.1 in
+    elim (cases_lt start b) [
+      | inl far ↦
+          let len : ℕ = b - start in
+          let there : start + len ≡ b = omega arith in
+          let n = latest_step old row place start len size is (omega arith) (omega (arith, d.few, d.next_is, d.early)) (omega (arith, d.within)) in
+          record {
+            first = n.0;
+            rest = es;
+            offset_is = n.1.offset_is;
+            walk = (start + len, n.1.leads, subst (λ (p : ℕ). Walk (Leads Delta old row) (Ends old row) p es) (sym there) walk.2);
+            cheap = omega (arith, n.1.cost_is, d.cost_is, d.next_is, d.early, command_grows o last d.early);
+          }
+      | inr near ↦
+          let later : IsLatestStart old row b start = record {
+            order = near;
+            within = is.within;
+            same = λ k low high. is.same k (omega (arith, d.next_is)) high;
+            differs = is.differs;
+          } in
+          let r = latest_is_as_good old row es b start size later walk.2 in
+          let f = delta_step old row b start r.walk.0 r.first size later r.walk.1 in
+          let there : start + f.len ≡ r.walk.0 = omega (arith, f.next_is, r.offset_is) in
+          let n = latest_step old row place start f.len size is f.some f.few (omega (arith, f.within)) in
+          let rest-cost : replacement_bytes (offset_of r.first.head) ≡ replacement_bytes (last - (o + d.len)) = ap replacement_bytes (omega (arith, r.offset_is, d.next_is)) in
+          record {
+            first = n.0;
+            rest = r.rest;
+            offset_is = n.1.offset_is;
+            walk = (start + f.len, n.1.leads, subst (λ (p : ℕ). Walk (Leads Delta old row) (Ends old row) p r.rest) (sym there) r.walk.2);
+            cheap = omega (arith, n.1.cost_is, d.cost_is, f.cost_is, rest-cost, r.cheap, command_joins o d.len last d.some (omega (arith, d.next_is)));
+          }
+    ]

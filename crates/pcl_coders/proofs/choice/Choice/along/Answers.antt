@@ -1,0 +1,68 @@
+use Rattle.std.proofs.Common.{ℕ, sym, ◌∙◌, subst, arith}
+use Rattle.std.proofs.lemmas.Bool.{eqb-true, leb-true}
+use Rattle.pcl_coders.specs.Choosing.{IsLiteralLen, NoLiteral}
+use Rattle.pcl_coders.proofs.Choices.{plain_choice}
+use Rattle.pcl_coders.proofs.Along.{along_run, along_start, along_replacement, numbers_fall, literal_bounds, along_literal, along_repeat, no_literal_repeat}
+use Rattle.pcl_coders.proofs.choice.Choice.along.Goals as goal
+use Rattle.pcl_coders.proofs.choice.Choice.along.Goals.{then-run-ge2, else-run-ge2}
+
+pub literal_len-requires-clause-falls : goal.literal_len-requires-clause-falls
+literal_len-requires-clause-falls c i j order within =
+    let right = rw c.in-Packed.is at c.requires.right in
+    numbers_fall c.args.old.now c.args.wanted.now c.args.numbers.now i j c.requires.same right order (omega (arith, c.min.ensures))
+
+pub literal_len-requires-clause-least : goal.literal_len-requires-clause-least
+literal_len-requires-clause-least c k some within =
+    let right = rw c.in-Packed.is at c.requires.right in
+    literal_bounds c.args.old.now c.args.wanted.now c.args.numbers.now k right some (omega (arith, c.min.ensures))
+
+pub returns-then-not-is_repeat : goal.returns-then-not-is_repeat
+returns-then-not-is_repeat c =
+    let right = rw c.in-Packed.is at c.requires.right in
+    let numbers = c.args.numbers.now in
+    let wanted = c.args.wanted.now in
+    let is = subst (λ (most : ℕ). IsLiteralLen numbers most c.in-Some.len) c.min.ensures c.in-Some.ensures in
+    rw (c.in-Packed.is, c.from-sum-in-Packed.ensures) (along_literal c.args.old.now wanted numbers c.in-Some.len right is)
+
+pub returns-else-run-len : goal.returns-else-run-len
+returns-else-run-len c =
+    let right = rw c.in-Packed.is at c.requires.right in
+    let numbers = c.args.numbers.now in
+    let run = c.min-run.result in
+    elim c.if-run-ge2.branch [
+      | then-run-ge2 w ↦
+          let same = eqb-true _ _ (sym w.is_repeat-is ∙ c.if-not-is_repeat.false) in
+          rw (c.in-Packed.is, c.from-sum-in-Packed.ensures)
+          (along_repeat c.args.old.now c.args.wanted.now numbers run c.run_end-in-Packed.result right c.run_end-in-Packed.ensures c.min-run.ensures w.if-run-ge2.true (omega (arith, same, w.from-then-run-ge2.ensures, c.from-sum-in-Packed.ensures)))
+      | else-run-ge2 w ↦ absurd (omega (arith, leb-true 2 run (sym w.is_repeat-is ∙ c.if-not-is_repeat.false), w.if-run-ge2.false))
+    ]
+
+pub returns-in_default : goal.returns-in_default
+returns-in_default c =
+    let right = rw c.in-Packed.is at c.requires.right in
+    let numbers = c.args.numbers.now in
+    let wanted = c.args.wanted.now in
+    let run = c.min-run.result in
+    let none = subst (λ (most : ℕ). NoLiteral numbers most) c.min.ensures c.in_default.ensures in
+    let r = no_literal_repeat c.args.old.now wanted numbers run c.run_end-in-Packed.result c.requires.same c.requires.place.some right c.requires.needed c.run_end-in-Packed.ensures c.min-run.ensures none in
+    rw (c.in-Packed.is, c.from-sum-in-Packed.ensures) (along_repeat c.args.old.now wanted numbers run c.run_end-in-Packed.result right c.run_end-in-Packed.ensures c.min-run.ensures r.0 r.1)
+
+pub returns-in-Plain : goal.returns-in-Plain
+returns-in-Plain c = rw (c.in-Plain.is, c.from.ensures) (plain_choice c.args.old.now c.args.wanted.now c.args.numbers.now c.requires.place)
+
+pub returns-in-Runs : goal.returns-in-Runs
+returns-in-Runs c =
+    let right = rw c.in-Runs.is at c.requires.right in
+    rw (c.in-Runs.is, c.from-sum.ensures) (along_run c.args.old.now c.args.wanted.now c.args.numbers.now c.run_end.result c.min-len.result c.requires.same right c.run_end.ensures c.min-len.ensures)
+
+pub behind-requires-clause-inside : goal.behind-requires-clause-inside
+behind-requires-clause-inside c =
+    let right = rw c.in-Delta.is at c.requires.right in
+    along_start c.args.old.now c.args.wanted.now c.args.numbers.now c.first_difference-start.result c.requires.same right c.requires.needed c.first_difference-start.ensures
+
+pub returns-in-Delta : goal.returns-in-Delta
+returns-in-Delta c =
+    let right = rw c.in-Delta.is at c.requires.right in
+    rw c.in-Delta.is
+    (along_replacement c.args.old.now c.args.wanted.now c.args.numbers.now c.first_difference-start.result c.behind.result.step c.behind.result.sum c.requires.same c.requires.place.size right c.requires.needed
+    c.first_difference-start.ensures c.behind.ensures)

@@ -1,0 +1,44 @@
+use Rattle.std.proofs.Common.{◌≡◌, ◌<◌, ◌+◌, ◌-◌, ℕ, min, length, refl, ◌∙◌, subst, arith}
+use Rattle.pcl_base.specs.declared.method.Method.TheVariants.{Runs}
+use Rattle.pcl_bitmap.specs.Kernels.{IsRunEnd}
+use Rattle.pcl_coders.specs.Filling.{AreRightFrom, white_like}
+use Rattle.pcl_coders.specs.declared.step.Step.TheVariants.{Run}
+use Rattle.pcl_coders.proofs.Places.{begun_right, place_done, runs_place, run_last, run_starts, run_goes_on}
+use Rattle.pcl_coders.proofs.fill.fill_runs.Goals as goal
+use Rattle.pcl_coders.proofs.fill.fill_runs.Goals.{then-place-end+then-row-place, else-place-end, else-place-end-via-then-place-end+else-row-place, else-place-end-via-else-place-end}
+
+pub loop-place-init : goal.loop-place-init
+loop-place-init c = record {
+  right = begun_right Runs (white_like c.args.row.now) c.args.row.now c.args.out.now c.args.end c.requires;
+  run = record { first = λ _. refl; run = λ none. absurd (omega arith) };
+}
+
+pub loop-place-preserved : goal.loop-place-preserved
+loop-place-preserved c =
+    let row = c.args.row.now in
+    let old = white_like row in
+    let end = c.args.end in
+    let out = c.loop-place.out in
+    let place : ℕ = c.loop-place.place - 1 in
+    let next : c.loop-place.place ≡ place + 1 = omega arith in
+    let inside : place < end = omega (arith, c.loop-place.auto.place) in
+    let size : length out ≡ length row + 1 = c.loop-place.auto.out ∙ c.requires.size in
+    let behind = subst (AreRightFrom Runs old row out) next c.loop-place.invariant.right in
+    let run : IsRunEnd row place c.if-place-end.run_end =
+    elim c.if-place-end.branch [
+      | then-place-end+then-row-place w ↦ rw w.run_end-is (run_starts row place (omega (arith, w.if-place-end.true, c.requires.first_end.within)) w.if-row-place.true)
+      | else-place-end w ↦
+          elim w.else-place-end.branch [
+            | else-place-end-via-then-place-end+else-row-place w' ↦
+                rw w.run_end-is (run_goes_on row place c.loop-place.run_end (subst (λ (p : ℕ). IsRunEnd row p c.loop-place.run_end) next (c.loop-place.invariant.run.run (omega (arith, w'.if-place-end.true)))) w'.if-row-place.false)
+            | else-place-end-via-else-place-end w' ↦
+                let last : place + 1 ≡ end = omega (arith, w'.if-place-end.false) in
+                rw (w.run_end-is, c.loop-place.invariant.run.first (next ∙ last)) (run_last row c.args.out.now end place c.requires last)
+          ]
+    ] in
+    let len : ℕ = min (c.if-place-end.run_end - place) 256 in
+    let at : c.min.result ≡ place + len = omega (arith, c.min.ensures, run.after) in
+    record {
+      right = rw at (place_done Runs old row c.args.out.now out end place (Run len) _ c.requires size inside behind (runs_place old row c.args.out.now out end place c.if-place-end.run_end len c.requires size inside behind run refl)).0;
+      run = record { first = λ at_end. absurd (omega arith); run = λ _. run };
+    }
