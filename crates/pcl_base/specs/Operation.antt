@@ -6,7 +6,7 @@ use Rattle.pcl_base.specs.declared.operation.Axis.TheVariants.{Horizontal, Verti
 use Rattle.pcl_base.specs.declared.operation.Unit.TheVariants.{PclUnit, Decipoint, Column}
 use Rattle.pcl_base.specs.declared.operation.Side.TheVariants.{Primary, Secondary}
 use Rattle.pcl_base.specs.declared.operation.Operation.{Operation}
-use Rattle.pcl_base.specs.declared.operation.Operation.TheVariants.{Reset, UniversalExit, ClearMargins, HalfLineFeed, HorizontalTab, LineFeed, FormFeed, CarriageReturn, Shift, PageSize, Copies, VerticalMotionIndex, LineSpacing, TopMargin, TextLength, PerforationSkip, OnlyZero, EjectMarked, UnitOfMeasure, HorizontalMotionIndex, LineTermination, LeftMargin, Move, CursorStack, RasterResolution, RasterWidth, StartRaster, EndRaster, EndRasterResetMethod, RasterMethod, RasterOffset, RasterRow, NoEffect}
+use Rattle.pcl_base.specs.declared.operation.Operation.TheVariants.{Reset, UniversalExit, ClearMargins, HalfLineFeed, HorizontalTab, LineFeed, FormFeed, CarriageReturn, Shift, PageSize, Copies, VerticalMotionIndex, LineSpacing, TopMargin, TextLength, PerforationSkip, OnlyZero, EjectMarked, UnitOfMeasure, HorizontalMotionIndex, LineTermination, LeftMargin, Move, CursorStack, RectangleSize, FillRectangle, RasterResolution, RasterWidth, RasterHeight, RasterPresentation, StartRaster, EndRaster, EndRasterResetMethod, RasterMethod, RasterOffset, RasterRow, NoEffect}
 
 -- a name from its bytes
 abbrev pub named : List ℕ → Name
@@ -64,8 +64,17 @@ operations =
     (named (codes "&d@"), NoEffect) ∷
     (named (codes "*pX"), Move Horizontal PclUnit) ∷
     (named (codes "*pY"), Move Vertical PclUnit) ∷
+    (named (codes "*cA"), RectangleSize Horizontal PclUnit) ∷
+    (named (codes "*cB"), RectangleSize Vertical PclUnit) ∷
+    (named (codes "*cH"), RectangleSize Horizontal Decipoint) ∷
+    (named (codes "*cV"), RectangleSize Vertical Decipoint) ∷
+    (named (codes "*cP"), FillRectangle) ∷
+    (named (codes "*vN"), OnlyZero) ∷
+    (named (codes "*vT"), OnlyZero) ∷
     (named (codes "*tR"), RasterResolution) ∷
     (named (codes "*rS"), RasterWidth) ∷
+    (named (codes "*rT"), RasterHeight) ∷
+    (named (codes "*rF"), RasterPresentation) ∷
     (named (codes "*rA"), StartRaster) ∷
     (named (codes "*rB"), EndRaster) ∷
     (named (codes "*rC"), EndRasterResetMethod) ∷

@@ -171,8 +171,20 @@ impl Operation {
             Name::Three(b'&', b'd', b'@') => Operation::NoEffect,
             Name::Three(b'*', b'p', b'X') => Operation::Move(Axis::Horizontal, Unit::PclUnit),
             Name::Three(b'*', b'p', b'Y') => Operation::Move(Axis::Vertical, Unit::PclUnit),
+            Name::Three(b'*', b'c', b'A') =>
+                Operation::RectangleSize(Axis::Horizontal, Unit::PclUnit),
+            Name::Three(b'*', b'c', b'B') =>
+                Operation::RectangleSize(Axis::Vertical, Unit::PclUnit),
+            Name::Three(b'*', b'c', b'H') =>
+                Operation::RectangleSize(Axis::Horizontal, Unit::Decipoint),
+            Name::Three(b'*', b'c', b'V') =>
+                Operation::RectangleSize(Axis::Vertical, Unit::Decipoint),
+            Name::Three(b'*', b'c', b'P') => Operation::FillRectangle,
+            Name::Three(b'*', b'v', b'N' | b'T') => Operation::OnlyZero,
             Name::Three(b'*', b't', b'R') => Operation::RasterResolution,
             Name::Three(b'*', b'r', b'S') => Operation::RasterWidth,
+            Name::Three(b'*', b'r', b'T') => Operation::RasterHeight,
+            Name::Three(b'*', b'r', b'F') => Operation::RasterPresentation,
             Name::Three(b'*', b'r', b'A') => Operation::StartRaster,
             Name::Three(b'*', b'r', b'B') => Operation::EndRaster,
             Name::Three(b'*', b'r', b'C') => Operation::EndRasterResetMethod,

@@ -1,9 +1,9 @@
 //! Each public call of `pcl_page` that the other examples don't make.
 
 use super::Count;
-use pcl_base::{Dpi, JobFault, Kind, Name, Refusal, Sign, Value};
-use pcl_escape::{Command, Operation, read_job};
-use pcl_page::{Environment, Raster, one_meaning, run};
+use pcl_base::{Dpi, JobFault, Kind, Name, Refusal, Value};
+use pcl_escape::{Command, read_job};
+use pcl_page::{one_meaning, run};
 use std::test::Fail;
 
 // The law does nothing.
@@ -45,34 +45,4 @@ fn runs_commands(rt: HostRuntime) -> Result<(), Fail> {
     assert_eq!(rt; fault, Some(JobFault::Refused(refusal)));
     assert_eq!(rt; count.pages, 3);
     Ok(())
-}
-
-// Settings on their own.
-#[test]
-fn performs_settings(rt: HostRuntime) {
-    let mut environment = Environment::new();
-    let half = Value {
-        sign: Sign::Absent,
-        parts: 5_000,
-    };
-    assert!(rt; environment.accepts(Operation::HorizontalPosition, half, Dpi::Dpi600));
-    environment.perform(Operation::HorizontalPosition, half, false, Dpi::Dpi600);
-    assert_eq!(rt; (environment.x, environment.y), (12, 4_500));
-    let raster = Raster {
-        left: 0,
-        top: 375,
-        rows: 0,
-    };
-    assert_eq!(rt; environment.raster(Dpi::Dpi600), raster);
-    let one = Value {
-        sign: Sign::Absent,
-        parts: 10_000,
-    };
-    environment.perform(Operation::StartRaster, one, false, Dpi::Dpi600);
-    let raster = Raster {
-        left: 1,
-        top: 375,
-        rows: 0,
-    };
-    assert_eq!(rt; environment.raster(Dpi::Dpi600), raster);
 }
