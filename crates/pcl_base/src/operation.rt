@@ -171,14 +171,22 @@ impl Operation {
             Name::Three(b'&', b'd', b'@') => Operation::NoEffect,
             Name::Three(b'*', b'p', b'X') => Operation::Move(Axis::Horizontal, Unit::PclUnit),
             Name::Three(b'*', b'p', b'Y') => Operation::Move(Axis::Vertical, Unit::PclUnit),
-            Name::Three(b'*', b'c', b'A') =>
-                Operation::RectangleSize(Axis::Horizontal, Unit::PclUnit),
-            Name::Three(b'*', b'c', b'B') =>
-                Operation::RectangleSize(Axis::Vertical, Unit::PclUnit),
-            Name::Three(b'*', b'c', b'H') =>
-                Operation::RectangleSize(Axis::Horizontal, Unit::Decipoint),
-            Name::Three(b'*', b'c', b'V') =>
-                Operation::RectangleSize(Axis::Vertical, Unit::Decipoint),
+            Name::Three(b'*', b'c', b'A') => Operation::RectangleSize(
+                Axis::Horizontal,
+                Unit::PclUnit,
+            ),
+            Name::Three(b'*', b'c', b'B') => Operation::RectangleSize(
+                Axis::Vertical,
+                Unit::PclUnit,
+            ),
+            Name::Three(b'*', b'c', b'H') => Operation::RectangleSize(
+                Axis::Horizontal,
+                Unit::Decipoint,
+            ),
+            Name::Three(b'*', b'c', b'V') => Operation::RectangleSize(
+                Axis::Vertical,
+                Unit::Decipoint,
+            ),
             Name::Three(b'*', b'c', b'P') => Operation::FillRectangle,
             Name::Three(b'*', b'v', b'N' | b'T') => Operation::OnlyZero,
             Name::Three(b'*', b't', b'R') => Operation::RasterResolution,

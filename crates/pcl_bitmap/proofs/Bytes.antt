@@ -50,7 +50,7 @@ bit_of_byte-low n k h =
     bit_of_byte-and n 255 k ∙ ap (λ b. bit_of_byte n k && b) (bit_of_byte-all k h) ∙ and_true (bit_of_byte n k)
 
 -- a pair of bytes that was shifted to the right: the bits that come from the second byte
-bit_of_byte-second : (p q s k : ℕ) → s ≤ k → k < 8 → bit_of_byte (bit_and ((p * 256 + q) / 2 ^ s) 255) k ≡ bit_of_byte q (k - s)
+pub bit_of_byte-second : (p q s k : ℕ) → s ≤ k → k < 8 → bit_of_byte (bit_and ((p * 256 + q) / 2 ^ s) 255) k ≡ bit_of_byte q (k - s)
 bit_of_byte-second p q s k low high =
     let place : s + (7 - k) ≡ 7 - (k - s) = omega arith in
     let moved : (p * 256 + q) / 2 ^ s / 2 ^ (7 - k) ≡ (p * 256 + q) / 2 ^ (7 - (k - s)) =
@@ -59,7 +59,7 @@ bit_of_byte-second p q s k low high =
     ∙ ap (λ u. nat_eq u 1) (ap (λ u. u % 2) moved ∙ bit_at_cat_low p 8 q (7 - (k - s)) (omega arith))
 
 -- and those that come from the first
-bit_of_byte-first : (p q s k : ℕ) → q < 256 → k < s → s < 8 → bit_of_byte (bit_and ((p * 256 + q) / 2 ^ s) 255) k ≡ bit_of_byte p (8 + k - s)
+pub bit_of_byte-first : (p q s k : ℕ) → q < 256 → k < s → s ≤ 8 → bit_of_byte (bit_and ((p * 256 + q) / 2 ^ s) 255) k ≡ bit_of_byte p (8 + k - s)
 bit_of_byte-first p q s k byte low high =
     let place : s + (7 - k) - 8 ≡ 7 - (8 + k - s) = omega arith in
     let moved : (p * 256 + q) / 2 ^ s / 2 ^ (7 - k) ≡ (p * 256 + q) / 2 ^ (s + (7 - k)) = shr-shr (p * 256 + q) s (7 - k) in
@@ -87,11 +87,11 @@ bit_of_byte-shifted row p q j s hs hq at_j before none k hk =
           ∙ ap (λ b. b && dot_of_row row (8 * j + k - s)) (sym (le-leb s (8 * j + k) (omega arith)))
       | inl low ↦ elim (cases_lt 0 j) [
         | inl some ↦
-            bit_of_byte-first p q s k hq low hs ∙ ap (λ b. bit_of_byte b (8 + k - s)) (before some)
+            bit_of_byte-first p q s k hq low (omega arith) ∙ ap (λ b. bit_of_byte b (8 + k - s)) (before some)
             ∙ sym (dot_at row (8 * j + k - s) (j - 1) (8 + k - s) (omega arith) (omega arith))
             ∙ ap (λ b. b && dot_of_row row (8 * j + k - s)) (sym (le-leb s (8 * j + k) (omega arith)))
         | inr first ↦
-            bit_of_byte-first p q s k hq low hs ∙ ap (λ b. bit_of_byte b (8 + k - s)) (none (omega arith)) ∙ bit_of_byte-zero (8 + k - s)
+            bit_of_byte-first p q s k hq low (omega arith) ∙ ap (λ b. bit_of_byte b (8 + k - s)) (none (omega arith)) ∙ bit_of_byte-zero (8 + k - s)
             ∙ ap (λ b. b && dot_of_row row (8 * j + k - s)) (sym (lt-leb s (8 * j + k) (omega arith)))
       ]
     ]

@@ -165,7 +165,8 @@ pub whole_run : (a b k : ℕ) → ((a ≡ b → ⊥) → (8 * (a / 8) ≡ a) × 
 whole_run a b k h =
     elim (cases_eq a b) [
       | inl same ↦
-          ap (λ n. in_run (8 * (a / 8)) (8 * (n / 8)) k) (sym same) ∙ no_run (8 * (a / 8)) k ∙ sym (no_run a k) ∙ ap (λ n. in_run a n k) same
+          ap (λ n. in_run (8 * (a / 8)) (8 * (n / 8)) k) (sym same) ∙ no_run (8 * (a / 8)) k
+          ∙ sym (no_run a k) ∙ ap (λ n. in_run a n k) same
       | inr apart ↦ ap (λ n. in_run n (8 * (b / 8)) k) (h apart).0 ∙ ap (λ n. in_run a n k) (h apart).1
     ]
 
@@ -178,30 +179,31 @@ clipped :
     → x < width → y < height → w ≡ min wide (width - x) → h ≡ min high (height - y) → px < width → py < height
     → rectangle_dot x y w h px py ≡ rectangle_dot x y wide high px py
 clipped width height x y w h wide high px py start top e_w e_h within on_page =
-    ap (λ t. nat_le x px && t && nat_le y py && nat_lt py (y + h)) (same_test px (x + w) px (x + wide) (λ p. omega arith) (λ p. omega arith))
+    ap (λ t. nat_le x px && t && nat_le y py && nat_lt py (y + h))
+    (same_test px (x + w) px (x + wide) (λ p. omega arith) (λ p. omega arith))
     ∙ ap (λ t. nat_le x px && nat_lt px (x + wide) && nat_le y py && t)
     (same_test py (y + h) py (y + high) (λ p. omega arith) (λ p. omega arith))
 
--- the bytes of a page before and after each dot of a rectangle takes the ink for its column
-pub record IsFilled (size : Size) (dpi : Dpi) (old new : List ℕ) (x y w h : ℕ) (ink : ℕ → Bool → Bool) : Type 0 where
+-- the bytes of a page before and after each dot of a rectangle takes the ink for its place
+pub record IsFilled (size : Size) (dpi : Dpi) (old new : List ℕ) (x y w h : ℕ) (ink : ℕ → ℕ → Bool → Bool) : Type 0 where
   pub length_kept : length new ≡ length old
   pub in_bytes : All (λ n. n < 256) new
   pub on_page : x + w ≤ page_width size dpi
   pub bits : (px py : ℕ) → px < 8 * page_row_bytes size dpi → let k = 8 * (py * page_row_bytes size dpi) + px in
-      dot_of_row new k ≡ (if rectangle_dot x y w h px py then ink px (dot_of_row old k) else dot_of_row old k)
+      dot_of_row new k ≡ (if rectangle_dot x y w h px py then ink px py (dot_of_row old k) else dot_of_row old k)
 
 -- from the numbers as the code has them
 pub filled :
-    (size : Size) (dpi : Dpi) (old lent new : List ℕ) (x y w h r : ℕ) (ink : ℕ → Bool → Bool)
+    (size : Size) (dpi : Dpi) (old lent new : List ℕ) (x y w h r : ℕ) (ink : ℕ → ℕ → Bool → Bool)
     → lent ≡ old → length new ≡ length lent → All (λ n. n < 256) new → x + w ≤ page_width size dpi → r ≡ page_row_bytes size dpi
     → ((px py : ℕ) → px < 8 * r → let k = 8 * (py * r) + px in
-    dot_of_row new k ≡ (if rectangle_dot x y w h px py then ink px (dot_of_row lent k) else dot_of_row lent k))
+    dot_of_row new k ≡ (if rectangle_dot x y w h px py then ink px py (dot_of_row lent k) else dot_of_row lent k))
     → IsFilled size dpi old new x y w h ink
 filled size dpi old lent new x y w h r ink e_old len in_bytes on_page e_r bits =
     let P : ℕ → Type 0 = λ n. (px py : ℕ) → px < 8 * n → let k = 8 * (py * n) + px in
-    dot_of_row new k ≡ (if rectangle_dot x y w h px py then ink px (dot_of_row lent k) else dot_of_row lent k) in
+    dot_of_row new k ≡ (if rectangle_dot x y w h px py then ink px py (dot_of_row lent k) else dot_of_row lent k) in
     let Q : List ℕ → Type 0 = λ bs. (px py : ℕ) → px < 8 * page_row_bytes size dpi → let k = 8 * (py * page_row_bytes size dpi) + px in
-    dot_of_row new k ≡ (if rectangle_dot x y w h px py then ink px (dot_of_row bs k) else dot_of_row bs k) in
+    dot_of_row new k ≡ (if rectangle_dot x y w h px py then ink px py (dot_of_row bs k) else dot_of_row bs k) in
     record {
       length_kept = len ∙ ap (λ (t : List ℕ). length t) e_old;
       in_bytes = in_bytes;
@@ -210,7 +212,7 @@ filled size dpi old lent new x y w h r ink e_old len in_bytes on_page e_r bits =
     }
 
 pub filled_picture :
-    (size : Size) (dpi : Dpi) (old new : List ℕ) (x y w h : ℕ) (ink : ℕ → Bool → Bool)
+    (size : Size) (dpi : Dpi) (old new : List ℕ) (x y w h : ℕ) (ink : ℕ → ℕ → Bool → Bool)
     → IsPicture (picture_of size dpi old) → IsFilled size dpi old new x y w h ink
     → IsPicture (picture_of size dpi new)
 filled_picture size dpi old new x y w h ink p f =
@@ -224,32 +226,32 @@ filled_picture size dpi old new x y w h ink p f =
           elim (cases_lt px (8 * page_row_bytes size dpi)) [
             | inl room ↦
                 dot_in_page new r px py room ∙ f.bits px py room
-                ∙ ap (λ t. if t then ink px before else before) (right_of x y w h px py (omega arith))
+                ∙ ap (λ t. if t then ink px py before else before) (right_of x y w h px py (omega arith))
                 ∙ sym (dot_in_page old r px py room) ∙ p.clear_pads px py off
             | inr past ↦ dot_past_row (drop (py * r) new) r px past
           ];
     }
 
 pub filled_dots :
-    (size : Size) (dpi : Dpi) (old new : List ℕ) (x y w h : ℕ) (ink : ℕ → Bool → Bool)
+    (size : Size) (dpi : Dpi) (old new : List ℕ) (x y w h : ℕ) (ink : ℕ → ℕ → Bool → Bool)
     → IsFilled size dpi old new x y w h ink
     → (px py : ℕ) → px < page_width size dpi → let before = dot (picture_of size dpi old) px py in
-    dot (picture_of size dpi new) px py ≡ (if rectangle_dot x y w h px py then ink px before else before)
+    dot (picture_of size dpi new) px py ≡ (if rectangle_dot x y w h px py then ink px py before else before)
 filled_dots size dpi old new x y w h ink f px py within =
     let r : ℕ = page_row_bytes size dpi in
     let room : px < 8 * page_row_bytes size dpi = omega (arith, wide_rows size dpi) in
     dot_in_page new r px py room ∙ f.bits px py room
-    ∙ ap (λ t. if rectangle_dot x y w h px py then ink px t else t) (sym (dot_in_page old r px py room))
+    ∙ ap (λ t. if rectangle_dot x y w h px py then ink px py t else t) (sym (dot_in_page old r px py room))
 
 -- a rectangle of one ink
 pub one_ink :
     (size : Size) (dpi : Dpi) (old new : List ℕ) (x y w h wide high : ℕ) (black : Bool)
-    → IsFilled size dpi old new x y w h (λ _ _. black)
+    → IsFilled size dpi old new x y w h (λ _ _ _. black)
     → x < page_width size dpi → y < page_height size dpi
     → w ≡ min wide (page_width size dpi - x) → h ≡ min high (page_height size dpi - y)
     → (px py : ℕ) → px < page_width size dpi → py < page_height size dpi
     → dot (picture_of size dpi new) px py ≡ (if rectangle_dot x y wide high px py then black else dot (picture_of size dpi old) px py)
 one_ink size dpi old new x y w h wide high black f start top e_w e_h px py within on_page =
-    filled_dots size dpi old new x y w h (λ _ _. black) f px py within
+    filled_dots size dpi old new x y w h (λ _ _ _. black) f px py within
     ∙ ap (λ t. if t then black else dot (picture_of size dpi old) px py)
     (clipped (page_width size dpi) (page_height size dpi) x y w h wide high px py start top e_w e_h within on_page)

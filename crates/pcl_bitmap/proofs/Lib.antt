@@ -5,3 +5,4 @@ pub mod Pictures
 pub mod Inked
 pub mod Spread
 pub mod KernelLanes
+pub mod Cut

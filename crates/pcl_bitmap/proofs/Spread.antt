@@ -51,16 +51,20 @@ product_more s i = omega arith
 product_fits : (s i : ℕ) → s ≤ 8 → i < 8 → s + s * i ≤ 64
 product_fits s i few h = omega (arith, mul-le s i 8 7 few (omega arith))
 
-pub spread_clear : (wide byte s i j : ℕ) → bit_at byte i ≡ 0 → bit_at wide j ≡ spread_bit byte s i j → bit_at wide j ≡ spread_bit byte s (i + 1) j
+pub spread_clear :
+    (wide byte s i j : ℕ) → bit_at byte i ≡ 0 → bit_at wide j ≡ spread_bit byte s i j
+    → bit_at wide j ≡ spread_bit byte s (i + 1) j
 spread_clear wide byte s i j clear above =
     elim (cases_order (j / s) i) [
       | inl same ↦
           above ∙ ap (λ t. if t then bit_at byte (j / s) else 0) (le-ltb (j / s) i (omega arith))
-          ∙ sym (ap (λ t. if t then bit_at byte (j / s) else 0) (lt-ltb (j / s) (i + 1) (omega arith)) ∙ ap (λ n. bit_at byte n) same ∙ clear)
+          ∙ sym (ap (λ t. if t then bit_at byte (j / s) else 0) (lt-ltb (j / s) (i + 1) (omega arith))
+          ∙ ap (λ n. bit_at byte n) same ∙ clear)
       | inr (inl less) ↦
           above ∙ ap (λ t. if t then bit_at byte (j / s) else 0) (lt-ltb (j / s) i less ∙ sym (lt-ltb (j / s) (i + 1) (omega arith)))
       | inr (inr more) ↦
-          above ∙ ap (λ t. if t then bit_at byte (j / s) else 0) (le-ltb (j / s) i (omega arith) ∙ sym (le-ltb (j / s) (i + 1) (omega arith)))
+          above
+          ∙ ap (λ t. if t then bit_at byte (j / s) else 0) (le-ltb (j / s) i (omega arith) ∙ sym (le-ltb (j / s) (i + 1) (omega arith)))
     ]
 
 pub spread_set :
@@ -125,7 +129,8 @@ part_bits wide byte s part some within bits m small =
     let place : e + (7 - m) ≡ 8 * s - 1 - (8 * part + m) = omega arith in
     bit_of_byte-low (wide / 2 ^ e) m small
     ∙ ap (λ n. nat_eq (n % 2) 1) (shr-shr wide e (7 - m))
-    ∙ ap (λ n. nat_eq n 1) (bits (e + (7 - m)) ∙ ap (λ n. bit_at byte (n / s)) place ∙ ap (λ n. bit_at byte n) (mirror s (8 * part + m) some (omega arith)))
+    ∙ ap (λ n. nat_eq n 1)
+    (bits (e + (7 - m)) ∙ ap (λ n. bit_at byte (n / s)) place ∙ ap (λ n. bit_at byte n) (mirror s (8 * part + m) some (omega arith)))
 
 -- one byte more of a run whose bits are given by their places
 pub bytes_more :
@@ -143,7 +148,8 @@ bytes_more old now at i v k f within bits above =
           dot_at (set now (at + i) v) k (at + i) (k % 8) small here
           ∙ ap (λ n. bit_of_byte n (k % 8)) (get_or-set_same now (at + i) v 0 within)
           ∙ bits (k % 8) small ∙ ap f place
-          ∙ sym (ap (λ t. if t then f (k - 8 * at) else dot_of_row old k) (in_run-in (8 * at) (8 * (at + (i + 1))) k (omega arith) (omega arith)))
+          ∙ sym (ap (λ t. if t then f (k - 8 * at) else dot_of_row old k)
+          (in_run-in (8 * at) (8 * (at + (i + 1))) k (omega arith) (omega arith)))
       | inr other ↦
           ap (λ n. bit_of_byte n (k % 8)) (get_or-set_other now (at + i) (k / 8) v 0 other)
           ∙ above
@@ -151,7 +157,7 @@ bytes_more old now at i v k f within bits above =
           (same_test k (8 * (at + i)) k (8 * (at + (i + 1))) (λ p. omega arith) (λ p. omega arith))
     ]
 
-quotient_moved : (s b k : ℕ) → 1 ≤ s → b * s ≤ k → k / s ≡ b + (k - b * s) / s
+pub quotient_moved : (s b k : ℕ) → 1 ≤ s → b * s ≤ k → k / s ≡ b + (k - b * s) / s
 quotient_moved s b k some h =
     let m : ℕ = k - b * s in
     let whole : (k - b * s) / s * s + (k - b * s) % s ≡ k - b * s = div-add-mod' m s in
@@ -165,7 +171,8 @@ pub spread_more :
     (row now new : List ℕ) (s i k : ℕ)
     → 1 ≤ s
     → (k < 8 * (s * i) → dot_of_row now k ≡ dot_of_row row (k / s))
-    → dot_of_row new k ≡ (if in_run (8 * (s * i)) (8 * (s * i + s)) k then bit_of_byte (get_or row i 0) ((k - 8 * (s * i)) / s) else dot_of_row now k)
+    → dot_of_row new k
+    ≡ (if in_run (8 * (s * i)) (8 * (s * i + s)) k then bit_of_byte (get_or row i 0) ((k - 8 * (s * i)) / s) else dot_of_row now k)
     → k < 8 * (s * (i + 1)) → dot_of_row new k ≡ dot_of_row row (k / s)
 spread_more row now new s i k some above added within =
     elim (cases_lt k (8 * (s * i))) [
@@ -226,11 +233,13 @@ pub same_source :
 same_source x y w h px py p q d same =
     elim (cases_lt px x) [
       | inl left ↦
-          ap (λ t. if t then p || d else d) (left_of x y w h px py left) ∙ ap (λ t. if t then q || d else d) (sym (left_of x y w h px py left))
+          ap (λ t. if t then p || d else d) (left_of x y w h px py left)
+          ∙ ap (λ t. if t then q || d else d) (sym (left_of x y w h px py left))
       | inr since ↦ elim (cases_lt px (x + w)) [
         | inl inside ↦ ap (λ t. if rectangle_dot x y w h px py then t || d else d) (same (omega arith))
         | inr past ↦
-            ap (λ t. if t then p || d else d) (right_of x y w h px py past) ∙ ap (λ t. if t then q || d else d) (sym (right_of x y w h px py past))
+            ap (λ t. if t then p || d else d) (right_of x y w h px py past)
+            ∙ ap (λ t. if t then q || d else d) (sym (right_of x y w h px py past))
       ]
     ]
 
@@ -262,7 +271,8 @@ squares_dot wide high x y w h s width px py row d some start top e_w e_h within 
           ap (λ t. if t then p || d else d) (left_of x y w h px py left) ∙ ap (λ t. t || d) (sym (raster-left x y s width row px py left))
       | inr right ↦ elim (cases_lt py y) [
         | inl above ↦
-            ap (λ t. if t then p || d else d) (above_of x y w h px py above) ∙ ap (λ t. t || d) (sym (raster-above x y s width row px py above))
+            ap (λ t. if t then p || d else d) (above_of x y w h px py above)
+            ∙ ap (λ t. t || d) (sym (raster-above x y s width row px py above))
         | inr below ↦
             let across : nat_lt px (x + w) ≡ nat_lt ((px - x) / s) width =
             same_test px (x + w) ((px - x) / s) width

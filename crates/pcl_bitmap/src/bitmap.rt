@@ -1,11 +1,12 @@
 //! The bitmap of a page.
 
-ghost use Rattle.std.specs.Prelude.{◌≡◌, ℕ, ◌*◌, ◌<◌, ◌≤◌, ◌↔◌, ◌||◌, false, length, All, IsTrue, IfOk, if◌then◌else◌};
+ghost use Rattle.std.specs.Prelude.{◌≡◌, ℕ, ◌+◌, ◌*◌, ◌/◌, ◌<◌, ◌≤◌, ◌↔◌, ◌||◌, false, length, All, IsTrue, IfOk, if◌then◌else◌};
 ghost use Rattle.pcl_base.specs.Size.{page_width, page_height, page_row_bytes};
 ghost use Rattle.pcl_bitmap.specs.Bitmap.{IsPicture, row_of, dot_of_row, dot, blank_picture};
-ghost use Rattle.pcl_bitmap.specs.Dots.{is_black_ink, raster_dot, rectangle_dot};
+ghost use Rattle.pcl_bitmap.specs.Dots.{is_black_ink, raster_dot, rectangle_dot, pattern_dot};
 
 use crate::area::Area;
+use crate::patterns::{self, Window};
 use crate::{Ink, bits, fills, kernels, squares};
 use pcl_base::{Dpi, Size};
 use std::alloc::{AllocError, Global};
@@ -152,5 +153,44 @@ impl Bitmap {
         };
         let row_bytes = self.size.row_bytes(self.dpi);
         fills::fill_rows(&mut self.bytes, row_bytes, area, ink);
+    }
+
+    /// Paints the pattern of a character (docs/LANGUAGE.md, "Fonts and text"): `height` rows of `width` bits
+    /// in whole bytes, high bits first, each bit a square of `scale` dots and the first at the dot `(x, y)`,
+    /// which may lie left of or above the page. Each set bit inks its square; what lies off the page is left
+    /// out, and a clear bit changes nothing.
+    pub fn blit(&mut self, x: i32, y: i32, width: u16, height: u16, rows: &[u8], scale: u32)
+        requires scale { (1 ≤ scale) × (scale ≤ 2) }
+        requires rows { height * ((width + 7) / 8) ≤ length rows.now }
+        ensures size { self.new.size ≡ self.old.size }
+        ensures dpi { self.new.dpi ≡ self.old.dpi }
+        ensures dots { (px py : ℕ) → px < page_width self.old.size self.old.dpi → py < page_height self.old.size self.old.dpi
+            → dot self.new px py ≡ (pattern_dot x y scale width height rows.now px py || dot self.old px py) }
+        ensures picture { IsPicture self.new }
+    {
+        let page_width = self.size.width(self.dpi) as usize;
+        let page_height = self.size.height(self.dpi) as usize;
+        let (left, skip_x) = patterns::start_and_skip(x);
+        let (top, skip_y) = patterns::start_and_skip(y);
+        if left >= page_width || top >= page_height {
+            return;
+        }
+        let scale = scale as usize;
+        let columns = usize::from(width) * scale;
+        let lines = usize::from(height) * scale;
+        let area = Area {
+            x: left,
+            y: top,
+            width: columns.saturating_sub(skip_x).min(page_width - left),
+            height: lines.saturating_sub(skip_y).min(page_height - top),
+        };
+        let window = Window {
+            row_bytes: usize::from(width).div_ceil(8),
+            scale,
+            x: skip_x,
+            y: skip_y,
+        };
+        let row_bytes = self.size.row_bytes(self.dpi);
+        patterns::or_pattern(&mut self.bytes, row_bytes, area, window, rows);
     }
 }

@@ -4,8 +4,8 @@ ghost use Rattle.std.specs.Prelude.{◌≡◌, ℕ, ◌+◌, ◌-◌, ◌*◌, �
 ghost use Rattle.pcl_bitmap.specs.Bitmap.{bit_of_byte, dot_of_row};
 ghost use Rattle.pcl_bitmap.specs.Dots.{run_dot};
 
-// The byte at `index`, 0 past the end.
-fn byte_at(source: &[u8], index: usize) -> u8
+/// The byte at `index`, 0 past the end.
+pub fn byte_at(source: &[u8], index: usize) -> u8
     ensures { result ≡ slice_index source.now index }
 {
     source.get(index).copied().unwrap_or(0)
@@ -64,7 +64,8 @@ fn whole_bytes(from: usize, end: usize, len: usize) -> usize
 // Sets the bits of `target` from byte `at` on where `source` has a bit set.
 fn or_bytes(target: &mut [u8], at: usize, source: &[u8])
     requires { at + length source.now ≤ length target.old }
-    ensures { (k : ℕ) → dot_of_row target.new k ≡ (run_dot (8 * at) (8 * (at + length source.now)) source.now k || dot_of_row target.old k) }
+    ensures { (k : ℕ) → dot_of_row target.new k
+        ≡ (run_dot (8 * at) (8 * (at + length source.now)) source.now k || dot_of_row target.old k) }
 {
     for (i, byte) in source.iter().enumerate() {
         target[at + i] |= *byte;
@@ -81,11 +82,4 @@ fn or_shifted(target: &mut [u8], from: usize, end: usize, source: &[u8])
     for i in first..end.div_ceil(8) {
         target[i] |= shifted_byte(source, i - first, from % 8) & leading_ones(end - 8 * i);
     }
-}
-
-/// Whether every bit of `bytes` is clear.
-pub fn is_zero(bytes: &[u8]) -> bool
-    ensures { IsTrue result ↔ All (λ byte. byte ≡ 0) bytes.now }
-{
-    bytes.iter().all(|byte| *byte == 0)
 }

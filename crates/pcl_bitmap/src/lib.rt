@@ -8,6 +8,7 @@ mod fills;
 mod ink;
 mod kernels;
 mod laws;
+mod patterns;
 mod squares;
 
 pub use bitmap::Bitmap;

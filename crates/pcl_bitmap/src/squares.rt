@@ -12,8 +12,8 @@ use pcl_base::ROW_LIMIT;
 // Room for a row of the page, and for what the last byte of a row of raster data spreads to behind it.
 const SPREAD_LIMIT: usize = ROW_LIMIT + 8;
 
-// The bits of a byte, each `scale` times, from the lowest on.
-fn spread_bits(byte: u8, scale: usize) -> u64
+/// The bits of a byte, each `scale` times, from the lowest on.
+pub fn spread_bits(byte: u8, scale: usize) -> u64
     requires { (1 ≤ scale) × (scale ≤ 8) }
     ensures { (j : ℕ) → bit_at result j ≡ bit_at byte (j / scale) }
 {

@@ -145,6 +145,63 @@ fn paints_squares(rt: HostRuntime) -> Result<(), Fail> {
     Ok(())
 }
 
+// Each with the dot of its first bit, its width, height and scale, and its rows: on the page, cut at each
+// side, wholly off each side, at the ends of the numbers, and of no size.
+const PATTERNS: [(i32, i32, u16, u16, u32, &[u8]); 14] = [
+    (21, 3, 11, 3, 1, &[0xA5, 0xE0, 0x3C, 0x60, 0xFF, 0xFF]),
+    (48, 4, 9, 2, 2, &[0x93, 0x80, 0x4F, 0xFF]),
+    (-5, 9, 13, 2, 1, &[0xC7, 0x3F, 0x1B, 0xA8]),
+    (-7, 13, 11, 2, 2, &[0x5D, 0xE0, 0xB1, 0x7F]),
+    (70, -1, 8, 3, 1, &[0xFF, 0xA7, 0x18]),
+    (84, -3, 6, 4, 2, &[0xFF, 0xB4, 0x6F, 0x9C]),
+    (2331, 20, 16, 1, 1, &[0x9D, 0xEF]),
+    (2333, 22, 4, 2, 2, &[0xAF, 0xDF]),
+    (33, 3504, 5, 6, 1, &[0xA8, 0x70, 0x98, 0xFF, 0xFF, 0xFF]),
+    (60, 3503, 7, 3, 2, &[0xB7, 0xEA, 0xFF]),
+    (-8, 30, 8, 1, 1, &[0xFF]),
+    (2338, 32, 8, 1, 2, &[0xFF]),
+    (i32::MIN, i32::MIN, 8, 1, 2, &[0xFF]),
+    (i32::MAX, i32::MAX, 0, 0, 1, &[]),
+];
+
+// Whether the dot is in a square of a set bit of one of the patterns.
+fn is_black_by_patterns(x: u32, y: u32) -> bool {
+    let mut black = false;
+    for (left, top, width, height, scale, rows) in PATTERNS {
+        let (across, down) = (
+            i64::from(x) - i64::from(left),
+            i64::from(y) - i64::from(top),
+        );
+        if scale > 0 && across >= 0 && down >= 0 {
+            let (column, row) = (
+                across as u64 / u64::from(scale),
+                down as u64 / u64::from(scale),
+            );
+            if column < u64::from(width) && row < u64::from(height) {
+                let place = row * u64::from(width.div_ceil(8)) + column / 8;
+                let byte = rows.get(place as usize).copied().unwrap_or(0);
+                black |= (byte << (column % 8)) & 0x80 != 0;
+            }
+        }
+    }
+    black
+}
+
+#[test]
+fn paints_patterns(rt: HostRuntime) -> Result<(), Fail> {
+    let mut page = Bitmap::new(rt.alloc(), Size::A4, Dpi::Dpi300)?;
+    for (x, y, width, height, scale, rows) in PATTERNS {
+        page.blit(x, y, width, height, rows, scale);
+    }
+    for y in (0..34).chain(3500..3507) {
+        for x in (0..120).chain(2300..2344) {
+            let expected = x < 2338 && is_black_by_patterns(x, y);
+            assert_eq!(rt; is_black(&page, x, y), expected, "dot ({x}, {y})");
+        }
+    }
+    Ok(())
+}
+
 // The law does nothing.
 #[test]
 fn states_the_law() {

@@ -140,7 +140,7 @@ commands_done dpi end (command ∷ commands) (d ∷ deeds) history later a l few
     let one = after_counts dpi d.operation command s l.0 done in
     let at : situation dpi (performed d.operation command ∷ history) ≡ l.0 = situation_next dpi history command d.operation l.0 done in
     let rest = commands_done dpi end commands deeds (performed d.operation command ∷ history) later a.1
-        (subst (λ (z : Situation). Leads dpi deeds z later) (sym at) l.3) (subst (λ (z : Situation). z.performed + length deeds ≤ 100000000) (sym at) (omega (arith, one))) in
+    (subst (λ (z : Situation). Leads dpi deeds z later) (sym at) l.3) (subst (λ (z : Situation). z.performed + length deeds ≤ 100000000) (sym at) (omega (arith, one))) in
     record {
       reached = rest.reached;
       at = rest.at;

@@ -186,14 +186,42 @@ start_leads size dpi copies t pages n b some few fits =
     let a7 = ready dpi size copies t in
     let ok : (u : Settings) (k : ℕ) → page_refusal (between u pages k) ≡ None = λ u k. pages_fit (between u pages k) fits in (
       n + 1 + 1 + 1 + 1 + 1 + 1 + 1 + 1,
-      (between a1 pages (n + 1), set_between dpi Copies (number_value copies) t a1 page.Stay pages n (copies_out dpi copies t some few) refl (λ s. refl), ok a1 (n + 1),
-      (between a2 pages (n + 1 + 1), set_between dpi PageSize (number_value (code_of size)) a1 a2 page.EjectMarked pages (n + 1) (size_out dpi size a1) refl (λ s. refl), ok a2 (n + 1 + 1),
-      (between a3 pages (n + 1 + 1 + 1), set_between dpi TopMargin (number_value 0) a2 a3 page.Stay pages (n + 1 + 1) (top_out dpi a2) refl (λ s. refl), ok a3 (n + 1 + 1 + 1),
-      (between a4 pages (n + 1 + 1 + 1 + 1), set_between dpi (Move Horizontal PclUnit) (number_value 0) a3 a4 page.Stay pages (n + 1 + 1 + 1) (across_out dpi a3) refl (λ s. refl), ok a4 (n + 1 + 1 + 1 + 1),
-      (between a5 pages (n + 1 + 1 + 1 + 1 + 1), set_between dpi (Move Vertical PclUnit) (number_value 0) a4 a5 page.Stay pages (n + 1 + 1 + 1 + 1) (down_out dpi a4 refl) refl (λ s. refl), ok a5 (n + 1 + 1 + 1 + 1 + 1),
-      (between a6 pages (n + 1 + 1 + 1 + 1 + 1 + 1), set_between dpi RasterResolution (number_value (dots_per_inch dpi)) a5 a6 page.Stay pages (n + 1 + 1 + 1 + 1 + 1) (resolution_out dpi a5) refl (λ s. refl), ok a6 (n + 1 + 1 + 1 + 1 + 1 + 1),
-      (between a7 pages (n + 1 + 1 + 1 + 1 + 1 + 1 + 1), set_between dpi RasterWidth (number_value (page_width size dpi)) a6 a7 page.Stay pages (n + 1 + 1 + 1 + 1 + 1 + 1) (width_out size dpi a6) refl (λ s. refl), ok a7 (n + 1 + 1 + 1 + 1 + 1 + 1 + 1),
-      (in_body size dpi a7 Plain 0 (zeros size dpi) [] pages (n + 1 + 1 + 1 + 1 + 1 + 1 + 1 + 1), start_after size dpi copies t pages (n + 1 + 1 + 1 + 1 + 1 + 1 + 1) b, pages_fit (in_body size dpi a7 Plain 0 (zeros size dpi) [] pages (n + 1 + 1 + 1 + 1 + 1 + 1 + 1 + 1)) fits, refl)))))))),
+      (
+        between a1 pages (n + 1),
+        set_between dpi Copies (number_value copies) t a1 page.Stay pages n (copies_out dpi copies t some few) refl (λ s. refl),
+        ok a1 (n + 1),
+        (
+          between a2 pages (n + 1 + 1),
+          set_between dpi PageSize (number_value (code_of size)) a1 a2 page.EjectMarked pages (n + 1) (size_out dpi size a1) refl (λ s. refl),
+          ok a2 (n + 1 + 1),
+          (
+            between a3 pages (n + 1 + 1 + 1),
+            set_between dpi TopMargin (number_value 0) a2 a3 page.Stay pages (n + 1 + 1) (top_out dpi a2) refl (λ s. refl),
+            ok a3 (n + 1 + 1 + 1),
+            (
+              between a4 pages (n + 1 + 1 + 1 + 1),
+              set_between dpi (Move Horizontal PclUnit) (number_value 0) a3 a4 page.Stay pages (n + 1 + 1 + 1) (across_out dpi a3) refl (λ s. refl),
+              ok a4 (n + 1 + 1 + 1 + 1),
+              (
+                between a5 pages (n + 1 + 1 + 1 + 1 + 1),
+                set_between dpi (Move Vertical PclUnit) (number_value 0) a4 a5 page.Stay pages (n + 1 + 1 + 1 + 1) (down_out dpi a4 refl) refl (λ s. refl),
+                ok a5 (n + 1 + 1 + 1 + 1 + 1),
+                (
+                  between a6 pages (n + 1 + 1 + 1 + 1 + 1 + 1),
+                  set_between dpi RasterResolution (number_value (dots_per_inch dpi)) a5 a6 page.Stay pages (n + 1 + 1 + 1 + 1 + 1) (resolution_out dpi a5) refl (λ s. refl),
+                  ok a6 (n + 1 + 1 + 1 + 1 + 1 + 1),
+                  (
+                    between a7 pages (n + 1 + 1 + 1 + 1 + 1 + 1 + 1),
+                    set_between dpi RasterWidth (number_value (page_width size dpi)) a6 a7 page.Stay pages (n + 1 + 1 + 1 + 1 + 1 + 1) (width_out size dpi a6) refl (λ s. refl),
+                    ok a7 (n + 1 + 1 + 1 + 1 + 1 + 1 + 1),
+                    (in_body size dpi a7 Plain 0 (zeros size dpi) [] pages (n + 1 + 1 + 1 + 1 + 1 + 1 + 1 + 1), start_after size dpi copies t pages (n + 1 + 1 + 1 + 1 + 1 + 1 + 1) b, pages_fit (in_body size dpi a7 Plain 0 (zeros size dpi) [] pages (n + 1 + 1 + 1 + 1 + 1 + 1 + 1 + 1)) fits, refl),
+                  ),
+                ),
+              ),
+            ),
+          ),
+        ),
+      ),
     )
 
 -- ---- the body
@@ -304,7 +332,7 @@ body_printed true (skip digits count ends ∷ tokens) size dpi t m seed rows k i
     let seeds : replicate (length seed) 0 ≡ zeros size dpi = ap (λ (len : ℕ). replicate len 0) long in
     let printed = subst (λ (z : List ℕ). PrintsRows (not ends) m z tokens (drop count rows)) seeds p.4 in
     let r = body_printed (not ends) tokens size dpi t m (zeros size dpi) (drop count rows) (k + count) inked pages (n + 1) printed (rows_below count size dpi rows are)
-        (length-replicate (bytes_of_width (page_width size dpi)) 0) fits in
+    (length-replicate (bytes_of_width (page_width size dpi)) 0) fits in
     let at = in_body size dpi t m (k + count) (zeros size dpi) inked pages (n + 1) in
     record {
       last = r.last;
@@ -372,14 +400,13 @@ end_leads size dpi t m k seed marks pages n none few =
     let more = pages ++ record { size = t.size; copies = t.copies; marks = marks } ∷ [] in
     let last = between (to_first_line (before_feed u)) more (n + 1 + 1) in
     let sheet : Sheet = record { size = t.size; copies = t.copies; marks = marks } in
-    let all : length more ≤ 256 = omega (arith, length-append pages (sheet ∷ [])) in
-    (
+    let all : length more ≤ 256 = omega (arith, length-append pages (sheet ∷ [])) in (
       record { method = feed_method u.feed_returns u; height = feed_height u.feed_returns u ∙ none },
       (
         middle,
         end_after size dpi t m k seed marks pages n,
         pages_fit middle (omega arith),
-        (last, feed_after dpi u marks pages (n + 1), pages_fit last all, refl)
+        (last, feed_after dpi u marks pages (n + 1), pages_fit last all, refl),
       ),
     )
 
@@ -410,7 +437,7 @@ text_taken dpi size copies rows text printed t pages n b few =
     let u = ready dpi size copies t in
     let start = start_leads size dpi copies t pages n b printed.some_copies printed.few_copies (omega arith) in
     let body = body_printed false printed.tokens size dpi u Plain (zeros size dpi) rows 0 [] pages start.0 printed.prints printed.rows_are
-        (length-replicate (bytes_of_width (page_width size dpi)) 0) (omega arith) in
+    (length-replicate (bytes_of_width (page_width size dpi)) 0) (omega arith) in
     let end = end_leads size dpi u body.last body.end body.seed body.all pages body.count b.height few in
     let begun = in_body size dpi u Plain 0 (zeros size dpi) [] pages start.0 in
     let drawn = in_body size dpi u body.last body.end body.seed body.all pages body.count in

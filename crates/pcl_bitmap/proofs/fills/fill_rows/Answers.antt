@@ -9,7 +9,8 @@ loop-row-preserved c = record {
   so_far = λ px py within.
       let a = c.args in
       let k = 8 * (py * a.row_bytes) + px in
-      row_added a.row_bytes a.area.x a.area.y a.area.width c.loop-row.row px py (λ _. is_black_ink a.ink) (dot_of_row a.page.now k) (dot_of_row c.loop-row.page k)
+      row_added a.row_bytes a.area.x a.area.y a.area.width c.loop-row.row px py (λ _. is_black_ink a.ink)
+      (dot_of_row a.page.now k) (dot_of_row c.loop-row.page k)
       (dot_of_row c.fill_bits.new.target k)
       c.requires.wide within (omega arith) (c.loop-row.invariant.so_far px py within) (c.fill_bits.ensures.bits k);
   in_bytes = c.fill_bits.ensures.in_bytes;

@@ -7,7 +7,8 @@ use Rattle.pcl_bitmap.proofs.squares.paint_squares.Goals as goal
 
 pub spread_row-requires-clause-room : goal.spread_row-requires-clause-room
 spread_row-requires-clause-room c =
-    spread_room c.args.scale c.args.area.width c.div_ceil-count.result c.args.row.now (omega arith) (omega arith) (omega arith) c.div_ceil-count.ensures
+    spread_room c.args.scale c.args.area.width c.div_ceil-count.result c.args.row.now (omega arith) (omega arith) (omega arith)
+    c.div_ceil-count.ensures
 
 pub returns-then-scale-eq1-clause-dots : goal.returns-then-scale-eq1-clause-dots
 returns-then-scale-eq1-clause-dots c px py within =
@@ -24,6 +25,8 @@ returns-else-scale-eq1-clause-dots c px py within =
     let m = px - a.area.x in
     let before = dot_of_row a.page.now (8 * (py * a.row_bytes) + px) in
     c.or_rows-else-scale-eq1.ensures.dots px py within
-    ∙ same_source a.area.x a.area.y a.area.width a.area.height px py (dot_of_row c.spread_row.new.target m) (dot_of_row a.row.now (m / a.scale)) before
-    (λ inside. spread_dots a.row.now c.spread_row.new.target a.scale a.area.width c.div_ceil-count.result m (omega arith) c.div_ceil-count.ensures
+    ∙ same_source a.area.x a.area.y a.area.width a.area.height px py
+    (dot_of_row c.spread_row.new.target m) (dot_of_row a.row.now (m / a.scale)) before
+    (λ inside. spread_dots a.row.now c.spread_row.new.target a.scale a.area.width c.div_ceil-count.result m (omega arith)
+    c.div_ceil-count.ensures
     c.requires.bits inside (c.spread_row.ensures m))

@@ -17,7 +17,8 @@ loop-i-preserved c j =
           (sym (shr_and_one byte i) ∙ w.if-byte-i-eq1.true) (c.loop-i.invariant j)
       | else-byte-i-eq1 w ↦
           ap (λ n. bit_at n j) w.wide-is
-          ∙ spread_clear c.loop-i.wide byte scale i j (omega (arith, bit_at-lt byte i, shr_and_one byte i, w.if-byte-i-eq1.false)) (c.loop-i.invariant j)
+          ∙ spread_clear c.loop-i.wide byte scale i j (omega (arith, bit_at-lt byte i, shr_and_one byte i, w.if-byte-i-eq1.false))
+          (c.loop-i.invariant j)
     ]
 
 pub returns : goal.returns

@@ -14,10 +14,12 @@ kept c = with_items_is c.self.inside.bytes c.fill_rows.new.page (omega arith)
 page_filled :
     (c : goal.After-self-1)
     → let a = c.self.inside in
-    IsFilled a.size a.dpi a.bytes.items c.fill_rows.new.page c.args.x c.args.y c.min.result c.min-2.result (λ _ _. is_black_ink c.args.ink)
+    IsFilled a.size a.dpi a.bytes.items c.fill_rows.new.page c.args.x c.args.y c.min.result c.min-2.result
+    (λ _ _ _. is_black_ink c.args.ink)
 page_filled c =
     filled _ _ c.self.inside.bytes.items c.deref_mut.result.now c.fill_rows.new.page c.args.x c.args.y c.min.result c.min-2.result
-    c.row_bytes-row_bytes.result (λ _ _. is_black_ink c.args.ink) c.deref_mut.ensures.value c.fill_rows.auto.page c.fill_rows.ensures.in_bytes
+    c.row_bytes-row_bytes.result (λ _ _ _. is_black_ink c.args.ink)
+    c.deref_mut.ensures.value c.fill_rows.auto.page c.fill_rows.ensures.in_bytes
     (omega arith) c.row_bytes-row_bytes.ensures c.fill_rows.ensures.dots
 
 pub invariant_of-self : goal.invariant_of-self
@@ -26,7 +28,7 @@ invariant_of-self c =
     let P : List ℕ → Type 0 = λ bs. IsPicture (picture_of a.size a.dpi bs) in
     subst P (sym (kept c))
     (filled_picture a.size a.dpi a.bytes.items c.fill_rows.new.page c.args.x c.args.y c.min.result c.min-2.result
-    (λ _ _. is_black_ink c.args.ink) c.self.invariant (page_filled c))
+    (λ _ _ _. is_black_ink c.args.ink) c.self.invariant (page_filled c))
 
 pub returns-clause-picture : goal.returns-clause-picture
 returns-clause-picture c = invariant_of-self c

@@ -17,10 +17,10 @@ row_painted :
     (c : goal.After-self-1)
     → let a = c.self.inside in
     IsFilled a.size a.dpi a.bytes.items c.paint_squares.new.page c.args.x c.args.y c.min.result c.min-2.result
-    (λ px before. dot_of_row c.args.row.now ((px - c.args.x) / c.args.scale) || before)
+    (λ px _ before. dot_of_row c.args.row.now ((px - c.args.x) / c.args.scale) || before)
 row_painted c =
     filled _ _ c.self.inside.bytes.items c.deref_mut.result.now c.paint_squares.new.page c.args.x c.args.y c.min.result c.min-2.result
-    c.row_bytes-row_bytes.result (λ px before. dot_of_row c.args.row.now ((px - c.args.x) / c.args.scale) || before)
+    c.row_bytes-row_bytes.result (λ px _ before. dot_of_row c.args.row.now ((px - c.args.x) / c.args.scale) || before)
     c.deref_mut.ensures.value c.paint_squares.auto.page c.paint_squares.ensures.in_bytes
     (omega arith) c.row_bytes-row_bytes.ensures c.paint_squares.ensures.dots
 
@@ -36,7 +36,7 @@ invariant_of-self c =
     let P : List ℕ → Type 0 = λ bs. IsPicture (picture_of a.size a.dpi bs) in
     subst P (sym (kept c))
     (filled_picture a.size a.dpi a.bytes.items c.paint_squares.new.page c.args.x c.args.y c.min.result c.min-2.result
-    (λ px before. dot_of_row c.args.row.now ((px - c.args.x) / c.args.scale) || before) c.self.invariant (row_painted c))
+    (λ px _ before. dot_of_row c.args.row.now ((px - c.args.x) / c.args.scale) || before) c.self.invariant (row_painted c))
 
 pub returns-clause-picture : goal.returns-clause-picture
 returns-clause-picture c = invariant_of-self c
@@ -50,7 +50,7 @@ returns-clause-dots c =
     rw (← c.self.view_is) (λ px py in_row on_page.
     ap (λ (t : List ℕ). dot (picture_of a.size a.dpi t) px py) (kept c)
     ∙ filled_dots a.size a.dpi a.bytes.items c.paint_squares.new.page args.x args.y c.min.result c.min-2.result
-    (λ px before. dot_of_row args.row.now ((px - args.x) / args.scale) || before) (row_painted c) px py in_row
+    (λ px _ before. dot_of_row args.row.now ((px - args.x) / args.scale) || before) (row_painted c) px py in_row
     ∙ squares_dot (page_width a.size a.dpi) (page_height a.size a.dpi) args.x args.y c.min.result c.min-2.result args.scale args.width px py
     args.row.now (dot (picture_of a.size a.dpi a.bytes.items) px py) (omega arith) (omega arith) (omega arith) (omega arith) (omega arith)
     in_row on_page)

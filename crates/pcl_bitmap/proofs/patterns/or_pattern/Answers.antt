@@ -1,0 +1,49 @@
+use Rattle.std.proofs.Common.{◌≡◌, ℕ, ◌*◌, ◌+◌, ◌-◌, ◌/◌, ◌<◌, ◌||◌, ◌++◌, List, length, take, length-take, if◌then◌else◌, drop, sym, ap, ◌∙◌, arith}
+use Rattle.std.proofs.lemmas.List.{take_rest}
+use Rattle.std.proofs.lemmas.List.Elements.{All-from_get_or}
+use Rattle.pcl_bitmap.specs.Bitmap.{dot_of_row}
+use Rattle.pcl_bitmap.proofs.Inked.{row_added}
+use Rattle.pcl_bitmap.proofs.Cut.{run_or_at, no_rows, seen_dots}
+use Rattle.pcl_bitmap.proofs.patterns.or_pattern.Goals as goal
+
+pub loop-row-init : goal.loop-row-init
+loop-row-init c = record {
+  so_far = λ px py within.
+      let a = c.args in
+      let before = dot_of_row a.page.now (8 * (py * a.row_bytes) + px) in
+      let bits = drop ((py - a.area.y + a.window.y) / a.window.scale * a.window.row_bytes) a.rows.now in
+      let after = dot_of_row bits ((a.window.x + (px - a.area.x)) / a.window.scale) || before in
+      sym (ap (λ t. if t then after else before) (no_rows a.area.x a.area.y a.area.width px py));
+  in_bytes = All-from_get_or (λ n. n < 256) c.args.page.now 0 (λ i _. omega (arith, c.type_inv.page i));
+}
+
+pub loop-row-preserved : goal.loop-row-preserved
+loop-row-preserved c = record {
+  so_far = λ px py within.
+      let a = c.args in
+      let row = c.loop-row.row in
+      let k = 8 * (py * a.row_bytes) + px in
+      let bits = drop ((py - a.area.y + a.window.y) / a.window.scale * a.window.row_bytes) a.rows.now in
+      let set = dot_of_row bits ((a.window.x + (px - a.area.x)) / a.window.scale) in
+      let here = dot_of_row c.loop-row.page k in
+      let count = c.div_ceil-count.result in
+      let source = take count (c.write_dots.new.target ++ drop count c.loop-row.dots) in
+      row_added a.row_bytes a.area.x a.area.y a.area.width row px py (λ d. set || d)
+      (dot_of_row a.page.now k) here (dot_of_row c.or_bits.new.target k)
+      c.requires.wide within (omega arith) (c.loop-row.invariant.so_far px py within)
+      (c.or_bits.ensures.bits k
+      ∙ run_or_at source a.row_bytes a.area.x a.area.width row px py set here c.requires.wide within
+      (λ level inside.
+      let m = px - a.area.x in
+      let long : length c.write_dots.new.target ≡ count = omega (arith, length-take count c.loop-row.dots) in
+      let fits : length (take count c.loop-row.dots) ≡ count = omega (arith, length-take count c.loop-row.dots) in
+      let reach : m < 8 * length (take count c.loop-row.dots) = omega arith in
+      seen_dots c.loop-row.dots c.write_dots.new.target count m long (omega arith)
+      ∙ c.write_dots.ensures m reach
+      ∙ ap (λ (t : List ℕ). dot_of_row t ((a.window.x + m) / a.window.scale))
+      (take_rest a.rows.now ((row - a.area.y + a.window.y) / a.window.scale * a.window.row_bytes))
+      ∙ ap (λ n. dot_of_row (drop ((n - a.area.y + a.window.y) / a.window.scale * a.window.row_bytes) a.rows.now)
+      ((a.window.x + m) / a.window.scale))
+      (sym level)));
+  in_bytes = c.or_bits.ensures.in_bytes;
+}

@@ -1,0 +1,95 @@
+//! Patterns of bits that are set on a page, as the characters of a soft font are.
+
+ghost use Rattle.std.specs.Prelude.{◌≡◌, ℕ, ◌+◌, ◌-◌, ◌*◌, ◌/◌, ◌^◌, ◌<◌, ◌≤◌, nat_le, ◌||◌, if◌then◌else◌, Some, None, length, drop, All};
+ghost use Rattle.pcl_bitmap.specs.Bitmap.{bit_of_byte, dot_of_row};
+ghost use Rattle.pcl_bitmap.specs.Dots.{rectangle_dot, dots_past};
+
+use crate::area::Area;
+use crate::bits::{byte_at, or_bits};
+use crate::squares::spread_bits;
+use pcl_base::ROW_LIMIT;
+
+/// What of a pattern is seen: all from the dot `(x, y)` of its own on, where its rows have `row_bytes` bytes
+/// each and its bits are squares of `scale` dots.
+#[derive(Clone, Copy)]
+pub struct Window {
+    pub row_bytes: usize,
+    pub scale: usize,
+    pub x: usize,
+    pub y: usize,
+}
+
+/// Where on a page an edge at `place` stands, and how many dots behind it lie before the page.
+pub fn start_and_skip(place: i32) -> (usize, usize)
+    ensures dots { (p : ℕ) → dots_past place p ≡ (if nat_le result.0 p then Some (p + result.1 - result.0) else None) }
+    ensures small { (result.0 ≤ 2 ^ 31) × (result.1 ≤ 2 ^ 31) }
+{
+    let distance = place.unsigned_abs() as usize;
+    if place < 0 {
+        (0, distance)
+    } else {
+        (distance, 0)
+    }
+}
+
+// Byte `index` of a row whose bits are written `scale` times each.
+fn spread_at(row: &[u8], scale: usize, index: usize) -> u8
+    requires { (1 ≤ scale) × (scale ≤ 8) }
+    ensures { (k : ℕ) → k < 8 → bit_of_byte result k ≡ dot_of_row row.now ((8 * index + k) / scale) }
+{
+    let wide = spread_bits(byte_at(row, index / scale), scale);
+    ((wide >> (8 * (scale - 1 - index % scale))) & 0xFF) as u8
+}
+
+// Eight dots of a row whose bits are written `scale` times each, from the dot `start` on.
+fn eight_dots_from(row: &[u8], scale: usize, start: usize) -> u8
+    requires { (1 ≤ scale) × (scale ≤ 8) }
+    ensures { (k : ℕ) → k < 8 → bit_of_byte result k ≡ dot_of_row row.now ((start + k) / scale) }
+{
+    let first = spread_at(row, scale, start / 8);
+    let second = spread_at(row, scale, start / 8 + 1);
+    let pair = u16::from(first) * 256 + u16::from(second);
+    ((pair >> (8 - start % 8)) & 0xFF) as u8
+}
+
+// Writes the dots of a row whose bits are written `scale` times each, from the dot `start` on, to all of
+// `target`.
+fn write_dots(target: &mut [u8], row: &[u8], scale: usize, start: usize)
+    requires scale { (1 ≤ scale) × (scale ≤ 8) }
+    requires small { (start ≤ 2 ^ 32) × (length target.old ≤ 600) }
+    ensures { (k : ℕ) → k < 8 * length target.old → dot_of_row target.new k ≡ dot_of_row row.now ((start + k) / scale) }
+{
+    for i in 0..target.len() {
+        target[i] = eight_dots_from(row, scale, start + 8 * i);
+    }
+}
+
+/// Sets the dots of an area of a page that has `row_bytes` bytes a row where the pattern has a bit set,
+/// the first dot of the window at the area's upper left corner.
+pub fn or_pattern(page: &mut [u8], row_bytes: usize, area: Area, window: Window, rows: &[u8])
+    requires scale { (1 ≤ window.scale) × (window.scale ≤ 8) }
+    requires skipped { (window.x ≤ 2 ^ 32) × (window.y ≤ 2 ^ 32) }
+    requires bits { (j : ℕ) → j < area.height → (j + window.y) / window.scale * window.row_bytes ≤ length rows.now }
+    requires narrow { area.width ≤ 8 * 600 }
+    requires wide { area.x + area.width ≤ 8 * row_bytes }
+    requires high { (area.y + area.height) * row_bytes ≤ length page.old }
+    requires small { length page.old < 2 ^ 32 }
+    requires below { area.y + area.height < 2 ^ 32 }
+    ensures dots { (px py : ℕ) → px < 8 * row_bytes → let place = 8 * (py * row_bytes) + px in
+        let bit_row = (py - area.y + window.y) / window.scale in
+        dot_of_row page.new place ≡ (if rectangle_dot area.x area.y area.width area.height px py
+        then dot_of_row (drop (bit_row * window.row_bytes) rows.now) ((window.x + (px - area.x)) / window.scale)
+        || dot_of_row page.old place
+        else dot_of_row page.old place) }
+    ensures in_bytes { All (λ byte. byte < 256) page.new }
+{
+    let mut dots = [0; ROW_LIMIT];
+    let count = area.width.div_ceil(8);
+    for row in area.y..area.y + area.height {
+        let bit_row = (row - area.y + window.y) / window.scale;
+        let source = &rows[bit_row * window.row_bytes..];
+        write_dots(&mut dots[..count], source, window.scale, window.x);
+        let start = 8 * (row * row_bytes) + area.x;
+        or_bits(page, start, start + area.width, &dots[..count]);
+    }
+}
