@@ -1,5 +1,6 @@
 mod devices;
 mod ends;
+mod environment;
 mod filtering;
 mod laws;
 mod memory;

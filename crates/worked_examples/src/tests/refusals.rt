@@ -158,10 +158,7 @@ fn order(rt: HostRuntime) -> Result<(), Fail> {
         (b"\x1b*r0A\x1b*p1Y", "0 pages"),
         (b"\x1b*t300R\x1b*b0W\x1b*r9A\x1b*t75R\x1b*b0W", "1 pages"),
         (b"\x1b*r0A\x1b*t300R\x1b*b0W", "1 pages"),
-        (
-            b"\x1b*r0A\x1b*t600r-5R\x1b*b0W",
-            "1 pages",
-        ),
+        (b"\x1b*r0A\x1b*t600r-5R\x1b*b0W", "1 pages"),
         (b"\x1b*t300R\x1b*r0A\x1b*t600R\x1b*rB\x1b*b0W", "1 pages"),
         (b"\x1b*t300R\x1b*b0W\x1bE", "1 pages"),
         (b"\x1b*t300R\x1b*b0W\x1bE\x1bE", "1 pages"),
@@ -180,10 +177,7 @@ fn at_600_dots_per_inch(rt: HostRuntime) -> Result<(), Fail> {
         (b"\x1b*t600.9999r75R", "0 pages"),
         (b"\x1b*b0W", "1 pages"),
         (b"\x1b*t600R\x1b*b1W\x80", "1 pages"),
-        (
-            b"\x1b*t600R\x1b*b1W\x80\x1bE\x1b*b1W\x80",
-            "2 pages",
-        ),
+        (b"\x1b*t600R\x1b*b1W\x80\x1bE\x1b*b1W\x80", "2 pages"),
     ];
     assert_outcomes(&rt, rt.alloc(), Dpi::Dpi600, &cases)
 }

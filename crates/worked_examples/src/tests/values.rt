@@ -17,10 +17,7 @@ fn of_moves(rt: HostRuntime) -> Result<(), Fail> {
         (b"\x1b*p0.99999999X", "0 pages"),
         (b"\x1b*p5.X", "0 pages"),
         (b"\x1b*p1X", "0 pages"),
-        (
-            b"\x1b*p00000000000000000000000000000001X",
-            "0 pages",
-        ),
+        (b"\x1b*p00000000000000000000000000000001X", "0 pages"),
         (b"\x1b*p-X", "0 pages"),
         (b"\x1b*p+X", "0 pages"),
         (b"\x1b*p-0X", "0 pages"),
