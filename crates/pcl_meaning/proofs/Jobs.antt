@@ -5,13 +5,10 @@ use Rattle.std.proofs.lemmas.Bool.Decides.{nat_tests}
 use Rattle.pcl_base.specs.declared.dpi.Dpi.{Dpi}
 use Rattle.pcl_base.specs.declared.dpi.Dpi.TheVariants.{Dpi300, Dpi600}
 use Rattle.pcl_base.specs.declared.kind.Kind.{Kind}
-use Rattle.pcl_base.specs.declared.kind.Kind.TheVariants.{TooManyPages, TooManyCommands, UnsupportedValue}
+use Rattle.pcl_base.specs.declared.kind.Kind.TheVariants.{TooManyPages}
 use Rattle.pcl_base.specs.declared.size.Size.{Size}
 use Rattle.pcl_base.specs.declared.size.Size.TheVariants.{Executive, Letter, Legal, A4}
-use Rattle.pcl_base.specs.declared.operation.Operation.{Operation}
 use Rattle.pcl_base.specs.declared.operation.Operation.TheVariants.{Reset}
-use Rattle.pcl_base.specs.declared.refusal.Refusal.{Refusal}
-use Rattle.pcl_base.specs.Limits.{command_limit, page_limit}
 use Rattle.pcl_base.specs.Operation.{operation_of}
 use Rattle.pcl_base.specs.Size.{page_width, page_height, page_row_bytes}
 use Rattle.pcl_escape.specs.Said.{Said}
@@ -21,19 +18,19 @@ use Rattle.pcl_env.specs.Outcome.{outcome}
 use Rattle.pcl_bitmap.specs.Bitmap.{dot}
 use Rattle.pcl_page.specs.declared.page.Page.{Page}
 use Rattle.pcl_page.specs.Marks.{Mark, is_black}
-use Rattle.pcl_page.specs.History.{ended, History, Sheet, Situation, at_begin, at_end, after, situation, page_refusal, command_refusal, operation_refusal, value_refusal}
+use Rattle.pcl_page.specs.History.{ended, History, Sheet, Situation, at_begin, at_end, after, situation, page_refusal, command_refusal}
 use Rattle.pcl_page.specs.Performing.{Shows, Performance, after_end, after_command, after_all, performance, pages_of, with_operation, then_on}
 use Rattle.pcl_page.specs.Jobs.{HasPages, performance_of}
 use Rattle.pcl_writer.specs.Tokens.{Token, opening, method, skip, send, commands_in, command_count, token_bytes, start_bytes, end_bytes, frame_bytes}
-use Rattle.pcl_writer.specs.PageText.{IsPageText, PrintsPage, IsWrittenPage, bitmap_rows}
+use Rattle.pcl_writer.specs.PageText.{IsPageText, IsWrittenPage, bitmap_rows}
 use Rattle.pcl_meaning.specs.Alike.{AreAlike, AllAlike, PrintSheets}
-use Rattle.pcl_meaning.specs.PageTexts.{dot_of_rows, job_of, job_commands, MeansRows, PageTextsMeanTheirPages}
+use Rattle.pcl_meaning.specs.PageTexts.{dot_of_rows, PageTextsMeanTheirPages}
 use Rattle.pcl_meaning.proofs.Deeds.{Deed}
 use Rattle.pcl_meaning.proofs.Readings.{ReadsAs, reads_joined, reads_none}
 use Rattle.pcl_meaning.proofs.Sequences.{token_deeds, body_deeds, start_deeds, end_deeds, reset, body_read, start_read, end_read, frame_read}
-use Rattle.pcl_meaning.proofs.Following.{said_of, Leads, leads_append, leads_counts, ComesTo, commands_done}
+use Rattle.pcl_meaning.proofs.Following.{said_of, Leads, leads_append, commands_done}
 use Rattle.pcl_meaning.proofs.Dots.{page_dot}
-use Rattle.pcl_meaning.proofs.Printing.{IsBetween, between, pages_fit, text_deeds, IsTextTaken, text_taken}
+use Rattle.pcl_meaning.proofs.Printing.{IsBetween, between, pages_fit, text_deeds, text_taken}
 
 -- ---- a page text
 

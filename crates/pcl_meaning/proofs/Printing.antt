@@ -1,13 +1,12 @@
 -- Performing the deeds of a page text prints its page.
 use Rattle.std.proofs.Common.{◌≡◌, ℕ, zero, suc, ◌+◌, ◌-◌, ◌*◌, ◌/◌, ◌<◌, ◌≤◌, Bool, true, false, cond, ◌||◌, ◌&&◌, ◌==◌, nat_le, List, [], ◌∷◌, ◌++◌, length, drop, replicate, Option, Some, None, refl, sym, ap, subst, ◌∙◌, length-append, arith}
-use Rattle.std.specs.Prelude.{not, nat_lt, min}
+use Rattle.std.specs.Prelude.{not, nat_lt}
 use Rattle.std.specs.List.{AllByRecursion}
 use Rattle.std.proofs.lemmas.List.{length-replicate}
 use Rattle.std.proofs.Math.Bool.{or-false}
 use Rattle.std.proofs.lemmas.Bool.Decides.{nat_tests}
 use Rattle.pcl_base.specs.declared.dpi.Dpi.{Dpi}
 use Rattle.pcl_base.specs.declared.dpi.Dpi.TheVariants.{Dpi300, Dpi600}
-use Rattle.pcl_base.specs.declared.kind.Kind.TheVariants.{TooManyPages}
 use Rattle.pcl_base.specs.declared.method.Method.{Method}
 use Rattle.pcl_base.specs.declared.method.Method.TheVariants.{Plain, Runs, Packed, Delta}
 use Rattle.pcl_base.specs.declared.operation.Axis.TheVariants.{Horizontal, Vertical}
@@ -17,10 +16,10 @@ use Rattle.pcl_base.specs.declared.operation.Operation.TheVariants.{FormFeed, Pa
 use Rattle.pcl_base.specs.declared.size.Size.{Size}
 use Rattle.pcl_base.specs.declared.size.Size.TheVariants.{Executive, Letter, Legal, A4}
 use Rattle.pcl_base.specs.declared.value.Value.{Value}
-use Rattle.pcl_base.specs.Dpi.{dots_per_inch, units_per_dot}
+use Rattle.pcl_base.specs.Dpi.{dots_per_inch}
 use Rattle.pcl_base.specs.Method.{method_code}
-use Rattle.pcl_base.specs.Size.{code_of, page_width, page_height, units_high}
-use Rattle.pcl_base.specs.Value.{whole_of, zero_value}
+use Rattle.pcl_base.specs.Size.{code_of, page_width, units_high}
+use Rattle.pcl_base.specs.Value.{zero_value}
 use Rattle.pcl_bitmap.specs.Bitmap.{dot_of_row}
 use Rattle.pcl_env.specs.declared.effect.Effect.{Effect}
 use Rattle.pcl_env.specs.declared.effect.Effect.TheVariants as page
@@ -28,8 +27,7 @@ use Rattle.pcl_env.specs.Settings.{Settings, put, put_x, put_y, to_first_line, w
 use Rattle.pcl_env.specs.Outcome.{Outcome, stays, stays_if, set_top, before_feed, return_carriage, outcome}
 use Rattle.pcl_page.specs.Marks.{Mark, is_black, dot_at}
 use Rattle.pcl_page.specs.Raster.{Raster, ends_raster, scale_of, raster_from, bytes_of_width, cleared_past, row_sent, row_mark}
-use Rattle.pcl_page.specs.History.{Sheet, Situation, below, ejects, end_raster, turned, drawn, done_with, taken, prepared, after, sheet_of, page_refusal}
-use Rattle.pcl_rows.specs.Decoding.{decoded}
+use Rattle.pcl_page.specs.History.{Sheet, Situation, below, ejects, end_raster, drawn, done_with, taken, after, sheet_of, page_refusal}
 use Rattle.pcl_rows.specs.Rows.{IsRowData}
 use Rattle.pcl_rows.proofs.Decoded.{decoded_is}
 use Rattle.pcl_writer.specs.Tokens.{Token, opening, method, skip, send, PrintsRows}

@@ -1,6 +1,6 @@
 -- The performer follows the situation, step by step.
 use Rattle.std.proofs.Common.{◌≡◌, ℕ, ◌+◌, ◌<◌, ◌≤◌, Bool, true, false, cond, nat_le, List, [], ◌∷◌, ◌++◌, length, Option, Some, None, Result, Ok, Err, refl, sym, ap, subst, ◌∙◌, append-nil, length-append, inl, inr, arith}
-use Rattle.std.specs.Prelude.{is_some, ◌&&◌, IsErr}
+use Rattle.std.specs.Prelude.{is_some, ◌&&◌}
 use Rattle.std.proofs.lemmas.Bool.Decides.{nat_tests}
 use Rattle.pcl_base.specs.declared.dpi.Dpi.{Dpi}
 use Rattle.pcl_base.specs.declared.fault.CallFault.{CallFault}
@@ -27,8 +27,8 @@ use Rattle.pcl_bitmap.specs.Dots.{is_black_ink}
 use Rattle.pcl_page.specs.Marks.{Mark, is_black}
 use Rattle.pcl_page.specs.Raster.{Raster, ends_raster, is_ignored_in_raster}
 use Rattle.pcl_page.specs.History.{Sheet, Situation, settings_below, end_raster, is_marked, ejects, sheet_of, turned, drawn, done_with, taken, counted, prepared, is_ignored, after, at_end, page_refusal, value_refusal, operation_refusal, command_refusal}
-use Rattle.pcl_page.specs.Performing.{Shows, Hands}
-use Rattle.pcl_page.specs.Reflecting.{IsPainted, IsIn, IsWhite, IsFollowed, IsEjected, IsHanded, Takes, HasRaster, IsPrepared, IsDrawn, HandsMore, IsTurned, IsTried}
+use Rattle.pcl_page.specs.Performing.{Shows}
+use Rattle.pcl_page.specs.Reflecting.{IsPainted, IsIn, IsWhite, IsFollowed, IsEjected, IsHanded, Takes, IsPrepared, IsDrawn, HandsMore, IsTurned, IsTried}
 use Rattle.pcl_page.proofs.Sizes.{size_kept}
 
 -- ---- pages

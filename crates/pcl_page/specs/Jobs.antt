@@ -10,7 +10,7 @@ use Rattle.pcl_escape.specs.Pieces.{IsReading}
 use Rattle.pcl_escape.specs.Faults.{IsFault}
 use Rattle.pcl_page.specs.declared.page.Page.{Page}
 use Rattle.pcl_page.specs.History.{Sheet}
-use Rattle.pcl_page.specs.Performing.{Shows, Hands, Performance, performance, pages_of, HandsOver}
+use Rattle.pcl_page.specs.Performing.{Shows, Performance, performance, pages_of, HandsOver}
 
 -- what is performed of a job whose reading is these commands
 abbrev pub performance_of : Dpi → List ℕ → List Said → Performance

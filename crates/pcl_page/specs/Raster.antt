@@ -1,10 +1,10 @@
 -- Rasters: where their rows lie, and what each command does to one that has begun.
-use Rattle.std.specs.Prelude.{ℕ, ◌+◌, ◌-◌, ◌*◌, ◌/◌, ◌^◌, Bool, true, false, not, ◌&&◌, nat_lt, min, max, unwrap_or, if◌then◌else◌, List, [], ◌∷◌, replicate, Option, Some, None}
+use Rattle.std.specs.Prelude.{ℕ, ◌+◌, ◌-◌, ◌*◌, ◌/◌, ◌^◌, Bool, true, false, not, ◌&&◌, nat_lt, min, max, unwrap_or, List, [], ◌∷◌, replicate, Option, Some, None}
 use Rattle.pcl_base.specs.declared.dpi.Dpi.{Dpi}
 use Rattle.pcl_base.specs.declared.operation.Operation.{Operation}
 use Rattle.pcl_base.specs.declared.operation.Operation.TheVariants.{RasterResolution, RasterWidth, RasterHeight, RasterPresentation, StartRaster, RasterMethod, RasterOffset, RasterRow}
 use Rattle.pcl_base.specs.declared.method.Method.{Method}
-use Rattle.pcl_base.specs.Dpi.{dots_per_inch, units_per_dot}
+use Rattle.pcl_base.specs.Dpi.{dots_per_inch}
 use Rattle.pcl_base.specs.Size.{page_width}
 use Rattle.pcl_bitmap.specs.Dots.{raster_dot}
 use Rattle.pcl_bitmap.specs.declared.ink.Ink.TheVariants.{Black}

@@ -16,7 +16,7 @@ use Rattle.pcl_rows.specs.Rows.{IsRowData, RowFrom}
 use Rattle.pcl_coders.specs.Coding.{IsLeastLength}
 use Rattle.std.specs.Prelude.{not}
 use Rattle.pcl_base.specs.declared.method.Method.{Method}
-use Rattle.pcl_base.specs.Size.{page_width, page_height}
+use Rattle.pcl_base.specs.Size.{page_height}
 use Rattle.pcl_bitmap.specs.Bitmap.{Picture, IsPicture}
 use Rattle.pcl_writer.specs.Tokens.{Token, opening, method, skip, command_count, send, token_bytes, IsWhite, AreWhite, PrintsRows}
 use Rattle.pcl_writer.specs.PageText.{IsRowOf, bitmap_rows, AreWithoutMethods, IsWithoutMethod, rows_from, row_tokens, skip_bytes}

@@ -1,11 +1,11 @@
-use Rattle.std.proofs.Common.{◌≡◌, ◌++◌, ◌*◌, ◌≤◌, ◌∙◌, ℕ, List, length, replicate, refl, sym, ap, subst, arith}
+use Rattle.std.proofs.Common.{◌≡◌, ◌++◌, length, refl, subst, arith}
 use Rattle.std.specs.List.{flat_map, AllByRecursion}
 use Rattle.pcl_base.specs.declared.dpi.Dpi.{Dpi}
 use Rattle.pcl_base.specs.declared.size.Size.{Size}
 use Rattle.pcl_base.specs.Size.{page_height, page_row_bytes}
 use Rattle.pcl_page.specs.declared.page.Page.{Page}
-use Rattle.pcl_writer.specs.Tokens.{Token, start_bytes, end_bytes, token_bytes, command_count}
-use Rattle.pcl_writer.specs.PageText.{IsRowOf, PrintsAll, PrintsPage, IsPageText, bitmap_rows}
+use Rattle.pcl_writer.specs.Tokens.{start_bytes, end_bytes, token_bytes}
+use Rattle.pcl_writer.specs.PageText.{IsRowOf, PrintsAll, PrintsPage, bitmap_rows}
 use Rattle.pcl_writer.proofs.Bodies.{page_joined, length_rows, bitmap_rows_are, few_commands}
 use Rattle.pcl_writer.proofs.text.append_page.Goals as goal
 

@@ -1,11 +1,6 @@
-use Rattle.std.proofs.Common.{◌≡◌, ◌∙◌, ◌+◌, ◌-◌, ◌/◌, ◌==◌, ◌≤◌, ℕ, Bool, true, false, cond, refl, sym, ap, arith}
+use Rattle.std.proofs.Common.{◌≡◌, ◌∙◌, ◌/◌, ℕ, cond, refl, ap}
 use Rattle.std.specs.Int.{div_ceil}
-use Rattle.pcl_base.specs.declared.dpi.Dpi.{Dpi}
-use Rattle.pcl_base.specs.declared.dpi.Dpi.TheVariants.{Dpi300, Dpi600}
-use Rattle.pcl_base.specs.Dpi.{units_per_dot}
-use Rattle.pcl_base.specs.Value.{whole_of}
 use Rattle.pcl_bitmap.specs.declared.ink.Ink.{Ink}
-use Rattle.pcl_bitmap.specs.declared.ink.Ink.TheVariants.{Black, White}
 use Rattle.pcl_bitmap.specs.Bitmap.{dot}
 use Rattle.pcl_bitmap.specs.Dots.{rectangle_dot, is_black_ink}
 use Rattle.pcl_page.specs.Marks.{dot_at, dots_of}

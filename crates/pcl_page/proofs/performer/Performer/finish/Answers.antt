@@ -1,4 +1,4 @@
-use Rattle.std.proofs.Common.{◌≡◌, ◌∙◌, arith}
+use Rattle.std.proofs.Common.{arith}
 use Rattle.pcl_page.proofs.Steps.{end_marked, end_unmarked}
 use Rattle.pcl_page.proofs.performer.Performer.finish.Goals as goal
 use Rattle.pcl_page.proofs.performer.Performer.finish.Goals.{then-self+else-self-ge-PAGE_LIMIT+in_ok-eject, else-self}

@@ -1,8 +1,7 @@
-use Rattle.std.proofs.Common.{◌≡◌, ◌<◌, ◌∙◌, Ok, Err, refl, sym, inr, arith}
+use Rattle.std.proofs.Common.{◌<◌, ◌∙◌, refl, sym, inr, arith}
 use Rattle.std.proofs.lemmas.Result.{err_from_is_err_and}
 use Rattle.pcl_escape.specs.Said.{view}
-use Rattle.pcl_page.specs.History.{Situation, counted, prepared, drawn}
-use Rattle.pcl_page.specs.Reflecting.{IsIn}
+use Rattle.pcl_page.specs.History.{counted, prepared, drawn}
 use Rattle.pcl_page.proofs.Steps.{counted_in, prepared_in, AtTurn, tried_ignored, tried_refused, gone}
 use Rattle.pcl_page.proofs.performer.Performer.try_command.Goals as goal
 
