@@ -155,7 +155,7 @@ impl Bitmap {
         fills::fill_rows(&mut self.bytes, row_bytes, area, ink);
     }
 
-    /// Paints the pattern of a character (docs/LANGUAGE.md, "Fonts and text"): `height` rows of `width` bits
+    /// Paints the pattern of a character (PCL 5 manual, "Soft Font Creation"): `height` rows of `width` bits
     /// in whole bytes, high bits first, each bit a square of `scale` dots and the first at the dot `(x, y)`,
     /// which may lie left of or above the page. Each set bit inks its square; what lies off the page is left
     /// out, and a clear bit changes nothing.
