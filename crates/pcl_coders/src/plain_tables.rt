@@ -5,7 +5,6 @@ ghost use Rattle.pcl_coders.specs.Filling.{AreRightFrom};
 
 use super::*;
 use crate::choice::Choice;
-use crate::table::append_steps;
 use pcl_base::Method;
 use std::alloc::{AllocError, Global};
 use std::process::Abort;
@@ -29,6 +28,28 @@ fn fill_over(method: Method, old: &[u8], row: &[u8], out: &mut [u16])
     }
 }
 
+/// Appends the best element of each place, by the plain choice.
+fn append_tried(
+    method: Method,
+    old: &[u8],
+    row: &[u8],
+    numbers: &[u16],
+    out: &mut Vec<u8>,
+) -> Result<(), AllocError>
+    requires same { length old.now ≡ length row.now }
+    requires small { length row.now ≤ 600 }
+    requires size { length numbers.now ≡ length row.now + 1 }
+{
+    let mut place = 0;
+    while place < row.len() && numbers[place] > 0 {
+        let wanted = &row[place..];
+        let choice = Choice::of(method, &old[place..], wanted, &numbers[place..]);
+        choice.step.append(wanted, out)?;
+        place += choice.step.stop();
+    }
+    Ok(())
+}
+
 /// Compares a coder's length, numbers and data with those of the plain tables.
 fn compare<C: RowCoder>(
     rt: &impl Abort,
@@ -48,7 +69,7 @@ fn compare<C: RowCoder>(
     let plain = &mut plain[..row.len() + 1];
     fill_over(method, old, row, plain);
     let mut wanted = Vec::new(alloc);
-    append_steps(method, old, row, plain, &mut wanted)?;
+    append_tried(method, old, row, plain, &mut wanted)?;
     let mut numbers = [7; 601];
     let numbers = &mut numbers[..row.len() + 1];
     coder.places(row, seed, numbers);
