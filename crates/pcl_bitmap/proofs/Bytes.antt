@@ -16,11 +16,13 @@ lesser_is_one u v p q = grind (arith, nat_tests)
 
 pub bit_of_byte-or : (a b k : ℕ) → bit_of_byte (bit_or a b) k ≡ (bit_of_byte a k || bit_of_byte b k)
 bit_of_byte-or a b k =
-    ap (λ n. nat_eq n 1) (bit_at_or a b (7 - k)) ∙ larger_is_one (bit_at a (7 - k)) (bit_at b (7 - k)) (bit_at-lt a (7 - k)) (bit_at-lt b (7 - k))
+    ap (λ n. nat_eq n 1) (bit_at_or a b (7 - k))
+    ∙ larger_is_one (bit_at a (7 - k)) (bit_at b (7 - k)) (bit_at-lt a (7 - k)) (bit_at-lt b (7 - k))
 
 pub bit_of_byte-and : (a b k : ℕ) → bit_of_byte (bit_and a b) k ≡ (bit_of_byte a k && bit_of_byte b k)
 bit_of_byte-and a b k =
-    ap (λ n. nat_eq n 1) (bit_at_and a b (7 - k)) ∙ lesser_is_one (bit_at a (7 - k)) (bit_at b (7 - k)) (bit_at-lt a (7 - k)) (bit_at-lt b (7 - k))
+    ap (λ n. nat_eq n 1) (bit_at_and a b (7 - k))
+    ∙ lesser_is_one (bit_at a (7 - k)) (bit_at b (7 - k)) (bit_at-lt a (7 - k)) (bit_at-lt b (7 - k))
 
 pub bit_of_byte-zero : (k : ℕ) → bit_of_byte 0 k ≡ false
 bit_of_byte-zero k = ap (λ n. nat_eq n 1) (bit_at-zero (7 - k))
@@ -59,7 +61,8 @@ bit_of_byte-second p q s k low high =
     ∙ ap (λ u. nat_eq u 1) (ap (λ u. u % 2) moved ∙ bit_at_cat_low p 8 q (7 - (k - s)) (omega arith))
 
 -- and those that come from the first
-pub bit_of_byte-first : (p q s k : ℕ) → q < 256 → k < s → s ≤ 8 → bit_of_byte (bit_and ((p * 256 + q) / 2 ^ s) 255) k ≡ bit_of_byte p (8 + k - s)
+pub bit_of_byte-first : (p q s k : ℕ) → q < 256 → k < s → s ≤ 8
+    → bit_of_byte (bit_and ((p * 256 + q) / 2 ^ s) 255) k ≡ bit_of_byte p (8 + k - s)
 bit_of_byte-first p q s k byte low high =
     let place : s + (7 - k) - 8 ≡ 7 - (8 + k - s) = omega arith in
     let moved : (p * 256 + q) / 2 ^ s / 2 ^ (7 - k) ≡ (p * 256 + q) / 2 ^ (s + (7 - k)) = shr-shr (p * 256 + q) s (7 - k) in
@@ -91,7 +94,8 @@ bit_of_byte-shifted row p q j s hs hq at_j before none k hk =
             ∙ sym (dot_at row (8 * j + k - s) (j - 1) (8 + k - s) (omega arith) (omega arith))
             ∙ ap (λ b. b && dot_of_row row (8 * j + k - s)) (sym (le-leb s (8 * j + k) (omega arith)))
         | inr first ↦
-            bit_of_byte-first p q s k hq low (omega arith) ∙ ap (λ b. bit_of_byte b (8 + k - s)) (none (omega arith)) ∙ bit_of_byte-zero (8 + k - s)
+            bit_of_byte-first p q s k hq low (omega arith) ∙ ap (λ b. bit_of_byte b (8 + k - s)) (none (omega arith))
+            ∙ bit_of_byte-zero (8 + k - s)
             ∙ ap (λ b. b && dot_of_row row (8 * j + k - s)) (sym (lt-leb s (8 * j + k) (omega arith)))
       ]
     ]

@@ -58,16 +58,22 @@ differ_so x y true e set = eqb-false x y (not_is_true (eqb x y) e)
 differ_so x y false e set = absurd cc
 
 -- what a mask's first bit says of the lanes
-pub lanes_same : (a b : List ℕ) (k : ℕ) → length a ≡ 32 → length b ≡ 32 → k < 32 → bit_at (mask_l (zip2 differ a b)) k ≡ 0 → get_or a k 0 ≡ get_or b k 0
-lanes_same a b k size size' within clear = differ_not (get_or a k 0) (get_or b k 0) (differ (get_or a k 0) (get_or b k 0)) refl (sym (mask_bit differ a b k size size' within) ∙ clear)
+pub lanes_same : (a b : List ℕ) (k : ℕ) → length a ≡ 32 → length b ≡ 32 → k < 32 → bit_at (mask_l (zip2 differ a b)) k ≡ 0
+    → get_or a k 0 ≡ get_or b k 0
+lanes_same a b k size size' within clear = differ_not (get_or a k 0) (get_or b k 0) (differ (get_or a k 0) (get_or b k 0)) refl
+    (sym (mask_bit differ a b k size size' within) ∙ clear)
 
-pub lanes_differ : (a b : List ℕ) (k : ℕ) → length a ≡ 32 → length b ≡ 32 → k < 32 → bit_at (mask_l (zip2 differ a b)) k ≡ 1 → get_or a k 0 ≢ get_or b k 0
-lanes_differ a b k size size' within set = differ_so (get_or a k 0) (get_or b k 0) (differ (get_or a k 0) (get_or b k 0)) refl (sym (mask_bit differ a b k size size' within) ∙ set)
+pub lanes_differ : (a b : List ℕ) (k : ℕ) → length a ≡ 32 → length b ≡ 32 → k < 32 → bit_at (mask_l (zip2 differ a b)) k ≡ 1
+    → get_or a k 0 ≢ get_or b k 0
+lanes_differ a b k size size' within set = differ_so (get_or a k 0) (get_or b k 0) (differ (get_or a k 0) (get_or b k 0)) refl
+    (sym (mask_bit differ a b k size size' within) ∙ set)
 
 -- the mask as the code computes it
-pub whole_mask : (a b : List ℕ) → length a ≡ 32 → length b ≡ 32 → mask_l (map (top 7) (zip2 (λ x y. cond (differ x y) 255 0) a b)) % 2 ^ 64 ≡ mask_l (zip2 differ a b)
+pub whole_mask : (a b : List ℕ) → length a ≡ 32 → length b ≡ 32
+    → mask_l (map (top 7) (zip2 (λ x y. cond (differ x y) 255 0) a b)) % 2 ^ 64 ≡ mask_l (zip2 differ a b)
 whole_mask a b size size' =
-    ap (λ (ms : List Bool). mask_l ms % 2 ^ 64) (tops_compared w8 differ a b) ∙ mask_l-mod (zip2 differ a b) 64 (omega (arith, length-zip2 differ a b (size ∙ sym size')))
+    ap (λ (ms : List Bool). mask_l ms % 2 ^ 64) (tops_compared w8 differ a b)
+    ∙ mask_l-mod (zip2 differ a b) 64 (omega (arith, length-zip2 differ a b (size ∙ sym size')))
 
 -- ---- rows, as far as they are known
 
@@ -76,19 +82,23 @@ pub record AreSameTo (a b : List ℕ) (place : ℕ) : Type 0 where
   pub within : place ≤ length a
   pub same : (k : ℕ) → k < place → get_or a k 0 ≡ get_or b k 0
 
-pub same_more : (a b : List ℕ) (place count : ℕ) → AreSameTo a b place → place + count ≤ length a → ((k : ℕ) → k < count → get_or a (place + k) 0 ≡ get_or b (place + k) 0) → AreSameTo a b (place + count)
+pub same_more : (a b : List ℕ) (place count : ℕ) → AreSameTo a b place → place + count ≤ length a
+    → ((k : ℕ) → k < count → get_or a (place + k) 0 ≡ get_or b (place + k) 0) → AreSameTo a b (place + count)
 same_more a b place count to fits more = record {
   within = fits;
   same = λ k below.
       elim (cases_lt k place) [
         | inl before ↦ to.same k before
-        | inr past ↦ let at : place + (k - place) ≡ k = omega arith in subst (λ (n : ℕ). get_or a n 0 ≡ get_or b n 0) at (more (k - place) (omega arith))
+        | inr past ↦ let at : place + (k - place) ≡ k =
+            omega arith in subst (λ (n : ℕ). get_or a n 0 ≡ get_or b n 0) at (more (k - place) (omega arith))
       ];
 }
 
-pub same_one : (a b : List ℕ) (place : ℕ) → AreSameTo a b place → place < length a → get_or a place 0 ≡ get_or b place 0 → AreSameTo a b (place + 1)
+pub same_one : (a b : List ℕ) (place : ℕ) → AreSameTo a b place → place < length a → get_or a place 0 ≡ get_or b place 0
+    → AreSameTo a b (place + 1)
 same_one a b place to fits here =
-    same_more a b place 1 to (omega arith) (λ k below. let at : place ≡ place + k = omega arith in subst (λ (n : ℕ). get_or a n 0 ≡ get_or b n 0) at here)
+    same_more a b place 1 to (omega arith)
+    (λ k below. let at : place ≡ place + k = omega arith in subst (λ (n : ℕ). get_or a n 0 ≡ get_or b n 0) at here)
 
 -- a byte stands again and again from one place up to another
 pub record IsRunTo (row : List ℕ) (from place : ℕ) : Type 0 where
@@ -103,20 +113,24 @@ run_one row from fits = record {
   same = λ k low high. let at : k ≡ from = omega arith in ap (λ (n : ℕ). get_or row n 0) at;
 }
 
-pub run_more : (row : List ℕ) (from place count : ℕ) → IsRunTo row from place → place + count ≤ length row → ((k : ℕ) → k < count → get_or row (place + k) 0 ≡ get_or row from 0) → IsRunTo row from (place + count)
+pub run_more : (row : List ℕ) (from place count : ℕ) → IsRunTo row from place → place + count ≤ length row
+    → ((k : ℕ) → k < count → get_or row (place + k) 0 ≡ get_or row from 0) → IsRunTo row from (place + count)
 run_more row from place count to fits more = record {
   after = omega (arith, to.after);
   within = fits;
   same = λ k low high.
       elim (cases_lt k place) [
         | inl before ↦ to.same k low before
-        | inr past ↦ let at : place + (k - place) ≡ k = omega arith in subst (λ (n : ℕ). get_or row n 0 ≡ get_or row from 0) at (more (k - place) (omega arith))
+        | inr past ↦ let at : place + (k - place) ≡ k =
+            omega arith in subst (λ (n : ℕ). get_or row n 0 ≡ get_or row from 0) at (more (k - place) (omega arith))
       ];
 }
 
-pub run_next : (row : List ℕ) (from place : ℕ) → IsRunTo row from place → place < length row → get_or row place 0 ≡ get_or row from 0 → IsRunTo row from (place + 1)
+pub run_next : (row : List ℕ) (from place : ℕ) → IsRunTo row from place → place < length row → get_or row place 0 ≡ get_or row from 0
+    → IsRunTo row from (place + 1)
 run_next row from place to fits here =
-    run_more row from place 1 to (omega arith) (λ k below. let at : place ≡ place + k = omega arith in subst (λ (n : ℕ). get_or row n 0 ≡ get_or row from 0) at here)
+    run_more row from place 1 to (omega arith)
+    (λ k below. let at : place ≡ place + k = omega arith in subst (λ (n : ℕ). get_or row n 0 ≡ get_or row from 0) at here)
 
 -- there are only zeros from a place on
 pub record AreZerosFrom (row : List ℕ) (len : ℕ) : Type 0 where
@@ -126,16 +140,19 @@ pub record AreZerosFrom (row : List ℕ) (len : ℕ) : Type 0 where
 pub zeros_past : (row : List ℕ) → AreZerosFrom row (length row)
 zeros_past row = record { within = omega arith; zeros = λ k past. get_or_past row k 0 past }
 
-pub zeros_more : (row : List ℕ) (len count : ℕ) → AreZerosFrom row len → count ≤ len → ((k : ℕ) → k < count → get_or row (len - count + k) 0 ≡ 0) → AreZerosFrom row (len - count)
+pub zeros_more : (row : List ℕ) (len count : ℕ) → AreZerosFrom row len → count ≤ len
+    → ((k : ℕ) → k < count → get_or row (len - count + k) 0 ≡ 0) → AreZerosFrom row (len - count)
 zeros_more row len count from fits more = record {
   within = omega (arith, from.within);
   zeros = λ k low.
       elim (cases_lt k len) [
         | inr past ↦ from.zeros k past
-        | inl before ↦ let at : len - count + (k - (len - count)) ≡ k = omega arith in subst (λ (n : ℕ). get_or row n 0 ≡ 0) at (more (k - (len - count)) (omega arith))
+        | inl before ↦ let at : len - count + (k - (len - count)) ≡ k =
+            omega arith in subst (λ (n : ℕ). get_or row n 0 ≡ 0) at (more (k - (len - count)) (omega arith))
       ];
 }
 
 pub zeros_one : (row : List ℕ) (len : ℕ) → AreZerosFrom row len → 0 < len → get_or row (len - 1) 0 ≡ 0 → AreZerosFrom row (len - 1)
 zeros_one row len from some here =
-    zeros_more row len 1 from (omega arith) (λ k below. let at : len - 1 ≡ len - 1 + k = omega arith in subst (λ (n : ℕ). get_or row n 0 ≡ 0) at here)
+    zeros_more row len 1 from (omega arith)
+    (λ k below. let at : len - 1 ≡ len - 1 + k = omega arith in subst (λ (n : ℕ). get_or row n 0 ≡ 0) at here)

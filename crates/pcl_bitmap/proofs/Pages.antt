@@ -39,7 +39,8 @@ zero_in_replicate n i =
 -- a page of zeros is white
 pub dot_of_zeros : (n r x y : ℕ) → dot_of_row (take r (drop (y * r) (replicate n 0))) x ≡ false
 dot_of_zeros n r x y =
-    let zero = zero_after_take r (drop (y * r) (replicate n 0)) (λ i. get_or-drop (y * r) (replicate n 0) i 0 ∙ zero_in_replicate n (y * r + i)) (x / 8) in
+    let zero = zero_after_take r (drop (y * r) (replicate n 0))
+    (λ i. get_or-drop (y * r) (replicate n 0) i 0 ∙ zero_in_replicate n (y * r + i)) (x / 8) in
     ap (λ m. bit_of_byte m (x % 8)) zero ∙ bit_of_byte-zero (x % 8)
 
 pub rows_apart : (a b r : ℕ) → a < b → a * r + r ≤ b * r
@@ -81,7 +82,8 @@ same_pages r w h a b la lb fa fb pa pb same =
     let place : i ≡ y * r + j = sym (div-add-mod' i r) in
     let short : j < r = mod_below i r some in
     let on_page : y < h = div_below i r h some (omega arith) in
-    same_byte (get_or a i 0) (get_or b i 0) (All-get_or (λ n. n < 256) a i 0 within fa) (All-get_or (λ n. n < 256) b i 0 (omega arith) fb) (λ k small.
+    same_byte (get_or a i 0) (get_or b i 0) (All-get_or (λ n. n < 256) a i 0 within fa) (All-get_or (λ n. n < 256) b i 0 (omega arith) fb)
+    (λ k small.
     let x : ℕ = 8 * j + k in
     let spot : 8 * (y * r) + x ≡ 8 * i + k = omega arith in
     let in_a = sym (dot_at a (8 * (y * r) + x) i k small spot) ∙ sym (dot_in_page a r x y (omega arith)) in

@@ -53,7 +53,8 @@ run_dot-whole from end i row k h =
 pub added_bits :
     (row : List ℕ) (from end i b m : ℕ)
     → from / 8 ≤ i
-    → ((k : ℕ) → k < 8 → bit_of_byte b k ≡ (nat_le (from % 8) (8 * (i - from / 8) + k) && dot_of_row row (8 * (i - from / 8) + k - from % 8)))
+    → ((k : ℕ) → k < 8
+    → bit_of_byte b k ≡ (nat_le (from % 8) (8 * (i - from / 8) + k) && dot_of_row row (8 * (i - from / 8) + k - from % 8)))
     → ((k : ℕ) → k < 8 → bit_of_byte m k ≡ nat_lt k (end - 8 * i))
     → (k : ℕ) → k < 8 → bit_of_byte (bit_and b m) k ≡ run_dot from end row (8 * i + k)
 added_bits row from end i b m h bits mask k small =
@@ -134,7 +135,8 @@ run_dot-split from end w row k h =
       | inr late ↦
           ap (λ t. run_dot (from + 8 * w) end (drop w row) k || t) (run_dot-past from (from + 8 * w) (take w row) k late)
           ∙ or_comm (run_dot (from + 8 * w) end (drop w row) k) false
-          ∙ ap (λ t. t && nat_lt k end && dot_of_row (drop w row) (k - (from + 8 * w))) (le-leb (from + 8 * w) k late ∙ sym (le-leb from k (omega arith)))
+          ∙ ap (λ t. t && nat_lt k end && dot_of_row (drop w row) (k - (from + 8 * w)))
+          (le-leb (from + 8 * w) k late ∙ sym (le-leb from k (omega arith)))
           ∙ ap (λ t. nat_le from k && nat_lt k end && t) (drop_dots w row (k - (from + 8 * w)) (k - from) (omega arith))
     ]
 

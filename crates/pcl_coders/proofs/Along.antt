@@ -27,13 +27,16 @@ use Rattle.pcl_coders.proofs.Starts.{delta_step, latest_is_as_good}
 use Rattle.pcl_coders.proofs.Places.{runs_shorten, packed_shorten, falls}
 
 -- the numbers of the rest of a row
-pub right_from_drop : (method : Method) (old row table : List ℕ) (place : ℕ) → place ≤ length row → AreRightFrom method old row table 0 → AreRightFrom method (drop place old) (drop place row) (drop place table) 0
+pub right_from_drop : (method : Method) (old row table : List ℕ) (place : ℕ) → place ≤ length row → AreRightFrom method old row table 0
+    → AreRightFrom method (drop place old) (drop place row) (drop place table) 0
 right_from_drop method old row table place within right q low high =
     let is = right (place + q) (omega arith) (omega (arith, length-drop place row)) in
     let at : (k : ℕ) → slice_index (drop place table) k ≡ slice_index table (place + k) = λ k. get_or-drop place table k 0 in
-    let there : (e : Element) → slice_index (drop place table) (q + stop e) ≡ slice_index table (place + q + stop e) = λ e. let same : place + (q + stop e) ≡ place + q + stop e = omega arith in at (q + stop e) ∙ ap (slice_index table) same in
+    let there : (e : Element) → slice_index (drop place table) (q + stop e) ≡ slice_index table (place + q + stop e) =
+    λ e. let same : place + (q + stop e) ≡ place + q + stop e = omega arith in at (q + stop e) ∙ ap (slice_index table) same in
     record {
-      steps = λ e element agrees. omega (arith, is.steps e element (rw (drop-drop q place old, drop-drop q place row) at agrees), at q, there e);
+      steps = λ e element
+          agrees. omega (arith, is.steps e element (rw (drop-drop q place old, drop-drop q place row) at agrees), at q, there e);
       ends = λ end. at q ∙ is.ends (rw (drop-drop q place old, drop-drop q place row) at end);
       attained = elim is.attained [
         | inl end ↦ inl (rw (drop-drop q place old, drop-drop q place row) end)
@@ -52,38 +55,55 @@ right_from_drop method old row table place within right q low high =
     }
 
 -- a step whose bytes and number are the first number is a best one
-pub along_choice : (method : Method) (old wanted numbers : List ℕ) (step : Step) (bytes : ℕ) → AreRightFrom method old wanted numbers 0 → IsStepElement method old wanted step bytes → 0 < step_stop step
-    → slice_index numbers 0 ≡ bytes + slice_index numbers (step_stop step) → IsStepChoice method old wanted numbers step (slice_index numbers 0)
+pub along_choice : (method : Method) (old wanted numbers : List ℕ) (step : Step) (bytes : ℕ) → AreRightFrom method old wanted numbers 0
+    → IsStepElement method old wanted step bytes → 0 < step_stop step
+    → slice_index numbers 0 ≡ bytes + slice_index numbers (step_stop step)
+    → IsStepChoice method old wanted numbers step (slice_index numbers 0)
 along_choice method old wanted numbers step bytes right s some sum-is =
     step_choice method old wanted numbers step bytes (slice_index numbers 0) s some sum-is (λ d element agrees goes.
     let at : 0 + stop d ≡ stop d = omega arith in
     omega (arith, (right 0 (omega arith) (omega arith)).steps d element agrees, ap (slice_index numbers) at))
 
-pub numbers_fall : (old wanted numbers : List ℕ) (i j : ℕ) → length old ≡ length wanted → AreRightFrom Packed old wanted numbers 0 → i ≤ j → j ≤ length wanted → slice_index numbers j ≤ slice_index numbers i
-numbers_fall old wanted numbers i j size right order within = falls Packed old wanted numbers 0 i j packed_shorten size right (omega arith) order within
+pub numbers_fall : (old wanted numbers : List ℕ) (i j : ℕ) → length old ≡ length wanted → AreRightFrom Packed old wanted numbers 0 → i ≤ j
+    → j ≤ length wanted → slice_index numbers j ≤ slice_index numbers i
+numbers_fall old wanted numbers i j size right order within =
+    falls Packed old wanted numbers 0 i j packed_shorten size right (omega arith) order within
 
-pub literal_bounds : (old wanted numbers : List ℕ) (k : ℕ) → AreRightFrom Packed old wanted numbers 0 → 1 ≤ k → k ≤ min (length wanted) 128 → slice_index numbers 0 ≤ 1 + k + slice_index numbers k
+pub literal_bounds : (old wanted numbers : List ℕ) (k : ℕ) → AreRightFrom Packed old wanted numbers 0 → 1 ≤ k → k ≤ min (length wanted) 128
+    → slice_index numbers 0 ≤ 1 + k + slice_index numbers k
 literal_bounds old wanted numbers k right some within =
     let s = literal_step old wanted k some (omega arith) (omega arith) in
     let at : 0 + stop (element_of (LiteralRun k) wanted) ≡ k = omega (arith, s.stop_is) in
-    omega (arith, (right 0 (omega arith) (omega arith)).steps (element_of (LiteralRun k) wanted) s.element s.agrees, s.bytes_are, ap (slice_index numbers) at)
+    omega (
+      arith,
+      (right 0 (omega arith) (omega arith)).steps (element_of (LiteralRun k) wanted) s.element s.agrees,
+      s.bytes_are,
+      ap (slice_index numbers) at,
+    )
 
-pub along_literal : (old wanted numbers : List ℕ) (len : ℕ) → AreRightFrom Packed old wanted numbers 0 → IsLiteralLen numbers (min (length wanted) 128) len → IsStepChoice Packed old wanted numbers (LiteralRun len) (slice_index numbers 0)
+pub along_literal : (old wanted numbers : List ℕ) (len : ℕ) → AreRightFrom Packed old wanted numbers 0
+    → IsLiteralLen numbers (min (length wanted) 128) len → IsStepChoice Packed old wanted numbers (LiteralRun len) (slice_index numbers 0)
 along_literal old wanted numbers len right is =
-    along_choice Packed old wanted numbers (LiteralRun len) (1 + len) right (literal_step old wanted len is.some (omega (arith, is.within)) (omega (arith, is.within))) (omega (arith, is.some)) is.sum_is
+    along_choice Packed old wanted numbers (LiteralRun len) (1 + len) right
+    (literal_step old wanted len is.some (omega (arith, is.within)) (omega (arith, is.within))) (omega (arith, is.some)) is.sum_is
 
-repeat_of_run : (old wanted : List ℕ) (run end : ℕ) → IsRunLen wanted end → run ≡ min end 128 → 2 ≤ run → IsStepElement Packed old wanted (RepeatRun run) 2
+repeat_of_run : (old wanted : List ℕ) (run end : ℕ) → IsRunLen wanted end → run ≡ min end 128 → 2 ≤ run
+    → IsStepElement Packed old wanted (RepeatRun run) 2
 repeat_of_run old wanted run end is run-is more =
     let part : run ≤ end = omega arith in
-    repeat_step old wanted run more (omega arith) (omega (arith, is.within)) (sym (take-take run end wanted part) ∙ ap (take run) is.equal ∙ take-replicate run end (slice_index wanted 0) part)
+    repeat_step old wanted run more (omega arith) (omega (arith, is.within))
+    (sym (take-take run end wanted part) ∙ ap (take run) is.equal ∙ take-replicate run end (slice_index wanted 0) part)
 
-pub along_repeat : (old wanted numbers : List ℕ) (run end : ℕ) → AreRightFrom Packed old wanted numbers 0 → IsRunEnd wanted 0 end → run ≡ min end 128 → 2 ≤ run → slice_index numbers run + 2 ≡ slice_index numbers 0
+pub along_repeat : (old wanted numbers : List ℕ) (run end : ℕ) → AreRightFrom Packed old wanted numbers 0 → IsRunEnd wanted 0 end
+    → run ≡ min end 128 → 2 ≤ run → slice_index numbers run + 2 ≡ slice_index numbers 0
     → IsStepChoice Packed old wanted numbers (RepeatRun run) (slice_index numbers 0)
 along_repeat old wanted numbers run end right is run-is more sum-is =
-    along_choice Packed old wanted numbers (RepeatRun run) 2 right (repeat_of_run old wanted run end (run_len_of wanted 0 end end is (omega arith)) run-is more) (omega arith) (omega arith)
+    along_choice Packed old wanted numbers (RepeatRun run) 2 right
+    (repeat_of_run old wanted run end (run_len_of wanted 0 end end is (omega arith)) run-is more) (omega arith) (omega arith)
 
 -- where no literal is best, the longest repeat is
-pub no_literal_repeat : (old wanted numbers : List ℕ) (run end : ℕ) → length old ≡ length wanted → 0 < length wanted → AreRightFrom Packed old wanted numbers 0 → 0 < slice_index numbers 0 → IsRunEnd wanted 0 end → run ≡ min end 128
+pub no_literal_repeat : (old wanted numbers : List ℕ) (run end : ℕ) → length old ≡ length wanted → 0 < length wanted
+    → AreRightFrom Packed old wanted numbers 0 → 0 < slice_index numbers 0 → IsRunEnd wanted 0 end → run ≡ min end 128
     → NoLiteral numbers (min (length wanted) 128) → (2 ≤ run) × (slice_index numbers run + 2 ≡ slice_index numbers 0)
 no_literal_repeat old wanted numbers run end size some right needed is run-is none =
     let here = right 0 (omega arith) (omega arith) in
@@ -93,27 +113,45 @@ no_literal_repeat old wanted numbers run end size some right needed is run-is no
       | inr next ↦
           let e : Element = next.0 in
           let g = agrees_gives Packed old wanted e size next.1.element next.1.agrees in
-          let s = packed_shape e.head e.bytes next.1.element.head_is.method_is next.1.element.head_is.in_range next.1.element.complete next.1.goes_on in
+          let s = packed_shape e.head e.bytes next.1.element.head_is.method_is next.1.element.head_is.in_range next.1.element.complete
+          next.1.goes_on in
           let at : 0 + stop e ≡ stop e = omega arith in
           elim s.1 [
             | inr l ↦
                 let count : ℕ = length (given e) in
                 let stops : stop e ≡ count = omega (arith, s.0) in
-                absurd (none count l.above (omega (arith, g.0, l.below)) (omega (arith, next.1.number_is, l.bytes_are, ap (slice_index numbers) at, ap (slice_index numbers) stops)))
+                absurd (none count l.above (omega (arith, g.0, l.below))
+                (omega (arith, next.1.number_is, l.bytes_are, ap (slice_index numbers) at, ap (slice_index numbers) stops)))
             | inl r ↦
                 let w = within_run wanted end 2 128 e run-len s.0 r g.0 g.2 in
                 let more : 2 ≤ run = omega (arith, w.0, r.above, r.below) in
-                let fall = numbers_fall old wanted numbers r.count run size right (omega (arith, w.0, r.below)) (omega (arith, run-len.within)) in
+                let fall =
+                numbers_fall old wanted numbers r.count run size right (omega (arith, w.0, r.below)) (omega (arith, run-len.within)) in
                 let m = repeat_of_run old wanted run end run-len run-is more in
                 let at' : 0 + stop (element_of (RepeatRun run) wanted) ≡ run = omega (arith, m.stop_is) in
-                let above = here.steps (element_of (RepeatRun run) wanted) m.element m.agrees in
-                (more, omega (arith, fall, above, m.bytes_are, ap (slice_index numbers) at', next.1.number_is, r.bytes_are, ap (slice_index numbers) at, ap (slice_index numbers) w.1))
+                let above = here.steps (element_of (RepeatRun run) wanted) m.element m.agrees in (
+                  more,
+                  omega (
+                    arith,
+                    fall,
+                    above,
+                    m.bytes_are,
+                    ap (slice_index numbers) at',
+                    next.1.number_is,
+                    r.bytes_are,
+                    ap (slice_index numbers) at,
+                    ap (slice_index numbers) w.1,
+                  ),
+                )
           ]
     ]
 
 -- a length that has bytes too many
-pub literal_skip : (numbers : List ℕ) (most len excess next : ℕ) → ((i j : ℕ) → i ≤ j → j ≤ most → slice_index numbers j ≤ slice_index numbers i) → len ≤ most → 1 + len + slice_index numbers len ≡ excess + slice_index numbers 0 → 0 < excess → next ≡ len - excess
-    → ((k : ℕ) → len < k → k ≤ most → slice_index numbers 0 ≢ 1 + k + slice_index numbers k) → (k : ℕ) → next < k → k ≤ most → slice_index numbers 0 ≢ 1 + k + slice_index numbers k
+pub literal_skip : (numbers : List ℕ) (most len excess next : ℕ)
+    → ((i j : ℕ) → i ≤ j → j ≤ most → slice_index numbers j ≤ slice_index numbers i) → len ≤ most
+    → 1 + len + slice_index numbers len ≡ excess + slice_index numbers 0 → 0 < excess → next ≡ len - excess
+    → ((k : ℕ) → len < k → k ≤ most → slice_index numbers 0 ≢ 1 + k + slice_index numbers k) → (k : ℕ) → next < k → k ≤ most
+    → slice_index numbers 0 ≢ 1 + k + slice_index numbers k
 literal_skip numbers most len excess next fall within excess-is some next-is none k low high =
     elim (cases_lt len k) [
       | inl behind ↦ none k behind high
@@ -123,7 +161,8 @@ literal_skip numbers most len excess next fall within excess-is some next-is non
 -- ---- methods 1 and 3
 
 -- right numbers bound walks from places of the row
-walk_bounds : (old row table : List ℕ) (es : List Element) (place : ℕ) → length old ≡ length row → AreRightFrom Delta old row table 0 → place ≤ length row → Walk (Leads Delta old row) (Ends old row) place es → slice_index table place ≤ total cost es
+walk_bounds : (old row table : List ℕ) (es : List Element) (place : ℕ) → length old ≡ length row → AreRightFrom Delta old row table 0
+    → place ≤ length row → Walk (Leads Delta old row) (Ends old row) place es → slice_index table place ≤ total cost es
 walk_bounds old row table [] place size right within walk = omega (arith, (right place (omega arith) within).ends walk)
 walk_bounds old row table (e ∷ es) place size right within walk =
     let next : walk.0 ≡ place + stop e = walk.1.next_is in
@@ -131,7 +170,8 @@ walk_bounds old row table (e ∷ es) place size right within walk =
     let rest = walk_bounds old row table es walk.0 size right (omega arith) walk.2 in
     omega (arith, (right place (omega arith) within).steps e walk.1.element walk.1.agrees, ap (slice_index table) next, rest)
 
-pub along_run : (old wanted numbers : List ℕ) (end len : ℕ) → length old ≡ length wanted → AreRightFrom Runs old wanted numbers 0 → IsRunEnd wanted 0 end → len ≡ min end 256 → IsStepChoice Runs old wanted numbers (Run len) (2 + slice_index numbers len)
+pub along_run : (old wanted numbers : List ℕ) (end len : ℕ) → length old ≡ length wanted → AreRightFrom Runs old wanted numbers 0
+    → IsRunEnd wanted 0 end → len ≡ min end 256 → IsStepChoice Runs old wanted numbers (Run len) (2 + slice_index numbers len)
 along_run old wanted numbers end len size right is len-is =
     let run-len = run_len_of wanted 0 end end is (omega arith) in
     runs_choice old wanted numbers end len (2 + slice_index numbers len) size run-len
@@ -139,19 +179,32 @@ along_run old wanted numbers end len size right is len-is =
       above = omega (arith, is.after);
       below = omega arith;
       sum_is = omega arith;
-      least = λ k low high. omega (arith, falls Runs old wanted numbers 0 k len runs_shorten size right (omega arith) (omega arith) (omega (arith, is.within)));
+      least = λ k low
+          high. omega (
+            arith,
+            falls Runs old wanted numbers 0 k len runs_shorten size right (omega arith) (omega arith)
+                (omega (arith, is.within)),
+          );
     })
 
 -- data is needed, so the rows differ
-pub along_start : (old wanted numbers : List ℕ) (start : ℕ) → length old ≡ length wanted → AreRightFrom Delta old wanted numbers 0 → 0 < slice_index numbers 0 → IsFirstDifference old wanted start → start < length wanted
+pub along_start : (old wanted numbers : List ℕ) (start : ℕ) → length old ≡ length wanted → AreRightFrom Delta old wanted numbers 0
+    → 0 < slice_index numbers 0 → IsFirstDifference old wanted start → start < length wanted
 along_start old wanted numbers start size right needed is =
     elim (cases_lt start (length wanted)) [
       | inl inside ↦ inside
-      | inr all ↦ absurd (omega (arith, (right 0 (omega arith) (omega arith)).ends (ends_by old wanted 0 size (λ k low high. sym (is.same k (omega arith))))))
+      | inr all ↦
+          absurd (omega (
+            arith,
+            (right 0 (omega arith) (omega arith)).ends
+                (ends_by old wanted 0 size (λ k low high. sym (is.same k (omega arith)))),
+          ))
     ]
 
 -- the best replacement at the latest start is a best element
-pub along_replacement : (old wanted numbers : List ℕ) (start : ℕ) (step : Step) (sum : ℕ) → length old ≡ length wanted → length numbers ≡ length wanted + 1 → AreRightFrom Delta old wanted numbers 0 → 0 < slice_index numbers 0 → IsFirstDifference old wanted start
+pub along_replacement : (old wanted numbers : List ℕ) (start : ℕ) (step : Step) (sum : ℕ) → length old ≡ length wanted
+    → length numbers ≡ length wanted + 1 → AreRightFrom Delta old wanted numbers 0 → 0 < slice_index numbers 0
+    → IsFirstDifference old wanted start
     → IsReplacement start (length wanted) numbers step sum → IsStepChoice Delta old wanted numbers step sum
 along_replacement old wanted numbers start step sum size long right needed is r =
     let inside : start < length wanted = along_start old wanted numbers start size right needed is in
@@ -168,14 +221,27 @@ along_replacement old wanted numbers start step sum size long right needed is r 
     let at : (k : ℕ) → slice_index (drop start numbers) k ≡ slice_index numbers (start + k) = λ k. get_or-drop start numbers k 0 in
     let begins : offset_of s.first.head ≡ start = omega (arith, s.offset_is) in
     let there : s.walk.0 ≡ start + d.len = omega (arith, d.next_is, begins) in
-    let most : sum ≤ slice_index numbers 0 = omega (arith, r.best.least d.len d.some (omega (arith, d.few, d.within, there)), at d.len, d.cost_is, ap replacement_bytes begins, ap (slice_index numbers) there, rest, s.cheap, walk.2) in
+    let most : sum ≤ slice_index numbers 0 =
+    omega (
+      arith,
+      r.best.least d.len d.some (omega (arith, d.few, d.within, there)),
+      at d.len,
+      d.cost_is,
+      ap replacement_bytes begins,
+      ap (slice_index numbers) there,
+      rest,
+      s.cheap,
+      walk.2,
+    ) in
     let len : ℕ = r.len in
     let front : take start wanted ≡ take start old = (same_len_of old wanted start size is).equal in
     let e = replace_step old wanted start len r.best.above (omega (arith, r.best.below)) (omega (arith, r.best.below)) front in
     let m : Element = element_of (Replace start len) wanted in
     let ends : 0 + stop m ≡ start + len = omega (arith, e.stop_is) in
     let least = (right 0 (omega arith) (omega arith)).steps m e.element e.agrees in
-    let equal : slice_index numbers 0 ≡ sum = omega (arith, most, least, e.bytes_are, ap (slice_index numbers) ends, r.best.sum_is, at len) in
+    let equal : slice_index numbers 0 ≡ sum =
+    omega (arith, most, least, e.bytes_are, ap (slice_index numbers) ends, r.best.sum_is, at len) in
     subst (λ (n : ℕ). IsStepChoice Delta old wanted numbers step n) equal
     (subst (λ (t : Step). IsStepChoice Delta old wanted numbers t (slice_index numbers 0)) (sym r.step_is)
-    (along_choice Delta old wanted numbers (Replace start len) (replacement_bytes start + len) right e (omega (arith, r.best.above)) (omega (arith, equal, r.best.sum_is, at len))))
+    (along_choice Delta old wanted numbers (Replace start len) (replacement_bytes start + len) right e (omega (arith, r.best.above))
+    (omega (arith, equal, r.best.sum_is, at len))))

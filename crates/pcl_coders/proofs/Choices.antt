@@ -20,22 +20,28 @@ use Rattle.pcl_coders.proofs.Shapes.{given_once, given_copies, IsRepeat, plain_s
 -- ---- elements that agree with the wanted bytes
 
 -- what is left, and then what is given
-pub agrees_by : (old wanted : List ℕ) (e : Element) (k : ℕ) → take (offset_of e.head) wanted ≡ take (offset_of e.head) old → given e ≡ take k (drop (offset_of e.head) wanted) → offset_of e.head + k ≤ length wanted
+pub agrees_by : (old wanted : List ℕ) (e : Element) (k : ℕ) → take (offset_of e.head) wanted ≡ take (offset_of e.head) old
+    → given e ≡ take k (drop (offset_of e.head) wanted) → offset_of e.head + k ≤ length wanted
     → Agrees old wanted e × (stop e ≡ offset_of e.head + k)
 agrees_by old wanted e k left gives fits =
     let offset : ℕ = offset_of e.head in
     let size : length (given e) ≡ k = ap length gives ∙ length-take-le k (drop offset wanted) (omega (arith, length-drop offset wanted)) in
     let stop-is : stop e ≡ offset + k = omega (arith, size) in
-    let behind : drop (stop e) wanted ≡ drop k (drop offset wanted) = ap (λ (n : ℕ). drop n wanted) stop-is ∙ sym (drop-drop k offset wanted) in (
+    let behind : drop (stop e) wanted ≡ drop k (drop offset wanted) =
+    ap (λ (n : ℕ). drop n wanted) stop-is ∙ sym (drop-drop k offset wanted) in (
       sym (take-append-drop offset wanted)
           ∙ ap (λ (bs : List ℕ). bs ++ drop offset wanted) left
-          ∙ ap (λ (bs : List ℕ). take offset old ++ bs) (sym (take-append-drop k (drop offset wanted)) ∙ ap (λ (bs : List ℕ). bs ++ drop k (drop offset wanted)) (sym gives) ∙ ap (λ (bs : List ℕ). given e ++ bs) (sym behind)),
+          ∙ ap (λ (bs : List ℕ). take offset old ++ bs)
+          (sym (take-append-drop k (drop offset wanted)) ∙ ap (λ (bs : List ℕ). bs ++ drop k (drop offset wanted)) (sym gives)
+          ∙ ap (λ (bs : List ℕ). given e ++ bs) (sym behind)),
       stop-is,
     )
 
 -- what an element that agrees leaves and gives
-pub agrees_gives : (method : Method) (old wanted : List ℕ) (e : Element) → length old ≡ length wanted → IsElement method e → Agrees old wanted e
-    → (stop e ≤ length wanted) × (take (offset_of e.head) wanted ≡ take (offset_of e.head) old) × (given e ≡ take (length (given e)) (drop (offset_of e.head) wanted))
+pub agrees_gives : (method : Method) (old wanted : List ℕ) (e : Element) → length old ≡ length wanted → IsElement method e
+    → Agrees old wanted e
+    → (stop e ≤ length wanted) × (take (offset_of e.head) wanted ≡ take (offset_of e.head) old)
+    × (given e ≡ take (length (given e)) (drop (offset_of e.head) wanted))
 agrees_gives method old wanted e size is agrees =
     let offset : ℕ = offset_of e.head in
     let within : stop e ≤ length wanted = omega (arith, stop_within method old wanted 0 e size is agrees) in
@@ -59,9 +65,11 @@ pub record IsStepElement (method : Method) (old wanted : List ℕ) (step : Step)
 
 -- what no element of the method goes below
 abbrev pub IsBelow : Method → List ℕ → List ℕ → List ℕ → ℕ → Type 0
-IsBelow method old wanted numbers sum = (d : Element) → IsElement method d → Agrees old wanted d → 0 < stop d → sum ≤ cost d + slice_index numbers (stop d)
+IsBelow method old wanted numbers sum =
+    (d : Element) → IsElement method d → Agrees old wanted d → 0 < stop d → sum ≤ cost d + slice_index numbers (stop d)
 
-pub step_choice : (method : Method) (old wanted numbers : List ℕ) (step : Step) (bytes sum : ℕ) → IsStepElement method old wanted step bytes → 0 < step_stop step → sum ≡ bytes + slice_index numbers (step_stop step)
+pub step_choice : (method : Method) (old wanted numbers : List ℕ) (step : Step) (bytes sum : ℕ)
+    → IsStepElement method old wanted step bytes → 0 < step_stop step → sum ≡ bytes + slice_index numbers (step_stop step)
     → IsBelow method old wanted numbers sum → IsStepChoice method old wanted numbers step sum
 step_choice method old wanted numbers step bytes sum e some sum-is below = record {
   within = e.within;
@@ -105,11 +113,13 @@ byte_step old wanted some =
     }
 
 -- a count and a byte
-pub run_step : (old wanted : List ℕ) (len : ℕ) → 1 ≤ len → len ≤ 256 → len ≤ length wanted → take len wanted ≡ replicate len (slice_index wanted 0) → IsStepElement Runs old wanted (Run len) 2
+pub run_step : (old wanted : List ℕ) (len : ℕ) → 1 ≤ len → len ≤ 256 → len ≤ length wanted
+    → take len wanted ≡ replicate len (slice_index wanted 0) → IsStepElement Runs old wanted (Run len) 2
 run_step old wanted len some few within run =
     let size : length (take 1 wanted) ≡ 1 = length-take-le 1 wanted (omega arith) in
     let times : len - 1 + 1 ≡ len = omega arith in
-    let gives = given_copies (len - 1 + 1) (take 1 wanted) (slice_index wanted 0) (first_byte wanted (omega arith)) ∙ ap (λ (n : ℕ). replicate n (slice_index wanted 0)) times ∙ sym run in
+    let gives = given_copies (len - 1 + 1) (take 1 wanted) (slice_index wanted 0) (first_byte wanted (omega arith))
+    ∙ ap (λ (n : ℕ). replicate n (slice_index wanted 0)) times ∙ sym run in
     let a = agrees_by old wanted (element_of (Run len) wanted) len refl gives (omega arith) in
     record {
       within = (some, few, within);
@@ -120,11 +130,13 @@ run_step old wanted len some few within run =
     }
 
 -- a control and a byte that it repeats
-pub repeat_step : (old wanted : List ℕ) (len : ℕ) → 2 ≤ len → len ≤ 128 → len ≤ length wanted → take len wanted ≡ replicate len (slice_index wanted 0) → IsStepElement Packed old wanted (RepeatRun len) 2
+pub repeat_step : (old wanted : List ℕ) (len : ℕ) → 2 ≤ len → len ≤ 128 → len ≤ length wanted
+    → take len wanted ≡ replicate len (slice_index wanted 0) → IsStepElement Packed old wanted (RepeatRun len) 2
 repeat_step old wanted len some few within run =
     let size : length (take 1 wanted) ≡ 1 = length-take-le 1 wanted (omega arith) in
     let times : 257 - (257 - len) ≡ len = omega arith in
-    let gives = given_copies (257 - (257 - len)) (take 1 wanted) (slice_index wanted 0) (first_byte wanted (omega arith)) ∙ ap (λ (n : ℕ). replicate n (slice_index wanted 0)) times ∙ sym run in
+    let gives = given_copies (257 - (257 - len)) (take 1 wanted) (slice_index wanted 0) (first_byte wanted (omega arith))
+    ∙ ap (λ (n : ℕ). replicate n (slice_index wanted 0)) times ∙ sym run in
     let a = agrees_by old wanted (element_of (RepeatRun len) wanted) len refl gives (omega arith) in
     record {
       within = (some, few, within);
@@ -135,7 +147,8 @@ repeat_step old wanted len some few within run =
     }
 
 -- a control and literal bytes
-pub literal_step : (old wanted : List ℕ) (len : ℕ) → 1 ≤ len → len ≤ 128 → len ≤ length wanted → IsStepElement Packed old wanted (LiteralRun len) (1 + len)
+pub literal_step : (old wanted : List ℕ) (len : ℕ) → 1 ≤ len → len ≤ 128 → len ≤ length wanted
+    → IsStepElement Packed old wanted (LiteralRun len) (1 + len)
 literal_step old wanted len some few within =
     let size : length (take len wanted) ≡ len = length-take-le len wanted within in
     let a = agrees_by old wanted (element_of (LiteralRun len) wanted) len refl (given_once (take len wanted)) (omega arith) in
@@ -148,7 +161,8 @@ literal_step old wanted len some few within =
     }
 
 -- a command byte and the bytes that replace those behind its offset
-pub replace_step : (old wanted : List ℕ) (offset len : ℕ) → 1 ≤ len → len ≤ 8 → offset + len ≤ length wanted → take offset wanted ≡ take offset old → IsStepElement Delta old wanted (Replace offset len) (replacement_bytes offset + len)
+pub replace_step : (old wanted : List ℕ) (offset len : ℕ) → 1 ≤ len → len ≤ 8 → offset + len ≤ length wanted
+    → take offset wanted ≡ take offset old → IsStepElement Delta old wanted (Replace offset len) (replacement_bytes offset + len)
 replace_step old wanted offset len some few within same =
     let h : Head = replacement offset len in
     let is = replacement_is offset len some few in
@@ -157,7 +171,8 @@ replace_step old wanted offset len some few within same =
     let at : offset_of h ≡ offset = is.offset_is in
     let once : given_by h new ≡ new = ap (λ (k : ℕ). given_by_copies k new) is.copies_is ∙ given_once new in
     let gives : given_by h new ≡ take len (drop (offset_of h) wanted) = once ∙ ap (λ (n : ℕ). take len (drop n wanted)) (sym at) in
-    let left : take (offset_of h) wanted ≡ take (offset_of h) old = ap (λ (n : ℕ). take n wanted) at ∙ same ∙ ap (λ (n : ℕ). take n old) (sym at) in
+    let left : take (offset_of h) wanted ≡ take (offset_of h) old =
+    ap (λ (n : ℕ). take n wanted) at ∙ same ∙ ap (λ (n : ℕ). take n old) (sym at) in
     let a = agrees_by old wanted (element_of (Replace offset len) wanted) len left gives (omega (arith, at)) in
     record {
       within = (some, few, within);
@@ -169,12 +184,14 @@ replace_step old wanted offset len some few within same =
 
 -- ---- what no element goes below
 
-front_given : (wanted : List ℕ) (d : Element) (count : ℕ) → offset_of d.head ≡ 0 → length (given d) ≡ count → given d ≡ take (length (given d)) (drop (offset_of d.head) wanted) → given d ≡ take count wanted
+front_given : (wanted : List ℕ) (d : Element) (count : ℕ) → offset_of d.head ≡ 0 → length (given d) ≡ count
+    → given d ≡ take (length (given d)) (drop (offset_of d.head) wanted) → given d ≡ take count wanted
 front_given wanted d count none size gives =
     gives ∙ ap (λ (n : ℕ). take n (drop (offset_of d.head) wanted)) size ∙ ap (λ (n : ℕ). take count (drop n wanted)) none
 
 -- an element that repeats a byte is within the run
-pub within_run : (wanted : List ℕ) (run least most : ℕ) (d : Element) → IsRunLen wanted run → offset_of d.head ≡ 0 → (r : IsRepeat d.head d.bytes least most) → stop d ≤ length wanted → given d ≡ take (length (given d)) (drop (offset_of d.head) wanted)
+pub within_run : (wanted : List ℕ) (run least most : ℕ) (d : Element) → IsRunLen wanted run → offset_of d.head ≡ 0
+    → (r : IsRepeat d.head d.bytes least most) → stop d ≤ length wanted → given d ≡ take (length (given d)) (drop (offset_of d.head) wanted)
     → (r.count ≤ run) × (stop d ≡ r.count)
 within_run wanted run least most d is none r fits gives =
     let size : length (given d) ≡ r.count = ap length r.given_is ∙ length-replicate r.count r.byte in
@@ -213,7 +230,8 @@ packed_below old wanted numbers run sum size is literal repeat d element agrees 
     ]
 
 pub delta_below : (old wanted numbers : List ℕ) (same sum : ℕ) → length old ≡ length wanted → IsSameLen old wanted same
-    → ((offset k : ℕ) → offset ≤ min same (length wanted - 1) → 1 ≤ k → k ≤ min (length wanted - offset) 8 → sum ≤ replacement_bytes offset + 1 * k + slice_index (drop offset numbers) k) → IsBelow Delta old wanted numbers sum
+    → ((offset k : ℕ) → offset ≤ min same (length wanted - 1) → 1 ≤ k → k ≤ min (length wanted - offset) 8
+    → sum ≤ replacement_bytes offset + 1 * k + slice_index (drop offset numbers) k) → IsBelow Delta old wanted numbers sum
 delta_below old wanted numbers same sum size is best d element agrees some =
     let s = delta_shape d.head d.bytes element.head_is.method_is element.head_is.in_range element.complete in
     let g = agrees_gives Delta old wanted d size element agrees in
@@ -225,36 +243,50 @@ delta_below old wanted numbers same sum size is best d element agrees some =
 
 -- ---- the choices
 
-pub plain_choice : (old wanted numbers : List ℕ) → IsPlace wanted numbers → IsStepChoice Plain old wanted numbers SingleByte (1 + slice_index numbers 1)
-plain_choice old wanted numbers place = step_choice Plain old wanted numbers SingleByte 1 (1 + slice_index numbers 1) (byte_step old wanted place.some) (omega arith) refl (plain_below old wanted numbers)
+pub plain_choice : (old wanted numbers : List ℕ) → IsPlace wanted numbers
+    → IsStepChoice Plain old wanted numbers SingleByte (1 + slice_index numbers 1)
+plain_choice old wanted numbers place = step_choice Plain old wanted numbers SingleByte 1 (1 + slice_index numbers 1)
+    (byte_step old wanted place.some) (omega arith) refl (plain_below old wanted numbers)
 
-pub runs_choice : (old wanted numbers : List ℕ) (run len sum : ℕ) → length old ≡ length wanted → IsRunLen wanted run → IsLeastLen numbers 1 (min run 256) 2 0 len sum → IsStepChoice Runs old wanted numbers (Run len) sum
+pub runs_choice : (old wanted numbers : List ℕ) (run len sum : ℕ) → length old ≡ length wanted → IsRunLen wanted run
+    → IsLeastLen numbers 1 (min run 256) 2 0 len sum → IsStepChoice Runs old wanted numbers (Run len) sum
 runs_choice old wanted numbers run len sum size is best =
     let front : len ≤ run = omega (arith, best.below) in
-    let e = run_step old wanted len best.above (omega (arith, best.below)) (omega (arith, is.within)) (run_part wanted run len (slice_index wanted 0) front is.equal) in
-    step_choice Runs old wanted numbers (Run len) 2 sum e (omega (arith, best.above)) (omega (arith, best.sum_is)) (runs_below old wanted numbers run sum size is best.least)
+    let e = run_step old wanted len best.above (omega (arith, best.below)) (omega (arith, is.within))
+    (run_part wanted run len (slice_index wanted 0) front is.equal) in
+    step_choice Runs old wanted numbers (Run len) 2 sum e (omega (arith, best.above)) (omega (arith, best.sum_is))
+    (runs_below old wanted numbers run sum size is best.least)
 
-pub literal_choice : (old wanted numbers : List ℕ) (run len sum : ℕ) → length old ≡ length wanted → IsRunLen wanted run → IsLeastLen numbers 1 (min (length wanted) 128) 1 1 len sum
-    → ((k : ℕ) → 2 ≤ k → k ≤ min run 128 → sum ≤ 2 + 0 * k + slice_index numbers k) → IsStepChoice Packed old wanted numbers (LiteralRun len) sum
+pub literal_choice : (old wanted numbers : List ℕ) (run len sum : ℕ) → length old ≡ length wanted → IsRunLen wanted run
+    → IsLeastLen numbers 1 (min (length wanted) 128) 1 1 len sum
+    → ((k : ℕ) → 2 ≤ k → k ≤ min run 128 → sum ≤ 2 + 0 * k + slice_index numbers k)
+    → IsStepChoice Packed old wanted numbers (LiteralRun len) sum
 literal_choice old wanted numbers run len sum size is best repeats =
     let e = literal_step old wanted len best.above (omega (arith, best.below)) (omega (arith, best.below)) in
-    step_choice Packed old wanted numbers (LiteralRun len) (1 + len) sum e (omega (arith, best.above)) (omega (arith, best.sum_is)) (packed_below old wanted numbers run sum size is best.least repeats)
+    step_choice Packed old wanted numbers (LiteralRun len) (1 + len) sum e (omega (arith, best.above)) (omega (arith, best.sum_is))
+    (packed_below old wanted numbers run sum size is best.least repeats)
 
-pub repeat_choice : (old wanted numbers : List ℕ) (run len sum : ℕ) → length old ≡ length wanted → IsRunLen wanted run → IsLeastLen numbers 2 (min run 128) 2 0 len sum
-    → ((k : ℕ) → 1 ≤ k → k ≤ min (length wanted) 128 → sum ≤ 1 + 1 * k + slice_index numbers k) → IsStepChoice Packed old wanted numbers (RepeatRun len) sum
+pub repeat_choice : (old wanted numbers : List ℕ) (run len sum : ℕ) → length old ≡ length wanted → IsRunLen wanted run
+    → IsLeastLen numbers 2 (min run 128) 2 0 len sum
+    → ((k : ℕ) → 1 ≤ k → k ≤ min (length wanted) 128 → sum ≤ 1 + 1 * k + slice_index numbers k)
+    → IsStepChoice Packed old wanted numbers (RepeatRun len) sum
 repeat_choice old wanted numbers run len sum size is best literals =
     let front : len ≤ run = omega (arith, best.below) in
-    let e = repeat_step old wanted len best.above (omega (arith, best.below)) (omega (arith, is.within)) (run_part wanted run len (slice_index wanted 0) front is.equal) in
-    step_choice Packed old wanted numbers (RepeatRun len) 2 sum e (omega (arith, best.above)) (omega (arith, best.sum_is)) (packed_below old wanted numbers run sum size is literals best.least)
+    let e = repeat_step old wanted len best.above (omega (arith, best.below)) (omega (arith, is.within))
+    (run_part wanted run len (slice_index wanted 0) front is.equal) in
+    step_choice Packed old wanted numbers (RepeatRun len) 2 sum e (omega (arith, best.above)) (omega (arith, best.sum_is))
+    (packed_below old wanted numbers run sum size is literals best.least)
 
 -- the best replacement behind the offsets up to one of them
 pub record IsBestReplacement (wanted numbers : List ℕ) (last : ℕ) (step : Step) (sum : ℕ) : Type 0 where
   pub offset : ℕ
   pub within : offset ≤ last
   pub replacement : IsReplacement offset (length wanted) numbers step sum
-  pub least : (o k : ℕ) → o ≤ last → 1 ≤ k → k ≤ min (length wanted - o) 8 → sum ≤ replacement_bytes o + 1 * k + slice_index (drop o numbers) k
+  pub least : (o k : ℕ) → o ≤ last → 1 ≤ k → k ≤ min (length wanted - o) 8
+      → sum ≤ replacement_bytes o + 1 * k + slice_index (drop o numbers) k
 
-pub best_replacement_one : (wanted numbers : List ℕ) (step : Step) (sum : ℕ) → IsReplacement 0 (length wanted) numbers step sum → IsBestReplacement wanted numbers 0 step sum
+pub best_replacement_one : (wanted numbers : List ℕ) (step : Step) (sum : ℕ) → IsReplacement 0 (length wanted) numbers step sum
+    → IsBestReplacement wanted numbers 0 step sum
 best_replacement_one wanted numbers step sum r = record {
   offset = 0;
   within = omega arith;
@@ -264,7 +296,9 @@ best_replacement_one wanted numbers step sum r = record {
       subst (λ (n : ℕ). sum ≤ replacement_bytes n + 1 * k + slice_index (drop n numbers) k) at (r.best.least k some (omega (arith, at)));
 }
 
-pub best_replacement_next : (wanted numbers : List ℕ) (last next : ℕ) (step step' : Step) (sum sum' : ℕ) → next ≡ last + 1 → IsBestReplacement wanted numbers last step sum → IsReplacement next (length wanted) numbers step' sum' → sum' ≤ sum → IsBestReplacement wanted numbers next step' sum'
+pub best_replacement_next : (wanted numbers : List ℕ) (last next : ℕ) (step step' : Step) (sum sum' : ℕ) → next ≡ last + 1
+    → IsBestReplacement wanted numbers last step sum → IsReplacement next (length wanted) numbers step' sum' → sum' ≤ sum
+    → IsBestReplacement wanted numbers next step' sum'
 best_replacement_next wanted numbers last next step step' sum sum' next-is b r better = record {
   offset = next;
   within = omega arith;
@@ -274,11 +308,14 @@ best_replacement_next wanted numbers last next step step' sum sum' next-is b r b
         | inl below ↦ omega (arith, b.least o k (omega arith) some few)
         | inr above ↦
             let at : next ≡ o = omega arith in
-            subst (λ (n : ℕ). sum' ≤ replacement_bytes n + 1 * k + slice_index (drop n numbers) k) at (r.best.least k some (omega (arith, at)))
+            subst (λ (n : ℕ). sum' ≤ replacement_bytes n + 1 * k + slice_index (drop n numbers) k) at
+            (r.best.least k some (omega (arith, at)))
       ];
 }
 
-pub best_replacement_stays : (wanted numbers : List ℕ) (last next : ℕ) (step step' : Step) (sum sum' : ℕ) → next ≡ last + 1 → IsBestReplacement wanted numbers last step sum → IsReplacement next (length wanted) numbers step' sum' → sum ≤ sum' → IsBestReplacement wanted numbers next step sum
+pub best_replacement_stays : (wanted numbers : List ℕ) (last next : ℕ) (step step' : Step) (sum sum' : ℕ) → next ≡ last + 1
+    → IsBestReplacement wanted numbers last step sum → IsReplacement next (length wanted) numbers step' sum' → sum ≤ sum'
+    → IsBestReplacement wanted numbers next step sum
 best_replacement_stays wanted numbers last next step step' sum sum' next-is b r worse = record {
   offset = b.offset;
   within = omega (arith, b.within);
@@ -288,20 +325,25 @@ best_replacement_stays wanted numbers last next step step' sum sum' next-is b r 
         | inl below ↦ b.least o k (omega arith) some few
         | inr above ↦
             let at : next ≡ o = omega arith in
-            subst (λ (n : ℕ). sum ≤ replacement_bytes n + 1 * k + slice_index (drop n numbers) k) at (omega (arith, r.best.least k some (omega (arith, at))))
+            subst (λ (n : ℕ). sum ≤ replacement_bytes n + 1 * k + slice_index (drop n numbers) k) at
+            (omega (arith, r.best.least k some (omega (arith, at))))
       ];
 }
 
-pub delta_choice : (old wanted numbers : List ℕ) (same last : ℕ) (step : Step) (sum : ℕ) → length old ≡ length wanted → IsPlace wanted numbers → IsSameLen old wanted same → last ≡ min same (length wanted - 1)
+pub delta_choice : (old wanted numbers : List ℕ) (same last : ℕ) (step : Step) (sum : ℕ) → length old ≡ length wanted
+    → IsPlace wanted numbers → IsSameLen old wanted same → last ≡ min same (length wanted - 1)
     → IsBestReplacement wanted numbers last step sum → IsStepChoice Delta old wanted numbers step sum
 delta_choice old wanted numbers same last step sum size place is last-is b =
     let offset : ℕ = b.offset in
     let r = b.replacement in
     let len : ℕ = r.len in
     let inside : offset ≤ same = omega (arith, b.within, last-is) in
-    let front : take offset wanted ≡ take offset old = sym (take-take offset same wanted inside) ∙ ap (take offset) is.equal ∙ take-take offset same old inside in
-    let e = replace_step old wanted offset len r.best.above (omega (arith, r.best.below)) (omega (arith, r.best.below, b.within, last-is, r.best.above)) front in
+    let front : take offset wanted ≡ take offset old =
+    sym (take-take offset same wanted inside) ∙ ap (take offset) is.equal ∙ take-take offset same old inside in
+    let e = replace_step old wanted offset len r.best.above (omega (arith, r.best.below))
+    (omega (arith, r.best.below, b.within, last-is, r.best.above)) front in
     let at : slice_index (drop offset numbers) len ≡ slice_index numbers (offset + len) = get_or-drop offset numbers len 0 in
     let below = delta_below old wanted numbers same sum size is (λ o k low some few. b.least o k (omega (arith, last-is)) some few) in
     subst (λ (s : Step). IsStepChoice Delta old wanted numbers s sum) (sym r.step_is)
-    (step_choice Delta old wanted numbers (Replace offset len) (replacement_bytes offset + len) sum e (omega (arith, r.best.above)) (omega (arith, r.best.sum_is, at)) below)
+    (step_choice Delta old wanted numbers (Replace offset len) (replacement_bytes offset + len) sum e (omega (arith, r.best.above))
+    (omega (arith, r.best.sum_is, at)) below)

@@ -7,23 +7,28 @@ use Rattle.pcl_coders.specs.RowWalks.{Ends}
 use Rattle.pcl_coders.specs.Filling.{IsFirstEnd}
 
 -- the bytes of two rows from a place on, one by one
-pub ends_by : (old row : List ℕ) (place : ℕ) → length old ≡ length row → ((k : ℕ) → place ≤ k → k < length row → get_or row k 0 ≡ get_or old k 0) → Ends old row place
+pub ends_by : (old row : List ℕ) (place : ℕ) → length old ≡ length row
+    → ((k : ℕ) → place ≤ k → k < length row → get_or row k 0 ≡ get_or old k 0) → Ends old row place
 ends_by old row place size same =
     ext_get_or 0 (drop place row) (drop place old) (omega (arith, length-drop place row, length-drop place old))
-    (λ k below. get_or-drop place row k 0 ∙ same (place + k) (omega arith) (omega (arith, length-drop place row)) ∙ sym (get_or-drop place old k 0))
+    (λ k below. get_or-drop place row k 0 ∙ same (place + k) (omega arith) (omega (arith, length-drop place row))
+    ∙ sym (get_or-drop place old k 0))
 
 pub ends_at : (old row : List ℕ) (place k : ℕ) → Ends old row place → place ≤ k → get_or row k 0 ≡ get_or old k 0
 ends_at old row place k end low =
     let at : place + (k - place) ≡ k = omega arith in
-    ap (λ (n : ℕ). get_or row n 0) (sym at) ∙ sym (get_or-drop place row (k - place) 0) ∙ ap (λ (bs : List ℕ). get_or bs (k - place) 0) end ∙ get_or-drop place old (k - place) 0 ∙ ap (λ (n : ℕ). get_or old n 0) at
+    ap (λ (n : ℕ). get_or row n 0) (sym at) ∙ sym (get_or-drop place row (k - place) 0) ∙ ap (λ (bs : List ℕ). get_or bs (k - place) 0) end
+    ∙ get_or-drop place old (k - place) 0 ∙ ap (λ (n : ℕ). get_or old n 0) at
 
 -- behind such a place there are only such places
 pub ends_on : (old row : List ℕ) (place q : ℕ) → Ends old row place → place ≤ q → Ends old row q
 ends_on old row place q end low =
     let at : place + (q - place) ≡ q = omega arith in
-    subst (λ (n : ℕ). drop n row ≡ drop n old) at (sym (drop-drop (q - place) place row) ∙ ap (drop (q - place)) end ∙ drop-drop (q - place) place old)
+    subst (λ (n : ℕ). drop n row ≡ drop n old) at
+    (sym (drop-drop (q - place) place row) ∙ ap (drop (q - place)) end ∙ drop-drop (q - place) place old)
 
-pub first_end_by : (old row : List ℕ) (len : ℕ) → length old ≡ length row → len ≤ length row → ((k : ℕ) → len ≤ k → k < length row → get_or row k 0 ≡ get_or old k 0)
+pub first_end_by : (old row : List ℕ) (len : ℕ) → length old ≡ length row → len ≤ length row
+    → ((k : ℕ) → len ≤ k → k < length row → get_or row k 0 ≡ get_or old k 0)
     → (0 < len → get_or row (len - 1) 0 ≢ get_or old (len - 1) 0) → IsFirstEnd old row len
 first_end_by old row len size within same differs = record {
   within = within;
@@ -45,11 +50,14 @@ white_byte n k =
 
 pub first_end_of_trimmed : (row : List ℕ) (n len : ℕ) → n ≡ length row → IsTrimmedLen row len → IsFirstEnd (replicate n 0) row len
 first_end_of_trimmed row n len size is =
-    first_end_by (replicate n 0) row len (length-replicate {A = ℕ} n 0 ∙ size) is.within (λ k low high. is.zeros k low ∙ sym (white_byte n k))
+    first_end_by (replicate n 0) row len (length-replicate {A = ℕ} n 0 ∙ size) is.within
+    (λ k low high. is.zeros k low ∙ sym (white_byte n k))
     (λ some same. is.last some (same ∙ white_byte n (len - 1)))
 
-pub first_end_of_same : (old row : List ℕ) (place : ℕ) → length old ≡ length row → IsFirstDifference old row place → place ≡ length row → IsFirstEnd old row 0
-first_end_of_same old row place size is all = first_end_by old row 0 size (omega arith) (λ k low high. sym (is.same k (omega arith))) (λ some. absurd (omega arith))
+pub first_end_of_same : (old row : List ℕ) (place : ℕ) → length old ≡ length row → IsFirstDifference old row place → place ≡ length row
+    → IsFirstEnd old row 0
+first_end_of_same old row place size is all =
+    first_end_by old row 0 size (omega arith) (λ k low high. sym (is.same k (omega arith))) (λ some. absurd (omega arith))
 
 -- rows that are the same from a place on
 pub record AreSameFrom (old row : List ℕ) (len : ℕ) : Type 0 where
@@ -59,7 +67,8 @@ pub record AreSameFrom (old row : List ℕ) (len : ℕ) : Type 0 where
 pub same_past : (old row : List ℕ) → AreSameFrom old row (length row)
 same_past old row = record { within = omega arith; same = λ k low high. absurd (omega arith) }
 
-pub same_before : (old row : List ℕ) (len : ℕ) → AreSameFrom old row len → 0 < len → get_or old (len - 1) 0 ≡ get_or row (len - 1) 0 → AreSameFrom old row (len - 1)
+pub same_before : (old row : List ℕ) (len : ℕ) → AreSameFrom old row len → 0 < len → get_or old (len - 1) 0 ≡ get_or row (len - 1) 0
+    → AreSameFrom old row (len - 1)
 same_before old row len from some here = record {
   within = omega (arith, from.within);
   same = λ k low high.

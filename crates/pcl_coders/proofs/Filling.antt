@@ -29,14 +29,19 @@ pub record IsOneByte (method : Method) (old wanted : List ℕ) (e : Element) : T
   pub stop_is : stop e ≡ 1
   pub few : cost e ≤ 2
 
-one_byte_of : (method : Method) (old wanted : List ℕ) (step : Step) (bytes : ℕ) → IsStepElement method old wanted step bytes → step_stop step ≡ 1 → bytes ≤ 2 → (e : Element) × IsOneByte method old wanted e
-one_byte_of method old wanted step bytes s one few = (element_of step wanted, record { element = s.element; agrees = s.agrees; stop_is = s.stop_is ∙ one; few = omega (arith, s.bytes_are) })
+one_byte_of : (method : Method) (old wanted : List ℕ) (step : Step) (bytes : ℕ) → IsStepElement method old wanted step bytes
+    → step_stop step ≡ 1 → bytes ≤ 2 → (e : Element) × IsOneByte method old wanted e
+one_byte_of method old wanted step bytes s one few =
+    (element_of step wanted, record { element = s.element; agrees = s.agrees; stop_is = s.stop_is ∙ one; few = omega (arith, s.bytes_are) })
 
 one_byte : (method : Method) (old wanted : List ℕ) → 0 < length wanted → (e : Element) × IsOneByte method old wanted e
 one_byte Plain old wanted some = one_byte_of Plain old wanted SingleByte 1 (byte_step old wanted some) refl (omega arith)
-one_byte Runs old wanted some = one_byte_of Runs old wanted (Run 1) 2 (run_step old wanted 1 (omega arith) (omega arith) some (first_byte wanted some)) refl (omega arith)
-one_byte Packed old wanted some = one_byte_of Packed old wanted (LiteralRun 1) 2 (literal_step old wanted 1 (omega arith) (omega arith) some) refl (omega arith)
-one_byte Delta old wanted some = one_byte_of Delta old wanted (Replace 0 1) 2 (replace_step old wanted 0 1 (omega arith) (omega arith) (omega arith) refl) refl (omega arith)
+one_byte Runs old wanted some = one_byte_of Runs old wanted (Run 1) 2
+    (run_step old wanted 1 (omega arith) (omega arith) some (first_byte wanted some)) refl (omega arith)
+one_byte Packed old wanted some =
+    one_byte_of Packed old wanted (LiteralRun 1) 2 (literal_step old wanted 1 (omega arith) (omega arith) some) refl (omega arith)
+one_byte Delta old wanted some = one_byte_of Delta old wanted (Replace 0 1) 2
+    (replace_step old wanted 0 1 (omega arith) (omega arith) (omega arith) refl) refl (omega arith)
 
 -- ---- the numbers of a table
 
@@ -45,22 +50,34 @@ pub number_behind : (table : List ℕ) (at number place : ℕ) → at < place �
 number_behind table at number place behind = let other : place ≢ at = omega arith in get_or-set_other table at place number 0 other
 
 -- what is right stays right where a number before it is set
-pub number_stays : (method : Method) (old row table : List ℕ) (at number place : ℕ) → at < place → IsPlaceNumber method old row table place → IsPlaceNumber method old row (set table at number) place
+pub number_stays : (method : Method) (old row table : List ℕ) (at number place : ℕ) → at < place → IsPlaceNumber method old row table place
+    → IsPlaceNumber method old row (set table at number) place
 number_stays method old row table at number place behind is =
     let here = number_behind table at number place behind in
-    let there : (e : Element) → slice_index (set table at number) (place + stop e) ≡ slice_index table (place + stop e) = λ e. number_behind table at number (place + stop e) (omega arith) in
+    let there : (e : Element) → slice_index (set table at number) (place + stop e) ≡ slice_index table (place + stop e) =
+    λ e. number_behind table at number (place + stop e) (omega arith) in
     record {
       steps = λ e element agrees. omega (arith, is.steps e element agrees, here, there e);
       ends = λ end. here ∙ is.ends end;
       attained = elim is.attained [
         | inl end ↦ inl end
-        | inr next ↦ inr (next.0, record { element = next.1.element; agrees = next.1.agrees; goes_on = next.1.goes_on; number_is = omega (arith, next.1.number_is, here, there next.0) })
+        | inr next ↦ inr (
+          next.0,
+          record {
+            element = next.1.element;
+            agrees = next.1.agrees;
+            goes_on = next.1.goes_on;
+            number_is =
+                omega (arith, next.1.number_is, here, there next.0);
+          },
+        )
       ];
       small = omega (arith, is.small, here);
     }
 
 -- where no more data is needed
-pub number_of_end : (method : Method) (old row table : List ℕ) (place : ℕ) → place < length table → Ends old row place → IsPlaceNumber method old row (set table place 0) place
+pub number_of_end : (method : Method) (old row table : List ℕ) (place : ℕ) → place < length table → Ends old row place
+    → IsPlaceNumber method old row (set table place 0) place
 number_of_end method old row table place inside end =
     let here : slice_index (set table place 0) place ≡ 0 = get_or-set_same table place 0 0 inside in
     record {
@@ -71,12 +88,15 @@ number_of_end method old row table place inside end =
     }
 
 -- elsewhere
-pub number_of_choice : (method : Method) (old row table : List ℕ) (place : ℕ) (step : Step) (sum : ℕ) → place < length row → length table ≡ length row + 1 → (Ends old row place → ⊥)
-    → IsStepChoice method (drop place old) (drop place row) (drop place table) step sum → sum ≤ 2 * (length row - place) → IsPlaceNumber method old row (set table place sum) place
+pub number_of_choice : (method : Method) (old row table : List ℕ) (place : ℕ) (step : Step) (sum : ℕ) → place < length row
+    → length table ≡ length row + 1 → (Ends old row place → ⊥)
+    → IsStepChoice method (drop place old) (drop place row) (drop place table) step sum → sum ≤ 2 * (length row - place)
+    → IsPlaceNumber method old row (set table place sum) place
 number_of_choice method old row table place step sum inside size more c small =
     let now : List ℕ = set table place sum in
     let here : slice_index now place ≡ sum = get_or-set_same table place sum 0 (omega arith) in
-    let there : (k : ℕ) → 0 < k → slice_index (drop place table) k ≡ slice_index now (place + k) = λ k some. get_or-drop place table k 0 ∙ sym (number_behind table place sum (place + k) (omega arith)) in
+    let there : (k : ℕ) → 0 < k → slice_index (drop place table) k ≡ slice_index now (place + k) =
+    λ k some. get_or-drop place table k 0 ∙ sym (number_behind table place sum (place + k) (omega arith)) in
     record {
       steps = λ e element agrees.
           elim (cases_lt 0 (stop e)) [
@@ -100,33 +120,40 @@ number_of_choice method old row table place step sum inside size more c small =
 
 -- the best element has no more than two bytes for each byte of the row, where that holds behind it
 pub choice_small : (method : Method) (old row table : List ℕ) (place : ℕ) (step : Step) (sum : ℕ) → place < length row
-    → IsStepChoice method (drop place old) (drop place row) (drop place table) step sum → slice_index table (place + 1) ≤ 2 * (length row - (place + 1)) → sum ≤ 2 * (length row - place)
+    → IsStepChoice method (drop place old) (drop place row) (drop place table) step sum
+    → slice_index table (place + 1) ≤ 2 * (length row - (place + 1)) → sum ≤ 2 * (length row - place)
 choice_small method old row table place step sum inside c small =
     let one = one_byte method (drop place old) (drop place row) (omega (arith, length-drop place row)) in
-    let first : sum ≤ cost one.0 + slice_index (drop place table) (stop one.0) = c.choice.least one.0 one.1.element one.1.agrees (omega (arith, one.1.stop_is)) in
+    let first : sum ≤ cost one.0 + slice_index (drop place table) (stop one.0) =
+    c.choice.least one.0 one.1.element one.1.agrees (omega (arith, one.1.stop_is)) in
     omega (arith, first, one.1.few, ap (slice_index (drop place table)) one.1.stop_is, get_or-drop place table 1 0)
 
 -- a step's choice at parts of lists that go to their ends
 pub choice_to_ends : (method : Method) (old row table : List ℕ) (place : ℕ) (step : Step) (sum : ℕ)
-    → IsStepChoice method (take (length old - place) (drop place old)) (take (length row - place) (drop place row)) (take (length table - place) (drop place table)) step sum
+    → IsStepChoice method (take (length old - place) (drop place old)) (take (length row - place) (drop place row))
+    (take (length table - place) (drop place table)) step sum
     → IsStepChoice method (drop place old) (drop place row) (drop place table) step sum
 choice_to_ends method old row table place step sum c = rw (take_rest old place, take_rest row place, take_rest table place) at c
 
 -- ---- places from which no more data is needed
 
-pub ends_here : (old row : List ℕ) (place : ℕ) → length old ≡ length row → place < length row → get_or row place 0 ≡ get_or old place 0 → Ends old row (place + 1) → Ends old row place
+pub ends_here : (old row : List ℕ) (place : ℕ) → length old ≡ length row → place < length row → get_or row place 0 ≡ get_or old place 0
+    → Ends old row (place + 1) → Ends old row place
 ends_here old row place size inside same end =
-    drop_more row place 0 inside ∙ ap (λ (b : ℕ). b ∷ drop (place + 1) row) same ∙ ap (λ (bs : List ℕ). get_or old place 0 ∷ bs) end ∙ sym (drop_more old place 0 (omega arith))
+    drop_more row place 0 inside ∙ ap (λ (b : ℕ). b ∷ drop (place + 1) row) same ∙ ap (λ (bs : List ℕ). get_or old place 0 ∷ bs) end
+    ∙ sym (drop_more old place 0 (omega arith))
 
 pub ends_behind : (old row : List ℕ) (place : ℕ) → Ends old row place → Ends old row (place + 1)
 ends_behind old row place end = sym (drop-drop 1 place row) ∙ ap (drop 1) end ∙ drop-drop 1 place old
 
 pub ends_same : (old row : List ℕ) (place : ℕ) → Ends old row place → get_or row place 0 ≡ get_or old place 0
 ends_same old row place end =
-    ap (λ (k : ℕ). get_or row k 0) (omega arith) ∙ sym (get_or-drop place row 0 0) ∙ ap (λ (bs : List ℕ). get_or bs 0 0) end ∙ get_or-drop place old 0 0 ∙ ap (λ (k : ℕ). get_or old k 0) (omega arith)
+    ap (λ (k : ℕ). get_or row k 0) (omega arith) ∙ sym (get_or-drop place row 0 0) ∙ ap (λ (bs : List ℕ). get_or bs 0 0) end
+    ∙ get_or-drop place old 0 0 ∙ ap (λ (k : ℕ). get_or old k 0) (omega arith)
 
 -- one more number
-pub right_more : (method : Method) (old row table : List ℕ) (place number : ℕ) → AreRightFrom method old row table (place + 1) → IsPlaceNumber method old row (set table place number) place → AreRightFrom method old row (set table place number) place
+pub right_more : (method : Method) (old row table : List ℕ) (place number : ℕ) → AreRightFrom method old row table (place + 1)
+    → IsPlaceNumber method old row (set table place number) place → AreRightFrom method old row (set table place number) place
 right_more method old row table place number behind here q low high =
     elim (cases_lt place q) [
       | inl above ↦ number_stays method old row table place number q above (behind q (omega arith) high)
@@ -139,7 +166,9 @@ right_more method old row table place number behind here q low high =
 pub ends_past : (old row : List ℕ) (place : ℕ) → length old ≡ length row → length row ≤ place → Ends old row place
 ends_past old row place size past = drop_all place row past ∙ sym (drop_all place old (omega arith))
 
-pub attained_from : (method : Method) (old row table : List ℕ) (rest place : ℕ) → length old ≡ length row → AreRightFrom method old row table 0 → place ≤ length row → length row - place ≤ rest → IsAttained (Leads method old row) (Ends old row) cost place (slice_index table place)
+pub attained_from : (method : Method) (old row table : List ℕ) (rest place : ℕ) → length old ≡ length row
+    → AreRightFrom method old row table 0 → place ≤ length row → length row - place ≤ rest
+    → IsAttained (Leads method old row) (Ends old row) cost place (slice_index table place)
 attained_from method old row table zero place size right within left =
     let end : Ends old row place = ends_past old row place size (omega arith) in
     ([], end, sym ((right place (omega arith) within).ends end))
@@ -150,18 +179,24 @@ attained_from method old row table (suc rest) place size right within left =
       | inr next ↦
           let e : Element = next.0 in
           let inside = stop_within method old row place e size next.1.element next.1.agrees in
-          let walk = attained_from method old row table rest (place + stop e) size right (omega arith) (omega (arith, next.1.goes_on)) in
-          (e ∷ walk.0, (place + stop e, record { element = next.1.element; agrees = next.1.agrees; next_is = refl }, walk.1), omega (arith, walk.2, next.1.number_is))
+          let walk = attained_from method old row table rest (place + stop e) size right (omega arith) (omega (arith, next.1.goes_on)) in (
+            e ∷ walk.0,
+            (place + stop e, record { element = next.1.element; agrees = next.1.agrees; next_is = refl }, walk.1),
+            omega (arith, walk.2, next.1.number_is),
+          )
     ]
 
-pub right_at_end : (method : Method) (old row table : List ℕ) → length old ≡ length row → length row < length table → AreRightFrom method old row (set table (length row) 0) (length row)
+pub right_at_end : (method : Method) (old row table : List ℕ) → length old ≡ length row → length row < length table
+    → AreRightFrom method old row (set table (length row) 0) (length row)
 right_at_end method old row table size inside q low high =
     let at : length row ≡ q = omega arith in
-    subst (λ (p : ℕ). IsPlaceNumber method old row (set table (length row) 0) p) at (number_of_end method old row table (length row) inside (ends_past old row (length row) size (omega arith)))
+    subst (λ (p : ℕ). IsPlaceNumber method old row (set table (length row) 0) p) at
+    (number_of_end method old row table (length row) inside (ends_past old row (length row) size (omega arith)))
 
 -- it is enough to look at the places of the row and its end
 pub row_table_of_places : (method : Method) (seed row table : List ℕ) → length seed ≡ length row → length table ≡ length row + 1
-    → ((place : ℕ) (e : Element) → place ≤ length row → IsElement method e → Agrees (drop place (base method seed)) (drop place row) e → slice_index table place ≤ cost e + slice_index table (place + stop e))
+    → ((place : ℕ) (e : Element) → place ≤ length row → IsElement method e → Agrees (drop place (base method seed)) (drop place row) e
+    → slice_index table place ≤ cost e + slice_index table (place + stop e))
     → ((place : ℕ) → place ≤ length row → Ends (base method seed) row place → slice_index table place ≡ 0)
     → IsRowTable method seed row table
 row_table_of_places method seed row table same size steps ends = record {
@@ -180,21 +215,31 @@ row_table_of_places method seed row table same size steps ends = record {
   };
 }
 
-pub table_is_least : (method : Method) (seed row table : List ℕ) → length seed ≡ length row → length table ≡ length row + 1 → AreRightFrom method (base method seed) row table 0 → IsLeastTable method seed row table
+pub table_is_least : (method : Method) (seed row table : List ℕ) → length seed ≡ length row → length table ≡ length row + 1
+    → AreRightFrom method (base method seed) row table 0 → IsLeastTable method seed row table
 table_is_least method seed row table same size right = record {
-  table_is = row_table_of_places method seed row table same size (λ place e within. (right place (omega arith) within).steps e) (λ place within. (right place (omega arith) within).ends);
-  attained = λ place within. attained_from method (base method seed) row table (length row) place (length-base method seed ∙ same) right within (omega arith);
+  table_is = row_table_of_places method seed row table same size (λ place e within. (right place (omega arith) within).steps e)
+      (λ place within. (right place (omega arith) within).ends);
+  attained = λ place within. attained_from method (base method seed) row table (length row) place (length-base method seed ∙ same) right
+      within (omega arith);
 }
 
 -- ---- what the first number says
 
-pub first_bounds : (method : Method) (seed row table bytes : List ℕ) → length seed ≡ length row → IsRowTable method seed row table → IsRowData method seed row bytes → slice_index table 0 ≤ length bytes
+pub first_bounds : (method : Method) (seed row table bytes : List ℕ) → length seed ≡ length row → IsRowTable method seed row table
+    → IsRowData method seed row bytes → slice_index table 0 ≤ length bytes
 first_bounds method seed row table bytes same is has =
     let w = walk_of_data method seed row bytes same has in
-    omega (arith, feasible_bounds (Leads method (base method seed) row) (Ends (base method seed) row) cost (slice_index table) is.feasible 0 w.0 w.1, w.2)
+    omega (
+      arith,
+      feasible_bounds (Leads method (base method seed) row) (Ends (base method seed) row) cost (slice_index table) is.feasible
+          0 w.0 w.1,
+      w.2,
+    )
 
 -- no number of a row table is above two bytes for each byte of the row
-pub row_table_small : (method : Method) (seed row table : List ℕ) (rest place : ℕ) → length seed ≡ length row → IsRowTable method seed row table → place + rest ≡ length row → slice_index table place ≤ 2 * rest
+pub row_table_small : (method : Method) (seed row table : List ℕ) (rest place : ℕ) → length seed ≡ length row
+    → IsRowTable method seed row table → place + rest ≡ length row → slice_index table place ≤ 2 * rest
 row_table_small method seed row table zero place same is at =
     omega (arith, is.feasible.ends place (ends_past (base method seed) row place (length-base method seed ∙ same) (omega arith)))
 row_table_small method seed row table (suc rest) place same is at =
@@ -222,16 +267,19 @@ least_along method seed row table es codable is walk total-is =
       },
     )
 
-pub first_is_least : (method : Method) (seed row table : List ℕ) → IsCodable seed row → IsLeastTable method seed row table → IsLeastLength method seed row (slice_index table 0)
+pub first_is_least : (method : Method) (seed row table : List ℕ) → IsCodable seed row → IsLeastTable method seed row table
+    → IsLeastLength method seed row (slice_index table 0)
 first_is_least method seed row table codable is =
     let w = is.attained 0 (omega arith) in
     let l = least_along method seed row table w.0 codable is.table_is w.1 w.2 in
     subst (IsLeastLength method seed row) (sym (total_is w.0) ∙ w.2) l.1
 
 -- each number of the least table is the least cost of a walk from its place
-pub numbers_least : (method : Method) (seed row table : List ℕ) (place : ℕ) → IsLeastTable method seed row table → place ≤ length row → IsLeastCost (Leads method (base method seed) row) (Ends (base method seed) row) cost place (slice_index table place)
+pub numbers_least : (method : Method) (seed row table : List ℕ) (place : ℕ) → IsLeastTable method seed row table → place ≤ length row
+    → IsLeastCost (Leads method (base method seed) row) (Ends (base method seed) row) cost place (slice_index table place)
 numbers_least method seed row table place is within =
-    attained_is_least (Leads method (base method seed) row) (Ends (base method seed) row) cost (slice_index table) is.table_is.feasible place (is.attained place within)
+    attained_is_least (Leads method (base method seed) row) (Ends (base method seed) row) cost (slice_index table) is.table_is.feasible
+    place (is.attained place within)
 
 -- ---- appending
 
@@ -240,13 +288,16 @@ pub record IsAppendedTo (method : Method) (old row table before now : List ℕ) 
   pub within : place ≤ length row
   pub done : List Element
   pub joined : now ≡ before ++ flat_map spelling done
-  pub goes_on : (es : List Element) → Walk (Leads method old row) (Ends old row) place es → total cost es ≡ slice_index table place → Walk (Leads method old row) (Ends old row) 0 (done ++ es) × (total cost (done ++ es) ≡ slice_index table 0)
+  pub goes_on : (es : List Element) → Walk (Leads method old row) (Ends old row) place es → total cost es ≡ slice_index table place
+      → Walk (Leads method old row) (Ends old row) 0 (done ++ es) × (total cost (done ++ es) ≡ slice_index table 0)
 
 pub appended_none : (method : Method) (old row table before : List ℕ) → IsAppendedTo method old row table before before 0
-appended_none method old row table before = record { within = omega arith; done = []; joined = sym (append-nil before); goes_on = λ es w t. (w, t) }
+appended_none method old row table before =
+    record { within = omega arith; done = []; joined = sym (append-nil before); goes_on = λ es w t. (w, t) }
 
 -- where the number is not 0, data is needed
-pub more_needed : (method : Method) (old row table : List ℕ) (place : ℕ) → length old ≡ length row → AreRightFrom method old row table 0 → place ≤ length row → 0 < slice_index table place → place < length row
+pub more_needed : (method : Method) (old row table : List ℕ) (place : ℕ) → length old ≡ length row → AreRightFrom method old row table 0
+    → place ≤ length row → 0 < slice_index table place → place < length row
 more_needed method old row table place size right within some =
     elim (cases_lt place (length row)) [
       | inl inside ↦ inside
@@ -254,9 +305,11 @@ more_needed method old row table place size right within some =
     ]
 
 -- the best element of a place that needs data
-best_number : (method : Method) (old row table : List ℕ) (place : ℕ) (step : Step) (sum : ℕ) → AreRightFrom method old row table 0 → place ≤ length row → 0 < slice_index table place
+best_number : (method : Method) (old row table : List ℕ) (place : ℕ) (step : Step) (sum : ℕ) → AreRightFrom method old row table 0
+    → place ≤ length row → 0 < slice_index table place
     → IsStepChoice method (drop place old) (drop place row) (drop place table) step sum
-    → slice_index table place ≡ cost (element_of step (drop place row)) + slice_index table (place + stop (element_of step (drop place row)))
+    → slice_index table place ≡ cost (element_of step (drop place row)) + slice_index table
+    (place + stop (element_of step (drop place row)))
 best_number method old row table place step sum right within some c =
     let is = right place (omega arith) within in
     let e : Element = element_of step (drop place row) in
@@ -265,30 +318,44 @@ best_number method old row table place step sum right within some c =
     elim is.attained [
       | inl end ↦ absurd (omega (arith, is.ends end))
       | inr next ↦
-          omega (arith, above, c.choice.sum_is, at (stop e), next.1.number_is, c.choice.least next.0 next.1.element next.1.agrees next.1.goes_on, at (stop next.0))
+          omega (
+            arith,
+            above,
+            c.choice.sum_is,
+            at (stop e),
+            next.1.number_is,
+            c.choice.least next.0 next.1.element next.1.agrees next.1.goes_on,
+            at (stop next.0),
+          )
     ]
 
-pub appended_more : (method : Method) (old row table before now : List ℕ) (place : ℕ) (step : Step) (sum : ℕ) (now' : List ℕ) (place' : ℕ) → length old ≡ length row → AreRightFrom method old row table 0 → 0 < slice_index table place
+pub appended_more : (method : Method) (old row table before now : List ℕ) (place : ℕ) (step : Step) (sum : ℕ) (now' : List ℕ) (place' : ℕ)
+    → length old ≡ length row → AreRightFrom method old row table 0 → 0 < slice_index table place
     → IsAppendedTo method old row table before now place → IsStepChoice method (drop place old) (drop place row) (drop place table) step sum
-    → now' ≡ now ++ spelling (element_of step (drop place row)) → place' ≡ place + step_stop step → IsAppendedTo method old row table before now' place'
+    → now' ≡ now ++ spelling (element_of step (drop place row)) → place' ≡ place + step_stop step
+    → IsAppendedTo method old row table before now' place'
 appended_more method old row table before now place step sum now' place' size right some a c now-is place-is =
     let e : Element = element_of step (drop place row) in
     let inside = stop_within method old row place e size c.choice.element c.choice.agrees in
     let next : place' ≡ place + stop e = place-is ∙ ap (λ (k : ℕ). place + k) (sym c.stop_is) in
     let number = best_number method old row table place step sum right a.within some c in
-    let more : flat_map spelling (a.done ++ e ∷ []) ≡ flat_map spelling a.done ++ spelling e = flat_map-append spelling a.done (e ∷ []) ∙ ap (λ (bs : List ℕ). flat_map spelling a.done ++ bs) (append-nil (spelling e)) in
+    let more : flat_map spelling (a.done ++ e ∷ []) ≡ flat_map spelling a.done ++ spelling e =
+    flat_map-append spelling a.done (e ∷ []) ∙ ap (λ (bs : List ℕ). flat_map spelling a.done ++ bs) (append-nil (spelling e)) in
     let begins = more_needed method old row table place size right a.within some in
     record {
       within = omega arith;
       done = a.done ++ e ∷ [];
-      joined = now-is ∙ ap (λ (bs : List ℕ). bs ++ spelling e) a.joined ∙ append_assoc before (flat_map spelling a.done) (spelling e) ∙ ap (λ (bs : List ℕ). before ++ bs) (sym more);
+      joined = now-is ∙ ap (λ (bs : List ℕ). bs ++ spelling e) a.joined ∙ append_assoc before (flat_map spelling a.done) (spelling e)
+          ∙ ap (λ (bs : List ℕ). before ++ bs) (sym more);
       goes_on = λ es w t.
-          let g = a.goes_on (e ∷ es) (place', record { element = c.choice.element; agrees = c.choice.agrees; next_is = next }, w) (omega (arith, t, number, ap (slice_index table) next)) in
+          let g = a.goes_on (e ∷ es) (place', record { element = c.choice.element; agrees = c.choice.agrees; next_is = next }, w)
+          (omega (arith, t, number, ap (slice_index table) next)) in
           let same : a.done ++ (e ∷ es) ≡ (a.done ++ e ∷ []) ++ es = sym (append_assoc a.done (e ∷ []) es) in
           (subst (Walk (Leads method old row) (Ends old row) 0) same g.0, ap (total cost) (sym same) ∙ g.1);
     }
 
-pub appended_all : (method : Method) (old row table before now : List ℕ) (place : ℕ) → AreRightFrom method old row table 0 → slice_index table place ≡ 0 → IsAppendedTo method old row table before now place → AppendsWalk method old row table before now
+pub appended_all : (method : Method) (old row table before now : List ℕ) (place : ℕ) → AreRightFrom method old row table 0
+    → slice_index table place ≡ 0 → IsAppendedTo method old row table before now place → AppendsWalk method old row table before now
 appended_all method old row table before now place right none a =
     let is = right place (omega arith) a.within in
     let end : Ends old row place = elim is.attained [
@@ -296,19 +363,29 @@ appended_all method old row table before now place right none a =
       | inr next ↦ absurd (omega (arith, next.1.number_is, spelling_has_byte method next.0 next.1.element))
     ] in
     let g = a.goes_on [] end (sym none) in
-    record { steps = a.done ++ []; walk = g.0; total_is = g.1; joined = a.joined ∙ ap (λ (es : List Element). before ++ flat_map spelling es) (sym (append-nil a.done)) }
+    record {
+      steps = a.done ++ [];
+      walk = g.0;
+      total_is = g.1;
+      joined =
+          a.joined ∙ ap (λ (es : List Element). before ++ flat_map spelling es) (sym (append-nil a.done));
+    }
 
 -- what stood there before still stands in front
 pub front_stays : (before now now' more : List ℕ) → now ≡ before ++ more → take (length now) now' ≡ now → take (length before) now' ≡ before
 front_stays before now now' more joined front =
-    sym (take-take (length before) (length now) now' (omega (arith, ap length joined, length-append before more))) ∙ ap (take (length before)) (front ∙ joined) ∙ take_at before more (length before) refl
+    sym (take-take (length before) (length now) now' (omega (arith, ap length joined, length-append before more)))
+    ∙ ap (take (length before)) (front ∙ joined) ∙ take_at before more (length before) refl
 
 -- what was appended is least
-pub appends_least : (method : Method) (seed row old table before now : List ℕ) → IsCodable seed row → length table ≡ length row + 1 → old ≡ base method seed → AreRightFrom method old row table 0
+pub appends_least : (method : Method) (seed row old table before now : List ℕ) → IsCodable seed row → length table ≡ length row + 1
+    → old ≡ base method seed → AreRightFrom method old row table 0
     → AppendsWalk method old row table before now → AppendsLeast method seed row before now
 appends_least method seed row old table before now codable size old-is right a =
-    let right' : AreRightFrom method (base method seed) row table 0 = subst (λ (o : List ℕ). AreRightFrom method o row table 0) old-is right in
-    let a' : AppendsWalk method (base method seed) row table before now = subst (λ (o : List ℕ). AppendsWalk method o row table before now) old-is a in
+    let right' : AreRightFrom method (base method seed) row table 0 =
+    subst (λ (o : List ℕ). AreRightFrom method o row table 0) old-is right in
+    let a' : AppendsWalk method (base method seed) row table before now =
+    subst (λ (o : List ℕ). AppendsWalk method o row table before now) old-is a in
     let is = table_is_least method seed row table codable.same_size size right' in
     let l = least_along method seed row table a'.steps codable is.table_is a'.walk a'.total_is in
     record { bytes = flat_map spelling a'.steps; joined = a'.joined; whole = l.0; least = l.1 }

@@ -23,7 +23,8 @@ use Rattle.pcl_coders.proofs.Ends.{ends_on, ends_at, white_byte}
 -- ---- any method
 
 -- no data is needed, and the number is 0
-number_zero : (method : Method) (old row table : List ℕ) (place : ℕ) → slice_index table place ≡ 0 → Ends old row place → IsPlaceNumber method old row table place
+number_zero : (method : Method) (old row table : List ℕ) (place : ℕ) → slice_index table place ≡ 0 → Ends old row place
+    → IsPlaceNumber method old row table place
 number_zero method old row table place here end = record {
   steps = λ e element agrees. omega (arith, here);
   ends = λ _. here;
@@ -32,9 +33,11 @@ number_zero method old row table place here end = record {
 }
 
 pub begun_right : (method : Method) (old row table : List ℕ) (end : ℕ) → IsBegun old row table end → AreRightFrom method old row table end
-begun_right method old row table end begun q low high = number_zero method old row table q (begun.zeros q low) (ends_on old row end q begun.first_end.ends low)
+begun_right method old row table end begun q low high =
+    number_zero method old row table q (begun.zeros q low) (ends_on old row end q begun.first_end.ends low)
 
-pub place_at : (old row first table : List ℕ) (end place : ℕ) → IsBegun old row first end → length table ≡ length row + 1 → place < end → IsPlace (drop place row) (drop place table)
+pub place_at : (old row first table : List ℕ) (end place : ℕ) → IsBegun old row first end → length table ≡ length row + 1 → place < end
+    → IsPlace (drop place row) (drop place table)
 place_at old row first table end place begun size inside = record {
   size = omega (arith, begun.first_end.within, length-drop place row, length-drop place table);
   some = omega (arith, begun.first_end.within, length-drop place row);
@@ -42,14 +45,16 @@ place_at old row first table end place begun size inside = record {
 }
 
 -- the best element of a place gives its number
-pub place_done : (method : Method) (old row first table : List ℕ) (end place : ℕ) (step : Step) (sum : ℕ) → IsBegun old row first end → length table ≡ length row + 1 → place < end
+pub place_done : (method : Method) (old row first table : List ℕ) (end place : ℕ) (step : Step) (sum : ℕ) → IsBegun old row first end
+    → length table ≡ length row + 1 → place < end
     → AreRightFrom method old row table (place + 1) → IsStepChoice method (drop place old) (drop place row) (drop place table) step sum
     → AreRightFrom method old row (set table place sum) place × (sum ≤ 2 * (length row - place))
 place_done method old row first table end place step sum begun size inside behind c =
     let within : place < length row = omega (arith, begun.first_end.within) in
     let small = choice_small method old row table place step sum within c (behind (place + 1) (omega arith) (omega arith)).small in (
       right_more method old row table place sum behind
-          (number_of_choice method old row table place step sum within size (λ e. absurd (omega (arith, begun.first_end.first place e))) c small),
+          (number_of_choice method old row table place step sum within size (λ e. absurd (omega (arith, begun.first_end.first place e))) c
+          small),
       small,
     )
 
@@ -71,22 +76,39 @@ pub record IsShorter (method : Method) (old wanted : List ℕ) (e d : Element) :
   pub stop_is : stop d + 1 ≡ stop e
   pub cheaper : cost d ≤ cost e
 
-shorter_of : (method : Method) (old wanted : List ℕ) (e : Element) (step : Step) (bytes : ℕ) → IsStepElement method (drop 1 old) (drop 1 wanted) step bytes → step_stop step + 1 ≡ stop e → bytes ≤ cost e → (d : Element) × IsShorter method old wanted e d
-shorter_of method old wanted e step bytes s stops few =
-    (element_of step (drop 1 wanted), record { element = s.element; agrees = s.agrees; stop_is = omega (arith, s.stop_is, stops); cheaper = omega (arith, s.bytes_are, few) })
+shorter_of : (method : Method) (old wanted : List ℕ) (e : Element) (step : Step) (bytes : ℕ)
+    → IsStepElement method (drop 1 old) (drop 1 wanted) step bytes → step_stop step + 1 ≡ stop e → bytes ≤ cost e
+    → (d : Element) × IsShorter method old wanted e d
+shorter_of method old wanted e step bytes s stops few = (
+  element_of step (drop 1 wanted),
+  record {
+    element = s.element;
+    agrees = s.agrees;
+    stop_is = omega (arith, s.stop_is, stops);
+    cheaper =
+        omega (arith, s.bytes_are, few);
+  },
+)
 
 -- a run without its first byte
-run_behind : (wanted : List ℕ) (len byte : ℕ) → 1 ≤ len → take (len + 1) wanted ≡ replicate (len + 1) byte → take len (drop 1 wanted) ≡ replicate len (slice_index (drop 1 wanted) 0)
+run_behind : (wanted : List ℕ) (len byte : ℕ) → 1 ≤ len → take (len + 1) wanted ≡ replicate (len + 1) byte
+    → take len (drop 1 wanted) ≡ replicate len (slice_index (drop 1 wanted) 0)
 run_behind wanted len byte some alike =
-    let long : len + 1 ≤ length wanted = omega (arith, sym (length-take (len + 1) wanted) ∙ ap length alike ∙ length-replicate (len + 1) byte) in
-    let each : (i : ℕ) → i < len + 1 → get_or wanted i 0 ≡ byte = λ i h. sym (get_or-take (len + 1) wanted i 0 h) ∙ ap (λ (xs : List ℕ). get_or xs i 0) alike ∙ get_or-replicate (len + 1) i byte 0 h in
+    let long : len + 1 ≤ length wanted =
+    omega (arith, sym (length-take (len + 1) wanted) ∙ ap length alike ∙ length-replicate (len + 1) byte) in
+    let each : (i : ℕ) → i < len + 1 → get_or wanted i 0 ≡ byte =
+    λ i h. sym (get_or-take (len + 1) wanted i 0 h) ∙ ap (λ (xs : List ℕ). get_or xs i 0) alike
+    ∙ get_or-replicate (len + 1) i byte 0 h in
     let first : slice_index (drop 1 wanted) 0 ≡ byte = get_or-drop 1 wanted 0 0 ∙ each 1 (omega arith) in
     let size : length (take len (drop 1 wanted)) ≡ len = length-take-le len (drop 1 wanted) (omega (arith, length-drop 1 wanted)) in
-    ext_get_or 0 (take len (drop 1 wanted)) (replicate len (slice_index (drop 1 wanted) 0)) (size ∙ sym (length-replicate len (slice_index (drop 1 wanted) 0))) (λ i below.
+    ext_get_or 0 (take len (drop 1 wanted)) (replicate len (slice_index (drop 1 wanted) 0))
+    (size ∙ sym (length-replicate len (slice_index (drop 1 wanted) 0))) (λ i below.
     let inside : i < len = omega arith in
-    get_or-take len (drop 1 wanted) i 0 inside ∙ get_or-drop 1 wanted i 0 ∙ each (1 + i) (omega arith) ∙ sym first ∙ sym (get_or-replicate len i (slice_index (drop 1 wanted) 0) 0 inside))
+    get_or-take len (drop 1 wanted) i 0 inside ∙ get_or-drop 1 wanted i 0 ∙ each (1 + i) (omega arith) ∙ sym first
+    ∙ sym (get_or-replicate len i (slice_index (drop 1 wanted) 0) 0 inside))
 
-shorter_run : (old wanted : List ℕ) (e : Element) → length old ≡ length wanted → IsElement Runs e → Agrees old wanted e → 1 < stop e → (d : Element) × IsShorter Runs old wanted e d
+shorter_run : (old wanted : List ℕ) (e : Element) → length old ≡ length wanted → IsElement Runs e → Agrees old wanted e → 1 < stop e
+    → (d : Element) × IsShorter Runs old wanted e d
 shorter_run old wanted e size element agrees more =
     let s = runs_shape e.head e.bytes element.head_is.method_is element.head_is.in_range element.complete in
     let g = agrees_gives Runs old wanted e size element agrees in
@@ -95,12 +117,15 @@ shorter_run old wanted e size element agrees more =
     let front : given e ≡ take (length (given e)) wanted = rw s.0 at g.2 in
     let stops : stop e ≡ count - 1 + 1 = omega (arith, s.0, is) in
     let alike : take (count - 1 + 1) wanted ≡ replicate (count - 1 + 1) s.1.byte =
-    subst (λ (n : ℕ). take n wanted ≡ replicate n s.1.byte) (omega (arith, s.0, is)) (sym (front ∙ ap (λ (n : ℕ). take n wanted) is) ∙ s.1.given_is) in
+    subst (λ (n : ℕ). take n wanted ≡ replicate n s.1.byte) (omega (arith, s.0, is))
+    (sym (front ∙ ap (λ (n : ℕ). take n wanted) is) ∙ s.1.given_is) in
     shorter_of Runs old wanted e (Run (count - 1)) 2
-    (run_step (drop 1 old) (drop 1 wanted) (count - 1) (omega arith) (omega (arith, s.1.below)) (omega (arith, g.0, length-drop 1 wanted)) (run_behind wanted (count - 1) s.1.byte (omega arith) alike))
+    (run_step (drop 1 old) (drop 1 wanted) (count - 1) (omega arith) (omega (arith, s.1.below)) (omega (arith, g.0, length-drop 1 wanted))
+    (run_behind wanted (count - 1) s.1.byte (omega arith) alike))
     (sym stops) (omega (arith, s.1.bytes_are))
 
-shorter_packed : (old wanted : List ℕ) (e : Element) → length old ≡ length wanted → IsElement Packed e → Agrees old wanted e → 1 < stop e → (d : Element) × IsShorter Packed old wanted e d
+shorter_packed : (old wanted : List ℕ) (e : Element) → length old ≡ length wanted → IsElement Packed e → Agrees old wanted e → 1 < stop e
+    → (d : Element) × IsShorter Packed old wanted e d
 shorter_packed old wanted e size element agrees more =
     let g = agrees_gives Packed old wanted e size element agrees in
     let s = packed_shape e.head e.bytes element.head_is.method_is element.head_is.in_range element.complete (omega arith) in
@@ -111,26 +136,32 @@ shorter_packed old wanted e size element agrees more =
           let front : given e ≡ take (length (given e)) wanted = rw s.0 at g.2 in
           let stops : stop e ≡ count - 1 + 1 = omega (arith, s.0, is) in
           let alike : take (count - 1 + 1) wanted ≡ replicate (count - 1 + 1) r.byte =
-          subst (λ (n : ℕ). take n wanted ≡ replicate n r.byte) (omega (arith, s.0, is)) (sym (front ∙ ap (λ (n : ℕ). take n wanted) is) ∙ r.given_is) in
+          subst (λ (n : ℕ). take n wanted ≡ replicate n r.byte) (omega (arith, s.0, is))
+          (sym (front ∙ ap (λ (n : ℕ). take n wanted) is) ∙ r.given_is) in
           elim (cases_lt 2 count) [
             | inl long ↦
                 shorter_of Packed old wanted e (RepeatRun (count - 1)) 2
-                (repeat_step (drop 1 old) (drop 1 wanted) (count - 1) (omega arith) (omega (arith, r.below)) (omega (arith, g.0, length-drop 1 wanted)) (run_behind wanted (count - 1) r.byte (omega arith) alike))
+                (repeat_step (drop 1 old) (drop 1 wanted) (count - 1) (omega arith) (omega (arith, r.below))
+                (omega (arith, g.0, length-drop 1 wanted)) (run_behind wanted (count - 1) r.byte (omega arith) alike))
                 (sym stops) (omega (arith, r.bytes_are))
             | inr short ↦
-                shorter_of Packed old wanted e (LiteralRun 1) 2 (literal_step (drop 1 old) (drop 1 wanted) 1 (omega arith) (omega arith) (omega (arith, g.0, length-drop 1 wanted)))
+                shorter_of Packed old wanted e (LiteralRun 1) 2
+                (literal_step (drop 1 old) (drop 1 wanted) 1 (omega arith) (omega arith) (omega (arith, g.0, length-drop 1 wanted)))
                 (omega (arith, stops)) (omega (arith, r.bytes_are))
           ]
       | inr l ↦
           let count : ℕ = length (given e) in
           let stops : stop e ≡ count - 1 + 1 = omega (arith, s.0) in
-          shorter_of Packed old wanted e (LiteralRun (count - 1)) (1 + (count - 1)) (literal_step (drop 1 old) (drop 1 wanted) (count - 1) (omega arith) (omega (arith, l.below)) (omega (arith, g.0, length-drop 1 wanted)))
+          shorter_of Packed old wanted e (LiteralRun (count - 1)) (1 + (count - 1))
+          (literal_step (drop 1 old) (drop 1 wanted) (count - 1) (omega arith) (omega (arith, l.below))
+          (omega (arith, g.0, length-drop 1 wanted)))
           (sym stops) (omega (arith, l.bytes_are))
     ]
 
 -- a method whose elements can be made shorter
 abbrev pub CanShorten : Method → Type 0
-CanShorten method = (old wanted : List ℕ) (e : Element) → length old ≡ length wanted → IsElement method e → Agrees old wanted e → 1 < stop e → (d : Element) × IsShorter method old wanted e d
+CanShorten method = (old wanted : List ℕ) (e : Element) → length old ≡ length wanted → IsElement method e → Agrees old wanted e
+    → 1 < stop e → (d : Element) × IsShorter method old wanted e d
 
 pub runs_shorten : CanShorten Runs
 runs_shorten = shorter_run
@@ -138,7 +169,8 @@ runs_shorten = shorter_run
 pub packed_shorten : CanShorten Packed
 packed_shorten = shorter_packed
 
-falls_once : (method : Method) (old row table : List ℕ) (p : ℕ) → CanShorten method → length old ≡ length row → IsPlaceNumber method old row table p → IsPlaceNumber method old row table (p + 1) → slice_index table (p + 1) ≤ slice_index table p
+falls_once : (method : Method) (old row table : List ℕ) (p : ℕ) → CanShorten method → length old ≡ length row
+    → IsPlaceNumber method old row table p → IsPlaceNumber method old row table (p + 1) → slice_index table (p + 1) ≤ slice_index table p
 falls_once method old row table p shorten size here next =
     elim here.attained [
       | inl end ↦ omega (arith, next.ends (ends_behind old row p end))
@@ -149,14 +181,16 @@ falls_once method old row table p shorten size here next =
                 let one : p + stop e ≡ p + 1 = omega (arith, has.1.goes_on) in
                 omega (arith, has.1.number_is, ap (slice_index table) one)
             | inl long ↦
-                let d = shorten (drop p old) (drop p row) e (omega (arith, length-drop p old, length-drop p row)) has.1.element has.1.agrees long in
+                let d = shorten (drop p old) (drop p row) e (omega (arith, length-drop p old, length-drop p row)) has.1.element
+                has.1.agrees long in
                 let agrees : Agrees (drop (p + 1) old) (drop (p + 1) row) d.0 = rw (drop-drop 1 p old, drop-drop 1 p row) at d.1.agrees in
                 let there : p + 1 + stop d.0 ≡ p + stop e = omega (arith, d.1.stop_is) in
                 omega (arith, next.steps d.0 d.1.element agrees, d.1.cheaper, has.1.number_is, ap (slice_index table) there)
           ]
     ]
 
-falls_by : (method : Method) (old row table : List ℕ) (from p steps : ℕ) → CanShorten method → length old ≡ length row → AreRightFrom method old row table from → from ≤ p → p + steps ≤ length row → slice_index table (p + steps) ≤ slice_index table p
+falls_by : (method : Method) (old row table : List ℕ) (from p steps : ℕ) → CanShorten method → length old ≡ length row
+    → AreRightFrom method old row table from → from ≤ p → p + steps ≤ length row → slice_index table (p + steps) ≤ slice_index table p
 falls_by method old row table from p zero shorten size right low high =
     let at : p + 0 ≡ p = omega arith in
     omega (arith, ap (slice_index table) at)
@@ -165,28 +199,40 @@ falls_by method old row table from p (suc steps) shorten size right low high =
     omega (
       arith,
       falls_by method old row table from p steps shorten size right low (omega arith),
-      falls_once method old row table (p + steps) shorten size (right (p + steps) (omega arith) (omega arith)) (right (p + steps + 1) (omega arith) (omega arith)),
+      falls_once method old row table (p + steps) shorten size (right (p + steps) (omega arith) (omega arith))
+          (right (p + steps + 1) (omega arith) (omega arith)),
       ap (slice_index table) at,
     )
 
-pub falls : (method : Method) (old row table : List ℕ) (from p q : ℕ) → CanShorten method → length old ≡ length row → AreRightFrom method old row table from → from ≤ p → p ≤ q → q ≤ length row → slice_index table q ≤ slice_index table p
+pub falls : (method : Method) (old row table : List ℕ) (from p q : ℕ) → CanShorten method → length old ≡ length row
+    → AreRightFrom method old row table from → from ≤ p → p ≤ q → q ≤ length row → slice_index table q ≤ slice_index table p
 falls method old row table from p q shorten size right low order high =
     let at : p + (q - p) ≡ q = omega arith in
     omega (arith, falls_by method old row table from p (q - p) shorten size right low (omega arith), ap (slice_index table) at)
 
 -- the longest run is the best
-pub runs_place : (old row first table : List ℕ) (end place run_end len : ℕ) → IsBegun old row first end → length table ≡ length row + 1 → place < end → AreRightFrom Runs old row table (place + 1)
-    → IsRunEnd row place run_end → len ≡ min (run_end - place) 256 → IsStepChoice Runs (drop place old) (drop place row) (drop place table) (Run len) (slice_index table (place + len) + 2)
+pub runs_place : (old row first table : List ℕ) (end place run_end len : ℕ) → IsBegun old row first end → length table ≡ length row + 1
+    → place < end → AreRightFrom Runs old row table (place + 1)
+    → IsRunEnd row place run_end → len ≡ min (run_end - place) 256
+    → IsStepChoice Runs (drop place old) (drop place row) (drop place table) (Run len) (slice_index table (place + len) + 2)
 runs_place old row first table end place run_end len begun size inside behind is len-is =
     let run : ℕ = run_end - place in
     let at : (k : ℕ) → slice_index (drop place table) k ≡ slice_index table (place + k) = λ k. get_or-drop place table k 0 in
     let sum : ℕ = slice_index table (place + len) + 2 in
-    runs_choice (drop place old) (drop place row) (drop place table) run len sum (omega (arith, length-drop place old, length-drop place row, begun.same_size)) (run_len_of row place run_end run is (omega (arith, is.after)))
+    runs_choice (drop place old) (drop place row) (drop place table) run len sum
+    (omega (arith, length-drop place old, length-drop place row, begun.same_size))
+    (run_len_of row place run_end run is (omega (arith, is.after)))
     (record {
       above = omega (arith, is.after);
       below = omega arith;
       sum_is = omega (arith, at len);
-      least = λ k low high. omega (arith, at k, falls Runs old row table (place + 1) (place + k) (place + len) runs_shorten begun.same_size behind (omega arith) (omega arith) (omega (arith, is.within, is.after)));
+      least = λ k low
+          high. omega (
+            arith,
+            at k,
+            falls Runs old row table (place + 1) (place + k) (place + len) runs_shorten begun.same_size behind
+                (omega arith) (omega arith) (omega (arith, is.within, is.after)),
+          );
     })
 
 -- ---- runs, carried along from the right
@@ -196,7 +242,8 @@ pub record IsRunFrom (row : List ℕ) (end place run_end : ℕ) : Type 0 where
   pub first : place ≡ end → run_end ≡ end
   pub run : place < end → IsRunEnd row place run_end
 
-pub run_starts : (row : List ℕ) (place : ℕ) → place + 1 < length row → slice_index row place ≢ slice_index row (place + 1) → IsRunEnd row place (place + 1)
+pub run_starts : (row : List ℕ) (place : ℕ) → place + 1 < length row → slice_index row place ≢ slice_index row (place + 1)
+    → IsRunEnd row place (place + 1)
 run_starts row place inside differs = record {
   after = omega arith;
   within = omega arith;
@@ -204,7 +251,8 @@ run_starts row place inside differs = record {
   differs = λ _ same. differs (sym same);
 }
 
-pub run_goes_on : (row : List ℕ) (place run_end : ℕ) → IsRunEnd row (place + 1) run_end → slice_index row place ≡ slice_index row (place + 1) → IsRunEnd row place run_end
+pub run_goes_on : (row : List ℕ) (place run_end : ℕ) → IsRunEnd row (place + 1) run_end
+    → slice_index row place ≡ slice_index row (place + 1) → IsRunEnd row place run_end
 run_goes_on row place run_end is same = record {
   after = omega (arith, is.after);
   within = is.within;
@@ -217,15 +265,19 @@ run_goes_on row place run_end is same = record {
 }
 
 -- the last run ends where no more data is needed
-pub run_last : (row first : List ℕ) (end place : ℕ) → IsBegun (replicate (length row) 0) row first end → place + 1 ≡ end → IsRunEnd row place end
+pub run_last : (row first : List ℕ) (end place : ℕ) → IsBegun (replicate (length row) 0) row first end → place + 1 ≡ end
+    → IsRunEnd row place end
 run_last row first end place begun last = record {
   after = omega arith;
   within = begun.first_end.within;
   same = λ k low high. let at : k ≡ place = omega arith in ap (slice_index row) at;
   differs = λ inside alike.
-      let zero : slice_index row end ≡ 0 = ends_at (replicate (length row) 0) row end end begun.first_end.ends (omega arith) ∙ white_byte (length row) end in
-      let behind : Ends (replicate (length row) 0) row (place + 1) = subst (Ends (replicate (length row) 0) row) (sym last) begun.first_end.ends in
-      let here : Ends (replicate (length row) 0) row place = ends_here (replicate (length row) 0) row place begun.same_size (omega (arith, begun.first_end.within)) (sym alike ∙ zero ∙ sym (white_byte (length row) place)) behind in
+      let zero : slice_index row end ≡ 0 =
+      ends_at (replicate (length row) 0) row end end begun.first_end.ends (omega arith) ∙ white_byte (length row) end in
+      let behind : Ends (replicate (length row) 0) row (place + 1) =
+      subst (Ends (replicate (length row) 0) row) (sym last) begun.first_end.ends in
+      let here : Ends (replicate (length row) 0) row place = ends_here (replicate (length row) 0) row place begun.same_size
+      (omega (arith, begun.first_end.within)) (sym alike ∙ zero ∙ sym (white_byte (length row) place)) behind in
       absurd (omega (arith, begun.first_end.first place here));
 }
 
@@ -287,8 +339,10 @@ pub record IsNextStart (old row table : List ℕ) (place start best : ℕ) : Typ
   pub numbers : (q : ℕ) → place < q → q ≤ start → slice_index table q ≡ replacement_bytes (start - q) + best
 
 -- the latest start is as good as any earlier one
-pub delta_place : (old row first table : List ℕ) (end place start best : ℕ) → IsBegun old row first end → length table ≡ length row + 1 → place < end → IsNextStart old row table place start best
-    → (len : ℕ) × IsStepChoice Delta (drop place old) (drop place row) (drop place table) (Replace (start - place) len) (replacement_bytes (start - place) + best)
+pub delta_place : (old row first table : List ℕ) (end place start best : ℕ) → IsBegun old row first end → length table ≡ length row + 1
+    → place < end → IsNextStart old row table place start best
+    → (len : ℕ) × IsStepChoice Delta (drop place old) (drop place row) (drop place table) (Replace (start - place) len)
+    (replacement_bytes (start - place) + best)
 delta_place old row first table end place start best begun size inside next =
     let last : ℕ = start - place in
     let wanted : List ℕ = drop place row in
@@ -298,17 +352,22 @@ delta_place old row first table end place start best begun size inside next =
     let there : place + last ≡ start = omega (arith, next.order) in
     let long : length wanted ≡ length row - place = length-drop place row in
     let size' : length before ≡ length wanted = omega (arith, length-drop place old, long, begun.same_size) in
-    let at : (o k : ℕ) → slice_index (drop o numbers) k ≡ slice_index table (place + o + k) = λ o k. ap (λ (xs : List ℕ). slice_index xs k) (drop-drop o place table) ∙ get_or-drop (place + o) table k 0 in
+    let at : (o k : ℕ) → slice_index (drop o numbers) k ≡ slice_index table (place + o + k) =
+    λ o k. ap (λ (xs : List ℕ). slice_index xs k) (drop-drop o place table) ∙ get_or-drop (place + o) table k 0 in
     let difference : IsFirstDifference before wanted last = record {
       within = omega (arith, size', long, next.within);
       same = λ k below. get_or-drop place old k 0 ∙ next.same (place + k) (omega arith) (omega arith) ∙ sym (get_or-drop place row k 0);
-      differs = λ _ same. next.differs (ap (slice_index old) (sym there) ∙ sym (get_or-drop place old last 0) ∙ same ∙ get_or-drop place row last 0 ∙ ap (slice_index row) there);
+      differs = λ _ same. next.differs
+          (ap (slice_index old) (sym there) ∙ sym (get_or-drop place old last 0) ∙ same ∙ get_or-drop place row last 0
+          ∙ ap (slice_index row) there);
     } in
     let b = next.behind in
     let len : ℕ = b.len in
-    let here : (k : ℕ) → slice_index (drop last numbers) k ≡ slice_index table (start + k) = λ k. at last k ∙ ap (λ (n : ℕ). slice_index table (n + k)) there in (
+    let here : (k : ℕ) → slice_index (drop last numbers) k ≡ slice_index table (start + k) =
+    λ k. at last k ∙ ap (λ (n : ℕ). slice_index table (n + k)) there in (
       len,
-      delta_choice before wanted numbers last last (Replace last len) sum size' (place_at old row first table end place begun size inside) (same_len_of before wanted last size' difference) (omega (arith, long, next.within))
+      delta_choice before wanted numbers last last (Replace last len) sum size' (place_at old row first table end place begun size inside)
+          (same_len_of before wanted last size' difference) (omega (arith, long, next.within))
           (record {
             offset = last;
             within = omega arith;
@@ -327,21 +386,36 @@ delta_place old row first table end place start best begun size inside next =
                   | inr short ↦
                       let q : ℕ = place + o + k in
                       let rest : start - q ≡ last - (o + k) = omega arith in
-                      omega (arith, at o k, next.numbers q (omega arith) (omega arith), ap replacement_bytes rest, command_joins o k last some short)
+                      omega (
+                        arith,
+                        at o k,
+                        next.numbers q (omega arith) (omega arith),
+                        ap replacement_bytes rest,
+                        command_joins o k last some short,
+                      )
                   | inl long' ↦
                       let k' : ℕ = o + k - last in
                       let same : start + k' ≡ place + o + k = omega arith in
-                      omega (arith, at o k, b.least k' (omega arith) (omega (arith, long)), ap (slice_index table) same, command_grows o last low)
+                      omega (
+                        arith,
+                        at o k,
+                        b.least k' (omega arith) (omega (arith, long)),
+                        ap (slice_index table) same,
+                        command_grows o last low,
+                      )
                 ];
           }),
     )
 
 -- the numbers behind a place that is set
-pub next_start_set : (old row table : List ℕ) (place start best : ℕ) → length table ≡ length row + 1 → place < length row → IsNextStart old row table place start best
-    → IsNextStart old row (set table place (replacement_bytes (start - place) + best)) place start best × (slice_index (set table place (replacement_bytes (start - place) + best)) place ≡ replacement_bytes (start - place) + best)
+pub next_start_set : (old row table : List ℕ) (place start best : ℕ) → length table ≡ length row + 1 → place < length row
+    → IsNextStart old row table place start best
+    → IsNextStart old row (set table place (replacement_bytes (start - place) + best)) place start best
+    × (slice_index (set table place (replacement_bytes (start - place) + best)) place ≡ replacement_bytes (start - place) + best)
 next_start_set old row table place start best size inside next =
     let number : ℕ = replacement_bytes (start - place) + best in
-    let stays : (q : ℕ) → place < q → slice_index (set table place number) q ≡ slice_index table q = λ q. number_behind table place number q in
+    let stays : (q : ℕ) → place < q → slice_index (set table place number) q ≡ slice_index table q =
+    λ q. number_behind table place number q in
     let b = next.behind in (
       record {
         order = next.order;
@@ -361,7 +435,8 @@ next_start_set old row table place start best size inside next =
     )
 
 -- one place to the left, where the byte there is that of the row before
-pub next_start_stays : (old row table : List ℕ) (place start best : ℕ) → IsNextStart old row table (place + 1) start best → slice_index table (place + 1) ≡ replacement_bytes (start - (place + 1)) + best → slice_index old place ≡ slice_index row place
+pub next_start_stays : (old row table : List ℕ) (place start best : ℕ) → IsNextStart old row table (place + 1) start best
+    → slice_index table (place + 1) ≡ replacement_bytes (start - (place + 1)) + best → slice_index old place ≡ slice_index row place
     → IsNextStart old row table place start best
 next_start_stays old row table place start best next number same = record {
   order = omega (arith, next.order);
@@ -376,12 +451,14 @@ next_start_stays old row table place start best next number same = record {
   numbers = λ q low high.
       elim (cases_lt (place + 1) q) [
         | inl behind ↦ next.numbers q behind high
-        | inr here ↦ let at : place + 1 ≡ q = omega arith in subst (λ (n : ℕ). slice_index table n ≡ replacement_bytes (start - n) + best) at number
+        | inr here ↦ let at : place + 1 ≡ q =
+            omega arith in subst (λ (n : ℕ). slice_index table n ≡ replacement_bytes (start - n) + best) at number
       ];
 }
 
 -- where it differs
-pub next_start_here : (old row table : List ℕ) (place best len : ℕ) → length table ≡ length row + 1 → place < length row → slice_index old place ≢ slice_index row place
+pub next_start_here : (old row table : List ℕ) (place best len : ℕ) → length table ≡ length row + 1 → place < length row
+    → slice_index old place ≢ slice_index row place
     → IsLeastLen (drop place table) 1 (min (length (drop place table) - 1) 8) 0 1 len best → IsNextStart old row table place place best
 next_start_here old row table place best len size inside differs is =
     let at : (k : ℕ) → slice_index (drop place table) k ≡ slice_index table (place + k) = λ k. get_or-drop place table k 0 in
@@ -405,11 +482,15 @@ pub record IsDeltaAt (old row table : List ℕ) (place start best : ℕ) : Type 
   pub next : IsNextStart old row table place start best
   pub number : slice_index table place ≡ replacement_bytes (start - place) + best
 
-pub delta_at : (old row table : List ℕ) (place start best : ℕ) → length table ≡ length row + 1 → place < length row → IsNextStart old row table place start best → IsDeltaAt old row (set table place (replacement_bytes (start - place) + best)) place start best
-delta_at old row table place start best size inside next = let n = next_start_set old row table place start best size inside next in record { next = n.0; number = n.1 }
+pub delta_at : (old row table : List ℕ) (place start best : ℕ) → length table ≡ length row + 1 → place < length row
+    → IsNextStart old row table place start best
+    → IsDeltaAt old row (set table place (replacement_bytes (start - place) + best)) place start best
+delta_at old row table place start best size inside next = let n =
+    next_start_set old row table place start best size inside next in record { next = n.0; number = n.1 }
 
 -- the last byte that data is needed for differs
-pub last_differs : (old row first : List ℕ) (end place : ℕ) → IsBegun old row first end → place + 1 ≡ end → slice_index old place ≢ slice_index row place
+pub last_differs : (old row first : List ℕ) (end place : ℕ) → IsBegun old row first end → place + 1 ≡ end
+    → slice_index old place ≢ slice_index row place
 last_differs old row first end place begun last same =
     let behind : Ends old row (place + 1) = subst (Ends old row) (sym last) begun.first_end.ends in
     let here : Ends old row place = ends_here old row place begun.same_size (omega (arith, begun.first_end.within)) (sym same) behind in

@@ -23,24 +23,31 @@ pub run_len_of : (row : List ℕ) (from end run : ℕ) → IsRunEnd row from end
 run_len_of row from end run is there =
     let at : (k : ℕ) → slice_index (drop from row) k ≡ slice_index row (from + k) = λ k. get_or-drop from row k 0 in
     let first : slice_index (drop from row) 0 ≡ slice_index row from = at 0 ∙ ap (slice_index row) (omega arith) in
-    let size : length (take run (drop from row)) ≡ run = length-take-le run (drop from row) (omega (arith, length-drop from row, is.within)) in
+    let size : length (take run (drop from row)) ≡ run =
+    length-take-le run (drop from row) (omega (arith, length-drop from row, is.within)) in
     record {
       within = omega (arith, length-drop from row, is.within);
-      equal = ext_get_or 0 (take run (drop from row)) (replicate run (slice_index (drop from row) 0)) (size ∙ sym (length-replicate run (slice_index (drop from row) 0)))
+      equal = ext_get_or 0 (take run (drop from row)) (replicate run (slice_index (drop from row) 0))
+          (size ∙ sym (length-replicate run (slice_index (drop from row) 0)))
           (λ k below.
           let inside : k < run = omega arith in
-          get_or-take run (drop from row) k 0 inside ∙ at k ∙ is.same (from + k) (omega arith) (omega arith) ∙ sym first ∙ sym (get_or-replicate run k (slice_index (drop from row) 0) 0 inside));
+          get_or-take run (drop from row) k 0 inside ∙ at k ∙ is.same (from + k) (omega arith) (omega arith) ∙ sym first
+          ∙ sym (get_or-replicate run k (slice_index (drop from row) 0) 0 inside));
       longest = λ k byte fits alike.
           elim (cases_lt run k) [
             | inr le ↦ le
             | inl past ↦
-                let each : (i : ℕ) → i < k → slice_index (drop from row) i ≡ byte = λ i h. sym (get_or-take k (drop from row) i 0 h) ∙ ap (λ (xs : List ℕ). get_or xs i 0) alike ∙ get_or-replicate k i byte 0 h in
-                absurd (is.differs (omega (arith, length-drop from row)) (ap (slice_index row) there ∙ sym (at run) ∙ each run past ∙ sym (each 0 (omega arith)) ∙ first))
+                let each : (i : ℕ) → i < k → slice_index (drop from row) i ≡ byte =
+                λ i h. sym (get_or-take k (drop from row) i 0 h) ∙ ap (λ (xs : List ℕ). get_or xs i 0) alike
+                ∙ get_or-replicate k i byte 0 h in
+                absurd (is.differs (omega (arith, length-drop from row))
+                (ap (slice_index row) there ∙ sym (at run) ∙ each run past ∙ sym (each 0 (omega arith)) ∙ first))
           ];
     }
 
 -- the front of two rows that is the same
-pub same_len_of : (old wanted : List ℕ) (place : ℕ) → length old ≡ length wanted → IsFirstDifference old wanted place → IsSameLen old wanted place
+pub same_len_of : (old wanted : List ℕ) (place : ℕ) → length old ≡ length wanted → IsFirstDifference old wanted place
+    → IsSameLen old wanted place
 same_len_of old wanted place size is = record {
   within = omega (arith, is.within);
   equal = ext_get_or 0 (take place wanted) (take place old)
@@ -51,13 +58,17 @@ same_len_of old wanted place size is = record {
   longest = λ k fits alike.
       elim (cases_lt place k) [
         | inr le ↦ le
-        | inl past ↦ absurd (is.differs (omega arith) (sym (get_or-take k old place 0 past) ∙ ap (λ (xs : List ℕ). get_or xs place 0) (sym alike) ∙ get_or-take k wanted place 0 past))
+        | inl past ↦
+            absurd (is.differs (omega arith)
+            (sym (get_or-take k old place 0 past) ∙ ap (λ (xs : List ℕ). get_or xs place 0) (sym alike)
+            ∙ get_or-take k wanted place 0 past))
       ];
 }
 
 -- ---- the best length
 
-pub least_len_one : (numbers : List ℕ) (from head each len sum : ℕ) → len ≡ from → sum ≡ head + each * from + slice_index numbers from → IsLeastLen numbers from from head each len sum
+pub least_len_one : (numbers : List ℕ) (from head each len sum : ℕ) → len ≡ from → sum ≡ head + each * from + slice_index numbers from
+    → IsLeastLen numbers from from head each len sum
 least_len_one numbers from head each len sum at e = record {
   above = omega arith;
   below = omega arith;
@@ -66,7 +77,9 @@ least_len_one numbers from head each len sum at e = record {
 }
 
 -- the next length is better
-pub least_len_next : (numbers : List ℕ) (from to head each len sum : ℕ) → from ≤ to → (l s : ℕ) → IsLeastLen numbers from (to - 1) head each l s → len ≡ to → sum ≡ head + each * to + slice_index numbers to → sum ≤ s → IsLeastLen numbers from to head each len sum
+pub least_len_next : (numbers : List ℕ) (from to head each len sum : ℕ) → from ≤ to → (l s : ℕ)
+    → IsLeastLen numbers from (to - 1) head each l s → len ≡ to → sum ≡ head + each * to + slice_index numbers to → sum ≤ s
+    → IsLeastLen numbers from to head each len sum
 least_len_next numbers from to head each len sum order l s best at e better = record {
   above = omega arith;
   below = omega arith;
@@ -79,7 +92,8 @@ least_len_next numbers from to head each len sum order l s best at e better = re
 }
 
 -- it isn't
-pub least_len_stays : (numbers : List ℕ) (from to head each sum : ℕ) → (l s : ℕ) → IsLeastLen numbers from (to - 1) head each l s → sum ≡ head + each * to + slice_index numbers to → s ≤ sum → IsLeastLen numbers from to head each l s
+pub least_len_stays : (numbers : List ℕ) (from to head each sum : ℕ) → (l s : ℕ) → IsLeastLen numbers from (to - 1) head each l s
+    → sum ≡ head + each * to + slice_index numbers to → s ≤ sum → IsLeastLen numbers from to head each l s
 least_len_stays numbers from to head each sum l s best e worse = record {
   above = best.above;
   below = omega (arith, best.below);
@@ -95,13 +109,17 @@ least_len_stays numbers from to head each sum l s best e worse = record {
 pub least_min_one : (numbers : List ℕ) → (len : ℕ) × IsLeastLen numbers 1 1 0 1 len (slice_index numbers 1 + 1)
 least_min_one numbers = (1, least_len_one numbers 1 0 1 1 (slice_index numbers 1 + 1) refl (omega arith))
 
-pub least_min_next : (numbers : List ℕ) (to best now : ℕ) → 1 ≤ to → (len : ℕ) × IsLeastLen numbers 1 (to - 1) 0 1 len best → now ≡ min best (slice_index numbers to + to) → (len : ℕ) × IsLeastLen numbers 1 to 0 1 len now
+pub least_min_next : (numbers : List ℕ) (to best now : ℕ) → 1 ≤ to → (len : ℕ) × IsLeastLen numbers 1 (to - 1) 0 1 len best
+    → now ≡ min best (slice_index numbers to + to) → (len : ℕ) × IsLeastLen numbers 1 to 0 1 len now
 least_min_next numbers to best now order b now-is =
     let sum : ℕ = slice_index numbers to + to in
     elim (cases_lt sum best) [
       | inl better ↦
-          let e : sum ≡ now = omega arith in
-          (to, subst (IsLeastLen numbers 1 to 0 1 to) e (least_len_next numbers 1 to 0 1 to sum order b.0 best b.1 refl (omega arith) (omega arith)))
+          let e : sum ≡ now = omega arith in (
+            to,
+            subst (IsLeastLen numbers 1 to 0 1 to) e
+                (least_len_next numbers 1 to 0 1 to sum order b.0 best b.1 refl (omega arith) (omega arith)),
+          )
       | inr worse ↦
           let e : best ≡ now = omega arith in
           (b.0, subst (IsLeastLen numbers 1 to 0 1 b.0) e (least_len_stays numbers 1 to 0 1 sum b.0 best b.1 (omega arith) worse))

@@ -38,24 +38,29 @@ given_or_nothing_left (Near m o) bytes e = inr (omega (arith, length-copied 1 by
 given_or_nothing_left (Far m f l) bytes e = inr (omega (arith, length-copied 1 bytes))
 
 -- elements within the row that make the wanted bytes are a walk
-pub walk_from_elements : (method : Method) (old row : List ℕ) (es : List Element) (place : ℕ) → length old ≡ length row → AreElements method es → reach es ≤ length row - place
+pub walk_from_elements : (method : Method) (old row : List ℕ) (es : List Element) (place : ℕ) → length old ≡ length row
+    → AreElements method es → reach es ≤ length row - place
     → after_elements es kept (drop place old) ≡ drop place row → Walk (Leads method old row) (Ends old row) place es
 walk_from_elements method old row [] place size are within made = sym made
 walk_from_elements method old row (e ∷ es) place size are within made =
     let before : List ℕ = take (offset_of e.head) (drop place old) in
     let rest : List ℕ = after_elements es kept (drop (stop e) (drop place old)) in
     let whole : drop place row ≡ (before ++ given e) ++ rest = sym made ∙ sym (append_assoc before (given e) rest) in
-    let len : length (before ++ given e) ≡ stop e = omega (arith, length-append before (given e), length-take (offset_of e.head) (drop place old), length-drop place old) in
-    let behind : drop (place + stop e) row ≡ rest = sym (drop-drop (stop e) place row) ∙ ap (drop (stop e)) whole ∙ drop_at (before ++ given e) rest (stop e) len in
+    let len : length (before ++ given e) ≡ stop e =
+    omega (arith, length-append before (given e), length-take (offset_of e.head) (drop place old), length-drop place old) in
+    let behind : drop (place + stop e) row ≡ rest =
+    sym (drop-drop (stop e) place row) ∙ ap (drop (stop e)) whole ∙ drop_at (before ++ given e) rest (stop e) len in
     let same : drop (stop e) (drop place row) ≡ rest = drop-drop (stop e) place row ∙ behind in
-    let next : after_elements es kept (drop (place + stop e) old) ≡ drop (place + stop e) row = ap (after_elements es kept) (sym (drop-drop (stop e) place old)) ∙ sym behind in (
+    let next : after_elements es kept (drop (place + stop e) old) ≡ drop (place + stop e) row =
+    ap (after_elements es kept) (sym (drop-drop (stop e) place old)) ∙ sym behind in (
       place + stop e,
       record { element = are.0; agrees = sym made ∙ ap (λ (bs : List ℕ). before ++ (given e ++ bs)) (sym same); next_is = refl },
       walk_from_elements method old row es (place + stop e) size are.1 (omega arith) next,
     )
 
 -- how far an element that agrees with the row goes
-pub stop_within : (method : Method) (old row : List ℕ) (place : ℕ) (e : Element) → length old ≡ length row → IsElement method e → Agrees (drop place old) (drop place row) e → stop e ≤ length row - place
+pub stop_within : (method : Method) (old row : List ℕ) (place : ℕ) (e : Element) → length old ≡ length row → IsElement method e
+    → Agrees (drop place old) (drop place row) e → stop e ≤ length row - place
 stop_within method old row place e size is agrees =
     let wanted : List ℕ = drop place row in
     let before : List ℕ = take (offset_of e.head) (drop place old) in
@@ -77,7 +82,8 @@ stop_within method old row place e size is agrees =
     ]
 
 -- a walk makes the wanted bytes
-pub walk_makes : (method : Method) (old row : List ℕ) (es : List Element) (place : ℕ) → length old ≡ length row → Walk (Leads method old row) (Ends old row) place es
+pub walk_makes : (method : Method) (old row : List ℕ) (es : List Element) (place : ℕ) → length old ≡ length row
+    → Walk (Leads method old row) (Ends old row) place es
     → AreElements method es × (reach es ≤ length row - place) × (after_elements es kept (drop place old) ≡ drop place row)
 walk_makes method old row [] place size w = (tt, omega arith, sym w)
 walk_makes method old row (e ∷ es) place size w =
@@ -86,27 +92,36 @@ walk_makes method old row (e ∷ es) place size w =
     let next = w.1.next_is in
     let before : List ℕ = take (offset_of e.head) (drop place old) in
     let made : after_elements es kept (drop (stop e) (drop place old)) ≡ drop (stop e) (drop place row) =
-    ap (after_elements es kept) (drop-drop (stop e) place old ∙ ap (λ (p : ℕ). drop p old) (sym next)) ∙ rest.2 ∙ ap (λ (p : ℕ). drop p row) next ∙ sym (drop-drop (stop e) place row) in (
+    ap (after_elements es kept) (drop-drop (stop e) place old ∙ ap (λ (p : ℕ). drop p old) (sym next)) ∙ rest.2
+    ∙ ap (λ (p : ℕ). drop p row) next ∙ sym (drop-drop (stop e) place row) in (
       (w.1.element, rest.0),
       omega (arith, rest.1, next),
       ap (λ (bs : List ℕ). before ++ (given e ++ bs)) made ∙ sym w.1.agrees,
     )
 
 -- behind the elements a cut one with no bytes changes nothing
-after_elements_cut : (es : List Element) (h : Head) (none old : List ℕ) → none ≡ [] → after_elements es (after_element h none (λ rest. rest)) old ≡ after_elements es kept old
+after_elements_cut : (es : List Element) (h : Head) (none old : List ℕ) → none ≡ []
+    → after_elements es (after_element h none (λ rest. rest)) old ≡ after_elements es kept old
 after_elements_cut [] h none old e = after_none h none old e
 after_elements_cut (d ∷ es) h none old e =
     ap (λ (bs : List ℕ). take (offset_of d.head) old ++ (given d ++ bs)) (after_elements_cut es h none (drop (stop d) old) e)
 
 -- whole elements decode to what they make
-pub elements_decode : (method : Method) (old : List ℕ) (es : List Element) → AreElements method es → RowFrom method (flat_map spelling es) old (take (length old) (after_elements es kept old))
+pub elements_decode : (method : Method) (old : List ℕ) (es : List Element) → AreElements method es
+    → RowFrom method (flat_map spelling es) old (take (length old) (after_elements es kept old))
 elements_decode method old es are =
     let e = some_element method in
     let none : drop (length (head_bytes e.0.head)) [] ≡ [] = drop-nil (length (head_bytes e.0.head)) in (
       es,
       e.0,
       [],
-      record { elements = are; joined = sym (append-nil (flat_map spelling es)); element = e.1; lacking = (spelling e.0, refl, spelling_has_byte method e.0 e.1) },
+      record {
+        elements = are;
+        joined = sym (append-nil (flat_map spelling es));
+        element = e.1;
+        lacking =
+            (spelling e.0, refl, spelling_has_byte method e.0 e.1);
+      },
       ap (take (length old)) (sym (after_elements_cut es e.0.head (drop (length (head_bytes e.0.head)) []) old none)),
     )
 
@@ -131,9 +146,13 @@ walk_of_data method seed row bytes size has =
     let old : List ℕ = base method seed in
     let same : length old ≡ length row = length-base method seed ∙ size in
     let w = has.whole in
-    let decoded : RowFrom method bytes old (take (length old) (after_elements w.0 kept old)) = subst (λ (bs : List ℕ). RowFrom method bs old (take (length old) (after_elements w.0 kept old))) (sym w.2) (elements_decode method old w.0 w.1) in
-    let cut : row ≡ take (length old) (after_elements w.0 kept old) = one_row method bytes old row (take (length old) (after_elements w.0 kept old)) has.decodes decoded in
-    let made : after_elements w.0 kept old ≡ row = sym (take_all (length old) (after_elements w.0 kept old) (omega (arith, length-after w.0 old (omega (arith, w.3))))) ∙ sym cut in
+    let decoded : RowFrom method bytes old (take (length old) (after_elements w.0 kept old)) =
+    subst (λ (bs : List ℕ). RowFrom method bs old (take (length old) (after_elements w.0 kept old))) (sym w.2)
+    (elements_decode method old w.0 w.1) in
+    let cut : row ≡ take (length old) (after_elements w.0 kept old) =
+    one_row method bytes old row (take (length old) (after_elements w.0 kept old)) has.decodes decoded in
+    let made : after_elements w.0 kept old ≡ row =
+    sym (take_all (length old) (after_elements w.0 kept old) (omega (arith, length-after w.0 old (omega (arith, w.3))))) ∙ sym cut in
     (w.0, walk_from_elements method old row w.0 0 same w.1 (omega (arith, w.3)) made, total_is w.0 ∙ ap length (sym w.2))
 
 -- a walk is whole data
@@ -145,6 +164,7 @@ data_of_walk method seed row es size small walk =
     let m = walk_makes method old row es 0 same walk in
     record {
       whole = (es, m.0, refl, omega (arith, m.1));
-      decodes = subst (RowFrom method (flat_map spelling es) old) (take_all (length old) (after_elements es kept old) (omega (arith, ap length m.2)) ∙ m.2) (elements_decode method old es m.0);
+      decodes = subst (RowFrom method (flat_map spelling es) old)
+          (take_all (length old) (after_elements es kept old) (omega (arith, ap length m.2)) ∙ m.2) (elements_decode method old es m.0);
       fits = omega (arith, total_is es);
     }

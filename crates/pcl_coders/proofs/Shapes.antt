@@ -20,7 +20,8 @@ one_byte (b ∷ []) e = (b, refl)
 one_byte (b ∷ c ∷ bytes) e = absurd (omega arith)
 
 -- one byte that is repeated
-pub given_copies : (copies : ℕ) (bytes : List ℕ) (byte : ℕ) → bytes ≡ byte ∷ [] → flat_map (λ b. replicate copies b) bytes ≡ replicate copies byte
+pub given_copies : (copies : ℕ) (bytes : List ℕ) (byte : ℕ) → bytes ≡ byte ∷ []
+    → flat_map (λ b. replicate copies b) bytes ≡ replicate copies byte
 given_copies copies bytes byte e = ap (flat_map (λ b. replicate copies b)) e ∙ append-nil (replicate copies byte)
 
 -- copies of one byte
@@ -39,22 +40,46 @@ pub record IsLiteral (h : Head) (bytes : List ℕ) (most head : ℕ) : Type 0 wh
   pub bytes_are : length (head_bytes h ++ bytes) ≡ head + length (given_by h bytes)
 
 pub plain_shape : (h : Head) (bytes : List ℕ) → method_of h ≡ Plain → length bytes ≡ new_count h → (offset_of h ≡ 0) × IsLiteral h bytes 1 0
-plain_shape Itself bytes m c = let l = ap length (given_once bytes) in (refl, record { above = omega (arith, l); below = omega (arith, l); bytes_are = omega (arith, l) })
+plain_shape Itself bytes m c = let l =
+    ap length (given_once bytes) in (refl, record { above = omega (arith, l); below = omega (arith, l); bytes_are = omega (arith, l) })
 plain_shape h bytes m c = absurd cc
 
-pub runs_shape : (h : Head) (bytes : List ℕ) → method_of h ≡ Runs → IsInRange h → length bytes ≡ new_count h → (offset_of h ≡ 0) × IsRepeat h bytes 1 256
+pub runs_shape : (h : Head) (bytes : List ℕ) → method_of h ≡ Runs → IsInRange h → length bytes ≡ new_count h
+    → (offset_of h ≡ 0) × IsRepeat h bytes 1 256
 runs_shape (Count n) bytes m r c =
-    let b = one_byte bytes c in
-    (refl, record { count = n + 1; byte = b.0; above = omega arith; below = omega arith; given_is = given_copies (n + 1) bytes b.0 b.1; bytes_are = omega (arith, c) })
+    let b = one_byte bytes c in (
+      refl,
+      record {
+        count = n + 1;
+        byte = b.0;
+        above = omega arith;
+        below = omega arith;
+        given_is =
+            given_copies (n + 1) bytes b.0 b.1;
+        bytes_are = omega (arith, c);
+      },
+    )
 runs_shape h bytes m r c = absurd cc
 
-pub packed_shape : (h : Head) (bytes : List ℕ) → method_of h ≡ Packed → IsInRange h → length bytes ≡ new_count h → 0 < offset_of h + length (given_by h bytes) → (offset_of h ≡ 0) × (IsRepeat h bytes 2 128 ⊎ IsLiteral h bytes 128 1)
+pub packed_shape : (h : Head) (bytes : List ℕ) → method_of h ≡ Packed → IsInRange h → length bytes ≡ new_count h
+    → 0 < offset_of h + length (given_by h bytes) → (offset_of h ≡ 0) × (IsRepeat h bytes 2 128 ⊎ IsLiteral h bytes 128 1)
 packed_shape (Literal n) bytes m r c some =
     let l = ap length (given_once bytes) in
     (refl, inr record { above = omega (arith, l, c); below = omega (arith, l, c); bytes_are = omega (arith, l) })
 packed_shape (Repeat n) bytes m r c some =
-    let b = one_byte bytes c in
-    (refl, inl record { count = 257 - n; byte = b.0; above = omega (arith, r.1); below = omega (arith, r.0); given_is = given_copies (257 - n) bytes b.0 b.1; bytes_are = omega (arith, c) })
+    let b = one_byte bytes c in (
+      refl,
+      inl
+          record {
+            count = 257 - n;
+            byte = b.0;
+            above = omega (arith, r.1);
+            below = omega (arith, r.0);
+            given_is =
+                given_copies (257 - n) bytes b.0 b.1;
+            bytes_are = omega (arith, c);
+          },
+    )
 packed_shape Skipped [] m r c some = absurd (omega arith)
 packed_shape Skipped (b ∷ bytes) m r c some = absurd (omega arith)
 packed_shape h bytes m r c some = absurd cc
@@ -65,7 +90,8 @@ near_bytes offset below = rw (lt-ltb offset 31 below) refl
 pub far_bytes : (offset : ℕ) → 31 ≤ offset → replacement_bytes offset ≡ 2 + (offset - 31) / 255
 far_bytes offset above = rw (le-ltb offset 31 above) refl
 
-pub delta_shape : (h : Head) (bytes : List ℕ) → method_of h ≡ Delta → IsInRange h → length bytes ≡ new_count h → IsLiteral h bytes 8 (replacement_bytes (offset_of h))
+pub delta_shape : (h : Head) (bytes : List ℕ) → method_of h ≡ Delta → IsInRange h → length bytes ≡ new_count h
+    → IsLiteral h bytes 8 (replacement_bytes (offset_of h))
 delta_shape (Near more offset) bytes m r c =
     let l = ap length (given_once bytes) in
     record { above = omega (arith, l, c); below = omega (arith, l, c, r.0); bytes_are = omega (arith, l, near_bytes offset r.1) }
@@ -77,7 +103,16 @@ delta_shape (Far more full last) bytes m r c =
     record {
       above = omega (arith, l, c);
       below = omega (arith, l, c, r.0);
-      bytes_are = omega (arith, l, count, far_bytes offset (omega arith), length-append {A = ℕ} (replicate full 255 ++ last ∷ []) bytes, length-append {A = ℕ} (replicate full 255) (last ∷ []), length-replicate {A = ℕ} full 255);
+      bytes_are =
+          omega (
+            arith,
+            l,
+            count,
+            far_bytes offset (omega arith),
+            length-append {A = ℕ} (replicate full 255 ++ last ∷ []) bytes,
+            length-append {A = ℕ} (replicate full 255) (last ∷ []),
+            length-replicate {A = ℕ} full 255,
+          );
     }
 delta_shape h bytes m r c = absurd cc
 
@@ -90,10 +125,19 @@ pub record IsReplacementHead (offset len : ℕ) (h : Head) : Type 0 where
   pub copies_is : copies_of h ≡ 1
   pub bytes_are : length (head_bytes h) ≡ replacement_bytes offset
 
-replacement_at : (offset len : ℕ) (near : Bool) → 1 ≤ len → len ≤ 8 → ltb offset 31 ≡ near → IsReplacementHead offset len (cond near (Near (len - 1) offset) (Far (len - 1) ((offset - 31) / 255) ((offset - 31) % 255)))
+replacement_at : (offset len : ℕ) (near : Bool) → 1 ≤ len → len ≤ 8 → ltb offset 31 ≡ near
+    → IsReplacementHead offset len (cond near (Near (len - 1) offset) (Far (len - 1) ((offset - 31) / 255) ((offset - 31) % 255)))
 replacement_at offset len true some few e =
     let below : offset < 31 = ltb-true offset 31 e in
-    record { method_is = refl; in_range = (omega arith, below); offset_is = refl; count_is = omega arith; copies_is = refl; bytes_are = rw e refl }
+    record {
+      method_is = refl;
+      in_range = (omega arith, below);
+      offset_is = refl;
+      count_is = omega arith;
+      copies_is = refl;
+      bytes_are =
+          rw e refl;
+    }
 replacement_at offset len false some few e =
     let above : 31 ≤ offset = ltb-false offset 31 e in
     record {
@@ -102,7 +146,12 @@ replacement_at offset len false some few e =
       offset_is = omega arith;
       count_is = omega arith;
       copies_is = refl;
-      bytes_are = rw e (omega (arith, length-append {A = ℕ} (replicate ((offset - 31) / 255) 255) ((offset - 31) % 255 ∷ []), length-replicate {A = ℕ} ((offset - 31) / 255) 255));
+      bytes_are = rw e
+          (omega (
+            arith,
+            length-append {A = ℕ} (replicate ((offset - 31) / 255) 255) ((offset - 31) % 255 ∷ []),
+            length-replicate {A = ℕ} ((offset - 31) / 255) 255,
+          ));
     }
 
 pub replacement_is : (offset len : ℕ) → 1 ≤ len → len ≤ 8 → IsReplacementHead offset len (replacement offset len)

@@ -20,7 +20,8 @@ use Rattle.pcl_coders.proofs.Ends.{ends_at}
 use Rattle.pcl_coders.proofs.Places.{command_grows, command_joins}
 
 -- as many bytes are left as are the same
-same_to_start : (old row : List ℕ) (place start : ℕ) → length old ≡ length row → IsLatestStart old row place start → IsSameLen (drop place old) (drop place row) (start - place)
+same_to_start : (old row : List ℕ) (place start : ℕ) → length old ≡ length row → IsLatestStart old row place start
+    → IsSameLen (drop place old) (drop place row) (start - place)
 same_to_start old row place start size is =
     let last : ℕ = start - place in
     let there : place + last ≡ start = omega (arith, is.order) in
@@ -28,7 +29,9 @@ same_to_start old row place start size is =
     let difference : IsFirstDifference (drop place old) (drop place row) last = record {
       within = omega (arith, long, is.within);
       same = λ k below. get_or-drop place old k 0 ∙ is.same (place + k) (omega arith) (omega arith) ∙ sym (get_or-drop place row k 0);
-      differs = λ _ same. is.differs (ap (slice_index old) (sym there) ∙ sym (get_or-drop place old last 0) ∙ same ∙ get_or-drop place row last 0 ∙ ap (slice_index row) there);
+      differs = λ _ same. is.differs
+          (ap (slice_index old) (sym there) ∙ sym (get_or-drop place old last 0) ∙ same ∙ get_or-drop place row last 0
+          ∙ ap (slice_index row) there);
     } in
     same_len_of (drop place old) (drop place row) last (omega (arith, long, length-drop place row)) difference
 
@@ -38,11 +41,13 @@ record IsLatestStep (old row : List ℕ) (place start len : ℕ) (e : Element) :
   pub leads : Leads Delta old row place e (start + len)
   pub cost_is : cost e ≡ replacement_bytes (start - place) + len
 
-latest_step : (old row : List ℕ) (place start len : ℕ) → length old ≡ length row → IsLatestStart old row place start → 1 ≤ len → len ≤ 8 → start + len ≤ length row → (e : Element) × IsLatestStep old row place start len e
+latest_step : (old row : List ℕ) (place start len : ℕ) → length old ≡ length row → IsLatestStart old row place start → 1 ≤ len → len ≤ 8
+    → start + len ≤ length row → (e : Element) × IsLatestStep old row place start len e
 latest_step old row place start len size is some few fits =
     let last : ℕ = start - place in
     let wanted : List ℕ = drop place row in
-    let s = replace_step (drop place old) wanted last len some few (omega (arith, length-drop place row, is.order)) (same_to_start old row place start size is).equal in (
+    let s = replace_step (drop place old) wanted last len some few (omega (arith, length-drop place row, is.order))
+    (same_to_start old row place start size is).equal in (
       element_of (Replace last len) wanted,
       record {
         offset_is = (replacement_is last len some few).offset_is;
@@ -61,7 +66,8 @@ pub record IsDeltaStep (old row : List ℕ) (place start next : ℕ) (e : Elemen
   pub within : next ≤ length row
   pub cost_is : cost e ≡ replacement_bytes (offset_of e.head) + len
 
-pub delta_step : (old row : List ℕ) (place start next : ℕ) (e : Element) → length old ≡ length row → IsLatestStart old row place start → Leads Delta old row place e next → IsDeltaStep old row place start next e
+pub delta_step : (old row : List ℕ) (place start next : ℕ) (e : Element) → length old ≡ length row → IsLatestStart old row place start
+    → Leads Delta old row place e next → IsDeltaStep old row place start next e
 delta_step old row place start next e size is l =
     let wanted : List ℕ = drop place row in
     let long = length-drop place row in
@@ -77,7 +83,9 @@ delta_step old row place start next e size is l =
       cost_is = s.bytes_are;
     }
 
-pub latest_is_as_good : (old row : List ℕ) (steps : List Element) (place start : ℕ) → length old ≡ length row → IsLatestStart old row place start → Walk (Leads Delta old row) (Ends old row) place steps → StartsAt old row place start (total cost steps)
+pub latest_is_as_good : (old row : List ℕ) (steps : List Element) (place start : ℕ) → length old ≡ length row
+    → IsLatestStart old row place start → Walk (Leads Delta old row) (Ends old row) place steps
+    → StartsAt old row place start (total cost steps)
 latest_is_as_good old row [] place start size is walk = absurd (is.differs (sym (ends_at old row place start walk is.order)))
 latest_is_as_good old row (e ∷ es) place start size is walk =
     let b : ℕ = walk.0 in
@@ -88,7 +96,8 @@ latest_is_as_good old row (e ∷ es) place start size is walk =
       | inl far ↦
           let len : ℕ = b - start in
           let there : start + len ≡ b = omega arith in
-          let n = latest_step old row place start len size is (omega arith) (omega (arith, d.few, d.next_is, d.early)) (omega (arith, d.within)) in
+          let n = latest_step old row place start len size is (omega arith) (omega (arith, d.few, d.next_is, d.early))
+          (omega (arith, d.within)) in
           record {
             first = n.0;
             rest = es;
@@ -107,12 +116,21 @@ latest_is_as_good old row (e ∷ es) place start size is walk =
           let f = delta_step old row b start r.walk.0 r.first size later r.walk.1 in
           let there : start + f.len ≡ r.walk.0 = omega (arith, f.next_is, r.offset_is) in
           let n = latest_step old row place start f.len size is f.some f.few (omega (arith, f.within)) in
-          let rest-cost : replacement_bytes (offset_of r.first.head) ≡ replacement_bytes (last - (o + d.len)) = ap replacement_bytes (omega (arith, r.offset_is, d.next_is)) in
+          let rest-cost : replacement_bytes (offset_of r.first.head) ≡ replacement_bytes (last - (o + d.len)) =
+          ap replacement_bytes (omega (arith, r.offset_is, d.next_is)) in
           record {
             first = n.0;
             rest = r.rest;
             offset_is = n.1.offset_is;
             walk = (start + f.len, n.1.leads, subst (λ (p : ℕ). Walk (Leads Delta old row) (Ends old row) p r.rest) (sym there) r.walk.2);
-            cheap = omega (arith, n.1.cost_is, d.cost_is, f.cost_is, rest-cost, r.cheap, command_joins o d.len last d.some (omega (arith, d.next_is)));
+            cheap = omega (
+              arith,
+              n.1.cost_is,
+              d.cost_is,
+              f.cost_is,
+              rest-cost,
+              r.cheap,
+              command_joins o d.len last d.some (omega (arith, d.next_is)),
+            );
           }
     ]

@@ -23,7 +23,8 @@ use Rattle.pcl_coders.proofs.Ends.{ends_on, white_byte}
 use Rattle.pcl_coders.proofs.Places.{begun_right}
 
 -- a table over the row before, and over white
-pub begun_base : (method : Method) (seed row table : List ℕ) (end : ℕ) → IsCodable seed row → length table ≡ length row + 1 → IsFirstEnd (base method seed) row end
+pub begun_base : (method : Method) (seed row table : List ℕ) (end : ℕ) → IsCodable seed row → length table ≡ length row + 1
+    → IsFirstEnd (base method seed) row end
     → ((place : ℕ) → end ≤ place → slice_index table place ≡ 0) → IsBegun (base method seed) row table end
 begun_base method seed row table end codable size first zeros = record {
   same_size = length-base method seed ∙ codable.same_size;
@@ -34,13 +35,16 @@ begun_base method seed row table end codable size first zeros = record {
 }
 
 -- where no data is needed at all
-pub none_least : (method : Method) (seed row : List ℕ) (end : ℕ) → IsCodable seed row → IsFirstEnd (base method seed) row end → end ≡ 0 → IsLeastLength method seed row 0
+pub none_least : (method : Method) (seed row : List ℕ) (end : ℕ) → IsCodable seed row → IsFirstEnd (base method seed) row end → end ≡ 0
+    → IsLeastLength method seed row 0
 none_least method seed row end codable first none =
     let table : List ℕ = replicate (length row + 1) 0 in
     let size : length table ≡ length row + 1 = length-replicate {A = ℕ} (length row + 1) 0 in
     let begun = begun_base method seed row table end codable size first (λ place low. white_byte (length row + 1) place) in
-    let right : AreRightFrom method (base method seed) row table 0 = subst (AreRightFrom method (base method seed) row table) none (begun_right method (base method seed) row table end begun) in
-    subst (IsLeastLength method seed row) (white_byte (length row + 1) 0) (first_is_least method seed row table codable (table_is_least method seed row table codable.same_size size right))
+    let right : AreRightFrom method (base method seed) row table 0 =
+    subst (AreRightFrom method (base method seed) row table) none (begun_right method (base method seed) row table end begun) in
+    subst (IsLeastLength method seed row) (white_byte (length row + 1) 0)
+    (first_is_least method seed row table codable (table_is_least method seed row table codable.same_size size right))
 
 -- ---- method 0
 
@@ -58,7 +62,8 @@ falling_at zero first k below = absurd (omega arith)
 falling_at (suc count) first zero below = omega arith
 falling_at (suc count) first (suc k) below = omega (arith, falling_at count (first - 1) k (omega arith))
 
-pub plain_least : (seed row : List ℕ) (end : ℕ) → IsCodable seed row → IsFirstEnd (base Plain seed) row end → IsLeastLength Plain seed row end
+pub plain_least : (seed row : List ℕ) (end : ℕ) → IsCodable seed row → IsFirstEnd (base Plain seed) row end
+    → IsLeastLength Plain seed row end
 plain_least seed row end codable first =
     let old : List ℕ = base Plain seed in
     let table : List ℕ = falling (length row + 1) end in
@@ -81,16 +86,28 @@ plain_least seed row end codable first =
             | inl inside ↦
                 let b = byte_step (drop place old) (drop place row) (omega (arith, length-drop place row)) in
                 let e : Element = element_of SingleByte (drop place row) in
-                inr (e, record { element = b.element; agrees = b.agrees; goes_on = omega (arith, b.stop_is); number_is = omega (arith, at place, at (place + stop e), b.bytes_are, b.stop_is) })
+                inr (
+                  e,
+                  record {
+                    element = b.element;
+                    agrees = b.agrees;
+                    goes_on = omega (arith, b.stop_is);
+                    number_is =
+                        omega (arith, at place, at (place + stop e), b.bytes_are, b.stop_is);
+                  },
+                )
           ];
       small = omega (arith, at place);
     } in
-    subst (IsLeastLength Plain seed row) (at 0 ∙ omega arith) (first_is_least Plain seed row table codable (table_is_least Plain seed row table codable.same_size size right))
+    subst (IsLeastLength Plain seed row) (at 0 ∙ omega arith)
+    (first_is_least Plain seed row table codable (table_is_least Plain seed row table codable.same_size size right))
 
 -- ---- a table of least numbers, whoever made it
 
-right_here : (method : Method) (seed row table : List ℕ) (place : ℕ) → length seed ≡ length row → IsRowTable method seed row table → place ≤ length row → (es : List Element)
-    → Walk (Leads method (base method seed) row) (Ends (base method seed) row) place es → total cost es ≡ slice_index table place → IsPlaceNumber method (base method seed) row table place
+right_here : (method : Method) (seed row table : List ℕ) (place : ℕ) → length seed ≡ length row → IsRowTable method seed row table
+    → place ≤ length row → (es : List Element)
+    → Walk (Leads method (base method seed) row) (Ends (base method seed) row) place es → total cost es ≡ slice_index table place
+    → IsPlaceNumber method (base method seed) row table place
 right_here method seed row table place same is within [] walk total-is = record {
   steps = λ e element agrees. is.feasible.steps place e (place + stop e) (record { element = element; agrees = agrees; next_is = refl });
   ends = is.feasible.ends place;
@@ -100,7 +117,8 @@ right_here method seed row table place same is within [] walk total-is = record 
 right_here method seed row table place same is within (e ∷ es) walk total-is =
     let b : ℕ = walk.0 in
     let next : b ≡ place + stop e = walk.1.next_is in
-    let rest = feasible_bounds (Leads method (base method seed) row) (Ends (base method seed) row) cost (slice_index table) is.feasible b es walk.2 in
+    let rest = feasible_bounds (Leads method (base method seed) row) (Ends (base method seed) row) cost (slice_index table) is.feasible b
+    es walk.2 in
     let some = spelling_has_byte method e walk.1.element in
     let above = is.feasible.steps place e b walk.1 in
     let goes_on : 0 < stop e =
@@ -109,13 +127,24 @@ right_here method seed row table place same is within (e ∷ es) walk total-is =
       | inr stays ↦ let here : b ≡ place = omega arith in absurd (omega (arith, ap (slice_index table) here))
     ] in
     record {
-      steps = λ d element agrees. is.feasible.steps place d (place + stop d) (record { element = element; agrees = agrees; next_is = refl });
+      steps = λ d element agrees. is.feasible.steps place d (place + stop d)
+          (record { element = element; agrees = agrees; next_is = refl });
       ends = is.feasible.ends place;
-      attained = inr (e, record { element = walk.1.element; agrees = walk.1.agrees; goes_on = goes_on; number_is = omega (arith, ap (slice_index table) next) });
+      attained = inr (
+        e,
+        record {
+          element = walk.1.element;
+          agrees = walk.1.agrees;
+          goes_on = goes_on;
+          number_is =
+              omega (arith, ap (slice_index table) next);
+        },
+      );
       small = row_table_small method seed row table (length row - place) place same is (omega arith);
     }
 
-pub right_of_least : (method : Method) (seed row table : List ℕ) → length seed ≡ length row → IsLeastTable method seed row table → AreRightFrom method (base method seed) row table 0
+pub right_of_least : (method : Method) (seed row table : List ℕ) → length seed ≡ length row → IsLeastTable method seed row table
+    → AreRightFrom method (base method seed) row table 0
 right_of_least method seed row table same is place low high =
     let w = is.attained place high in
     right_here method seed row table place same is.table_is high w.0 w.1 w.2

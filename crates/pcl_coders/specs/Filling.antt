@@ -14,7 +14,8 @@ pub record IsNext (method : Method) (old row table : List ℕ) (place : ℕ) (e 
 
 -- the number of a place is right, where those behind it are
 pub record IsPlaceNumber (method : Method) (old row table : List ℕ) (place : ℕ) : Type 0 where
-  pub steps : (e : Element) → IsElement method e → Agrees (drop place old) (drop place row) e → slice_index table place ≤ cost e + slice_index table (place + stop e)
+  pub steps : (e : Element) → IsElement method e → Agrees (drop place old) (drop place row) e
+      → slice_index table place ≤ cost e + slice_index table (place + stop e)
   pub ends : Ends old row place → slice_index table place ≡ 0
   pub attained : Ends old row place ⊎ ((e : Element) × IsNext method old row table place e)
   pub small : slice_index table place ≤ 2 * (length row - place)

@@ -34,4 +34,5 @@ pub record IsRowTable (method : Method) (seed row table : List ℕ) : Type 0 whe
 -- the least numbers: data for the rest of the row has that many bytes
 pub record IsLeastTable (method : Method) (seed row table : List ℕ) : Type 0 where
   pub table_is : IsRowTable method seed row table
-  pub attained : (place : ℕ) → place ≤ length row → IsAttained (Leads method (base method seed) row) (Ends (base method seed) row) cost place (slice_index table place)
+  pub attained : (place : ℕ) → place ≤ length row
+      → IsAttained (Leads method (base method seed) row) (Ends (base method seed) row) cost place (slice_index table place)

@@ -20,5 +20,9 @@ pub record IsQueue (numbers places : List ℕ) (taken put first stop : ℕ) : Ty
   pub order : first ≤ stop
   pub stop_within : stop ≤ put
   pub inside : (j : ℕ) → first ≤ j → j < stop → (taken ≤ slice_index places j) × (slice_index places j < put)
-  pub grow : (i j : ℕ) → first ≤ i → i < j → j < stop → (slice_index places i < slice_index places j) × (slice_index numbers (slice_index places i) ≤ slice_index numbers (slice_index places j))
-  pub covers : (k : ℕ) → taken ≤ k → k < put → (j : ℕ) × (first ≤ j) × (j < stop) × (k ≤ slice_index places j) × (slice_index numbers (slice_index places j) ≤ slice_index numbers k)
+  pub grow : (i j : ℕ) → first ≤ i → i < j → j < stop
+      → (slice_index places i < slice_index places j)
+      × (slice_index numbers (slice_index places i) ≤ slice_index numbers (slice_index places j))
+  pub covers : (k : ℕ) → taken ≤ k → k < put
+      → (j : ℕ) × (first ≤ j) × (j < stop) × (k ≤ slice_index places j)
+      × (slice_index numbers (slice_index places j) ≤ slice_index numbers k)

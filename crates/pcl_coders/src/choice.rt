@@ -82,7 +82,8 @@ impl Choice {
 
     fn runs(wanted: &[u8], numbers: &[u16]) -> Choice
         requires { IsPlace wanted.now numbers.now }
-        ensures { (old : List ℕ) → length old ≡ length wanted.now → IsStepChoice methods.Runs old wanted.now numbers.now result.step result.sum }
+        ensures { (old : List ℕ) → length old ≡ length wanted.now
+            → IsStepChoice methods.Runs old wanted.now numbers.now result.step result.sum }
     {
         let longest = run_end(wanted, 0).min(256);
         let best = LeastLen::among(numbers, 1, longest, 2, 0, Tie::Longest);
@@ -94,7 +95,8 @@ impl Choice {
 
     fn packed(wanted: &[u8], numbers: &[u16]) -> Choice
         requires { IsPlace wanted.now numbers.now }
-        ensures { (old : List ℕ) → length old ≡ length wanted.now → IsStepChoice methods.Packed old wanted.now numbers.now result.step result.sum }
+        ensures { (old : List ℕ) → length old ≡ length wanted.now
+            → IsStepChoice methods.Packed old wanted.now numbers.now result.step result.sum }
     {
         let literal = LeastLen::among(numbers, 1, wanted.len().min(128), 1, 1, Tie::Longest);
         let longest = run_end(wanted, 0).min(128);

@@ -12,12 +12,14 @@ ghost use Rattle.pcl_coders.specs.Coding.{IsCodable, IsLeastLength};
 
 /// No whole data for a row is shorter than the first number of a row table, whoever made the table.
 pub fn row_table_bounds_data()
-    ensures { (method : Method) (seed row table bytes : List ℕ) → length seed ≡ length row → IsRowTable method seed row table → IsRowData method seed row bytes → slice_index table 0 ≤ length bytes }
+    ensures { (method : Method) (seed row table bytes : List ℕ) → length seed ≡ length row → IsRowTable method seed row table
+        → IsRowData method seed row bytes → slice_index table 0 ≤ length bytes }
 {}
 
 /// The first of the least numbers is the least length.
 pub fn first_number_is_least()
-    ensures { (method : Method) (seed row table : List ℕ) → IsCodable seed row → IsLeastTable method seed row table → IsLeastLength method seed row (slice_index table 0) }
+    ensures { (method : Method) (seed row table : List ℕ) → IsCodable seed row → IsLeastTable method seed row table
+        → IsLeastLength method seed row (slice_index table 0) }
 {}
 
 /// Each of the least numbers is the least cost of a walk from its place: no elements that give the rest of

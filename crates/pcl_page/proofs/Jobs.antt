@@ -46,7 +46,8 @@ hands_further {S} takes dpi before now old middle new h k =
 -- the performance of commands behind one, by why that one is refused
 abbrev from_refusal : Dpi → ℕ → History → Said → List Said → Option Kind → Performance
 from_refusal dpi end history command commands kind =
-    then_on (then_on (after_command command history kind) (after_all dpi commands)) (λ all. after_end end all (page_refusal (at_end dpi (situation dpi all))))
+    then_on (then_on (after_command command history kind) (after_all dpi commands))
+    (λ all. after_end end all (page_refusal (at_end dpi (situation dpi all))))
 
 pub performed_next : (dpi : Dpi) (end : ℕ) (history : History) (command : Said) (commands : List Said) (operation : Operation)
     → operation_of command.name ≡ Some operation → command_refusal dpi command (situation dpi history) ≡ None
@@ -77,11 +78,13 @@ Adds s later = (more : List Sheet) × (later.pages ≡ s.pages ++ more)
 adds_none : (s later : Situation) → later.pages ≡ s.pages → Adds s later
 adds_none s later e = ([], e ∙ sym (append-nil s.pages))
 
-adds_turned : (settings : Settings) (effect : Effect) (s : Situation) (test : Bool) → ejects effect (is_marked s) ≡ test → Adds s (turned settings effect s)
+adds_turned : (settings : Settings) (effect : Effect) (s : Situation) (test : Bool) → ejects effect (is_marked s) ≡ test
+    → Adds s (turned settings effect s)
 adds_turned settings effect s true e = (sheet_of s ∷ [], rw e refl)
 adds_turned settings effect s false e = ([], rw e (sym (append-nil s.pages)))
 
-adds_drawn : (dpi : Dpi) (operation : Operation) (command : Said) (o : Outcome) (s later : Situation) → done_with dpi operation command o s ≡ Some later → Adds s later
+adds_drawn : (dpi : Dpi) (operation : Operation) (command : Said) (o : Outcome) (s later : Situation)
+    → done_with dpi operation command o s ≡ Some later → Adds s later
 adds_drawn dpi operation command None s later e = absurd cc
 adds_drawn dpi operation command (Some done) s later e =
     let now = turned done.0 done.1 s in
@@ -91,28 +94,33 @@ adds_drawn dpi operation command (Some done) s later e =
 
 adds_by : (dpi : Dpi) (operation : Operation) (command : Said) (s later : Situation) (ignored : Bool)
     → cond ignored (Some (counted s)) (taken dpi operation command (prepared dpi operation (counted s))) ≡ Some later → Adds s later
-adds_by dpi operation command s later true e = let same : counted s ≡ later = cc in adds_none s later (ap (λ (z : Situation). z.pages) (sym same))
+adds_by dpi operation command s later true e = let same : counted s ≡ later =
+    cc in adds_none s later (ap (λ (z : Situation). z.pages) (sym same))
 adds_by dpi operation command s later false e =
     let before = prepared dpi operation (counted s) in
     let d = adds_drawn dpi operation command (outcome dpi operation command.value (is_marked before) before.settings) before later e in
     (d.0, d.1 ∙ ap (λ (ps : List Sheet). ps ++ d.0) (prepared_pages dpi (ends_raster operation) (counted s)))
 
-adds_after : (dpi : Dpi) (operation : Operation) (command : Said) (s later : Situation) → after dpi operation command s ≡ Some later → Adds s later
+adds_after : (dpi : Dpi) (operation : Operation) (command : Said) (s later : Situation) → after dpi operation command s ≡ Some later
+    → Adds s later
 unfolding after
 adds_after dpi operation command s later e = adds_by dpi operation command s later (is_ignored operation s) e
 
 -- an event that isn't refused only adds pages; one that is stays where it is
-adds_next : (dpi : Dpi) (operation : Operation) (command : Said) (s : Situation) (o : Option Situation) → after dpi operation command s ≡ o → Adds s (reached o s)
+adds_next : (dpi : Dpi) (operation : Operation) (command : Said) (s : Situation) (o : Option Situation) → after dpi operation command s ≡ o
+    → Adds s (reached o s)
 adds_next dpi operation command s None e = adds_none s s refl
 adds_next dpi operation command s (Some later) e = adds_after dpi operation command s later e
 
 end_adds : (dpi : Dpi) (end : ℕ) (history : History) (kind : Option Kind)
     → Extends dpi (situation dpi history).pages (after_end end history kind)
-end_adds dpi end history None = adds_turned defaults EjectMarked (end_raster dpi (situation dpi history)) (is_marked (end_raster dpi (situation dpi history))) refl
+end_adds dpi end history None =
+    adds_turned defaults EjectMarked (end_raster dpi (situation dpi history)) (is_marked (end_raster dpi (situation dpi history))) refl
 end_adds dpi end history (Some kind) = adds_none (situation dpi history) (situation dpi history) refl
 
 with_adds : (dpi : Dpi) (end : ℕ) (operation : Option Operation) (command : Said) (history : History) (commands : List Said)
-    → Extends dpi (situation dpi (with_operation operation command history)).pages (performance dpi end (with_operation operation command history) commands)
+    → Extends dpi (situation dpi (with_operation operation command history)).pages
+    (performance dpi end (with_operation operation command history) commands)
     → Extends dpi (situation dpi history).pages (performance dpi end (with_operation operation command history) commands)
 with_adds dpi end None command history commands e = e
 with_adds dpi end (Some operation) command history commands e =
@@ -125,15 +133,18 @@ command_adds : (dpi : Dpi) (end : ℕ) (command : Said) (history : History) (com
 command_adds dpi end command history commands None e = e
 command_adds dpi end command history commands (Some kind) e = adds_none (situation dpi history) (situation dpi history) refl
 
-pub extends : (dpi : Dpi) (end : ℕ) (history : History) (commands : List Said) → Extends dpi (situation dpi history).pages (performance dpi end history commands)
+pub extends : (dpi : Dpi) (end : ℕ) (history : History) (commands : List Said)
+    → Extends dpi (situation dpi history).pages (performance dpi end history commands)
 extends dpi end history [] = end_adds dpi end history (page_refusal (at_end dpi (situation dpi history)))
 extends dpi end history (command ∷ commands) =
     command_adds dpi end command history commands (command_refusal dpi command (situation dpi history))
-    (with_adds dpi end (operation_of command.name) command history commands (extends dpi end (with_operation (operation_of command.name) command history) commands))
+    (with_adds dpi end (operation_of command.name) command history commands
+    (extends dpi end (with_operation (operation_of command.name) command history) commands))
 
 -- ---- how far the performing has come
 
-pub record IsReached {S : Type 0} (takes : S → Page → S → Type 0) (dpi : Dpi) (end : ℕ) (whole : Performance) (rest : List Said) (performer : Performer) (old now : S) : Type 0 where
+pub record IsReached {S : Type 0} (takes : S → Page → S → Type 0) (dpi : Dpi) (end : ℕ) (whole : Performance) (rest : List Said)
+    (performer : Performer) (old now : S) : Type 0 where
   pub history : History
   pub is_in : IsIn dpi (situation dpi history) performer
   pub handed : Hands takes dpi (situation dpi history).pages old now
@@ -144,64 +155,81 @@ pub tried_ok : (command : Said) (tried : Result (Unit {0}) CallFault) (done : Un
 tried_ok command (Ok unit) done e = refl
 tried_ok command (Err fault) done e = absurd cc
 
-pub next_reached : {S : Type 0} (takes : S → Page → S → Type 0) (dpi : Dpi) (end : ℕ) (whole : Performance) (command : Said) (rest : List Said) (performer later : Performer) (old now then : S) (done : Unit {0})
+pub next_reached : {S : Type 0} (takes : S → Page → S → Type 0) (dpi : Dpi) (end : ℕ) (whole : Performance) (command : Said)
+    (rest : List Said) (performer later : Performer) (old now then : S) (done : Unit {0})
     → IsReached takes dpi end whole (command ∷ rest) performer old now
     → ((s : Situation) → IsIn dpi s performer → CommandDone takes dpi command s (Ok done) later now then)
     → IsReached takes dpi end whole rest later old then
 next_reached {S} takes dpi end whole command rest performer later old now then done r step =
     let s = situation dpi r.history in
     let c = step s r.is_in in
-    let t = subst (λ (result : Result (Unit {0}) CallFault). IsTried takes dpi command s result later now then) (tried_ok command c.0 done c.1) c.2 in
+    let t = subst (λ (result : Result (Unit {0}) CallFault). IsTried takes dpi command s result later now then)
+    (tried_ok command c.0 done c.1) c.2 in
     let history = performed t.0 command ∷ r.history in
     let at : situation dpi history ≡ t.1 = situation_next dpi r.history command t.0 t.1 t.3 in
     record {
       history = history;
       is_in = subst (λ (z : Situation). IsIn dpi z later) (sym at) t.5;
-      handed = subst (λ (z : Situation). Hands takes dpi z.pages old then) (sym at) (hands_further takes dpi s t.1 old now then r.handed t.6);
+      handed = subst (λ (z : Situation). Hands takes dpi z.pages old then) (sym at)
+          (hands_further takes dpi s t.1 old now then r.handed t.6);
       same = sym (performed_next dpi end r.history command rest t.0 t.2 t.4) ∙ r.same;
     }
 
-refused_reached : {S : Type 0} (takes : S → Page → S → Type 0) (dpi : Dpi) (end : ℕ) (whole : Performance) (command : Said) (rest : List Said) (performer : Performer) (old now then : S) (kind : Kind)
-    → (r : IsReached takes dpi end whole (command ∷ rest) performer old now) → command_refusal dpi command (situation dpi r.history) ≡ Some kind → then ≡ now
+refused_reached : {S : Type 0} (takes : S → Page → S → Type 0) (dpi : Dpi) (end : ℕ) (whole : Performance) (command : Said)
+    (rest : List Said) (performer : Performer) (old now then : S) (kind : Kind)
+    → (r : IsReached takes dpi end whole (command ∷ rest) performer old now)
+    → command_refusal dpi command (situation dpi r.history) ≡ Some kind → then ≡ now
     → HandsOver takes dpi whole (Err (Refused (refusal kind command.at command.name))) old then
 refused_reached {S} takes dpi end whole command rest performer old now then kind r some same =
     let stops = sym r.same ∙ refused_next dpi end r.history command rest kind some in (
       ap (λ (p : Performance). p.refusal) stops,
-      subst (λ (p : Performance). Hands takes dpi (pages_of dpi p) old then) (sym stops) (subst (λ (x : S). Hands takes dpi (situation dpi r.history).pages old x) (sym same) r.handed),
+      subst (λ (p : Performance). Hands takes dpi (pages_of dpi p) old then) (sym stops)
+          (subst (λ (x : S). Hands takes dpi (situation dpi r.history).pages old x) (sym same) r.handed),
     )
 
 -- memory ran out: the sink has a front of the pages
-short_reached : {S : Type 0} (takes : S → Page → S → Type 0) (dpi : Dpi) (end : ℕ) (whole : Performance) (rest : List Said) (history : History) (old then : S)
-    → performance dpi end history rest ≡ whole → Hands takes dpi (situation dpi history).pages old then → HandsOver takes dpi whole (Err Memory) old then
+short_reached : {S : Type 0} (takes : S → Page → S → Type 0) (dpi : Dpi) (end : ℕ) (whole : Performance) (rest : List Said)
+    (history : History) (old then : S)
+    → performance dpi end history rest ≡ whole
+    → Hands takes dpi (situation dpi history).pages old then → HandsOver takes dpi whole (Err Memory) old then
 short_reached {S} takes dpi end whole rest history old then same h =
     let e = extends dpi end history rest in
     ((situation dpi history).pages, e.0, ap (λ (p : Performance). pages_of dpi p) (sym same) ∙ e.1, h)
 
-memory_reached : {S : Type 0} (takes : S → Page → S → Type 0) (dpi : Dpi) (end : ℕ) (whole : Performance) (command : Said) (rest : List Said) (performer later : Performer) (old now then : S)
-    → (r : IsReached takes dpi end whole (command ∷ rest) performer old now) → IsTried takes dpi command (situation dpi r.history) (Err call.Memory) later now then
+memory_reached : {S : Type 0} (takes : S → Page → S → Type 0) (dpi : Dpi) (end : ℕ) (whole : Performance) (command : Said)
+    (rest : List Said) (performer later : Performer) (old now then : S)
+    → (r : IsReached takes dpi end whole (command ∷ rest) performer old now)
+    → IsTried takes dpi command (situation dpi r.history) (Err call.Memory) later now then
     → HandsOver takes dpi whole (Err Memory) old then
 memory_reached {S} takes dpi end whole command rest performer later old now then r t =
     elim t [
-      | inl same ↦ short_reached takes dpi end whole (command ∷ rest) r.history old then r.same (subst (λ (x : S). Hands takes dpi (situation dpi r.history).pages old x) (sym same) r.handed)
+      | inl same ↦ short_reached takes dpi end whole (command ∷ rest) r.history old then r.same
+          (subst (λ (x : S). Hands takes dpi (situation dpi r.history).pages old x) (sym same) r.handed)
       | inr d ↦
           let s = situation dpi r.history in
           let at : situation dpi (performed d.0 command ∷ r.history) ≡ d.1 = situation_next dpi r.history command d.0 d.1 d.3 in
-          short_reached takes dpi end whole rest (performed d.0 command ∷ r.history) old then (sym (performed_next dpi end r.history command rest d.0 d.2 d.4) ∙ r.same)
+          short_reached takes dpi end whole rest (performed d.0 command ∷ r.history)
+          old then (sym (performed_next dpi end r.history command rest d.0 d.2 d.4) ∙ r.same)
           (subst (λ (z : Situation). Hands takes dpi z.pages old then) (sym at) (hands_further takes dpi s d.1 old now then r.handed d.5))
     ]
 
-fault_by : {S : Type 0} (takes : S → Page → S → Type 0) (dpi : Dpi) (end : ℕ) (whole : Performance) (command : Said) (rest : List Said) (performer later : Performer) (old now then : S) (tried : Result (Unit {0}) CallFault)
-    → (r : IsReached takes dpi end whole (command ∷ rest) performer old now) → IsTried takes dpi command (situation dpi r.history) tried later now then
+fault_by : {S : Type 0} (takes : S → Page → S → Type 0) (dpi : Dpi) (end : ℕ) (whole : Performance) (command : Said) (rest : List Said)
+    (performer later : Performer) (old now then : S) (tried : Result (Unit {0}) CallFault)
+    → (r : IsReached takes dpi end whole (command ∷ rest) performer old now)
+    → IsTried takes dpi command (situation dpi r.history) tried later now then
     → (fault : JobFault) → Err fault ≡ result_of command tried → HandsOver takes dpi whole (Err fault) old then
 fault_by {S} takes dpi end whole command rest performer later old now then (Ok unit) r t fault e = absurd cc
 fault_by {S} takes dpi end whole command rest performer later old now then (Err (call.Refused kind)) r t fault e =
     let is : Refused (refusal kind command.at command.name) ≡ fault = cc in
-    subst (λ (f : JobFault). HandsOver takes dpi whole (Err f) old then) is (refused_reached takes dpi end whole command rest performer old now then kind r t.0 t.1)
+    subst (λ (f : JobFault). HandsOver takes dpi whole (Err f) old then) is
+    (refused_reached takes dpi end whole command rest performer old now then kind r t.0 t.1)
 fault_by {S} takes dpi end whole command rest performer later old now then (Err call.Memory) r t fault e =
     let is : Memory ≡ fault = cc in
-    subst (λ (f : JobFault). HandsOver takes dpi whole (Err f) old then) is (memory_reached takes dpi end whole command rest performer later old now then r t)
+    subst (λ (f : JobFault). HandsOver takes dpi whole (Err f) old then) is
+    (memory_reached takes dpi end whole command rest performer later old now then r t)
 
-pub fault_reached : {S : Type 0} (takes : S → Page → S → Type 0) (dpi : Dpi) (end : ℕ) (whole : Performance) (command : Said) (rest : List Said) (performer later : Performer) (old now then : S) (fault : JobFault)
+pub fault_reached : {S : Type 0} (takes : S → Page → S → Type 0) (dpi : Dpi) (end : ℕ) (whole : Performance) (command : Said)
+    (rest : List Said) (performer later : Performer) (old now then : S) (fault : JobFault)
     → IsReached takes dpi end whole (command ∷ rest) performer old now
     → ((s : Situation) → IsIn dpi s performer → CommandDone takes dpi command s (Err fault) later now then)
     → HandsOver takes dpi whole (Err fault) old then
@@ -209,7 +237,8 @@ fault_reached {S} takes dpi end whole command rest performer later old now then 
     let c = step (situation dpi r.history) r.is_in in
     fault_by takes dpi end whole command rest performer later old now then c.0 r c.2 fault c.1
 
-pub end_reached : {S : Type 0} (takes : S → Page → S → Type 0) (dpi : Dpi) (end : ℕ) (whole : Performance) (performer : Performer) (old now then : S) (result : Result (Unit {0}) JobFault)
+pub end_reached : {S : Type 0} (takes : S → Page → S → Type 0) (dpi : Dpi) (end : ℕ) (whole : Performance) (performer : Performer)
+    (old now then : S) (result : Result (Unit {0}) JobFault)
     → IsReached takes dpi end whole [] performer old now
     → ((dpi : Dpi) (s : Situation) → IsIn dpi s performer → EndDone takes dpi end s result now then)
     → HandsOver takes dpi whole result old then
@@ -218,14 +247,17 @@ end_reached {S} takes dpi end whole performer old now then (Ok done) r step =
     let d = step dpi s r.is_in in
     let ends : whole ≡ record { history = ended ∷ r.history; refusal = None } = sym r.same ∙ ap (after_end end r.history) d.0 in (
       ap (λ (p : Performance). p.refusal) ends,
-      subst (λ (p : Performance). Hands takes dpi (pages_of dpi p) old then) (sym ends) (hands_further takes dpi s (at_end dpi s) old now then r.handed d.1),
+      subst (λ (p : Performance). Hands takes dpi (pages_of dpi p) old then) (sym ends)
+          (hands_further takes dpi s (at_end dpi s) old now then r.handed d.1),
     )
 end_reached {S} takes dpi end whole performer old now then (Err (Refused why)) r step =
     let s = situation dpi r.history in
     let d = step dpi s r.is_in in
-    let stops : whole ≡ record { history = r.history; refusal = Some (refusal d.0 end Empty) } = sym r.same ∙ ap (after_end end r.history) d.1 in (
+    let stops : whole ≡ record { history = r.history; refusal = Some (refusal d.0 end Empty) } =
+    sym r.same ∙ ap (after_end end r.history) d.1 in (
       ap (λ (p : Performance). p.refusal) stops ∙ ap (λ (f : Refusal). Some f) (sym d.2),
-      subst (λ (p : Performance). Hands takes dpi (pages_of dpi p) old then) (sym stops) (subst (λ (x : S). Hands takes dpi s.pages old x) (sym d.3) r.handed),
+      subst (λ (p : Performance). Hands takes dpi (pages_of dpi p) old then) (sym stops)
+          (subst (λ (x : S). Hands takes dpi s.pages old x) (sym d.3) r.handed),
     )
 end_reached {S} takes dpi end whole performer old now then (Err Memory) r step =
     short_reached takes dpi end whole [] r.history old then r.same
@@ -243,7 +275,8 @@ pub has_pages : {S : Type 0} {takes : S → Page → S → Type 0} {dpi : Dpi} {
 has_pages {S} {takes} {dpi} {job} {done} {old} {new} p =
     record { commands = p.commands; reading = p.reading; accepted = p.handed.0; ejected = refl }
 
-show_more : (dpi : Dpi) (pages : List Page) (page : Page) (sheets : List Sheet) (sheet : Sheet) → AllShow dpi pages sheets → Shows dpi page sheet
+show_more : (dpi : Dpi) (pages : List Page) (page : Page) (sheets : List Sheet) (sheet : Sheet) → AllShow dpi pages sheets
+    → Shows dpi page sheet
     → AllShow dpi (pages ++ page ∷ []) (sheets ++ sheet ∷ [])
 show_more dpi [] page [] sheet a s = (s, tt)
 show_more dpi [] page (one ∷ sheets) sheet a s = absurd a
@@ -268,6 +301,7 @@ pub all_shown : (dpi : Dpi) (front old new : List Page) (before sheets : List Sh
 all_shown dpi front old new before [] e s h = rw append-nil (subst (λ (pages : List Page). AllShow dpi pages before) (sym (h ∙ e)) s)
 all_shown dpi front old new before (sheet ∷ sheets) e s h =
     let copy = h.3.0 in
-    let shown = all_shown dpi (front ++ copy ∷ []) h.1 new (before ++ sheet ∷ []) sheets (h.3.1 ∙ ap (λ (pages : List Page). pages ++ copy ∷ []) e)
+    let shown =
+    all_shown dpi (front ++ copy ∷ []) h.1 new (before ++ sheet ∷ []) sheets (h.3.1 ∙ ap (λ (pages : List Page). pages ++ copy ∷ []) e)
     (show_more dpi front copy before sheet s (copy_shows dpi h.0 copy sheet h.2 h.3.2)) h.4 in
     subst (λ (all : List Sheet). AllShow dpi new all) (append_assoc before (sheet ∷ []) sheets) shown

@@ -36,7 +36,8 @@ cleared_at (byte ∷ row) width (suc last) rest long e some few =
 
 -- the same with the numbers of the code
 pub cleared_last : (row : List ℕ) (width : ℕ) → length row ≡ (width + 7) / 8 → 0 < width % 8
-    → set row (length row - 1) (get_or row (length row - 1) 0 - get_or row (length row - 1) 0 % (1 * 2 ^ (8 - width % 8) % 256)) ≡ cleared_past width row
+    → set row (length row - 1) (get_or row (length row - 1) 0 - get_or row (length row - 1) 0 % (1 * 2 ^ (8 - width % 8) % 256))
+    ≡ cleared_past width row
 cleared_last row width long some =
     let small : 2 ^ (8 - width % 8) ≤ 2 ^ 7 = pow_mono {i = 8 - width % 8} {j = 7} (omega arith) in
     let step : 1 * 2 ^ (8 - width % 8) % 256 ≡ 2 ^ (8 - width % 8) = omega (arith, small) in

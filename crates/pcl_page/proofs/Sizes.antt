@@ -88,16 +88,19 @@ method_keeps : (method : Option Method) (s : Settings) → KeepsSize s (set_meth
 method_keeps None s = none_keeps s
 method_keeps (Some method) s = stay_keeps s (record s { method = method }) refl
 
-keeps : (dpi : Dpi) (operation : Operation) (value : Value) (marked : Bool) (s : Settings) → KeepsSize s (outcome dpi operation value marked s)
+keeps : (dpi : Dpi) (operation : Operation) (value : Value) (marked : Bool) (s : Settings)
+    → KeepsSize s (outcome dpi operation value marked s)
 unfolding outcome
 keeps dpi Reset v m s = marked_keeps s defaults
-keeps dpi UniversalExit v m s = if_keeps (is_minus v.sign && whole_of v == 12345) s (Some (defaults, EjectMarked)) None (marked_keeps s defaults) (none_keeps s)
+keeps dpi UniversalExit v m s =
+    if_keeps (is_minus v.sign && whole_of v == 12345) s (Some (defaults, EjectMarked)) None (marked_keeps s defaults) (none_keeps s)
 keeps dpi ClearMargins v m s = stay_keeps s _ refl
 keeps dpi HalfLineFeed v m s = feed_keeps (s.vmi / 2) s s refl
 keeps dpi HorizontalTab v m s = stay_keeps s _ refl
 keeps dpi LineFeed v m s = feed_keeps s.vmi s (before_feed s) (if_size s.feed_returns s.size (return_carriage s) s refl refl)
 keeps dpi FormFeed v m s = eject_keeps s (before_feed s)
-keeps dpi CarriageReturn v m s = if_keeps s.return_feeds s (feed s.vmi (return_carriage s)) (stays (return_carriage s)) (feed_keeps s.vmi s (return_carriage s) refl)
+keeps dpi CarriageReturn v m s =
+    if_keeps s.return_feeds s (feed s.vmi (return_carriage s)) (stays (return_carriage s)) (feed_keeps s.vmi s (return_carriage s) refl)
     (stay_keeps s (return_carriage s) refl)
 keeps dpi (Shift side) v m s = stay_keeps s _ refl
 keeps dpi PageSize v m s =
@@ -138,13 +141,15 @@ keeps dpi LeftMargin v m s =
 keeps dpi (Move axis unit) v m s = stay_keeps s (move_along axis unit v s) (axis_size axis unit v s)
 keeps dpi CursorStack v m s =
     counted_keeps v s (λ n. if n == 0 then stays (push s) else stays_if (n == 1) (pop s))
-    (λ n. if_keeps (n == 0) s (stays (push s)) (stays_if (n == 1) (pop s)) (stay_keeps s (push s) (push_size s)) (stays_if_keeps (n == 1) s (pop s) (pop_size s.stack s)))
+    (λ n. if_keeps (n == 0) s (stays (push s)) (stays_if (n == 1) (pop s)) (stay_keeps s (push s) (push_size s))
+    (stays_if_keeps (n == 1) s (pop s) (pop_size s.stack s)))
 keeps dpi MacroId v m s =
     counted_keeps v s (λ n. stays_if (nat_le n 32767) (record s { macro_id = n }))
     (λ n. stays_if_keeps _ s _ refl)
 keeps dpi (RectangleSize axis unit) v m s =
     counted_keeps v s (λ n. stays (set_rectangle axis (scaled_by (unit_of axis unit s) v) s))
-    (λ n. stay_keeps s (set_rectangle axis (scaled_by (unit_of axis unit s) v) s) (rectangle_size axis (scaled_by (unit_of axis unit s) v) s))
+    (λ n. stay_keeps s (set_rectangle axis (scaled_by (unit_of axis unit s) v) s)
+    (rectangle_size axis (scaled_by (unit_of axis unit s) v) s))
 keeps dpi FillRectangle v m s =
     counted_keeps v s (λ n. stays_if (is_one_of (0 ∷ 1 ∷ 5 ∷ []) n) s)
     (λ n. stays_if_keeps _ s _ refl)
@@ -182,6 +187,7 @@ keeps dpi RasterRow v m s =
     (λ n. stay_keeps s _ refl)
 keeps dpi NoEffect v m s = stay_keeps s _ refl
 
-pub size_kept : (dpi : Dpi) (operation : Operation) (value : Value) (marked : Bool) (s settings : Settings) → outcome dpi operation value marked s ≡ Some (settings, Stay)
+pub size_kept : (dpi : Dpi) (operation : Operation) (value : Value) (marked : Bool) (s settings : Settings)
+    → outcome dpi operation value marked s ≡ Some (settings, Stay)
     → settings.size ≡ s.size
 size_kept dpi operation value marked s settings o = (subst (KeepsSize s) o (keeps dpi operation value marked s)).same refl

@@ -40,7 +40,8 @@ height_same : {one other : Size} {dpi same : Dpi} → one ≡ other → dpi ≡ 
 height_same {one} {other} {dpi} {same} p q = ap (λ (size : Size). page_height size dpi) p ∙ ap (λ (d : Dpi). page_height other d) q
 
 -- the same bitmap, of the same size, shows the same marks
-painted_same : {dpi : Dpi} {size other : Size} {marks : List Mark} {old new : Picture} → IsPainted dpi size marks old → new ≡ old → other ≡ size
+painted_same : {dpi : Dpi} {size other : Size} {marks : List Mark} {old new : Picture} → IsPainted dpi size marks old → new ≡ old
+    → other ≡ size
     → IsPainted dpi other marks new
 painted_same {dpi} {size} {other} {marks} {old} {new} p e s =
     subst (λ (b : Picture). IsPainted dpi other marks b) (sym e) (subst (λ (z : Size). IsPainted dpi z marks old) (sym s) p)
@@ -71,7 +72,8 @@ prepared_page : (dpi : Dpi) (ends : Bool) (s : Situation) → KeepsPage s (cond 
 prepared_page dpi true s = record { size = size_below dpi s.raster s.settings; marks = refl; pages = refl; performed = refl }
 prepared_page dpi false s = record { size = refl; marks = refl; pages = refl; performed = refl }
 
-pub prepared_in : (dpi : Dpi) (operation : Operation) (s : Situation) (old new : Performer) → IsIn dpi s old → IsPrepared dpi operation old new
+pub prepared_in : (dpi : Dpi) (operation : Operation) (s : Situation) (old new : Performer) → IsIn dpi s old
+    → IsPrepared dpi operation old new
     → IsIn dpi (prepared dpi operation s) new
 prepared_in dpi operation s old new i p =
     let ends = ends_raster operation in
@@ -85,7 +87,8 @@ prepared_in dpi operation s old new i p =
       marked = p.marked ∙ i.marked ∙ ap (λ (ms : List Mark). is_marked (record s { marks = ms })) (sym k.marks);
       ejected = p.ejected ∙ i.ejected ∙ ap (λ (ps : List Sheet). length ps) (sym k.pages);
       performed = p.performed ∙ i.performed ∙ sym k.performed;
-      painted = subst (λ (ms : List Mark). IsPainted dpi (prepared dpi operation s).settings.size ms new.page.bitmap) (sym k.marks) (painted_same i.painted p.bitmap k.size);
+      painted = subst (λ (ms : List Mark). IsPainted dpi (prepared dpi operation s).settings.size ms new.page.bitmap) (sym k.marks)
+          (painted_same i.painted p.bitmap k.size);
     }
 
 -- ---- the outcome of a command
@@ -103,14 +106,16 @@ unanswered (Some done) e old new a = let f : ◌≡◌ {A = Result Effect Unsupp
 pub outcome_in : (dpi : Dpi) (operation : Operation) (value : Value) (s : Situation) (old : Performer) → IsIn dpi s old
     → outcome dpi operation value old.is_marked old.environment ≡ outcome dpi operation value (is_marked s) s.settings
 outcome_in dpi operation value s old i =
-    ap (λ (m : Bool). outcome dpi operation value m old.environment) i.marked ∙ ap (λ (e : Settings). outcome dpi operation value (is_marked s) e) i.settings
+    ap (λ (m : Bool). outcome dpi operation value m old.environment) i.marked
+    ∙ ap (λ (e : Settings). outcome dpi operation value (is_marked s) e) i.settings
 
 -- ---- pages that stay
 
 -- with no marks every dot is white
 white_in : (dpi : Dpi) (s : Situation) (old : Performer) → IsIn dpi s old → s.marks ≡ [] → IsWhite old.page.bitmap
 white_in dpi s old i none x y wide high =
-    i.painted.dots x y (subst (λ (n : ℕ). x < n) (width_same i.painted.size_is i.painted.dpi_is) wide) (subst (λ (n : ℕ). y < n) (height_same i.painted.size_is i.painted.dpi_is) high)
+    i.painted.dots x y (subst (λ (n : ℕ). x < n) (width_same i.painted.size_is i.painted.dpi_is) wide)
+    (subst (λ (n : ℕ). y < n) (height_same i.painted.size_is i.painted.dpi_is) high)
     ∙ ap (λ (ms : List Mark). is_black ms x y) none
 
 unmarked : (marks : List Mark) (s : Situation) → s.marks ≡ marks → is_marked s ≡ false → s.marks ≡ []
@@ -118,9 +123,11 @@ unmarked [] s e m = e
 unmarked (mark ∷ older) s e m = absurd (let t : is_marked s ≡ true = ap (λ (ms : List Mark). is_marked (record s { marks = ms })) e in cc)
 
 -- the page that follows the settings shows the same marks
-followed_page : (dpi : Dpi) (operation : Operation) (value : Value) (s : Situation) (settings : Settings) (effect : Effect) (old middle new : Performer)
+followed_page : (dpi : Dpi) (operation : Operation) (value : Value) (s : Situation) (settings : Settings) (effect : Effect)
+    (old middle new : Performer)
     → IsIn dpi s old → outcome dpi operation value (is_marked s) s.settings ≡ Some (settings, effect) → ejects effect (is_marked s) ≡ false
-    → middle.page.bitmap ≡ old.page.bitmap → middle.environment ≡ settings → IsFollowed middle new → IsPainted dpi settings.size s.marks new.page.bitmap
+    → middle.page.bitmap ≡ old.page.bitmap → middle.environment ≡ settings → IsFollowed middle new
+    → IsPainted dpi settings.size s.marks new.page.bitmap
 followed_page dpi operation value s settings Eject old middle new i o e b env f = absurd cc
 followed_page dpi operation value s settings Stay old middle new i o e b env f =
     let kept : settings.size ≡ s.settings.size = size_kept dpi operation value (is_marked s) s.settings settings o in
@@ -136,7 +143,8 @@ followed_page dpi operation value s settings EjectMarked old middle new i o e b 
       size_is = size;
       dpi_is = resolution;
       dots = λ x y wide high.
-          white x y (subst (λ (n : ℕ). x < n) (sym (width_same size resolution)) wide) (subst (λ (n : ℕ). y < n) (sym (height_same size resolution)) high)
+          white x y (subst (λ (n : ℕ). x < n) (sym (width_same size resolution)) wide)
+          (subst (λ (n : ℕ). y < n) (sym (height_same size resolution)) high)
           ∙ ap (λ (ms : List Mark). is_black ms x y) (sym none);
     }
 
@@ -154,26 +162,33 @@ with_settings settings s = record s { settings = settings }
 abbrev turned_page : Settings → Situation → Situation
 turned_page settings s = record s { settings = to_first_line settings; marks = []; pages = s.pages ++ sheet_of s ∷ [] }
 
-turned_no : (settings : Settings) (effect : Effect) (s : Situation) → ejects effect (is_marked s) ≡ false → turned settings effect s ≡ with_settings settings s
+turned_no : (settings : Settings) (effect : Effect) (s : Situation) → ejects effect (is_marked s) ≡ false
+    → turned settings effect s ≡ with_settings settings s
 turned_no settings effect s e = ap (λ (b : Bool). cond b (turned_page settings s) (with_settings settings s)) e
 
-turned_yes : (settings : Settings) (effect : Effect) (s : Situation) → ejects effect (is_marked s) ≡ true → turned settings effect s ≡ turned_page settings s
+turned_yes : (settings : Settings) (effect : Effect) (s : Situation) → ejects effect (is_marked s) ≡ true
+    → turned settings effect s ≡ turned_page settings s
 turned_yes settings effect s e = ap (λ (b : Bool). cond b (turned_page settings s) (with_settings settings s)) e
 
 -- the facts of a turn, as one record
-record Turns {S : Type 0} (takes : S → Page → S → Type 0) (dpi : Dpi) (s later : Situation) (new : Performer) (old_sink new_sink : S) : Type 0 where
+record Turns {S : Type 0} (takes : S → Page → S → Type 0) (dpi : Dpi) (s later : Situation) (new : Performer)
+    (old_sink new_sink : S) : Type 0 where
   is_in : IsIn dpi later new
   fits : page_refusal later ≡ None
   handed : HandsMore takes dpi s later old_sink new_sink
 
-turns_to : {S : Type 0} (takes : S → Page → S → Type 0) (dpi : Dpi) (o : Outcome) (done : Settings × Effect) (s later : Situation) (new : Performer) (old_sink new_sink : S)
-    → o ≡ Some done → turned done.0 done.1 s ≡ later → Turns takes dpi s later new old_sink new_sink → IsTurned takes dpi o s (Ok tt) new old_sink new_sink
+turns_to : {S : Type 0} (takes : S → Page → S → Type 0) (dpi : Dpi) (o : Outcome) (done : Settings × Effect) (s later : Situation)
+    (new : Performer) (old_sink new_sink : S)
+    → o ≡ Some done → turned done.0 done.1 s ≡ later → Turns takes dpi s later new old_sink new_sink
+    → IsTurned takes dpi o s (Ok tt) new old_sink new_sink
 turns_to {S} takes dpi o done s later new old_sink new_sink e t w =
     subst (λ (p : Outcome). IsTurned takes dpi p s (Ok tt) new old_sink new_sink) (sym e)
-    (let is : Turns takes dpi s (turned done.0 done.1 s) new old_sink new_sink = subst (λ (z : Situation). Turns takes dpi s z new old_sink new_sink) (sym t) w in
+    (let is : Turns takes dpi s (turned done.0 done.1 s) new old_sink new_sink =
+    subst (λ (z : Situation). Turns takes dpi s z new old_sink new_sink) (sym t) w in
     (is.is_in, is.fits, is.handed))
 
-pub turned_stays : {S : Type 0} (takes : S → Page → S → Type 0) (dpi : Dpi) (operation : Operation) (value : Value) (effect : Effect) (s : Situation)
+pub turned_stays : {S : Type 0} (takes : S → Page → S → Type 0) (dpi : Dpi) (operation : Operation) (value : Value) (effect : Effect)
+    (s : Situation)
     (old middle new : Performer) (sink later : S)
     → IsIn dpi s old → Answers (outcome dpi operation value old.is_marked old.environment) (Ok effect) old.environment middle.environment
     → ejects effect old.is_marked ≡ false → old.ejected ≤ 256 → middle.page.bitmap ≡ old.page.bitmap → middle.is_marked ≡ old.is_marked
@@ -184,7 +199,8 @@ turned_stays {S} takes dpi operation value effect s old middle new sink later i 
     let o : outcome dpi operation value (is_marked s) s.settings ≡ Some d.0 = sym (outcome_in dpi operation value s old i) ∙ d.1 in
     let no : ejects d.0.1 (is_marked s) ≡ false =
     ap (λ (x : Effect). ejects x (is_marked s)) (sym d.2) ∙ ap (ejects effect) (sym i.marked) ∙ e in
-    turns_to takes dpi (outcome dpi operation value (is_marked s) s.settings) d.0 s (with_settings d.0.0 s) new sink later o (turned_no d.0.0 d.0.1 s no)
+    turns_to takes dpi (outcome dpi operation value (is_marked s) s.settings) d.0 s (with_settings d.0.0 s) new sink later o
+    (turned_no d.0.0 d.0.1 s no)
     (record {
       is_in = record {
         settings = f.settings ∙ d.3;
@@ -211,7 +227,8 @@ handed_sheet dpi s copies old middle page i b c handed =
     }
 
 -- what is known where the page was ejected: the settings were set, the page was handed over, and a white one began
-pub record Ejected {S : Type 0} (takes : S → Page → S → Type 0) (dpi : Dpi) (operation : Operation) (value : Value) (effect : Effect) (copies : ℕ)
+pub record Ejected {S : Type 0} (takes : S → Page → S → Type 0) (dpi : Dpi) (operation : Operation) (value : Value) (effect : Effect)
+    (copies : ℕ)
     (s : Situation) (old middle last : Performer) (sink later : S) : Type 0 where
   pub is_in : IsIn dpi s old
   pub answered_as : Answers (outcome dpi operation value old.is_marked old.environment) (Ok effect) old.environment middle.environment
@@ -225,7 +242,8 @@ pub record Ejected {S : Type 0} (takes : S → Page → S → Type 0) (dpi : Dpi
   pub is_ejected : IsEjected middle last
   pub taken : Takes takes copies middle sink later
 
-ejected_done : {S : Type 0} (takes : S → Page → S → Type 0) (dpi : Dpi) (operation : Operation) (value : Value) (effect : Effect) (copies : ℕ) (s : Situation)
+ejected_done : {S : Type 0} (takes : S → Page → S → Type 0) (dpi : Dpi) (operation : Operation) (value : Value) (effect : Effect)
+    (copies : ℕ) (s : Situation)
     (old middle last : Performer) (sink later : S) → Ejected takes dpi operation value effect copies s old middle last sink later
     → (done : Settings × Effect) × (outcome dpi operation value (is_marked s) s.settings ≡ Some done) × (middle.environment ≡ done.0)
     × (turned done.0 done.1 s ≡ turned_page done.0 s)
@@ -235,8 +253,10 @@ ejected_done {S} takes dpi operation value effect copies s old middle last sink 
     ap (λ (x : Effect). ejects x (is_marked s)) (sym d.2) ∙ ap (ejects effect) (sym e.is_in.marked) ∙ e.yes in
     (d.0, sym (outcome_in dpi operation value s old e.is_in) ∙ d.1, d.3, turned_yes d.0.0 d.0.1 s yes)
 
-ejected_handed : {S : Type 0} (takes : S → Page → S → Type 0) (dpi : Dpi) (operation : Operation) (value : Value) (effect : Effect) (copies : ℕ) (s : Situation)
-    (old middle last : Performer) (sink later : S) (settings : Settings) → Ejected takes dpi operation value effect copies s old middle last sink later
+ejected_handed : {S : Type 0} (takes : S → Page → S → Type 0) (dpi : Dpi) (operation : Operation) (value : Value) (effect : Effect)
+    (copies : ℕ) (s : Situation)
+    (old middle last : Performer) (sink later : S) (settings : Settings)
+    → Ejected takes dpi operation value effect copies s old middle last sink later
     → (page_refusal (turned_page settings s) ≡ None) × HandsMore takes dpi s (turned_page settings s) sink later
 ejected_handed {S} takes dpi operation value effect copies s old middle last sink later settings e =
     let count = length-append s.pages (sheet_of s ∷ []) in (
@@ -248,15 +268,18 @@ ejected_handed {S} takes dpi operation value effect copies s old middle last sin
       ),
     )
 
-pub turned_ejects : {S : Type 0} (takes : S → Page → S → Type 0) (dpi : Dpi) (operation : Operation) (value : Value) (effect : Effect) (copies : ℕ) (s : Situation)
-    (old middle last new : Performer) (sink later : S) → Ejected takes dpi operation value effect copies s old middle last sink later → IsFollowed last new
+pub turned_ejects : {S : Type 0} (takes : S → Page → S → Type 0) (dpi : Dpi) (operation : Operation) (value : Value) (effect : Effect)
+    (copies : ℕ) (s : Situation)
+    (old middle last new : Performer) (sink later : S) → Ejected takes dpi operation value effect copies s old middle last sink later
+    → IsFollowed last new
     → IsTurned takes dpi (outcome dpi operation value (is_marked s) s.settings) s (Ok tt) new sink later
 turned_ejects {S} takes dpi operation value effect copies s old middle last new sink later e f =
     let i = e.is_in in
     let d = ejected_done takes dpi operation value effect copies s old middle last sink later e in
     let h = ejected_handed takes dpi operation value effect copies s old middle last sink later d.0.0 e in
     let size : new.page.bitmap.size ≡ d.0.0.size = f.size ∙ ap (λ (z : Settings). z.size) (e.is_ejected.settings ∙ ap to_first_line d.2) in
-    let resolution : new.page.bitmap.dpi ≡ dpi = f.resolution ∙ e.is_ejected.resolution ∙ ap (λ (q : Page). q.bitmap.dpi) e.page ∙ i.painted.dpi_is in
+    let resolution : new.page.bitmap.dpi ≡ dpi =
+    f.resolution ∙ e.is_ejected.resolution ∙ ap (λ (q : Page). q.bitmap.dpi) e.page ∙ i.painted.dpi_is in
     let count = length-append s.pages (sheet_of s ∷ []) in
     turns_to takes dpi (outcome dpi operation value (is_marked s) s.settings) d.0 s (turned_page d.0.0 s) new sink later d.1 d.3
     (record {
@@ -278,7 +301,8 @@ turned_ejects {S} takes dpi operation value effect copies s old middle last new 
       handed = h.1;
     })
 
-pub turned_short : {S : Type 0} (takes : S → Page → S → Type 0) (dpi : Dpi) (operation : Operation) (value : Value) (effect : Effect) (copies : ℕ) (s : Situation)
+pub turned_short : {S : Type 0} (takes : S → Page → S → Type 0) (dpi : Dpi) (operation : Operation) (value : Value) (effect : Effect)
+    (copies : ℕ) (s : Situation)
     (old middle last new : Performer) (sink later : S) → Ejected takes dpi operation value effect copies s old middle last sink later
     → IsTurned takes dpi (outcome dpi operation value (is_marked s) s.settings) s (Err Memory) new sink later
 turned_short {S} takes dpi operation value effect copies s old middle last new sink later e =
@@ -287,7 +311,8 @@ turned_short {S} takes dpi operation value effect copies s old middle last new s
     subst (λ (o : Outcome). IsTurned takes dpi o s (Err Memory) new sink later) (sym d.1)
     (inr (subst (λ (z : Situation). (page_refusal z ≡ None) × HandsMore takes dpi s z sink later) (sym d.3) h))
 
-pub turned_past : {S : Type 0} (takes : S → Page → S → Type 0) (dpi : Dpi) (operation : Operation) (value : Value) (effect : Effect) (s : Situation)
+pub turned_past : {S : Type 0} (takes : S → Page → S → Type 0) (dpi : Dpi) (operation : Operation) (value : Value) (effect : Effect)
+    (s : Situation)
     (old new : Performer) (now : Settings) (sink later : S)
     → IsIn dpi s old → Answers (outcome dpi operation value old.is_marked old.environment) (Ok effect) old.environment now
     → ejects effect old.is_marked ≡ true → 256 ≤ old.ejected → later ≡ sink
@@ -298,10 +323,14 @@ turned_past {S} takes dpi operation value effect s old new now sink later i a e 
     let yes : ejects d.0.1 (is_marked s) ≡ true =
     ap (λ (x : Effect). ejects x (is_marked s)) (sym d.2) ∙ ap (ejects effect) (sym i.marked) ∙ e in
     let count = length-append s.pages (sheet_of s ∷ []) in
-    subst (λ (q : Outcome). IsTurned takes dpi q s (Err (Refused TooManyPages)) new sink later) (sym o)
-    (ap (λ (z : Situation). page_refusal z) (turned_yes d.0.0 d.0.1 s yes) ∙ pages_past (turned_page d.0.0 s) (omega (arith, i.ejected, count)), same)
+    subst (λ (q : Outcome). IsTurned takes dpi q s (Err (Refused TooManyPages)) new sink later) (sym o) (
+      ap (λ (z : Situation). page_refusal z) (turned_yes d.0.0 d.0.1 s yes)
+          ∙ pages_past (turned_page d.0.0 s) (omega (arith, i.ejected, count)),
+      same,
+    )
 
-pub turned_none : {S : Type 0} (takes : S → Page → S → Type 0) (dpi : Dpi) (operation : Operation) (value : Value) (why : Unsupported) (s : Situation)
+pub turned_none : {S : Type 0} (takes : S → Page → S → Type 0) (dpi : Dpi) (operation : Operation) (value : Value) (why : Unsupported)
+    (s : Situation)
     (old new : Performer) (now : Settings) (sink later : S)
     → IsIn dpi s old → Answers (outcome dpi operation value old.is_marked old.environment) (Err why) old.environment now → later ≡ sink
     → IsTurned takes dpi (outcome dpi operation value (is_marked s) s.settings) s (Err (Refused UnsupportedValue)) new sink later
@@ -310,14 +339,16 @@ turned_none {S} takes dpi operation value why s old new now sink later i a same 
     subst (λ (q : Outcome). IsTurned takes dpi q s (Err (Refused UnsupportedValue)) new sink later)
     (sym (sym (outcome_in dpi operation value s old i) ∙ n)) (refl, same)
 
-pub turned_memory : {S : Type 0} (takes : S → Page → S → Type 0) (dpi : Dpi) (o : Outcome) (s : Situation) (new : Performer) (sink later : S) → later ≡ sink
+pub turned_memory : {S : Type 0} (takes : S → Page → S → Type 0) (dpi : Dpi) (o : Outcome) (s : Situation) (new : Performer)
+    (sink later : S) → later ≡ sink
     → IsTurned takes dpi o s (Err Memory) new sink later
 turned_memory takes dpi None s new sink later same = same
 turned_memory takes dpi (Some done) s new sink later same = inl same
 
 -- ---- what is drawn
 
-pub drawn_in : (dpi : Dpi) (mark : Mark) (raster : Option Raster) (s : Situation) (old new : Performer) → IsIn dpi s old → IsDrawn mark old new → new.raster ≡ raster
+pub drawn_in : (dpi : Dpi) (mark : Mark) (raster : Option Raster) (s : Situation) (old new : Performer) → IsIn dpi s old
+    → IsDrawn mark old new → new.raster ≡ raster
     → IsIn dpi (record s { raster = raster; marks = mark ∷ s.marks }) new
 drawn_in dpi mark raster s old new i d r =
     let size : old.page.bitmap.size ≡ s.settings.size = i.painted.size_is in
@@ -332,7 +363,8 @@ drawn_in dpi mark raster s old new i d r =
         size_is = d.size ∙ size;
         dpi_is = d.resolution ∙ resolution;
         dots = λ x y wide high.
-            d.dots x y (subst (λ (n : ℕ). x < n) (sym (width_same size resolution)) wide) (subst (λ (n : ℕ). y < n) (sym (height_same size resolution)) high)
+            d.dots x y (subst (λ (n : ℕ). x < n) (sym (width_same size resolution)) wide)
+            (subst (λ (n : ℕ). y < n) (sym (height_same size resolution)) high)
             ∙ ap (λ (b : Bool). cond (mark.covers x y) (is_black_ink mark.ink) b) (i.painted.dots x y wide high);
       };
     }
@@ -349,8 +381,10 @@ drawn_pages dpi other command s = refl
 pub prepared_pages : (dpi : Dpi) (ends : Bool) (s : Situation) → (cond ends (end_raster dpi s) s).pages ≡ s.pages
 prepared_pages dpi ends s = (prepared_page dpi ends s).pages
 
-pub counted_in : (dpi : Dpi) (s : Situation) (old new : Performer) → IsIn dpi s old → new.environment ≡ old.environment → new.raster ≡ old.raster
-    → new.page ≡ old.page → new.is_marked ≡ old.is_marked → new.ejected ≡ old.ejected → new.performed ≡ old.performed + 1 → IsIn dpi (counted s) new
+pub counted_in : (dpi : Dpi) (s : Situation) (old new : Performer) → IsIn dpi s old → new.environment ≡ old.environment
+    → new.raster ≡ old.raster
+    → new.page ≡ old.page → new.is_marked ≡ old.is_marked → new.ejected ≡ old.ejected → new.performed ≡ old.performed + 1
+    → IsIn dpi (counted s) new
 counted_in dpi s old new i e r b m j p = record {
   settings = e ∙ i.settings;
   raster = r ∙ i.raster;
@@ -361,14 +395,16 @@ counted_in dpi s old new i e r b m j p = record {
 }
 
 -- why a command is refused that is known and not past the limit
-refusal_is : (dpi : Dpi) (command : Said) (operation : Operation) (s : Situation) → s.performed < 100000000 → operation_of command.name ≡ Some operation
+refusal_is : (dpi : Dpi) (command : Said) (operation : Operation) (s : Situation) → s.performed < 100000000
+    → operation_of command.name ≡ Some operation
     → command_refusal dpi command s ≡ value_refusal (after dpi operation command s)
 refusal_is dpi command operation s few named =
     let under : nat_le command_limit s.performed ≡ false = grind (arith, nat_tests) in
     ap (λ (b : Bool). cond b (Some TooManyCommands) (operation_refusal dpi (operation_of command.name) command s)) under
     ∙ ap (λ (o : Option Operation). operation_refusal dpi o command s) named
 
-pub refused_many : (dpi : Dpi) (command : Said) (s : Situation) → 100000000 ≤ s.performed → command_refusal dpi command s ≡ Some TooManyCommands
+pub refused_many : (dpi : Dpi) (command : Said) (s : Situation) → 100000000 ≤ s.performed
+    → command_refusal dpi command s ≡ Some TooManyCommands
 refused_many dpi command s many =
     let past : nat_le command_limit s.performed ≡ true = grind (arith, nat_tests) in
     ap (λ (b : Bool). cond b (Some TooManyCommands) (operation_refusal dpi (operation_of command.name) command s)) past
@@ -380,9 +416,11 @@ refused_unknown dpi command s few named =
     ap (λ (b : Bool). cond b (Some TooManyCommands) (operation_refusal dpi (operation_of command.name) command s)) under
     ∙ ap (λ (o : Option Operation). operation_refusal dpi o command s) named
 
-after_ignored : (dpi : Dpi) (operation : Operation) (command : Said) (s : Situation) → is_ignored operation s ≡ true → after dpi operation command s ≡ Some (counted s)
+after_ignored : (dpi : Dpi) (operation : Operation) (command : Said) (s : Situation) → is_ignored operation s ≡ true
+    → after dpi operation command s ≡ Some (counted s)
 unfolding after
-after_ignored dpi operation command s e = ap (λ (b : Bool). cond b (Some (counted s)) (taken dpi operation command (prepared dpi operation (counted s)))) e
+after_ignored dpi operation command s e =
+    ap (λ (b : Bool). cond b (Some (counted s)) (taken dpi operation command (prepared dpi operation (counted s)))) e
 
 after_taken : (dpi : Dpi) (operation : Operation) (command : Said) (s : Situation) (o : Outcome) → is_ignored operation s ≡ false
     → outcome dpi operation command.value (is_marked (prepared dpi operation (counted s))) (prepared dpi operation (counted s)).settings ≡ o
@@ -392,18 +430,21 @@ after_taken dpi operation command s o e is =
     ap (λ (b : Bool). cond b (Some (counted s)) (taken dpi operation command (prepared dpi operation (counted s)))) e
     ∙ ap (λ (p : Outcome). done_with dpi operation command p (prepared dpi operation (counted s))) is
 
-pub tried_ignored : {S : Type 0} (takes : S → Page → S → Type 0) (dpi : Dpi) (operation : Operation) (command : Said) (s : Situation) (old new : Performer) (sink : S)
+pub tried_ignored : {S : Type 0} (takes : S → Page → S → Type 0) (dpi : Dpi) (operation : Operation) (command : Said) (s : Situation)
+    (old new : Performer) (sink : S)
     → IsIn dpi s old → old.performed < 100000000 → old.ejected ≤ 256 → operation_of command.name ≡ Some operation
     → (is_some old.raster && is_ignored_in_raster operation) ≡ true → IsIn dpi (counted s) new
     → IsTried takes dpi command s (Ok tt) new sink sink
 tried_ignored {S} takes dpi operation command s old new sink i few fit named e now =
-    let ignored : is_ignored operation s ≡ true = ap (λ (r : Option Raster). is_some r && is_ignored_in_raster operation) (sym i.raster) ∙ e in
+    let ignored : is_ignored operation s ≡ true =
+    ap (λ (r : Option Raster). is_some r && is_ignored_in_raster operation) (sym i.raster) ∙ e in
     let done = after_ignored dpi operation command s ignored in (
       operation,
       counted s,
       named,
       done,
-      refusal_is dpi command operation s (omega (arith, i.performed)) named ∙ ap value_refusal done ∙ pages_fit (counted s) (omega (arith, i.ejected)),
+      refusal_is dpi command operation s (omega (arith, i.performed)) named ∙ ap value_refusal done
+          ∙ pages_fit (counted s) (omega (arith, i.ejected)),
       now,
       ([], sym (append-nil s.pages), refl),
     )
@@ -420,71 +461,103 @@ record Reaches (dpi : Dpi) (operation : Operation) (command : Said) (s before : 
   after_is : after dpi operation command s ≡ Some (drawn dpi operation command (turned done.0 done.1 before))
   refusal : command_refusal dpi command s ≡ page_refusal (turned done.0 done.1 before)
 
-reaches : (dpi : Dpi) (operation : Operation) (command : Said) (s : Situation) (old : Performer) (done : Settings × Effect) → AtTurn dpi operation command s old
-    → outcome dpi operation command.value (is_marked (prepared dpi operation (counted s))) (prepared dpi operation (counted s)).settings ≡ Some done
+reaches : (dpi : Dpi) (operation : Operation) (command : Said) (s : Situation) (old : Performer) (done : Settings × Effect)
+    → AtTurn dpi operation command s old
+    → outcome dpi operation command.value (is_marked (prepared dpi operation (counted s))) (prepared dpi operation (counted s)).settings
+    ≡ Some done
     → Reaches dpi operation command s (prepared dpi operation (counted s)) done
 reaches dpi operation command s old done a is =
     let now = turned done.0 done.1 (prepared dpi operation (counted s)) in
-    let ignored : is_ignored operation s ≡ false = ap (λ (r : Option Raster). is_some r && is_ignored_in_raster operation) (sym a.is_in.raster) ∙ a.performed in
+    let ignored : is_ignored operation s ≡ false =
+    ap (λ (r : Option Raster). is_some r && is_ignored_in_raster operation) (sym a.is_in.raster) ∙ a.performed in
     let after_is = after_taken dpi operation command s (Some done) ignored is in
     let same : page_refusal (drawn dpi operation command now) ≡ page_refusal now =
     ap (λ (ps : List Sheet). cond (nat_le (length ps) page_limit) None (Some TooManyPages)) (drawn_pages dpi operation command now) in
-    record { after_is = after_is; refusal = refusal_is dpi command operation s (omega (arith, a.few, a.is_in.performed)) a.named ∙ ap value_refusal after_is ∙ same }
+    record {
+      after_is = after_is;
+      refusal =
+          refusal_is dpi command operation s (omega (arith, a.few, a.is_in.performed)) a.named ∙ ap value_refusal after_is ∙ same;
+    }
 
 -- the pages of a turn, behind those from before the command
-handed_on : {S : Type 0} (takes : S → Page → S → Type 0) (dpi : Dpi) (operation : Operation) (command : Said) (s now : Situation) (sink later : S)
-    → HandsMore takes dpi (prepared dpi operation (counted s)) now sink later → HandsMore takes dpi s (drawn dpi operation command now) sink later
+handed_on : {S : Type 0} (takes : S → Page → S → Type 0) (dpi : Dpi) (operation : Operation) (command : Said) (s now : Situation)
+    (sink later : S)
+    → HandsMore takes dpi (prepared dpi operation (counted s)) now sink later
+    → HandsMore takes dpi s (drawn dpi operation command now) sink later
 handed_on {S} takes dpi operation command s now sink later h = (
   h.0,
-  drawn_pages dpi operation command now ∙ h.1 ∙ ap (λ (ps : List Sheet). ps ++ h.0) (prepared_pages dpi (ends_raster operation) (counted s)),
+  drawn_pages dpi operation command now ∙ h.1
+      ∙ ap (λ (ps : List Sheet). ps ++ h.0) (prepared_pages dpi (ends_raster operation) (counted s)),
   h.2,
 )
 
 -- the same for a turn that a command's refusal comes from
-turn_refused : {S : Type 0} (takes : S → Page → S → Type 0) (dpi : Dpi) (operation : Operation) (command : Said) (s : Situation) (old new : Performer) (sink later : S) (kind : Kind)
+turn_refused : {S : Type 0} (takes : S → Page → S → Type 0) (dpi : Dpi) (operation : Operation) (command : Said) (s : Situation)
+    (old new : Performer) (sink later : S) (kind : Kind)
     (o : Outcome) → AtTurn dpi operation command s old
     → outcome dpi operation command.value (is_marked (prepared dpi operation (counted s))) (prepared dpi operation (counted s)).settings ≡ o
-    → IsTurned takes dpi o (prepared dpi operation (counted s)) (Err (Refused kind)) new sink later → IsTried takes dpi command s (Err (Refused kind)) new sink later
+    → IsTurned takes dpi o (prepared dpi operation (counted s)) (Err (Refused kind)) new sink later
+    → IsTried takes dpi command s (Err (Refused kind)) new sink later
 turn_refused {S} takes dpi operation command s old new sink later kind None a is t =
-    let ignored : is_ignored operation s ≡ false = ap (λ (r : Option Raster). is_some r && is_ignored_in_raster operation) (sym a.is_in.raster) ∙ a.performed in
-    let done = after_taken dpi operation command s None ignored is in
-    (refusal_is dpi command operation s (omega (arith, a.few, a.is_in.performed)) a.named ∙ ap value_refusal done ∙ ap (λ (k : Kind). Some k) (sym t.0), t.1)
+    let ignored : is_ignored operation s ≡ false =
+    ap (λ (r : Option Raster). is_some r && is_ignored_in_raster operation) (sym a.is_in.raster) ∙ a.performed in
+    let done = after_taken dpi operation command s None ignored is in (
+      refusal_is dpi command operation s (omega (arith, a.few, a.is_in.performed)) a.named ∙ ap value_refusal done
+          ∙ ap (λ (k : Kind). Some k) (sym t.0),
+      t.1,
+    )
 turn_refused {S} takes dpi operation command s old new sink later kind (Some done) a is t =
     ((reaches dpi operation command s old done a is).refusal ∙ t.0, t.1)
 
-turn_short : {S : Type 0} (takes : S → Page → S → Type 0) (dpi : Dpi) (operation : Operation) (command : Said) (s : Situation) (old new : Performer) (sink later : S) (o : Outcome)
+turn_short : {S : Type 0} (takes : S → Page → S → Type 0) (dpi : Dpi) (operation : Operation) (command : Said) (s : Situation)
+    (old new : Performer) (sink later : S) (o : Outcome)
     → AtTurn dpi operation command s old
     → outcome dpi operation command.value (is_marked (prepared dpi operation (counted s))) (prepared dpi operation (counted s)).settings ≡ o
-    → IsTurned takes dpi o (prepared dpi operation (counted s)) (Err Memory) new sink later → IsTried takes dpi command s (Err Memory) new sink later
+    → IsTurned takes dpi o (prepared dpi operation (counted s)) (Err Memory) new sink later
+    → IsTried takes dpi command s (Err Memory) new sink later
 turn_short {S} takes dpi operation command s old new sink later None a is t = inl t
 turn_short {S} takes dpi operation command s old new sink later (Some done) a is t =
     let r = reaches dpi operation command s old done a is in
     let now = turned done.0 done.1 (prepared dpi operation (counted s)) in
     elim t [
       | inl same ↦ inl same
-      | inr h ↦ inr (operation, drawn dpi operation command now, a.named, r.after_is, r.refusal ∙ h.0, handed_on takes dpi operation command s now sink later h.1)
+      | inr h ↦ inr (
+        operation,
+        drawn dpi operation command now,
+        a.named,
+        r.after_is,
+        r.refusal ∙ h.0,
+        handed_on takes dpi operation command s now sink later h.1,
+      )
     ]
 
-pub tried_refused : {S : Type 0} (takes : S → Page → S → Type 0) (dpi : Dpi) (operation : Operation) (command : Said) (s : Situation) (old new : Performer) (sink later : S) (fault : CallFault)
+pub tried_refused : {S : Type 0} (takes : S → Page → S → Type 0) (dpi : Dpi) (operation : Operation) (command : Said) (s : Situation)
+    (old new : Performer) (sink later : S) (fault : CallFault)
     → AtTurn dpi operation command s old
-    → IsTurned takes dpi (outcome dpi operation command.value (is_marked (prepared dpi operation (counted s))) (prepared dpi operation (counted s)).settings)
+    → IsTurned takes dpi
+    (outcome dpi operation command.value (is_marked (prepared dpi operation (counted s))) (prepared dpi operation (counted s)).settings)
     (prepared dpi operation (counted s)) (Err fault) new sink later
     → IsTried takes dpi command s (Err fault) new sink later
-tried_refused {S} takes dpi operation command s old new sink later (Refused kind) a t = turn_refused takes dpi operation command s old new sink later kind _ a refl t
-tried_refused {S} takes dpi operation command s old new sink later Memory a t = turn_short takes dpi operation command s old new sink later _ a refl t
+tried_refused {S} takes dpi operation command s old new sink later (Refused kind) a t =
+    turn_refused takes dpi operation command s old new sink later kind _ a refl t
+tried_refused {S} takes dpi operation command s old new sink later Memory a t =
+    turn_short takes dpi operation command s old new sink later _ a refl t
 
 -- the page was turned: what holds before anything is drawn, and what then is the situation after the command
-pub record IsGone {S : Type 0} (takes : S → Page → S → Type 0) (dpi : Dpi) (operation : Operation) (command : Said) (s : Situation) (middle : Performer) (sink later : S) : Type 0 where
+pub record IsGone {S : Type 0} (takes : S → Page → S → Type 0) (dpi : Dpi) (operation : Operation) (command : Said) (s : Situation)
+    (middle : Performer) (sink later : S) : Type 0 where
   pub turned_to : Situation
   pub is_in : IsIn dpi turned_to middle
   pub after_is : after dpi operation command s ≡ Some (drawn dpi operation command turned_to)
   pub accepted : command_refusal dpi command s ≡ None
   pub handed : HandsMore takes dpi s (drawn dpi operation command turned_to) sink later
 
-gone_by : {S : Type 0} (takes : S → Page → S → Type 0) (dpi : Dpi) (operation : Operation) (command : Said) (s : Situation) (old middle : Performer) (sink later : S) (o : Outcome)
+gone_by : {S : Type 0} (takes : S → Page → S → Type 0) (dpi : Dpi) (operation : Operation) (command : Said) (s : Situation)
+    (old middle : Performer) (sink later : S) (o : Outcome)
     → AtTurn dpi operation command s old
     → outcome dpi operation command.value (is_marked (prepared dpi operation (counted s))) (prepared dpi operation (counted s)).settings ≡ o
-    → IsTurned takes dpi o (prepared dpi operation (counted s)) (Ok tt) middle sink later → IsGone takes dpi operation command s middle sink later
+    → IsTurned takes dpi o (prepared dpi operation (counted s)) (Ok tt) middle sink later
+    → IsGone takes dpi operation command s middle sink later
 gone_by {S} takes dpi operation command s old middle sink later None a is t = absurd t
 gone_by {S} takes dpi operation command s old middle sink later (Some done) a is t =
     let r = reaches dpi operation command s old done a is in
@@ -497,9 +570,11 @@ gone_by {S} takes dpi operation command s old middle sink later (Some done) a is
       handed = handed_on takes dpi operation command s now sink later t.2;
     }
 
-pub gone : {S : Type 0} (takes : S → Page → S → Type 0) (dpi : Dpi) (operation : Operation) (command : Said) (s : Situation) (old middle : Performer) (sink later : S)
+pub gone : {S : Type 0} (takes : S → Page → S → Type 0) (dpi : Dpi) (operation : Operation) (command : Said) (s : Situation)
+    (old middle : Performer) (sink later : S)
     → AtTurn dpi operation command s old
-    → IsTurned takes dpi (outcome dpi operation command.value (is_marked (prepared dpi operation (counted s))) (prepared dpi operation (counted s)).settings)
+    → IsTurned takes dpi
+    (outcome dpi operation command.value (is_marked (prepared dpi operation (counted s))) (prepared dpi operation (counted s)).settings)
     (prepared dpi operation (counted s)) (Ok tt) middle sink later
     → IsGone takes dpi operation command s middle sink later
 gone {S} takes dpi operation command s old middle sink later a t = gone_by takes dpi operation command s old middle sink later _ a refl t
@@ -514,22 +589,28 @@ sheet_below dpi (Some r) s = refl
 
 end_turned : (dpi : Dpi) (s : Situation) (marked : Bool) → is_marked s ≡ marked
     → at_end dpi s ≡ cond marked (turned_page defaults (end_raster dpi s)) (with_settings defaults (end_raster dpi s))
-end_turned dpi s marked e = ap (λ (b : Bool). cond b (turned_page defaults (end_raster dpi s)) (with_settings defaults (end_raster dpi s))) e
+end_turned dpi s marked e =
+    ap (λ (b : Bool). cond b (turned_page defaults (end_raster dpi s)) (with_settings defaults (end_raster dpi s))) e
 
-pub end_marked : {S : Type 0} (takes : S → Page → S → Type 0) (dpi : Dpi) (s : Situation) (copies : ℕ) (old : Performer) (sink later : S) → IsIn dpi s old
+pub end_marked : {S : Type 0} (takes : S → Page → S → Type 0) (dpi : Dpi) (s : Situation) (copies : ℕ) (old : Performer) (sink later : S)
+    → IsIn dpi s old
     → old.is_marked ≡ true → old.ejected < 256 → copies ≡ old.environment.copies → Takes takes copies old sink later
     → (page_refusal (at_end dpi s) ≡ None) × HandsMore takes dpi s (at_end dpi s) sink later
 end_marked {S} takes dpi s copies old sink later i m few c t =
     let end = end_raster dpi s in
     let is = end_turned dpi s true (sym i.marked ∙ m) in
     let count = length-append s.pages (sheet_of end ∷ []) in
-    let shows = subst (λ (sheet : Sheet). Shows dpi t.0 sheet) (sym (sheet_below dpi s.raster s)) (handed_sheet dpi s copies old old t.0 i refl c t.1) in
+    let shows = subst (λ (sheet : Sheet). Shows dpi t.0 sheet) (sym (sheet_below dpi s.raster s))
+    (handed_sheet dpi s copies old old t.0 i refl c t.1) in
     subst (λ (z : Situation). (page_refusal z ≡ None) × HandsMore takes dpi s z sink later) (sym is)
     (pages_fit (turned_page defaults end) (omega (arith, i.ejected, count)), (sheet_of end ∷ [], refl, (t.0, later, shows, t.2, refl)))
 
-pub end_unmarked : {S : Type 0} (takes : S → Page → S → Type 0) (dpi : Dpi) (s : Situation) (old : Performer) (sink later : S) → IsIn dpi s old
-    → old.is_marked ≡ false → old.ejected ≤ 256 → later ≡ sink → (page_refusal (at_end dpi s) ≡ None) × HandsMore takes dpi s (at_end dpi s) sink later
+pub end_unmarked : {S : Type 0} (takes : S → Page → S → Type 0) (dpi : Dpi) (s : Situation) (old : Performer) (sink later : S)
+    → IsIn dpi s old
+    → old.is_marked ≡ false → old.ejected ≤ 256 → later ≡ sink
+    → (page_refusal (at_end dpi s) ≡ None) × HandsMore takes dpi s (at_end dpi s) sink later
 end_unmarked {S} takes dpi s old sink later i m few same =
     let end = end_raster dpi s in
-    subst (λ (z : Situation). (page_refusal z ≡ None) × HandsMore takes dpi s z sink later) (sym (end_turned dpi s false (sym i.marked ∙ m)))
+    subst (λ (z : Situation). (page_refusal z ≡ None) × HandsMore takes dpi s z sink later)
+    (sym (end_turned dpi s false (sym i.marked ∙ m)))
     (pages_fit (with_settings defaults end) (omega (arith, i.ejected)), ([], sym (append-nil s.pages), same))

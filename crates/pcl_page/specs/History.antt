@@ -37,7 +37,8 @@ pub record Sheet : Type 0 where
   pub copies : ℕ
   pub marks : List Mark
 
--- where a job stands: what is set, the raster that has begun, the marks of the page, the newest first, the pages that were ejected, in order,
+-- where a job stands: what is set, the raster that has begun, the marks of the page, the newest first, the pages that were
+-- ejected, in order,
 -- and how many commands were performed
 pub record Situation : Type 0 where
   pub settings : Settings
@@ -75,7 +76,8 @@ ejects Stay marked = false
 ejects Eject marked = true
 ejects EjectMarked marked = marked
 
--- The settings change, and the page is ejected where the command says so: it has the size and the copies from before. The cursor then goes to
+-- The settings change, and the page is ejected where the command says so: it has the size and the copies from before. The
+-- cursor then goes to
 -- the first line.
 abbrev pub turned : Settings → Effect → Situation → Situation
 turned settings effect s =

@@ -34,16 +34,19 @@ abbrev pub IsRefusal : Dpi → List ℕ → Refusal → Type 0
 IsRefusal dpi job refusal = IsFault job refusal ⊎ IsStopped dpi job refusal
 
 -- what the sink takes of a job whose reading is these commands, or that has no reading
-pub record IsPerformed {S : Type 0} (takes : S → Page → S → Type 0) (dpi : Dpi) (job : List ℕ) (result : Result (Unit {0}) JobFault) (old new : S) : Type 0 where
+pub record IsPerformed {S : Type 0} (takes : S → Page → S → Type 0) (dpi : Dpi) (job : List ℕ) (result : Result (Unit {0}) JobFault)
+    (old new : S) : Type 0 where
   pub commands : List Said
   pub reading : IsReading job commands
   pub handed : HandsOver takes dpi (performance_of dpi job commands) result old new
 
--- The sink takes the pages of an accepted job, in order; those before the refused command; or the first of these where memory runs out. A job
+-- The sink takes the pages of an accepted job, in order; those before the refused command; or the first of these where
+-- memory runs out. A job
 -- that has no reading gives it none.
 abbrev pub Delivers : {S : Type 0} → (S → Page → S → Type 0) → Dpi → List ℕ → Result (Unit {0}) JobFault → S → S → Type 0
 Delivers {S} takes dpi job (Ok unit) old new = IsPerformed takes dpi job (Ok unit) old new
-Delivers {S} takes dpi job (Err (Refused refusal)) old new = (IsFault job refusal × (new ≡ old)) ⊎ IsPerformed takes dpi job (Err (Refused refusal)) old new
+Delivers {S} takes dpi job (Err (Refused refusal)) old new =
+    (IsFault job refusal × (new ≡ old)) ⊎ IsPerformed takes dpi job (Err (Refused refusal)) old new
 Delivers {S} takes dpi job (Err Memory) old new = (new ≡ old) ⊎ IsPerformed takes dpi job (Err Memory) old new
 
 -- pages show the sheets, one by one

@@ -82,7 +82,8 @@ performance dpi end history commands =
 abbrev pub pages_of : Dpi → Performance → List Sheet
 pages_of dpi done = (situation dpi done.history).pages
 
--- the pages go to the sink: each of them where the job is accepted, those before the refused command, or the first of these where memory runs
+-- the pages go to the sink: each of them where the job is accepted, those before the refused command, or the first of these
+-- where memory runs
 -- out
 abbrev pub HandsOver : {S : Type 0} → (S → Page → S → Type 0) → Dpi → Performance → Result (Unit {0}) JobFault → S → S → Type 0
 HandsOver {S} takes dpi done (Ok unit) old new = (done.refusal ≡ None) × Hands takes dpi (pages_of dpi done) old new

@@ -12,7 +12,8 @@ use Rattle.pcl_rows.specs.Decoding.{decoded}
 use Rattle.pcl_env.specs.Settings.{Settings}
 use Rattle.pcl_page.specs.Marks.{Mark, dot_at}
 
--- A raster that has begun: the dot where it starts, how many dots of the page one of its dots is wide, its width in its own dots, its height
+-- A raster that has begun: the dot where it starts, how many dots of the page one of its dots is wide, its width in its own
+-- dots, its height
 -- where one is set, how many rows were sent or skipped, and the seed row.
 pub record Raster : Type 0 where
   pub left : ℕ

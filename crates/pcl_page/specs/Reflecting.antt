@@ -118,11 +118,14 @@ pub record IsSent (dpi : Dpi) (bytes : List ℕ) (old new : Performer) : Type 0 
 abbrev pub HandsMore : {S : Type 0} → (S → Page → S → Type 0) → Dpi → Situation → Situation → S → S → Type 0
 HandsMore {S} takes dpi before now old new = (more : List Sheet) × (now.pages ≡ before.pages ++ more) × Hands takes dpi more old new
 
--- the settings of an outcome were set and the page was turned; or why not, and then the sink is as before; or memory ran out, before the page
+-- the settings of an outcome were set and the page was turned; or why not, and then the sink is as before; or memory ran
+-- out, before the page
 -- was handed over that is ejected or after that
-abbrev pub IsTurned : {S : Type 0} → (S → Page → S → Type 0) → Dpi → Outcome → Situation → Result (Unit {0}) CallFault → Performer → S → S → Type 0
+abbrev pub IsTurned : {S : Type 0} → (S → Page → S → Type 0) → Dpi → Outcome → Situation → Result (Unit {0}) CallFault → Performer → S → S
+    → Type 0
 IsTurned {S} takes dpi (Some done) s (Ok unit) new old_sink new_sink =
-    IsIn dpi (turned done.0 done.1 s) new × (page_refusal (turned done.0 done.1 s) ≡ None) × HandsMore takes dpi s (turned done.0 done.1 s) old_sink new_sink
+    IsIn dpi (turned done.0 done.1 s) new × (page_refusal (turned done.0 done.1 s) ≡ None)
+    × HandsMore takes dpi s (turned done.0 done.1 s) old_sink new_sink
 IsTurned {S} takes dpi (Some done) s (Err (Refused kind)) new old_sink new_sink =
     (page_refusal (turned done.0 done.1 s) ≡ Some kind) × (new_sink ≡ old_sink)
 IsTurned {S} takes dpi None s (Ok unit) new old_sink new_sink = ⊥
@@ -133,14 +136,18 @@ IsTurned {S} takes dpi (Some done) s (Err Memory) new old_sink new_sink =
     ⊎ ((page_refusal (turned done.0 done.1 s) ≡ None) × HandsMore takes dpi s (turned done.0 done.1 s) old_sink new_sink)
 
 -- a command was performed, or it is refused, or memory ran out, before the page was handed over that it ejects or after that
-abbrev pub IsTried : {S : Type 0} → (S → Page → S → Type 0) → Dpi → Said → Situation → Result (Unit {0}) CallFault → Performer → S → S → Type 0
+abbrev pub IsTried : {S : Type 0} → (S → Page → S → Type 0) → Dpi → Said → Situation → Result (Unit {0}) CallFault → Performer → S → S
+    → Type 0
 IsTried {S} takes dpi command s (Ok unit) new old_sink new_sink =
-    (operation : Operation) × (later : Situation) × (operation_of command.name ≡ Some operation) × (after dpi operation command s ≡ Some later)
+    (operation : Operation) × (later : Situation) × (operation_of command.name ≡ Some operation)
+    × (after dpi operation command s ≡ Some later)
     × (command_refusal dpi command s ≡ None) × IsIn dpi later new × HandsMore takes dpi s later old_sink new_sink
-IsTried {S} takes dpi command s (Err (Refused kind)) new old_sink new_sink = (command_refusal dpi command s ≡ Some kind) × (new_sink ≡ old_sink)
+IsTried {S} takes dpi command s (Err (Refused kind)) new old_sink new_sink =
+    (command_refusal dpi command s ≡ Some kind) × (new_sink ≡ old_sink)
 IsTried {S} takes dpi command s (Err Memory) new old_sink new_sink =
     (new_sink ≡ old_sink)
-    ⊎ ((operation : Operation) × (later : Situation) × (operation_of command.name ≡ Some operation) × (after dpi operation command s ≡ Some later)
+    ⊎ ((operation : Operation) × (later : Situation) × (operation_of command.name ≡ Some operation)
+    × (after dpi operation command s ≡ Some later)
     × (command_refusal dpi command s ≡ None) × HandsMore takes dpi s later old_sink new_sink)
 
 -- the refusal of a command names it
@@ -152,13 +159,15 @@ abbrev pub result_of : Said → Result (Unit {0}) CallFault → Result (Unit {0}
 result_of command (Ok unit) = Ok unit
 result_of command (Err fault) = Err (fault_of command fault)
 
-abbrev pub CommandDone : {S : Type 0} → (S → Page → S → Type 0) → Dpi → Said → Situation → Result (Unit {0}) JobFault → Performer → S → S → Type 0
+abbrev pub CommandDone : {S : Type 0} → (S → Page → S → Type 0) → Dpi → Said → Situation → Result (Unit {0}) JobFault → Performer → S → S
+    → Type 0
 CommandDone {S} takes dpi command s result new old_sink new_sink =
     (tried : Result (Unit {0}) CallFault) × (result ≡ result_of command tried) × IsTried takes dpi command s tried new old_sink new_sink
 
 -- the input's end was performed, or it is refused at the end with the empty name, or memory ran out
 abbrev pub EndDone : {S : Type 0} → (S → Page → S → Type 0) → Dpi → ℕ → Situation → Result (Unit {0}) JobFault → S → S → Type 0
-EndDone {S} takes dpi end s (Ok unit) old_sink new_sink = (page_refusal (at_end dpi s) ≡ None) × HandsMore takes dpi s (at_end dpi s) old_sink new_sink
+EndDone {S} takes dpi end s (Ok unit) old_sink new_sink =
+    (page_refusal (at_end dpi s) ≡ None) × HandsMore takes dpi s (at_end dpi s) old_sink new_sink
 EndDone {S} takes dpi end s (Err (job.Refused why)) old_sink new_sink =
     (kind : Kind) × (page_refusal (at_end dpi s) ≡ Some kind) × (why ≡ refusal kind end Empty) × (new_sink ≡ old_sink)
 EndDone {S} takes dpi end s (Err job.Memory) old_sink new_sink = new_sink ≡ old_sink

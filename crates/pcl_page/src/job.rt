@@ -63,9 +63,12 @@ pub fn read_pages(alloc: Global, job: &[u8], dpi: Dpi) -> Result<Vec<Page>, JobF
 /// A job has one list of pages at most, and one refusal at most, and never both. A law: the call does
 /// nothing.
 pub fn one_meaning()
-    ensures pages { (dpi : Dpi) (job : List ℕ) (pages others : List Sheet) → HasPages dpi job pages → HasPages dpi job others → pages ≡ others }
-    ensures refusal { (dpi : Dpi) (job : List ℕ) (refusal other : Refusal) → IsRefusal dpi job refusal → IsRefusal dpi job other → refusal ≡ other }
-    ensures apart { (dpi : Dpi) (job : List ℕ) (pages : List Sheet) (refusal : Refusal) → HasPages dpi job pages → IsRefusal dpi job refusal → ⊥ }
+    ensures pages { (dpi : Dpi) (job : List ℕ) (pages others : List Sheet) → HasPages dpi job pages → HasPages dpi job others
+        → pages ≡ others }
+    ensures refusal { (dpi : Dpi) (job : List ℕ) (refusal other : Refusal) → IsRefusal dpi job refusal → IsRefusal dpi job other
+        → refusal ≡ other }
+    ensures apart { (dpi : Dpi) (job : List ℕ) (pages : List Sheet) (refusal : Refusal) → HasPages dpi job pages
+        → IsRefusal dpi job refusal → ⊥ }
 {
     one_outcome();
 }

@@ -236,7 +236,8 @@ impl Performer {
 
     /// Starts a raster at the page's left edge or at the cursor.
     fn start_raster(&mut self, value: Value, dpi: Dpi) -> Result<(), AllocError>
-        ensures { OnOk result (HasRaster (Some (raster_from dpi (if whole_of value == 0 then 0 else dot_at dpi self.old.environment.cursor.x) self.old.environment)) self.old self.new) }
+        ensures { OnOk result (HasRaster (Some (raster_from dpi
+            (if whole_of value == 0 then 0 else dot_at dpi self.old.environment.cursor.x) self.old.environment)) self.old self.new) }
     {
         let left = match value.whole() {
             0 => 0,

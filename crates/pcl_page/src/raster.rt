@@ -42,9 +42,18 @@ impl Model for Raster {
 
     ghost Value = { Raster };
 
-    ghost view = { λ a. record { left = a.left; top = a.top; scale = a.scale; width = a.width; height = a.height; rows = a.rows; seed = a.seed.items } };
+    ghost view = { λ a. record {
+      left = a.left;
+      top = a.top;
+      scale = a.scale;
+      width = a.width;
+      height = a.height;
+      rows = a.rows;
+      seed = a.seed.items;
+    } };
 
-    ghost invariant = { λ a. (1 ≤ a.scale) × (a.scale ≤ 8) × (vec_len a.seed ≡ bytes_of_width a.width) × (vec_len a.row ≡ bytes_of_width a.width) };
+    ghost invariant = { λ a. (1 ≤ a.scale) × (a.scale ≤ 8) × (vec_len a.seed ≡ bytes_of_width a.width)
+        × (vec_len a.row ≡ bytes_of_width a.width) };
 }
 
 impl Raster {
@@ -105,7 +114,8 @@ impl Raster {
     /// The place below the last row, at the raster's left end, in units of 1/7200 inch.
     pub fn below(&self, dpi: Dpi) -> (u64, u64)
         requires { self.now.rows < 2 ^ 50 }
-        ensures { (result.0 ≡ self.now.left * units_per_dot dpi) × (result.1 ≡ (self.now.top + self.now.rows * self.now.scale) * units_per_dot dpi) }
+        ensures { (result.0 ≡ self.now.left * units_per_dot dpi)
+            × (result.1 ≡ (self.now.top + self.now.rows * self.now.scale) * units_per_dot dpi) }
     {
         let unit = u64::from(dpi.unit());
         let left = self.left;

@@ -20,7 +20,8 @@ given_once [] = refl
 given_once (byte ∷ new) = ap (λ (bs : List ℕ). byte ∷ bs) (given_once new)
 
 -- so many bytes at the front of data
-literal_at : (offset count : ℕ) (new more : List ℕ) → length new ≡ count → literal offset count (new ++ more) ≡ record { offset = offset; given = new; rest = more }
+literal_at : (offset count : ℕ) (new more : List ℕ) → length new ≡ count
+    → literal offset count (new ++ more) ≡ record { offset = offset; given = new; rest = more }
 literal_at offset count new more e =
     ap (λ (given : List ℕ). record { offset = offset; given = given; rest = drop count (new ++ more) }) (take_at new more count e)
     ∙ ap (λ (rest : List ℕ). record { offset = offset; given = new; rest = rest }) (drop_at new more count e)
@@ -44,7 +45,8 @@ pub record Begins (method : Method) (bytes : List ℕ) (front : Front) : Type 0 
   pub front_is : front_of method byte rest ≡ front
 
 whole_front : (head : Head) (new more : List ℕ) → IsInRange head → length new ≡ new_count head
-    → Begins (method_of head) ((head_bytes head ++ new) ++ more) (record { offset = offset_of head; given = given_by head new; rest = more })
+    → Begins (method_of head) ((head_bytes head ++ new) ++ more)
+    (record { offset = offset_of head; given = given_by head new; rest = more })
 whole_front Itself [] more r n = absurd (omega arith)
 whole_front Itself (byte ∷ []) more r n = record { byte = byte; rest = more; split = refl; front_is = refl }
 whole_front Itself (byte ∷ next ∷ new) more r n = absurd (omega arith)
@@ -62,7 +64,9 @@ whole_front (Literal control) new more r n =
       byte = control;
       rest = new ++ more;
       split = refl;
-      front_is = rw low (literal_at 0 (control + 1) new more n ∙ ap (λ (g : List ℕ). record { offset = 0; given = g; rest = more }) (sym (given_once new)));
+      front_is = rw low
+          (literal_at 0 (control + 1) new more n ∙ ap (λ (g : List ℕ). record { offset = 0; given = g; rest = more })
+          (sym (given_once new)));
     }
 whole_front Skipped [] more r n = record { byte = 128; rest = more; split = refl; front_is = refl }
 whole_front Skipped (byte ∷ new) more r n = absurd (omega arith)
@@ -74,7 +78,8 @@ whole_front (Repeat control) (byte ∷ []) more r n =
       byte = control;
       rest = byte ∷ more;
       split = refl;
-      front_is = rw (high, other) (ap (λ (g : List ℕ). record { offset = 0; given = g; rest = more }) (sym (append-nil (replicate (257 - control) byte))));
+      front_is = rw (high, other)
+          (ap (λ (g : List ℕ). record { offset = 0; given = g; rest = more }) (sym (append-nil (replicate (257 - control) byte))));
     }
 whole_front (Repeat control) (byte ∷ next ∷ new) more r n = absurd (omega arith)
 whole_front (Near count offset) new more r n =
@@ -85,7 +90,9 @@ whole_front (Near count offset) new more r n =
       byte = 32 * count + offset;
       rest = new ++ more;
       split = refl;
-      front_is = rw (low, high, near) (literal_at offset (count + 1) new more n ∙ ap (λ (g : List ℕ). record { offset = offset; given = g; rest = more }) (sym (given_once new)));
+      front_is = rw (low, high, near)
+          (literal_at offset (count + 1) new more n
+          ∙ ap (λ (g : List ℕ). record { offset = offset; given = g; rest = more }) (sym (given_once new)));
     }
 whole_front (Far count full last) new more r n =
     let low : (32 * count + 31) % 32 ≡ 31 = omega arith in
@@ -93,8 +100,10 @@ whole_front (Far count full last) new more r n =
     record {
       byte = 32 * count + 31;
       rest = replicate full 255 ++ last ∷ (new ++ more);
-      split = ap (λ (bs : List ℕ). (32 * count + 31) ∷ bs) (append_assoc (replicate full 255 ++ last ∷ []) new more ∙ append_assoc (replicate full 255) (last ∷ []) (new ++ more));
-      front_is = rw (low, high) (further_at full 31 (count + 1) last (new ++ more) r.1 ∙ literal_at (31 + 255 * full + last) (count + 1) new more n
+      split = ap (λ (bs : List ℕ). (32 * count + 31) ∷ bs)
+          (append_assoc (replicate full 255 ++ last ∷ []) new more ∙ append_assoc (replicate full 255) (last ∷ []) (new ++ more));
+      front_is =
+          rw (low, high) (further_at full 31 (count + 1) last (new ++ more) r.1 ∙ literal_at (31 + 255 * full + last) (count + 1) new more n
           ∙ ap (λ (g : List ℕ). record { offset = 31 + 255 * full + last; given = g; rest = more }) (sym (given_once new)));
     }
 
@@ -107,7 +116,8 @@ last_of front old = take front.offset old ++ (front.given ++ drop (front.offset 
 -- a front that gives nothing leaves the row as it is
 last_none : (front : Front) (old : List ℕ) → front.given ≡ [] → last_of front old ≡ old
 last_none front old e =
-    ap (λ (g : List ℕ). take front.offset old ++ (g ++ drop (front.offset + length g) old)) e ∙ rw add-zero (take-append-drop front.offset old)
+    ap (λ (g : List ℕ). take front.offset old ++ (g ++ drop (front.offset + length g) old)) e
+    ∙ rw add-zero (take-append-drop front.offset old)
 
 -- data that ends within an element, which lacks some bytes
 pub record IsCut (head : Head) (padding : List ℕ) (byte : ℕ) (rest missing : List ℕ) : Type 0 where
@@ -122,7 +132,8 @@ pub record EndsAs (head : Head) (byte : ℕ) (rest : List ℕ) (front : Front) :
   pub same : (old : List ℕ) → last_of front old ≡ after_element head (drop (length (head_bytes head)) (byte ∷ rest)) (λ more. more) old
 
 -- a front that gives nothing, of an element whose new bytes are all missing
-ends_none : (head : Head) (byte : ℕ) (rest : List ℕ) (front : Front) → front.rest ≡ [] → front.given ≡ [] → drop (length (head_bytes head)) (byte ∷ rest) ≡ []
+ends_none : (head : Head) (byte : ℕ) (rest : List ℕ) (front : Front) → front.rest ≡ [] → front.given ≡ []
+    → drop (length (head_bytes head)) (byte ∷ rest) ≡ []
     → EndsAs head byte rest front
 ends_none head byte rest front n g d = record {
   no_more = n;
@@ -130,17 +141,20 @@ ends_none head byte rest front n g d = record {
 }
 
 -- a front that gives new bytes once, behind the head's offset
-ends_once : (head : Head) (byte : ℕ) (rest new : List ℕ) (front : Front) → copies_of head ≡ 1 → front ≡ record { offset = offset_of head; given = new; rest = [] }
+ends_once : (head : Head) (byte : ℕ) (rest new : List ℕ) (front : Front) → copies_of head ≡ 1
+    → front ≡ record { offset = offset_of head; given = new; rest = [] }
     → drop (length (head_bytes head)) (byte ∷ rest) ≡ new → EndsAs head byte rest front
 ends_once head byte rest new front one f d = record {
   no_more = ap (λ (x : Front). x.rest) f;
   same = λ old.
       let once : given_by head (drop (length (head_bytes head)) (byte ∷ rest)) ≡ new =
       ap (given_by head) d ∙ ap (λ (n : ℕ). flat_map (λ (b : ℕ). replicate n b) new) one ∙ given_once new in
-      ap (λ (x : Front). last_of x old) f ∙ ap (λ (g : List ℕ). take (offset_of head) old ++ (g ++ drop (offset_of head + length g) old)) (sym once);
+      ap (λ (x : Front). last_of x old) f ∙ ap (λ (g : List ℕ). take (offset_of head) old ++ (g ++ drop (offset_of head + length g) old))
+      (sym once);
 }
 
-literal_short : (offset count : ℕ) (bytes : List ℕ) → length bytes ≤ count → literal offset count bytes ≡ record { offset = offset; given = bytes; rest = [] }
+literal_short : (offset count : ℕ) (bytes : List ℕ) → length bytes ≤ count
+    → literal offset count bytes ≡ record { offset = offset; given = bytes; rest = [] }
 literal_short offset count bytes le =
     ap (λ (given : List ℕ). record { offset = offset; given = given; rest = drop count bytes }) (take_all count bytes le)
     ∙ ap (λ (rest : List ℕ). record { offset = offset; given = bytes; rest = rest }) (drop_all count bytes le)
@@ -151,7 +165,8 @@ short rest missing padding e some = omega (arith, length-append rest missing, ap
 
 -- an offset that goes on, cut: nothing is given, or the whole offset is there
 pub data FarCut (offset full last count : ℕ) (rest : List ℕ) : Type 0 where
-  gives_none : (further offset count rest).rest ≡ [] → (further offset count rest).given ≡ [] → drop (full + 1) rest ≡ [] → FarCut offset full last count rest
+  gives_none : (further offset count rest).rest ≡ [] → (further offset count rest).given ≡ [] → drop (full + 1) rest ≡ []
+      → FarCut offset full last count rest
   gives_some : further offset count rest ≡ record { offset = offset + 255 * full + last; given = drop (full + 1) rest; rest = [] }
       → FarCut offset full last count rest
 
@@ -164,23 +179,28 @@ far_cut zero offset last count (byte ∷ rest) missing padding lt n some e =
     let fewer = short rest missing padding r some in
     let other : (byte == 255) ≡ false = grind (arith, nat_tests) in
     let place : offset + byte ≡ offset + 255 * zero + last = omega arith in
-    gives_some (rw other (literal_short (offset + byte) count rest (omega arith) ∙ ap (λ (o : ℕ). record { offset = o; given = rest; rest = [] }) place))
+    gives_some
+    (rw other
+    (literal_short (offset + byte) count rest (omega arith) ∙ ap (λ (o : ℕ). record { offset = o; given = rest; rest = [] }) place))
 far_cut (suc full) offset last count (byte ∷ rest) missing padding lt n some e =
     let b : byte ≡ 255 = cc in
     let r : rest ++ missing ≡ (replicate full 255 ++ last ∷ []) ++ padding = cc in
     let full_byte : (byte == 255) ≡ true = grind (arith, nat_tests) in
     let place : (offset + 255) + 255 * full + last ≡ offset + 255 * suc full + last = omega arith in
     elim (far_cut full (offset + 255) last count rest missing padding lt n some r) [
-      | gives_none x y z ↦ gives_none (rw full_byte x) (rw full_byte y) (let next : suc full + 1 ≡ suc (full + 1) = omega arith in ap (λ (n : ℕ). drop n (byte ∷ rest)) next ∙ z)
+      | gives_none x y z ↦ gives_none (rw full_byte x) (rw full_byte y)
+          (let next : suc full + 1 ≡ suc (full + 1) = omega arith in ap (λ (n : ℕ). drop n (byte ∷ rest)) next ∙ z)
       | gives_some x ↦ gives_some (rw full_byte (x ∙ ap (λ (o : ℕ). record { offset = o; given = drop (full + 1) rest; rest = [] }) place
-          ∙ (let next : suc (full + 1) ≡ suc full + 1 = omega arith in ap (λ (n : ℕ). record { offset = offset + 255 * suc full + last; given = drop n (byte ∷ rest); rest = [] }) next)))
+          ∙ (let next : suc (full + 1) ≡ suc full + 1 = omega arith in
+          ap (λ (n : ℕ). record { offset = offset + 255 * suc full + last; given = drop n (byte ∷ rest); rest = [] }) next)))
     ]
 
 cut_front : (head : Head) (padding : List ℕ) (byte : ℕ) (rest missing : List ℕ) → IsCut head padding byte rest missing
     → EndsAs head byte rest (front_of (method_of head) byte rest)
 cut_front Itself padding byte rest missing c = absurd (omega (arith, c.complete, c.lacks, ap length c.joined, length-append rest missing))
 cut_front (Count count) padding byte [] missing c = ends_none (Count count) byte [] _ refl refl refl
-cut_front (Count count) padding byte (next ∷ rest) missing c = absurd (omega (arith, c.complete, c.lacks, ap length c.joined, length-append rest missing))
+cut_front (Count count) padding byte (next ∷ rest) missing c =
+    absurd (omega (arith, c.complete, c.lacks, ap length c.joined, length-append rest missing))
 cut_front (Literal control) padding byte rest missing c =
     let e = c.joined in
     let b : byte ≡ control = cc in
@@ -188,7 +208,8 @@ cut_front (Literal control) padding byte rest missing c =
     let fewer = short rest missing padding r c.lacks in
     let in_range = c.in_range in
     let low : nat_lt byte 128 ≡ true = grind (arith, nat_tests) in
-    rw low (ends_once (Literal control) byte rest rest (literal 0 (byte + 1) rest) refl (literal_short 0 (byte + 1) rest (omega (arith, c.complete))) refl)
+    rw low (ends_once (Literal control) byte rest rest (literal 0 (byte + 1) rest) refl
+    (literal_short 0 (byte + 1) rest (omega (arith, c.complete))) refl)
 cut_front Skipped padding byte rest missing c = absurd (omega (arith, c.complete, c.lacks, ap length c.joined, length-append rest missing))
 cut_front (Repeat control) padding byte [] missing c =
     let e = c.joined in
@@ -197,7 +218,8 @@ cut_front (Repeat control) padding byte [] missing c =
     let high : nat_lt byte 128 ≡ false = grind (arith, nat_tests) in
     let other : (byte == 128) ≡ false = grind (arith, nat_tests) in
     rw (high, other) (ends_none (Repeat control) byte [] (repeated (257 - byte) []) refl refl refl)
-cut_front (Repeat control) padding byte (next ∷ rest) missing c = absurd (omega (arith, c.complete, c.lacks, ap length c.joined, length-append rest missing))
+cut_front (Repeat control) padding byte (next ∷ rest) missing c =
+    absurd (omega (arith, c.complete, c.lacks, ap length c.joined, length-append rest missing))
 cut_front (Near count offset) padding byte rest missing c =
     let e = c.joined in
     let b : byte ≡ 32 * count + offset = cc in
@@ -217,7 +239,8 @@ cut_front (Far count full last) padding byte rest missing c =
     let low : byte % 32 ≡ 31 = omega arith in
     let high : byte / 32 ≡ count = omega arith in
     let far : (byte % 32 == 31) ≡ true = grind (arith, nat_tests) in
-    let long : length (replicate full 255 ++ last ∷ []) ≡ full + 1 = omega (arith, length-append (replicate full 255) (last ∷ []), length-replicate {A = ℕ} full 255) in
+    let long : length (replicate full 255 ++ last ∷ []) ≡ full + 1 =
+    omega (arith, length-append (replicate full 255) (last ∷ []), length-replicate {A = ℕ} full 255) in
     let behind : drop (length (head_bytes (Far count full last))) (byte ∷ rest) ≡ drop (full + 1) rest = ap (λ (n : ℕ). drop n rest) long in
     rw far (elim (far_cut full 31 last (byte / 32 + 1) rest missing padding in_range.1 (omega (arith, c.complete)) c.lacks r) [
       | gives_none x y z ↦ ends_none (Far count full last) byte rest (further 31 (byte / 32 + 1) rest) x y (behind ∙ z)
@@ -232,38 +255,49 @@ treated_none zero method old = refl
 treated_none (suc n) method old = refl
 
 treated_step : (n : ℕ) (method : Method) (byte : ℕ) (rest old : List ℕ) (front : Front) → front_of method byte rest ≡ front
-    → treated_by (suc n) method (byte ∷ rest) old ≡ take front.offset old ++ (front.given ++ treated_by n method front.rest (drop (front.offset + length front.given) old))
+    → treated_by (suc n) method (byte ∷ rest) old ≡ take front.offset old
+    ++ (front.given ++ treated_by n method front.rest (drop (front.offset + length front.given) old))
 unfolding treated_by
 treated_step n method byte rest old front e =
     ap (λ (f : Front). take f.offset old ++ (f.given ++ treated_by n method f.rest (drop (f.offset + length f.given) old))) e
 
-treated_cut : (n : ℕ) (method : Method) (cut : Element) (shown missing old : List ℕ) → IsElement method cut → shown ++ missing ≡ spelling cut → 0 < length missing → length shown ≤ n
+treated_cut : (n : ℕ) (method : Method) (cut : Element) (shown missing old : List ℕ) → IsElement method cut
+    → shown ++ missing ≡ spelling cut → 0 < length missing → length shown ≤ n
     → treated_by n method shown old ≡ after_element cut.head (drop (length (head_bytes cut.head)) shown) (λ more. more) old
 treated_cut n method cut [] missing old is e some fits =
-    treated_none n method old ∙ sym (after_none cut.head (drop (length (head_bytes cut.head)) []) old (drop-nil (length (head_bytes cut.head))))
+    treated_none n method old
+    ∙ sym (after_none cut.head (drop (length (head_bytes cut.head)) []) old (drop-nil (length (head_bytes cut.head))))
 treated_cut zero method cut (byte ∷ rest) missing old is e some fits = absurd (omega arith)
 treated_cut (suc n) method cut (byte ∷ rest) missing old is e some fits =
-    let c : IsCut cut.head cut.bytes byte rest missing = record { in_range = is.head_is.in_range; complete = is.complete; joined = e; lacks = some } in
+    let c : IsCut cut.head cut.bytes byte rest missing =
+    record { in_range = is.head_is.in_range; complete = is.complete; joined = e; lacks = some } in
     let front = front_of (method_of cut.head) byte rest in
     let ends = cut_front cut.head cut.bytes byte rest missing c in
     treated_step n method byte rest old front (ap (λ (m : Method). front_of m byte rest) (sym is.head_is.method_is))
-    ∙ ap (λ (bytes : List ℕ). take front.offset old ++ (front.given ++ treated_by n method bytes (drop (front.offset + length front.given) old))) ends.no_more
-    ∙ ap (λ (bs : List ℕ). take front.offset old ++ (front.given ++ bs)) (treated_none n method (drop (front.offset + length front.given) old))
+    ∙ ap (λ (bytes : List ℕ). take front.offset old
+    ++ (front.given ++ treated_by n method bytes (drop (front.offset + length front.given) old))) ends.no_more
+    ∙ ap (λ (bs : List ℕ). take front.offset old ++ (front.given ++ bs))
+    (treated_none n method (drop (front.offset + length front.given) old))
     ∙ ends.same old
 
 treated_first : (n : ℕ) (method : Method) (byte : ℕ) (rest old : List ℕ) (front : Front) → front_of method byte rest ≡ front → 0 < n
-    → treated_by n method (byte ∷ rest) old ≡ take front.offset old ++ (front.given ++ treated_by (n - 1) method front.rest (drop (front.offset + length front.given) old))
+    → treated_by n method (byte ∷ rest) old ≡ take front.offset old
+    ++ (front.given ++ treated_by (n - 1) method front.rest (drop (front.offset + length front.given) old))
 treated_first zero method byte rest old front e some = absurd (omega arith)
 treated_first (suc n) method byte rest old front e some =
     treated_step n method byte rest old front e
     ∙ (let less : n ≡ suc n - 1 = omega arith in
-    ap (λ (k : ℕ). take front.offset old ++ (front.given ++ treated_by k method front.rest (drop (front.offset + length front.given) old))) less)
+    ap (λ (k : ℕ). take front.offset old ++ (front.given ++ treated_by k method front.rest (drop (front.offset + length front.given) old)))
+    less)
 
 -- behind an element are fewer bytes
-behind_shorter : (e : Element) (more bytes : List ℕ) (method : Method) → IsElement method e → bytes ≡ spelling e ++ more → length more < length bytes
-behind_shorter e more bytes method is joined = omega (arith, ap length joined, length-append (spelling e) more, spelling_has_byte method e is)
+behind_shorter : (e : Element) (more bytes : List ℕ) (method : Method) → IsElement method e → bytes ≡ spelling e ++ more
+    → length more < length bytes
+behind_shorter e more bytes method is joined =
+    omega (arith, ap length joined, length-append (spelling e) more, spelling_has_byte method e is)
 
-treated_is : (whole : List Element) (n : ℕ) (method : Method) (bytes : List ℕ) (cut : Element) (shown old : List ℕ) → IsReading method bytes whole cut shown → length bytes ≤ n
+treated_is : (whole : List Element) (n : ℕ) (method : Method) (bytes : List ℕ) (cut : Element) (shown old : List ℕ)
+    → IsReading method bytes whole cut shown → length bytes ≤ n
     → treated_by n method bytes old ≡ treated whole cut shown old
 treated_is [] n method bytes cut shown old r fits =
     ap (λ (bs : List ℕ). treated_by n method bs old) r.joined
@@ -275,15 +309,19 @@ treated_is (e ∷ es) n method bytes cut shown old r fits =
     let w = whole_front e.head e.bytes more is.head_is.in_range is.complete in
     let joined : bytes ≡ spelling e ++ more = r.joined ∙ append_assoc (spelling e) (flat_map spelling es) shown in
     let split : bytes ≡ w.byte ∷ w.rest = joined ∙ w.split in
-    let rest : IsReading method more es cut shown = record { elements = r.elements.1; joined = refl; element = r.element; lacking = r.lacking } in
+    let rest : IsReading method more es cut shown =
+    record { elements = r.elements.1; joined = refl; element = r.element; lacking = r.lacking } in
     let shorter = behind_shorter e more bytes method is joined in
     ap (λ (bs : List ℕ). treated_by n method bs old) split
-    ∙ treated_first n method w.byte w.rest old front (ap (λ (m : Method). front_of m w.byte w.rest) (sym is.head_is.method_is) ∙ w.front_is) (omega (arith, fits, ap length split))
+    ∙ treated_first n method w.byte w.rest old front
+    (ap (λ (m : Method). front_of m w.byte w.rest) (sym is.head_is.method_is) ∙ w.front_is) (omega (arith, fits, ap length split))
     ∙ ap (λ (bs : List ℕ). take (offset_of e.head) old ++ (given_by e.head e.bytes ++ bs))
-    (treated_is es (n - 1) method more cut shown (drop (offset_of e.head + length (given_by e.head e.bytes)) old) rest (omega (arith, fits, shorter)))
+    (treated_is es (n - 1) method more cut shown (drop (offset_of e.head + length (given_by e.head e.bytes)) old) rest
+    (omega (arith, fits, shorter)))
 
 -- the row that Decodes holds of is the one that is computed
 pub decoded_is : (method : Method) (seed bytes row : List ℕ) → Decodes method seed bytes row → row ≡ decoded method seed bytes
 unfolding decoded
 decoded_is method seed bytes row d =
-    d.4 ∙ ap (take (length (base method seed))) (sym (treated_is d.0 (length bytes) method bytes d.1 d.2 (base method seed) d.3 (omega arith)))
+    d.4 ∙ ap (take (length (base method seed)))
+    (sym (treated_is d.0 (length bytes) method bytes d.1 d.2 (base method seed) d.3 (omega arith)))

@@ -16,11 +16,13 @@ plain_row : made_by (element Itself (1 ∷ []) ∷ element Itself (2 ∷ []) ∷
 plain_row = refl
 
 -- 02 FF 00 C0: three bytes FF and one C0
-run_row : made_by (element (Count 2) (255 ∷ []) ∷ element (Count 0) (192 ∷ []) ∷ []) (0 ∷ 0 ∷ 0 ∷ 0 ∷ 0 ∷ []) ≡ 255 ∷ 255 ∷ 255 ∷ 192 ∷ 0 ∷ []
+run_row : made_by (element (Count 2) (255 ∷ []) ∷ element (Count 0) (192 ∷ []) ∷ []) (0 ∷ 0 ∷ 0 ∷ 0 ∷ 0 ∷ []) ≡ 255 ∷ 255 ∷ 255 ∷ 192 ∷ 0
+    ∷ []
 run_row = refl
 
 -- 01 07 08 80 FE 06: two literal bytes, nothing, and three bytes 06
-packed_row : made_by (element (Literal 1) (7 ∷ 8 ∷ []) ∷ element Skipped [] ∷ element (Repeat 254) (6 ∷ []) ∷ []) (0 ∷ 0 ∷ 0 ∷ 0 ∷ 0 ∷ 0 ∷ []) ≡ 7 ∷ 8 ∷ 6 ∷ 6 ∷ 6 ∷ 0 ∷ []
+packed_row : made_by (element (Literal 1) (7 ∷ 8 ∷ []) ∷ element Skipped [] ∷ element (Repeat 254) (6 ∷ []) ∷ [])
+    (0 ∷ 0 ∷ 0 ∷ 0 ∷ 0 ∷ 0 ∷ []) ≡ 7 ∷ 8 ∷ 6 ∷ 6 ∷ 6 ∷ 0 ∷ []
 packed_row = refl
 
 packed_spelling : spelling (element (Literal 1) (7 ∷ 8 ∷ [])) ≡ 1 ∷ 7 ∷ 8 ∷ []

@@ -11,10 +11,12 @@ use Rattle.pcl_rows.proofs.Spellings.{same_elements, cut_is_not_whole, same_head
 use Rattle.pcl_rows.proofs.Readings.{after_none}
 
 -- bytes that hold the whole head of a cut element
-with_head : (d : Element) (shown missing : List ℕ) → shown ++ missing ≡ spelling d → length (head_bytes d.head) ≤ length shown → (tail : List ℕ) × (shown ≡ head_bytes d.head ++ tail)
+with_head : (d : Element) (shown missing : List ℕ) → shown ++ missing ≡ spelling d → length (head_bytes d.head) ≤ length shown
+    → (tail : List ℕ) × (shown ≡ head_bytes d.head ++ tail)
 with_head d shown missing lacking long =
     let n : ℕ = length (head_bytes d.head) in
-    let front : take n shown ≡ head_bytes d.head = sym (take-append-le n shown missing long) ∙ ap (take n) lacking ∙ take_at (head_bytes d.head) d.bytes n refl in
+    let front : take n shown ≡ head_bytes d.head =
+    sym (take-append-le n shown missing long) ∙ ap (take n) lacking ∙ take_at (head_bytes d.head) d.bytes n refl in
     (drop n shown, sym (take-append-drop n shown) ∙ ap (λ (b : List ℕ). b ++ drop n shown) front)
 
 -- what a cut element gives
@@ -22,15 +24,19 @@ abbrev cut_gives : Element → List ℕ → List ℕ → List ℕ
 cut_gives d shown old = after_element d.head (drop (length (head_bytes d.head)) shown) (λ rest. rest) old
 
 -- where the bytes hold the whole head of one of two
-one_head : (method : Method) (d e : Element) (shown missing missing' old : List ℕ) → IsElement method d → IsElement method e → shown ++ missing ≡ spelling d → shown ++ missing' ≡ spelling e → length (head_bytes d.head) ≤ length shown → cut_gives d shown old ≡ cut_gives e shown old
+one_head : (method : Method) (d e : Element) (shown missing missing' old : List ℕ) → IsElement method d → IsElement method e
+    → shown ++ missing ≡ spelling d → shown ++ missing' ≡ spelling e → length (head_bytes d.head) ≤ length shown
+    → cut_gives d shown old ≡ cut_gives e shown old
 one_head method d e shown missing missing' old p q m m' long =
     let t = with_head d shown missing m long in
-    let same : head_bytes d.head ++ (t.0 ++ missing') ≡ head_bytes e.head ++ e.bytes = sym (append_assoc (head_bytes d.head) t.0 missing') ∙ ap (λ (b : List ℕ). b ++ missing') (sym t.1) ∙ m' in
+    let same : head_bytes d.head ++ (t.0 ++ missing') ≡ head_bytes e.head ++ e.bytes =
+    sym (append_assoc (head_bytes d.head) t.0 missing') ∙ ap (λ (b : List ℕ). b ++ missing') (sym t.1) ∙ m' in
     let heads = (same_heads method d.head e.head (t.0 ++ missing') e.bytes p.head_is q.head_is same).0 in
     ap (λ (h : Head). after_element h (drop (length (head_bytes h)) shown) (λ rest. rest) old) heads
 
 -- what a cut element gives doesn't depend on the bytes that it lacks
-cuts_agree : (method : Method) (d e : Element) (shown missing missing' old : List ℕ) → IsElement method d → IsElement method e → shown ++ missing ≡ spelling d → shown ++ missing' ≡ spelling e → cut_gives d shown old ≡ cut_gives e shown old
+cuts_agree : (method : Method) (d e : Element) (shown missing missing' old : List ℕ) → IsElement method d → IsElement method e
+    → shown ++ missing ≡ spelling d → shown ++ missing' ≡ spelling e → cut_gives d shown old ≡ cut_gives e shown old
 cuts_agree method d e shown missing missing' old p q m m' =
     elim (cases_lt (length shown) (length (head_bytes d.head))) [
       | inr long ↦ one_head method d e shown missing missing' old p q m m' long
@@ -39,28 +45,37 @@ cuts_agree method d e shown missing missing' old p q m m' =
             | inr long' ↦ sym (one_head method e d shown missing' missing old q p m' m long')
             | inl short' ↦
                 after_none d.head (drop (length (head_bytes d.head)) shown) old (drop_all (length (head_bytes d.head)) shown (omega arith))
-                ∙ sym (after_none e.head (drop (length (head_bytes e.head)) shown) old (drop_all (length (head_bytes e.head)) shown (omega arith)))
+                ∙ sym (after_none e.head (drop (length (head_bytes e.head)) shown) old
+                (drop_all (length (head_bytes e.head)) shown (omega arith)))
           ]
     ]
 
 -- bytes of one element at least, and bytes of a cut one alone
-one_is_longer : (method : Method) (e cut : Element) (es : List Element) (shown missing rest : List ℕ) → IsElement method e → IsElement method cut → shown ++ missing ≡ spelling cut → 0 < length missing → shown ≡ flat_map spelling (e ∷ es) ++ rest → ⊥
+one_is_longer : (method : Method) (e cut : Element) (es : List Element) (shown missing rest : List ℕ) → IsElement method e
+    → IsElement method cut → shown ++ missing ≡ spelling cut → 0 < length missing → shown ≡ flat_map spelling (e ∷ es) ++ rest → ⊥
 one_is_longer method e cut es shown missing rest p q m some same =
-    cut_is_not_whole method cut e shown missing (flat_map spelling es ++ rest) q p m some (same ∙ append_assoc (spelling e) (flat_map spelling es) rest)
+    cut_is_not_whole method cut e shown missing (flat_map spelling es ++ rest) q p m some
+    (same ∙ append_assoc (spelling e) (flat_map spelling es) rest)
 
 -- two readings treat a row alike
-readings_agree : (method : Method) (bytes : List ℕ) (whole whole' : List Element) (cut cut' : Element) (shown shown' old : List ℕ) → IsReading method bytes whole cut shown → IsReading method bytes whole' cut' shown' → treated whole cut shown old ≡ treated whole' cut' shown' old
+readings_agree : (method : Method) (bytes : List ℕ) (whole whole' : List Element) (cut cut' : Element) (shown shown' old : List ℕ)
+    → IsReading method bytes whole cut shown → IsReading method bytes whole' cut' shown'
+    → treated whole cut shown old ≡ treated whole' cut' shown' old
 readings_agree method bytes [] [] cut cut' shown shown' old r r' =
     let same : shown ≡ shown' = sym r.joined ∙ r'.joined in
-    cuts_agree method cut cut' shown r.lacking.0 r'.lacking.0 old r.element r'.element r.lacking.1 (ap (λ (b : List ℕ). b ++ r'.lacking.0) same ∙ r'.lacking.1)
+    cuts_agree method cut cut' shown r.lacking.0 r'.lacking.0 old r.element r'.element r.lacking.1
+    (ap (λ (b : List ℕ). b ++ r'.lacking.0) same ∙ r'.lacking.1)
     ∙ ap (λ (b : List ℕ). cut_gives cut' b old) same
 readings_agree method bytes [] (e ∷ es) cut cut' shown shown' old r r' =
-    absurd (one_is_longer method e cut es shown r.lacking.0 shown' r'.elements.0 r.element r.lacking.1 r.lacking.2 (sym r.joined ∙ r'.joined))
+    absurd (one_is_longer method e cut es shown r.lacking.0 shown' r'.elements.0 r.element r.lacking.1 r.lacking.2
+    (sym r.joined ∙ r'.joined))
 readings_agree method bytes (d ∷ ds) [] cut cut' shown shown' old r r' =
-    absurd (one_is_longer method d cut' ds shown' r'.lacking.0 shown r.elements.0 r'.element r'.lacking.1 r'.lacking.2 (sym r'.joined ∙ r.joined))
+    absurd (one_is_longer method d cut' ds shown' r'.lacking.0 shown r.elements.0 r'.element r'.lacking.1 r'.lacking.2
+    (sym r'.joined ∙ r.joined))
 readings_agree method bytes (d ∷ ds) (e ∷ es) cut cut' shown shown' old r r' =
     let same = same_elements method d e (flat_map spelling ds ++ shown) (flat_map spelling es ++ shown') r.elements.0 r'.elements.0
-    (sym (append_assoc (spelling d) (flat_map spelling ds) shown) ∙ sym r.joined ∙ r'.joined ∙ append_assoc (spelling e) (flat_map spelling es) shown') in
+    (sym (append_assoc (spelling d) (flat_map spelling ds) shown) ∙ sym r.joined ∙ r'.joined
+    ∙ append_assoc (spelling e) (flat_map spelling es) shown') in
     let rest : List ℕ = flat_map spelling ds ++ shown in
     let behind : List ℕ = drop (stop d) old in
     readings_step d e (treated ds cut shown) (treated es cut' shown') old same.0
@@ -68,7 +83,8 @@ readings_agree method bytes (d ∷ ds) (e ∷ es) cut cut' shown shown' old r r'
     (record { elements = r.elements.1; joined = refl; element = r.element; lacking = r.lacking })
     (record { elements = r'.elements.1; joined = same.1; element = r'.element; lacking = r'.lacking }))
   where
-    readings_step : (d e : Element) (f g : List ℕ → List ℕ) (old : List ℕ) → d ≡ e → f (drop (stop d) old) ≡ g (drop (stop d) old) → after_element d.head d.bytes f old ≡ after_element e.head e.bytes g old
+    readings_step : (d e : Element) (f g : List ℕ → List ℕ) (old : List ℕ) → d ≡ e → f (drop (stop d) old) ≡ g (drop (stop d) old)
+        → after_element d.head d.bytes f old ≡ after_element e.head e.bytes g old
     readings_step d e f g old same after =
         ap (λ (b : List ℕ). take (offset_of d.head) old ++ (given_by d.head d.bytes ++ b)) after
         ∙ ap (λ (x : Element). after_element x.head x.bytes g old) same

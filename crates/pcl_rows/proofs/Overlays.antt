@@ -7,30 +7,56 @@ use Rattle.std.proofs.lemmas.List.Concat.{flat_map-append}
 use Rattle.pcl_rows.specs.Fronts.{overlaid}
 
 -- where the new bytes fit
-pub overlaid_within : (old : List ℕ) (place : ℕ) (new : List ℕ) → place + length new ≤ length old → overlaid old place new ≡ take place old ++ (new ++ drop (place + length new) old)
-overlaid_within old place new fits = take_all _ _ (omega (arith, length-append (take place old) (new ++ drop (place + length new) old), length-append new (drop (place + length new) old), length-take place old, length-drop (place + length new) old))
+pub overlaid_within : (old : List ℕ) (place : ℕ) (new : List ℕ) → place + length new ≤ length old
+    → overlaid old place new ≡ take place old ++ (new ++ drop (place + length new) old)
+overlaid_within old place new fits = take_all _ _
+    (omega (
+      arith,
+      length-append (take place old) (new ++ drop (place + length new) old),
+      length-append new (drop (place + length new) old),
+      length-take place old,
+      length-drop (place + length new) old,
+    ))
 
 -- where they don't
-pub overlaid_past : (old : List ℕ) (place : ℕ) (new : List ℕ) → place ≤ length old → length old ≤ place + length new → overlaid old place new ≡ take (length old) (take place old ++ new)
+pub overlaid_past : (old : List ℕ) (place : ℕ) (new : List ℕ) → place ≤ length old → length old ≤ place + length new
+    → overlaid old place new ≡ take (length old) (take place old ++ new)
 overlaid_past old place new within past =
-    rw (← append_assoc) (take-append-le (length old) (take place old ++ new) (drop (place + length new) old) (omega (arith, length-append (take place old) new, length-take place old)))
+    rw (← append_assoc)
+    (take-append-le (length old) (take place old ++ new) (drop (place + length new) old)
+    (omega (arith, length-append (take place old) new, length-take place old)))
 
 pub length-overlaid : (old : List ℕ) (place : ℕ) (new : List ℕ) → place ≤ length old → length (overlaid old place new) ≡ length old
 length-overlaid old place new within =
-    omega (arith, length-take (length old) (take place old ++ (new ++ drop (place + length new) old)), length-append (take place old) (new ++ drop (place + length new) old), length-append new (drop (place + length new) old), length-take place old, length-drop (place + length new) old)
+    omega (
+      arith,
+      length-take (length old) (take place old ++ (new ++ drop (place + length new) old)),
+      length-append (take place old) (new ++ drop (place + length new) old),
+      length-append new (drop (place + length new) old),
+      length-take place old,
+      length-drop (place + length new) old,
+    )
 
 pub overlaid-nil : (old : List ℕ) (place : ℕ) → place ≤ length old → overlaid old place [] ≡ old
 overlaid-nil old place within = overlaid_within old place [] (omega arith) ∙ (rw add-zero (take-append-drop place old))
 
 -- copies that are cut at the end of the list
-pub overlaid_copies : (old : List ℕ) (place copies fitting byte : ℕ) → place ≤ length old → fitting ≡ min copies (length old - place) → overlaid old place (replicate copies byte) ≡ take place old ++ (replicate fitting byte ++ drop (place + fitting) old)
+pub overlaid_copies : (old : List ℕ) (place copies fitting byte : ℕ) → place ≤ length old → fitting ≡ min copies (length old - place)
+    → overlaid old place (replicate copies byte) ≡ take place old ++ (replicate fitting byte ++ drop (place + fitting) old)
 overlaid_copies old place copies fitting byte within e =
     elim (cases_lt (length old) (place + copies)) [
       | inl past ↦
           let more : ℕ = copies - fitting in
           let all : copies ≡ fitting + more = omega arith in
-          let parts : replicate copies byte ≡ replicate fitting byte ++ replicate more byte = ap (λ (n : ℕ). replicate n byte) all ∙ sym (replicate-append-replicate fitting more byte) in
-          let size : length (take place old ++ replicate fitting byte) ≡ length old = omega (arith, length-append (take place old) (replicate fitting byte), length-take place old, length-replicate fitting byte) in
+          let parts : replicate copies byte ≡ replicate fitting byte ++ replicate more byte =
+          ap (λ (n : ℕ). replicate n byte) all ∙ sym (replicate-append-replicate fitting more byte) in
+          let size : length (take place old ++ replicate fitting byte) ≡ length old =
+          omega (
+            arith,
+            length-append (take place old) (replicate fitting byte),
+            length-take place old,
+            length-replicate fitting byte,
+          ) in
           let none : drop (place + fitting) old ≡ [] = drop_all (place + fitting) old (omega arith) in
           overlaid_past old place (replicate copies byte) within (omega (arith, length-replicate copies byte))
           ∙ ap (λ (bs : List ℕ). take (length old) (take place old ++ bs)) parts
@@ -44,41 +70,55 @@ overlaid_copies old place copies fitting byte within e =
     ]
 
 -- what lies behind the new bytes
-pub drop-overlaid : (old : List ℕ) (place : ℕ) (new : List ℕ) → place ≤ length old → drop (min (length old) (place + length new)) (overlaid old place new) ≡ drop (place + length new) old
+pub drop-overlaid : (old : List ℕ) (place : ℕ) (new : List ℕ) → place ≤ length old
+    → drop (min (length old) (place + length new)) (overlaid old place new) ≡ drop (place + length new) old
 drop-overlaid old place new within =
     elim (cases_lt (length old) (place + length new)) [
       | inl past ↦
           let end : min (length old) (place + length new) ≡ length old = omega arith in
-          rw end (drop_all (length old) (overlaid old place new) (omega (arith, length-overlaid old place new within)) ∙ sym (drop_all (place + length new) old (omega arith)))
+          rw end (drop_all (length old) (overlaid old place new) (omega (arith, length-overlaid old place new within))
+          ∙ sym (drop_all (place + length new) old (omega arith)))
       | inr fits ↦
           let end : min (length old) (place + length new) ≡ place + length new = omega arith in
-          let size : length (take place old ++ new) ≡ place + length new = omega (arith, length-append (take place old) new, length-take place old) in
-          rw end (ap (drop (place + length new)) (overlaid_within old place new fits ∙ sym (append_assoc (take place old) new (drop (place + length new) old)))
+          let size : length (take place old ++ new) ≡ place + length new =
+          omega (arith, length-append (take place old) new, length-take place old) in
+          rw end (ap (drop (place + length new))
+          (overlaid_within old place new fits ∙ sym (append_assoc (take place old) new (drop (place + length new) old)))
           ∙ drop_at (take place old ++ new) (drop (place + length new) old) (place + length new) size)
     ]
 
 -- what stands before it, followed by anything and cut at the length
-pub take-overlaid : (old : List ℕ) (place : ℕ) (new rest : List ℕ) → place ≤ length old → take (length old) (take (min (length old) (place + length new)) (overlaid old place new) ++ rest) ≡ take (length old) (take place old ++ (new ++ rest))
+pub take-overlaid : (old : List ℕ) (place : ℕ) (new rest : List ℕ) → place ≤ length old
+    → take (length old) (take (min (length old) (place + length new)) (overlaid old place new) ++ rest)
+    ≡ take (length old) (take place old ++ (new ++ rest))
 take-overlaid old place new rest within =
     elim (cases_lt (length old) (place + length new)) [
       | inl past ↦
           let end : min (length old) (place + length new) ≡ length old = omega arith in
           let laid = overlaid_past old place new within (omega arith) in
-          let size : length (take (length old) (take place old ++ new)) ≡ length old = omega (arith, length-take (length old) (take place old ++ new), length-append (take place old) new, length-take place old) in
-          rw (end, laid) (ap (λ (bs : List ℕ). take (length old) (bs ++ rest)) (take-take (length old) (length old) (take place old ++ new) (omega arith))
+          let size : length (take (length old) (take place old ++ new)) ≡ length old =
+          omega (arith, length-take (length old) (take place old ++ new), length-append (take place old) new, length-take place old) in
+          rw (end, laid)
+          (ap (λ (bs : List ℕ). take (length old) (bs ++ rest))
+          (take-take (length old) (length old) (take place old ++ new) (omega arith))
           ∙ take_at (take (length old) (take place old ++ new)) rest (length old) size
-          ∙ sym (take-append-le (length old) (take place old ++ new) rest (omega (arith, length-append (take place old) new, length-take place old)))
+          ∙ sym (take-append-le (length old) (take place old ++ new) rest
+          (omega (arith, length-append (take place old) new, length-take place old)))
           ∙ ap (take (length old)) (append_assoc (take place old) new rest))
       | inr fits ↦
           let end : min (length old) (place + length new) ≡ place + length new = omega arith in
-          let size : length (take place old ++ new) ≡ place + length new = omega (arith, length-append (take place old) new, length-take place old) in
-          rw end (ap (λ (bs : List ℕ). take (length old) (take (place + length new) bs ++ rest)) (overlaid_within old place new fits ∙ sym (append_assoc (take place old) new (drop (place + length new) old)))
-          ∙ ap (λ (bs : List ℕ). take (length old) (bs ++ rest)) (take_at (take place old ++ new) (drop (place + length new) old) (place + length new) size)
+          let size : length (take place old ++ new) ≡ place + length new =
+          omega (arith, length-append (take place old) new, length-take place old) in
+          rw end (ap (λ (bs : List ℕ). take (length old) (take (place + length new) bs ++ rest))
+          (overlaid_within old place new fits ∙ sym (append_assoc (take place old) new (drop (place + length new) old)))
+          ∙ ap (λ (bs : List ℕ). take (length old) (bs ++ rest))
+          (take_at (take place old ++ new) (drop (place + length new) old) (place + length new) size)
           ∙ ap (take (length old)) (append_assoc (take place old) new rest))
     ]
 
 -- one list after another
-pub overlaid-overlaid : (old : List ℕ) (place : ℕ) (first second : List ℕ) → place ≤ length old → overlaid (overlaid old place first) (min (length old) (place + length first)) second ≡ overlaid old place (first ++ second)
+pub overlaid-overlaid : (old : List ℕ) (place : ℕ) (first second : List ℕ) → place ≤ length old
+    → overlaid (overlaid old place first) (min (length old) (place + length first)) second ≡ overlaid old place (first ++ second)
 overlaid-overlaid old place first second within =
     let middle : List ℕ = overlaid old place first in
     let end : ℕ = min (length old) (place + length first) in
@@ -96,7 +136,8 @@ overlaid-overlaid old place first second within =
 abbrev pub copied : ℕ → ℕ → List ℕ → List ℕ
 copied copies count bytes = flat_map (λ byte. replicate copies byte) (take count bytes)
 
-copied_more : (copies i : ℕ) (bytes : List ℕ) → i < length bytes → copied copies (i + 1) bytes ≡ copied copies i bytes ++ replicate copies (get_or bytes i 0)
+copied_more : (copies i : ℕ) (bytes : List ℕ) → i < length bytes
+    → copied copies (i + 1) bytes ≡ copied copies i bytes ++ replicate copies (get_or bytes i 0)
 copied_more copies i bytes within =
     ap (flat_map (λ byte. replicate copies byte)) (take_more bytes i 0 within)
     ∙ flat_map-append (λ byte. replicate copies byte) (take i bytes) (get_or bytes i 0 ∷ [])
@@ -111,7 +152,18 @@ put_more old row start place copies i bytes new end within more row-is place-is 
     let before : List ℕ = copied copies i bytes in
     let last : List ℕ = replicate copies (get_or bytes i 0) in
     let grown = copied_more copies i bytes more in
-    let same : new ≡ overlaid (overlaid old start before) (min (length old) (start + length before)) last = new-is ∙ ap (λ (r : List ℕ). overlaid r place last) row-is ∙ ap (λ (p : ℕ). overlaid (overlaid old start before) p last) place-is in (
+    let same : new ≡ overlaid (overlaid old start before) (min (length old) (start + length before)) last =
+    new-is ∙ ap (λ (r : List ℕ). overlaid r place last) row-is
+    ∙ ap (λ (p : ℕ). overlaid (overlaid old start before) p last) place-is in (
       same ∙ overlaid-overlaid old start before last within ∙ ap (overlaid old start) (sym grown),
-      omega (arith, end-is, place-is, ap length row-is, length-overlaid old start before within, ap length grown, length-append before last, length-replicate copies (get_or bytes i 0)),
+      omega (
+        arith,
+        end-is,
+        place-is,
+        ap length row-is,
+        length-overlaid old start before within,
+        ap length grown,
+        length-append before last,
+        length-replicate copies (get_or bytes i 0),
+      ),
     )

@@ -17,7 +17,8 @@ use Rattle.pcl_rows.proofs.Spellings.{same_elements, spelling_has_byte, cut_is_n
 -- what data makes of untreated bytes, before what lies past the row is dropped
 abbrev pub Fills : Method → List ℕ → List ℕ → List ℕ → Type 0
 Fills method bytes old row =
-    (whole : List Element) × (cut : Element) × (shown : List ℕ) × IsReading method bytes whole cut shown × (row ≡ treated whole cut shown old)
+    (whole : List Element) × (cut : Element) × (shown : List ℕ) × IsReading method bytes whole cut shown
+    × (row ≡ treated whole cut shown old)
 
 pub drop-nil : (n : ℕ) → drop {A = ℕ} n [] ≡ []
 drop-nil zero = refl
@@ -25,18 +26,26 @@ drop-nil (suc n) = refl
 
 pub length-copied : (copies : ℕ) (bytes : List ℕ) → length (flat_map (λ byte. replicate copies byte) bytes) ≡ copies * length bytes
 length-copied copies [] = omega arith
-length-copied copies (b ∷ bytes) = length-append (replicate copies b) (flat_map (λ byte. replicate copies byte) bytes) ∙ omega (arith, length-copied copies bytes, length-replicate copies b)
+length-copied copies (b ∷ bytes) = length-append (replicate copies b) (flat_map (λ byte. replicate copies byte) bytes)
+    ∙ omega (arith, length-copied copies bytes, length-replicate copies b)
 
 -- an element without new bytes changes nothing
 pub after_none : (h : Head) (new old : List ℕ) → new ≡ [] → after_element h new (λ rest. rest) old ≡ old
-after_none h new old none = ap (λ (bs : List ℕ). after_element h bs (λ rest. rest) old) none ∙ rw add-zero (take-append-drop (offset_of h) old)
+after_none h new old none =
+    ap (λ (bs : List ℕ). after_element h bs (λ rest. rest) old) none ∙ rw add-zero (take-append-drop (offset_of h) old)
 
 -- an element of each method
 pub some_element : (method : Method) → (e : Element) × IsElement method e
-some_element Plain = (record { head = Itself; bytes = 0 ∷ [] }, record { head_is = record { method_is = refl; in_range = tt }; complete = refl })
-some_element Runs = (record { head = Count 0; bytes = 0 ∷ [] }, record { head_is = record { method_is = refl; in_range = omega arith }; complete = refl })
-some_element Packed = (record { head = Skipped; bytes = [] }, record { head_is = record { method_is = refl; in_range = tt }; complete = refl })
-some_element Delta = (record { head = Near 0 0; bytes = 0 ∷ [] }, record { head_is = record { method_is = refl; in_range = (omega arith, omega arith) }; complete = refl })
+some_element Plain =
+    (record { head = Itself; bytes = 0 ∷ [] }, record { head_is = record { method_is = refl; in_range = tt }; complete = refl })
+some_element Runs =
+    (record { head = Count 0; bytes = 0 ∷ [] }, record { head_is = record { method_is = refl; in_range = omega arith }; complete = refl })
+some_element Packed =
+    (record { head = Skipped; bytes = [] }, record { head_is = record { method_is = refl; in_range = tt }; complete = refl })
+some_element Delta = (
+  record { head = Near 0 0; bytes = 0 ∷ [] },
+  record { head_is = record { method_is = refl; in_range = (omega arith, omega arith) }; complete = refl },
+)
 
 -- no data changes nothing
 pub Fills-none : (method : Method) (old : List ℕ) → Fills method [] old old
@@ -49,12 +58,20 @@ Fills-none method old =
       sym (after_none e.0.head (drop (length (head_bytes e.0.head)) []) old (drop-nil (length (head_bytes e.0.head)))),
     )
 
-none_is_nothing : (method : Method) (whole : List Element) (cut : Element) (shown old : List ℕ) → IsReading method [] whole cut shown → treated whole cut shown old ≡ old
+none_is_nothing : (method : Method) (whole : List Element) (cut : Element) (shown old : List ℕ) → IsReading method [] whole cut shown
+    → treated whole cut shown old ≡ old
 none_is_nothing method [] cut shown old r =
     let none : shown ≡ [] = sym r.joined in
-    after_none cut.head (drop (length (head_bytes cut.head)) shown) old (ap (drop (length (head_bytes cut.head))) none ∙ drop-nil (length (head_bytes cut.head)))
+    after_none cut.head (drop (length (head_bytes cut.head)) shown) old
+    (ap (drop (length (head_bytes cut.head))) none ∙ drop-nil (length (head_bytes cut.head)))
 none_is_nothing method (e ∷ es) cut shown old r =
-    absurd (omega (arith, ap length r.joined, length-append (flat_map spelling (e ∷ es)) shown, length-append (spelling e) (flat_map spelling es), spelling_has_byte method e r.elements.0))
+    absurd (omega (
+      arith,
+      ap length r.joined,
+      length-append (flat_map spelling (e ∷ es)) shown,
+      length-append (spelling e) (flat_map spelling es),
+      spelling_has_byte method e r.elements.0,
+    ))
 
 pub Fills-nothing : (method : Method) (old row : List ℕ) → Fills method [] old row → row ≡ old
 Fills-nothing method old row f = f.4 ∙ none_is_nothing method f.0 f.1 f.2 old f.3
@@ -63,16 +80,24 @@ Fills-nothing method old row f = f.4 ∙ none_is_nothing method f.0 f.1 f.2 old 
 abbrev pub with_front : Head → List ℕ → List ℕ → List ℕ → List ℕ
 with_front h new old rest = take (offset_of h) old ++ (given_by h new ++ rest)
 
-Fills-cut : (method : Method) (bytes : List ℕ) (h : Head) (new rest old : List ℕ) → IsHead method h → IsCutFront bytes h new rest → Fills method bytes old (with_front h new old (drop (offset_of h + length (given_by h new)) old))
+Fills-cut : (method : Method) (bytes : List ℕ) (h : Head) (new rest old : List ℕ) → IsHead method h → IsCutFront bytes h new rest
+    → Fills method bytes old (with_front h new old (drop (offset_of h + length (given_by h new)) old))
 Fills-cut method bytes h new rest old is cut = (
   [],
   record { head = h; bytes = cut.padding },
   bytes,
-  record { elements = tt; joined = refl; element = record { head_is = is; complete = cut.complete }; lacking = (cut.missing, cut.lacking, cut.lacks) },
+  record {
+    elements = tt;
+    joined = refl;
+    element = record { head_is = is; complete = cut.complete };
+    lacking =
+        (cut.missing, cut.lacking, cut.lacks);
+  },
   ap (λ (bs : List ℕ). after_element h bs (λ rest. rest) old) cut.new_is,
 )
 
-Fills-cons : (method : Method) (bytes : List ℕ) (h : Head) (new rest old row : List ℕ) → IsHead method h → IsWholeFront bytes h new rest → Fills method rest (drop (offset_of h + length (given_by h new)) old) row → Fills method bytes old (with_front h new old row)
+Fills-cons : (method : Method) (bytes : List ℕ) (h : Head) (new rest old row : List ℕ) → IsHead method h → IsWholeFront bytes h new rest
+    → Fills method rest (drop (offset_of h + length (given_by h new)) old) row → Fills method bytes old (with_front h new old row)
 Fills-cons method bytes h new rest old row is front (whole, cut, shown, r, e) =
     let first : Element = record { head = h; bytes = new } in (
       first ∷ whole,
@@ -80,14 +105,16 @@ Fills-cons method bytes h new rest old row is front (whole, cut, shown, r, e) =
       shown,
       record {
         elements = (record { head_is = is; complete = front.complete }, r.elements);
-        joined = front.joined ∙ ap (λ (bs : List ℕ). spelling first ++ bs) r.joined ∙ sym (append_assoc (spelling first) (flat_map spelling whole) shown);
+        joined = front.joined ∙ ap (λ (bs : List ℕ). spelling first ++ bs) r.joined
+            ∙ sym (append_assoc (spelling first) (flat_map spelling whole) shown);
         element = r.element;
         lacking = r.lacking;
       },
       ap (with_front h new old) e,
     )
 
-Fills-parts : (method : Method) (bytes : List ℕ) (h : Head) (new rest old row : List ℕ) (whole : Bool) → IsHead method h → MatchBool whole (IsWholeFront bytes h new rest) (IsCutFront bytes h new rest)
+Fills-parts : (method : Method) (bytes : List ℕ) (h : Head) (new rest old row : List ℕ) (whole : Bool) → IsHead method h
+    → MatchBool whole (IsWholeFront bytes h new rest) (IsCutFront bytes h new rest)
     → Fills method rest (drop (offset_of h + length (given_by h new)) old) row → Fills method bytes old (with_front h new old row)
 Fills-parts method bytes h new rest old row true is front f = Fills-cons method bytes h new rest old row is front f
 Fills-parts method bytes h new rest old row false is front f =
@@ -98,30 +125,39 @@ Fills-parts method bytes h new rest old row false is front f =
 -- the bytes of a row that was treated up to a place, where all the data makes the rest of it
 abbrev pub IsTreatedTo : Method → List ℕ → List ℕ → List ℕ → List ℕ → ℕ → Type 0
 IsTreatedTo method bytes old rest row place =
-    (made : List ℕ) → Fills method rest (drop place row) made → (all : List ℕ) × Fills method bytes old all × (take (length old) all ≡ take (length old) (take place row ++ made))
+    (made : List ℕ) → Fills method rest (drop place row) made
+    → (all : List ℕ) × Fills method bytes old all × (take (length old) all ≡ take (length old) (take place row ++ made))
 
 -- one more element
-pub treated_more : (method : Method) (bytes old rest row : List ℕ) (place start : ℕ) (offset copies : ℕ) (new rest' : List ℕ) (whole : Bool) (row' : List ℕ) (place' : ℕ)
+pub treated_more : (method : Method) (bytes old rest row : List ℕ) (place start : ℕ) (offset copies : ℕ) (new rest' : List ℕ)
+    (whole : Bool) (row' : List ℕ) (place' : ℕ)
     → length row ≡ length old → place ≤ length row → start ≡ min (length row) (place + offset)
     → IsFront method rest offset copies new rest' whole
     → row' ≡ overlaid row start (flat_map (λ byte. replicate copies byte) new)
     → place' ≡ min (length row) (start + length (flat_map (λ byte. replicate copies byte) new))
     → IsTreatedTo method bytes old rest row place → IsTreatedTo method bytes old rest' row' place'
-treated_more method bytes old rest row place start offset copies new rest' whole row' place' size within start-is front row-is place-is so_far made f =
+treated_more method bytes old rest row place start offset copies new rest' whole row' place' size within start-is front row-is place-is
+    so_far made f =
     let n : ℕ = length old in
     let h : Head = front.head in
     let g : List ℕ = given_by h new in
-    let given-is : flat_map (λ byte. replicate copies byte) new ≡ g = ap (λ (k : ℕ). flat_map (λ byte. replicate k byte) new) front.copies_is in
+    let given-is : flat_map (λ byte. replicate copies byte) new ≡ g =
+    ap (λ (k : ℕ). flat_map (λ byte. replicate k byte) new) front.copies_is in
     let laid : row' ≡ overlaid row start g = row-is ∙ ap (overlaid row start) given-is in
-    let end : place' ≡ min (length row) (start + length g) = place-is ∙ ap (λ (bs : List ℕ). min (length row) (start + length bs)) given-is in
+    let end : place' ≡ min (length row) (start + length g) =
+    place-is ∙ ap (λ (bs : List ℕ). min (length row) (start + length bs)) given-is in
     let inside : start ≤ length row = omega arith in
     let stopped : ℕ = offset_of h + length g in
     let behind : drop place' row' ≡ drop (start + length g) row =
     ap (λ (r : List ℕ). drop place' r) laid ∙ ap (λ (p : ℕ). drop p (overlaid row start g)) end ∙ drop-overlaid row start g inside in
-    let same_rest : drop (start + length g) row ≡ drop stopped (drop place row) = ends row place start offset h g start-is front.offset_is in
-    let f' : Fills method rest' (drop stopped (drop place row)) made = subst (λ (bs : List ℕ). Fills method rest' bs made) (behind ∙ same_rest) f in
-    let r = so_far (with_front h new (drop place row) made) (Fills-parts method rest h new rest' (drop place row) made whole front.head_is front.parts f') in
-    let joined : take place row ++ with_front h new (drop place row) made ≡ take start row ++ (g ++ made) = starts row place start offset h (g ++ made) start-is front.offset_is in
+    let same_rest : drop (start + length g) row ≡ drop stopped (drop place row) =
+    ends row place start offset h g start-is front.offset_is in
+    let f' : Fills method rest' (drop stopped (drop place row)) made =
+    subst (λ (bs : List ℕ). Fills method rest' bs made) (behind ∙ same_rest) f in
+    let r = so_far (with_front h new (drop place row) made)
+    (Fills-parts method rest h new rest' (drop place row) made whole front.head_is front.parts f') in
+    let joined : take place row ++ with_front h new (drop place row) made ≡ take start row ++ (g ++ made) =
+    starts row place start offset h (g ++ made) start-is front.offset_is in
     let over = take-overlaid row start g made inside in (
       r.0,
       r.1,
@@ -132,14 +168,17 @@ treated_more method bytes old rest row place start offset copies new rest' whole
           ∙ ap (λ (bs : List ℕ). take n (take place' bs ++ made)) (sym laid),
     )
   where
-    ends : (row : List ℕ) (place start offset : ℕ) (h : Head) (g : List ℕ) → start ≡ min (length row) (place + offset) → offset ≡ offset_of h → drop (start + length g) row ≡ drop (offset_of h + length g) (drop place row)
+    ends : (row : List ℕ) (place start offset : ℕ) (h : Head) (g : List ℕ) → start ≡ min (length row) (place + offset)
+        → offset ≡ offset_of h → drop (start + length g) row ≡ drop (offset_of h + length g) (drop place row)
     ends row place start offset h g s o =
         elim (cases_lt (length row) (place + offset)) [
-          | inl past ↦ drop_all (start + length g) row (omega arith) ∙ sym (drop_all (offset_of h + length g) (drop place row) (omega (arith, length-drop place row)))
+          | inl past ↦ drop_all (start + length g) row (omega arith)
+              ∙ sym (drop_all (offset_of h + length g) (drop place row) (omega (arith, length-drop place row)))
           | inr fits ↦ ap (λ (p : ℕ). drop p row) (omega arith) ∙ sym (drop-drop (offset_of h + length g) place row)
         ]
 
-    starts : (row : List ℕ) (place start offset : ℕ) (h : Head) (after : List ℕ) → start ≡ min (length row) (place + offset) → offset ≡ offset_of h → take place row ++ (take (offset_of h) (drop place row) ++ after) ≡ take start row ++ after
+    starts : (row : List ℕ) (place start offset : ℕ) (h : Head) (after : List ℕ) → start ≡ min (length row) (place + offset)
+        → offset ≡ offset_of h → take place row ++ (take (offset_of h) (drop place row) ++ after) ≡ take start row ++ after
     starts row place start offset h after s o =
         let cut : take start row ≡ take (place + offset_of h) row =
         ap (λ (p : ℕ). take p row) (omega arith) ∙ take_min (place + offset_of h) row in
@@ -147,10 +186,12 @@ treated_more method bytes old rest row place start offset copies new rest' whole
         ∙ ap (λ (bs : List ℕ). bs ++ after) (sym (take-add place (offset_of h) row) ∙ sym cut)
 
 -- where all data is treated
-pub treated_all : (method : Method) (bytes old row : List ℕ) (place : ℕ) → length row ≡ length old → IsTreatedTo method bytes old [] row place → RowFrom method bytes old row
+pub treated_all : (method : Method) (bytes old row : List ℕ) (place : ℕ) → length row ≡ length old
+    → IsTreatedTo method bytes old [] row place → RowFrom method bytes old row
 treated_all method bytes old row place size so_far =
     let r = so_far (drop place row) (Fills-none method (drop place row)) in
-    let whole : row ≡ take (length old) r.0 = sym (take_all (length old) row (omega arith)) ∙ ap (take (length old)) (sym (take-append-drop place row)) ∙ sym r.2 in
+    let whole : row ≡ take (length old) r.0 =
+    sym (take_all (length old) row (omega arith)) ∙ ap (take (length old)) (sym (take-append-drop place row)) ∙ sym r.2 in
     (r.1.0, r.1.1, r.1.2, r.1.3, whole ∙ ap (take (length old)) r.1.4)
 
 -- where none is
@@ -160,31 +201,49 @@ treated_none method bytes old made f = (made, f, refl)
 -- ---- whole data
 
 -- a whole element, and then whole data
-pub whole_cons : (method : Method) (bytes : List ℕ) (h : Head) (new rest : List ℕ) (room : ℕ) → IsHead method h → IsWholeFront bytes h new rest → offset_of h + length (given_by h new) ≤ room → IsWhole method rest (room - (offset_of h + length (given_by h new))) → IsWhole method bytes room
+pub whole_cons : (method : Method) (bytes : List ℕ) (h : Head) (new rest : List ℕ) (room : ℕ) → IsHead method h
+    → IsWholeFront bytes h new rest → offset_of h + length (given_by h new) ≤ room
+    → IsWhole method rest (room - (offset_of h + length (given_by h new))) → IsWhole method bytes room
 whole_cons method bytes h new rest room is front fits (es, are, joined, within) =
-    let first : Element = record { head = h; bytes = new } in
-    (first ∷ es, (record { head_is = is; complete = front.complete }, are), front.joined ∙ ap (λ (bs : List ℕ). spelling first ++ bs) joined, omega arith)
+    let first : Element = record { head = h; bytes = new } in (
+      first ∷ es,
+      (record { head_is = is; complete = front.complete }, are),
+      front.joined ∙ ap (λ (bs : List ℕ). spelling first ++ bs) joined,
+      omega arith,
+    )
 
-whole_uncons_at : (method : Method) (bytes : List ℕ) (h : Head) (new rest : List ℕ) (room : ℕ) (es : List Element) → IsHead method h → IsWholeFront bytes h new rest → AreElements method es → bytes ≡ flat_map spelling es → reach es ≤ room
+whole_uncons_at : (method : Method) (bytes : List ℕ) (h : Head) (new rest : List ℕ) (room : ℕ) (es : List Element) → IsHead method h
+    → IsWholeFront bytes h new rest → AreElements method es → bytes ≡ flat_map spelling es → reach es ≤ room
     → (offset_of h + length (given_by h new) ≤ room) × IsWhole method rest (room - (offset_of h + length (given_by h new)))
 whole_uncons_at method bytes h new rest room [] is front are joined within =
     let first : Element = record { head = h; bytes = new } in
-    absurd (omega (arith, ap length (sym front.joined ∙ joined), length-append (head_bytes h ++ new) rest, spelling_has_byte method first record { head_is = is; complete = front.complete }))
+    absurd (omega (
+      arith,
+      ap length (sym front.joined ∙ joined),
+      length-append (head_bytes h ++ new) rest,
+      spelling_has_byte method first record { head_is = is; complete = front.complete },
+    ))
 whole_uncons_at method bytes h new rest room (e ∷ es) is front are joined within =
     let first : Element = record { head = h; bytes = new } in
-    let same = same_elements method first e rest (flat_map spelling es) (record { head_is = is; complete = front.complete }) are.0 (sym front.joined ∙ joined) in
+    let same = same_elements method first e rest (flat_map spelling es) (record { head_is = is; complete = front.complete }) are.0
+    (sym front.joined ∙ joined) in
     let size : stop first ≡ stop e = ap stop same.0 in
     (omega arith, (es, are.1, same.1, omega arith))
 
-pub whole_uncons : (method : Method) (bytes : List ℕ) (h : Head) (new rest : List ℕ) (room : ℕ) → IsHead method h → IsWholeFront bytes h new rest → IsWhole method bytes room → (offset_of h + length (given_by h new) ≤ room) × IsWhole method rest (room - (offset_of h + length (given_by h new)))
+pub whole_uncons : (method : Method) (bytes : List ℕ) (h : Head) (new rest : List ℕ) (room : ℕ) → IsHead method h
+    → IsWholeFront bytes h new rest → IsWhole method bytes room
+    → (offset_of h + length (given_by h new) ≤ room) × IsWhole method rest (room - (offset_of h + length (given_by h new)))
 whole_uncons method bytes h new rest room is front w = whole_uncons_at method bytes h new rest room w.0 is front w.1 w.2 w.3
 
-cut_not_whole_at : (method : Method) (bytes : List ℕ) (h : Head) (new rest : List ℕ) (es : List Element) → 0 < length bytes → IsHead method h → IsCutFront bytes h new rest → AreElements method es → bytes ≡ flat_map spelling es → ⊥
+cut_not_whole_at : (method : Method) (bytes : List ℕ) (h : Head) (new rest : List ℕ) (es : List Element) → 0 < length bytes
+    → IsHead method h → IsCutFront bytes h new rest → AreElements method es → bytes ≡ flat_map spelling es → ⊥
 cut_not_whole_at method bytes h new rest [] some is cut are joined = omega (arith, ap length joined)
 cut_not_whole_at method bytes h new rest (e ∷ es) some is cut are joined =
-    cut_is_not_whole method (record { head = h; bytes = cut.padding }) e bytes cut.missing (flat_map spelling es) (record { head_is = is; complete = cut.complete }) are.0 cut.lacking cut.lacks joined
+    cut_is_not_whole method (record { head = h; bytes = cut.padding }) e bytes cut.missing (flat_map spelling es)
+    (record { head_is = is; complete = cut.complete }) are.0 cut.lacking cut.lacks joined
 
-pub cut_not_whole : (method : Method) (bytes : List ℕ) (h : Head) (new rest : List ℕ) (room : ℕ) → 0 < length bytes → IsHead method h → IsCutFront bytes h new rest → IsWhole method bytes room → ⊥
+pub cut_not_whole : (method : Method) (bytes : List ℕ) (h : Head) (new rest : List ℕ) (room : ℕ) → 0 < length bytes → IsHead method h
+    → IsCutFront bytes h new rest → IsWhole method bytes room → ⊥
 cut_not_whole method bytes h new rest room some is cut w = cut_not_whole_at method bytes h new rest w.0 some is cut w.1 w.2
 
 pub whole_none : (method : Method) (room : ℕ) → IsWhole method [] room
@@ -192,35 +251,52 @@ whole_none method room = ([], tt, refl, omega arith)
 
 -- ---- what a loop over the elements uses
 
-rest_shorter_at : (method : Method) (bytes : List ℕ) (h : Head) (new rest : List ℕ) (whole : Bool) → 0 < length bytes → IsHead method h → MatchBool whole (IsWholeFront bytes h new rest) (IsCutFront bytes h new rest) → length rest < length bytes
+rest_shorter_at : (method : Method) (bytes : List ℕ) (h : Head) (new rest : List ℕ) (whole : Bool) → 0 < length bytes → IsHead method h
+    → MatchBool whole (IsWholeFront bytes h new rest) (IsCutFront bytes h new rest) → length rest < length bytes
 rest_shorter_at method bytes h new rest true some is front =
     let first : Element = record { head = h; bytes = new } in
-    omega (arith, ap length front.joined, length-append (head_bytes h ++ new) rest, spelling_has_byte method first record { head_is = is; complete = front.complete })
+    omega (
+      arith,
+      ap length front.joined,
+      length-append (head_bytes h ++ new) rest,
+      spelling_has_byte method first record { head_is = is; complete = front.complete },
+    )
 rest_shorter_at method bytes h new rest false some is front = omega (arith, ap length front.rest_is)
 
-pub rest_shorter : (method : Method) (bytes : List ℕ) (offset copies : ℕ) (new rest : List ℕ) (whole : Bool) → 0 < length bytes → IsFront method bytes offset copies new rest whole → length rest < length bytes
-rest_shorter method bytes offset copies new rest whole some front = rest_shorter_at method bytes front.head new rest whole some front.head_is front.parts
+pub rest_shorter : (method : Method) (bytes : List ℕ) (offset copies : ℕ) (new rest : List ℕ) (whole : Bool) → 0 < length bytes
+    → IsFront method bytes offset copies new rest whole → length rest < length bytes
+rest_shorter method bytes offset copies new rest whole some front =
+    rest_shorter_at method bytes front.head new rest whole some front.head_is front.parts
 
-stop_of_front : (method : Method) (bytes : List ℕ) (offset copies : ℕ) (new rest : List ℕ) (whole : Bool) (front : IsFront method bytes offset copies new rest whole) (stopped : ℕ) → stopped ≡ offset + copies * length new → stopped ≡ offset_of front.head + length (given_by front.head new)
+stop_of_front : (method : Method) (bytes : List ℕ) (offset copies : ℕ) (new rest : List ℕ) (whole : Bool)
+    (front : IsFront method bytes offset copies new rest whole) (stopped : ℕ) → stopped ≡ offset + copies * length new
+    → stopped ≡ offset_of front.head + length (given_by front.head new)
 stop_of_front method bytes offset copies new rest whole front stopped e =
     omega (arith, e, front.offset_is, ap (λ (k : ℕ). k * length new) front.copies_is, length-copied (copies_of front.head) new)
 
 -- a whole element that stops within the room
-pub whole_more : (method : Method) (all bytes : List ℕ) (limit room offset copies stopped : ℕ) (new rest : List ℕ) → IsFront method bytes offset copies new rest true → stopped ≡ offset + copies * length new → stopped ≤ room
+pub whole_more : (method : Method) (all bytes : List ℕ) (limit room offset copies stopped : ℕ) (new rest : List ℕ)
+    → IsFront method bytes offset copies new rest true → stopped ≡ offset + copies * length new → stopped ≤ room
     → (IsWhole method all limit ↔ IsWhole method bytes room) → IsWhole method all limit ↔ IsWhole method rest (room - stopped)
 whole_more method all bytes limit room offset copies stopped new rest front stop-is fits so_far =
     let stop = stop_of_front method bytes offset copies new rest true front stopped stop-is in
     let left : room - (offset_of front.head + length (given_by front.head new)) ≡ room - stopped = ap (λ (k : ℕ). room - k) (sym stop) in (
       (λ w. subst (IsWhole method rest) left (whole_uncons method bytes front.head new rest room front.head_is front.parts (so_far.0 w)).1),
-      (λ w. so_far.1 (whole_cons method bytes front.head new rest room front.head_is front.parts (omega arith) (subst (IsWhole method rest) (sym left) w))),
+      (λ w. so_far.1
+          (whole_cons method bytes front.head new rest room front.head_is front.parts (omega arith)
+          (subst (IsWhole method rest) (sym left) w))),
     )
 
 -- one that doesn't
-pub whole_past : (method : Method) (bytes : List ℕ) (room offset copies stopped : ℕ) (new rest : List ℕ) → IsFront method bytes offset copies new rest true → stopped ≡ offset + copies * length new → room < stopped → IsWhole method bytes room → ⊥
+pub whole_past : (method : Method) (bytes : List ℕ) (room offset copies stopped : ℕ) (new rest : List ℕ)
+    → IsFront method bytes offset copies new rest true → stopped ≡ offset + copies * length new → room < stopped
+    → IsWhole method bytes room → ⊥
 whole_past method bytes room offset copies stopped new rest front stop-is past w =
     let stop = stop_of_front method bytes offset copies new rest true front stopped stop-is in
     omega (arith, (whole_uncons method bytes front.head new rest room front.head_is front.parts w).0)
 
 -- a cut one
-pub whole_cut : (method : Method) (bytes : List ℕ) (room offset copies : ℕ) (new rest : List ℕ) → 0 < length bytes → IsFront method bytes offset copies new rest false → IsWhole method bytes room → ⊥
-whole_cut method bytes room offset copies new rest some front w = cut_not_whole method bytes front.head new rest room some front.head_is front.parts w
+pub whole_cut : (method : Method) (bytes : List ℕ) (room offset copies : ℕ) (new rest : List ℕ) → 0 < length bytes
+    → IsFront method bytes offset copies new rest false → IsWhole method bytes room → ⊥
+whole_cut method bytes room offset copies new rest some front w =
+    cut_not_whole method bytes front.head new rest room some front.head_is front.parts w

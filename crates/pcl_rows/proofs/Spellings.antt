@@ -6,7 +6,8 @@ use Rattle.pcl_rows.specs.Heads.{Head, Itself, Count, Literal, Skipped, Repeat, 
 use Rattle.pcl_rows.specs.Elements.{Element, IsHead, IsElement, spelling}
 
 -- the bytes that lengthen an offset end in one way
-further_agree : (full full' last last' : ℕ) (x y : List ℕ) → last < 255 → last' < 255 → (replicate full 255 ++ last ∷ []) ++ x ≡ (replicate full' 255 ++ last' ∷ []) ++ y → (full ≡ full') × (last ≡ last') × (x ≡ y)
+further_agree : (full full' last last' : ℕ) (x y : List ℕ) → last < 255 → last' < 255
+    → (replicate full 255 ++ last ∷ []) ++ x ≡ (replicate full' 255 ++ last' ∷ []) ++ y → (full ≡ full') × (last ≡ last') × (x ≡ y)
 further_agree zero zero last last' x y p q e = (refl, cc, cc)
 further_agree zero (suc full') last last' x y p q e = let h : last ≡ 255 = cc in absurd (omega arith)
 further_agree (suc full) zero last last' x y p q e = let h : 255 ≡ last' = cc in absurd (omega arith)
@@ -14,7 +15,8 @@ further_agree (suc full) (suc full') last last' x y p q e =
     let r = further_agree full full' last last' x y p q cc in (ap suc r.0, r.1, r.2)
 
 -- heads of one method that begin the same bytes are the same
-heads_agree : (h h' : Head) (x y : List ℕ) → method_of h ≡ method_of h' → IsInRange h → IsInRange h' → head_bytes h ++ x ≡ head_bytes h' ++ y → (h ≡ h') × (x ≡ y)
+heads_agree : (h h' : Head) (x y : List ℕ) → method_of h ≡ method_of h' → IsInRange h → IsInRange h'
+    → head_bytes h ++ x ≡ head_bytes h' ++ y → (h ≡ h') × (x ≡ y)
 heads_agree Itself Itself x y m p q e = (refl, e)
 heads_agree (Count a) (Count b) x y m p q e = (ap Count cc, cc)
 heads_agree (Literal a) (Literal b) x y m p q e = (ap Literal cc, cc)
@@ -41,7 +43,8 @@ heads_agree (Far a f l) (Far b f' l') x y m p q e =
     let full = r.0 in let last = r.1 in (cc, r.2)
 heads_agree h h' x y m p q e = absurd cc
 
-pub same_heads : (method : Method) (h h' : Head) (x y : List ℕ) → IsHead method h → IsHead method h' → head_bytes h ++ x ≡ head_bytes h' ++ y → (h ≡ h') × (x ≡ y)
+pub same_heads : (method : Method) (h h' : Head) (x y : List ℕ) → IsHead method h → IsHead method h'
+    → head_bytes h ++ x ≡ head_bytes h' ++ y → (h ≡ h') × (x ≡ y)
 same_heads method h h' x y p q e = heads_agree h h' x y (p.method_is ∙ sym q.method_is) p.in_range q.in_range e
 
 -- lists of one length before the same bytes
@@ -60,9 +63,11 @@ same_parts d e p q =
     ap (λ (h : Head). record { head = h; bytes = d.bytes }) p ∙ ap (λ (bs : List ℕ). record { head = e.head; bytes = bs }) q
 
 -- elements of one method that begin the same bytes are the same
-pub same_elements : (method : Method) (d e : Element) (x y : List ℕ) → IsElement method d → IsElement method e → spelling d ++ x ≡ spelling e ++ y → (d ≡ e) × (x ≡ y)
+pub same_elements : (method : Method) (d e : Element) (x y : List ℕ) → IsElement method d → IsElement method e
+    → spelling d ++ x ≡ spelling e ++ y → (d ≡ e) × (x ≡ y)
 same_elements method d e x y p q same =
-    let r = same_heads method d.head e.head (d.bytes ++ x) (e.bytes ++ y) p.head_is q.head_is (sym (append_assoc (head_bytes d.head) d.bytes x) ∙ same ∙ append_assoc (head_bytes e.head) e.bytes y) in
+    let r = same_heads method d.head e.head (d.bytes ++ x) (e.bytes ++ y) p.head_is q.head_is
+    (sym (append_assoc (head_bytes d.head) d.bytes x) ∙ same ∙ append_assoc (head_bytes e.head) e.bytes y) in
     let lengths : length d.bytes ≡ length e.bytes = p.complete ∙ ap new_count r.0 ∙ sym q.complete in
     let s = same_fronts d.bytes e.bytes x y lengths r.1 in
     let heads : d.head ≡ e.head = r.0 in
@@ -83,8 +88,11 @@ pub spelling_has_byte : (method : Method) (e : Element) → IsElement method e �
 spelling_has_byte method e p = omega (arith, length-append (head_bytes e.head) e.bytes, p.complete, head_needs_byte e.head)
 
 -- bytes that an element lacks are no whole element
-pub cut_is_not_whole : (method : Method) (d e : Element) (bytes missing rest : List ℕ) → IsElement method d → IsElement method e → bytes ++ missing ≡ spelling d → 0 < length missing → bytes ≡ spelling e ++ rest → ⊥
+pub cut_is_not_whole : (method : Method) (d e : Element) (bytes missing rest : List ℕ) → IsElement method d → IsElement method e
+    → bytes ++ missing ≡ spelling d → 0 < length missing → bytes ≡ spelling e ++ rest → ⊥
 cut_is_not_whole method d e bytes missing rest p q lacking lacks whole =
-    let same : spelling e ++ (rest ++ missing) ≡ spelling d ++ [] = sym (append_assoc (spelling e) rest missing) ∙ ap (λ (b : List ℕ). b ++ missing) (sym whole) ∙ lacking ∙ sym (append-nil (spelling d)) in
+    let same : spelling e ++ (rest ++ missing) ≡ spelling d ++ [] =
+    sym (append_assoc (spelling e) rest missing) ∙ ap (λ (b : List ℕ). b ++ missing) (sym whole) ∙ lacking
+    ∙ sym (append-nil (spelling d)) in
     let r = same_elements method e d (rest ++ missing) [] q p same in
     omega (arith, ap length r.1, length-append rest missing)

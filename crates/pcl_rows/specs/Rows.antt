@@ -38,7 +38,8 @@ treated whole cut shown old =
 -- the row that data makes of another row; what lies past its bytes is dropped
 abbrev pub RowFrom : Method → List ℕ → List ℕ → List ℕ → Type 0
 RowFrom method bytes old row =
-    (whole : List Element) × (cut : Element) × (shown : List ℕ) × IsReading method bytes whole cut shown × (row ≡ take (length old) (treated whole cut shown old))
+    (whole : List Element) × (cut : Element) × (shown : List ℕ) × IsReading method bytes whole cut shown
+    × (row ≡ take (length old) (treated whole cut shown old))
 
 -- the row that data makes over a seed row
 abbrev pub Decodes : Method → List ℕ → List ℕ → List ℕ → Type 0

@@ -7,7 +7,8 @@ ghost use Rattle.pcl_rows.specs.Rows.{Decodes};
 
 /// Data makes one row at most over a seed row: its elements can be read in one way.
 pub fn data_makes_one_row()
-    ensures { (method : Method) (seed bytes row other : List ℕ) → Decodes method seed bytes row → Decodes method seed bytes other → row ≡ other }
+    ensures { (method : Method) (seed bytes row other : List ℕ) → Decodes method seed bytes row → Decodes method seed bytes other
+        → row ≡ other }
 {}
 
 /// The row that data makes is the one that is computed from it, element by element. A law: the call does nothing.

@@ -19,7 +19,8 @@ returns-clause-bits c k =
     ∙ (elim c.if-whole-gt0.branch [
       | then-whole-gt0 b ↦
           let some = b.if-whole-gt0.true in
-          run_dot-joined from end w row k (dot_of_row c.args.target.now k) (dot_of_row target k) promise.within (promise.aligned some) (promise.in_run some)
+          run_dot-joined from end w row k (dot_of_row c.args.target.now k) (dot_of_row target k) promise.within (promise.aligned some)
+          (promise.in_run some)
           (ap (λ (t : List ℕ). dot_of_row t k) b.target-is ∙ b.or_bytes.ensures k)
       | else-whole-gt0 b ↦
           ap (λ (t : List ℕ). run_dot (from + 8 * w) end (drop w row) k || dot_of_row t k) b.target-is

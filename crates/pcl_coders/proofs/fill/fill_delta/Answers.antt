@@ -37,12 +37,15 @@ overflow_add-out c =
             | inl more ↦ more
             | inr last ↦ absurd (last_differs old row c.args.out.now end place c.requires (omega arith) w.if-old-place.false)
           ] in
-          let at = subst (λ (p : ℕ). IsDeltaAt old row out p c.loop-place.start c.loop-place.best) after (c.loop-place.invariant.next (omega arith)) in
-          rw (w.start-is, w.best-is) (next_start_stays old row out place c.loop-place.start c.loop-place.best at.next at.number w.if-old-place.false)
+          let at = subst (λ (p : ℕ). IsDeltaAt old row out p c.loop-place.start c.loop-place.best) after
+          (c.loop-place.invariant.next (omega arith)) in
+          rw (w.start-is, w.best-is)
+          (next_start_stays old row out place c.loop-place.start c.loop-place.best at.next at.number w.if-old-place.false)
     ] in
     let choice = delta_place old row c.args.out.now out end place start best c.requires size inside next in
     let behind = subst (AreRightFrom Delta old row out) after c.loop-place.invariant.right in
-    let done = place_done Delta old row c.args.out.now out end place (Replace (start - place) choice.0) _ c.requires size inside behind choice.1 in
+    let done =
+    place_done Delta old row c.args.out.now out end place (Replace (start - place) choice.0) _ c.requires size inside behind choice.1 in
     omega (arith, done.1, c.command_bytes.ensures, c.requires.small)
 
 pub overflow_cast-out : goal.overflow_cast-out
@@ -68,12 +71,15 @@ overflow_cast-out c =
             | inl more ↦ more
             | inr last ↦ absurd (last_differs old row c.args.out.now end place c.requires (omega arith) w.if-old-place.false)
           ] in
-          let at = subst (λ (p : ℕ). IsDeltaAt old row out p c.loop-place.start c.loop-place.best) after (c.loop-place.invariant.next (omega arith)) in
-          rw (w.start-is, w.best-is) (next_start_stays old row out place c.loop-place.start c.loop-place.best at.next at.number w.if-old-place.false)
+          let at = subst (λ (p : ℕ). IsDeltaAt old row out p c.loop-place.start c.loop-place.best) after
+          (c.loop-place.invariant.next (omega arith)) in
+          rw (w.start-is, w.best-is)
+          (next_start_stays old row out place c.loop-place.start c.loop-place.best at.next at.number w.if-old-place.false)
     ] in
     let choice = delta_place old row c.args.out.now out end place start best c.requires size inside next in
     let behind = subst (AreRightFrom Delta old row out) after c.loop-place.invariant.right in
-    let done = place_done Delta old row c.args.out.now out end place (Replace (start - place) choice.0) _ c.requires size inside behind choice.1 in
+    let done =
+    place_done Delta old row c.args.out.now out end place (Replace (start - place) choice.0) _ c.requires size inside behind choice.1 in
     omega (arith, done.1, c.command_bytes.ensures, c.requires.small)
 
 pub loop-place-preserved : goal.loop-place-preserved
@@ -99,12 +105,15 @@ loop-place-preserved c =
             | inl more ↦ more
             | inr last ↦ absurd (last_differs old row c.args.out.now end place c.requires (omega arith) w.if-old-place.false)
           ] in
-          let at = subst (λ (p : ℕ). IsDeltaAt old row out p c.loop-place.start c.loop-place.best) after (c.loop-place.invariant.next (omega arith)) in
-          rw (w.start-is, w.best-is) (next_start_stays old row out place c.loop-place.start c.loop-place.best at.next at.number w.if-old-place.false)
+          let at = subst (λ (p : ℕ). IsDeltaAt old row out p c.loop-place.start c.loop-place.best) after
+          (c.loop-place.invariant.next (omega arith)) in
+          rw (w.start-is, w.best-is)
+          (next_start_stays old row out place c.loop-place.start c.loop-place.best at.next at.number w.if-old-place.false)
     ] in
     let choice = delta_place old row c.args.out.now out end place start best c.requires size inside next in
     let behind = subst (AreRightFrom Delta old row out) after c.loop-place.invariant.right in
-    let done = place_done Delta old row c.args.out.now out end place (Replace (start - place) choice.0) _ c.requires size inside behind choice.1 in
+    let done =
+    place_done Delta old row c.args.out.now out end place (Replace (start - place) choice.0) _ c.requires size inside behind choice.1 in
     record {
       right = rw c.command_bytes.ensures done.0;
       next = λ _. rw c.command_bytes.ensures (delta_at old row out place start best size within next);

@@ -18,4 +18,5 @@ loop-place-preserved c =
     let inside : place < c.args.end = omega (arith, c.loop-place.auto.place) in
     let size : length out ≡ length row + 1 = c.loop-place.auto.out ∙ c.requires.size in
     let behind = subst (AreRightFrom Plain old row out) next c.loop-place.invariant in
-    (place_done Plain old row c.args.out.now out c.args.end place SingleByte _ c.requires size inside behind (plain_place old row c.args.out.now out c.args.end place c.requires size inside)).0
+    (place_done Plain old row c.args.out.now out c.args.end place SingleByte _ c.requires size inside behind
+    (plain_place old row c.args.out.now out c.args.end place c.requires size inside)).0

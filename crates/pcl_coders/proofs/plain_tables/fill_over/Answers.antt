@@ -42,23 +42,31 @@ loop-place-preserved c =
     let at_end : c.if-is_end.is_end ≡ true → Ends old row place =
     elim c.if-is_end.branch [
       | then-is_end w ↦
-          λ e. ends_here old row place c.requires.same inside (eqb-true _ _ (sym w.is_end-is ∙ e)) (subst (Ends old row) next (c.loop-place.invariant.at_end w.if-is_end.true))
+          λ e. ends_here old row place c.requires.same inside (eqb-true _ _ (sym w.is_end-is ∙ e))
+          (subst (Ends old row) next (c.loop-place.invariant.at_end w.if-is_end.true))
       | else-is_end w ↦ λ e. absurd (cc (w.is_end-is, e))
     ] in
     let before_end : c.if-is_end.is_end ≡ false → Ends old row place → ⊥ =
     elim c.if-is_end.branch [
       | then-is_end w ↦ λ e end. eqb-false _ _ (sym w.is_end-is ∙ e) (ends_same old row place end)
-      | else-is_end w ↦ λ e end. c.loop-place.invariant.before_end w.if-is_end.false (subst (Ends old row) (sym next) (ends_behind old row place end))
+      | else-is_end w ↦ λ e end. c.loop-place.invariant.before_end w.if-is_end.false
+          (subst (Ends old row) (sym next) (ends_behind old row place end))
     ] in
     record {
       right =
           elim c.if-is_end-2.branch [
             | then-is_end-2 w ↦
-                rw w.out-is (right_more method old row out place 0 behind (number_of_end method old row out place (omega (arith, size)) (at_end w.if-is_end-2.true)))
+                rw w.out-is
+                (right_more method old row out place 0 behind
+                (number_of_end method old row out place (omega (arith, size)) (at_end w.if-is_end-2.true)))
             | else-is_end-2 w ↦
                 let best = choice_to_ends method old row out place w.of.result.step w.of.result.sum w.of.ensures in
-                let small = choice_small method old row out place w.of.result.step w.of.result.sum inside best (behind (place + 1) (omega arith) (omega arith)).small in
-                rw w.out-is (right_more method old row out place w.of.result.sum behind (number_of_choice method old row out place w.of.result.step w.of.result.sum inside size (before_end w.if-is_end-2.false) best small))
+                let small = choice_small method old row out place w.of.result.step w.of.result.sum inside best
+                (behind (place + 1) (omega arith) (omega arith)).small in
+                rw w.out-is
+                (right_more method old row out place w.of.result.sum behind
+                (number_of_choice method old row out place w.of.result.step w.of.result.sum inside size
+                (before_end w.if-is_end-2.false) best small))
           ];
       at_end = at_end;
       before_end = before_end;

@@ -15,6 +15,7 @@ returns-else-is_err-clause-ok c =
     let right = subst (λ (old : List ℕ). AreRightFrom c.args.method old c.args.row.now c.args.numbers.now 0) (sym c.base_row-old.ensures)
     (right_of_least c.args.method c.args.seed.now c.args.row.now c.args.numbers.now c.requires.codable.same_size c.requires.least) in
     on_ok_weaker c.append_steps-appended.result
-    (appends_least c.args.method c.args.seed.now c.args.row.now c.base_row-old.result.now c.args.numbers.now c.args.out.now.items c.append_steps-appended.new.out.items c.requires.codable
+    (appends_least c.args.method c.args.seed.now c.args.row.now c.base_row-old.result.now c.args.numbers.now c.args.out.now.items
+    c.append_steps-appended.new.out.items c.requires.codable
     c.requires.least.table_is.size c.base_row-old.ensures right)
     c.append_steps-appended.ensures.ok

@@ -11,7 +11,8 @@ use Rattle.pcl_coders.proofs.table.append_steps.Goals as goal
 pub returns-in_err-append-clause-err : goal.returns-in_err-append-clause-err
 returns-in_err-append-clause-err c =
     let a = c.loop-place.invariant in
-    let front = front_stays c.args.out.now.items c.loop-place.out.items c.append.new.out.items (flat_map spelling a.done) a.joined c.in_err-append.ensures.err in
+    let front = front_stays c.args.out.now.items c.loop-place.out.items c.append.new.out.items (flat_map spelling a.done) a.joined
+    c.in_err-append.ensures.err in
     search (rules, front)
 
 pub along-choice-requires-clause-right : goal.along-choice-requires-clause-right
@@ -20,7 +21,8 @@ along-choice-requires-clause-right c =
     let row = c.args.row.now in
     let numbers = c.args.numbers.now in
     let place = c.loop-place.place in
-    rw (take_rest old place, take_rest row place, take_rest numbers place) (right_from_drop c.args.method old row numbers place c.loop-place.invariant.within c.requires.right)
+    rw (take_rest old place, take_rest row place, take_rest numbers place)
+    (right_from_drop c.args.method old row numbers place c.loop-place.invariant.within c.requires.right)
 
 pub loop-place-preserved : goal.loop-place-preserved
 loop-place-preserved c =
@@ -30,12 +32,15 @@ loop-place-preserved c =
     let place = c.loop-place.place in
     let choice = c.along-choice.result in
     let best = choice_to_ends c.args.method old row numbers place choice.step choice.sum c.along-choice.ensures in
-    appended_more c.args.method old row numbers c.args.out.now.items c.loop-place.out.items place choice.step choice.sum c.append.new.out.items (place + c.stop-place.result)
+    appended_more c.args.method old row numbers c.args.out.now.items c.loop-place.out.items place choice.step choice.sum
+    c.append.new.out.items (place + c.stop-place.result)
     c.requires.same c.requires.right c.loop-place-test.true c.loop-place.invariant best
-    (c.in_ok-append.ensures.ok ∙ ap (λ (bs : List ℕ). c.loop-place.out.items ++ spelling (element_of choice.step bs)) (take_rest row place)) (omega (arith, c.stop-place.ensures))
+    (c.in_ok-append.ensures.ok ∙ ap (λ (bs : List ℕ). c.loop-place.out.items ++ spelling (element_of choice.step bs))
+    (take_rest row place)) (omega (arith, c.stop-place.ensures))
 
 pub returns-clause-ok : goal.returns-clause-ok
 returns-clause-ok c =
     let place = c.loop-place.place in
     let none : slice_index c.args.numbers.now place ≡ 0 = omega arith in
-    appended_all c.args.method c.args.old.now c.args.row.now c.args.numbers.now c.args.out.now.items c.loop-place.out.items place c.requires.right none c.loop-place.invariant
+    appended_all c.args.method c.args.old.now c.args.row.now c.args.numbers.now c.args.out.now.items c.loop-place.out.items place
+    c.requires.right none c.loop-place.invariant

@@ -10,4 +10,5 @@ returns c =
     let row = c.args.row.now in
     let now = c.fill_before.new.out in
     subst (IsLeastLength method seed row) (sym c.from.ensures)
-    (first_is_least method seed row now c.requires.codable (table_is_least method seed row now c.requires.codable.same_size (c.fill_before.auto.out ∙ c.requires.size) c.fill_before.ensures))
+    (first_is_least method seed row now c.requires.codable
+    (table_is_least method seed row now c.requires.codable.same_size (c.fill_before.auto.out ∙ c.requires.size) c.fill_before.ensures))

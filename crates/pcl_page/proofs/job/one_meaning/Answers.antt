@@ -8,11 +8,14 @@ use Rattle.pcl_page.proofs.job.one_meaning.Goals as goal
 
 pub returns-clause-pages : goal.returns-clause-pages
 returns-clause-pages c = λ dpi job pages others p q.
-    p.ejected ∙ ap (λ (commands : List Said). pages_of dpi (performance_of dpi job commands)) (c.one_outcome.ensures.reading job p.commands q.commands p.reading q.reading) ∙ sym q.ejected
+    p.ejected ∙ ap (λ (commands : List Said). pages_of dpi (performance_of dpi job commands))
+    (c.one_outcome.ensures.reading job p.commands q.commands p.reading q.reading) ∙ sym q.ejected
 
-same_stop : (dpi : Dpi) (job : List ℕ) (refusal other : Refusal) (p : IsStopped dpi job refusal) (q : IsStopped dpi job other) → p.commands ≡ q.commands → refusal ≡ other
+same_stop : (dpi : Dpi) (job : List ℕ) (refusal other : Refusal) (p : IsStopped dpi job refusal) (q : IsStopped dpi job other)
+    → p.commands ≡ q.commands → refusal ≡ other
 same_stop dpi job refusal other p q e =
-    let s : Some refusal ≡ Some other = sym p.refused ∙ ap (λ (commands : List Said). (performance_of dpi job commands).refusal) e ∙ q.refused in cc
+    let s : Some refusal ≡ Some other =
+    sym p.refused ∙ ap (λ (commands : List Said). (performance_of dpi job commands).refusal) e ∙ q.refused in cc
 
 pub returns-clause-refusal : goal.returns-clause-refusal
 returns-clause-refusal c = λ dpi job refusal other p q.
@@ -32,6 +35,7 @@ returns-clause-apart c = λ dpi job pages refusal p r.
     elim r [
       | inl f ↦ c.one_outcome.ensures.apart job p.commands refusal p.reading f
       | inr s ↦
-          let e = ap (λ (commands : List Said). (performance_of dpi job commands).refusal) (c.one_outcome.ensures.reading job p.commands s.commands p.reading s.reading) in
+          let e = ap (λ (commands : List Said). (performance_of dpi job commands).refusal)
+          (c.one_outcome.ensures.reading job p.commands s.commands p.reading s.reading) in
           let n = sym p.accepted ∙ e ∙ s.refused in absurd cc
     ]

@@ -7,5 +7,6 @@ returns c =
     let h = c.in_ok-perform.ensures in (
       accepted_pages h,
       has_pages h,
-      rw c.collected.view_is (all_shown c.args.dpi [] c.new.result.items c.perform.new.sink [] (accepted_pages h) c.new.ensures.items tt h.handed.1),
+      rw c.collected.view_is
+          (all_shown c.args.dpi [] c.new.result.items c.perform.new.sink [] (accepted_pages h) c.new.ensures.items tt h.handed.1),
     )

@@ -4,4 +4,5 @@ use Rattle.pcl_page.specs.Raster.{cleared_past}
 use Rattle.pcl_page.proofs.raster.decode_within.Goals as goal
 
 pub returns : goal.returns
-returns c = c.clear_past.ensures ∙ ap (cleared_past c.args.width) (decoded_is c.args.method c.args.seed.now c.args.bytes.now c.decode.new.row c.decode.ensures)
+returns c = c.clear_past.ensures ∙ ap (cleared_past c.args.width)
+    (decoded_is c.args.method c.args.seed.now c.args.bytes.now c.decode.new.row c.decode.ensures)

@@ -21,11 +21,17 @@ returns-clause-opens c =
     let more = c.from-new_count.result in
     let further = c.further-further.ensures.further in
     let tail : List ℕ = replicate further.full 255 ++ further.last ∷ [] in
-    let begins : Begins (drop 1 c.args.bytes.now) tail = subst (λ (bs : List ℕ). Begins bs tail) (take_rest c.args.bytes.now 1) further.begins in
+    let begins : Begins (drop 1 c.args.bytes.now) tail =
+    subst (λ (bs : List ℕ). Begins bs tail) (take_rest c.args.bytes.now 1) further.begins in
     record {
       head = Far more further.full further.last;
       head_is = record { method_is = refl; in_range = (omega (arith, c.type_inv.bytes 0), further.last_in_range) };
-      len_is = omega (arith, further.len_is, length-append {A = ℕ} (replicate further.full 255) (further.last ∷ []), length-replicate {A = ℕ} further.full 255);
+      len_is = omega (
+        arith,
+        further.len_is,
+        length-append {A = ℕ} (replicate further.full 255) (further.last ∷ []),
+        length-replicate {A = ℕ} further.full 255,
+      );
       offset_is = omega (arith, further.sum_is);
       count_is = refl;
       copies_is = refl;

@@ -13,7 +13,8 @@ returns-clause-further c =
       last_in_range = omega arith;
       sum_is = omega arith;
       len_is = refl;
-      begins = Begins-full bytes (sym (take_all c.loop-full.full bytes c.loop-full-test.false) ∙ c.loop-full.invariant ∙ ap (λ (n : ℕ). replicate n 255) end);
+      begins = Begins-full bytes
+          (sym (take_all c.loop-full.full bytes c.loop-full-test.false) ∙ c.loop-full.invariant ∙ ap (λ (n : ℕ). replicate n 255) end);
     }
 
 pub returns-then-byte-lt255-clause-further : goal.returns-then-byte-lt255-clause-further

@@ -10,8 +10,10 @@ pub loop-rest-preserved : goal.loop-rest-preserved
 loop-rest-preserved c =
     let f = c.read-front.result in
     let front : IsFront c.args.method c.loop-rest.rest.now f.offset f.copies f.bytes.now f.rest.now true =
-    subst (IsFront c.args.method c.loop-rest.rest.now f.offset f.copies f.bytes.now f.rest.now) c.if-not-front.false c.read-front.ensures.front in
-    whole_more c.args.method c.args.bytes.now c.loop-rest.rest.now c.args.row_bytes c.loop-rest.room f.offset f.copies _ f.bytes.now f.rest.now front refl c.if-room-stop.false c.loop-rest.invariant
+    subst (IsFront c.args.method c.loop-rest.rest.now f.offset f.copies f.bytes.now f.rest.now) c.if-not-front.false
+    c.read-front.ensures.front in
+    whole_more c.args.method c.args.bytes.now c.loop-rest.rest.now c.args.row_bytes c.loop-rest.room f.offset f.copies _ f.bytes.now
+    f.rest.now front refl c.if-room-stop.false c.loop-rest.invariant
 
 pub returns-then-not-front : goal.returns-then-not-front
 returns-then-not-front c =
@@ -25,6 +27,7 @@ returns-then-not-front c =
           (subst (IsFront c.args.method rest f.offset f.copies f.bytes.now f.rest.now) w.if-not-front.true c.read-front.ensures.front) h
       | then-not-front-via-else-not-front+then-room-stop w ↦
           λ h. whole_past c.args.method rest c.loop-rest.room f.offset f.copies _ f.bytes.now f.rest.now
-          (subst (IsFront c.args.method rest f.offset f.copies f.bytes.now f.rest.now) w.if-not-front.false c.read-front.ensures.front) refl w.if-room-stop.true h
+          (subst (IsFront c.args.method rest f.offset f.copies f.bytes.now f.rest.now) w.if-not-front.false c.read-front.ensures.front)
+          refl w.if-room-stop.true h
     ] in
     (λ t. absurd cc, λ h. absurd (never (c.loop-rest.invariant.0 h)))

@@ -8,6 +8,7 @@ pub returns-clause-dots : goal.returns-clause-dots
 returns-clause-dots c =
     let row = c.row.result.now in (
       λ blank x _. ap (λ (t : List ℕ). dot_of_row t x) (sym c.row.ensures.bytes) ∙ white_from_zeros row (c.is_zero.ensures.0 blank) x,
-      λ white. c.is_zero.ensures.1 (zeros_from_white row (page_width c.args.self.now.size c.args.self.now.dpi) c.row.ensures.in_bytes c.row.ensures.clear_pads
+      λ white. c.is_zero.ensures.1
+          (zeros_from_white row (page_width c.args.self.now.size c.args.self.now.dpi) c.row.ensures.in_bytes c.row.ensures.clear_pads
           (λ x within. ap (λ (t : List ℕ). dot_of_row t x) c.row.ensures.bytes ∙ white x within)),
     )

@@ -5,7 +5,8 @@ use Rattle.pcl_bitmap.proofs.bitmap.Bitmap.new.Goals as goal
 
 pub returns-clause-blank : goal.returns-clause-blank
 returns-clause-blank c =
-    blank_from_zeros c.args.size c.args.dpi c.in_ok-vec.field-0.items c.height.result c.row_bytes.result c.height.ensures c.row_bytes.ensures
+    blank_from_zeros c.args.size c.args.dpi c.in_ok-vec.field-0.items c.height.result c.row_bytes.result c.height.ensures
+    c.row_bytes.ensures
     (c.in_ok-vec.ensures.items_if_clones_equal (λ _ e. e))
 
 pub returns-clause-dots : goal.returns-clause-dots

@@ -33,7 +33,8 @@ returns-else-run-len c =
       | then-run-ge2 w ↦
           let same = eqb-true _ _ (sym w.is_repeat-is ∙ c.if-not-is_repeat.false) in
           rw (c.in-Packed.is, c.from-sum-in-Packed.ensures)
-          (along_repeat c.args.old.now c.args.wanted.now numbers run c.run_end-in-Packed.result right c.run_end-in-Packed.ensures c.min-run.ensures w.if-run-ge2.true (omega (arith, same, w.from-then-run-ge2.ensures, c.from-sum-in-Packed.ensures)))
+          (along_repeat c.args.old.now c.args.wanted.now numbers run c.run_end-in-Packed.result right c.run_end-in-Packed.ensures
+          c.min-run.ensures w.if-run-ge2.true (omega (arith, same, w.from-then-run-ge2.ensures, c.from-sum-in-Packed.ensures)))
       | else-run-ge2 w ↦ absurd (omega (arith, leb-true 2 run (sym w.is_repeat-is ∙ c.if-not-is_repeat.false), w.if-run-ge2.false))
     ]
 
@@ -44,8 +45,11 @@ returns-in_default c =
     let wanted = c.args.wanted.now in
     let run = c.min-run.result in
     let none = subst (λ (most : ℕ). NoLiteral numbers most) c.min.ensures c.in_default.ensures in
-    let r = no_literal_repeat c.args.old.now wanted numbers run c.run_end-in-Packed.result c.requires.same c.requires.place.some right c.requires.needed c.run_end-in-Packed.ensures c.min-run.ensures none in
-    rw (c.in-Packed.is, c.from-sum-in-Packed.ensures) (along_repeat c.args.old.now wanted numbers run c.run_end-in-Packed.result right c.run_end-in-Packed.ensures c.min-run.ensures r.0 r.1)
+    let r = no_literal_repeat c.args.old.now wanted numbers run c.run_end-in-Packed.result c.requires.same c.requires.place.some right
+    c.requires.needed c.run_end-in-Packed.ensures c.min-run.ensures none in
+    rw (c.in-Packed.is, c.from-sum-in-Packed.ensures)
+    (along_repeat c.args.old.now wanted numbers run c.run_end-in-Packed.result right c.run_end-in-Packed.ensures c.min-run.ensures r.0
+    r.1)
 
 pub returns-in-Plain : goal.returns-in-Plain
 returns-in-Plain c = rw (c.in-Plain.is, c.from.ensures) (plain_choice c.args.old.now c.args.wanted.now c.args.numbers.now c.requires.place)
@@ -53,16 +57,20 @@ returns-in-Plain c = rw (c.in-Plain.is, c.from.ensures) (plain_choice c.args.old
 pub returns-in-Runs : goal.returns-in-Runs
 returns-in-Runs c =
     let right = rw c.in-Runs.is at c.requires.right in
-    rw (c.in-Runs.is, c.from-sum.ensures) (along_run c.args.old.now c.args.wanted.now c.args.numbers.now c.run_end.result c.min-len.result c.requires.same right c.run_end.ensures c.min-len.ensures)
+    rw (c.in-Runs.is, c.from-sum.ensures)
+    (along_run c.args.old.now c.args.wanted.now c.args.numbers.now c.run_end.result c.min-len.result c.requires.same right
+    c.run_end.ensures c.min-len.ensures)
 
 pub behind-requires-clause-inside : goal.behind-requires-clause-inside
 behind-requires-clause-inside c =
     let right = rw c.in-Delta.is at c.requires.right in
-    along_start c.args.old.now c.args.wanted.now c.args.numbers.now c.first_difference-start.result c.requires.same right c.requires.needed c.first_difference-start.ensures
+    along_start c.args.old.now c.args.wanted.now c.args.numbers.now c.first_difference-start.result c.requires.same right c.requires.needed
+    c.first_difference-start.ensures
 
 pub returns-in-Delta : goal.returns-in-Delta
 returns-in-Delta c =
     let right = rw c.in-Delta.is at c.requires.right in
     rw c.in-Delta.is
-    (along_replacement c.args.old.now c.args.wanted.now c.args.numbers.now c.first_difference-start.result c.behind.result.step c.behind.result.sum c.requires.same c.requires.place.size right c.requires.needed
+    (along_replacement c.args.old.now c.args.wanted.now c.args.numbers.now c.first_difference-start.result c.behind.result.step
+    c.behind.result.sum c.requires.same c.requires.place.size right c.requires.needed
     c.first_difference-start.ensures c.behind.ensures)

@@ -8,7 +8,8 @@ pub loop-len-init : goal.loop-len-init
 loop-len-init c =
     let a = c.args in
     let at : a.from + 1 - 1 ≡ a.from = omega arith in
-    rw at (least_len_one a.numbers.now a.from a.head a.each c.at-best.result.len c.at-best.result.sum c.at-best.ensures.0 c.at-best.ensures.1)
+    rw at (least_len_one a.numbers.now a.from a.head a.each c.at-best.result.len c.at-best.result.sum c.at-best.ensures.0
+    c.at-best.ensures.1)
 
 pub loop-len-preserved : goal.loop-len-preserved
 loop-len-preserved c =
@@ -18,12 +19,17 @@ loop-len-preserved c =
     let at : c.loop-len.len + 1 - 1 ≡ c.loop-len.len = omega arith in
     rw at (elim c.if-beats.branch [
       | then-beats w ↦
-          rw w.best-is (least_len_next a.numbers.now a.from c.loop-len.len a.head a.each next.len next.sum (omega arith) best.len best.sum c.loop-len.invariant c.at-next.ensures.0 c.at-next.ensures.1 (c.beats.ensures.won w.if-beats.true))
+          rw w.best-is
+          (least_len_next a.numbers.now a.from c.loop-len.len a.head a.each next.len next.sum (omega arith) best.len best.sum
+          c.loop-len.invariant c.at-next.ensures.0 c.at-next.ensures.1 (c.beats.ensures.won w.if-beats.true))
       | else-beats w ↦
-          rw w.best-is (least_len_stays a.numbers.now a.from c.loop-len.len a.head a.each next.sum best.len best.sum c.loop-len.invariant c.at-next.ensures.1 (c.beats.ensures.lost w.if-beats.false))
+          rw w.best-is
+          (least_len_stays a.numbers.now a.from c.loop-len.len a.head a.each next.sum best.len best.sum c.loop-len.invariant
+          c.at-next.ensures.1 (c.beats.ensures.lost w.if-beats.false))
     ])
 
 pub returns : goal.returns
 returns c =
     let at : c.loop-len.len - 1 ≡ c.args.to = omega arith in
-    subst (λ (n : ℕ). IsLeastLen c.args.numbers.now c.args.from n c.args.head c.args.each c.loop-len.best.len c.loop-len.best.sum) at c.loop-len.invariant
+    subst (λ (n : ℕ). IsLeastLen c.args.numbers.now c.args.from n c.args.head c.args.each c.loop-len.best.len c.loop-len.best.sum) at
+    c.loop-len.invariant

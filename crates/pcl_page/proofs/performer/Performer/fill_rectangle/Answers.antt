@@ -30,9 +30,15 @@ returns-clause-drawn c =
       resolution = c.fill.ensures.dpi;
       dots = λ x y wide high.
           c.fill.ensures.dots x y wide high
-          ∙ ap (λ (n : ℕ). cond (rectangle_dot n (c.y.result / c.unit-3.result) c.div_ceil-width.result c.div_ceil-height.result x y) (is_black_ink c.rectangle_ink-ink.result) (dot old x y)) left
-          ∙ ap (λ (n : ℕ). cond (rectangle_dot (dot_at dpi s.cursor.x) n c.div_ceil-width.result c.div_ceil-height.result x y) (is_black_ink c.rectangle_ink-ink.result) (dot old x y)) top
-          ∙ ap (λ (n : ℕ). cond (rectangle_dot (dot_at dpi s.cursor.x) (dot_at dpi s.cursor.y) n c.div_ceil-height.result x y) (is_black_ink c.rectangle_ink-ink.result) (dot old x y)) width
-          ∙ ap (λ (n : ℕ). cond (rectangle_dot (dot_at dpi s.cursor.x) (dot_at dpi s.cursor.y) (dots_of dpi s.rectangle_width) n x y) (is_black_ink c.rectangle_ink-ink.result) (dot old x y)) height
-          ∙ ap (λ (i : Ink). cond (rectangle_dot (dot_at dpi s.cursor.x) (dot_at dpi s.cursor.y) (dots_of dpi s.rectangle_width) (dots_of dpi s.rectangle_height) x y) (is_black_ink i) (dot old x y)) c.rectangle_ink-ink.ensures;
+          ∙ ap (λ (n : ℕ). cond (rectangle_dot n (c.y.result / c.unit-3.result) c.div_ceil-width.result c.div_ceil-height.result x y)
+          (is_black_ink c.rectangle_ink-ink.result) (dot old x y)) left
+          ∙ ap (λ (n : ℕ). cond (rectangle_dot (dot_at dpi s.cursor.x) n c.div_ceil-width.result c.div_ceil-height.result x y)
+          (is_black_ink c.rectangle_ink-ink.result) (dot old x y)) top
+          ∙ ap (λ (n : ℕ). cond (rectangle_dot (dot_at dpi s.cursor.x) (dot_at dpi s.cursor.y) n c.div_ceil-height.result x y)
+          (is_black_ink c.rectangle_ink-ink.result) (dot old x y)) width
+          ∙ ap (λ (n : ℕ). cond (rectangle_dot (dot_at dpi s.cursor.x) (dot_at dpi s.cursor.y) (dots_of dpi s.rectangle_width) n x y)
+          (is_black_ink c.rectangle_ink-ink.result) (dot old x y)) height
+          ∙ ap (λ (i : Ink). cond
+          (rectangle_dot (dot_at dpi s.cursor.x) (dot_at dpi s.cursor.y) (dots_of dpi s.rectangle_width) (dots_of dpi s.rectangle_height)
+          x y) (is_black_ink i) (dot old x y)) c.rectangle_ink-ink.ensures;
     }

@@ -7,7 +7,9 @@ pub returns : goal.returns
 returns g c = λ dpi s i.
     elim c.if-self.branch [
       | then-self+else-self-ge-PAGE_LIMIT+in_ok-eject w ↦
-          rw w.sink-is (end_marked g.S.PageSink.takes dpi s w.copies-copies.result c.args.self c.args.sink.now w.eject.new.sink i w.if-self.true
+          rw w.sink-is
+          (end_marked g.S.PageSink.takes dpi s w.copies-copies.result c.args.self c.args.sink.now w.eject.new.sink i w.if-self.true
           (omega (arith, w.if-self-ge-PAGE_LIMIT.false)) w.copies-copies.ensures.value w.in_ok-eject.ensures.ok.1)
-      | else-self w ↦ end_unmarked g.S.PageSink.takes dpi s c.args.self c.args.sink.now c.if-self.sink i w.if-self.false c.args.self.few_pages w.sink-is
+      | else-self w ↦ end_unmarked g.S.PageSink.takes dpi s c.args.self c.args.sink.now c.if-self.sink i w.if-self.false
+          c.args.self.few_pages w.sink-is
     ]

@@ -17,15 +17,18 @@ returns c =
     let raster = c.match-take.raster in
     let is : raster ≡ raster_for_row c.args.dpi old.raster old.environment =
     elim c.match-take.branch [
-      | in-Some w ↦ w.raster-is ∙ sym (ap (λ (r : Option Raster). raster_for_row c.args.dpi r old.environment) (sym c.take.ensures.value ∙ w.in-Some.is))
+      | in-Some w ↦ w.raster-is
+          ∙ sym (ap (λ (r : Option Raster). raster_for_row c.args.dpi r old.environment) (sym c.take.ensures.value ∙ w.in-Some.is))
       | in-None+in_ok-raster-in-None w ↦
-          w.raster-is ∙ w.in_ok-raster-in-None.ensures ∙ sym (ap (λ (r : Option Raster). raster_for_row c.args.dpi r old.environment) (sym c.take.ensures.value ∙ w.in-None.is))
+          w.raster-is ∙ w.in_ok-raster-in-None.ensures
+          ∙ sym (ap (λ (r : Option Raster). raster_for_row c.args.dpi r old.environment) (sym c.take.ensures.value ∙ w.in-None.is))
     ] in
     let method = c.method.ensures in
     record {
       raster = raster;
       raster_is = is;
-      sent = ap (λ (r : Raster). Some r) c.send.ensures.raster ∙ ap (λ (m : Method). Some (with_row (row_sent m c.args.bytes.now raster) raster)) method;
+      sent = ap (λ (r : Raster). Some r) c.send.ensures.raster
+          ∙ ap (λ (m : Method). Some (with_row (row_sent m c.args.bytes.now raster) raster)) method;
       drawn = record {
         settings = refl;
         marked = refl;

@@ -16,9 +16,12 @@ returns-in_err-turn g c = λ s i.
     let few : c.args.self.now.performed < 100000000 = omega arith in
     let a : AtTurn c.args.dpi c.in-Some.operation (view c.args.command.now) s c.args.self.now =
     record { is_in = i; few = few; named = sym c.in-Some.ensures; performed = sym c.is_ignored.ensures ∙ c.if-is_ignored.false } in
-    let before = prepared_in c.args.dpi c.in-Some.operation (counted s) _ c.prepare.new.self (counted_in c.args.dpi s c.args.self.now _ i refl refl refl refl refl refl) c.prepare.ensures in
+    let before = prepared_in c.args.dpi c.in-Some.operation (counted s) _ c.prepare.new.self
+    (counted_in c.args.dpi s c.args.self.now _ i refl refl refl refl refl refl) c.prepare.ensures in
     let p = err_from_is_err_and c.from_residual.result c.from_residual.ensures.1 in
-    rw (p.1, p.2) (tried_refused g.S.PageSink.takes c.args.dpi c.in-Some.operation (view c.args.command.now) s c.args.self.now c.turn.new.self c.args.sink.now c.turn.new.sink _ a
+    rw (p.1, p.2)
+    (tried_refused g.S.PageSink.takes c.args.dpi c.in-Some.operation (view c.args.command.now) s c.args.self.now c.turn.new.self
+    c.args.sink.now c.turn.new.sink _ a
     (c.in_err-turn.ensures.turned (prepared c.args.dpi c.in-Some.operation (counted s)) before))
 
 pub returns-in_err-draw : goal.returns-in_err-draw
@@ -26,18 +29,37 @@ returns-in_err-draw g c = λ s i.
     let few : c.args.self.now.performed < 100000000 = omega arith in
     let a : AtTurn c.args.dpi c.in-Some.operation (view c.args.command.now) s c.args.self.now =
     record { is_in = i; few = few; named = sym c.in-Some.ensures; performed = sym c.is_ignored.ensures ∙ c.if-is_ignored.false } in
-    let before = prepared_in c.args.dpi c.in-Some.operation (counted s) _ c.prepare.new.self (counted_in c.args.dpi s c.args.self.now _ i refl refl refl refl refl refl) c.prepare.ensures in
-    let n = gone g.S.PageSink.takes c.args.dpi c.in-Some.operation (view c.args.command.now) s c.args.self.now c.turn.new.self c.args.sink.now c.turn.new.sink a
+    let before = prepared_in c.args.dpi c.in-Some.operation (counted s) _ c.prepare.new.self
+    (counted_in c.args.dpi s c.args.self.now _ i refl refl refl refl refl refl) c.prepare.ensures in
+    let n = gone g.S.PageSink.takes c.args.dpi c.in-Some.operation (view c.args.command.now) s c.args.self.now c.turn.new.self
+    c.args.sink.now c.turn.new.sink a
     (c.in_ok-turn.ensures.turned (prepared c.args.dpi c.in-Some.operation (counted s)) before) in
     let p = err_from_is_err_and c.from_residual-in_err-draw.result c.from_residual-in_err-draw.ensures.1 in
-    rw (p.1, p.2) (inr (c.in-Some.operation, drawn c.args.dpi c.in-Some.operation (view c.args.command.now) n.turned_to, a.named, n.after_is, n.accepted, n.handed))
+    rw (p.1, p.2)
+    (inr (
+      c.in-Some.operation,
+      drawn c.args.dpi c.in-Some.operation (view c.args.command.now) n.turned_to,
+      a.named,
+      n.after_is,
+      n.accepted,
+      n.handed,
+    ))
 
 pub returns : goal.returns
 returns g c = λ s i.
     let few : c.args.self.now.performed < 100000000 = omega arith in
     let a : AtTurn c.args.dpi c.in-Some.operation (view c.args.command.now) s c.args.self.now =
     record { is_in = i; few = few; named = sym c.in-Some.ensures; performed = sym c.is_ignored.ensures ∙ c.if-is_ignored.false } in
-    let before = prepared_in c.args.dpi c.in-Some.operation (counted s) _ c.prepare.new.self (counted_in c.args.dpi s c.args.self.now _ i refl refl refl refl refl refl) c.prepare.ensures in
-    let n = gone g.S.PageSink.takes c.args.dpi c.in-Some.operation (view c.args.command.now) s c.args.self.now c.turn.new.self c.args.sink.now c.turn.new.sink a
-    (c.in_ok-turn.ensures.turned (prepared c.args.dpi c.in-Some.operation (counted s)) before) in
-    (c.in-Some.operation, drawn c.args.dpi c.in-Some.operation (view c.args.command.now) n.turned_to, a.named, n.after_is, n.accepted, c.in_ok-draw.ensures n.turned_to n.is_in, n.handed)
+    let before = prepared_in c.args.dpi c.in-Some.operation (counted s) _ c.prepare.new.self
+    (counted_in c.args.dpi s c.args.self.now _ i refl refl refl refl refl refl) c.prepare.ensures in
+    let n = gone g.S.PageSink.takes c.args.dpi c.in-Some.operation (view c.args.command.now) s c.args.self.now c.turn.new.self
+    c.args.sink.now c.turn.new.sink a
+    (c.in_ok-turn.ensures.turned (prepared c.args.dpi c.in-Some.operation (counted s)) before) in (
+      c.in-Some.operation,
+      drawn c.args.dpi c.in-Some.operation (view c.args.command.now) n.turned_to,
+      a.named,
+      n.after_is,
+      n.accepted,
+      c.in_ok-draw.ensures n.turned_to n.is_in,
+      n.handed,
+    )

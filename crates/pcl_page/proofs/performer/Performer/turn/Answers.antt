@@ -13,7 +13,9 @@ returns-in_err-follow_size-clause-turned g c = λ s i.
     let p = err_from_is_err_and c.from_residual-in_err-follow_size.result c.from_residual-in_err-follow_size.ensures.1 in
     rw (p.1, p.2) (elim c.if-ejects.branch [
       | then-ejects+else-self-ge-PAGE_LIMIT+in_ok-eject w ↦
-          rw w.sink-is (turned_short g.S.PageSink.takes c.args.dpi c.args.operation c.args.value c.in-Ok.effect c.copies-copies.result s c.args.self.now _ w.eject.new.self _ c.args.sink.now w.eject.new.sink
+          rw w.sink-is
+          (turned_short g.S.PageSink.takes c.args.dpi c.args.operation c.args.value c.in-Ok.effect c.copies-copies.result s
+          c.args.self.now _ w.eject.new.self _ c.args.sink.now w.eject.new.sink
           (record {
             is_in = i;
             answered_as = c.in-Ok.ensures;
@@ -34,8 +36,11 @@ pub returns-clause-turned : goal.returns-clause-turned
 returns-clause-turned g c = λ s i.
     elim c.if-ejects.branch [
       | then-ejects+else-self-ge-PAGE_LIMIT+in_ok-eject w ↦
-          let f : IsFollowed w.eject.new.self c.follow_size.new.self = subst (λ (p : Performer). IsFollowed p c.follow_size.new.self) w.self-is c.in_ok-follow_size.ensures in
-          rw w.sink-is (turned_ejects g.S.PageSink.takes c.args.dpi c.args.operation c.args.value c.in-Ok.effect c.copies-copies.result s c.args.self.now _ w.eject.new.self c.follow_size.new.self c.args.sink.now w.eject.new.sink
+          let f : IsFollowed w.eject.new.self c.follow_size.new.self =
+          subst (λ (p : Performer). IsFollowed p c.follow_size.new.self) w.self-is c.in_ok-follow_size.ensures in
+          rw w.sink-is
+          (turned_ejects g.S.PageSink.takes c.args.dpi c.args.operation c.args.value c.in-Ok.effect c.copies-copies.result s
+          c.args.self.now _ w.eject.new.self c.follow_size.new.self c.args.sink.now w.eject.new.sink
           (record {
             is_in = i;
             answered_as = c.in-Ok.ensures;
@@ -52,10 +57,14 @@ returns-clause-turned g c = λ s i.
           f)
       | else-ejects w ↦
           let env : c.if-ejects.self.environment ≡ c.perform.new.self = ap (λ (p : Performer). p.environment) w.self-is in
-          let a = subst (λ (e : Settings). Answers (outcome c.args.dpi c.args.operation c.args.value c.args.self.now.is_marked c.args.self.now.environment) (Ok c.in-Ok.effect) c.args.self.now.environment e)
+          let a = subst (λ (e : Settings). Answers
+          (outcome c.args.dpi c.args.operation c.args.value c.args.self.now.is_marked c.args.self.now.environment) (Ok c.in-Ok.effect)
+          c.args.self.now.environment e)
           (sym env) c.in-Ok.ensures in
-          turned_stays g.S.PageSink.takes c.args.dpi c.args.operation c.args.value c.in-Ok.effect s c.args.self.now c.if-ejects.self c.follow_size.new.self c.args.sink.now c.if-ejects.sink
+          turned_stays g.S.PageSink.takes c.args.dpi c.args.operation c.args.value c.in-Ok.effect s c.args.self.now c.if-ejects.self
+          c.follow_size.new.self c.args.sink.now c.if-ejects.sink
           i a (sym c.ejects.ensures ∙ w.if-ejects.false) c.args.self.now.few_pages
-          (ap (λ (p : Performer). p.page.bitmap) w.self-is) (ap (λ (p : Performer). p.is_marked) w.self-is) (ap (λ (p : Performer). p.ejected) w.self-is)
+          (ap (λ (p : Performer). p.page.bitmap) w.self-is) (ap (λ (p : Performer). p.is_marked) w.self-is)
+          (ap (λ (p : Performer). p.ejected) w.self-is)
           (ap (λ (p : Performer). p.performed) w.self-is) (ap (λ (p : Performer). p.raster) w.self-is) c.in_ok-follow_size.ensures w.sink-is
     ]
