@@ -14,12 +14,12 @@ use Rattle.pcl_coders.specs.Replacement.{replacement_bytes}
 use Rattle.pcl_coders.specs.RowWalks.{Leads, Ends, cost}
 use Rattle.pcl_coders.specs.Choosing.{NoLiteral, IsLiteralLen}
 use Rattle.pcl_coders.specs.Filling.{AreRightFrom}
-use Rattle.pcl_coders.specs.declared.step.Step.{Step}
-use Rattle.pcl_coders.specs.declared.step.Step.TheVariants.{Run, LiteralRun, RepeatRun, Replace}
-use Rattle.pcl_coders.specs.Step.{element_of, step_stop, IsStepChoice, IsReplacement}
+use Rattle.pcl_coders.specs.declared.shape.Shape.{Shape}
+use Rattle.pcl_coders.specs.declared.shape.Shape.TheVariants.{Run, LiteralRun, RepeatRun, Replace}
+use Rattle.pcl_coders.specs.Shape.{element_of, shape_stop, IsShapeChoice, IsReplacement}
 use Rattle.pcl_coders.proofs.Shapes.{packed_shape}
 use Rattle.pcl_coders.proofs.Prefixes.{IsRunLen, run_len_of, same_len_of}
-use Rattle.pcl_coders.proofs.Choices.{agrees_gives, IsStepElement, step_choice, runs_choice, repeat_step, literal_step, replace_step, within_run}
+use Rattle.pcl_coders.proofs.Choices.{agrees_gives, IsShapeElement, step_choice, runs_choice, repeat_step, literal_step, replace_step, within_run}
 use Rattle.pcl_coders.proofs.RowWalks.{stop_within}
 use Rattle.pcl_coders.proofs.Filling.{attained_from}
 use Rattle.pcl_coders.proofs.Ends.{ends_by}
@@ -54,13 +54,13 @@ right_from_drop method old row table place within right q low high =
       small = omega (arith, is.small, at q, length-drop place row);
     }
 
--- a step whose bytes and number are the first number is a best one
-pub along_choice : (method : Method) (old wanted numbers : List ℕ) (step : Step) (bytes : ℕ) → AreRightFrom method old wanted numbers 0
-    → IsStepElement method old wanted step bytes → 0 < step_stop step
-    → slice_index numbers 0 ≡ bytes + slice_index numbers (step_stop step)
-    → IsStepChoice method old wanted numbers step (slice_index numbers 0)
-along_choice method old wanted numbers step bytes right s some sum-is =
-    step_choice method old wanted numbers step bytes (slice_index numbers 0) s some sum-is (λ d element agrees goes.
+-- a shape whose bytes and number are the first number is a best one
+pub along_choice : (method : Method) (old wanted numbers : List ℕ) (shape : Shape) (bytes : ℕ) → AreRightFrom method old wanted numbers 0
+    → IsShapeElement method old wanted shape bytes → 0 < shape_stop shape
+    → slice_index numbers 0 ≡ bytes + slice_index numbers (shape_stop shape)
+    → IsShapeChoice method old wanted numbers shape (slice_index numbers 0)
+along_choice method old wanted numbers shape bytes right s some sum-is =
+    step_choice method old wanted numbers shape bytes (slice_index numbers 0) s some sum-is (λ d element agrees goes.
     let at : 0 + stop d ≡ stop d = omega arith in
     omega (arith, (right 0 (omega arith) (omega arith)).steps d element agrees, ap (slice_index numbers) at))
 
@@ -82,13 +82,13 @@ literal_bounds old wanted numbers k right some within =
     )
 
 pub along_literal : (old wanted numbers : List ℕ) (len : ℕ) → AreRightFrom Packed old wanted numbers 0
-    → IsLiteralLen numbers (min (length wanted) 128) len → IsStepChoice Packed old wanted numbers (LiteralRun len) (slice_index numbers 0)
+    → IsLiteralLen numbers (min (length wanted) 128) len → IsShapeChoice Packed old wanted numbers (LiteralRun len) (slice_index numbers 0)
 along_literal old wanted numbers len right is =
     along_choice Packed old wanted numbers (LiteralRun len) (1 + len) right
     (literal_step old wanted len is.some (omega (arith, is.within)) (omega (arith, is.within))) (omega (arith, is.some)) is.sum_is
 
 repeat_of_run : (old wanted : List ℕ) (run end : ℕ) → IsRunLen wanted end → run ≡ min end 128 → 2 ≤ run
-    → IsStepElement Packed old wanted (RepeatRun run) 2
+    → IsShapeElement Packed old wanted (RepeatRun run) 2
 repeat_of_run old wanted run end is run-is more =
     let part : run ≤ end = omega arith in
     repeat_step old wanted run more (omega arith) (omega (arith, is.within))
@@ -96,7 +96,7 @@ repeat_of_run old wanted run end is run-is more =
 
 pub along_repeat : (old wanted numbers : List ℕ) (run end : ℕ) → AreRightFrom Packed old wanted numbers 0 → IsRunEnd wanted 0 end
     → run ≡ min end 128 → 2 ≤ run → slice_index numbers run + 2 ≡ slice_index numbers 0
-    → IsStepChoice Packed old wanted numbers (RepeatRun run) (slice_index numbers 0)
+    → IsShapeChoice Packed old wanted numbers (RepeatRun run) (slice_index numbers 0)
 along_repeat old wanted numbers run end right is run-is more sum-is =
     along_choice Packed old wanted numbers (RepeatRun run) 2 right
     (repeat_of_run old wanted run end (run_len_of wanted 0 end end is (omega arith)) run-is more) (omega arith) (omega arith)
@@ -171,7 +171,7 @@ walk_bounds old row table (e ∷ es) place size right within walk =
     omega (arith, (right place (omega arith) within).steps e walk.1.element walk.1.agrees, ap (slice_index table) next, rest)
 
 pub along_run : (old wanted numbers : List ℕ) (end len : ℕ) → length old ≡ length wanted → AreRightFrom Runs old wanted numbers 0
-    → IsRunEnd wanted 0 end → len ≡ min end 256 → IsStepChoice Runs old wanted numbers (Run len) (2 + slice_index numbers len)
+    → IsRunEnd wanted 0 end → len ≡ min end 256 → IsShapeChoice Runs old wanted numbers (Run len) (2 + slice_index numbers len)
 along_run old wanted numbers end len size right is len-is =
     let run-len = run_len_of wanted 0 end end is (omega arith) in
     runs_choice old wanted numbers end len (2 + slice_index numbers len) size run-len
@@ -202,11 +202,11 @@ along_start old wanted numbers start size right needed is =
     ]
 
 -- the best replacement at the latest start is a best element
-pub along_replacement : (old wanted numbers : List ℕ) (start : ℕ) (step : Step) (sum : ℕ) → length old ≡ length wanted
+pub along_replacement : (old wanted numbers : List ℕ) (start : ℕ) (shape : Shape) (sum : ℕ) → length old ≡ length wanted
     → length numbers ≡ length wanted + 1 → AreRightFrom Delta old wanted numbers 0 → 0 < slice_index numbers 0
     → IsFirstDifference old wanted start
-    → IsReplacement start (length wanted) numbers step sum → IsStepChoice Delta old wanted numbers step sum
-along_replacement old wanted numbers start step sum size long right needed is r =
+    → IsReplacement start (length wanted) numbers shape sum → IsShapeChoice Delta old wanted numbers shape sum
+along_replacement old wanted numbers start shape sum size long right needed is r =
     let inside : start < length wanted = along_start old wanted numbers start size right needed is in
     let latest : IsLatestStart old wanted 0 start = record {
       order = omega arith;
@@ -241,7 +241,7 @@ along_replacement old wanted numbers start step sum size long right needed is r 
     let least = (right 0 (omega arith) (omega arith)).steps m e.element e.agrees in
     let equal : slice_index numbers 0 ≡ sum =
     omega (arith, most, least, e.bytes_are, ap (slice_index numbers) ends, r.best.sum_is, at len) in
-    subst (λ (n : ℕ). IsStepChoice Delta old wanted numbers step n) equal
-    (subst (λ (t : Step). IsStepChoice Delta old wanted numbers t (slice_index numbers 0)) (sym r.step_is)
+    subst (λ (n : ℕ). IsShapeChoice Delta old wanted numbers shape n) equal
+    (subst (λ (t : Shape). IsShapeChoice Delta old wanted numbers t (slice_index numbers 0)) (sym r.step_is)
     (along_choice Delta old wanted numbers (Replace start len) (replacement_bytes start + len) right e (omega (arith, r.best.above))
     (omega (arith, equal, r.best.sum_is, at len))))

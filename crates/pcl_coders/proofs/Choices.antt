@@ -11,9 +11,9 @@ use Rattle.pcl_coders.specs.RowWalks.{Agrees, cost}
 use Rattle.pcl_coders.specs.Choosing.{IsLeastLen, IsPlace}
 use Rattle.pcl_coders.proofs.Prefixes.{IsRunLen, IsSameLen}
 use Rattle.pcl_coders.specs.Replacement.{replacement, replacement_bytes}
-use Rattle.pcl_coders.specs.declared.step.Step.{Step}
-use Rattle.pcl_coders.specs.declared.step.Step.TheVariants.{SingleByte, Run, LiteralRun, RepeatRun, Replace}
-use Rattle.pcl_coders.specs.Step.{element_of, step_stop, IsStepWithin, IsStepChoice, IsReplacement}
+use Rattle.pcl_coders.specs.declared.shape.Shape.{Shape}
+use Rattle.pcl_coders.specs.declared.shape.Shape.TheVariants.{SingleByte, Run, LiteralRun, RepeatRun, Replace}
+use Rattle.pcl_coders.specs.Shape.{element_of, shape_stop, IsShapeWithin, IsShapeChoice, IsReplacement}
 use Rattle.pcl_coders.proofs.RowWalks.{stop_within}
 use Rattle.pcl_coders.proofs.Shapes.{given_once, given_copies, IsRepeat, plain_shape, runs_shape, packed_shape, delta_shape, replacement_is}
 
@@ -55,23 +55,23 @@ agrees_gives method old wanted e size is agrees =
 
 -- ---- steps
 
--- an element of a step that agrees, and how many bytes it has
-pub record IsStepElement (method : Method) (old wanted : List ℕ) (step : Step) (bytes : ℕ) : Type 0 where
-  pub within : IsStepWithin step (length wanted)
-  pub element : IsElement method (element_of step wanted)
-  pub agrees : Agrees old wanted (element_of step wanted)
-  pub stop_is : stop (element_of step wanted) ≡ step_stop step
-  pub bytes_are : cost (element_of step wanted) ≡ bytes
+-- an element of a shape that agrees, and how many bytes it has
+pub record IsShapeElement (method : Method) (old wanted : List ℕ) (shape : Shape) (bytes : ℕ) : Type 0 where
+  pub within : IsShapeWithin shape (length wanted)
+  pub element : IsElement method (element_of shape wanted)
+  pub agrees : Agrees old wanted (element_of shape wanted)
+  pub stop_is : stop (element_of shape wanted) ≡ shape_stop shape
+  pub bytes_are : cost (element_of shape wanted) ≡ bytes
 
 -- what no element of the method goes below
 abbrev pub IsBelow : Method → List ℕ → List ℕ → List ℕ → ℕ → Type 0
 IsBelow method old wanted numbers sum =
     (d : Element) → IsElement method d → Agrees old wanted d → 0 < stop d → sum ≤ cost d + slice_index numbers (stop d)
 
-pub step_choice : (method : Method) (old wanted numbers : List ℕ) (step : Step) (bytes sum : ℕ)
-    → IsStepElement method old wanted step bytes → 0 < step_stop step → sum ≡ bytes + slice_index numbers (step_stop step)
-    → IsBelow method old wanted numbers sum → IsStepChoice method old wanted numbers step sum
-step_choice method old wanted numbers step bytes sum e some sum-is below = record {
+pub step_choice : (method : Method) (old wanted numbers : List ℕ) (shape : Shape) (bytes sum : ℕ)
+    → IsShapeElement method old wanted shape bytes → 0 < shape_stop shape → sum ≡ bytes + slice_index numbers (shape_stop shape)
+    → IsBelow method old wanted numbers sum → IsShapeChoice method old wanted numbers shape sum
+step_choice method old wanted numbers shape bytes sum e some sum-is below = record {
   within = e.within;
   stop_is = e.stop_is;
   choice = record {
@@ -100,7 +100,7 @@ pub run_some : (wanted numbers : List ℕ) (run : ℕ) → IsPlace wanted number
 run_some wanted numbers run place is = is.longest 1 (slice_index wanted 0) place.some (first_byte wanted place.some)
 
 -- a byte that stands for itself
-pub byte_step : (old wanted : List ℕ) → 0 < length wanted → IsStepElement Plain old wanted SingleByte 1
+pub byte_step : (old wanted : List ℕ) → 0 < length wanted → IsShapeElement Plain old wanted SingleByte 1
 byte_step old wanted some =
     let size : length (take 1 wanted) ≡ 1 = length-take-le 1 wanted (omega arith) in
     let a = agrees_by old wanted (element_of SingleByte wanted) 1 refl (given_once (take 1 wanted)) (omega arith) in
@@ -114,7 +114,7 @@ byte_step old wanted some =
 
 -- a count and a byte
 pub run_step : (old wanted : List ℕ) (len : ℕ) → 1 ≤ len → len ≤ 256 → len ≤ length wanted
-    → take len wanted ≡ replicate len (slice_index wanted 0) → IsStepElement Runs old wanted (Run len) 2
+    → take len wanted ≡ replicate len (slice_index wanted 0) → IsShapeElement Runs old wanted (Run len) 2
 run_step old wanted len some few within run =
     let size : length (take 1 wanted) ≡ 1 = length-take-le 1 wanted (omega arith) in
     let times : len - 1 + 1 ≡ len = omega arith in
@@ -131,7 +131,7 @@ run_step old wanted len some few within run =
 
 -- a control and a byte that it repeats
 pub repeat_step : (old wanted : List ℕ) (len : ℕ) → 2 ≤ len → len ≤ 128 → len ≤ length wanted
-    → take len wanted ≡ replicate len (slice_index wanted 0) → IsStepElement Packed old wanted (RepeatRun len) 2
+    → take len wanted ≡ replicate len (slice_index wanted 0) → IsShapeElement Packed old wanted (RepeatRun len) 2
 repeat_step old wanted len some few within run =
     let size : length (take 1 wanted) ≡ 1 = length-take-le 1 wanted (omega arith) in
     let times : 257 - (257 - len) ≡ len = omega arith in
@@ -148,7 +148,7 @@ repeat_step old wanted len some few within run =
 
 -- a control and literal bytes
 pub literal_step : (old wanted : List ℕ) (len : ℕ) → 1 ≤ len → len ≤ 128 → len ≤ length wanted
-    → IsStepElement Packed old wanted (LiteralRun len) (1 + len)
+    → IsShapeElement Packed old wanted (LiteralRun len) (1 + len)
 literal_step old wanted len some few within =
     let size : length (take len wanted) ≡ len = length-take-le len wanted within in
     let a = agrees_by old wanted (element_of (LiteralRun len) wanted) len refl (given_once (take len wanted)) (omega arith) in
@@ -162,7 +162,7 @@ literal_step old wanted len some few within =
 
 -- a command byte and the bytes that replace those behind its offset
 pub replace_step : (old wanted : List ℕ) (offset len : ℕ) → 1 ≤ len → len ≤ 8 → offset + len ≤ length wanted
-    → take offset wanted ≡ take offset old → IsStepElement Delta old wanted (Replace offset len) (replacement_bytes offset + len)
+    → take offset wanted ≡ take offset old → IsShapeElement Delta old wanted (Replace offset len) (replacement_bytes offset + len)
 replace_step old wanted offset len some few within same =
     let h : Head = replacement offset len in
     let is = replacement_is offset len some few in
@@ -244,12 +244,12 @@ delta_below old wanted numbers same sum size is best d element agrees some =
 -- ---- the choices
 
 pub plain_choice : (old wanted numbers : List ℕ) → IsPlace wanted numbers
-    → IsStepChoice Plain old wanted numbers SingleByte (1 + slice_index numbers 1)
+    → IsShapeChoice Plain old wanted numbers SingleByte (1 + slice_index numbers 1)
 plain_choice old wanted numbers place = step_choice Plain old wanted numbers SingleByte 1 (1 + slice_index numbers 1)
     (byte_step old wanted place.some) (omega arith) refl (plain_below old wanted numbers)
 
 pub runs_choice : (old wanted numbers : List ℕ) (run len sum : ℕ) → length old ≡ length wanted → IsRunLen wanted run
-    → IsLeastLen numbers 1 (min run 256) 2 0 len sum → IsStepChoice Runs old wanted numbers (Run len) sum
+    → IsLeastLen numbers 1 (min run 256) 2 0 len sum → IsShapeChoice Runs old wanted numbers (Run len) sum
 runs_choice old wanted numbers run len sum size is best =
     let front : len ≤ run = omega (arith, best.below) in
     let e = run_step old wanted len best.above (omega (arith, best.below)) (omega (arith, is.within))
@@ -260,7 +260,7 @@ runs_choice old wanted numbers run len sum size is best =
 pub literal_choice : (old wanted numbers : List ℕ) (run len sum : ℕ) → length old ≡ length wanted → IsRunLen wanted run
     → IsLeastLen numbers 1 (min (length wanted) 128) 1 1 len sum
     → ((k : ℕ) → 2 ≤ k → k ≤ min run 128 → sum ≤ 2 + 0 * k + slice_index numbers k)
-    → IsStepChoice Packed old wanted numbers (LiteralRun len) sum
+    → IsShapeChoice Packed old wanted numbers (LiteralRun len) sum
 literal_choice old wanted numbers run len sum size is best repeats =
     let e = literal_step old wanted len best.above (omega (arith, best.below)) (omega (arith, best.below)) in
     step_choice Packed old wanted numbers (LiteralRun len) (1 + len) sum e (omega (arith, best.above)) (omega (arith, best.sum_is))
@@ -269,7 +269,7 @@ literal_choice old wanted numbers run len sum size is best repeats =
 pub repeat_choice : (old wanted numbers : List ℕ) (run len sum : ℕ) → length old ≡ length wanted → IsRunLen wanted run
     → IsLeastLen numbers 2 (min run 128) 2 0 len sum
     → ((k : ℕ) → 1 ≤ k → k ≤ min (length wanted) 128 → sum ≤ 1 + 1 * k + slice_index numbers k)
-    → IsStepChoice Packed old wanted numbers (RepeatRun len) sum
+    → IsShapeChoice Packed old wanted numbers (RepeatRun len) sum
 repeat_choice old wanted numbers run len sum size is best literals =
     let front : len ≤ run = omega (arith, best.below) in
     let e = repeat_step old wanted len best.above (omega (arith, best.below)) (omega (arith, is.within))
@@ -278,16 +278,16 @@ repeat_choice old wanted numbers run len sum size is best literals =
     (packed_below old wanted numbers run sum size is literals best.least)
 
 -- the best replacement behind the offsets up to one of them
-pub record IsBestReplacement (wanted numbers : List ℕ) (last : ℕ) (step : Step) (sum : ℕ) : Type 0 where
+pub record IsBestReplacement (wanted numbers : List ℕ) (last : ℕ) (shape : Shape) (sum : ℕ) : Type 0 where
   pub offset : ℕ
   pub within : offset ≤ last
-  pub replacement : IsReplacement offset (length wanted) numbers step sum
+  pub replacement : IsReplacement offset (length wanted) numbers shape sum
   pub least : (o k : ℕ) → o ≤ last → 1 ≤ k → k ≤ min (length wanted - o) 8
       → sum ≤ replacement_bytes o + 1 * k + slice_index (drop o numbers) k
 
-pub best_replacement_one : (wanted numbers : List ℕ) (step : Step) (sum : ℕ) → IsReplacement 0 (length wanted) numbers step sum
-    → IsBestReplacement wanted numbers 0 step sum
-best_replacement_one wanted numbers step sum r = record {
+pub best_replacement_one : (wanted numbers : List ℕ) (shape : Shape) (sum : ℕ) → IsReplacement 0 (length wanted) numbers shape sum
+    → IsBestReplacement wanted numbers 0 shape sum
+best_replacement_one wanted numbers shape sum r = record {
   offset = 0;
   within = omega arith;
   replacement = r;
@@ -296,10 +296,10 @@ best_replacement_one wanted numbers step sum r = record {
       subst (λ (n : ℕ). sum ≤ replacement_bytes n + 1 * k + slice_index (drop n numbers) k) at (r.best.least k some (omega (arith, at)));
 }
 
-pub best_replacement_next : (wanted numbers : List ℕ) (last next : ℕ) (step step' : Step) (sum sum' : ℕ) → next ≡ last + 1
-    → IsBestReplacement wanted numbers last step sum → IsReplacement next (length wanted) numbers step' sum' → sum' ≤ sum
-    → IsBestReplacement wanted numbers next step' sum'
-best_replacement_next wanted numbers last next step step' sum sum' next-is b r better = record {
+pub best_replacement_next : (wanted numbers : List ℕ) (last next : ℕ) (shape shape' : Shape) (sum sum' : ℕ) → next ≡ last + 1
+    → IsBestReplacement wanted numbers last shape sum → IsReplacement next (length wanted) numbers shape' sum' → sum' ≤ sum
+    → IsBestReplacement wanted numbers next shape' sum'
+best_replacement_next wanted numbers last next shape shape' sum sum' next-is b r better = record {
   offset = next;
   within = omega arith;
   replacement = r;
@@ -313,10 +313,10 @@ best_replacement_next wanted numbers last next step step' sum sum' next-is b r b
       ];
 }
 
-pub best_replacement_stays : (wanted numbers : List ℕ) (last next : ℕ) (step step' : Step) (sum sum' : ℕ) → next ≡ last + 1
-    → IsBestReplacement wanted numbers last step sum → IsReplacement next (length wanted) numbers step' sum' → sum ≤ sum'
-    → IsBestReplacement wanted numbers next step sum
-best_replacement_stays wanted numbers last next step step' sum sum' next-is b r worse = record {
+pub best_replacement_stays : (wanted numbers : List ℕ) (last next : ℕ) (shape shape' : Shape) (sum sum' : ℕ) → next ≡ last + 1
+    → IsBestReplacement wanted numbers last shape sum → IsReplacement next (length wanted) numbers shape' sum' → sum ≤ sum'
+    → IsBestReplacement wanted numbers next shape sum
+best_replacement_stays wanted numbers last next shape shape' sum sum' next-is b r worse = record {
   offset = b.offset;
   within = omega (arith, b.within);
   replacement = b.replacement;
@@ -330,10 +330,10 @@ best_replacement_stays wanted numbers last next step step' sum sum' next-is b r 
       ];
 }
 
-pub delta_choice : (old wanted numbers : List ℕ) (same last : ℕ) (step : Step) (sum : ℕ) → length old ≡ length wanted
+pub delta_choice : (old wanted numbers : List ℕ) (same last : ℕ) (shape : Shape) (sum : ℕ) → length old ≡ length wanted
     → IsPlace wanted numbers → IsSameLen old wanted same → last ≡ min same (length wanted - 1)
-    → IsBestReplacement wanted numbers last step sum → IsStepChoice Delta old wanted numbers step sum
-delta_choice old wanted numbers same last step sum size place is last-is b =
+    → IsBestReplacement wanted numbers last shape sum → IsShapeChoice Delta old wanted numbers shape sum
+delta_choice old wanted numbers same last shape sum size place is last-is b =
     let offset : ℕ = b.offset in
     let r = b.replacement in
     let len : ℕ = r.len in
@@ -344,6 +344,6 @@ delta_choice old wanted numbers same last step sum size place is last-is b =
     (omega (arith, r.best.below, b.within, last-is, r.best.above)) front in
     let at : slice_index (drop offset numbers) len ≡ slice_index numbers (offset + len) = get_or-drop offset numbers len 0 in
     let below = delta_below old wanted numbers same sum size is (λ o k low some few. b.least o k (omega (arith, last-is)) some few) in
-    subst (λ (s : Step). IsStepChoice Delta old wanted numbers s sum) (sym r.step_is)
+    subst (λ (s : Shape). IsShapeChoice Delta old wanted numbers s sum) (sym r.step_is)
     (step_choice Delta old wanted numbers (Replace offset len) (replacement_bytes offset + len) sum e (omega (arith, r.best.above))
     (omega (arith, r.best.sum_is, at)) below)

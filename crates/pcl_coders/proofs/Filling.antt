@@ -7,19 +7,19 @@ use Rattle.std.proofs.lemmas.List.{append-nil, take_at, take-take, drop-drop, dr
 use Rattle.std.proofs.lemmas.List.Concat.{flat_map-append}
 use Rattle.pcl_base.specs.declared.method.Method.{Method}
 use Rattle.pcl_base.specs.declared.method.Method.TheVariants.{Plain, Runs, Packed, Delta}
-use Rattle.pcl_rows.specs.Elements.{Element, IsElement, spelling, stop}
+use Rattle.pcl_rows.specs.Elements.{Element, IsElement, element_bytes, stop}
 use Rattle.pcl_rows.specs.Rows.{base, IsRowData}
 use Rattle.pcl_rows.proofs.Spellings.{spelling_has_byte}
 use Rattle.pcl_coders.specs.Walks.{Walk, total, IsAttained, IsLeastCost}
 use Rattle.pcl_coders.specs.RowWalks.{Agrees, Leads, Ends, cost, IsRowTable, IsLeastTable}
 use Rattle.pcl_coders.specs.Coding.{IsCodable, IsLeastLength, AppendsLeast}
 use Rattle.pcl_coders.specs.Filling.{IsPlaceNumber, AreRightFrom, AppendsWalk}
-use Rattle.pcl_coders.specs.declared.step.Step.{Step}
-use Rattle.pcl_coders.specs.declared.step.Step.TheVariants.{SingleByte, Run, LiteralRun, Replace}
-use Rattle.pcl_coders.specs.Step.{element_of, step_stop, IsStepChoice}
+use Rattle.pcl_coders.specs.declared.shape.Shape.{Shape}
+use Rattle.pcl_coders.specs.declared.shape.Shape.TheVariants.{SingleByte, Run, LiteralRun, Replace}
+use Rattle.pcl_coders.specs.Shape.{element_of, shape_stop, IsShapeChoice}
 use Rattle.pcl_coders.proofs.Walks.{feasible_bounds, attained_is_least}
 use Rattle.pcl_coders.proofs.RowWalks.{length-base, total_is, stop_within, walk_of_data, data_of_walk}
-use Rattle.pcl_coders.proofs.Choices.{IsStepElement, byte_step, run_step, literal_step, replace_step, first_byte}
+use Rattle.pcl_coders.proofs.Choices.{IsShapeElement, byte_step, run_step, literal_step, replace_step, first_byte}
 
 -- ---- an element of one byte, for each method
 
@@ -29,10 +29,10 @@ pub record IsOneByte (method : Method) (old wanted : List ℕ) (e : Element) : T
   pub stop_is : stop e ≡ 1
   pub few : cost e ≤ 2
 
-one_byte_of : (method : Method) (old wanted : List ℕ) (step : Step) (bytes : ℕ) → IsStepElement method old wanted step bytes
-    → step_stop step ≡ 1 → bytes ≤ 2 → (e : Element) × IsOneByte method old wanted e
-one_byte_of method old wanted step bytes s one few =
-    (element_of step wanted, record { element = s.element; agrees = s.agrees; stop_is = s.stop_is ∙ one; few = omega (arith, s.bytes_are) })
+one_byte_of : (method : Method) (old wanted : List ℕ) (shape : Shape) (bytes : ℕ) → IsShapeElement method old wanted shape bytes
+    → shape_stop shape ≡ 1 → bytes ≤ 2 → (e : Element) × IsOneByte method old wanted e
+one_byte_of method old wanted shape bytes s one few =
+    (element_of shape wanted, record { element = s.element; agrees = s.agrees; stop_is = s.stop_is ∙ one; few = omega (arith, s.bytes_are) })
 
 one_byte : (method : Method) (old wanted : List ℕ) → 0 < length wanted → (e : Element) × IsOneByte method old wanted e
 one_byte Plain old wanted some = one_byte_of Plain old wanted SingleByte 1 (byte_step old wanted some) refl (omega arith)
@@ -88,11 +88,11 @@ number_of_end method old row table place inside end =
     }
 
 -- elsewhere
-pub number_of_choice : (method : Method) (old row table : List ℕ) (place : ℕ) (step : Step) (sum : ℕ) → place < length row
+pub number_of_choice : (method : Method) (old row table : List ℕ) (place : ℕ) (shape : Shape) (sum : ℕ) → place < length row
     → length table ≡ length row + 1 → (Ends old row place → ⊥)
-    → IsStepChoice method (drop place old) (drop place row) (drop place table) step sum → sum ≤ 2 * (length row - place)
+    → IsShapeChoice method (drop place old) (drop place row) (drop place table) shape sum → sum ≤ 2 * (length row - place)
     → IsPlaceNumber method old row (set table place sum) place
-number_of_choice method old row table place step sum inside size more c small =
+number_of_choice method old row table place shape sum inside size more c small =
     let now : List ℕ = set table place sum in
     let here : slice_index now place ≡ sum = get_or-set_same table place sum 0 (omega arith) in
     let there : (k : ℕ) → 0 < k → slice_index (drop place table) k ≡ slice_index now (place + k) =
@@ -107,33 +107,33 @@ number_of_choice method old row table place step sum inside size more c small =
           ];
       ends = λ end. absurd (more end);
       attained = inr (
-        element_of step (drop place row),
+        element_of shape (drop place row),
         record {
           element = c.choice.element;
           agrees = c.choice.agrees;
           goes_on = c.choice.goes_on;
-          number_is = omega (arith, c.choice.sum_is, there (stop (element_of step (drop place row))) c.choice.goes_on, here);
+          number_is = omega (arith, c.choice.sum_is, there (stop (element_of shape (drop place row))) c.choice.goes_on, here);
         },
       );
       small = omega (arith, here, small);
     }
 
 -- the best element has no more than two bytes for each byte of the row, where that holds behind it
-pub choice_small : (method : Method) (old row table : List ℕ) (place : ℕ) (step : Step) (sum : ℕ) → place < length row
-    → IsStepChoice method (drop place old) (drop place row) (drop place table) step sum
+pub choice_small : (method : Method) (old row table : List ℕ) (place : ℕ) (shape : Shape) (sum : ℕ) → place < length row
+    → IsShapeChoice method (drop place old) (drop place row) (drop place table) shape sum
     → slice_index table (place + 1) ≤ 2 * (length row - (place + 1)) → sum ≤ 2 * (length row - place)
-choice_small method old row table place step sum inside c small =
+choice_small method old row table place shape sum inside c small =
     let one = one_byte method (drop place old) (drop place row) (omega (arith, length-drop place row)) in
     let first : sum ≤ cost one.0 + slice_index (drop place table) (stop one.0) =
     c.choice.least one.0 one.1.element one.1.agrees (omega (arith, one.1.stop_is)) in
     omega (arith, first, one.1.few, ap (slice_index (drop place table)) one.1.stop_is, get_or-drop place table 1 0)
 
--- a step's choice at parts of lists that go to their ends
-pub choice_to_ends : (method : Method) (old row table : List ℕ) (place : ℕ) (step : Step) (sum : ℕ)
-    → IsStepChoice method (take (length old - place) (drop place old)) (take (length row - place) (drop place row))
-    (take (length table - place) (drop place table)) step sum
-    → IsStepChoice method (drop place old) (drop place row) (drop place table) step sum
-choice_to_ends method old row table place step sum c = rw (take_rest old place, take_rest row place, take_rest table place) at c
+-- a shape's choice at parts of lists that go to their ends
+pub choice_to_ends : (method : Method) (old row table : List ℕ) (place : ℕ) (shape : Shape) (sum : ℕ)
+    → IsShapeChoice method (take (length old - place) (drop place old)) (take (length row - place) (drop place row))
+    (take (length table - place) (drop place table)) shape sum
+    → IsShapeChoice method (drop place old) (drop place row) (drop place table) shape sum
+choice_to_ends method old row table place shape sum c = rw (take_rest old place, take_rest row place, take_rest table place) at c
 
 -- ---- places from which no more data is needed
 
@@ -255,14 +255,14 @@ row_table_small method seed row table (suc rest) place same is at =
 -- data along a walk of least cost
 pub least_along : (method : Method) (seed row table : List ℕ) (es : List Element) → IsCodable seed row → IsRowTable method seed row table
     → Walk (Leads method (base method seed) row) (Ends (base method seed) row) 0 es → total cost es ≡ slice_index table 0
-    → IsRowData method seed row (flat_map spelling es) × IsLeastLength method seed row (length (flat_map spelling es))
+    → IsRowData method seed row (flat_map element_bytes es) × IsLeastLength method seed row (length (flat_map element_bytes es))
 least_along method seed row table es codable is walk total-is =
     let small = row_table_small method seed row table (length row) 0 codable.same_size is (omega arith) in
     let has = data_of_walk method seed row es codable.same_size (omega (arith, total-is, small, codable.small)) walk in
-    let bytes : length (flat_map spelling es) ≡ slice_index table 0 = sym (total_is es) ∙ total-is in (
+    let bytes : length (flat_map element_bytes es) ≡ slice_index table 0 = sym (total_is es) ∙ total-is in (
       has,
       record {
-        attained = (flat_map spelling es, has, refl);
+        attained = (flat_map element_bytes es, has, refl);
         shortest = λ other whole. omega (arith, first_bounds method seed row table other codable.same_size is whole, bytes);
       },
     )
@@ -287,7 +287,7 @@ numbers_least method seed row table place is within =
 pub record IsAppendedTo (method : Method) (old row table before now : List ℕ) (place : ℕ) : Type 0 where
   pub within : place ≤ length row
   pub done : List Element
-  pub joined : now ≡ before ++ flat_map spelling done
+  pub joined : now ≡ before ++ flat_map element_bytes done
   pub goes_on : (es : List Element) → Walk (Leads method old row) (Ends old row) place es → total cost es ≡ slice_index table place
       → Walk (Leads method old row) (Ends old row) 0 (done ++ es) × (total cost (done ++ es) ≡ slice_index table 0)
 
@@ -305,14 +305,14 @@ more_needed method old row table place size right within some =
     ]
 
 -- the best element of a place that needs data
-best_number : (method : Method) (old row table : List ℕ) (place : ℕ) (step : Step) (sum : ℕ) → AreRightFrom method old row table 0
+best_number : (method : Method) (old row table : List ℕ) (place : ℕ) (shape : Shape) (sum : ℕ) → AreRightFrom method old row table 0
     → place ≤ length row → 0 < slice_index table place
-    → IsStepChoice method (drop place old) (drop place row) (drop place table) step sum
-    → slice_index table place ≡ cost (element_of step (drop place row)) + slice_index table
-    (place + stop (element_of step (drop place row)))
-best_number method old row table place step sum right within some c =
+    → IsShapeChoice method (drop place old) (drop place row) (drop place table) shape sum
+    → slice_index table place ≡ cost (element_of shape (drop place row)) + slice_index table
+    (place + stop (element_of shape (drop place row)))
+best_number method old row table place shape sum right within some c =
     let is = right place (omega arith) within in
-    let e : Element = element_of step (drop place row) in
+    let e : Element = element_of shape (drop place row) in
     let at : (k : ℕ) → slice_index (drop place table) k ≡ slice_index table (place + k) = λ k. get_or-drop place table k 0 in
     let above = is.steps e c.choice.element c.choice.agrees in
     elim is.attained [
@@ -329,23 +329,23 @@ best_number method old row table place step sum right within some c =
           )
     ]
 
-pub appended_more : (method : Method) (old row table before now : List ℕ) (place : ℕ) (step : Step) (sum : ℕ) (now' : List ℕ) (place' : ℕ)
+pub appended_more : (method : Method) (old row table before now : List ℕ) (place : ℕ) (shape : Shape) (sum : ℕ) (now' : List ℕ) (place' : ℕ)
     → length old ≡ length row → AreRightFrom method old row table 0 → 0 < slice_index table place
-    → IsAppendedTo method old row table before now place → IsStepChoice method (drop place old) (drop place row) (drop place table) step sum
-    → now' ≡ now ++ spelling (element_of step (drop place row)) → place' ≡ place + step_stop step
+    → IsAppendedTo method old row table before now place → IsShapeChoice method (drop place old) (drop place row) (drop place table) shape sum
+    → now' ≡ now ++ element_bytes (element_of shape (drop place row)) → place' ≡ place + shape_stop shape
     → IsAppendedTo method old row table before now' place'
-appended_more method old row table before now place step sum now' place' size right some a c now-is place-is =
-    let e : Element = element_of step (drop place row) in
+appended_more method old row table before now place shape sum now' place' size right some a c now-is place-is =
+    let e : Element = element_of shape (drop place row) in
     let inside = stop_within method old row place e size c.choice.element c.choice.agrees in
     let next : place' ≡ place + stop e = place-is ∙ ap (λ (k : ℕ). place + k) (sym c.stop_is) in
-    let number = best_number method old row table place step sum right a.within some c in
-    let more : flat_map spelling (a.done ++ e ∷ []) ≡ flat_map spelling a.done ++ spelling e =
-    flat_map-append spelling a.done (e ∷ []) ∙ ap (λ (bs : List ℕ). flat_map spelling a.done ++ bs) (append-nil (spelling e)) in
+    let number = best_number method old row table place shape sum right a.within some c in
+    let more : flat_map element_bytes (a.done ++ e ∷ []) ≡ flat_map element_bytes a.done ++ element_bytes e =
+    flat_map-append element_bytes a.done (e ∷ []) ∙ ap (λ (bs : List ℕ). flat_map element_bytes a.done ++ bs) (append-nil (element_bytes e)) in
     let begins = more_needed method old row table place size right a.within some in
     record {
       within = omega arith;
       done = a.done ++ e ∷ [];
-      joined = now-is ∙ ap (λ (bs : List ℕ). bs ++ spelling e) a.joined ∙ append_assoc before (flat_map spelling a.done) (spelling e)
+      joined = now-is ∙ ap (λ (bs : List ℕ). bs ++ element_bytes e) a.joined ∙ append_assoc before (flat_map element_bytes a.done) (element_bytes e)
           ∙ ap (λ (bs : List ℕ). before ++ bs) (sym more);
       goes_on = λ es w t.
           let g = a.goes_on (e ∷ es) (place', record { element = c.choice.element; agrees = c.choice.agrees; next_is = next }, w)
@@ -368,7 +368,7 @@ appended_all method old row table before now place right none a =
       walk = g.0;
       total_is = g.1;
       joined =
-          a.joined ∙ ap (λ (es : List Element). before ++ flat_map spelling es) (sym (append-nil a.done));
+          a.joined ∙ ap (λ (es : List Element). before ++ flat_map element_bytes es) (sym (append-nil a.done));
     }
 
 -- what stood there before still stands in front
@@ -388,4 +388,4 @@ appends_least method seed row old table before now codable size old-is right a =
     subst (λ (o : List ℕ). AppendsWalk method o row table before now) old-is a in
     let is = table_is_least method seed row table codable.same_size size right' in
     let l = least_along method seed row table a'.steps codable is.table_is a'.walk a'.total_is in
-    record { bytes = flat_map spelling a'.steps; joined = a'.joined; whole = l.0; least = l.1 }
+    record { bytes = flat_map element_bytes a'.steps; joined = a'.joined; whole = l.0; least = l.1 }

@@ -8,9 +8,9 @@ use Rattle.pcl_bitmap.specs.Kernels.{IsRunEnd}
 use Rattle.pcl_coders.specs.Choosing.{IsLeastLen}
 use Rattle.pcl_coders.specs.Filling.{AreRightFrom, IsBegun}
 use Rattle.pcl_coders.specs.Windows.{IsLeastOf}
-use Rattle.pcl_coders.specs.declared.step.Step.{Step}
-use Rattle.pcl_coders.specs.Step.{IsStepChoice}
-use Rattle.pcl_coders.specs.declared.step.Step.TheVariants.{LiteralRun, RepeatRun}
+use Rattle.pcl_coders.specs.declared.shape.Shape.{Shape}
+use Rattle.pcl_coders.specs.Shape.{IsShapeChoice}
+use Rattle.pcl_coders.specs.declared.shape.Shape.TheVariants.{LiteralRun, RepeatRun}
 use Rattle.pcl_coders.proofs.Prefixes.{run_len_of}
 use Rattle.pcl_coders.proofs.Choices.{literal_choice, repeat_choice}
 use Rattle.pcl_coders.proofs.Filling.{number_behind}
@@ -146,7 +146,7 @@ pub packed_place : (row first table numbers : List ℕ) (end place run_end least
     → IsLeastOf numbers least → IsRunEnd row place run_end
     → literal ≡ least - place + 1 → literal ≤ 65535 → (run_end ≡ place + 1 → repeat ≡ 65535)
     → (place + 1 < run_end → repeat ≡ slice_index table (min run_end (place + 128)) + 2) → number ≡ min literal repeat
-    → (step : Step) × IsStepChoice Packed (drop place (replicate (length row) 0)) (drop place row) (drop place table) step number
+    → (shape : Shape) × IsShapeChoice Packed (drop place (replicate (length row) 0)) (drop place row) (drop place table) shape number
 packed_place row first table numbers end place run_end least literal repeat number begun size inside behind w is run literal-is small none
     some number-is =
     let old : List ℕ = drop place (replicate (length row) 0) in
@@ -161,7 +161,7 @@ packed_place row first table numbers end place run_end least literal repeat numb
       | inr short ↦
           let e : literal ≡ number = omega (arith, none (omega (arith, run.after))) in (
             LiteralRun l.0,
-            subst (IsStepChoice Packed old wanted (drop place table) (LiteralRun l.0)) (sym literal-is ∙ e)
+            subst (IsShapeChoice Packed old wanted (drop place table) (LiteralRun l.0)) (sym literal-is ∙ e)
                 (literal_choice old wanted (drop place table) (run_end - place) l.0 (least - place + 1) same run-len l.1
                 (λ k low high. absurd (omega arith))),
           )
@@ -172,14 +172,14 @@ packed_place row first table numbers end place run_end least literal repeat numb
             | inl better ↦
                 let e : repeat ≡ number = omega arith in (
                   RepeatRun len,
-                  subst (IsStepChoice Packed old wanted (drop place table) (RepeatRun len)) (repeat-is ∙ e)
+                  subst (IsShapeChoice Packed old wanted (drop place table) (RepeatRun len)) (repeat-is ∙ e)
                       (repeat_choice old wanted (drop place table) (run_end - place) len (slice_index table (place + len) + 2) same run-len
                       r (λ k low high. omega (arith, l.1.least k low high))),
                 )
             | inr worse ↦
                 let e : literal ≡ number = omega arith in (
                   LiteralRun l.0,
-                  subst (IsStepChoice Packed old wanted (drop place table) (LiteralRun l.0)) (sym literal-is ∙ e)
+                  subst (IsShapeChoice Packed old wanted (drop place table) (LiteralRun l.0)) (sym literal-is ∙ e)
                       (literal_choice old wanted (drop place table) (run_end - place) l.0 (least - place + 1) same run-len l.1
                       (λ k low high. omega (arith, r.least k low high))),
                 )

@@ -11,12 +11,12 @@ use Rattle.pcl_coders.specs.RowWalks.{Agrees, Ends, cost}
 use Rattle.pcl_coders.specs.Choosing.{IsLeastLen, IsPlace}
 use Rattle.pcl_coders.specs.Replacement.{replacement_bytes}
 use Rattle.pcl_coders.specs.Filling.{IsPlaceNumber, AreRightFrom, IsBegun}
-use Rattle.pcl_coders.specs.declared.step.Step.{Step}
-use Rattle.pcl_coders.specs.declared.step.Step.TheVariants.{SingleByte, Run, LiteralRun, RepeatRun, Replace}
-use Rattle.pcl_coders.specs.Step.{element_of, step_stop, IsStepChoice}
+use Rattle.pcl_coders.specs.declared.shape.Shape.{Shape}
+use Rattle.pcl_coders.specs.declared.shape.Shape.TheVariants.{SingleByte, Run, LiteralRun, RepeatRun, Replace}
+use Rattle.pcl_coders.specs.Shape.{element_of, shape_stop, IsShapeChoice}
 use Rattle.pcl_coders.proofs.Shapes.{runs_shape, packed_shape, near_bytes, far_bytes}
 use Rattle.pcl_coders.proofs.Prefixes.{run_len_of, same_len_of}
-use Rattle.pcl_coders.proofs.Choices.{agrees_gives, IsStepElement, run_step, repeat_step, literal_step, plain_choice, runs_choice, delta_choice}
+use Rattle.pcl_coders.proofs.Choices.{agrees_gives, IsShapeElement, run_step, repeat_step, literal_step, plain_choice, runs_choice, delta_choice}
 use Rattle.pcl_coders.proofs.Filling.{number_behind, number_of_choice, choice_small, right_more, ends_here, ends_behind}
 use Rattle.pcl_coders.proofs.Ends.{ends_on, ends_at, white_byte}
 
@@ -45,15 +45,15 @@ place_at old row first table end place begun size inside = record {
 }
 
 -- the best element of a place gives its number
-pub place_done : (method : Method) (old row first table : List ℕ) (end place : ℕ) (step : Step) (sum : ℕ) → IsBegun old row first end
+pub place_done : (method : Method) (old row first table : List ℕ) (end place : ℕ) (shape : Shape) (sum : ℕ) → IsBegun old row first end
     → length table ≡ length row + 1 → place < end
-    → AreRightFrom method old row table (place + 1) → IsStepChoice method (drop place old) (drop place row) (drop place table) step sum
+    → AreRightFrom method old row table (place + 1) → IsShapeChoice method (drop place old) (drop place row) (drop place table) shape sum
     → AreRightFrom method old row (set table place sum) place × (sum ≤ 2 * (length row - place))
-place_done method old row first table end place step sum begun size inside behind c =
+place_done method old row first table end place shape sum begun size inside behind c =
     let within : place < length row = omega (arith, begun.first_end.within) in
-    let small = choice_small method old row table place step sum within c (behind (place + 1) (omega arith) (omega arith)).small in (
+    let small = choice_small method old row table place shape sum within c (behind (place + 1) (omega arith) (omega arith)).small in (
       right_more method old row table place sum behind
-          (number_of_choice method old row table place step sum within size (λ e. absurd (omega (arith, begun.first_end.first place e))) c
+          (number_of_choice method old row table place shape sum within size (λ e. absurd (omega (arith, begun.first_end.first place e))) c
           small),
       small,
     )
@@ -61,10 +61,10 @@ place_done method old row first table end place step sum begun size inside behin
 -- ---- method 0
 
 pub plain_place : (old row first table : List ℕ) (end place : ℕ) → IsBegun old row first end → length table ≡ length row + 1 → place < end
-    → IsStepChoice Plain (drop place old) (drop place row) (drop place table) SingleByte (slice_index table (place + 1) + 1)
+    → IsShapeChoice Plain (drop place old) (drop place row) (drop place table) SingleByte (slice_index table (place + 1) + 1)
 plain_place old row first table end place begun size inside =
     let at : 1 + slice_index (drop place table) 1 ≡ slice_index table (place + 1) + 1 = omega (arith, get_or-drop place table 1 0) in
-    subst (λ (sum : ℕ). IsStepChoice Plain (drop place old) (drop place row) (drop place table) SingleByte sum) at
+    subst (λ (sum : ℕ). IsShapeChoice Plain (drop place old) (drop place row) (drop place table) SingleByte sum) at
     (plain_choice (drop place old) (drop place row) (drop place table) (place_at old row first table end place begun size inside))
 
 -- ---- methods 1 and 2: numbers never grow to the right
@@ -76,11 +76,11 @@ pub record IsShorter (method : Method) (old wanted : List ℕ) (e d : Element) :
   pub stop_is : stop d + 1 ≡ stop e
   pub cheaper : cost d ≤ cost e
 
-shorter_of : (method : Method) (old wanted : List ℕ) (e : Element) (step : Step) (bytes : ℕ)
-    → IsStepElement method (drop 1 old) (drop 1 wanted) step bytes → step_stop step + 1 ≡ stop e → bytes ≤ cost e
+shorter_of : (method : Method) (old wanted : List ℕ) (e : Element) (shape : Shape) (bytes : ℕ)
+    → IsShapeElement method (drop 1 old) (drop 1 wanted) shape bytes → shape_stop shape + 1 ≡ stop e → bytes ≤ cost e
     → (d : Element) × IsShorter method old wanted e d
-shorter_of method old wanted e step bytes s stops few = (
-  element_of step (drop 1 wanted),
+shorter_of method old wanted e shape bytes s stops few = (
+  element_of shape (drop 1 wanted),
   record {
     element = s.element;
     agrees = s.agrees;
@@ -214,7 +214,7 @@ falls method old row table from p q shorten size right low order high =
 pub runs_place : (old row first table : List ℕ) (end place run_end len : ℕ) → IsBegun old row first end → length table ≡ length row + 1
     → place < end → AreRightFrom Runs old row table (place + 1)
     → IsRunEnd row place run_end → len ≡ min (run_end - place) 256
-    → IsStepChoice Runs (drop place old) (drop place row) (drop place table) (Run len) (slice_index table (place + len) + 2)
+    → IsShapeChoice Runs (drop place old) (drop place row) (drop place table) (Run len) (slice_index table (place + len) + 2)
 runs_place old row first table end place run_end len begun size inside behind is len-is =
     let run : ℕ = run_end - place in
     let at : (k : ℕ) → slice_index (drop place table) k ≡ slice_index table (place + k) = λ k. get_or-drop place table k 0 in
@@ -341,7 +341,7 @@ pub record IsNextStart (old row table : List ℕ) (place start best : ℕ) : Typ
 -- the latest start is as good as any earlier one
 pub delta_place : (old row first table : List ℕ) (end place start best : ℕ) → IsBegun old row first end → length table ≡ length row + 1
     → place < end → IsNextStart old row table place start best
-    → (len : ℕ) × IsStepChoice Delta (drop place old) (drop place row) (drop place table) (Replace (start - place) len)
+    → (len : ℕ) × IsShapeChoice Delta (drop place old) (drop place row) (drop place table) (Replace (start - place) len)
     (replacement_bytes (start - place) + best)
 delta_place old row first table end place start best begun size inside next =
     let last : ℕ = start - place in

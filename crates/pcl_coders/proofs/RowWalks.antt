@@ -5,7 +5,7 @@ use Rattle.std.proofs.lemmas.List.{append-nil, take_all, drop_at, drop-drop, len
 use Rattle.pcl_base.specs.declared.method.Method.{Method}
 use Rattle.pcl_base.specs.declared.method.Method.TheVariants.{Plain, Runs, Packed, Delta}
 use Rattle.pcl_rows.specs.Heads.{Head, Itself, Count, Literal, Skipped, Repeat, Near, Far, head_bytes, new_count, offset_of}
-use Rattle.pcl_rows.specs.Elements.{Element, IsElement, AreElements, spelling, given, given_by, stop, reach}
+use Rattle.pcl_rows.specs.Elements.{Element, IsElement, AreElements, element_bytes, given, given_by, stop, reach}
 use Rattle.pcl_rows.specs.Rows.{base, after_element, after_elements, RowFrom, IsRowData}
 use Rattle.pcl_rows.proofs.Readings.{after_none, drop-nil, some_element, length-copied}
 use Rattle.pcl_rows.proofs.Spellings.{spelling_has_byte}
@@ -23,9 +23,9 @@ length-base Runs seed = length-replicate (length seed) 0
 length-base Packed seed = length-replicate (length seed) 0
 length-base Delta seed = refl
 
-pub total_is : (es : List Element) → total cost es ≡ length (flat_map spelling es)
+pub total_is : (es : List Element) → total cost es ≡ length (flat_map element_bytes es)
 total_is [] = refl
-total_is (e ∷ es) = omega (arith, total_is es, length-append (spelling e) (flat_map spelling es))
+total_is (e ∷ es) = omega (arith, total_is es, length-append (element_bytes e) (flat_map element_bytes es))
 
 -- an element gives a byte, or leaves none
 given_or_nothing_left : (h : Head) (bytes : List ℕ) → length bytes ≡ new_count h → (offset_of h ≡ 0) ⊎ (0 < length (given_by h bytes))
@@ -108,7 +108,7 @@ after_elements_cut (d ∷ es) h none old e =
 
 -- whole elements decode to what they make
 pub elements_decode : (method : Method) (old : List ℕ) (es : List Element) → AreElements method es
-    → RowFrom method (flat_map spelling es) old (take (length old) (after_elements es kept old))
+    → RowFrom method (flat_map element_bytes es) old (take (length old) (after_elements es kept old))
 elements_decode method old es are =
     let e = some_element method in
     let none : drop (length (head_bytes e.0.head)) [] ≡ [] = drop-nil (length (head_bytes e.0.head)) in (
@@ -117,10 +117,10 @@ elements_decode method old es are =
       [],
       record {
         elements = are;
-        joined = sym (append-nil (flat_map spelling es));
+        joined = sym (append-nil (flat_map element_bytes es));
         element = e.1;
         lacking =
-            (spelling e.0, refl, spelling_has_byte method e.0 e.1);
+            (element_bytes e.0, refl, spelling_has_byte method e.0 e.1);
       },
       ap (take (length old)) (sym (after_elements_cut es e.0.head (drop (length (head_bytes e.0.head)) []) old none)),
     )
@@ -157,14 +157,14 @@ walk_of_data method seed row bytes size has =
 
 -- a walk is whole data
 pub data_of_walk : (method : Method) (seed row : List ℕ) (es : List Element) → length seed ≡ length row → total cost es ≤ 65535
-    → Walk (Leads method (base method seed) row) (Ends (base method seed) row) 0 es → IsRowData method seed row (flat_map spelling es)
+    → Walk (Leads method (base method seed) row) (Ends (base method seed) row) 0 es → IsRowData method seed row (flat_map element_bytes es)
 data_of_walk method seed row es size small walk =
     let old : List ℕ = base method seed in
     let same : length old ≡ length row = length-base method seed ∙ size in
     let m = walk_makes method old row es 0 same walk in
     record {
       whole = (es, m.0, refl, omega (arith, m.1));
-      decodes = subst (RowFrom method (flat_map spelling es) old)
+      decodes = subst (RowFrom method (flat_map element_bytes es) old)
           (take_all (length old) (after_elements es kept old) (omega (arith, ap length m.2)) ∙ m.2) (elements_decode method old es m.0);
       fits = omega (arith, total_is es);
     }

@@ -12,8 +12,8 @@ use Rattle.pcl_coders.specs.Walks.{Walk, total}
 use Rattle.pcl_coders.specs.RowWalks.{Leads, Ends, cost, IsRowTable, IsLeastTable}
 use Rattle.pcl_coders.specs.Coding.{IsCodable, IsLeastLength}
 use Rattle.pcl_coders.specs.Filling.{IsPlaceNumber, AreRightFrom, IsFirstEnd, IsBegun}
-use Rattle.pcl_coders.specs.declared.step.Step.TheVariants.{SingleByte}
-use Rattle.pcl_coders.specs.Step.{element_of}
+use Rattle.pcl_coders.specs.declared.shape.Shape.TheVariants.{SingleByte}
+use Rattle.pcl_coders.specs.Shape.{element_of}
 use Rattle.pcl_coders.proofs.Walks.{feasible_bounds}
 use Rattle.pcl_coders.proofs.RowWalks.{length-base}
 use Rattle.pcl_coders.proofs.Shapes.{plain_shape}

@@ -1,7 +1,7 @@
 -- A table of least numbers while it is filled, and data while it is appended.
 use Rattle.std.specs.Prelude.{◌≡◌, ℕ, ◌+◌, ◌-◌, ◌*◌, ◌<◌, ◌≤◌, ◌⊎◌, List, ◌++◌, length, drop, replicate, slice_index, flat_map}
 use Rattle.pcl_base.specs.declared.method.Method.{Method}
-use Rattle.pcl_rows.specs.Elements.{Element, IsElement, spelling, stop}
+use Rattle.pcl_rows.specs.Elements.{Element, IsElement, element_bytes, stop}
 use Rattle.pcl_coders.specs.Walks.{Walk, total}
 use Rattle.pcl_coders.specs.RowWalks.{Agrees, Leads, Ends, cost}
 
@@ -47,4 +47,4 @@ pub record AppendsWalk (method : Method) (old row table before now : List ℕ) :
   pub steps : List Element
   pub walk : Walk (Leads method old row) (Ends old row) 0 steps
   pub total_is : total cost steps ≡ slice_index table 0
-  pub joined : now ≡ before ++ flat_map spelling steps
+  pub joined : now ≡ before ++ flat_map element_bytes steps

@@ -2,7 +2,7 @@ pub mod Walks
 pub mod RowWalks
 pub mod Coding
 pub mod Replacement
-pub mod Step
+pub mod Shape
 pub mod Choosing
 pub mod Filling
 pub mod Windows

@@ -2,7 +2,7 @@
 use Rattle.std.specs.Prelude.{◌≡◌, ℕ, ◌+◌, ◌≤◌, List, ◌++◌, length, take, drop, slice_index}
 use Rattle.pcl_base.specs.declared.method.Method.{Method}
 use Rattle.pcl_rows.specs.Heads.{offset_of}
-use Rattle.pcl_rows.specs.Elements.{Element, IsElement, spelling, given, stop}
+use Rattle.pcl_rows.specs.Elements.{Element, IsElement, element_bytes, given, stop}
 use Rattle.pcl_rows.specs.Rows.{base}
 use Rattle.pcl_coders.specs.Walks.{IsFeasible, IsAttained}
 
@@ -23,7 +23,7 @@ Ends old row place = drop place row ≡ drop place old
 
 -- what an element costs: its bytes
 abbrev pub cost : Element → ℕ
-cost e = length (spelling e)
+cost e = length (element_bytes e)
 
 -- a number for each place of a row, from 0 to its length: none is above an element's bytes and the number where
 -- that stops, for each element that agrees with the row, and it is 0 where no more data is needed

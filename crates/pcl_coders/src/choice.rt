@@ -6,19 +6,19 @@ ghost use Rattle.pcl_coders.specs.Filling.{AreRightFrom};
 ghost use Rattle.pcl_coders.specs.Replacement.{replacement_bytes};
 ghost use Rattle.pcl_base.specs.declared.method.Method.TheVariants as methods;
 
-use crate::step::Step;
+use crate::shape::Shape;
 use pcl_base::Method;
 use pcl_bitmap::{first_difference, run_end};
 
 /// An element, and how many bytes it and least data behind it have together.
 #[derive(Clone, Copy)]
 pub struct Choice {
-    pub step: Step,
+    pub shape: Shape,
     pub sum: usize,
 }
 
 impl Choice {
-    ghost use Rattle.pcl_coders.specs.Step.{IsStepChoice, IsReplacement};
+    ghost use Rattle.pcl_coders.specs.Shape.{IsShapeChoice, IsReplacement};
 
     /// The element that begins least data of a method for the wanted bytes, over the old ones, where the
     /// numbers are the least ones of their places and data is needed. Among several: of methods 1 and 2 the
@@ -29,18 +29,18 @@ impl Choice {
         requires place { IsPlace wanted.now numbers.now }
         requires right { AreRightFrom method old.now wanted.now numbers.now 0 }
         requires needed { 0 < slice_index numbers.now 0 }
-        ensures { IsStepChoice method old.now wanted.now numbers.now result.step result.sum }
+        ensures { IsShapeChoice method old.now wanted.now numbers.now result.shape result.sum }
     {
         match method {
             Method::Plain => Choice {
-                step: Step::SingleByte,
+                shape: Shape::SingleByte,
                 sum: 1 + usize::from(numbers[1]),
             },
             Method::Runs => {
                 let len = run_end(wanted, 0).min(256);
                 let sum = 2 + usize::from(numbers[len]);
-                let step = Step::Run { len };
-                Choice { step, sum }
+                let shape = Shape::Run { len };
+                Choice { shape, sum }
             }
             Method::Delta => {
                 let start = first_difference(old, wanted);
@@ -52,12 +52,12 @@ impl Choice {
                 let is_repeat = run >= 2 && usize::from(numbers[run]) + 2 == sum;
                 if let Some(len) = literal_len(numbers, wanted.len().min(128)) {
                     if !is_repeat || run < len {
-                        let step = Step::LiteralRun { len };
-                        return Choice { step, sum };
+                        let shape = Shape::LiteralRun { len };
+                        return Choice { shape, sum };
                     }
                 }
-                let step = Step::RepeatRun { len: run };
-                Choice { step, sum }
+                let shape = Shape::RepeatRun { len: run };
+                Choice { shape, sum }
             }
         }
     }
@@ -67,11 +67,11 @@ impl Choice {
     pub fn of(method: Method, old: &[u8], wanted: &[u8], numbers: &[u16]) -> Choice
         requires same { length old.now ≡ length wanted.now }
         requires place { IsPlace wanted.now numbers.now }
-        ensures { IsStepChoice method old.now wanted.now numbers.now result.step result.sum }
+        ensures { IsShapeChoice method old.now wanted.now numbers.now result.shape result.sum }
     {
         match method {
             Method::Plain => Choice {
-                step: Step::SingleByte,
+                shape: Shape::SingleByte,
                 sum: 1 + usize::from(numbers[1]),
             },
             Method::Runs => Choice::runs(wanted, numbers),
@@ -83,12 +83,12 @@ impl Choice {
     fn runs(wanted: &[u8], numbers: &[u16]) -> Choice
         requires { IsPlace wanted.now numbers.now }
         ensures { (old : List ℕ) → length old ≡ length wanted.now
-            → IsStepChoice methods.Runs old wanted.now numbers.now result.step result.sum }
+            → IsShapeChoice methods.Runs old wanted.now numbers.now result.shape result.sum }
     {
         let longest = run_end(wanted, 0).min(256);
         let best = LeastLen::among(numbers, 1, longest, 2, 0, Tie::Longest);
         Choice {
-            step: Step::Run { len: best.len },
+            shape: Shape::Run { len: best.len },
             sum: best.sum,
         }
     }
@@ -96,7 +96,7 @@ impl Choice {
     fn packed(wanted: &[u8], numbers: &[u16]) -> Choice
         requires { IsPlace wanted.now numbers.now }
         ensures { (old : List ℕ) → length old ≡ length wanted.now
-            → IsStepChoice methods.Packed old wanted.now numbers.now result.step result.sum }
+            → IsShapeChoice methods.Packed old wanted.now numbers.now result.shape result.sum }
     {
         let literal = LeastLen::among(numbers, 1, wanted.len().min(128), 1, 1, Tie::Longest);
         let longest = run_end(wanted, 0).min(128);
@@ -104,13 +104,13 @@ impl Choice {
             let repeat = LeastLen::among(numbers, 2, longest, 2, 0, Tie::Longest);
             if repeat.beats(literal, Tie::Longest) {
                 return Choice {
-                    step: Step::RepeatRun { len: repeat.len },
+                    shape: Shape::RepeatRun { len: repeat.len },
                     sum: repeat.sum,
                 };
             }
         }
         Choice {
-            step: Step::LiteralRun { len: literal.len },
+            shape: Shape::LiteralRun { len: literal.len },
             sum: literal.sum,
         }
     }
@@ -118,7 +118,7 @@ impl Choice {
     fn delta(old: &[u8], wanted: &[u8], numbers: &[u16]) -> Choice
         requires same { length old.now ≡ length wanted.now }
         requires place { IsPlace wanted.now numbers.now }
-        ensures { IsStepChoice methods.Delta old.now wanted.now numbers.now result.step result.sum }
+        ensures { IsShapeChoice methods.Delta old.now wanted.now numbers.now result.shape result.sum }
     {
         let same = first_difference(old, wanted).min(wanted.len() - 1);
         let mut best = Choice::behind(0, wanted.len(), numbers);
@@ -136,7 +136,7 @@ impl Choice {
         requires inside { offset < row_bytes }
         requires size { length numbers.now ≡ row_bytes + 1 }
         requires small { row_bytes ≤ 600 }
-        ensures { IsReplacement offset row_bytes numbers.now result.step result.sum }
+        ensures { IsReplacement offset row_bytes numbers.now result.shape result.sum }
     {
         let best = LeastLen::among(
             &numbers[offset..],
@@ -147,7 +147,7 @@ impl Choice {
             Tie::Shortest,
         );
         Choice {
-            step: Step::Replace {
+            shape: Shape::Replace {
                 offset,
                 len: best.len,
             },

@@ -5,7 +5,7 @@ mod choice;
 mod coder;
 mod fill;
 mod laws;
-mod step;
+mod shape;
 mod table;
 mod window;
 

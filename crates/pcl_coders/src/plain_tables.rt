@@ -44,8 +44,8 @@ fn append_tried(
     while place < row.len() && numbers[place] > 0 {
         let wanted = &row[place..];
         let choice = Choice::of(method, &old[place..], wanted, &numbers[place..]);
-        choice.step.append(wanted, out)?;
-        place += choice.step.stop();
+        choice.shape.append(wanted, out)?;
+        place += choice.shape.stop();
     }
     Ok(())
 }

@@ -131,8 +131,8 @@ pub fn append_steps(
     while numbers[place] > 0 {
         let wanted = &row[place..];
         let choice = Choice::along(method, &old[place..], wanted, &numbers[place..]);
-        choice.step.append(wanted, out)?;
-        place += choice.step.stop();
+        choice.shape.append(wanted, out)?;
+        place += choice.shape.stop();
     }
     Ok(())
 }

@@ -4,12 +4,12 @@ ghost use Rattle.std.specs.Prelude.{◌≡◌};
 ghost use Rattle.pcl_env.specs.Settings.{Settings, defaults, kept, restored, font_in_use};
 ghost use Rattle.pcl_env.specs.Usable.{IsUsable};
 
+mod apply;
 mod fonts;
 mod lines;
 mod margins;
 mod moves;
 mod page;
-mod perform;
 mod raster;
 
 use crate::stack::{Position, Stack};

@@ -439,7 +439,7 @@ fn assert_cases(rt: &impl Abort, cases: &[Case]) {
                 sign: *sign,
                 parts: *parts,
             };
-            last = env.perform(*operation, value, false, Dpi::Dpi300);
+            last = env.apply(*operation, value, false, Dpi::Dpi300);
         }
         assert_eq!(rt; last, *answer, "{steps:?}");
         assert_eq!(rt; env.x(), *x, "{steps:?}");
@@ -453,7 +453,7 @@ fn say(env: &mut Env, operation: Operation, whole: u32) -> Result<Effect, Unsupp
         sign: Absent,
         parts: whole.saturating_mul(10_000),
     };
-    env.perform(operation, value, false, Dpi::Dpi300)
+    env.apply(operation, value, false, Dpi::Dpi300)
 }
 
 // The greatest number that each command takes, and the next one.
@@ -481,15 +481,9 @@ fn greatest_numbers(rt: HostRuntime) {
         sign: Absent,
         parts: 6_000_000,
     };
-    assert_eq!(rt;
-        env.perform(RasterResolution, fine, false, Dpi::Dpi600),
-        STAY
-    );
+    assert_eq!(rt; env.apply(RasterResolution, fine, false, Dpi::Dpi600), STAY);
     assert_eq!(rt; env.resolution(), 600);
-    assert_eq!(rt;
-        env.perform(TopMargin, Value::ZERO, true, Dpi::Dpi300),
-        STAY
-    );
+    assert_eq!(rt; env.apply(TopMargin, Value::ZERO, true, Dpi::Dpi300), STAY);
     assert_eq!(rt; env.y(), 4500);
 }
 

@@ -14,7 +14,7 @@ use Rattle.pcl_base.specs.Refusal.{refusal}
 use Rattle.pcl_base.specs.Value.{zero_value}
 use Rattle.pcl_escape.specs.declared.command.Command.{Command}
 use Rattle.pcl_escape.specs.declared.step.Prefix.{Prefix}
-use Rattle.pcl_escape.specs.declared.step.Step.{Step}
+use Rattle.pcl_escape.specs.declared.step.Progress.{Progress}
 use Rattle.std.specs.List.{prefix_len}
 use Rattle.pcl_escape.specs.Letter.{is_silent, is_control, is_text, is_two_character, is_parameterized, is_ungrouped, is_group, goes_on, is_letter, prefix_name, parameter_name}
 use Rattle.pcl_escape.specs.Field.{Spelled, field_at, field_value}
@@ -133,11 +133,11 @@ said_of None = None
 said_of (Some command) = Some (view command)
 
 -- what a step of the code read
-abbrev pub step_view : Step → Reads
+abbrev pub step_view : Progress → Reads
 step_view step = record { said = said_of step.command; rest = step.rest.now; inside = step.inside }
 
 -- what a function returned is what a step reads
-abbrev pub Gives : Result Step Refusal → Result Reads Refusal → Type 0
+abbrev pub Gives : Result Progress Refusal → Result Reads Refusal → Type 0
 Gives (Ok step) reads = reads ≡ Ok (step_view step)
 Gives (Err refusal) reads = reads ≡ Err refusal
 

@@ -31,7 +31,7 @@ pub struct Prefix {
 
 /// What one step read.
 #[derive(Clone, Copy)]
-pub struct Step<'a> {
+pub struct Progress<'a> {
     /// The command, if the step gave one.
     pub command: Option<Command<'a>>,
     /// The bytes behind it.
@@ -46,7 +46,7 @@ pub fn read_step<'a>(
     inside: Option<Prefix>,
     at: usize,
     bytes: &'a [u8],
-) -> Result<Step<'a>, Refusal>
+) -> Result<Progress<'a>, Refusal>
     requires { at + length bytes.now ≤ 18446744073709551615 }
     ensures { Gives result (step_at inside at bytes.now) }
 {
@@ -58,7 +58,7 @@ pub fn read_step<'a>(
 
 /// Reads what stands at the front of the bytes, outside sequences.
 #[tactic(auto, unfolding(crate::specs::Scan::start_at))]
-fn read_start<'a>(at: usize, bytes: &'a [u8]) -> Result<Step<'a>, Refusal>
+fn read_start<'a>(at: usize, bytes: &'a [u8]) -> Result<Progress<'a>, Refusal>
     requires { at + length bytes.now ≤ 18446744073709551615 }
     ensures { Gives result (start_at at bytes.now) }
 {
@@ -76,7 +76,7 @@ fn read_start<'a>(at: usize, bytes: &'a [u8]) -> Result<Step<'a>, Refusal>
 /// Reads the sequence whose ESC stands before the bytes, up to its first parameter. `at` is the place of
 /// ESC.
 #[tactic(auto, unfolding(crate::specs::Scan::sequence_at))]
-fn read_sequence<'a>(at: usize, bytes: &'a [u8]) -> Result<Step<'a>, Refusal>
+fn read_sequence<'a>(at: usize, bytes: &'a [u8]) -> Result<Progress<'a>, Refusal>
     requires { at + 1 + length bytes.now ≤ 18446744073709551615 }
     ensures { Gives result (sequence_at at bytes.now) }
 {
@@ -92,7 +92,7 @@ fn read_sequence<'a>(at: usize, bytes: &'a [u8]) -> Result<Step<'a>, Refusal>
 
 /// Reads the group character of a sequence, if it has one, and its first parameter.
 #[tactic(auto, unfolding(crate::specs::Scan::prefix_at))]
-fn read_prefix<'a>(at: usize, parameterized: u8, bytes: &'a [u8]) -> Result<Step<'a>, Refusal>
+fn read_prefix<'a>(at: usize, parameterized: u8, bytes: &'a [u8]) -> Result<Progress<'a>, Refusal>
     requires { at + 2 + length bytes.now ≤ 18446744073709551615 }
     ensures { Gives result (prefix_at at parameterized bytes.now) }
 {
@@ -114,7 +114,11 @@ fn read_prefix<'a>(at: usize, parameterized: u8, bytes: &'a [u8]) -> Result<Step
 
 /// Reads the parameter of a sequence without a group character, and the lines behind a universal exit.
 #[tactic(auto, unfolding(crate::specs::Scan::ungrouped_at))]
-fn read_ungrouped<'a>(at: usize, parameterized: u8, bytes: &'a [u8]) -> Result<Step<'a>, Refusal>
+fn read_ungrouped<'a>(
+    at: usize,
+    parameterized: u8,
+    bytes: &'a [u8],
+) -> Result<Progress<'a>, Refusal>
     requires { at + 2 + length bytes.now ≤ 18446744073709551615 }
     ensures { Gives result (ungrouped_at at parameterized bytes.now) }
 {
@@ -127,7 +131,7 @@ fn read_ungrouped<'a>(at: usize, parameterized: u8, bytes: &'a [u8]) -> Result<S
         Some(command) if is_exit(command.name, command.value) => {
             let place = at + 2 + (bytes.len() - step.rest.len());
             match skip_lines(place, step.rest) {
-                Ok(rest) => Ok(Step {
+                Ok(rest) => Ok(Progress {
                     command: step.command,
                     rest,
                     inside: None,
@@ -141,7 +145,7 @@ fn read_ungrouped<'a>(at: usize, parameterized: u8, bytes: &'a [u8]) -> Result<S
 
 /// A control code or a two-character sequence: a command whose name is one byte, without value or data.
 #[tactic(auto, unfolding(crate::specs::Scan::named_at))]
-fn read_named<'a>(at: usize, code: u8, rest: &'a [u8]) -> Result<Step<'a>, Refusal>
+fn read_named<'a>(at: usize, code: u8, rest: &'a [u8]) -> Result<Progress<'a>, Refusal>
     ensures { Gives result (named_at at code rest.now) }
 {
     let name = Name::One(code);
@@ -154,7 +158,7 @@ fn read_named<'a>(at: usize, code: u8, rest: &'a [u8]) -> Result<Step<'a>, Refus
         value: Value::ZERO,
         bytes: &[],
     };
-    Ok(Step {
+    Ok(Progress {
         command: Some(command),
         rest,
         inside: None,
@@ -163,7 +167,7 @@ fn read_named<'a>(at: usize, code: u8, rest: &'a [u8]) -> Result<Step<'a>, Refus
 
 /// Reads the run of text at the front of the bytes, as long as it goes.
 #[tactic(auto, unfolding(crate::specs::Scan::text_at))]
-fn read_text<'a>(at: usize, bytes: &'a [u8]) -> Result<Step<'a>, Refusal>
+fn read_text<'a>(at: usize, bytes: &'a [u8]) -> Result<Progress<'a>, Refusal>
     ensures { Gives result (text_at at bytes.now) }
 {
     if Operation::with_name(Name::TEXT).is_none() {
@@ -176,7 +180,7 @@ fn read_text<'a>(at: usize, bytes: &'a [u8]) -> Result<Step<'a>, Refusal>
         value: Value::ZERO,
         bytes: text,
     };
-    Ok(Step {
+    Ok(Progress {
         command: Some(command),
         rest,
         inside: None,
@@ -200,7 +204,7 @@ fn text_len(bytes: &[u8]) -> usize
 // Inlined, so that a step of each command isn't passed on through memory.
 #[inline(always)]
 #[tactic(auto, unfolding(crate::specs::Scan::parameter_at, crate::specs::Checks::parameter_checks))]
-fn read_parameter<'a>(prefix: Prefix, at: usize, bytes: &'a [u8]) -> Result<Step<'a>, Refusal>
+fn read_parameter<'a>(prefix: Prefix, at: usize, bytes: &'a [u8]) -> Result<Progress<'a>, Refusal>
     ensures { Gives result (parameter_at prefix at bytes.now) }
 {
     let (field, rest) = read_field(bytes);
@@ -225,7 +229,7 @@ fn read_parameter<'a>(prefix: Prefix, at: usize, bytes: &'a [u8]) -> Result<Step
         value,
         bytes,
     };
-    Ok(Step {
+    Ok(Progress {
         command: Some(command),
         rest,
         inside: goes_on(letter).then_some(prefix),
@@ -253,10 +257,10 @@ fn data_len(name: Name, letter: u8, value: Value, left: usize) -> Result<usize, 
 }
 
 /// A step that gives no command.
-fn silent(rest: &[u8]) -> Step<'_>
+fn silent(rest: &[u8]) -> Progress<'_>
     ensures { step_view result ≡ record { said = None; rest = rest.now; inside = None } }
 {
-    Step {
+    Progress {
         command: None,
         rest,
         inside: None,
@@ -264,7 +268,7 @@ fn silent(rest: &[u8]) -> Step<'_>
 }
 
 /// The fault of a step.
-fn refused<'a>(kind: Kind, at: usize, name: Name) -> Result<Step<'a>, Refusal>
+fn refused<'a>(kind: Kind, at: usize, name: Name) -> Result<Progress<'a>, Refusal>
     ensures { result ≡ Err (refusal kind at name) }
 {
     Err(Refusal::new(kind, at, name))

@@ -30,7 +30,7 @@ pub fn run<S: PageSink>(
 {
     let mut performer = Performer::new(alloc, dpi)?;
     for command in commands {
-        performer.perform(command, dpi, sink)?;
+        performer.perform_command(command, dpi, sink)?;
     }
     performer.finish(end, sink)
 }

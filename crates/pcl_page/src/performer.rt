@@ -70,7 +70,7 @@ impl Performer {
     }
 
     /// Performs a command, and hands over the page that it ejects.
-    pub fn perform<S: PageSink>(
+    pub fn perform_command<S: PageSink>(
         &mut self,
         command: &Command<'_>,
         dpi: Dpi,
@@ -152,7 +152,7 @@ impl Performer {
         let copies = self.environment.copies();
         let Ok(effect) = self
             .environment
-            .perform(operation, value, self.is_marked, dpi)
+            .apply(operation, value, self.is_marked, dpi)
         else {
             return Err(CallFault::Refused(Kind::UnsupportedValue));
         };

@@ -6,8 +6,8 @@ use Rattle.std.proofs.lemmas.List.{take_at, drop_at, take_all, drop_all, take-ap
 use Rattle.pcl_base.specs.declared.method.Method.{Method}
 use Rattle.pcl_base.specs.declared.method.Method.TheVariants.{Plain, Runs, Packed, Delta}
 use Rattle.pcl_rows.specs.Heads.{Head, Itself, Count, Literal, Skipped, Repeat, Near, Far, method_of, IsInRange, head_bytes, new_count, copies_of, offset_of}
-use Rattle.pcl_rows.specs.Elements.{Element, IsHead, IsElement, AreElements, spelling, given_by}
-use Rattle.pcl_rows.specs.Rows.{base, after_element, IsReading, treated, RowFrom, Decodes}
+use Rattle.pcl_rows.specs.Elements.{Element, IsHead, IsElement, AreElements, element_bytes, given_by}
+use Rattle.pcl_rows.specs.Rows.{base, after_element, IsCutIntoElements, treated, RowFrom, Decodes}
 use Rattle.pcl_rows.specs.Decoding.{Front, repeated, literal, further, front_of, treated_by, decoded}
 use Rattle.pcl_rows.proofs.Readings.{after_none, drop-nil}
 use Rattle.pcl_rows.proofs.Spellings.{spelling_has_byte}
@@ -262,7 +262,7 @@ treated_step n method byte rest old front e =
     ap (λ (f : Front). take f.offset old ++ (f.given ++ treated_by n method f.rest (drop (f.offset + length f.given) old))) e
 
 treated_cut : (n : ℕ) (method : Method) (cut : Element) (shown missing old : List ℕ) → IsElement method cut
-    → shown ++ missing ≡ spelling cut → 0 < length missing → length shown ≤ n
+    → shown ++ missing ≡ element_bytes cut → 0 < length missing → length shown ≤ n
     → treated_by n method shown old ≡ after_element cut.head (drop (length (head_bytes cut.head)) shown) (λ more. more) old
 treated_cut n method cut [] missing old is e some fits =
     treated_none n method old
@@ -291,25 +291,25 @@ treated_first (suc n) method byte rest old front e some =
     less)
 
 -- behind an element are fewer bytes
-behind_shorter : (e : Element) (more bytes : List ℕ) (method : Method) → IsElement method e → bytes ≡ spelling e ++ more
+behind_shorter : (e : Element) (more bytes : List ℕ) (method : Method) → IsElement method e → bytes ≡ element_bytes e ++ more
     → length more < length bytes
 behind_shorter e more bytes method is joined =
-    omega (arith, ap length joined, length-append (spelling e) more, spelling_has_byte method e is)
+    omega (arith, ap length joined, length-append (element_bytes e) more, spelling_has_byte method e is)
 
 treated_is : (whole : List Element) (n : ℕ) (method : Method) (bytes : List ℕ) (cut : Element) (shown old : List ℕ)
-    → IsReading method bytes whole cut shown → length bytes ≤ n
+    → IsCutIntoElements method bytes whole cut shown → length bytes ≤ n
     → treated_by n method bytes old ≡ treated whole cut shown old
 treated_is [] n method bytes cut shown old r fits =
     ap (λ (bs : List ℕ). treated_by n method bs old) r.joined
     ∙ treated_cut n method cut shown r.lacking.0 old r.element r.lacking.1 r.lacking.2 (omega (arith, ap length r.joined))
 treated_is (e ∷ es) n method bytes cut shown old r fits =
-    let more = flat_map spelling es ++ shown in
+    let more = flat_map element_bytes es ++ shown in
     let is = r.elements.0 in
     let front : Front = record { offset = offset_of e.head; given = given_by e.head e.bytes; rest = more } in
     let w = whole_front e.head e.bytes more is.head_is.in_range is.complete in
-    let joined : bytes ≡ spelling e ++ more = r.joined ∙ append_assoc (spelling e) (flat_map spelling es) shown in
+    let joined : bytes ≡ element_bytes e ++ more = r.joined ∙ append_assoc (element_bytes e) (flat_map element_bytes es) shown in
     let split : bytes ≡ w.byte ∷ w.rest = joined ∙ w.split in
-    let rest : IsReading method more es cut shown =
+    let rest : IsCutIntoElements method more es cut shown =
     record { elements = r.elements.1; joined = refl; element = r.element; lacking = r.lacking } in
     let shorter = behind_shorter e more bytes method is joined in
     ap (λ (bs : List ℕ). treated_by n method bs old) split

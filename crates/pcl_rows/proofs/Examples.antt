@@ -2,7 +2,7 @@
 use Rattle.std.proofs.Common.{◌≡◌, ℕ, List, [], ◌∷◌, ◌+◌, take, refl}
 use Rattle.pcl_base.specs.declared.method.Method.TheVariants.{Packed, Delta}
 use Rattle.pcl_rows.specs.Heads.{Head, Itself, Count, Literal, Skipped, Repeat, Near, Far, offset_of}
-use Rattle.pcl_rows.specs.Elements.{Element, spelling, stop}
+use Rattle.pcl_rows.specs.Elements.{Element, element_bytes, stop}
 use Rattle.pcl_rows.specs.Rows.{base, after_elements, treated}
 
 abbrev element : Head → List ℕ → Element
@@ -25,18 +25,18 @@ packed_row : made_by (element (Literal 1) (7 ∷ 8 ∷ []) ∷ element Skipped [
     (0 ∷ 0 ∷ 0 ∷ 0 ∷ 0 ∷ 0 ∷ []) ≡ 7 ∷ 8 ∷ 6 ∷ 6 ∷ 6 ∷ 0 ∷ []
 packed_row = refl
 
-packed_spelling : spelling (element (Literal 1) (7 ∷ 8 ∷ [])) ≡ 1 ∷ 7 ∷ 8 ∷ []
+packed_spelling : element_bytes (element (Literal 1) (7 ∷ 8 ∷ [])) ≡ 1 ∷ 7 ∷ 8 ∷ []
 packed_spelling = refl
 
 -- 21 07 08 00 09: two bytes behind an offset of 1, and one right behind them
 delta_row : made_by (element (Near 1 1) (7 ∷ 8 ∷ []) ∷ element (Near 0 0) (9 ∷ []) ∷ []) (1 ∷ 2 ∷ 3 ∷ 4 ∷ 5 ∷ []) ≡ 1 ∷ 7 ∷ 8 ∷ 9 ∷ 5 ∷ []
 delta_row = refl
 
-delta_spelling : spelling (element (Near 1 1) (7 ∷ 8 ∷ [])) ≡ 33 ∷ 7 ∷ 8 ∷ []
+delta_spelling : element_bytes (element (Near 1 1) (7 ∷ 8 ∷ [])) ≡ 33 ∷ 7 ∷ 8 ∷ []
 delta_spelling = refl
 
 -- offsets of 31, of 30 and 255 more, of 286, and of 31 and twice 255 more
-offset_31 : spelling (element (Far 0 0 0) (255 ∷ [])) ≡ 31 ∷ 0 ∷ 255 ∷ []
+offset_31 : element_bytes (element (Far 0 0 0) (255 ∷ [])) ≡ 31 ∷ 0 ∷ 255 ∷ []
 offset_31 = refl
 
 offset_285 : offset_of (Far 0 0 254) ≡ 30 + 255
@@ -45,7 +45,7 @@ offset_285 = refl
 offset_286 : stop (element (Far 0 1 0) (255 ∷ [])) ≡ 287
 offset_286 = refl
 
-offset_541 : spelling (element (Far 7 2 0) (1 ∷ 2 ∷ 3 ∷ 4 ∷ 5 ∷ 6 ∷ 7 ∷ 8 ∷ [])) ≡ 255 ∷ 255 ∷ 255 ∷ 0 ∷ 1 ∷ 2 ∷ 3 ∷ 4 ∷ 5 ∷ 6 ∷ 7 ∷ 8 ∷ []
+offset_541 : element_bytes (element (Far 7 2 0) (1 ∷ 2 ∷ 3 ∷ 4 ∷ 5 ∷ 6 ∷ 7 ∷ 8 ∷ [])) ≡ 255 ∷ 255 ∷ 255 ∷ 0 ∷ 1 ∷ 2 ∷ 3 ∷ 4 ∷ 5 ∷ 6 ∷ 7 ∷ 8 ∷ []
 offset_541 = refl
 
 -- 05 41: a literal of six bytes of which one stands there

@@ -5,13 +5,13 @@ use Rattle.std.proofs.lemmas.Bool.{cases_lt}
 use Rattle.std.proofs.lemmas.List.{take-append-drop, take-append-le, take_at, drop_all}
 use Rattle.pcl_base.specs.declared.method.Method.{Method}
 use Rattle.pcl_rows.specs.Heads.{Head, head_bytes, offset_of}
-use Rattle.pcl_rows.specs.Elements.{Element, IsElement, spelling, given_by, stop}
-use Rattle.pcl_rows.specs.Rows.{after_element, IsReading, treated, RowFrom}
+use Rattle.pcl_rows.specs.Elements.{Element, IsElement, element_bytes, given_by, stop}
+use Rattle.pcl_rows.specs.Rows.{after_element, IsCutIntoElements, treated, RowFrom}
 use Rattle.pcl_rows.proofs.Spellings.{same_elements, cut_is_not_whole, same_heads}
 use Rattle.pcl_rows.proofs.Readings.{after_none}
 
 -- bytes that hold the whole head of a cut element
-with_head : (d : Element) (shown missing : List ℕ) → shown ++ missing ≡ spelling d → length (head_bytes d.head) ≤ length shown
+with_head : (d : Element) (shown missing : List ℕ) → shown ++ missing ≡ element_bytes d → length (head_bytes d.head) ≤ length shown
     → (tail : List ℕ) × (shown ≡ head_bytes d.head ++ tail)
 with_head d shown missing lacking long =
     let n : ℕ = length (head_bytes d.head) in
@@ -25,7 +25,7 @@ cut_gives d shown old = after_element d.head (drop (length (head_bytes d.head)) 
 
 -- where the bytes hold the whole head of one of two
 one_head : (method : Method) (d e : Element) (shown missing missing' old : List ℕ) → IsElement method d → IsElement method e
-    → shown ++ missing ≡ spelling d → shown ++ missing' ≡ spelling e → length (head_bytes d.head) ≤ length shown
+    → shown ++ missing ≡ element_bytes d → shown ++ missing' ≡ element_bytes e → length (head_bytes d.head) ≤ length shown
     → cut_gives d shown old ≡ cut_gives e shown old
 one_head method d e shown missing missing' old p q m m' long =
     let t = with_head d shown missing m long in
@@ -36,7 +36,7 @@ one_head method d e shown missing missing' old p q m m' long =
 
 -- what a cut element gives doesn't depend on the bytes that it lacks
 cuts_agree : (method : Method) (d e : Element) (shown missing missing' old : List ℕ) → IsElement method d → IsElement method e
-    → shown ++ missing ≡ spelling d → shown ++ missing' ≡ spelling e → cut_gives d shown old ≡ cut_gives e shown old
+    → shown ++ missing ≡ element_bytes d → shown ++ missing' ≡ element_bytes e → cut_gives d shown old ≡ cut_gives e shown old
 cuts_agree method d e shown missing missing' old p q m m' =
     elim (cases_lt (length shown) (length (head_bytes d.head))) [
       | inr long ↦ one_head method d e shown missing missing' old p q m m' long
@@ -52,14 +52,14 @@ cuts_agree method d e shown missing missing' old p q m m' =
 
 -- bytes of one element at least, and bytes of a cut one alone
 one_is_longer : (method : Method) (e cut : Element) (es : List Element) (shown missing rest : List ℕ) → IsElement method e
-    → IsElement method cut → shown ++ missing ≡ spelling cut → 0 < length missing → shown ≡ flat_map spelling (e ∷ es) ++ rest → ⊥
+    → IsElement method cut → shown ++ missing ≡ element_bytes cut → 0 < length missing → shown ≡ flat_map element_bytes (e ∷ es) ++ rest → ⊥
 one_is_longer method e cut es shown missing rest p q m some same =
-    cut_is_not_whole method cut e shown missing (flat_map spelling es ++ rest) q p m some
-    (same ∙ append_assoc (spelling e) (flat_map spelling es) rest)
+    cut_is_not_whole method cut e shown missing (flat_map element_bytes es ++ rest) q p m some
+    (same ∙ append_assoc (element_bytes e) (flat_map element_bytes es) rest)
 
 -- two readings treat a row alike
 readings_agree : (method : Method) (bytes : List ℕ) (whole whole' : List Element) (cut cut' : Element) (shown shown' old : List ℕ)
-    → IsReading method bytes whole cut shown → IsReading method bytes whole' cut' shown'
+    → IsCutIntoElements method bytes whole cut shown → IsCutIntoElements method bytes whole' cut' shown'
     → treated whole cut shown old ≡ treated whole' cut' shown' old
 readings_agree method bytes [] [] cut cut' shown shown' old r r' =
     let same : shown ≡ shown' = sym r.joined ∙ r'.joined in
@@ -73,10 +73,10 @@ readings_agree method bytes (d ∷ ds) [] cut cut' shown shown' old r r' =
     absurd (one_is_longer method d cut' ds shown' r'.lacking.0 shown r.elements.0 r'.element r'.lacking.1 r'.lacking.2
     (sym r'.joined ∙ r.joined))
 readings_agree method bytes (d ∷ ds) (e ∷ es) cut cut' shown shown' old r r' =
-    let same = same_elements method d e (flat_map spelling ds ++ shown) (flat_map spelling es ++ shown') r.elements.0 r'.elements.0
-    (sym (append_assoc (spelling d) (flat_map spelling ds) shown) ∙ sym r.joined ∙ r'.joined
-    ∙ append_assoc (spelling e) (flat_map spelling es) shown') in
-    let rest : List ℕ = flat_map spelling ds ++ shown in
+    let same = same_elements method d e (flat_map element_bytes ds ++ shown) (flat_map element_bytes es ++ shown') r.elements.0 r'.elements.0
+    (sym (append_assoc (element_bytes d) (flat_map element_bytes ds) shown) ∙ sym r.joined ∙ r'.joined
+    ∙ append_assoc (element_bytes e) (flat_map element_bytes es) shown') in
+    let rest : List ℕ = flat_map element_bytes ds ++ shown in
     let behind : List ℕ = drop (stop d) old in
     readings_step d e (treated ds cut shown) (treated es cut' shown') old same.0
     (readings_agree method rest ds es cut cut' shown shown' behind

@@ -8,8 +8,8 @@ use Rattle.std.proofs.lemmas.List.{take_min, take-append-drop, length-append, le
 use Rattle.pcl_base.specs.declared.method.Method.{Method}
 use Rattle.pcl_base.specs.declared.method.Method.TheVariants.{Plain, Runs, Packed, Delta}
 use Rattle.pcl_rows.specs.Heads.{Head, Itself, Count, Skipped, Near, head_bytes, copies_of, offset_of}
-use Rattle.pcl_rows.specs.Elements.{Element, IsHead, IsElement, AreElements, spelling, given_by, stop, reach}
-use Rattle.pcl_rows.specs.Rows.{after_element, IsReading, treated, RowFrom, IsWhole}
+use Rattle.pcl_rows.specs.Elements.{Element, IsHead, IsElement, AreElements, element_bytes, given_by, stop, reach}
+use Rattle.pcl_rows.specs.Rows.{after_element, IsCutIntoElements, treated, RowFrom, IsWhole}
 use Rattle.pcl_rows.specs.Fronts.{IsWholeFront, IsCutFront, IsFront, overlaid}
 use Rattle.pcl_rows.proofs.Overlays.{drop-overlaid, take-overlaid}
 use Rattle.pcl_rows.proofs.Spellings.{same_elements, spelling_has_byte, cut_is_not_whole}
@@ -17,7 +17,7 @@ use Rattle.pcl_rows.proofs.Spellings.{same_elements, spelling_has_byte, cut_is_n
 -- what data makes of untreated bytes, before what lies past the row is dropped
 abbrev pub Fills : Method → List ℕ → List ℕ → List ℕ → Type 0
 Fills method bytes old row =
-    (whole : List Element) × (cut : Element) × (shown : List ℕ) × IsReading method bytes whole cut shown
+    (whole : List Element) × (cut : Element) × (shown : List ℕ) × IsCutIntoElements method bytes whole cut shown
     × (row ≡ treated whole cut shown old)
 
 pub drop-nil : (n : ℕ) → drop {A = ℕ} n [] ≡ []
@@ -54,11 +54,11 @@ Fills-none method old =
       [],
       e.0,
       [],
-      record { elements = tt; joined = refl; element = e.1; lacking = (spelling e.0, refl, spelling_has_byte method e.0 e.1) },
+      record { elements = tt; joined = refl; element = e.1; lacking = (element_bytes e.0, refl, spelling_has_byte method e.0 e.1) },
       sym (after_none e.0.head (drop (length (head_bytes e.0.head)) []) old (drop-nil (length (head_bytes e.0.head)))),
     )
 
-none_is_nothing : (method : Method) (whole : List Element) (cut : Element) (shown old : List ℕ) → IsReading method [] whole cut shown
+none_is_nothing : (method : Method) (whole : List Element) (cut : Element) (shown old : List ℕ) → IsCutIntoElements method [] whole cut shown
     → treated whole cut shown old ≡ old
 none_is_nothing method [] cut shown old r =
     let none : shown ≡ [] = sym r.joined in
@@ -68,8 +68,8 @@ none_is_nothing method (e ∷ es) cut shown old r =
     absurd (omega (
       arith,
       ap length r.joined,
-      length-append (flat_map spelling (e ∷ es)) shown,
-      length-append (spelling e) (flat_map spelling es),
+      length-append (flat_map element_bytes (e ∷ es)) shown,
+      length-append (element_bytes e) (flat_map element_bytes es),
       spelling_has_byte method e r.elements.0,
     ))
 
@@ -105,8 +105,8 @@ Fills-cons method bytes h new rest old row is front (whole, cut, shown, r, e) =
       shown,
       record {
         elements = (record { head_is = is; complete = front.complete }, r.elements);
-        joined = front.joined ∙ ap (λ (bs : List ℕ). spelling first ++ bs) r.joined
-            ∙ sym (append_assoc (spelling first) (flat_map spelling whole) shown);
+        joined = front.joined ∙ ap (λ (bs : List ℕ). element_bytes first ++ bs) r.joined
+            ∙ sym (append_assoc (element_bytes first) (flat_map element_bytes whole) shown);
         element = r.element;
         lacking = r.lacking;
       },
@@ -208,12 +208,12 @@ whole_cons method bytes h new rest room is front fits (es, are, joined, within) 
     let first : Element = record { head = h; bytes = new } in (
       first ∷ es,
       (record { head_is = is; complete = front.complete }, are),
-      front.joined ∙ ap (λ (bs : List ℕ). spelling first ++ bs) joined,
+      front.joined ∙ ap (λ (bs : List ℕ). element_bytes first ++ bs) joined,
       omega arith,
     )
 
 whole_uncons_at : (method : Method) (bytes : List ℕ) (h : Head) (new rest : List ℕ) (room : ℕ) (es : List Element) → IsHead method h
-    → IsWholeFront bytes h new rest → AreElements method es → bytes ≡ flat_map spelling es → reach es ≤ room
+    → IsWholeFront bytes h new rest → AreElements method es → bytes ≡ flat_map element_bytes es → reach es ≤ room
     → (offset_of h + length (given_by h new) ≤ room) × IsWhole method rest (room - (offset_of h + length (given_by h new)))
 whole_uncons_at method bytes h new rest room [] is front are joined within =
     let first : Element = record { head = h; bytes = new } in
@@ -225,7 +225,7 @@ whole_uncons_at method bytes h new rest room [] is front are joined within =
     ))
 whole_uncons_at method bytes h new rest room (e ∷ es) is front are joined within =
     let first : Element = record { head = h; bytes = new } in
-    let same = same_elements method first e rest (flat_map spelling es) (record { head_is = is; complete = front.complete }) are.0
+    let same = same_elements method first e rest (flat_map element_bytes es) (record { head_is = is; complete = front.complete }) are.0
     (sym front.joined ∙ joined) in
     let size : stop first ≡ stop e = ap stop same.0 in
     (omega arith, (es, are.1, same.1, omega arith))
@@ -236,10 +236,10 @@ pub whole_uncons : (method : Method) (bytes : List ℕ) (h : Head) (new rest : L
 whole_uncons method bytes h new rest room is front w = whole_uncons_at method bytes h new rest room w.0 is front w.1 w.2 w.3
 
 cut_not_whole_at : (method : Method) (bytes : List ℕ) (h : Head) (new rest : List ℕ) (es : List Element) → 0 < length bytes
-    → IsHead method h → IsCutFront bytes h new rest → AreElements method es → bytes ≡ flat_map spelling es → ⊥
+    → IsHead method h → IsCutFront bytes h new rest → AreElements method es → bytes ≡ flat_map element_bytes es → ⊥
 cut_not_whole_at method bytes h new rest [] some is cut are joined = omega (arith, ap length joined)
 cut_not_whole_at method bytes h new rest (e ∷ es) some is cut are joined =
-    cut_is_not_whole method (record { head = h; bytes = cut.padding }) e bytes cut.missing (flat_map spelling es)
+    cut_is_not_whole method (record { head = h; bytes = cut.padding }) e bytes cut.missing (flat_map element_bytes es)
     (record { head_is = is; complete = cut.complete }) are.0 cut.lacking cut.lacks joined
 
 pub cut_not_whole : (method : Method) (bytes : List ℕ) (h : Head) (new rest : List ℕ) (room : ℕ) → 0 < length bytes → IsHead method h

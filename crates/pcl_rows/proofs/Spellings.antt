@@ -3,7 +3,7 @@ use Rattle.std.proofs.Common.{◌≡◌, ℕ, zero, suc, ◌+◌, ◌*◌, ◌<�
 use Rattle.std.proofs.lemmas.List.{append-nil, length-append}
 use Rattle.pcl_base.specs.declared.method.Method.{Method}
 use Rattle.pcl_rows.specs.Heads.{Head, Itself, Count, Literal, Skipped, Repeat, Near, Far, method_of, IsInRange, head_bytes, new_count}
-use Rattle.pcl_rows.specs.Elements.{Element, IsHead, IsElement, spelling}
+use Rattle.pcl_rows.specs.Elements.{Element, IsHead, IsElement, element_bytes}
 
 -- the bytes that lengthen an offset end in one way
 further_agree : (full full' last last' : ℕ) (x y : List ℕ) → last < 255 → last' < 255
@@ -64,7 +64,7 @@ same_parts d e p q =
 
 -- elements of one method that begin the same bytes are the same
 pub same_elements : (method : Method) (d e : Element) (x y : List ℕ) → IsElement method d → IsElement method e
-    → spelling d ++ x ≡ spelling e ++ y → (d ≡ e) × (x ≡ y)
+    → element_bytes d ++ x ≡ element_bytes e ++ y → (d ≡ e) × (x ≡ y)
 same_elements method d e x y p q same =
     let r = same_heads method d.head e.head (d.bytes ++ x) (e.bytes ++ y) p.head_is q.head_is
     (sym (append_assoc (head_bytes d.head) d.bytes x) ∙ same ∙ append_assoc (head_bytes e.head) e.bytes y) in
@@ -84,15 +84,15 @@ head_needs_byte (Near a o) = omega arith
 head_needs_byte (Far a f l) = omega arith
 
 -- an element has a byte
-pub spelling_has_byte : (method : Method) (e : Element) → IsElement method e → 0 < length (spelling e)
+pub spelling_has_byte : (method : Method) (e : Element) → IsElement method e → 0 < length (element_bytes e)
 spelling_has_byte method e p = omega (arith, length-append (head_bytes e.head) e.bytes, p.complete, head_needs_byte e.head)
 
 -- bytes that an element lacks are no whole element
 pub cut_is_not_whole : (method : Method) (d e : Element) (bytes missing rest : List ℕ) → IsElement method d → IsElement method e
-    → bytes ++ missing ≡ spelling d → 0 < length missing → bytes ≡ spelling e ++ rest → ⊥
+    → bytes ++ missing ≡ element_bytes d → 0 < length missing → bytes ≡ element_bytes e ++ rest → ⊥
 cut_is_not_whole method d e bytes missing rest p q lacking lacks whole =
-    let same : spelling e ++ (rest ++ missing) ≡ spelling d ++ [] =
-    sym (append_assoc (spelling e) rest missing) ∙ ap (λ (b : List ℕ). b ++ missing) (sym whole) ∙ lacking
-    ∙ sym (append-nil (spelling d)) in
+    let same : element_bytes e ++ (rest ++ missing) ≡ element_bytes d ++ [] =
+    sym (append_assoc (element_bytes e) rest missing) ∙ ap (λ (b : List ℕ). b ++ missing) (sym whole) ∙ lacking
+    ∙ sym (append-nil (element_bytes d)) in
     let r = same_elements method e d (rest ++ missing) [] q p same in
     omega (arith, ap length r.1, length-append rest missing)

@@ -20,8 +20,8 @@ pub record IsElement (method : Method) (e : Element) : Type 0 where
   pub complete : length e.bytes ≡ new_count e.head
 
 -- its bytes
-abbrev pub spelling : Element → List ℕ
-spelling e = head_bytes e.head ++ e.bytes
+abbrev pub element_bytes : Element → List ℕ
+element_bytes e = head_bytes e.head ++ e.bytes
 
 -- what new bytes behind a head give: each of them as often as the head says
 abbrev pub given_by : Head → List ℕ → List ℕ

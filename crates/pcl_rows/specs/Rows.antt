@@ -3,7 +3,7 @@ use Rattle.std.specs.Prelude.{◌≡◌, ℕ, ◌+◌, ◌<◌, ◌≤◌, List,
 use Rattle.pcl_base.specs.declared.method.Method.{Method}
 use Rattle.pcl_base.specs.declared.method.Method.TheVariants.{Plain, Runs, Packed, Delta}
 use Rattle.pcl_rows.specs.Heads.{Head, head_bytes, offset_of}
-use Rattle.pcl_rows.specs.Elements.{Element, IsElement, AreElements, spelling, given_by, reach}
+use Rattle.pcl_rows.specs.Elements.{Element, IsElement, AreElements, element_bytes, given_by, reach}
 
 -- the row before its data comes: zeros, and the seed row for the delta method
 abbrev pub base : Method → List ℕ → List ℕ
@@ -24,11 +24,11 @@ after_elements [] rest old = rest old
 after_elements (e ∷ es) rest old = after_element e.head e.bytes (after_elements es rest) old
 
 -- data is the bytes of whole elements, and then the first bytes of one more, which lacks its last byte at least
-pub record IsReading (method : Method) (bytes : List ℕ) (whole : List Element) (cut : Element) (shown : List ℕ) : Type 0 where
+pub record IsCutIntoElements (method : Method) (bytes : List ℕ) (whole : List Element) (cut : Element) (shown : List ℕ) : Type 0 where
   pub elements : AreElements method whole
-  pub joined : bytes ≡ flat_map spelling whole ++ shown
+  pub joined : bytes ≡ flat_map element_bytes whole ++ shown
   pub element : IsElement method cut
-  pub lacking : (missing : List ℕ) × (shown ++ missing ≡ spelling cut) × (0 < length missing)
+  pub lacking : (missing : List ℕ) × (shown ++ missing ≡ element_bytes cut) × (0 < length missing)
 
 -- what a reading makes of untreated bytes: the cut element gives the new bytes that stand in it
 abbrev pub treated : List Element → Element → List ℕ → List ℕ → List ℕ
@@ -38,7 +38,7 @@ treated whole cut shown old =
 -- the row that data makes of another row; what lies past its bytes is dropped
 abbrev pub RowFrom : Method → List ℕ → List ℕ → List ℕ → Type 0
 RowFrom method bytes old row =
-    (whole : List Element) × (cut : Element) × (shown : List ℕ) × IsReading method bytes whole cut shown
+    (whole : List Element) × (cut : Element) × (shown : List ℕ) × IsCutIntoElements method bytes whole cut shown
     × (row ≡ take (length old) (treated whole cut shown old))
 
 -- the row that data makes over a seed row
@@ -48,7 +48,7 @@ Decodes method seed bytes row = RowFrom method bytes (base method seed) row
 -- data is of whole elements that reach no place past the row
 abbrev pub IsWhole : Method → List ℕ → ℕ → Type 0
 IsWhole method bytes row_bytes =
-    (es : List Element) × AreElements method es × (bytes ≡ flat_map spelling es) × (reach es ≤ row_bytes)
+    (es : List Element) × AreElements method es × (bytes ≡ flat_map element_bytes es) × (reach es ≤ row_bytes)
 
 -- whole data for a row over a seed row
 pub record IsRowData (method : Method) (seed row bytes : List ℕ) : Type 0 where

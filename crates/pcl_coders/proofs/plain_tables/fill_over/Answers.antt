@@ -25,8 +25,8 @@ overflow_cast-out c =
     let place : ℕ = c.loop-place.place - 1 in
     let inside : place < length row = omega (arith, c.loop-place.auto.place) in
     let behind = c.loop-place.invariant.right (place + 1) (omega arith) (omega arith) in
-    let best = choice_to_ends c.args.method old row out place c.of.result.step c.of.result.sum c.of.ensures in
-    omega (arith, choice_small c.args.method old row out place c.of.result.step c.of.result.sum inside best behind.small, c.requires.small)
+    let best = choice_to_ends c.args.method old row out place c.of.result.shape c.of.result.sum c.of.ensures in
+    omega (arith, choice_small c.args.method old row out place c.of.result.shape c.of.result.sum inside best behind.small, c.requires.small)
 
 pub loop-place-preserved : goal.loop-place-preserved
 loop-place-preserved c =
@@ -60,12 +60,12 @@ loop-place-preserved c =
                 (right_more method old row out place 0 behind
                 (number_of_end method old row out place (omega (arith, size)) (at_end w.if-is_end-2.true)))
             | else-is_end-2 w ↦
-                let best = choice_to_ends method old row out place w.of.result.step w.of.result.sum w.of.ensures in
-                let small = choice_small method old row out place w.of.result.step w.of.result.sum inside best
+                let best = choice_to_ends method old row out place w.of.result.shape w.of.result.sum w.of.ensures in
+                let small = choice_small method old row out place w.of.result.shape w.of.result.sum inside best
                 (behind (place + 1) (omega arith) (omega arith)).small in
                 rw w.out-is
                 (right_more method old row out place w.of.result.sum behind
-                (number_of_choice method old row out place w.of.result.step w.of.result.sum inside size
+                (number_of_choice method old row out place w.of.result.shape w.of.result.sum inside size
                 (before_end w.if-is_end-2.false) best small))
           ];
       at_end = at_end;

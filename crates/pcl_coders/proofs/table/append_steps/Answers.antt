@@ -1,8 +1,8 @@
 use Rattle.std.proofs.Common.{◌≡◌, ◌+◌, ℕ, List, ◌++◌, ap, ◌∙◌, arith, rules}
 use Rattle.std.proofs.lemmas.List.{take_rest}
-use Rattle.pcl_coders.specs.Step.{element_of}
+use Rattle.pcl_coders.specs.Shape.{element_of}
 use Rattle.std.specs.Prelude.{slice_index}
-use Rattle.pcl_rows.specs.Elements.{spelling}
+use Rattle.pcl_rows.specs.Elements.{element_bytes}
 use Rattle.std.specs.List.{flat_map}
 use Rattle.pcl_coders.proofs.Along.{right_from_drop}
 use Rattle.pcl_coders.proofs.Filling.{appended_more, appended_all, choice_to_ends, front_stays}
@@ -11,7 +11,7 @@ use Rattle.pcl_coders.proofs.table.append_steps.Goals as goal
 pub returns-in_err-append-clause-err : goal.returns-in_err-append-clause-err
 returns-in_err-append-clause-err c =
     let a = c.loop-place.invariant in
-    let front = front_stays c.args.out.now.items c.loop-place.out.items c.append.new.out.items (flat_map spelling a.done) a.joined
+    let front = front_stays c.args.out.now.items c.loop-place.out.items c.append.new.out.items (flat_map element_bytes a.done) a.joined
     c.in_err-append.ensures.err in
     search (rules, front)
 
@@ -31,11 +31,11 @@ loop-place-preserved c =
     let numbers = c.args.numbers.now in
     let place = c.loop-place.place in
     let choice = c.along-choice.result in
-    let best = choice_to_ends c.args.method old row numbers place choice.step choice.sum c.along-choice.ensures in
-    appended_more c.args.method old row numbers c.args.out.now.items c.loop-place.out.items place choice.step choice.sum
+    let best = choice_to_ends c.args.method old row numbers place choice.shape choice.sum c.along-choice.ensures in
+    appended_more c.args.method old row numbers c.args.out.now.items c.loop-place.out.items place choice.shape choice.sum
     c.append.new.out.items (place + c.stop-place.result)
     c.requires.same c.requires.right c.loop-place-test.true c.loop-place.invariant best
-    (c.in_ok-append.ensures.ok ∙ ap (λ (bs : List ℕ). c.loop-place.out.items ++ spelling (element_of choice.step bs))
+    (c.in_ok-append.ensures.ok ∙ ap (λ (bs : List ℕ). c.loop-place.out.items ++ element_bytes (element_of choice.shape bs))
     (take_rest row place)) (omega (arith, c.stop-place.ensures))
 
 pub returns-clause-ok : goal.returns-clause-ok

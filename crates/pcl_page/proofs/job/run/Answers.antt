@@ -18,23 +18,23 @@ pub loop-command-preserved : goal.loop-command-preserved
 loop-command-preserved g c =
     let whole = performance c.args.dpi c.args.end [] (views c.args.commands.now) in
     let next = next_is c.args.commands.now c.loop-command.command-index _ c.loop-command-test.true in
-    next_reached g.S.PageSink.takes c.args.dpi c.args.end whole _ _ c.loop-command.performer c.perform.new.self c.args.sink.now
-    c.loop-command.sink c.perform.new.sink _
+    next_reached g.S.PageSink.takes c.args.dpi c.args.end whole _ _ c.loop-command.performer c.perform_command.new.self c.args.sink.now
+    c.loop-command.sink c.perform_command.new.sink _
     (subst (λ (rest : List Said). IsReached g.S.PageSink.takes c.args.dpi c.args.end whole rest c.loop-command.performer c.args.sink.now
     c.loop-command.sink) next c.loop-command.invariant)
-    c.in_ok-perform.ensures
+    c.in_ok-perform_command.ensures
 
-pub returns-in_err-perform : goal.returns-in_err-perform
-returns-in_err-perform g c =
+pub returns-in_err-perform_command : goal.returns-in_err-perform_command
+returns-in_err-perform_command g c =
     let whole = performance c.args.dpi c.args.end [] (views c.args.commands.now) in
     let next = next_is c.args.commands.now c.loop-command.command-index _ c.loop-command-test.true in
-    let p = err_from_is_err_and c.from_residual-in_err-perform.result c.from_residual-in_err-perform.ensures.1 in
+    let p = err_from_is_err_and c.from_residual-in_err-perform_command.result c.from_residual-in_err-perform_command.ensures.1 in
     rw (p.1, p.2)
-    (fault_reached g.S.PageSink.takes c.args.dpi c.args.end whole _ _ c.loop-command.performer c.perform.new.self c.args.sink.now
-    c.loop-command.sink c.perform.new.sink _
+    (fault_reached g.S.PageSink.takes c.args.dpi c.args.end whole _ _ c.loop-command.performer c.perform_command.new.self c.args.sink.now
+    c.loop-command.sink c.perform_command.new.sink _
     (subst (λ (rest : List Said). IsReached g.S.PageSink.takes c.args.dpi c.args.end whole rest c.loop-command.performer c.args.sink.now
     c.loop-command.sink) next c.loop-command.invariant)
-    c.in_err-perform.ensures)
+    c.in_err-perform_command.ensures)
 
 pub returns : goal.returns
 returns g c =

@@ -71,6 +71,6 @@ pub returns-in-Delta : goal.returns-in-Delta
 returns-in-Delta c =
     let right = rw c.in-Delta.is at c.requires.right in
     rw c.in-Delta.is
-    (along_replacement c.args.old.now c.args.wanted.now c.args.numbers.now c.first_difference-start.result c.behind.result.step
+    (along_replacement c.args.old.now c.args.wanted.now c.args.numbers.now c.first_difference-start.result c.behind.result.shape
     c.behind.result.sum c.requires.same c.requires.place.size right c.requires.needed
     c.first_difference-start.ensures c.behind.ensures)

@@ -56,7 +56,7 @@ returns-clause-turned g c = λ s i.
           })
           f)
       | else-ejects w ↦
-          let env : c.if-ejects.self.environment ≡ c.perform.new.self = ap (λ (p : Performer). p.environment) w.self-is in
+          let env : c.if-ejects.self.environment ≡ c.apply.new.self = ap (λ (p : Performer). p.environment) w.self-is in
           let a = subst (λ (e : Settings). Answers
           (outcome c.args.dpi c.args.operation c.args.value c.args.self.now.is_marked c.args.self.now.environment) (Ok c.in-Ok.effect)
           c.args.self.now.environment e)

@@ -13,7 +13,7 @@ impl Env {
     /// resolution of the page, and says what becomes of the page. A value that the command doesn't take
     /// changes nothing.
     #[tactic(auto, unfolding(crate::specs::Outcome::outcome))]
-    pub fn perform(
+    pub fn apply(
         &mut self,
         operation: Operation,
         value: Value,

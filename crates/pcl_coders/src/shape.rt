@@ -1,15 +1,15 @@
-//! The elements that coders try.
+//! The shapes of the elements that coders try.
 
 ghost use Rattle.std.specs.Prelude.{◌≡◌, ◌+◌, ◌<◌, ◌≤◌, ◌++◌, length, take, OnOk, OnErr};
-ghost use Rattle.pcl_rows.specs.Elements.{spelling};
+ghost use Rattle.pcl_rows.specs.Elements.{element_bytes};
 ghost use Rattle.pcl_rows.specs.Heads.{head_bytes};
 ghost use Rattle.pcl_coders.specs.Replacement.{replacement};
 
 use std::alloc::AllocError;
 
-/// An element of row data, by the bytes of the row that it gives.
+/// The shape of an element of row data: its kind, and the bytes of the row that it gives.
 #[derive(Clone, Copy)]
-pub enum Step {
+pub enum Shape {
     /// A byte that stands for itself (method 0).
     SingleByte,
     /// A count and a byte (method 1).
@@ -22,44 +22,44 @@ pub enum Step {
     Replace { offset: usize, len: usize },
 }
 
-impl Step {
-    ghost use Rattle.pcl_coders.specs.Step.{step_stop, element_of, IsStepWithin};
+impl Shape {
+    ghost use Rattle.pcl_coders.specs.Shape.{shape_stop, element_of, IsShapeWithin};
 
     /// How far it goes from its place.
     pub fn stop(self) -> usize
-        requires { IsStepWithin self 1000 }
-        ensures { result ≡ step_stop self }
+        requires { IsShapeWithin self 1000 }
+        ensures { result ≡ shape_stop self }
     {
         match self {
-            Step::SingleByte => 1,
-            Step::Run { len } | Step::LiteralRun { len } | Step::RepeatRun { len } => len,
-            Step::Replace { offset, len } => offset + len,
+            Shape::SingleByte => 1,
+            Shape::Run { len } | Shape::LiteralRun { len } | Shape::RepeatRun { len } => len,
+            Shape::Replace { offset, len } => offset + len,
         }
     }
 
     /// Appends its bytes, where `wanted` is the row from its place on. Where memory runs out, some of them
     /// may stand there.
     pub fn append(self, wanted: &[u8], out: &mut Vec<u8>) -> Result<(), AllocError>
-        requires within { IsStepWithin self (length wanted.now) }
+        requires within { IsShapeWithin self (length wanted.now) }
         requires small { length wanted.now ≤ 600 }
-        ensures ok { OnOk result (out.new.items ≡ out.old.items ++ spelling (element_of self wanted.now)) }
+        ensures ok { OnOk result (out.new.items ≡ out.old.items ++ element_bytes (element_of self wanted.now)) }
         ensures err { OnErr result (take (length out.old.items) out.new.items ≡ out.old.items) }
     {
         match self {
-            Step::SingleByte => out.push(wanted[0])?,
-            Step::Run { len } => {
+            Shape::SingleByte => out.push(wanted[0])?,
+            Shape::Run { len } => {
                 out.push((len - 1) as u8)?;
                 out.push(wanted[0])?;
             }
-            Step::LiteralRun { len } => {
+            Shape::LiteralRun { len } => {
                 out.push((len - 1) as u8)?;
                 out.extend_from_slice(&wanted[..len])?;
             }
-            Step::RepeatRun { len } => {
+            Shape::RepeatRun { len } => {
                 out.push((257 - len) as u8)?;
                 out.push(wanted[0])?;
             }
-            Step::Replace { offset, len } => {
+            Shape::Replace { offset, len } => {
                 append_command(offset, len, out)?;
                 out.extend_from_slice(&wanted[offset..offset + len])?;
             }
