@@ -48,7 +48,7 @@ pub fn run<S: AsStr, R: Read, W: Write>(
     ensures { HasEnded (R.remaining reader.old) (R.remaining reader.new) (W.contents out.old) (W.contents out.new) result }
 {
     match parse_arguments(alloc, words) {
-        Ok(usage) => match perform(alloc, usage, reader, out) {
+        Ok(usage) => match carry_out(alloc, usage, reader, out) {
             Ok(()) => Ending::Done,
             Err(fault) => failed(alloc, &fault, usage.page()),
         },
@@ -58,7 +58,7 @@ pub fn run<S: AsStr, R: Read, W: Write>(
 }
 
 /// Does what is asked for with the job that a reader gives.
-fn perform<R: Read, W: Write>(
+fn carry_out<R: Read, W: Write>(
     alloc: Global,
     usage: Usage,
     reader: &mut R,
