@@ -1,9 +1,14 @@
 //! The command line.
 
+ghost use Rattle.std.specs.Prelude.{◌≡◌, ◌≢◌, MatchOption};
+ghost use Rattle.pcl_base.specs.Dpi.{dots_per_inch};
+ghost use Rattle.pclmin.specs.Runs.{page_of};
+
 use clap::error::ErrorKind;
 use clap::{Arg, Command, Error, value_parser};
 use pcl_base::Dpi;
 use std::alloc::{AllocError, Global};
+use std::convert::AsStr;
 
 /// What a run is asked to do with the job on standard input.
 #[derive(Clone, Copy, Debug, PartialEq, Eq)]
@@ -25,7 +30,9 @@ pub struct Usage {
 
 impl Usage {
     /// The number of the page that is asked for, 0 where none is.
-    pub fn page(self) -> usize {
+    pub fn page(self) -> usize
+        ensures { result ≡ page_of self.task }
+    {
         match self.task {
             Task::Minimize => 0,
             Task::Preview { page } => page,
@@ -34,7 +41,7 @@ impl Usage {
 }
 
 /// What the words of a command line ask for, or the help, the version or the fault to print.
-pub fn parse_arguments(alloc: Global, words: &[String]) -> Result<Usage, Error> {
+pub fn parse_arguments<S: AsStr>(alloc: Global, words: &[S]) -> Result<Usage, Error> {
     let matches = pclmin(alloc)?.try_get_matches_from(words)?;
     let (task, dots) = match matches.subcommand() {
         Some(("min", min)) => (Some(Task::Minimize), min.get_one::<u16>("dpi")),
@@ -55,7 +62,9 @@ pub fn parse_arguments(alloc: Global, words: &[String]) -> Result<Usage, Error> 
 }
 
 /// The resolution of so many dots per inch.
-fn resolution(dots: u16) -> Option<Dpi> {
+fn resolution(dots: u16) -> Option<Dpi>
+    ensures { MatchOption result ((dots ≢ 300) × (dots ≢ 600)) (λ dpi. dots_per_inch dpi ≡ dots) }
+{
     match dots {
         300 => Some(Dpi::Dpi300),
         600 => Some(Dpi::Dpi600),

@@ -3,74 +3,38 @@
 
 mod arguments;
 mod messages;
+mod run;
 
-use arguments::{Task, Usage, parse_arguments};
-use clap::Error;
-use messages::{fault_line, status_of};
-use pcl_tool::{Fault, INPUT_LIMIT, filter, preview, read_all};
+use messages::USAGE_STATUS;
+use run::{Ending, run};
 use std::io;
-use std::io::Write;
 use std::process::ExitCode;
 use std::rt::Env;
 
-/// The status of a usage fault.
-const USAGE_STATUS: u8 = 2;
-
-/// The status where memory runs out.
-const MEMORY_STATUS: u8 = 3;
-
 fn main(rt: HostRuntime) -> ExitCode {
-    let words: Vec<String> = match std::env::args(&rt) {
-        Ok(words) => match words.collect(rt.alloc()) {
-            Ok(words) => words,
-            Err(_) => return report_memory(&rt),
-        },
-        Err(_) => return ExitCode::from(USAGE_STATUS),
+    let Ok(words) = std::env::args(&rt) else {
+        let _ = rt.eprint("pclmin: the arguments aren't text\n");
+        return ExitCode::from(USAGE_STATUS);
     };
-    match parse_arguments(rt.alloc(), &words) {
-        Ok(usage) => match run(&rt, usage) {
-            Ok(()) => ExitCode::SUCCESS,
-            Err(fault) => report(&rt, &fault, usage.page()),
+    let ending = match words.collect::<Vec<String>>(rt.alloc()) {
+        Ok(words) => run(rt.alloc(), &words, &mut rt.reader(), &mut io::writer(&rt)),
+        Err(_) => Ending::NoMemory,
+    };
+    print(&rt, &ending);
+    ExitCode::from(ending.status())
+}
+
+/// Prints what is left to be printed.
+fn print(rt: &(impl Print + Eprint), ending: &Ending) {
+    let _ = match ending {
+        Ending::Done => Ok(()),
+        Ending::Failed { line, .. } => match std::str::from_utf8(line) {
+            Ok(text) => rt.eprint(text),
+            Err(_) => Ok(()),
         },
-        Err(error) => show(&rt, &error),
-    }
-}
-
-/// Does what is asked for with the job on standard input.
-fn run(rt: &(impl Input + Print + AllocGlobal), usage: Usage) -> Result<(), Fault> {
-    let alloc = rt.alloc();
-    match usage.task {
-        Task::Minimize => filter(alloc, &mut rt.reader(), usage.dpi, &mut io::writer(rt)),
-        Task::Preview { page } => {
-            let job = read_all(alloc, &mut rt.reader(), INPUT_LIMIT)?;
-            preview(alloc, &job, page, usage.dpi, &mut io::writer(rt))
-        }
-    }
-}
-
-/// Prints what is wrong with a run, and gives its status.
-fn report(rt: &(impl Eprint + AllocGlobal), fault: &Fault, page: usize) -> ExitCode {
-    match fault_line(rt.alloc(), fault, page) {
-        Ok(line) => {
-            if let Ok(text) = std::str::from_utf8(&line) {
-                let _ = rt.eprint(text);
-            }
-            ExitCode::from(status_of(fault))
-        }
-        Err(_) => report_memory(rt),
-    }
-}
-
-/// Says that memory ran out.
-fn report_memory(rt: &impl Eprint) -> ExitCode {
-    let _ = rt.eprint("pclmin: out of memory\n");
-    ExitCode::from(MEMORY_STATUS)
-}
-
-/// Prints help, the version, or what is wrong with the arguments.
-fn show(rt: &(impl Print + Eprint), error: &Error) -> ExitCode {
-    let _ = error.print(rt);
-    ExitCode::from(error.exit_code() as u8)
+        Ending::NoMemory => rt.eprint("pclmin: out of memory\n"),
+        Ending::Shown(error) => error.print(rt),
+    };
 }
 
 #[cfg(test)]

@@ -7,6 +7,12 @@ use itoa::Buffer;
 use pcl_tool::Fault;
 use std::alloc::{AllocError, Global};
 
+/// The status of a usage fault.
+pub const USAGE_STATUS: u8 = 2;
+
+/// The status where memory runs out.
+pub const MEMORY_STATUS: u8 = 3;
+
 /// The line for a fault of a run that was asked for a page, with its line feed.
 pub fn fault_line(alloc: Global, fault: &Fault, page: usize) -> Result<Vec<u8>, AllocError>
     ensures { IfOk result (λ line. line.items ≡ line_of fault.now page) }
@@ -36,6 +42,7 @@ pub fn status_of(fault: &Fault) -> u8
 {
     match fault {
         Fault::Refused(_) | Fault::NoSuchPage => 1,
-        Fault::ReadFault | Fault::TooLong | Fault::WriteFault | Fault::Memory => 3,
+        Fault::ReadFault | Fault::TooLong | Fault::WriteFault => 3,
+        Fault::Memory => MEMORY_STATUS,
     }
 }

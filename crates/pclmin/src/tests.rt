@@ -1,6 +1,236 @@
 use super::*;
+use messages::{fault_line, status_of};
 use pcl_base::{Kind, Name, Refusal};
+use pcl_tool::Fault;
+use std::alloc::Global;
+use std::io::{ErrorKind, Read, Write};
 use std::test::Fail;
+
+/// A job with the dot (0, 0) of a Letter page.
+const DOT: &[u8] = b"\x1b&l0E\x1b*p0x0Y\x1b*t300R\x1b*r0A\x1b*b1W\x80";
+
+/// What it is written as at 300 dots per inch.
+const DOT_AT_300: &[u8] =
+    b"\x1bE\x1b&l1x2a0E\x1b*p0x0Y\x1b*t300R\x1b*r2400s0A\x1b*b1W\x80\x1b*rC\x0c\x1bE";
+
+/// What it is written as at 600 dots per inch, where the dot is a square of four.
+const DOT_AT_600: &[u8] =
+    b"\x1bE\x1b&l1x2a0E\x1b*p0x0Y\x1b*t600R\x1b*r4800s0A\x1b*b1W\xc0\x1b*b1W\xc0\x1b*rC\x0c\x1bE";
+
+/// Two blank pages, the second one of A4.
+const TWO_PAGES: &[u8] = b"\x0c\x1b&l26A\x0c";
+
+/// What they are written as.
+const TWO_PAGES_AT_300: &[u8] = b"\x1bE\x1b&l1x2a0E\x1b*p0x0Y\x1b*t300R\x1b*r2400s0A\x1b*rC\x0c\
+\x1b&l1x26a0E\x1b*p0x0Y\x1b*t300R\x1b*r2338s0A\x1b*rC\x0c\x1bE";
+
+/// Holds what is written to it.
+#[derive(Drop)]
+struct Held {
+    bytes: Vec<u8>,
+}
+
+impl Write for Held {
+    fn write(&mut self, buf: &[u8]) -> io::Result<usize> {
+        self.bytes.extend_from_slice(buf)?;
+        Ok(buf.len())
+    }
+
+    fn flush(&mut self) -> io::Result<()> {
+        Ok(())
+    }
+}
+
+/// A reader and a writer that fail.
+#[derive(Drop)]
+struct Broken;
+
+impl Read for Broken {
+    fn read(&mut self, _buf: &mut [u8]) -> io::Result<usize> {
+        Err(io::Error::from(ErrorKind::BrokenPipe))
+    }
+}
+
+impl Write for Broken {
+    fn write(&mut self, _buf: &[u8]) -> io::Result<usize> {
+        Err(io::Error::from(ErrorKind::BrokenPipe))
+    }
+
+    fn flush(&mut self) -> io::Result<()> {
+        Ok(())
+    }
+}
+
+/// The words of a command line.
+fn words_of(alloc: Global, line: &str) -> Result<Vec<&str>, Fail> {
+    Ok(line.split(' ').collect(alloc)?)
+}
+
+/// What the program prints at its end, help and the version too.
+fn text_of(alloc: Global, ending: &Ending) -> Result<String, Fail> {
+    Ok(match ending {
+        Ending::Done => String::new(alloc),
+        Ending::Failed { line, .. } => String::from_utf8_lossy(alloc, line)?,
+        Ending::NoMemory => String::from_str(alloc, "pclmin: out of memory\n")?,
+        Ending::Shown(error) => format!(in alloc; "{error}")?,
+    })
+}
+
+// Command lines with the job that they are given, the status, what is written (its length, and how it begins), and what
+// is said: the whole line of a fault, and a part of the text of help and of usage faults.
+#[test]
+fn command_lines(rt: HostRuntime) -> Result<(), Fail> {
+    let alloc = rt.alloc();
+    let cases: [(&str, &[u8], u8, usize, &[u8], &str); 30] = [
+        ("pclmin min", DOT, 0, 48, DOT_AT_300, ""),
+        ("pclmin min --dpi 300", DOT, 0, 48, DOT_AT_300, ""),
+        ("pclmin min --dpi 600", DOT, 0, 54, DOT_AT_600, ""),
+        ("pclmin min --dpi=600", DOT, 0, 54, DOT_AT_600, ""),
+        ("pclmin min", b"", 0, 4, b"\x1bE\x1bE", ""),
+        ("pclmin min", TWO_PAGES, 0, 81, TWO_PAGES_AT_300, ""),
+        (
+            "pclmin min",
+            b"\x0c\x1b*p70000X",
+            1,
+            0,
+            b"",
+            "pclmin: refused: ValueRange at 1 *pX\n",
+        ),
+        (
+            "pclmin min",
+            b"\x1b*b5W\x01",
+            1,
+            0,
+            b"",
+            "pclmin: refused: Truncated at 0 *bW\n",
+        ),
+        (
+            "pclmin pbm --page 1",
+            DOT,
+            0,
+            990_013,
+            b"P4\n2400 3300\n\x80\x00",
+            "",
+        ),
+        (
+            "pclmin pbm --dpi 300 --page 1",
+            DOT,
+            0,
+            990_013,
+            b"P4\n2400 3300\n\x80\x00",
+            "",
+        ),
+        (
+            "pclmin pbm --page 1 --dpi 600",
+            DOT,
+            0,
+            3_960_013,
+            b"P4\n4800 6600\n\xc0\x00",
+            "",
+        ),
+        (
+            "pclmin pbm --page 2",
+            TWO_PAGES,
+            0,
+            1_027_564,
+            b"P4\n2338 3507\n\x00",
+            "",
+        ),
+        (
+            "pclmin pbm --page 1",
+            TWO_PAGES,
+            0,
+            990_013,
+            b"P4\n2400 3300\n\x00",
+            "",
+        ),
+        ("pclmin pbm --page 2", DOT, 1, 0, b"", "pclmin: no page 2\n"),
+        (
+            "pclmin pbm --page 256",
+            DOT,
+            1,
+            0,
+            b"",
+            "pclmin: no page 256\n",
+        ),
+        ("pclmin pbm --page 1", b"", 1, 0, b"", "pclmin: no page 1\n"),
+        (
+            "pclmin pbm --page 1",
+            b"A",
+            1,
+            0,
+            b"",
+            "pclmin: refused: UnsupportedCommand at 0 text\n",
+        ),
+        ("pclmin pbm", DOT, 2, 0, b"", "--page <N>"),
+        ("pclmin pbm --page 0", DOT, 2, 0, b"", "'0'"),
+        ("pclmin pbm --page 257", DOT, 2, 0, b"", "'257'"),
+        ("pclmin pbm --page one", DOT, 2, 0, b"", "'one'"),
+        ("pclmin min --page 1", DOT, 2, 0, b"", "'--page'"),
+        (
+            "pclmin min --dpi 200",
+            DOT,
+            2,
+            0,
+            b"",
+            "the resolution of --dpi is 300 or 600",
+        ),
+        ("pclmin min --dpi 65536", DOT, 2, 0, b"", "'65536'"),
+        ("pclmin min page.pcl", DOT, 2, 0, b"", "'page.pcl'"),
+        ("pclmin print", DOT, 2, 0, b"", "'print'"),
+        ("pclmin", DOT, 2, 0, b"", "Usage: pclmin"),
+        ("pclmin --help", DOT, 0, 0, b"", "Statuses: 0 done"),
+        ("pclmin pbm --help", DOT, 0, 0, b"", "Usage: pclmin pbm"),
+        ("pclmin --version", DOT, 0, 0, b"", "pclmin 0.1.0"),
+    ];
+    for (line, job, status, len, begin, said) in cases {
+        let mut out = Held {
+            bytes: Vec::new(alloc),
+        };
+        let ending = run(alloc, &words_of(alloc, line)?, &mut &*job, &mut out);
+        let text = text_of(alloc, &ending)?;
+        assert_eq!(rt; ending.status(), status, "{line}: {text}");
+        assert_eq!(rt; out.bytes.len(), len, "{line}");
+        assert!(rt; out.bytes.starts_with(begin), "{line}");
+        let is_said = if status == 2 || len == 0 && status == 0 {
+            text.contains(said)
+        } else {
+            text.as_str() == said
+        };
+        assert!(rt; is_said, "{line}: {text}");
+    }
+    Ok(())
+}
+
+// A reader or a writer that fails; of a job that is refused nothing is written, so no write fails.
+#[test]
+fn broken_devices(rt: HostRuntime) -> Result<(), Fail> {
+    let alloc = rt.alloc();
+    for (line, status, said) in [
+        ("pclmin min", 3, "pclmin: cannot read\n"),
+        ("pclmin pbm --page 1", 3, "pclmin: cannot read\n"),
+    ] {
+        let ending = run(alloc, &words_of(alloc, line)?, &mut Broken, &mut Broken);
+        assert_eq!(rt; text_of(alloc, &ending)?.as_str(), said);
+        assert_eq!(rt; ending.status(), status);
+    }
+    for (line, job, status, said) in [
+        ("pclmin min", DOT, 3, "pclmin: cannot write\n"),
+        ("pclmin pbm --page 1", DOT, 3, "pclmin: cannot write\n"),
+        ("pclmin pbm --page 2", DOT, 1, "pclmin: no page 2\n"),
+        (
+            "pclmin min",
+            b"\x1b".as_slice(),
+            1,
+            "pclmin: refused: Truncated at 0 -\n",
+        ),
+    ] {
+        let ending = run(alloc, &words_of(alloc, line)?, &mut &*job, &mut Broken);
+        assert_eq!(rt; text_of(alloc, &ending)?.as_str(), said);
+        assert_eq!(rt; ending.status(), status);
+    }
+    Ok(())
+}
 
 // The line and the status of each fault of a run that was asked for page 2.
 #[test]

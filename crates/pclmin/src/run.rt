@@ -1,0 +1,89 @@
+//! A run: what the words of a command line ask for is done, over any reader and writer.
+
+ghost use Rattle.pclmin.specs.Runs.{HasDone, HasEnded, HasFailed, IsStatus};
+
+use crate::arguments::{Task, Usage, parse_arguments};
+use crate::messages::{MEMORY_STATUS, fault_line, status_of};
+use clap::Error;
+use clap::error::ErrorKind;
+use pcl_tool::{Fault, INPUT_LIMIT, filter, preview, read_all};
+use std::alloc::Global;
+use std::convert::AsStr;
+use std::io::{Read, Write};
+
+/// How a run ended, and what is left to be printed.
+#[derive(Drop)]
+pub enum Ending {
+    /// What the words ask for is done.
+    Done,
+    /// It failed: the line for standard error, with its line feed, and the status.
+    Failed { line: Vec<u8>, status: u8 },
+    /// Memory ran out, for the line of a fault too.
+    NoMemory,
+    /// The words ask for help or for the version, or they are wrong: its text is to be printed.
+    Shown(Error),
+}
+
+impl Ending {
+    /// The status of the program.
+    pub fn status(&self) -> u8
+        ensures { IsStatus self.now result }
+    {
+        match self {
+            Ending::Done => 0,
+            Ending::Failed { status, .. } => *status,
+            Ending::NoMemory => MEMORY_STATUS,
+            Ending::Shown(error) => error.exit_code() as u8,
+        }
+    }
+}
+
+/// Does what the words of a command line ask for, the program's name first, with the job that a reader gives.
+pub fn run<S: AsStr, R: Read, W: Write>(
+    alloc: Global,
+    words: &[S],
+    reader: &mut R,
+    out: &mut W,
+) -> Ending
+    ensures { HasEnded (R.remaining reader.old) (R.remaining reader.new) (W.contents out.old) (W.contents out.new) result }
+{
+    match parse_arguments(alloc, words) {
+        Ok(usage) => match carry_out(alloc, usage, reader, out) {
+            Ok(()) => Ending::Done,
+            Err(fault) => failed(alloc, &fault, usage.page()),
+        },
+        Err(error) if error.kind() == ErrorKind::OutOfMemory => Ending::NoMemory,
+        Err(error) => Ending::Shown(error),
+    }
+}
+
+/// Does what is asked for with the job that a reader gives.
+fn carry_out<R: Read, W: Write>(
+    alloc: Global,
+    usage: Usage,
+    reader: &mut R,
+    out: &mut W,
+) -> Result<(), Fault>
+    ensures { HasDone usage (R.remaining reader.old) (R.remaining reader.new) (W.contents out.old) (W.contents out.new) result }
+{
+    match usage.task {
+        Task::Minimize => filter(alloc, reader, usage.dpi, out),
+        Task::Preview { page } => {
+            let job = read_all(alloc, reader, INPUT_LIMIT)?;
+            preview(alloc, &job, page, usage.dpi, out)
+        }
+    }
+}
+
+/// The end of a run that failed.
+fn failed(alloc: Global, fault: &Fault, page: usize) -> Ending
+    ensures { HasFailed fault.now page result }
+{
+    match fault_line(alloc, fault, page) {
+        Ok(line) => Ending::Failed {
+            line,
+            status: status_of(fault),
+        },
+        Err(_) => Ending::NoMemory,
+    }
+}
