@@ -115,14 +115,8 @@ impl<'a> Fonts<'a> {
         match what {
             FontControl::All => self.entries.clear(),
             FontControl::Temporary => self.delete_temporary(),
-            FontControl::One => {
-                self.entries.swap_remove(&id);
-            }
-            FontControl::OneCharacter => {
-                if let Some(entry) = self.entries.get_mut(&id) {
-                    entry.characters.swap_remove(&code);
-                }
-            }
+            FontControl::One => self.delete(id),
+            FontControl::OneCharacter => self.delete_character(id, code),
             FontControl::MakeTemporary => self.set_permanent(id, false),
             FontControl::MakePermanent => self.set_permanent(id, true),
         }
@@ -137,6 +131,22 @@ impl<'a> Fonts<'a> {
                 ensures { (result ≡ entry.old.is_permanent) × (entry.new ≡ entry.old) }
             { entry.is_permanent },
         );
+    }
+
+    /// Deletes a font.
+    fn delete(&mut self, id: u16)
+        ensures { Follows self.old self.new (control FontControl.One id 0) }
+    {
+        self.entries.swap_remove(&id);
+    }
+
+    /// Deletes a character.
+    fn delete_character(&mut self, id: u16, code: u8)
+        ensures { Follows self.old self.new (control FontControl.OneCharacter id code) }
+    {
+        if let Some(entry) = self.entries.get_mut(&id) {
+            entry.characters.swap_remove(&code);
+        }
     }
 
     /// Makes a font temporary or permanent.

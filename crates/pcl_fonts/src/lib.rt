@@ -10,3 +10,6 @@ mod header;
 pub use fonts::{FontControl, Fonts};
 pub use glyph::Glyph;
 pub use header::FontInfo;
+
+#[cfg(test)]
+mod tests;
