@@ -1,0 +1,2 @@
+mod Glyphs
+mod Tables

@@ -1,0 +1,86 @@
+-- What the data of a soft font say: the header of a font, and a character (docs/LANGUAGE.md, "Soft fonts").
+use Rattle.std.specs.Prelude.{ℕ, ◌+◌, ◌*◌, ◌/◌, ℤ, Bool, true, false, ◌&&◌, ◌||◌, ◌==◌, if◌then◌else◌, nat_le, nat_eq, List, length, take, drop, slice_index}
+use Rattle.std.specs.Int.{w16, cast_signed}
+use Rattle.byteorder.specs.Endian.{big_number}
+use Rattle.pcl_fonts.specs.declared.header.FontType.{FontType}
+use Rattle.pcl_fonts.specs.declared.header.FontType.TheVariants.{SevenBit, EightBit, EveryCode}
+
+-- ---- fields
+
+-- the number in the two bytes from a place on, the higher one first, and the same with a sign
+abbrev pub word : List ℕ → ℕ → ℕ
+word bytes place = big_number 2 (drop place bytes)
+
+abbrev pub signed_word : List ℕ → ℕ → ℤ
+signed_word bytes place = cast_signed w16 (word bytes place)
+
+-- one byte has this value
+abbrev pub has_byte : List ℕ → ℕ → ℕ → Bool
+has_byte bytes place value = nat_eq (slice_index bytes place) value
+
+-- ---- headers
+
+-- the types of fonts by their numbers 0 to 2
+abbrev pub type_with_number : ℕ → FontType
+type_with_number number = if number == 0 then SevenBit else if number == 1 then EightBit else EveryCode
+
+-- the codes that a font of a type has: those of seven bits that print, those of eight, or all
+abbrev pub has_code : FontType → ℕ → Bool
+has_code SevenBit code = nat_le 32 code && nat_le code 127
+has_code EightBit code = (nat_le 32 code && nat_le code 127) || nat_le 160 code
+has_code EveryCode code = true
+
+-- a font without its characters: whether each character has an advance of its own, the pitch in quarter dots, the type,
+-- and whether a reset leaves it
+pub record Font : Type 0 where
+  pub proportional : Bool
+  pub pitch : ℕ
+  pub type : FontType
+  pub permanent : Bool
+
+-- 64 bytes at least, and all that the size field says; format 0, a type of three, no orientation, a spacing of two
+abbrev pub is_header : List ℕ → Bool
+is_header bytes =
+    nat_le 64 (length bytes) && nat_le 64 (word bytes 0) && nat_le (word bytes 0) (length bytes)
+    && has_byte bytes 2 0 && nat_le (slice_index bytes 3) 2 && has_byte bytes 12 0 && nat_le (slice_index bytes 13) 1
+
+-- the font that a header defines; a new font is temporary
+abbrev pub font_of : List ℕ → Font
+font_of bytes = record { proportional = has_byte bytes 13 1; pitch = word bytes 16; type = type_with_number (slice_index bytes 3); permanent = false }
+
+-- ---- characters
+
+-- A character: how far its pattern lies right of the cursor and how far its first row above it, in pattern bits; the
+-- pattern's width and height in bits; the advance in quarter dots; and the rows of the pattern.
+pub record Character : Type 0 where
+  pub left : ℤ
+  pub top : ℤ
+  pub width : ℕ
+  pub height : ℕ
+  pub delta : ℤ
+  pub rows : List ℕ
+
+-- how many bytes the rows of a pattern have
+abbrev pub pattern_bytes : ℕ → ℕ → ℕ
+pattern_bytes width height = height * ((width + 7) / 8)
+
+-- format 4, no continuation, a descriptor of 14 bytes, class 1, no orientation
+abbrev pub has_fixed_bytes : List ℕ → Bool
+has_fixed_bytes bytes =
+    has_byte bytes 0 4 && has_byte bytes 1 0 && has_byte bytes 2 14 && has_byte bytes 3 1 && has_byte bytes 4 0
+
+-- a whole descriptor, its fixed bytes, and all rows
+abbrev pub is_character : List ℕ → Bool
+is_character bytes =
+    nat_le 16 (length bytes) && has_fixed_bytes bytes && nat_le (16 + pattern_bytes (word bytes 10) (word bytes 12)) (length bytes)
+
+-- the character that data define
+abbrev pub character_of : List ℕ → Character
+character_of bytes = record {
+  left = signed_word bytes 6;
+  top = signed_word bytes 8;
+  width = word bytes 10;
+  height = word bytes 12;
+  delta = signed_word bytes 14;
+  rows = take (pattern_bytes (word bytes 10) (word bytes 12)) (drop 16 bytes);
+}

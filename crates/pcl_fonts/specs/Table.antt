@@ -1,0 +1,93 @@
+-- What contracts see of a table of fonts: the font of each ID, and the character of each ID and code.
+use Rattle.std.specs.Prelude.{◌≡◌, ℕ, true, false, nat_eq, if◌then◌else◌, List, map, ◌∷◌, Option, None, Some, is_some, Result, Ok, Err}
+use Rattle.std.specs.Option.{option_map}
+use Rattle.std.specs.Map.{lookup}
+use Rattle.indexmap.specs.IndexMap.{IsUnique}
+use Rattle.pcl_base.specs.declared.kind.Kind.TheVariants.{FontHeader, CharacterData}
+use Rattle.pcl_base.specs.declared.fault.CallFault.{CallFault}
+use Rattle.pcl_base.specs.declared.fault.CallFault.TheVariants.{Refused, Memory}
+use Rattle.pcl_fonts.specs.Fields.{Font, Character, has_code, is_header, is_character}
+use Rattle.pcl_fonts.specs.History.{FontEvent, header, character, font_after, character_after}
+use Rattle.pcl_fonts.specs.declared.header.FontInfo.{FontInfo}
+use Rattle.pcl_fonts.specs.declared.header.Header.{Header}
+use Rattle.pcl_fonts.specs.declared.fonts.Entry.{Entry}
+use Rattle.pcl_fonts.specs.declared.fonts.Fonts.TheInside.{Inside}
+use Rattle.pcl_fonts.specs.declared.glyph.Glyph.{Glyph}
+
+-- a font with its characters by their codes
+pub record Stored : Type 0 where
+  pub font : Font
+  pub characters : List (ℕ × Character)
+
+abbrev pub FontTable : Type 0
+FontTable = List (ℕ × Stored)
+
+abbrev pub font_at : FontTable → ℕ → Option Font
+font_at table id = option_map (λ s. s.font) (lookup (nat_eq id) table)
+
+abbrev pub character_of : Option Stored → ℕ → Option Character
+character_of None code = None
+character_of (Some s) code = lookup (nat_eq code) s.characters
+
+abbrev pub character_at : FontTable → ℕ → ℕ → Option Character
+character_at table id code = character_of (lookup (nat_eq id) table) code
+
+-- the table holds the fonts and the characters that are there after a history
+pub record Holds (table : FontTable) (history : List FontEvent) : Type 0 where
+  pub fonts : (id : ℕ) → font_at table id ≡ font_after history id
+  pub characters : (id code : ℕ) → character_at table id code ≡ character_after history id code
+
+-- a table that goes along with a history, and with one event more
+abbrev pub Follows : FontTable → FontTable → FontEvent → Type 0
+Follows old new event = (history : List FontEvent) → Holds old history → Holds new (event ∷ history)
+
+-- the same fonts and characters
+abbrev pub IsSame : FontTable → FontTable → Type 0
+IsSame old new = ((id : ℕ) → font_at new id ≡ font_at old id) × ((id code : ℕ) → character_at new id code ≡ character_at old id code)
+
+-- the character that a text prints for a code: the font's type has the code, and the character is there
+abbrev pub printed_in : FontTable → ℕ → ℕ → Option Font → Option Character
+printed_in table id code None = None
+printed_in table id code (Some font) = if has_code font.type code then character_at table id code else None
+
+abbrev pub printed : FontTable → ℕ → ℕ → Option Character
+printed table id code = printed_in table id code (font_at table id)
+
+-- what text has to know of a font
+abbrev pub info_of : Option Font → Option FontInfo
+info_of None = None
+info_of (Some font) = Some (record { proportional = font.proportional; pitch = font.pitch })
+
+-- A header for an ID: it is taken, and refused exactly where it is no header. After a fault all is the same.
+abbrev pub HasHeader : ℕ → List ℕ → Result (Unit {0}) CallFault → FontTable → FontTable → Type 0
+HasHeader id bytes (Ok unit) old new = (is_header bytes ≡ true) × Follows old new (header id bytes)
+HasHeader id bytes (Err (Refused kind)) old new = (is_header bytes ≡ false) × (kind ≡ FontHeader) × IsSame old new
+HasHeader id bytes (Err Memory) old new = IsSame old new
+
+-- A character for an ID and a code: it is refused exactly where a font of the ID is there and it is no character.
+abbrev pub HasCharacter : ℕ → ℕ → List ℕ → Result (Unit {0}) CallFault → FontTable → FontTable → Type 0
+HasCharacter id code bytes (Ok unit) old new =
+    (is_some (font_at old id) ≡ true → is_character bytes ≡ true) × Follows old new (character id code bytes)
+HasCharacter id code bytes (Err (Refused kind)) old new =
+    (is_some (font_at old id) ≡ true) × (is_character bytes ≡ false) × (kind ≡ CharacterData) × IsSame old new
+HasCharacter id code bytes (Err Memory) old new = IsSame old new
+
+-- ---- how the table is kept
+
+abbrev pub font_in_header : Header → Font
+font_in_header h = record { proportional = h.info.proportional; pitch = h.info.pitch; type = h.font_type; permanent = false }
+
+abbrev pub font_in : Entry → Font
+font_in e = record { proportional = e.info.proportional; pitch = e.info.pitch; type = e.font_type; permanent = e.is_permanent }
+
+abbrev pub character_in : Glyph → Character
+character_in g = record { left = g.left; top = g.top; width = g.width; height = g.height; delta = g.delta; rows = g.rows.now }
+
+abbrev pub stored_in : Entry → Stored
+stored_in e = record { font = font_in e; characters = map (λ c. (c.0, character_in c.1)) e.characters.entries }
+
+abbrev pub table_view : Inside → FontTable
+table_view a = map (λ e. (e.0, stored_in e.1)) a.entries.entries
+
+abbrev pub IsFontMap : Inside → Type 0
+IsFontMap a = IsUnique nat_eq a.entries
