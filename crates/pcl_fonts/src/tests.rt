@@ -1,232 +1,138 @@
 use super::*;
 use pcl_base::{CallFault, Kind};
-use std::alloc::Global;
-use std::test::Fail;
+use std::alloc::{AllocError, Global};
 
-/// A header of 64 bytes: fixed, of type 0, with a pitch of 8 quarter dots, but for some bytes at their places.
-fn header(alloc: Global, bytes: &[(usize, u8)]) -> Result<Vec<u8>, Fail> {
-    let mut header = vec![in alloc; 0; 64]?;
-    for (place, byte) in [(1, 64), (17, 8)].iter().chain(bytes) {
-        if let Some(slot) = header.get_mut(*place) {
-            *slot = *byte;
-        }
-    }
-    Ok(header)
-}
+/// A header: fixed, of type 0, with a pitch of 8 quarter dots.
+const HEADER: [u8; 64] = [
+    0, 64, 0, 0, 0, 0, 0, 0, 0, 0, 0, 0, 0, 0, 0, 0, 0, 8, 0, 0, 0, 0, 0, 0, 0, 0, 0, 0, 0, 0, 0,
+    0, 0, 0, 0, 0, 0, 0, 0, 0, 0, 0, 0, 0, 0, 0, 0, 0, 0, 0, 0, 0, 0, 0, 0, 0, 0, 0, 0, 0, 0, 0, 0,
+    0,
+];
 
 /// A character 8 bits wide and 2 high, right of the cursor by 1 and above it by 2, with an advance of 80 quarter dots.
 const CHARACTER: [u8; 18] = [4, 0, 14, 1, 0, 0, 0, 1, 0, 2, 0, 8, 0, 2, 0, 80, 0xFF, 0x81];
 
-// Headers: each field at its values and past them.
-#[test]
-fn headers(rt: HostRuntime) -> Result<(), Fail> {
-    let alloc = rt.alloc();
-    let refused = Err(CallFault::Refused(Kind::FontHeader));
-    let cases: [(&[(usize, u8)], bool); 15] = [
-        (&[], true),
-        (&[(1, 63)], false),
-        (&[(1, 65)], false),
-        (&[(0, 1)], false),
-        (&[(2, 1)], false),
-        (&[(3, 1)], true),
-        (&[(3, 2)], true),
-        (&[(3, 3)], false),
-        (&[(12, 1)], false),
-        (&[(13, 1)], true),
-        (&[(13, 2)], false),
-        (&[(4, 9), (5, 9), (11, 9), (14, 9), (18, 9), (63, 9)], true),
-        (&[(16, 255), (17, 255)], true),
-        (&[(0, 64), (1, 0)], false),
-        (&[(1, 0)], false),
-    ];
-    for (bytes, is_taken) in cases {
-        let data = header(alloc, bytes)?;
-        let mut fonts = Fonts::new(alloc);
-        let wanted = if is_taken { Ok(()) } else { refused };
-        assert_eq!(rt; fonts.header(1, &data), wanted, "{bytes:?}");
-        assert_eq!(rt; fonts.font(1).is_some(), is_taken, "{bytes:?}");
+/// Some bytes, cut to a length, with another byte at a place.
+fn changed(
+    alloc: Global,
+    bytes: &[u8],
+    len: usize,
+    place: usize,
+    byte: u8,
+) -> Result<Vec<u8>, AllocError> {
+    let mut bytes = Vec::from_slice(alloc, bytes)?;
+    if let Some(slot) = bytes.get_mut(place) {
+        *slot = byte;
     }
-    let whole = header(alloc, &[])?;
-    assert_eq!(rt; Fonts::new(alloc).header(1, &whole[..63]), refused);
-    let proportional = header(alloc, &[(13, 1), (16, 1), (17, 2)])?;
-    let mut fonts = Fonts::new(alloc);
-    fonts.header(32767, &proportional)?;
-    let info = FontInfo {
-        proportional: true,
-        pitch: 258,
-    };
-    assert_eq!(rt; fonts.font(32767), Some(info));
-    assert_eq!(rt; fonts.font(1), None);
-    Ok(())
+    bytes.truncate(len);
+    Ok(bytes)
 }
 
-// Characters: each fixed byte off by one, data that are cut, and what is looked up of one that is taken.
+// Headers: each field at its values and past them, and a byte too few.
 #[test]
-fn characters(rt: HostRuntime) -> Result<(), Fail> {
-    let alloc = rt.alloc();
-    let refused = Err(CallFault::Refused(Kind::CharacterData));
-    let head = header(alloc, &[])?;
-    for place in 0..5 {
-        let mut data = CHARACTER;
-        data[place] += 1;
-        let mut fonts = Fonts::new(alloc);
-        fonts.header(0, &head)?;
-        assert_eq!(rt; fonts.character(0, 65, &data), refused, "byte {place}");
-        assert_eq!(rt;
-            fonts.character(1, 65, &data),
-            Ok(()),
-            "no font, byte {place}"
-        );
-        assert!(rt; fonts.glyph(0, 65).is_none(), "byte {place}");
-    }
-    let mut shifted = CHARACTER;
-    for (place, byte) in [
-        (6, 0xFF),
-        (7, 0xFE),
-        (8, 0x80),
-        (9, 0),
-        (14, 0xFF),
-        (15, 0xFF),
+fn headers(rt: HostRuntime) -> Result<(), AllocError> {
+    for (len, place, byte, wanted) in [
+        (64, 1, 64, Ok(())),
+        (63, 1, 64, Err(CallFault::Refused(Kind::FontHeader))),
+        (64, 1, 63, Err(CallFault::Refused(Kind::FontHeader))),
+        (64, 1, 65, Err(CallFault::Refused(Kind::FontHeader))),
+        (64, 0, 1, Err(CallFault::Refused(Kind::FontHeader))),
+        (64, 2, 1, Err(CallFault::Refused(Kind::FontHeader))),
+        (64, 3, 2, Ok(())),
+        (64, 3, 3, Err(CallFault::Refused(Kind::FontHeader))),
+        (64, 12, 1, Err(CallFault::Refused(Kind::FontHeader))),
+        (64, 13, 1, Ok(())),
+        (64, 13, 2, Err(CallFault::Refused(Kind::FontHeader))),
+        (64, 14, 9, Ok(())),
+        (64, 63, 9, Ok(())),
     ] {
-        shifted[place] = byte;
+        let data = changed(rt.alloc(), &HEADER, len, place, byte)?;
+        let taken = Fonts::new(rt.alloc()).header(1, &data);
+        assert_eq!(rt; taken, wanted, "byte {place} is {byte}, of {len}");
     }
-    let mut fonts = Fonts::new(alloc);
-    fonts.header(0, &head)?;
-    for len in 0..18 {
-        assert_eq!(rt;
-            fonts.character(0, 65, &CHARACTER[..len]),
-            refused,
-            "{len} bytes"
-        );
-    }
-    fonts.character(0, 65, &CHARACTER)?;
-    fonts.character(0, 66, &shifted)?;
-    let Some(plain) = fonts.glyph(0, 65) else {
-        return Err(Fail::from("no character 65"));
-    };
-    assert_eq!(rt; [plain.left, plain.top, plain.delta], [1, 2, 80]);
-    assert_eq!(rt; [plain.width, plain.height], [8, 2]);
-    assert_eq!(rt; plain.rows, &[0xFF, 0x81][..]);
-    let Some(other) = fonts.glyph(0, 66) else {
-        return Err(Fail::from("no character 66"));
-    };
-    assert_eq!(rt; [other.left, other.top, other.delta], [-2, -32768, -1]);
     Ok(())
 }
 
-// Codes that each type of font has, and what each control leaves: fonts 1 (temporary) and 2 (permanent) with characters 65
-// and 66.
+// Characters: each fixed byte off by one, and data that are cut.
 #[test]
-fn codes_and_controls(rt: HostRuntime) -> Result<(), Fail> {
-    let alloc = rt.alloc();
-    let codes: [(u8, [bool; 8]); 3] = [
-        (0, [false, false, true, true, false, false, false, false]),
-        (1, [false, false, true, true, false, false, true, true]),
-        (2, [true, true, true, true, true, true, true, true]),
-    ];
-    for (type_number, wanted) in codes {
-        let head = header(alloc, &[(3, type_number)])?;
-        let mut fonts = Fonts::new(alloc);
-        fonts.header(9, &head)?;
-        for (code, is_there) in [0, 31, 32, 127, 128, 159, 160, 255].into_iter().zip(wanted) {
-            fonts.character(9, code, &CHARACTER)?;
-            assert_eq!(rt;
-                fonts.glyph(9, code).is_some(),
-                is_there,
-                "type {type_number}, code {code}"
-            );
-        }
-    }
-    let head = header(alloc, &[])?;
-    let cases = [
-        (
-            FontControl::All,
-            1,
-            65,
-            [false, false, false, false, false, false],
-        ),
-        (
-            FontControl::Temporary,
-            1,
-            65,
-            [false, false, false, true, true, true],
-        ),
-        (
-            FontControl::One,
-            2,
-            65,
-            [true, true, true, false, false, false],
-        ),
-        (
-            FontControl::One,
-            3,
-            65,
-            [true, true, true, true, true, true],
-        ),
-        (
-            FontControl::OneCharacter,
-            1,
-            66,
-            [true, true, false, true, true, true],
-        ),
-        (
-            FontControl::OneCharacter,
-            3,
-            66,
-            [true, true, true, true, true, true],
-        ),
-        (
-            FontControl::MakeTemporary,
-            1,
-            65,
-            [false, false, false, true, true, true],
-        ),
-        (
-            FontControl::MakeTemporary,
-            2,
-            65,
-            [false, false, false, false, false, false],
-        ),
-        (
-            FontControl::MakePermanent,
-            1,
-            65,
-            [true, true, true, true, true, true],
-        ),
-        (
-            FontControl::MakePermanent,
-            3,
-            65,
-            [false, false, false, true, true, true],
-        ),
-    ];
-    for (what, id, code, wanted) in cases {
-        let mut fonts = Fonts::new(alloc);
-        for id in [1, 2] {
-            fonts.header(id, &head)?;
-            fonts.character(id, 65, &CHARACTER)?;
-            fonts.character(id, 66, &CHARACTER)?;
-        }
-        fonts.control(2, 0, FontControl::MakePermanent);
-        fonts.control(id, code, what);
-        if matches!(
-            what,
-            FontControl::MakeTemporary | FontControl::MakePermanent
-        ) {
-            fonts.control(0, 0, FontControl::Temporary);
-        }
-        let mut found = [false; 6];
-        for (place, id) in [(0, 1), (3, 2)] {
-            found[place] = fonts.font(id).is_some();
-            found[place + 1] = fonts.glyph(id, 65).is_some();
-            found[place + 2] = fonts.glyph(id, 66).is_some();
-        }
-        assert_eq!(rt; found, wanted, "{what:?} of {id}");
-        fonts.header(2, &head)?;
-        assert!(rt;
-            fonts.glyph(2, 65).is_none(),
-            "{what:?} of {id}, and a new header"
-        );
+fn characters(rt: HostRuntime) -> Result<(), AllocError> {
+    for (len, place, byte, wanted) in [
+        (18, 0, 4, Ok(())),
+        (18, 0, 5, Err(CallFault::Refused(Kind::CharacterData))),
+        (18, 1, 1, Err(CallFault::Refused(Kind::CharacterData))),
+        (18, 2, 15, Err(CallFault::Refused(Kind::CharacterData))),
+        (18, 3, 2, Err(CallFault::Refused(Kind::CharacterData))),
+        (18, 4, 1, Err(CallFault::Refused(Kind::CharacterData))),
+        (18, 13, 3, Err(CallFault::Refused(Kind::CharacterData))),
+        (18, 11, 9, Err(CallFault::Refused(Kind::CharacterData))),
+        (17, 0, 4, Err(CallFault::Refused(Kind::CharacterData))),
+        (15, 13, 0, Err(CallFault::Refused(Kind::CharacterData))),
+        (16, 13, 0, Ok(())),
+    ] {
+        let data = changed(rt.alloc(), &CHARACTER, len, place, byte)?;
+        let mut fonts = Fonts::new(rt.alloc());
+        let _ = fonts.header(0, &HEADER);
+        let taken = fonts.character(0, 65, &data);
+        assert_eq!(rt; taken, wanted, "byte {place} is {byte}, of {len}");
     }
     Ok(())
+}
+
+/// Which of fonts 1 (temporary) and 2 (permanent) and of their characters 65 are there after a control and then a
+/// deletion of temporary fonts, if that is asked for.
+fn left_by(alloc: Global, what: FontControl, id: u16, and_delete: bool) -> [bool; 4] {
+    let mut fonts = Fonts::new(alloc);
+    for id in [1, 2] {
+        let _ = fonts.header(id, &HEADER);
+        let _ = fonts.character(id, 65, &CHARACTER);
+    }
+    fonts.control(2, 0, FontControl::MakePermanent);
+    fonts.control(id, 65, what);
+    if and_delete {
+        fonts.control(0, 0, FontControl::Temporary);
+    }
+    [
+        fonts.font(1).is_some(),
+        fonts.glyph(1, 65).is_some(),
+        fonts.font(2).is_some(),
+        fonts.glyph(2, 65).is_some(),
+    ]
+}
+
+// What each control leaves.
+#[test]
+fn controls(rt: HostRuntime) {
+    for (what, id, and_delete, wanted) in [
+        (FontControl::All, 1, false, [false, false, false, false]),
+        (FontControl::Temporary, 1, false, [false, false, true, true]),
+        (FontControl::One, 2, false, [true, true, false, false]),
+        (FontControl::One, 3, false, [true, true, true, true]),
+        (
+            FontControl::OneCharacter,
+            1,
+            false,
+            [true, false, true, true],
+        ),
+        (
+            FontControl::MakeTemporary,
+            2,
+            true,
+            [false, false, false, false],
+        ),
+        (
+            FontControl::MakePermanent,
+            1,
+            true,
+            [true, true, true, true],
+        ),
+        (
+            FontControl::MakePermanent,
+            3,
+            true,
+            [false, false, true, true],
+        ),
+    ] {
+        let left = left_by(rt.alloc(), what, id, and_delete);
+        assert_eq!(rt; left, wanted, "{what:?} of {id}");
+    }
 }
