@@ -11,8 +11,9 @@
 #   efix         efax                           the same
 #   gs           ghostscript                    what is painted an inch from the sheet's edges, less the margins that gs
 #                                               names for the device (/Margins)
-#   hpijs        printer-driver-hpijs           it thins what is black, so it is compared with what decode.py paints
-#   rastertohp   cups-filters, cups-ppdc        (0, 150): `&a360V` below the top margin 0
+#   hpijs        printer-driver-hpijs           the same, less 1/4 inch from the left and 1/5 inch from above; and 8/48
+#                                               inch lower, since `&l8c8E` sets so much as the top margin
+#   rastertohp   cups, cups-ppdc                (0, 150): `&a360V` below the top margin 0
 #   ippevepcl    cups-ipp-utils                 (0, 100): `&a120V`, 50 dots, below `&l2E` at 12 lines an inch, 50 more
 #   Gutenprint   printer-driver-gutenprint      (0, 50): `&a120V` below the top margin 0
 #   hp2xx        hp2xx                          (0, 0) of A4: `&l26A`, `&l0E`, `&a0V`; without them the first line, (0, 187)
@@ -23,7 +24,7 @@ set -euo pipefail
 cd "$(dirname "$0")/.."
 source bench/program.sh
 
-PACKAGES="netpbm imagemagick graphicsmagick efax ghostscript printer-driver-hpijs cups-filters cups-ppdc cups-ipp-utils
+PACKAGES="netpbm imagemagick graphicsmagick efax ghostscript printer-driver-hpijs cups cups-ppdc cups-ipp-utils
     printer-driver-gutenprint hp2xx barcode"
 work=build/client
 bitmaps="$work/dither.pbm $work/strips.pbm"
@@ -43,7 +44,12 @@ end() {
     if [ -n "$wrong" ]; then
         status=1
     fi
-    echo "| $client | $version | $options | $jobs | $read | $written | ${wrong:-$1} |"
+    echo "| $client | $version | $options | $jobs | $(grouped "$read") | $(grouped "$written") | ${wrong:-$1} |"
+}
+
+# 1,234,567 for 1234567.
+grouped() {
+    sed ':more; s/\B[0-9]\{3\}\>/,&/; t more' <<< "$1"
 }
 
 # ---- one job
@@ -89,6 +95,13 @@ says() {
     write_again "$job" "$dpi"
 }
 
+# The same, for a client that loses dots: those of page 1 have to be the bitmap's, the upper left one at (X, Y).
+thins() {
+    local job=$1 dpi=$2 bitmap=$3 x=$4 y=$5
+    says "$job" "$dpi"
+    python3 bench/compare.py "$bitmap" "$job.preview" "$x" "$y" 1 within 2> "$job.fault" || wrong="WRONG: $(cat "$job.fault")"
+}
+
 # The job has to be refused by this kind, for this command.
 refuses() {
     local job=$1 dpi=$2 kind=$3 name=$4
@@ -131,7 +144,7 @@ pbmtolj_rows() {
         end "each dot as it went in"
         begin pbmtolj netpbm "$compression, white rows below rows of method 3"
         pbmtolj_jobs "$compression" "$work/strips.pbm" says_otherwise
-        end "as the job says, which isn't what went in: the client's fault (bench/README.md)"
+        end "as the job says, which isn't what went in: the client's fault"
     done
     begin pbmtolj netpbm "plain; 600"
     pbmtolj -quiet -resolution 600 "$work/dither.pbm" > "$work/job.pcl"
@@ -193,11 +206,12 @@ gs_rows() {
         end "each dot as it went in"
     done
     begin ghostscript ghostscript "lj4dith; 600"
+    margins=($(gs_margins lj4dith))
     for bitmap in $bitmaps; do
         gs_job lj4dith 600 "$bitmap"
-        says "$work/job.pcl" 600
+        thins "$work/job.pcl" 600 "$bitmap" $((600 + margins[0])) $((600 + margins[1]))
     done
-    end "as the job says; the client dithers, and loses dots of its own"
+    end "as the job says: what went in, but for dots that the client loses"
     for device in ljet3 ljet4; do
         begin ghostscript ghostscript "$device"
         gs_job "$device" 300 "$work/dither.pbm"
@@ -219,9 +233,9 @@ hpijs_rows() {
         for bitmap in $bitmaps; do
             gs_job ijs "$dpi" "$bitmap" -sIjsServer=hpijs -dIjsUseOutputFD -sDeviceManufacturer=HEWLETT-PACKARD \
                 -sDeviceModel="HP LaserJet" -sIjsParams=Quality:Quality="$quality",Quality:ColorMode=0,Quality:MediaType=0,Quality:PenSet=0,Quality:FullBleed=0
-            says "$work/job.pcl" "$dpi"
+            thins "$work/job.pcl" "$dpi" "$bitmap" $((dpi - dpi / 4)) $((dpi - dpi / 5 + dpi / 6))
         done
-        end "as the job says; the client thins what is black"
+        end "as the job says: what went in, but for dots that the client loses"
     done
 }
 
@@ -229,7 +243,7 @@ rastertohp_rows() {
     local method dpi page_dpi bitmap
     ppdc -d "$work" /usr/share/cups/drv/sample.drv > /dev/null 2>&1
     for method in 0 1 2; do
-        begin "CUPS rastertohp" cups-filters "method $method; 75, 150, 300, 600"
+        begin "CUPS rastertohp" cups "method $method; 75, 150, 300, 600"
         for dpi in 75 150 300 600; do
             page_dpi=$((dpi == 600 ? 600 : 300))
             for bitmap in $bitmaps; do
@@ -313,7 +327,7 @@ barcode_rows() {
 samples() {
     local job
     for job in examples/*.pcl; do
-        client=$job version= options= jobs=1 read=$(stat -c %s "$job") written=0 wrong=
+        client="\`$job\`" version= options= jobs=1 read=$(stat -c %s "$job") written=0 wrong=
         cp "$job" "$work/job.pcl"
         write_again "$work/job.pcl" 300
         end "written again, each dot the same"

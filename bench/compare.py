@@ -1,11 +1,12 @@
 #!/usr/bin/env python3
 """Compares a bitmap with the preview of a page on which it was printed.
 
-    python3 bench/compare.py BITMAP PREVIEW X Y SCALE
+    python3 bench/compare.py BITMAP PREVIEW X Y SCALE [within]
 
 Both are raw PBM. Each dot of the bitmap has to be a square of SCALE dots of the preview, the upper left one at (X, Y),
-and all else white. What lies past the right or the lower edge of the page is left out. Prints the first dot that is
-wrong, and ends with status 1; prints nothing where none is.
+and all else white. What lies past the right or the lower edge of the page is left out. With `within`, dots of the
+bitmap may be missing, and all else has to be white. Prints the first dot that is wrong, and ends with status 1; prints
+nothing where none is.
 """
 
 import sys
@@ -29,15 +30,15 @@ def expected_rows(bitmap, page_width, page_height, x, y, scale):
     return expected
 
 
-def main(bitmap_path, preview_path, x, y, scale):
+def main(bitmap_path, preview_path, x, y, scale, may_miss):
     width, height, rows = pbm.read(preview_path)
     expected = expected_rows(pbm.read(bitmap_path), width, height, x, y, scale)
     for line in range(height):
-        if expected[line] != rows[line]:
-            first = width - (expected[line] ^ rows[line]).bit_length()
-            sys.exit("%s: dot (%d, %d) of the page is wrong" % (bitmap_path, first, line))
+        wrong = rows[line] & ~expected[line] if may_miss else rows[line] ^ expected[line]
+        if wrong:
+            sys.exit("%s: dot (%d, %d) of the page is wrong" % (bitmap_path, width - wrong.bit_length(), line))
 
 
-if len(sys.argv) != 6:
+if len(sys.argv) not in (6, 7) or sys.argv[6:] not in ([], ["within"]):
     sys.exit(__doc__)
-main(*sys.argv[1:3], *map(int, sys.argv[3:]))
+main(*sys.argv[1:3], *map(int, sys.argv[3:6]), len(sys.argv) == 7)

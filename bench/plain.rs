@@ -35,7 +35,9 @@ fn main() -> ExitCode {
     let mut out = io::stdout().lock();
     let written = match done {
         Task::Preview { kept: None, .. } => return ExitCode::from(1),
-        Task::Preview { kept: Some(bitmap), .. } => bitmap.write(&mut out),
+        Task::Preview {
+            kept: Some(bitmap), ..
+        } => bitmap.write(&mut out),
         Task::Rewrite(mut text) => {
             text.extend_from_slice(b"\x1bE");
             out.write_all(&text).and_then(|()| out.flush())
@@ -74,7 +76,10 @@ fn arguments() -> Option<(Task, u32)> {
         }
     }
     let task = if is_preview {
-        Task::Preview { wanted: page?, kept: None }
+        Task::Preview {
+            wanted: page?,
+            kept: None,
+        }
     } else {
         Task::Rewrite(b"\x1bE".to_vec())
     };
@@ -346,7 +351,9 @@ impl Raster {
 
     /// The dot row below the last row.
     fn below(&self) -> usize {
-        let rows = self.height.map_or(self.rows, |height| self.rows.min(height));
+        let rows = self
+            .height
+            .map_or(self.rows, |height| self.rows.min(height));
         self.top + rows * self.scale
     }
 }
@@ -438,7 +445,9 @@ impl Performer {
         self.performed += 1;
         match &command.name {
             b"*tR" | b"*rF" | b"*rS" | b"*rT" | b"*rA" if self.raster.is_some() => Some(()),
-            b"*bM" | b"*bY" | b"*bW" | b"*tR" | b"*rF" | b"*rS" | b"*rT" | b"*rA" => self.perform_raster(command),
+            b"*bM" | b"*bY" | b"*bW" | b"*tR" | b"*rF" | b"*rS" | b"*rT" | b"*rA" => {
+                self.perform_raster(command)
+            }
             _ => {
                 self.end_raster();
                 self.perform_page(command)
@@ -482,12 +491,16 @@ impl Performer {
                     self.bitmap = Bitmap::new(size, self.dpi);
                 }
             }
-            b"&lX" if matches!(value.count(), Some(1..=99)) => self.settings.copies = value.count()?,
+            b"&lX" if matches!(value.count(), Some(1..=99)) => {
+                self.settings.copies = value.count()?
+            }
             b"&lE" => self.set_top_margin(u64::from(value.count()?) * LINE),
             b"&lL" if matches!(value.count(), Some(0 | 1)) => {}
             b"&lO" | b"&lU" | b"&lZ" | b"&aP" if value.whole() == 0 => {}
             b"&lH" | b"&aG" => self.eject_marked()?,
-            b"*pX" => self.settings.move_to(value.moved(0, self.settings.x, PCL_UNIT), self.settings.y),
+            b"*pX" => self
+                .settings
+                .move_to(value.moved(0, self.settings.x, PCL_UNIT), self.settings.y),
             b"*pY" => {
                 let y = value.moved(self.settings.top_margin, self.settings.y, PCL_UNIT);
                 self.settings.move_to(self.settings.x, y);
@@ -527,7 +540,11 @@ impl Performer {
     }
 
     fn eject_marked(&mut self) -> Option<()> {
-        if self.is_marked { self.eject() } else { Some(()) }
+        if self.is_marked {
+            self.eject()
+        } else {
+            Some(())
+        }
     }
 
     /// Ends the page: keeps it if it is the one that is wanted, or writes it again.
@@ -588,7 +605,8 @@ impl Performer {
     fn end_raster(&mut self) {
         if let Some(raster) = self.raster.take() {
             let unit = self.unit();
-            self.settings.move_to(raster.left as u64 * unit, raster.below() as u64 * unit);
+            self.settings
+                .move_to(raster.left as u64 * unit, raster.below() as u64 * unit);
         }
     }
 }
