@@ -1,55 +1,44 @@
 #!/usr/bin/env python3
-"""Compares a bitmap with the preview of a Letter page on which it was printed.
+"""Compares a bitmap with the preview of a page on which it was printed.
 
-    python3 bench/compare.py BITMAP PREVIEW
+    python3 bench/compare.py BITMAP PREVIEW X Y SCALE [within]
 
-Both are raw PBM. The preview has to be the bitmap, dot for dot, with its corner at dot (0, 37), and white
-elsewhere. Prints one line, and ends with status 1 where a dot differs.
+Both are raw PBM. Each dot of the bitmap has to be a square of SCALE dots of the preview, the upper left one at (X, Y),
+and all else white. What lies past the right or the lower edge of the page is left out. With `within`, dots of the
+bitmap may be missing, and all else has to be white. Prints the first dot that is wrong, and ends with status 1; prints
+nothing where none is.
 """
 
-import os
 import sys
 
-CORNER = 37  # the row of the bitmap's first row
-PAGE = (2400, 3300)
+sys.dont_write_bytecode = True
+import pbm
 
 
-def read(path):
-    """The width, the height, and each row as a number whose highest bit is the left dot."""
-    with open(path, "rb") as source:
-        magic, size, dots = source.read().split(b"\n", 2)
-    width, height = map(int, size.split())
-    row_bytes = (width + 7) // 8
-    if magic != b"P4" or len(dots) != row_bytes * height:
-        sys.exit("%s: no raw PBM" % path)
-    pads = 8 * row_bytes - width
-    rows = [int.from_bytes(dots[y * row_bytes:(y + 1) * row_bytes], "big") >> pads for y in range(height)]
-    return width, height, rows
+def spread(row, width, scale):
+    return int("".join(digit * scale for digit in format(row, "0%db" % width)), 2) if scale > 1 else row
 
 
-def first_difference(bitmap, preview):
-    """The first dot of the page that isn't as it has to be, as x and y; none where each is."""
+def expected_rows(bitmap, page_width, page_height, x, y, scale):
     width, height, rows = bitmap
-    page_width, page_height, page_rows = preview
-    for y in range(page_height):
-        expected = rows[y - CORNER] << (page_width - width) if 0 <= y - CORNER < height else 0
-        if expected != page_rows[y]:
-            return page_width - (expected ^ page_rows[y]).bit_length(), y
-    return None
+    past = x + width * scale - page_width
+    expected = [0] * page_height
+    for place, row in enumerate(rows):
+        dots = spread(row, width, scale)
+        for line in range(y + place * scale, min(y + (place + 1) * scale, page_height)):
+            expected[line] = dots >> past if past > 0 else dots << -past
+    return expected
 
 
-def main(bitmap_path, preview_path):
-    bitmap, preview = read(bitmap_path), read(preview_path)
-    width, height, rows = bitmap
-    name = "%s, %d by %d dots, %d of them black" % (os.path.basename(bitmap_path), width, height, sum(bin(row).count("1") for row in rows))
-    if preview[:2] != PAGE or width > PAGE[0] or CORNER + height > PAGE[1]:
-        sys.exit("%s: the preview is no Letter page, or too small" % name)
-    different = first_difference(bitmap, preview)
-    if different:
-        sys.exit("%s: dot (%d, %d) of the page is wrong" % (name, *different))
-    print("%s: each dot of the page is right" % name)
+def main(bitmap_path, preview_path, x, y, scale, may_miss):
+    width, height, rows = pbm.read(preview_path)
+    expected = expected_rows(pbm.read(bitmap_path), width, height, x, y, scale)
+    for line in range(height):
+        wrong = rows[line] & ~expected[line] if may_miss else rows[line] ^ expected[line]
+        if wrong:
+            sys.exit("%s: dot (%d, %d) of the page is wrong" % (bitmap_path, width - wrong.bit_length(), line))
 
 
-if len(sys.argv) != 3:
+if len(sys.argv) not in (6, 7) or sys.argv[6:] not in ([], ["within"]):
     sys.exit(__doc__)
-main(*sys.argv[1:])
+main(*sys.argv[1:3], *map(int, sys.argv[3:6]), len(sys.argv) == 7)

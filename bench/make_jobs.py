@@ -5,6 +5,10 @@
 
 dense-300.pcl   one Letter page of 3300 rows of 300 bytes at 300 dots per inch
 dense-600.pcl   one Letter page of 6600 rows of 600 bytes at 600 dots per inch
+runs-300.pcl    as dense-300, in method 1: each row is runs of 1 to 8 bytes
+packed-300.pcl  as dense-300, in method 2: the same rows, in literals of the runs of one byte and repeats of the others
+delta-300.pcl   as dense-300, in method 3: each row changes 1 to 8 bytes at each of some forty places of the row above
+scaled-75.pcl   one Letter page of 825 rows of 75 bytes at 75 dots per inch, each dot a square of four by four
 text-64.pcl     64 pages at 300 dots per inch that look like pages of text: lines of short inked spans, each row
                 sent up to its last inked byte, with blank rows sent as rows of no bytes between and below them
 
@@ -44,9 +48,56 @@ def sent(row):
 
 
 def dense(resolution):
+    """Random rows over a whole page, at any resolution."""
     numbers = Numbers()
     rows = b"".join(sent(numbers.row(resolution)) for _ in range(11 * resolution))
     return head(resolution) + PAGE_START + rows + PAGE_END + b"\x1bE"
+
+
+def runs(numbers):
+    """The runs of a row of 300 bytes: lengths and bytes."""
+    left = 300
+    while left > 0:
+        length = min(1 + numbers.below(8), left)
+        left -= length
+        yield length, numbers.below(256)
+
+
+def in_runs(numbers):
+    return b"".join(bytes((length - 1, byte)) for length, byte in runs(numbers))
+
+
+def packed(numbers):
+    data, literal = b"", b""
+    for length, byte in runs(numbers):
+        if length == 1:
+            literal += bytes([byte])
+        else:
+            data += literal_of(literal) + bytes((257 - length, byte))
+            literal = b""
+    return data + literal_of(literal)
+
+
+def literal_of(literal):
+    return bytes([len(literal) - 1]) + literal if literal else b""
+
+
+def delta(numbers):
+    data, left = b"", 300
+    while left > 0:
+        offset, length = numbers.below(7), 1 + numbers.below(8)
+        if offset + length > left:
+            break
+        data += bytes([32 * (length - 1) + offset]) + numbers.row(length)
+        left -= offset + length
+    return data
+
+
+def coded(method, row_data):
+    """A dense page at 300 dots per inch by one method."""
+    numbers = Numbers()
+    rows = b"".join(sent(row_data(numbers)) for _ in range(3300))
+    return head(300) + PAGE_START + b"\x1b*b%dM" % method + rows + PAGE_END + b"\x1bE"
 
 
 def text_line(numbers):
@@ -74,9 +125,19 @@ def text(pages):
     return head(300) + b"".join(text_page(numbers) for _ in range(pages)) + b"\x1bE"
 
 
+def jobs():
+    yield "dense-300", dense(300)
+    yield "dense-600", dense(600)
+    yield "runs-300", coded(1, in_runs)
+    yield "packed-300", coded(2, packed)
+    yield "delta-300", coded(3, delta)
+    yield "scaled-75", dense(75)
+    yield "text-64", text(64)
+
+
 def main(folder):
     os.makedirs(folder, exist_ok=True)
-    for name, job in (("dense-300", dense(300)), ("dense-600", dense(600)), ("text-64", text(64))):
+    for name, job in jobs():
         with open(os.path.join(folder, name + ".pcl"), "wb") as out:
             out.write(job)
 

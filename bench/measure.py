@@ -17,7 +17,15 @@ import time
 
 RUNS = 21
 # each job with the page that is previewed, one of the middle, and the resolution
-JOBS = [("dense-300", 1, 300), ("dense-600", 1, 600), ("text-64", 32, 300)]
+JOBS = [
+    ("dense-300", 1, 300),
+    ("dense-600", 1, 600),
+    ("runs-300", 1, 300),
+    ("packed-300", 1, 300),
+    ("delta-300", 1, 300),
+    ("scaled-75", 1, 300),
+    ("text-64", 32, 300),
+]
 
 
 def run(command, job, page):

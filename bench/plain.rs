@@ -4,7 +4,9 @@
 //!     plain min [--dpi 300|600] < job.pcl > written.pcl
 //!
 //! Status 0: the page or the job was written. 1: the job is refused, or has no such page. 2: usage. 3: reading or
-//! writing failed. What a job means is in docs/LANGUAGE.md, and how it is written again in docs/OUTPUT.md.
+//! writing failed. What a job means is in docs/LANGUAGE.md, and how it is written again in docs/OUTPUT.md. It knows
+//! the commands of raster jobs: of those that only move text it has the top margin, and no line spacing, no columns,
+//! no tabs, no line feeds, and no universal exit; and no rectangles.
 
 use std::io::{self, Read, Write};
 use std::process::ExitCode;
@@ -14,10 +16,9 @@ const PAGE_LIMIT: usize = 256;
 
 /// Lengths and positions are in units of 1/7200 inch.
 const PCL_UNIT: u64 = 24;
+const LINE: u64 = 1200;
 const FIRST_LINE: u64 = 900;
 const TOP_MARGIN: u64 = 3600;
-const PAGE_WIDTH: u64 = 2400 * 24;
-const PAGE_HEIGHT: u64 = 3300 * 24;
 
 fn main() -> ExitCode {
     let Some((task, dpi)) = arguments() else {
@@ -34,7 +35,9 @@ fn main() -> ExitCode {
     let mut out = io::stdout().lock();
     let written = match done {
         Task::Preview { kept: None, .. } => return ExitCode::from(1),
-        Task::Preview { kept: Some(bitmap), .. } => bitmap.write(&mut out),
+        Task::Preview {
+            kept: Some(bitmap), ..
+        } => bitmap.write(&mut out),
         Task::Rewrite(mut text) => {
             text.extend_from_slice(b"\x1bE");
             out.write_all(&text).and_then(|()| out.flush())
@@ -73,63 +76,108 @@ fn arguments() -> Option<(Task, u32)> {
         }
     }
     let task = if is_preview {
-        Task::Preview { wanted: page?, kept: None }
+        Task::Preview {
+            wanted: page?,
+            kept: None,
+        }
     } else {
         Task::Rewrite(b"\x1bE".to_vec())
     };
     Some((task, dpi))
 }
 
+// ---- sizes
+
+#[derive(Clone, Copy, PartialEq)]
+enum Size {
+    Executive = 1,
+    Letter = 2,
+    Legal = 3,
+    A4 = 26,
+}
+
+impl Size {
+    fn with_code(code: u32) -> Option<Size> {
+        [Size::Executive, Size::Letter, Size::Legal, Size::A4]
+            .into_iter()
+            .find(|&size| size as u32 == code)
+    }
+
+    /// The width and the height in dots at 300 per inch.
+    fn dots(self) -> (u32, u32) {
+        match self {
+            Size::Executive => (2025, 3150),
+            Size::Letter => (2400, 3300),
+            Size::Legal => (2400, 4200),
+            Size::A4 => (2338, 3507),
+        }
+    }
+
+    fn units_wide(self) -> u64 {
+        u64::from(self.dots().0) * 24
+    }
+
+    fn units_high(self) -> u64 {
+        u64::from(self.dots().1) * 24
+    }
+}
+
 // ---- the dots of a page
 
 /// Rows of whole bytes, the left dot of each eight in the highest bit, 1 black.
 struct Bitmap {
+    size: Size,
     width: usize,
     height: usize,
+    row_bytes: usize,
     dots: Vec<u8>,
 }
 
 impl Bitmap {
-    /// A white Letter page.
-    fn new(dpi: u32) -> Bitmap {
-        let (width, height) = (8 * dpi as usize, 11 * dpi as usize);
+    /// A white page.
+    fn new(size: Size, dpi: u32) -> Bitmap {
+        let (width, height) = size.dots();
+        let (width, height) = ((width * dpi / 300) as usize, (height * dpi / 300) as usize);
+        let row_bytes = width.div_ceil(8);
         Bitmap {
+            size,
             width,
             height,
-            dots: vec![0; width / 8 * height],
+            row_bytes,
+            dots: vec![0; row_bytes * height],
         }
     }
 
-    /// Inks the set bits of `bytes` from dot `x` of row `y` on; what lies off the page is left out.
-    fn paint_row(&mut self, x: usize, y: usize, bytes: &[u8]) {
-        if x >= self.width || y >= self.height {
+    /// Inks the squares of the set bits of `bytes`, `scale` dots wide and high, the first at dot `left` of row `top`.
+    /// What lies off the page is left out.
+    fn paint_row(&mut self, left: usize, top: usize, scale: usize, bytes: &[u8]) {
+        if left >= self.width || top >= self.height {
             return;
         }
-        let row_bytes = self.width / 8;
-        let row = &mut self.dots[y * row_bytes..][..row_bytes][x / 8..];
-        let shift = x % 8;
-        if shift == 0 {
-            for (dots, byte) in row.iter_mut().zip(bytes) {
-                *dots |= byte;
-            }
+        let count = (self.width - left).div_ceil(8 * scale).min(bytes.len());
+        let spread;
+        let line = if scale == 1 {
+            &bytes[..count]
         } else {
-            let mut carried = 0;
-            for (dots, byte) in row.iter_mut().zip(bytes.iter().chain([&0])) {
-                *dots |= carried | byte >> shift;
-                carried = byte << (8 - shift);
-            }
+            spread = spread_bytes(&bytes[..count], scale);
+            &spread
+        };
+        for y in top..(top + scale).min(self.height) {
+            let row = &mut self.dots[y * self.row_bytes..][..self.row_bytes];
+            or_bits(&mut row[left / 8..], left % 8, line);
+            row[self.row_bytes - 1] &= 0xFF << (8 * self.row_bytes - self.width);
         }
     }
 
     /// Appends the page as a raster of its rows: white ones are skipped, and zeros at the end of a row left out.
-    fn rewrite(&self, dpi: u32, text: &mut Vec<u8>) {
+    fn rewrite(&self, dpi: u32, copies: u32, text: &mut Vec<u8>) {
         let start = format!(
-            "\x1b&l1x2a0E\x1b*p0x0Y\x1b*t{dpi}R\x1b*r{}s0A",
-            self.width
+            "\x1b&l{copies}x{}a0E\x1b*p0x0Y\x1b*t{dpi}R\x1b*r{}s0A",
+            self.size as u32, self.width
         );
         text.extend_from_slice(start.as_bytes());
         let mut skipped = 0;
-        for row in self.dots.chunks_exact(self.width / 8) {
+        for row in self.dots.chunks_exact(self.row_bytes) {
             let Some(last) = row.iter().rposition(|&byte| byte != 0) else {
                 skipped += 1;
                 continue;
@@ -152,26 +200,218 @@ impl Bitmap {
     }
 }
 
-// ---- performing
+/// Each bit of the bytes, `scale` times.
+fn spread_bytes(bytes: &[u8], scale: usize) -> Vec<u8> {
+    let square = 0xFF_u64 >> (8 - scale);
+    let mut line = Vec::with_capacity(bytes.len() * scale);
+    for &byte in bytes {
+        let mut wide = 0_u64;
+        for bit in 0..8 {
+            if byte >> bit & 1 == 1 {
+                wide |= square << (scale * bit);
+            }
+        }
+        line.extend_from_slice(&wide.to_be_bytes()[8 - scale..]);
+    }
+    line
+}
+
+/// Sets the bits of `row`, from bit `shift` of its first byte on, where `bytes` has one set.
+fn or_bits(row: &mut [u8], shift: usize, bytes: &[u8]) {
+    if shift == 0 {
+        for (dots, byte) in row.iter_mut().zip(bytes) {
+            *dots |= byte;
+        }
+        return;
+    }
+    let mut carried = 0;
+    for (dots, byte) in row.iter_mut().zip(bytes.iter().chain([&0])) {
+        *dots |= carried | byte >> shift;
+        carried = byte << (8 - shift);
+    }
+}
+
+// ---- row data
+
+/// Writes the row of some data over a seed row; both have the same length.
+fn decode(method: u32, bytes: &[u8], seed: &[u8], row: &mut [u8]) {
+    if method == 3 {
+        row.copy_from_slice(seed);
+        decode_delta(bytes, row);
+        return;
+    }
+    let used = match method {
+        0 => put(row, 0, bytes),
+        1 => decode_runs(bytes, row),
+        _ => decode_packed(bytes, row),
+    };
+    row[used..].fill(0);
+}
+
+/// Writes bytes at a place; what would go past the row is dropped. Gives the place behind them.
+fn put(row: &mut [u8], place: usize, bytes: &[u8]) -> usize {
+    let end = (place + bytes.len()).min(row.len());
+    row[place..end].copy_from_slice(&bytes[..end - place]);
+    end
+}
+
+/// Writes a byte so many times.
+fn put_run(row: &mut [u8], place: usize, count: usize, byte: u8) -> usize {
+    let end = (place + count).min(row.len());
+    row[place..end].fill(byte);
+    end
+}
+
+fn decode_runs(bytes: &[u8], row: &mut [u8]) -> usize {
+    let mut place = 0;
+    for pair in bytes.chunks_exact(2) {
+        place = put_run(row, place, usize::from(pair[0]) + 1, pair[1]);
+    }
+    place
+}
+
+fn decode_packed(mut bytes: &[u8], row: &mut [u8]) -> usize {
+    let mut place = 0;
+    while let Some((&control, rest)) = bytes.split_first() {
+        bytes = rest;
+        match control {
+            0..=127 => {
+                let (literal, behind) = rest.split_at(rest.len().min(usize::from(control) + 1));
+                place = put(row, place, literal);
+                bytes = behind;
+            }
+            128 => {}
+            129..=255 => {
+                let Some((&byte, behind)) = rest.split_first() else {
+                    break;
+                };
+                place = put_run(row, place, 257 - usize::from(control), byte);
+                bytes = behind;
+            }
+        }
+    }
+    place
+}
+
+fn decode_delta(mut bytes: &[u8], row: &mut [u8]) {
+    let mut place = 0;
+    while let Some((&command, rest)) = bytes.split_first() {
+        bytes = rest;
+        let mut offset = usize::from(command % 32);
+        let mut goes_on = offset == 31;
+        while goes_on {
+            let Some((&more, behind)) = bytes.split_first() else {
+                return;
+            };
+            offset += usize::from(more);
+            goes_on = more == 255;
+            bytes = behind;
+        }
+        place = (place + offset).min(row.len());
+        let (fresh, behind) = bytes.split_at(bytes.len().min(usize::from(command / 32) + 1));
+        place = put(row, place, fresh);
+        bytes = behind;
+    }
+}
+
+// ---- rasters
 
 struct Raster {
     left: usize,
     top: usize,
+    scale: usize,
+    /// In raster dots.
+    width: usize,
+    height: Option<usize>,
     rows: usize,
+    seed: Vec<u8>,
+    row: Vec<u8>,
+}
+
+impl Raster {
+    fn skip(&mut self, count: usize) {
+        self.rows += count;
+        self.seed.fill(0);
+    }
+
+    fn send(&mut self, method: u32, bytes: &[u8], bitmap: &mut Bitmap) {
+        decode(method, bytes, &self.seed, &mut self.row);
+        if self.width % 8 > 0
+            && let Some(last) = self.row.last_mut()
+        {
+            *last &= 0xFF << (8 - self.width % 8);
+        }
+        if self.height.is_none_or(|height| self.rows < height) {
+            let top = self.top + self.rows * self.scale;
+            bitmap.paint_row(self.left, top, self.scale, &self.row);
+        }
+        std::mem::swap(&mut self.seed, &mut self.row);
+        self.rows += 1;
+    }
+
+    /// The dot row below the last row.
+    fn below(&self) -> usize {
+        let rows = self
+            .height
+            .map_or(self.rows, |height| self.rows.min(height));
+        self.top + rows * self.scale
+    }
+}
+
+// ---- performing
+
+/// What a reset sets.
+struct Settings {
+    size: Size,
+    copies: u32,
+    x: u64,
+    y: u64,
+    top_margin: u64,
+    resolution: u32,
+    raster_width: Option<usize>,
+    raster_height: Option<usize>,
+    method: u32,
+}
+
+impl Settings {
+    const DEFAULTS: Settings = Settings {
+        size: Size::Letter,
+        copies: 1,
+        x: 0,
+        y: TOP_MARGIN + FIRST_LINE,
+        top_margin: TOP_MARGIN,
+        resolution: 75,
+        raster_width: None,
+        raster_height: None,
+        method: 0,
+    };
+
+    fn to_first_line(&mut self) {
+        self.y = (self.top_margin + FIRST_LINE).min(self.size.units_high());
+    }
+
+    fn set_size(&mut self, size: Size) {
+        self.size = size;
+        self.x = 0;
+        self.top_margin = TOP_MARGIN;
+        self.to_first_line();
+    }
+
+    fn move_to(&mut self, x: u64, y: u64) {
+        self.x = x.min(self.size.units_wide());
+        self.y = y.min(self.size.units_high());
+    }
 }
 
 struct Performer {
     dpi: u32,
     task: Task,
+    settings: Settings,
+    raster: Option<Raster>,
     bitmap: Bitmap,
     is_marked: bool,
     ejected: usize,
     performed: u32,
-    x: u64,
-    y: u64,
-    top_margin: u64,
-    resolution: u32,
-    raster: Option<Raster>,
 }
 
 /// The task with the pages of a job, or nothing where the job is refused.
@@ -179,17 +419,13 @@ fn perform(job: &[u8], task: Task, dpi: u32) -> Option<Task> {
     let mut performer = Performer {
         dpi,
         task,
-        bitmap: Bitmap::new(dpi),
+        settings: Settings::DEFAULTS,
+        raster: None,
+        bitmap: Bitmap::new(Size::Letter, dpi),
         is_marked: false,
         ejected: 0,
         performed: 0,
-        x: 0,
-        y: 0,
-        top_margin: 0,
-        resolution: 0,
-        raster: None,
     };
-    performer.set_defaults();
     let mut reader = Reader {
         rest: job,
         group: None,
@@ -207,80 +443,108 @@ impl Performer {
             return None;
         }
         self.performed += 1;
-        let value = command.value;
-        let is_plain_zero = value.whole() == 0 && !value.is_signed;
         match &command.name {
-            b"  E" => self.reset()?,
-            b"  \x0c" => {
+            b"*tR" | b"*rF" | b"*rS" | b"*rT" | b"*rA" if self.raster.is_some() => Some(()),
+            b"*bM" | b"*bY" | b"*bW" | b"*tR" | b"*rF" | b"*rS" | b"*rT" | b"*rA" => {
+                self.perform_raster(command)
+            }
+            _ => {
                 self.end_raster();
-                self.eject()?;
-                self.to_first_line();
+                self.perform_page(command)
             }
-            b"&lE" if is_plain_zero => {
-                self.end_raster();
-                self.top_margin = 0;
-                if !self.is_marked {
-                    self.to_first_line();
-                }
-            }
-            b"&lA" if value.whole() == 2 => {
-                if self.is_marked {
-                    self.eject()?;
-                }
-                let resolution = self.resolution;
-                self.set_defaults();
-                self.resolution = resolution;
-            }
-            b"&lX" if value.whole() == 1 => self.end_raster(),
-            b"*pX" if is_plain_zero => {
-                self.end_raster();
-                self.x = value.in_pcl_units();
-            }
-            b"*pY" if is_plain_zero => {
-                self.end_raster();
-                self.y = self.top_margin + value.in_pcl_units();
-            }
-            b"*tR" if self.raster.is_some() => {}
-            b"*tR" if value.whole() == i64::from(self.dpi) => self.resolution = self.dpi,
-            b"*rA" if self.raster.is_some() => {}
-            b"*rA" if value.whole() == 0 => self.raster = Some(self.raster_from(0)),
-            b"*rA" if value.whole() == 1 => self.raster = Some(self.raster_from(self.dot(self.x))),
-            b"*rS" if self.raster.is_some() => {}
-            b"*rS" if value.whole() == self.bitmap.width as i64 => {}
-            b"*rB" | b"*rC" => self.end_raster(),
-            b"*bM" if value.whole() == 0 => {}
-            b"*bY" if value.whole() >= 0 => {
+        }
+    }
+
+    /// The commands that a raster goes on behind.
+    fn perform_raster(&mut self, command: &Command) -> Option<()> {
+        let count = command.value.count()?;
+        match &command.name {
+            b"*tR" if self.takes_resolution(count) => self.settings.resolution = count,
+            b"*rF" if matches!(count, 0 | 3) => {}
+            b"*rS" => self.settings.raster_width = (count > 0).then_some(count as usize),
+            b"*rT" => self.settings.raster_height = (count > 0).then_some(count as usize),
+            b"*rA" if count == 0 => self.raster = Some(self.raster_from(0)),
+            b"*rA" if count == 1 => self.raster = Some(self.raster_from(self.dot(self.settings.x))),
+            b"*bM" if count <= 3 => self.settings.method = count,
+            b"*bY" => {
                 if let Some(raster) = &mut self.raster {
-                    raster.rows += value.whole() as usize;
+                    raster.skip(count as usize);
                 }
             }
-            b"*bW" if self.resolution == self.dpi => {
-                let mut raster = self.raster.take().unwrap_or_else(|| self.raster_from(0));
-                self.bitmap
-                    .paint_row(raster.left, raster.top + raster.rows, command.bytes);
-                self.is_marked = true;
-                raster.rows += 1;
-                self.raster = Some(raster);
-            }
+            b"*bW" => self.send_row(command.bytes),
             _ => return None,
         }
         Some(())
     }
 
-    fn set_defaults(&mut self) {
-        self.x = 0;
-        self.top_margin = TOP_MARGIN;
-        self.to_first_line();
-        self.resolution = 75;
-        self.raster = None;
+    /// All others.
+    fn perform_page(&mut self, command: &Command) -> Option<()> {
+        let value = command.value;
+        match &command.name {
+            b"  E" => self.reset()?,
+            b"  \x0c" => self.eject()?,
+            b"&lA" => {
+                let size = Size::with_code(value.count()?)?;
+                self.eject_marked()?;
+                self.settings.set_size(size);
+                if self.bitmap.size != size {
+                    self.bitmap = Bitmap::new(size, self.dpi);
+                }
+            }
+            b"&lX" if matches!(value.count(), Some(1..=99)) => {
+                self.settings.copies = value.count()?
+            }
+            b"&lE" => self.set_top_margin(u64::from(value.count()?) * LINE),
+            b"&lL" if matches!(value.count(), Some(0 | 1)) => {}
+            b"&lO" | b"&lU" | b"&lZ" | b"&aP" if value.whole() == 0 => {}
+            b"&lH" | b"&aG" => self.eject_marked()?,
+            b"*pX" => self
+                .settings
+                .move_to(value.moved(0, self.settings.x, PCL_UNIT), self.settings.y),
+            b"*pY" => {
+                let y = value.moved(self.settings.top_margin, self.settings.y, PCL_UNIT);
+                self.settings.move_to(self.settings.x, y);
+            }
+            b"*rB" => {}
+            b"*rC" => self.settings.method = 0,
+            _ => return None,
+        }
+        Some(())
+    }
+
+    fn takes_resolution(&self, resolution: u32) -> bool {
+        match self.dpi {
+            300 => matches!(resolution, 75 | 100 | 150 | 300),
+            _ => matches!(resolution, 75 | 100 | 150 | 200 | 300 | 600),
+        }
+    }
+
+    fn set_top_margin(&mut self, top: u64) {
+        if top > self.settings.size.units_high() {
+            return;
+        }
+        self.settings.top_margin = top;
+        if !self.is_marked {
+            self.settings.to_first_line();
+        }
     }
 
     fn reset(&mut self) -> Option<()> {
-        if self.is_marked {
-            self.eject()?;
+        self.end_raster();
+        self.eject_marked()?;
+        self.settings = Settings::DEFAULTS;
+        if self.bitmap.size != Size::Letter {
+            self.bitmap = Bitmap::new(Size::Letter, self.dpi);
         }
-        self.set_defaults();
         Some(())
+    }
+
+    fn eject_marked(&mut self) -> Option<()> {
+        if self.is_marked {
+            self.eject()
+        } else {
+            Some(())
+        }
     }
 
     /// Ends the page: keeps it if it is the one that is wanted, or writes it again.
@@ -290,21 +554,18 @@ impl Performer {
         }
         self.ejected += 1;
         self.is_marked = false;
+        self.settings.to_first_line();
         match &mut self.task {
             Task::Preview { wanted, kept } if self.ejected == *wanted => {
-                let white = Bitmap::new(self.dpi);
+                let white = Bitmap::new(self.bitmap.size, self.dpi);
                 *kept = Some(std::mem::replace(&mut self.bitmap, white));
                 return Some(());
             }
             Task::Preview { .. } => {}
-            Task::Rewrite(text) => self.bitmap.rewrite(self.dpi, text),
+            Task::Rewrite(text) => self.bitmap.rewrite(self.dpi, self.settings.copies, text),
         }
         self.bitmap.dots.fill(0);
         Some(())
-    }
-
-    fn to_first_line(&mut self) {
-        self.y = self.top_margin + FIRST_LINE;
     }
 
     /// The dot of a position.
@@ -318,18 +579,34 @@ impl Performer {
     }
 
     fn raster_from(&self, left: usize) -> Raster {
+        let scale = (self.dpi / self.settings.resolution) as usize;
+        let to_edge = self.bitmap.width.saturating_sub(left).div_ceil(scale);
+        let width = self.settings.raster_width.unwrap_or(to_edge);
         Raster {
             left,
-            top: self.dot(self.y),
+            top: self.dot(self.settings.y),
+            scale,
+            width,
+            height: self.settings.raster_height,
             rows: 0,
+            seed: vec![0; width.div_ceil(8)],
+            row: vec![0; width.div_ceil(8)],
         }
+    }
+
+    fn send_row(&mut self, bytes: &[u8]) {
+        let mut raster = self.raster.take().unwrap_or_else(|| self.raster_from(0));
+        raster.send(self.settings.method, bytes, &mut self.bitmap);
+        self.raster = Some(raster);
+        self.is_marked = true;
     }
 
     /// Puts the cursor below the raster's last row.
     fn end_raster(&mut self) {
         if let Some(raster) = self.raster.take() {
-            self.x = (raster.left as u64 * self.unit()).min(PAGE_WIDTH);
-            self.y = ((raster.top + raster.rows) as u64 * self.unit()).min(PAGE_HEIGHT);
+            let unit = self.unit();
+            self.settings
+                .move_to(raster.left as u64 * unit, raster.below() as u64 * unit);
         }
     }
 }
@@ -360,8 +637,19 @@ impl Number {
         }
     }
 
-    fn in_pcl_units(self) -> u64 {
-        self.parts * PCL_UNIT / 10_000
+    /// The whole part, where it isn't below 0.
+    fn count(self) -> Option<u32> {
+        u32::try_from(self.whole()).ok()
+    }
+
+    /// Where a move by so many of a unit ends.
+    fn moved(self, origin: u64, cursor: u64, unit: u64) -> u64 {
+        let amount = self.parts * unit / 10_000;
+        match (self.is_signed, self.is_negative) {
+            (false, _) => origin + amount,
+            (true, false) => cursor + amount,
+            (true, true) => cursor.saturating_sub(amount),
+        }
     }
 }
 
