@@ -1,16 +1,19 @@
 -- Tables that are known without being filled, and what a table of least numbers says of its places.
-use Rattle.std.proofs.Common.{◌≡◌, ℕ, zero, suc, ◌+◌, ◌-◌, ◌<◌, ◌≤◌, List, [], ◌∷◌, length, get_or, drop, replicate, refl, ap, ◌∙◌, subst, inl, inr, arith}
+use Rattle.std.proofs.Common.{◌≡◌, ℕ, zero, suc, ◌+◌, ◌-◌, ◌<◌, ◌≤◌, List, [], ◌∷◌, ◌++◌, length, get_or, take, drop, replicate, refl, sym, ap, ◌∙◌, subst, inl, inr, arith}
 use Rattle.std.specs.Prelude.{slice_index}
 use Rattle.std.proofs.lemmas.Bool.{cases_lt}
-use Rattle.std.proofs.lemmas.List.{length-drop, length-replicate, get_or_past}
+use Rattle.std.proofs.lemmas.List.{length-take, length-drop, length-replicate, get_or_past, take-append-drop}
 use Rattle.pcl_base.specs.declared.method.Method.{Method}
 use Rattle.pcl_base.specs.declared.method.Method.TheVariants.{Plain}
 use Rattle.pcl_rows.specs.Elements.{Element, stop}
-use Rattle.pcl_rows.specs.Rows.{base}
+use Rattle.pcl_rows.specs.Rows.{base, RowFrom, IsRowData}
+use Rattle.pcl_rows.specs.Fronts.{overlaid}
+use Rattle.pcl_rows.proofs.Overlays.{overlaid_within}
+use Rattle.pcl_rows.proofs.Readings.{plain_elements, row_of_plain}
 use Rattle.pcl_rows.proofs.Spellings.{spelling_has_byte}
 use Rattle.pcl_coders.specs.Walks.{Walk, total}
 use Rattle.pcl_coders.specs.RowWalks.{Leads, Ends, cost, IsRowTable, IsLeastTable}
-use Rattle.pcl_coders.specs.Coding.{IsCodable, IsLeastLength}
+use Rattle.pcl_coders.specs.Coding.{IsCodable, IsLeastLength, AppendsLeast}
 use Rattle.pcl_coders.specs.Filling.{IsPlaceNumber, AreRightFrom, IsFirstEnd, IsBegun}
 use Rattle.pcl_coders.specs.declared.shape.Shape.TheVariants.{SingleByte}
 use Rattle.pcl_coders.specs.Shape.{element_of}
@@ -148,3 +151,33 @@ pub right_of_least : (method : Method) (seed row table : List ℕ) → length se
 right_of_least method seed row table same is place low high =
     let w = is.attained place high in
     right_here method seed row table place same is.table_is high w.0 w.1 w.2
+
+-- a row up to where no more of it is needed is its data
+pub plain_data : (seed row : List ℕ) (end : ℕ) → IsCodable seed row → IsFirstEnd (base Plain seed) row end → IsRowData Plain seed row (take end row)
+plain_data seed row end codable first =
+    let old : List ℕ = base Plain seed in
+    let bytes : List ℕ = take end row in
+    let long : length bytes ≡ end = omega (arith, length-take end row, first.within) in
+    let same : length old ≡ length row = length-base Plain seed ∙ codable.same_size in
+    let begin : 0 + length bytes ≡ end = omega (arith, long) in
+    let laid : overlaid old 0 bytes ≡ row =
+    overlaid_within old 0 bytes (omega (arith, long, same, first.within))
+    ∙ ap (λ (k : ℕ). bytes ++ drop k old) begin
+    ∙ ap (λ (behind : List ℕ). bytes ++ behind) (sym first.ends)
+    ∙ take-append-drop end row in
+    let elements = plain_elements bytes in
+    record {
+      whole = (elements.0, elements.1, elements.2, omega (arith, elements.3, long, first.within));
+      decodes = subst (λ (made : List ℕ). RowFrom Plain bytes old made) laid (row_of_plain bytes old);
+      fits = omega (arith, long, first.within, codable.small);
+    }
+
+pub plain_appended : (seed row old : List ℕ) (end : ℕ) → IsCodable seed row → IsFirstEnd (base Plain seed) row end → AppendsLeast Plain seed row old (old ++ take end row)
+plain_appended seed row old end codable first =
+    let long : length (take end row) ≡ end = omega (arith, length-take end row, first.within) in
+    record {
+      bytes = take end row;
+      joined = refl;
+      whole = plain_data seed row end codable first;
+      least = subst (IsLeastLength Plain seed row) (sym long) (plain_least seed row end codable first);
+    }

@@ -1,6 +1,7 @@
 //! Tables of least numbers, and data along them.
 
 ghost use Rattle.std.specs.Prelude.{◌≡◌, ◌+◌, ◌≤◌, ◌++◌, length, take, replicate, slice_index, OnOk, OnErr};
+ghost use Rattle.pcl_base.specs.declared.method.Method.TheVariants as methods;
 ghost use Rattle.pcl_rows.specs.Rows.{base};
 ghost use Rattle.pcl_coders.specs.RowWalks.{IsLeastTable};
 ghost use Rattle.pcl_coders.specs.Coding.{IsCodable, IsLeastLength, AppendsLeast};
@@ -55,8 +56,24 @@ pub fn append(method: Method, row: &[u8], seed: &[u8], out: &mut Vec<u8>) -> Res
     ensures ok { OnOk result (AppendsLeast method seed.now row.now out.old.items out.new.items) }
     ensures err { OnErr result (out.new.items ≡ out.old.items) }
 {
-    let mut numbers = [0; MOST_BYTES + 1];
-    append_in(method, row, seed, &mut numbers[..row.len() + 1], out)
+    match method {
+        Method::Plain => append_trimmed(row, seed, out),
+        Method::Runs | Method::Packed | Method::Delta => {
+            let mut numbers = [0; MOST_BYTES + 1];
+            append_in(method, row, seed, &mut numbers[..row.len() + 1], out)
+        }
+    }
+}
+
+/// Appends a row up to where no more of it is needed, which is its data in method 0.
+fn append_trimmed(row: &[u8], seed: &[u8], out: &mut Vec<u8>) -> Result<(), AllocError>
+    requires { IsCodable seed.now row.now }
+    ensures ok { OnOk result (AppendsLeast methods.Plain seed.now row.now out.old.items out.new.items) }
+    ensures err { OnErr result (out.new.items ≡ out.old.items) }
+{
+    let end = needed_len(Method::Plain, row, seed);
+    out.extend_from_slice(&row[..end])?;
+    Ok(())
 }
 
 /// The same, in a lent table.
@@ -89,6 +106,9 @@ pub fn append_along(
     ensures ok { OnOk result (AppendsLeast method seed.now row.now out.old.items out.new.items) }
     ensures err { OnErr result (out.new.items ≡ out.old.items) }
 {
+    if let Method::Plain = method {
+        return append_trimmed(row, seed, out);
+    }
     let zeros = [0; MOST_BYTES];
     let old = base_row(method, seed, &zeros);
     let start = out.len();

@@ -69,6 +69,14 @@ overlaid_copies old place copies fitting byte within e =
           ∙ rw (length-replicate copies byte, all) refl
     ]
 
+-- each byte once
+once_each : (bytes : List ℕ) → flat_map (λ byte. replicate 1 byte) bytes ≡ bytes
+once_each [] = refl
+once_each (byte ∷ bytes) = ap (λ (rest : List ℕ). byte ∷ rest) (once_each bytes)
+
+pub copied_once : (copies : ℕ) (bytes : List ℕ) → copies ≡ 1 → flat_map (λ byte. replicate copies byte) bytes ≡ bytes
+copied_once copies bytes once = ap (λ (k : ℕ). flat_map (λ byte. replicate k byte) bytes) once ∙ once_each bytes
+
 -- what lies behind the new bytes
 pub drop-overlaid : (old : List ℕ) (place : ℕ) (new : List ℕ) → place ≤ length old
     → drop (min (length old) (place + length new)) (overlaid old place new) ≡ drop (place + length new) old

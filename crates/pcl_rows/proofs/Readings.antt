@@ -122,6 +122,36 @@ Fills-parts method bytes h new rest old row false is front f =
     let same : row ≡ behind = Fills-nothing method behind row (subst (λ (bs : List ℕ). Fills method bs behind row) front.rest_is f) in
     subst (λ (bs : List ℕ). Fills method bytes old (with_front h new old bs)) (sym same) (Fills-cut method bytes h new rest old is front)
 
+-- bytes that stand for themselves lie over the row from its begin on
+pub Fills-plain : (bytes old : List ℕ) → Fills Plain bytes old (bytes ++ drop (length bytes) old)
+Fills-plain [] old = Fills-none Plain old
+Fills-plain (byte ∷ bytes) old =
+    let new : List ℕ = byte ∷ [] in
+    let count : 1 + length bytes ≡ suc (length bytes) = omega arith in
+    let behind : drop (length bytes) (drop 1 old) ≡ drop (suc (length bytes)) old =
+    drop-drop (length bytes) 1 old ∙ ap (λ (k : ℕ). drop k old) count in
+    subst (λ (rest : List ℕ). Fills Plain (byte ∷ bytes) old (byte ∷ (bytes ++ rest))) behind
+    (Fills-cons Plain (byte ∷ bytes) Itself new bytes old (bytes ++ drop (length bytes) (drop 1 old))
+    (record { method_is = refl; in_range = tt }) (record { complete = refl; joined = refl }) (Fills-plain bytes (drop 1 old)))
+
+-- they are whole elements, which reach as far as they are long
+pub plain_elements : (bytes : List ℕ) → (es : List Element) × AreElements Plain es × (bytes ≡ flat_map spelling es) × (reach es ≡ length bytes)
+plain_elements [] = ([], tt, refl, refl)
+plain_elements (byte ∷ bytes) =
+    let element : Element = record { head = Itself; bytes = byte ∷ [] } in
+    let rest = plain_elements bytes in (
+      element ∷ rest.0,
+      (record { head_is = record { method_is = refl; in_range = tt }; complete = refl }, rest.1),
+      ap (λ (behind : List ℕ). byte ∷ behind) rest.2,
+      omega (arith, rest.3),
+    )
+
+pub row_of_plain : (bytes old : List ℕ) → RowFrom Plain bytes old (overlaid old 0 bytes)
+row_of_plain bytes old =
+    let f = Fills-plain bytes old in
+    let begin : 0 + length bytes ≡ length bytes = omega arith in
+    (f.0, f.1, f.2, f.3, ap (λ (k : ℕ). take (length old) (bytes ++ drop k old)) begin ∙ ap (take (length old)) f.4)
+
 -- the bytes of a row that was treated up to a place, where all the data makes the rest of it
 abbrev pub IsTreatedTo : Method → List ℕ → List ℕ → List ℕ → List ℕ → ℕ → Type 0
 IsTreatedTo method bytes old rest row place =

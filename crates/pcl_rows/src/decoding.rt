@@ -14,10 +14,19 @@ pub fn decode(method: Method, seed: &[u8], bytes: &[u8], row: &mut [u8])
     ensures { Decodes method seed.now bytes.now row.new }
 {
     match method {
-        Method::Plain | Method::Runs | Method::Packed => row.fill(0),
-        Method::Delta => row.copy_from_slice(seed),
+        Method::Plain => {
+            row.fill(0);
+            put_bytes(row, 0, bytes);
+        }
+        Method::Runs | Method::Packed => {
+            row.fill(0);
+            treat(method, bytes, row);
+        }
+        Method::Delta => {
+            row.copy_from_slice(seed);
+            treat(method, bytes, row);
+        }
     }
-    treat(method, bytes, row);
 }
 
 /// Treats a row by its data.
@@ -52,11 +61,25 @@ fn put(row: &mut [u8], start: usize, copies: usize, bytes: &[u8]) -> usize
     ensures row { row.new ≡ overlaid row.old start (flat_map (λ byte. replicate copies byte) bytes.now) }
     ensures end { result ≡ min (length row.old) (start + length (flat_map (λ byte. replicate copies byte) bytes.now)) }
 {
+    if copies == 1 {
+        return put_bytes(row, start, bytes);
+    }
     let mut place = start;
     for byte in bytes {
         place = put_copies(row, place, copies, *byte);
     }
     place
+}
+
+/// Writes bytes from a place of the row on. Answers where they end.
+fn put_bytes(row: &mut [u8], place: usize, bytes: &[u8]) -> usize
+    requires { place ≤ length row.old }
+    ensures row { row.new ≡ overlaid row.old place bytes.now }
+    ensures end { result ≡ min (length row.old) (place + length bytes.now) }
+{
+    let count = bytes.len().min(row.len() - place);
+    row[place..place + count].copy_from_slice(&bytes[..count]);
+    place + count
 }
 
 /// Writes copies of a byte from a place of the row on. Answers where they end.

@@ -1,0 +1,11 @@
+use Rattle.std.proofs.Common.{List, ℕ, sym, subst}
+use Rattle.pcl_base.specs.declared.method.Method.TheVariants as methods
+use Rattle.pcl_coders.specs.Coding.{AppendsLeast}
+use Rattle.pcl_coders.proofs.Tables.{plain_appended}
+use Rattle.pcl_coders.proofs.table.append_trimmed.Goals as goal
+
+pub returns-clause-ok : goal.returns-clause-ok
+returns-clause-ok c =
+    subst (λ (now : List ℕ). AppendsLeast methods.Plain c.args.seed.now c.args.row.now c.args.out.now.items now)
+    (sym c.in_ok-extend_from_slice.ensures.items)
+    (plain_appended c.args.seed.now c.args.row.now c.args.out.now.items c.needed_len-end.result c.requires c.needed_len-end.ensures)
