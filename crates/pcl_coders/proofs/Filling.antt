@@ -31,8 +31,10 @@ pub record IsOneByte (method : Method) (old wanted : List ℕ) (e : Element) : T
 
 one_byte_of : (method : Method) (old wanted : List ℕ) (shape : Shape) (bytes : ℕ) → IsShapeElement method old wanted shape bytes
     → shape_stop shape ≡ 1 → bytes ≤ 2 → (e : Element) × IsOneByte method old wanted e
-one_byte_of method old wanted shape bytes s one few =
-    (element_of shape wanted, record { element = s.element; agrees = s.agrees; stop_is = s.stop_is ∙ one; few = omega (arith, s.bytes_are) })
+one_byte_of method old wanted shape bytes s one few = (
+  element_of shape wanted,
+  record { element = s.element; agrees = s.agrees; stop_is = s.stop_is ∙ one; few = omega (arith, s.bytes_are) },
+)
 
 one_byte : (method : Method) (old wanted : List ℕ) → 0 < length wanted → (e : Element) × IsOneByte method old wanted e
 one_byte Plain old wanted some = one_byte_of Plain old wanted SingleByte 1 (byte_step old wanted some) refl (omega arith)
@@ -331,7 +333,8 @@ best_number method old row table place shape sum right within some c =
 
 pub appended_more : (method : Method) (old row table before now : List ℕ) (place : ℕ) (shape : Shape) (sum : ℕ) (now' : List ℕ) (place' : ℕ)
     → length old ≡ length row → AreRightFrom method old row table 0 → 0 < slice_index table place
-    → IsAppendedTo method old row table before now place → IsShapeChoice method (drop place old) (drop place row) (drop place table) shape sum
+    → IsAppendedTo method old row table before now place
+    → IsShapeChoice method (drop place old) (drop place row) (drop place table) shape sum
     → now' ≡ now ++ element_bytes (element_of shape (drop place row)) → place' ≡ place + shape_stop shape
     → IsAppendedTo method old row table before now' place'
 appended_more method old row table before now place shape sum now' place' size right some a c now-is place-is =
@@ -340,12 +343,14 @@ appended_more method old row table before now place shape sum now' place' size r
     let next : place' ≡ place + stop e = place-is ∙ ap (λ (k : ℕ). place + k) (sym c.stop_is) in
     let number = best_number method old row table place shape sum right a.within some c in
     let more : flat_map element_bytes (a.done ++ e ∷ []) ≡ flat_map element_bytes a.done ++ element_bytes e =
-    flat_map-append element_bytes a.done (e ∷ []) ∙ ap (λ (bs : List ℕ). flat_map element_bytes a.done ++ bs) (append-nil (element_bytes e)) in
+    flat_map-append element_bytes a.done (e ∷ [])
+    ∙ ap (λ (bs : List ℕ). flat_map element_bytes a.done ++ bs) (append-nil (element_bytes e)) in
     let begins = more_needed method old row table place size right a.within some in
     record {
       within = omega arith;
       done = a.done ++ e ∷ [];
-      joined = now-is ∙ ap (λ (bs : List ℕ). bs ++ element_bytes e) a.joined ∙ append_assoc before (flat_map element_bytes a.done) (element_bytes e)
+      joined = now-is ∙ ap (λ (bs : List ℕ). bs ++ element_bytes e) a.joined
+          ∙ append_assoc before (flat_map element_bytes a.done) (element_bytes e)
           ∙ ap (λ (bs : List ℕ). before ++ bs) (sym more);
       goes_on = λ es w t.
           let g = a.goes_on (e ∷ es) (place', record { element = c.choice.element; agrees = c.choice.agrees; next_is = next }, w)

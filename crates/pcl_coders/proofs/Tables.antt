@@ -153,7 +153,8 @@ right_of_least method seed row table same is place low high =
     right_here method seed row table place same is.table_is high w.0 w.1 w.2
 
 -- a row up to where no more of it is needed is its data
-pub plain_data : (seed row : List ℕ) (end : ℕ) → IsCodable seed row → IsFirstEnd (base Plain seed) row end → IsRowData Plain seed row (take end row)
+pub plain_data : (seed row : List ℕ) (end : ℕ) → IsCodable seed row → IsFirstEnd (base Plain seed) row end
+    → IsRowData Plain seed row (take end row)
 plain_data seed row end codable first =
     let old : List ℕ = base Plain seed in
     let bytes : List ℕ = take end row in
@@ -172,7 +173,8 @@ plain_data seed row end codable first =
       fits = omega (arith, long, first.within, codable.small);
     }
 
-pub plain_appended : (seed row old : List ℕ) (end : ℕ) → IsCodable seed row → IsFirstEnd (base Plain seed) row end → AppendsLeast Plain seed row old (old ++ take end row)
+pub plain_appended : (seed row old : List ℕ) (end : ℕ) → IsCodable seed row → IsFirstEnd (base Plain seed) row end
+    → AppendsLeast Plain seed row old (old ++ take end row)
 plain_appended seed row old end codable first =
     let long : length (take end row) ≡ end = omega (arith, length-take end row, first.within) in
     record {

@@ -45,7 +45,8 @@ offset_285 = refl
 offset_286 : stop (element (Far 0 1 0) (255 ∷ [])) ≡ 287
 offset_286 = refl
 
-offset_541 : element_bytes (element (Far 7 2 0) (1 ∷ 2 ∷ 3 ∷ 4 ∷ 5 ∷ 6 ∷ 7 ∷ 8 ∷ [])) ≡ 255 ∷ 255 ∷ 255 ∷ 0 ∷ 1 ∷ 2 ∷ 3 ∷ 4 ∷ 5 ∷ 6 ∷ 7 ∷ 8 ∷ []
+offset_541 : element_bytes (element (Far 7 2 0) (1 ∷ 2 ∷ 3 ∷ 4 ∷ 5 ∷ 6 ∷ 7 ∷ 8 ∷ [])) ≡ 255 ∷ 255 ∷ 255 ∷ 0 ∷ 1 ∷ 2 ∷ 3 ∷ 4 ∷ 5 ∷ 6 ∷ 7 ∷ 8
+    ∷ []
 offset_541 = refl
 
 -- 05 41: a literal of six bytes of which one stands there

@@ -73,7 +73,8 @@ readings_agree method bytes (d ∷ ds) [] cut cut' shown shown' old r r' =
     absurd (one_is_longer method d cut' ds shown' r'.lacking.0 shown r.elements.0 r'.element r'.lacking.1 r'.lacking.2
     (sym r'.joined ∙ r.joined))
 readings_agree method bytes (d ∷ ds) (e ∷ es) cut cut' shown shown' old r r' =
-    let same = same_elements method d e (flat_map element_bytes ds ++ shown) (flat_map element_bytes es ++ shown') r.elements.0 r'.elements.0
+    let same =
+    same_elements method d e (flat_map element_bytes ds ++ shown) (flat_map element_bytes es ++ shown') r.elements.0 r'.elements.0
     (sym (append_assoc (element_bytes d) (flat_map element_bytes ds) shown) ∙ sym r.joined ∙ r'.joined
     ∙ append_assoc (element_bytes e) (flat_map element_bytes es) shown') in
     let rest : List ℕ = flat_map element_bytes ds ++ shown in

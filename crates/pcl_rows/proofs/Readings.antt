@@ -58,7 +58,8 @@ Fills-none method old =
       sym (after_none e.0.head (drop (length (head_bytes e.0.head)) []) old (drop-nil (length (head_bytes e.0.head)))),
     )
 
-none_is_nothing : (method : Method) (whole : List Element) (cut : Element) (shown old : List ℕ) → IsCutIntoElements method [] whole cut shown
+none_is_nothing : (method : Method) (whole : List Element) (cut : Element) (shown old : List ℕ)
+    → IsCutIntoElements method [] whole cut shown
     → treated whole cut shown old ≡ old
 none_is_nothing method [] cut shown old r =
     let none : shown ≡ [] = sym r.joined in
@@ -135,7 +136,8 @@ Fills-plain (byte ∷ bytes) old =
     (record { method_is = refl; in_range = tt }) (record { complete = refl; joined = refl }) (Fills-plain bytes (drop 1 old)))
 
 -- they are whole elements, which reach as far as they are long
-pub plain_elements : (bytes : List ℕ) → (es : List Element) × AreElements Plain es × (bytes ≡ flat_map spelling es) × (reach es ≡ length bytes)
+pub plain_elements : (bytes : List ℕ) → (es : List Element) × AreElements Plain es × (bytes ≡ flat_map element_bytes es)
+    × (reach es ≡ length bytes)
 plain_elements [] = ([], tt, refl, refl)
 plain_elements (byte ∷ bytes) =
     let element : Element = record { head = Itself; bytes = byte ∷ [] } in

@@ -12,9 +12,11 @@ loop-byte-preserved c =
 
 pub returns-then-copies-eq1-clause-row : goal.returns-then-copies-eq1-clause-row
 returns-then-copies-eq1-clause-row c =
-    c.put_bytes.ensures.row ∙ ap (overlaid c.args.row.now c.args.start) (sym (copied_once c.args.copies c.args.bytes.now c.if-copies-eq1.true))
+    c.put_bytes.ensures.row ∙ ap (overlaid c.args.row.now c.args.start)
+    (sym (copied_once c.args.copies c.args.bytes.now c.if-copies-eq1.true))
 
 pub returns-then-copies-eq1-clause-end : goal.returns-then-copies-eq1-clause-end
 returns-then-copies-eq1-clause-end c =
     c.put_bytes.ensures.end
-    ∙ ap (λ (bs : List ℕ). min (length c.args.row.now) (c.args.start + length bs)) (sym (copied_once c.args.copies c.args.bytes.now c.if-copies-eq1.true))
+    ∙ ap (λ (bs : List ℕ). min (length c.args.row.now) (c.args.start + length bs))
+    (sym (copied_once c.args.copies c.args.bytes.now c.if-copies-eq1.true))
