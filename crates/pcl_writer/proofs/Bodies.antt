@@ -18,9 +18,10 @@ use Rattle.std.specs.Prelude.{not}
 use Rattle.pcl_base.specs.declared.method.Method.{Method}
 use Rattle.pcl_base.specs.Size.{page_height}
 use Rattle.pcl_bitmap.specs.Bitmap.{Picture, IsPicture}
-use Rattle.pcl_writer.specs.Tokens.{Token, opening, method, skip, command_count, send, token_bytes, IsWhite, AreWhite, PrintsRows}
-use Rattle.pcl_writer.specs.PageText.{IsRowOf, bitmap_rows, AreWithoutMethods, IsWithoutMethod, rows_from, row_tokens, skip_bytes}
-use Rattle.pcl_writer.proofs.Numbers.{decimal_spelled}
+use Rattle.pcl_plan.specs.Tokens.{Token, opening, method, skip, command_count, send, token_bytes, IsWhite, AreWhite, PrintsRows}
+use Rattle.pcl_plan.specs.PageText.{IsRowOf, bitmap_rows, rows_from}
+use Rattle.pcl_writer.specs.Appending.{AreWithoutMethods, IsWithoutMethod, row_tokens, skip_bytes}
+use Rattle.pcl_plan.proofs.Numbers.{decimal_spelled}
 
 -- ---- data of the plain method
 

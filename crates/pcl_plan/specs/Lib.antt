@@ -1,0 +1,4 @@
+pub mod Tokens
+pub mod PageText
+pub mod Nodes
+pub mod LeastTexts

@@ -1,0 +1,7 @@
+//! The least plan of a page: which rows a page text skips, by which methods it sends the others, and a table of
+//! least costs that shows that no page text is shorter (docs/OUTPUT.md, "Page texts").
+#![tactic(auto)]
+
+mod laws;
+
+pub use laws::{feasible_numbers_bound_texts, least_walk_is_least_text, printing_is_walking};
