@@ -2,3 +2,5 @@ pub mod Tokens
 pub mod PageText
 pub mod Nodes
 pub mod LeastTexts
+pub mod Table
+pub mod TableModel

@@ -2,6 +2,9 @@
 //! least costs that shows that no page text is shorter (docs/OUTPUT.md, "Page texts").
 #![tactic(auto)]
 
+mod by_method;
 mod laws;
+mod table;
 
 pub use laws::{feasible_numbers_bound_texts, least_walk_is_least_text, printing_is_walking};
+pub use table::Table;

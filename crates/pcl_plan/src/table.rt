@@ -1,0 +1,103 @@
+//! Tables of numbers for the nodes of a page.
+
+ghost use Rattle.std.specs.Prelude.{◌≡◌, ◌≢◌, ℕ, ◌≤◌, Bool, IfOk};
+ghost use Rattle.pcl_base.specs.declared.method.Method.{Method as RowMethod};
+ghost use Rattle.pcl_plan.specs.Nodes.{Node};
+
+use crate::by_method::ByMethod;
+use pcl_base::Method;
+use std::alloc::{AllocError, Global};
+use std::marker::Model;
+
+/// The numbers of the nodes behind the same rows.
+#[derive(Clone, Copy, Debug)]
+pub struct RowNumbers {
+    pub outside: ByMethod,
+    pub inside: ByMethod,
+}
+
+/// A number for each node of a page: how many of its rows are printed, the method, and whether an `ESC*b`
+/// sequence is open (docs/OUTPUT.md, "Page texts"). A number bounds from below the bytes of the body that are
+/// still to come.
+#[derive(Drop, Debug)]
+pub struct Table {
+    // Behind no row first, behind all rows last.
+    numbers: Vec<RowNumbers>,
+}
+
+impl Model for Table {
+    ghost use Rattle.std.specs.Prelude.{List};
+    ghost use Rattle.pcl_plan.specs.declared.table.RowNumbers.{RowNumbers};
+    ghost use Rattle.pcl_plan.specs.TableModel.{table_view, IsTable};
+
+    ghost Value = { List RowNumbers };
+
+    ghost view = { table_view };
+
+    ghost invariant = { IsTable };
+}
+
+impl Table {
+    ghost use Rattle.pcl_plan.specs.Table.{number_in, number_of, row_count};
+
+    /// A table of zeros for a page of so many rows, 65535 at most. It fails where memory runs out.
+    pub fn new(alloc: Global, rows: u32) -> Result<Table, AllocError>
+        requires { rows ≤ 65535 }
+        ensures rows { IfOk result (λ table. row_count table ≡ rows) }
+        ensures zeros { IfOk result (λ table. (node : Node) → number_of table node ≡ 0) }
+    {
+        let none = RowNumbers {
+            outside: ByMethod::alike(0),
+            inside: ByMethod::alike(0),
+        };
+        Ok(Table {
+            numbers: vec![in alloc; none; rows as usize + 1]?,
+        })
+    }
+
+    /// How many rows the page has.
+    pub fn rows(&self) -> u32
+        ensures { result ≡ row_count self.now }
+    {
+        self.numbers.len() as u32 - 1
+    }
+
+    /// The number of a node: behind so many rows, in a method, inside a sequence or outside.
+    pub fn number(&self, row: u32, method: Method, inside: bool) -> u32
+        requires { row ≤ row_count self.now }
+        ensures { result ≡ number_of self.now record { row = row; method = method; inside = inside } }
+    {
+        let numbers = self.numbers[row as usize];
+        if inside {
+            numbers.inside.get(method)
+        } else {
+            numbers.outside.get(method)
+        }
+    }
+
+    /// Changes the number of a node.
+    pub fn set(&mut self, row: u32, method: Method, inside: bool, number: u32)
+        requires { row ≤ row_count self.old }
+        ensures rows { row_count self.new ≡ row_count self.old }
+        ensures changed { number_of self.new record { row = row; method = method; inside = inside } ≡ number }
+        ensures others { (node : Node) → node ≢ record { row = row; method = method; inside = inside } → number_of self.new node ≡ number_of self.old node }
+    {
+        let mut numbers = self.numbers[row as usize];
+        if inside {
+            numbers.inside.set(method, number);
+        } else {
+            numbers.outside.set(method, number);
+        }
+        self.numbers[row as usize] = numbers;
+    }
+
+    /// Changes the numbers of all nodes behind so many rows.
+    pub fn put(&mut self, row: u32, numbers: RowNumbers)
+        requires { row ≤ row_count self.old }
+        ensures rows { row_count self.new ≡ row_count self.old }
+        ensures changed { (method : RowMethod) (inside : Bool) → number_of self.new record { row = row; method = method; inside = inside } ≡ number_in numbers method inside }
+        ensures others { (node : Node) → node.row ≢ row → number_of self.new node ≡ number_of self.old node }
+    {
+        self.numbers[row as usize] = numbers;
+    }
+}
