@@ -1,3 +1,4 @@
 pub mod Numbers
 pub mod Walking
 pub mod Texts
+pub mod Digits

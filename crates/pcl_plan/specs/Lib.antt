@@ -2,5 +2,6 @@ pub mod Tokens
 pub mod PageText
 pub mod Nodes
 pub mod LeastTexts
+pub mod Spelling
 pub mod Table
 pub mod TableModel

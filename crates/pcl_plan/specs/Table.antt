@@ -30,5 +30,5 @@ abbrev pub row_count : List RowNumbers → ℕ
 row_count table = length table - 1
 
 -- the number of a node in a table
-abbrev pub number_of : List RowNumbers → Node → ℕ
-number_of table node = number_in (slice_index_or table node.row no_numbers) node.method node.inside
+abbrev pub node_number : List RowNumbers → Node → ℕ
+node_number table node = number_in (slice_index_or table node.row no_numbers) node.method node.inside

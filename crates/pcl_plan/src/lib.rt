@@ -3,6 +3,7 @@
 #![tactic(auto)]
 
 mod by_method;
+mod costs;
 mod laws;
 mod table;
 

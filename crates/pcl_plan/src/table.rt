@@ -38,13 +38,13 @@ impl Model for Table {
 }
 
 impl Table {
-    ghost use Rattle.pcl_plan.specs.Table.{number_in, number_of, row_count};
+    ghost use Rattle.pcl_plan.specs.Table.{number_in, node_number, row_count};
 
     /// A table of zeros for a page of so many rows, 65535 at most. It fails where memory runs out.
     pub fn new(alloc: Global, rows: u32) -> Result<Table, AllocError>
         requires { rows ≤ 65535 }
         ensures rows { IfOk result (λ table. row_count table ≡ rows) }
-        ensures zeros { IfOk result (λ table. (node : Node) → number_of table node ≡ 0) }
+        ensures zeros { IfOk result (λ table. (node : Node) → node_number table node ≡ 0) }
     {
         let none = RowNumbers {
             outside: ByMethod::alike(0),
@@ -65,7 +65,7 @@ impl Table {
     /// The number of a node: behind so many rows, in a method, inside a sequence or outside.
     pub fn number(&self, row: u32, method: Method, inside: bool) -> u32
         requires { row ≤ row_count self.now }
-        ensures { result ≡ number_of self.now record { row = row; method = method; inside = inside } }
+        ensures { result ≡ node_number self.now record { row = row; method = method; inside = inside } }
     {
         let numbers = self.numbers[row as usize];
         if inside {
@@ -79,8 +79,8 @@ impl Table {
     pub fn set(&mut self, row: u32, method: Method, inside: bool, number: u32)
         requires { row ≤ row_count self.old }
         ensures rows { row_count self.new ≡ row_count self.old }
-        ensures changed { number_of self.new record { row = row; method = method; inside = inside } ≡ number }
-        ensures others { (node : Node) → node ≢ record { row = row; method = method; inside = inside } → number_of self.new node ≡ number_of self.old node }
+        ensures changed { node_number self.new record { row = row; method = method; inside = inside } ≡ number }
+        ensures others { (node : Node) → node ≢ record { row = row; method = method; inside = inside } → node_number self.new node ≡ node_number self.old node }
     {
         let mut numbers = self.numbers[row as usize];
         if inside {
@@ -95,8 +95,8 @@ impl Table {
     pub fn put(&mut self, row: u32, numbers: RowNumbers)
         requires { row ≤ row_count self.old }
         ensures rows { row_count self.new ≡ row_count self.old }
-        ensures changed { (method : RowMethod) (inside : Bool) → number_of self.new record { row = row; method = method; inside = inside } ≡ number_in numbers method inside }
-        ensures others { (node : Node) → node.row ≢ row → number_of self.new node ≡ number_of self.old node }
+        ensures changed { (method : RowMethod) (inside : Bool) → node_number self.new record { row = row; method = method; inside = inside } ≡ number_in numbers method inside }
+        ensures others { (node : Node) → node.row ≢ row → node_number self.new node ≡ node_number self.old node }
     {
         self.numbers[row as usize] = numbers;
     }
