@@ -2,3 +2,4 @@ pub mod Numbers
 pub mod Walking
 pub mod Texts
 pub mod Digits
+pub mod Switching

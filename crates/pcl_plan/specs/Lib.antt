@@ -5,3 +5,4 @@ pub mod LeastTexts
 pub mod Spelling
 pub mod Table
 pub mod TableModel
+pub mod Filling

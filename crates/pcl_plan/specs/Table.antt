@@ -1,5 +1,5 @@
 -- Tables of numbers for the nodes of a page.
-use Rattle.std.specs.Prelude.{ℕ, ◌-◌, Bool, true, false, List, length, slice_index_or}
+use Rattle.std.specs.Prelude.{ℕ, Bool, true, false, List, slice_index_or}
 use Rattle.pcl_base.specs.declared.method.Method.{Method}
 use Rattle.pcl_base.specs.declared.method.Method.TheVariants.{Plain, Runs, Packed, Delta}
 use Rattle.pcl_plan.specs.Nodes.{Node}
@@ -25,10 +25,10 @@ all_alike number = record { plain = number; runs = number; packed = number; delt
 abbrev pub no_numbers : RowNumbers
 no_numbers = record { outside = all_alike 0; inside = all_alike 0 }
 
--- How many rows the page of a table has. Contracts see a table as the numbers behind no row, behind one, and so on to all.
-abbrev pub row_count : List RowNumbers → ℕ
-row_count table = length table - 1
+-- the numbers where the rest of the rows is white
+abbrev pub end_numbers : RowNumbers
+end_numbers = record { outside = all_alike 0; inside = all_alike 1 }
 
--- the number of a node in a table
+-- The number of a node in a table. Contracts see a table as the numbers behind no row, behind one, and so on to all.
 abbrev pub node_number : List RowNumbers → Node → ℕ
 node_number table node = number_in (slice_index_or table node.row no_numbers) node.method node.inside

@@ -1,6 +1,6 @@
 //! Numbers by method.
 
-ghost use Rattle.std.specs.Prelude.{◌≡◌, ℕ, ◌≢◌};
+ghost use Rattle.std.specs.Prelude.{◌≡◌, ◌≢◌, ◌+◌, ◌^◌, ◌<◌, min};
 ghost use Rattle.pcl_base.specs.declared.method.Method.{Method as RowMethod};
 
 use pcl_base::Method;
@@ -26,6 +26,31 @@ impl ByMethod {
             runs: number,
             packed: number,
             delta: number,
+        }
+    }
+
+    /// The lesser of each number and `most`.
+    pub fn at_most(self, most: u32) -> ByMethod
+        ensures { (method : RowMethod) → by_method result method ≡ min (by_method self method) most }
+    {
+        ByMethod {
+            plain: self.plain.min(most),
+            runs: self.runs.min(most),
+            packed: self.packed.min(most),
+            delta: self.delta.min(most),
+        }
+    }
+
+    /// Each number, and `more`.
+    pub fn plus(self, more: u32) -> ByMethod
+        requires { (method : RowMethod) → by_method self method + more < 2 ^ 32 }
+        ensures { (method : RowMethod) → by_method result method ≡ by_method self method + more }
+    {
+        ByMethod {
+            plain: self.plain + more,
+            runs: self.runs + more,
+            packed: self.packed + more,
+            delta: self.delta + more,
         }
     }
 
