@@ -3,3 +3,5 @@ pub mod Walking
 pub mod Texts
 pub mod Digits
 pub mod Switching
+pub mod RightRows
+pub mod InkedRows
