@@ -1,7 +1,9 @@
 pub mod Numbers
 pub mod Walking
+pub mod RowsFrom
 pub mod Texts
 pub mod Digits
 pub mod Switching
 pub mod RightRows
 pub mod InkedRows
+pub mod Examples

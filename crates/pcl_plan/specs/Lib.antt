@@ -5,4 +5,5 @@ pub mod LeastTexts
 pub mod Spelling
 pub mod Table
 pub mod TableModel
+pub mod Rows
 pub mod Filling

@@ -5,6 +5,8 @@
 mod by_method;
 mod costs;
 mod laws;
+mod lengths;
+mod rows;
 mod table;
 
 pub use laws::{feasible_numbers_bound_texts, least_walk_is_least_text, printing_is_walking};

@@ -1,3 +1,2 @@
 pub mod Bodies
 pub mod Starts
-pub mod Examples
