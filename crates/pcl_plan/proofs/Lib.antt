@@ -6,4 +6,5 @@ pub mod Digits
 pub mod Switching
 pub mod RightRows
 pub mod InkedRows
+pub mod Skips
 pub mod Examples

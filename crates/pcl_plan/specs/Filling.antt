@@ -53,6 +53,21 @@ pub record IsLeastSkip (number : Node → ℕ) (row : ℕ) (method : Method) (ru
   pub bound : (count : ℕ) → 0 < count → count ≤ run → least ≤ skipping number row method count
   pub attained : (count : ℕ) × (0 < count) × (count ≤ run) × (least ≡ skipping number row method count)
 
+-- what is known of a table where a row is sent or some of so many rows are skipped: the numbers that are read are
+-- small, and don't grow across the rows that may be skipped
+pub record IsReadable (table : List RowNumbers) (row : ℕ) (method : Method) (run : ℕ) : Type 0 where
+  pub next : row + 1 < length table
+  pub within : row + run < length table
+  pub few : length table ≤ 10000
+  pub falls : (near far : ℕ) → 0 < near → near ≤ far → far ≤ run → rest (node_number table) (row + far) method ≤ rest (node_number table) (row + near) method
+  pub small : (a : Node) → row < a.row → a.row < length table → node_number table a ≤ 655374457
+
+-- the least of sending a row by so many bytes, and of skipping some of so many rows
+pub record IsLeastStart (number : Node → ℕ) (row : ℕ) (method : Method) (run bytes least : ℕ) : Type 0 where
+  pub sent : least ≤ sending bytes + outside number (row + 1) method
+  pub skipped : (count : ℕ) → 0 < count → count ≤ run → least ≤ skipping number row method count
+  pub attained : (least ≡ sending bytes + outside number (row + 1) method) ⊎ ((count : ℕ) × (0 < count) × (count ≤ run) × (least ≡ skipping number row method count))
+
 -- the least that comes in an open sequence where no method is set first: the row is sent, or rows are skipped
 pub record IsDirect (width : ℕ) (rows : List (List ℕ)) (number : Node → ℕ) (row : ℕ) (method : Method) (least : ℕ) : Type 0 where
   pub bytes : ℕ
@@ -67,6 +82,12 @@ pub record IsSwitched (direct : Method → ℕ) (numbers : RowNumbers) : Type 0 
   pub switches : (method next : Method) → number_in numbers method true ≤ switching next + direct next
   pub attained : (method : Method) → (number_in numbers method true ≡ direct method) ⊎ ((next : Method) × (number_in numbers method true ≡ switching next + direct next))
   pub opens : (method : Method) → number_in numbers method false ≡ 3 + number_in numbers method true
+
+-- the least that comes in each method with no switch before it, and the numbers by that
+pub record AreRowNumbers (width : ℕ) (rows : List (List ℕ)) (number : Node → ℕ) (row : ℕ) (numbers : RowNumbers) : Type 0 where
+  pub direct : Method → ℕ
+  pub are_direct : (method : Method) → IsDirect width rows number row method (direct method)
+  pub switched : IsSwitched direct numbers
 
 -- ---- rows that are done
 

@@ -4,6 +4,7 @@
 
 mod by_method;
 mod costs;
+mod fill;
 mod laws;
 mod lengths;
 mod rows;

@@ -21,7 +21,7 @@ impl<'a> Rows<'a> {
     ghost use Rattle.pcl_plan.specs.Rows.{rows_of};
 
     /// Row `y`, the topmost row 0.
-    pub fn row(&self, y: u32) -> &'a [u8]
+    pub fn row(&self, y: u32) -> &[u8]
         requires { y < self.now.count }
         ensures row { result.now ≡ row_at (rows_of self.now) y }
         ensures len { length result.now ≡ self.now.width }
@@ -31,7 +31,7 @@ impl<'a> Rows<'a> {
     }
 
     /// The row above row `y`: the topmost one has zeros above it.
-    pub fn row_above(&self, y: u32, zeros: &'a [u8]) -> &'a [u8]
+    pub fn row_above<'b>(&'b self, y: u32, zeros: &'b [u8]) -> &'b [u8]
         requires row { y < self.now.count }
         requires zeros { zeros.now ≡ replicate 600 0 }
         ensures row { result.now ≡ row_above self.now.width (rows_of self.now) y }

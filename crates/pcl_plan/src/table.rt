@@ -69,6 +69,7 @@ impl Model for Table {
 
 impl Table {
     ghost use Rattle.pcl_plan.specs.Table.{number_in, node_number};
+    ghost use Rattle.pcl_plan.specs.Filling.{rest};
 
     /// A table of zeros for a page of so many rows, 65535 at most. It fails where memory runs out.
     pub fn new(alloc: Global, rows: u32) -> Result<Table, AllocError>
@@ -103,6 +104,15 @@ impl Table {
         } else {
             numbers.outside.get(method)
         }
+    }
+
+    /// The lesser of the two numbers behind so many rows in a method: inside a sequence and outside.
+    pub fn rest(&self, row: u32, method: Method) -> u32
+        requires { row < length self.now }
+        ensures { result ≡ rest (node_number self.now) row method }
+    {
+        self.number(row, method, false)
+            .min(self.number(row, method, true))
     }
 
     /// Changes the number of a node.

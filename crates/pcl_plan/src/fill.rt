@@ -1,0 +1,110 @@
+//! The table of a plan, filled from behind the last row upwards.
+
+ghost use Rattle.std.specs.Prelude.{◌≡◌, ◌+◌, ◌<◌, ◌≤◌, length};
+ghost use Rattle.pcl_base.specs.declared.method.Method.{Method as RowMethod};
+ghost use Rattle.pcl_coders.specs.Coding.{IsLeastLength};
+ghost use Rattle.pcl_plan.specs.Nodes.{row_at, row_above};
+ghost use Rattle.pcl_plan.specs.Table.{by_method, node_number};
+ghost use Rattle.pcl_plan.specs.Rows.{rows_of};
+ghost use Rattle.pcl_plan.specs.Filling.{skipping, IsWhiteRun, IsLeastSkip, IsReadable, IsLeastStart, AreRowNumbers, AreRightFrom};
+
+use crate::by_method::ByMethod;
+use crate::costs::{digits, sending_cost};
+use crate::lengths::LeastLengths;
+use crate::rows::Rows;
+use crate::table::{RowNumbers, Table};
+use pcl_base::{Method, ROW_LIMIT};
+
+/// Fills in the least numbers of all nodes. Each row takes a bounded number of steps, besides those of its
+/// coders.
+pub fn fill<L: LeastLengths>(lengths: &L, rows: &Rows<'_>, table: &mut Table)
+    requires { length table.old ≡ rows.now.count + 1 }
+    ensures { AreRightFrom rows.now.width (rows_of rows.now) table.new 0 }
+{
+    table.put(rows.count, RowNumbers::at_end());
+    let mut run = 0;
+    for row in (0..rows.count).rev() {
+        run = if rows.is_white(row) { run + 1 } else { 0 };
+        let numbers = if row + run == rows.count {
+            RowNumbers::at_end()
+        } else {
+            row_numbers(lengths, rows, table, row, run)
+        };
+        table.put(row, numbers);
+    }
+}
+
+/// The least numbers of a row, where `run` rows are white from it on and there is ink behind them.
+fn row_numbers<L: LeastLengths>(
+    lengths: &L,
+    rows: &Rows<'_>,
+    table: &Table,
+    row: u32,
+    run: u32,
+) -> RowNumbers
+    requires ink { row + run < rows.now.count }
+    requires run { IsWhiteRun (rows_of rows.now) row run }
+    requires right { AreRightFrom rows.now.width (rows_of rows.now) table.now (row + 1) }
+    ensures { AreRowNumbers rows.now.width (rows_of rows.now) (node_number table.now) row result }
+{
+    let bytes = least_lengths(lengths, rows, row);
+    RowNumbers::from_direct(ByMethod {
+        plain: least_start(table, row, Method::Plain, run, bytes.plain),
+        runs: least_start(table, row, Method::Runs, run, bytes.runs),
+        packed: least_start(table, row, Method::Packed, run, bytes.packed),
+        delta: least_start(table, row, Method::Delta, run, bytes.delta),
+    })
+}
+
+/// The least lengths of a row's data by the four methods.
+fn least_lengths<L: LeastLengths>(lengths: &L, rows: &Rows<'_>, row: u32) -> ByMethod
+    requires { row < rows.now.count }
+    ensures { (method : RowMethod) → IsLeastLength method (row_above rows.now.width (rows_of rows.now) row) (row_at (rows_of rows.now) row) (by_method result method) }
+{
+    let zeros = [0; ROW_LIMIT];
+    let bytes = rows.row(row);
+    let seed = rows.row_above(row, &zeros);
+    ByMethod {
+        plain: lengths.least(Method::Plain, bytes, seed),
+        runs: lengths.least(Method::Runs, bytes, seed),
+        packed: lengths.least(Method::Packed, bytes, seed),
+        delta: lengths.least(Method::Delta, bytes, seed),
+    }
+}
+
+/// The least of what sending a row by so many bytes of data costs, with all that comes behind it, and of
+/// what skipping some of `run` rows costs.
+fn least_start(table: &Table, row: u32, method: Method, run: u32, bytes: u32) -> u32
+    requires readable { IsReadable table.now row method run }
+    requires bytes { bytes ≤ 65535 }
+    ensures { IsLeastStart (node_number table.now) row method run bytes result }
+{
+    let sent = sending_cost(bytes) + table.number(row + 1, method, false);
+    if run == 0 {
+        sent
+    } else {
+        sent.min(least_skip(table, row, method, run))
+    }
+}
+
+/// The least of what skipping some of `run` rows costs. To skip more rows is never worse where their count has
+/// no more digits: so the most rows are skipped that a count of one, two, three or four digits says.
+fn least_skip(table: &Table, row: u32, method: Method, run: u32) -> u32
+    requires some { 0 < run }
+    requires readable { IsReadable table.now row method run }
+    ensures { IsLeastSkip (node_number table.now) row method run result }
+{
+    skip_number(table, row, method, run.min(9))
+        .min(skip_number(table, row, method, run.min(99)))
+        .min(skip_number(table, row, method, run.min(999)))
+        .min(skip_number(table, row, method, run))
+}
+
+/// What skipping so many rows costs, with all that comes behind them.
+fn skip_number(table: &Table, row: u32, method: Method, count: u32) -> u32
+    requires readable { IsReadable table.now row method count }
+    requires some { 0 < count }
+    ensures { result ≡ skipping (node_number table.now) row method count }
+{
+    digits(count) + 1 + table.rest(row + count, method)
+}
