@@ -34,7 +34,7 @@ pub record IsInkedRow (width : ℕ) (rows : List (List ℕ)) (number : Node → 
 pub length_small : (current : Method) (seed row : List ℕ) (least : ℕ) → IsLeastLength current seed row least → least ≤ 65535
 length_small current seed row least is = omega (arith, is.attained.1.fits, is.attained.2)
 
-sending_small : (bytes : ℕ) → bytes ≤ 65535 → sending bytes ≤ 65541
+pub sending_small : (bytes : ℕ) → bytes ≤ 65535 → sending bytes ≤ 65541
 sending_small bytes small = omega (arith, count_le 5 bytes (omega arith) (omega arith))
 
 -- ---- tokens from the row

@@ -7,4 +7,5 @@ pub mod Switching
 pub mod RightRows
 pub mod InkedRows
 pub mod Skips
+pub mod Filled
 pub mod Examples

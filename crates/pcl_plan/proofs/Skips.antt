@@ -10,19 +10,19 @@ use Rattle.pcl_plan.specs.Filling.{rest, skipping, IsLeastSkip, IsReadable}
 use Rattle.pcl_plan.proofs.Digits.{count_le, count_above, count_grows}
 
 -- more rows are as good, where they need no more digits
-more_as_good : (table : List RowNumbers) (row : ℕ) (method : Method) (run count more : ℕ) → IsReadable table row method run → 0 < count → count ≤ more → more ≤ run → digit_count more ≤ digit_count count
+more_as_good : (table : List RowNumbers) (row : ℕ) (method : Method) (run count more : ℕ) → IsReadable table row run → 0 < count → count ≤ more → more ≤ run → digit_count more ≤ digit_count count
     → skipping (node_number table) row method more ≤ skipping (node_number table) row method count
-more_as_good table row method run count more is some le within digits = omega (arith, is.falls count more some le within, digits)
+more_as_good table row method run count more is some le within digits = omega (arith, is.falls method count more some le within, digits)
 
 -- the counts of so many digits
-most_of : (table : List RowNumbers) (row : ℕ) (method : Method) (run count k : ℕ) → IsReadable table row method run → 0 < count → count ≤ run → 10 ^ k ≤ count → count < 10 ^ (k + 1) → 10 ^ (k + 1) < 2 ^ 64
+most_of : (table : List RowNumbers) (row : ℕ) (method : Method) (run count k : ℕ) → IsReadable table row run → 0 < count → count ≤ run → 10 ^ k ≤ count → count < 10 ^ (k + 1) → 10 ^ (k + 1) < 2 ^ 64
     → skipping (node_number table) row method (min run (10 ^ (k + 1) - 1)) ≤ skipping (node_number table) row method count
 most_of table row method run count k is some within above below small =
     let most : ℕ = min run (10 ^ (k + 1) - 1) in
     let few : digit_count most ≤ k + 1 = count_le (k + 1) most (omega arith) (omega arith) in
     more_as_good table row method run count most is some (omega arith) (omega arith) (omega (arith, few, count_above k count above (omega arith)))
 
-pub least_skip_is : (table : List RowNumbers) (row : ℕ) (method : Method) (run one two three four first second least : ℕ) → IsReadable table row method run → 0 < run
+pub least_skip_is : (table : List RowNumbers) (row : ℕ) (method : Method) (run one two three four first second least : ℕ) → IsReadable table row run → 0 < run
     → one ≡ skipping (node_number table) row method (min run 9) → two ≡ skipping (node_number table) row method (min run 99)
     → three ≡ skipping (node_number table) row method (min run 999) → four ≡ skipping (node_number table) row method run
     → first ≡ min one two → second ≡ min first three → least ≡ min second four → IsLeastSkip (node_number table) row method run least

@@ -55,11 +55,11 @@ pub record IsLeastSkip (number : Node → ℕ) (row : ℕ) (method : Method) (ru
 
 -- what is known of a table where a row is sent or some of so many rows are skipped: the numbers that are read are
 -- small, and don't grow across the rows that may be skipped
-pub record IsReadable (table : List RowNumbers) (row : ℕ) (method : Method) (run : ℕ) : Type 0 where
+pub record IsReadable (table : List RowNumbers) (row run : ℕ) : Type 0 where
   pub next : row + 1 < length table
   pub within : row + run < length table
   pub few : length table ≤ 10000
-  pub falls : (near far : ℕ) → 0 < near → near ≤ far → far ≤ run → rest (node_number table) (row + far) method ≤ rest (node_number table) (row + near) method
+  pub falls : (method : Method) (near far : ℕ) → 0 < near → near ≤ far → far ≤ run → rest (node_number table) (row + far) method ≤ rest (node_number table) (row + near) method
   pub small : (a : Node) → row < a.row → a.row < length table → node_number table a ≤ 655374457
 
 -- the least of sending a row by so many bytes, and of skipping some of so many rows

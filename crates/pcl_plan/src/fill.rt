@@ -48,12 +48,7 @@ fn row_numbers<L: LeastLengths>(
     ensures { AreRowNumbers rows.now.width (rows_of rows.now) (node_number table.now) row result }
 {
     let bytes = least_lengths(lengths, rows, row);
-    RowNumbers::from_direct(ByMethod {
-        plain: least_start(table, row, Method::Plain, run, bytes.plain),
-        runs: least_start(table, row, Method::Runs, run, bytes.runs),
-        packed: least_start(table, row, Method::Packed, run, bytes.packed),
-        delta: least_start(table, row, Method::Delta, run, bytes.delta),
-    })
+    RowNumbers::from_direct(least_starts(table, row, run, bytes))
 }
 
 /// The least lengths of a row's data by the four methods.
@@ -72,10 +67,25 @@ fn least_lengths<L: LeastLengths>(lengths: &L, rows: &Rows<'_>, row: u32) -> ByM
     }
 }
 
+/// For each method the least of what sending a row and skipping some of `run` rows costs, with all that comes
+/// behind them. `bytes` is how many the row's data has.
+fn least_starts(table: &Table, row: u32, run: u32, bytes: ByMethod) -> ByMethod
+    requires readable { IsReadable table.now row run }
+    requires bytes { (method : RowMethod) → by_method bytes method ≤ 65535 }
+    ensures { (method : RowMethod) → IsLeastStart (node_number table.now) row method run (by_method bytes method) (by_method result method) }
+{
+    ByMethod {
+        plain: least_start(table, row, Method::Plain, run, bytes.plain),
+        runs: least_start(table, row, Method::Runs, run, bytes.runs),
+        packed: least_start(table, row, Method::Packed, run, bytes.packed),
+        delta: least_start(table, row, Method::Delta, run, bytes.delta),
+    }
+}
+
 /// The least of what sending a row by so many bytes of data costs, with all that comes behind it, and of
 /// what skipping some of `run` rows costs.
 fn least_start(table: &Table, row: u32, method: Method, run: u32, bytes: u32) -> u32
-    requires readable { IsReadable table.now row method run }
+    requires readable { IsReadable table.now row run }
     requires bytes { bytes ≤ 65535 }
     ensures { IsLeastStart (node_number table.now) row method run bytes result }
 {
@@ -91,7 +101,7 @@ fn least_start(table: &Table, row: u32, method: Method, run: u32, bytes: u32) ->
 /// no more digits: so the most rows are skipped that a count of one, two, three or four digits says.
 fn least_skip(table: &Table, row: u32, method: Method, run: u32) -> u32
     requires some { 0 < run }
-    requires readable { IsReadable table.now row method run }
+    requires readable { IsReadable table.now row run }
     ensures { IsLeastSkip (node_number table.now) row method run result }
 {
     skip_number(table, row, method, run.min(9))
@@ -102,7 +112,7 @@ fn least_skip(table: &Table, row: u32, method: Method, run: u32) -> u32
 
 /// What skipping so many rows costs, with all that comes behind them.
 fn skip_number(table: &Table, row: u32, method: Method, count: u32) -> u32
-    requires readable { IsReadable table.now row method count }
+    requires readable { IsReadable table.now row count }
     requires some { 0 < count }
     ensures { result ≡ skipping (node_number table.now) row method count }
 {
