@@ -24,7 +24,7 @@ pub fn fill<L: LeastLengths>(lengths: &L, rows: &Rows<'_>, table: &mut Table)
     table.put(rows.count, RowNumbers::at_end());
     let mut run = 0;
     for row in (0..rows.count).rev() {
-        run = if rows.is_white(row) { run + 1 } else { 0 };
+        run = white_run(rows, row, run);
         let numbers = if row + run == rows.count {
             RowNumbers::at_end()
         } else {
@@ -32,6 +32,16 @@ pub fn fill<L: LeastLengths>(lengths: &L, rows: &Rows<'_>, table: &mut Table)
         };
         table.put(row, numbers);
     }
+}
+
+/// How many rows are white from a row on, where so many are from the next one on.
+fn white_run(rows: &Rows<'_>, row: u32, below: u32) -> u32
+    requires row { row < rows.now.count }
+    requires below { IsWhiteRun (rows_of rows.now) (row + 1) below }
+    ensures run { IsWhiteRun (rows_of rows.now) row result }
+    ensures within { row + result ≤ rows.now.count }
+{
+    if rows.is_white(row) { below + 1 } else { 0 }
 }
 
 /// The least numbers of a row, where `run` rows are white from it on and there is ink behind them.
