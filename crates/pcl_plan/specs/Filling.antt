@@ -7,6 +7,7 @@ use Rattle.pcl_coders.specs.Walks.{IsAttained}
 use Rattle.pcl_plan.specs.Tokens.{Token, IsWhite, AreWhite}
 use Rattle.pcl_plan.specs.Nodes.{Node, row_at, row_above, Leads, Ends, cost}
 use Rattle.pcl_plan.specs.Spelling.{digit_count}
+use Rattle.pcl_plan.specs.declared.fill.Skip.{Skip}
 use Rattle.pcl_plan.specs.declared.table.RowNumbers.{RowNumbers}
 use Rattle.pcl_plan.specs.Table.{number_in, node_number}
 
@@ -48,10 +49,12 @@ pub record IsWhiteRun (rows : List (List ℕ)) (row run : ℕ) : Type 0 where
 
 -- ---- the numbers of a row that isn't in white rest
 
--- the least that skipping some of so many rows costs
-pub record IsLeastSkip (number : Node → ℕ) (row : ℕ) (method : Method) (run least : ℕ) : Type 0 where
-  pub bound : (count : ℕ) → 0 < count → count ≤ run → least ≤ skipping number row method count
-  pub attained : (count : ℕ) × (0 < count) × (count ≤ run) × (least ≡ skipping number row method count)
+-- a count of rows whose skipping costs least, among those up to a count
+pub record IsLeastSkip (number : Node → ℕ) (row : ℕ) (method : Method) (run : ℕ) (skip : Skip) : Type 0 where
+  pub bound : (count : ℕ) → 0 < count → count ≤ run → skip.number ≤ skipping number row method count
+  pub some : 0 < skip.count
+  pub within : skip.count ≤ run
+  pub number_is : skip.number ≡ skipping number row method skip.count
 
 -- what is known of a table where a row is sent or some of so many rows are skipped: the numbers that are read are
 -- small, and don't grow across the rows that may be skipped

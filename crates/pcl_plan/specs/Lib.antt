@@ -7,3 +7,4 @@ pub mod Table
 pub mod TableModel
 pub mod Rows
 pub mod Filling
+pub mod Plans

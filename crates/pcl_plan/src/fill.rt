@@ -103,28 +103,53 @@ fn least_start(table: &Table, row: u32, method: Method, run: u32, bytes: u32) ->
     if run == 0 {
         sent
     } else {
-        sent.min(least_skip(table, row, method, run))
+        sent.min(least_skip(table, row, method, run).number)
     }
 }
 
-/// The least of what skipping some of `run` rows costs. To skip more rows is never worse where their count has
-/// no more digits: so the most rows are skipped that a count of one, two, three or four digits says.
-fn least_skip(table: &Table, row: u32, method: Method, run: u32) -> u32
+/// How many rows are skipped, and what that costs with all that comes behind them.
+#[derive(Clone, Copy)]
+pub struct Skip {
+    pub count: u32,
+    pub number: u32,
+}
+
+impl Skip {
+    /// The one that costs less, this one where both cost the same.
+    fn or(self, other: Skip) -> Skip
+        ensures first { self.number ≤ other.number → result ≡ self }
+        ensures second { other.number < self.number → result ≡ other }
+    {
+        if other.number < self.number {
+            other
+        } else {
+            self
+        }
+    }
+}
+
+/// The skip of some of `run` rows that costs least, the longest of several. To skip more rows is never worse
+/// where their count has no more digits: so only the most rows of each count of digits are tried.
+pub fn least_skip(table: &Table, row: u32, method: Method, run: u32) -> Skip
     requires some { 0 < run }
     requires readable { IsReadable table.now row run }
     ensures { IsLeastSkip (node_number table.now) row method run result }
 {
-    skip_number(table, row, method, run.min(9))
-        .min(skip_number(table, row, method, run.min(99)))
-        .min(skip_number(table, row, method, run.min(999)))
-        .min(skip_number(table, row, method, run))
+    skip_of(table, row, method, run)
+        .or(skip_of(table, row, method, run.min(999)))
+        .or(skip_of(table, row, method, run.min(99)))
+        .or(skip_of(table, row, method, run.min(9)))
 }
 
-/// What skipping so many rows costs, with all that comes behind them.
-fn skip_number(table: &Table, row: u32, method: Method, count: u32) -> u32
-    requires readable { IsReadable table.now row count }
+/// The skip of so many rows.
+fn skip_of(table: &Table, row: u32, method: Method, count: u32) -> Skip
     requires some { 0 < count }
-    ensures { result ≡ skipping (node_number table.now) row method count }
+    requires readable { IsReadable table.now row count }
+    ensures count { result.count ≡ count }
+    ensures number { result.number ≡ skipping (node_number table.now) row method count }
 {
-    digits(count) + 1 + table.rest(row + count, method)
+    Skip {
+        count,
+        number: digits(count) + 1 + table.rest(row + count, method),
+    }
 }

@@ -8,7 +8,9 @@ mod fill;
 mod laws;
 mod lengths;
 mod rows;
+mod step;
 mod table;
 
 pub use laws::{feasible_numbers_bound_texts, least_walk_is_least_text, printing_is_walking};
+pub use step::Step;
 pub use table::Table;
