@@ -8,4 +8,5 @@ pub mod RightRows
 pub mod InkedRows
 pub mod Skips
 pub mod Filled
+pub mod Reading
 pub mod Examples

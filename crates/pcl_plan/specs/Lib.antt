@@ -8,3 +8,4 @@ pub mod TableModel
 pub mod Rows
 pub mod Filling
 pub mod Plans
+pub mod Reading

@@ -9,6 +9,7 @@ mod laws;
 mod lengths;
 mod rows;
 mod step;
+mod steps;
 mod table;
 
 pub use laws::{feasible_numbers_bound_texts, least_walk_is_least_text, printing_is_walking};

@@ -1,6 +1,6 @@
 //! The rows that a plan is made for.
 
-ghost use Rattle.std.specs.Prelude.{◌≡◌, ◌*◌, ◌<◌, ◌≤◌, ◌↔◌, length, replicate, IsTrue};
+ghost use Rattle.std.specs.Prelude.{◌≡◌, ◌+◌, ◌*◌, ◌<◌, ◌≤◌, ◌↔◌, length, replicate, IsTrue};
 ghost use Rattle.pcl_plan.specs.Tokens.{IsWhite};
 ghost use Rattle.pcl_plan.specs.Nodes.{row_at, row_above};
 
@@ -19,6 +19,7 @@ pub struct Rows<'a> {
 
 impl<'a> Rows<'a> {
     ghost use Rattle.pcl_plan.specs.Rows.{rows_of};
+    ghost use Rattle.pcl_plan.specs.Filling.{IsWhiteRun};
 
     /// Row `y`, the topmost row 0.
     pub fn row(&self, y: u32) -> &[u8]
@@ -50,5 +51,18 @@ impl<'a> Rows<'a> {
         ensures { IsTrue result ↔ IsWhite (row_at (rows_of self.now) y) }
     {
         trimmed_len(self.row(y)) == 0
+    }
+
+    /// How many rows are white from row `y` on.
+    pub fn white_run(&self, y: u32) -> u32
+        requires { y ≤ self.now.count }
+        ensures run { IsWhiteRun (rows_of self.now) y result }
+        ensures within { y + result ≤ self.now.count }
+    {
+        let mut run = 0;
+        while y + run < self.count && self.is_white(y + run) {
+            run += 1;
+        }
+        run
     }
 }
