@@ -9,4 +9,5 @@ pub mod InkedRows
 pub mod Skips
 pub mod Filled
 pub mod Reading
+pub mod ReadSteps
 pub mod Examples
