@@ -10,4 +10,5 @@ pub mod Skips
 pub mod Filled
 pub mod Reading
 pub mod ReadSteps
+pub mod Planned
 pub mod Examples

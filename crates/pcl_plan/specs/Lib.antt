@@ -9,3 +9,5 @@ pub mod Rows
 pub mod Filling
 pub mod Plans
 pub mod Reading
+pub mod PlanModel
+pub mod PagePlans

@@ -7,11 +7,15 @@ mod costs;
 mod fill;
 mod laws;
 mod lengths;
+mod page_plan;
+mod planner;
 mod rows;
 mod step;
 mod steps;
 mod table;
 
 pub use laws::{feasible_numbers_bound_texts, least_walk_is_least_text, printing_is_walking};
+pub use page_plan::Plan;
+pub use planner::plan;
 pub use step::Step;
 pub use table::Table;
