@@ -11,4 +11,5 @@ pub mod Filled
 pub mod Reading
 pub mod ReadSteps
 pub mod Planned
+pub mod LeastWalks
 pub mod Examples

@@ -19,3 +19,6 @@ pub use page_plan::Plan;
 pub use planner::plan;
 pub use step::Step;
 pub use table::Table;
+
+#[cfg(test)]
+mod tests;
