@@ -8,8 +8,8 @@ use Rattle.std.proofs.Common.{get_or}
 use Rattle.pcl_bitmap.proofs.Bytes.{bit_of_byte-zero}
 use Rattle.pcl_bitmap.specs.Bitmap.{bit_of_byte, dot_of_row}
 use Rattle.pcl_bitmap.specs.Dots.{raster_dot}
-use Rattle.pcl_writer.specs.Tokens.{IsWhite, AreWhite}
-use Rattle.pcl_writer.specs.PageText.{rows_from}
+use Rattle.pcl_plan.specs.Tokens.{IsWhite, AreWhite}
+use Rattle.pcl_plan.specs.PageText.{rows_from}
 use Rattle.pcl_meaning.specs.PageTexts.{dot_of_rows}
 
 -- ---- dots of rows

@@ -21,8 +21,9 @@ use Rattle.pcl_page.specs.Marks.{Mark, is_black}
 use Rattle.pcl_page.specs.History.{ended, History, Sheet, Situation, at_begin, at_end, after, situation, page_refusal, command_refusal}
 use Rattle.pcl_page.specs.Performing.{Shows, Performance, after_end, after_command, after_all, performance, pages_of, with_operation, then_on}
 use Rattle.pcl_page.specs.Jobs.{HasPages, performance_of}
-use Rattle.pcl_writer.specs.Tokens.{Token, opening, method, skip, send, commands_in, command_count, token_bytes, start_bytes, end_bytes, frame_bytes}
-use Rattle.pcl_writer.specs.PageText.{IsPageText, IsWrittenPage, bitmap_rows}
+use Rattle.pcl_plan.specs.Tokens.{Token, opening, method, skip, send, commands_in, command_count, token_bytes, start_bytes, end_bytes, frame_bytes}
+use Rattle.pcl_plan.specs.PageText.{IsPageText, bitmap_rows}
+use Rattle.pcl_writer.specs.Appending.{IsWrittenPage}
 use Rattle.pcl_meaning.specs.Alike.{AreAlike, AllAlike, PrintSheets}
 use Rattle.pcl_meaning.specs.PageTexts.{dot_of_rows, PageTextsMeanTheirPages}
 use Rattle.pcl_meaning.proofs.Deeds.{Deed}

@@ -17,7 +17,7 @@ use Rattle.pcl_escape.specs.Checks.{parameter_checks, data_checks, is_exit}
 use Rattle.pcl_escape.specs.Said.{Said}
 use Rattle.pcl_escape.specs.Pieces.{Piece, combined, Parameter, parameter_bytes, spelling, IsPrefix, IsMiddle, IsEnd, IsPiece, ArePieces, parameter_commands, first_place, commands_from, commands_of}
 use Rattle.pcl_escape.proofs.Runs.{place_further}
-use Rattle.pcl_writer.specs.Tokens.{IsSpelled}
+use Rattle.pcl_plan.specs.Tokens.{IsSpelled}
 use Rattle.pcl_meaning.proofs.Deeds.{Deed, deed}
 
 -- ---- commands and deeds

@@ -23,9 +23,9 @@ use Rattle.pcl_base.specs.Value.{zero_value}
 use Rattle.pcl_escape.specs.declared.step.Prefix.{Prefix}
 use Rattle.pcl_escape.specs.Letter.{may_go_on, is_last}
 use Rattle.pcl_escape.specs.Pieces.{Parameter, parameter_bytes, control, two_character, IsPrefix, IsMiddle}
-use Rattle.pcl_writer.specs.Tokens.{Token, opening, method, skip, send, token_bytes, IsSpelled, PrintsRows, start_bytes, end_bytes, frame_bytes}
+use Rattle.pcl_plan.specs.Tokens.{Token, opening, method, skip, send, token_bytes, IsSpelled, PrintsRows, start_bytes, end_bytes, frame_bytes}
 use Rattle.pcl_meaning.proofs.Deeds.{Deed, deed}
-use Rattle.pcl_writer.proofs.Numbers.{decimal_spelled}
+use Rattle.pcl_plan.proofs.Numbers.{decimal_spelled}
 use Rattle.pcl_meaning.proofs.Readings.{ReadsAs, reads_joined, reads_none, reads_piece, reads_sequence, AreMeant, meant_more, middle_more, number_parameter, number_value, number_bytes, IsSetting, setting_middle, setting_end, setting_meant, row_prefix, row_end, row_meant}
 
 -- ---- the deeds of a text

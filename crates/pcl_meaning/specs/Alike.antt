@@ -6,7 +6,7 @@ use Rattle.pcl_page.specs.declared.page.Page.{Page}
 use Rattle.pcl_page.specs.Marks.{is_black}
 use Rattle.pcl_page.specs.History.{Sheet}
 use Rattle.pcl_page.specs.Performing.{Shows}
-use Rattle.pcl_writer.specs.PageText.{IsWrittenPage}
+use Rattle.pcl_writer.specs.Appending.{IsWrittenPage}
 
 -- two sheets of one size and with as many copies, of the same dots
 pub record AreAlike (dpi : Dpi) (one other : Sheet) : Type 0 where

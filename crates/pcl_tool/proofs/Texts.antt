@@ -6,8 +6,8 @@ use Rattle.pcl_page.specs.declared.page.Page.{Page}
 use Rattle.pcl_page.specs.History.{Sheet}
 use Rattle.pcl_page.specs.Performing.{Hands}
 use Rattle.pcl_page.specs.Jobs.{HasPages}
-use Rattle.pcl_writer.specs.Tokens.{frame_bytes}
-use Rattle.pcl_writer.specs.PageText.{AppendsPage}
+use Rattle.pcl_plan.specs.Tokens.{frame_bytes}
+use Rattle.pcl_writer.specs.Appending.{AppendsPage}
 use Rattle.pcl_meaning.specs.Alike.{PrintSheets}
 use Rattle.pcl_meaning.proofs.Jobs.{written_again}
 use Rattle.pcl_tool.specs.Minimizing.{IsJobOf}

@@ -4,7 +4,7 @@ use Rattle.std.specs.Io.KnownBytes.{Consumes, Appends, IsAtEnd, Keeps}
 use Rattle.pcl_base.specs.declared.dpi.Dpi.{Dpi}
 use Rattle.pcl_page.specs.History.{Sheet}
 use Rattle.pcl_page.specs.Jobs.{HasPages, IsRefusal}
-use Rattle.pcl_writer.specs.Tokens.{frame_bytes}
+use Rattle.pcl_plan.specs.Tokens.{frame_bytes}
 use Rattle.pcl_meaning.specs.Alike.{AllAlike, PrintSheets}
 use Rattle.pcl_tool.specs.declared.fault.Fault.{Fault}
 use Rattle.pcl_tool.specs.declared.fault.Fault.TheVariants.{Refused, Memory, ReadFault, TooLong, WriteFault, NoSuchPage}

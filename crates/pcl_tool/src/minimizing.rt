@@ -74,7 +74,7 @@ impl Model for Written {
 }
 
 impl PageSink for Written {
-    ghost use Rattle.pcl_writer.specs.PageText.{AppendsPage};
+    ghost use Rattle.pcl_writer.specs.Appending.{AppendsPage};
 
     ghost takes = { λ old page new. AppendsPage page old new };
 

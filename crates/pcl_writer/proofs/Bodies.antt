@@ -18,9 +18,10 @@ use Rattle.std.specs.Prelude.{not}
 use Rattle.pcl_base.specs.declared.method.Method.{Method}
 use Rattle.pcl_base.specs.Size.{page_height}
 use Rattle.pcl_bitmap.specs.Bitmap.{Picture, IsPicture}
-use Rattle.pcl_writer.specs.Tokens.{Token, opening, method, skip, command_count, send, token_bytes, IsWhite, AreWhite, PrintsRows}
-use Rattle.pcl_writer.specs.PageText.{IsRowOf, bitmap_rows, AreWithoutMethods, IsWithoutMethod, rows_from, row_tokens, skip_bytes}
-use Rattle.pcl_writer.proofs.Numbers.{decimal_spelled}
+use Rattle.pcl_plan.specs.Tokens.{Token, opening, method, skip, command_count, send, token_bytes, IsWhite, AreWhite, PrintsRows}
+use Rattle.pcl_plan.specs.PageText.{IsRowOf, bitmap_rows, rows_from}
+use Rattle.pcl_writer.specs.Appending.{AreWithoutMethods, IsWithoutMethod, row_tokens, skip_bytes}
+use Rattle.pcl_plan.proofs.Numbers.{decimal_spelled}
 
 -- ---- data of the plain method
 
@@ -35,56 +36,6 @@ one_least seed row m n a b =
     let below = a.shortest b.attained.0 b.attained.1 in
     let above = b.shortest a.attained.0 a.attained.1 in
     omega (arith, a.attained.2, b.attained.2, below, above)
-
--- ---- rows
-
-pub drop_rows : (k n width : ℕ) (bytes : List ℕ) → drop k (rows_from n width bytes) ≡ rows_from (n - k) width (drop (k * width) bytes)
-unfolding rows_from
-drop_rows zero n width bytes =
-    let none : n ≡ n - 0 = omega arith in
-    let start : 0 * width ≡ 0 = omega arith in
-    ap (λ (m : ℕ). rows_from m width bytes) none ∙ ap (λ (place : ℕ). rows_from (n - 0) width (drop place bytes)) (sym start)
-drop_rows (suc k) zero width bytes =
-    let none : 0 - suc k ≡ 0 = omega arith in
-    ap (λ (m : ℕ). rows_from m width (drop (suc k * width) bytes)) (sym none)
-drop_rows (suc k) (suc n) width bytes =
-    let places : width + k * width ≡ suc k * width = grind arith in
-    let same : n - k ≡ suc n - suc k = omega arith in
-    drop_rows k n width (drop width bytes)
-    ∙ ap (rows_from (n - k) width) (drop-drop (k * width) width bytes ∙ ap (λ (place : ℕ). drop place bytes) places)
-    ∙ ap (λ (m : ℕ). rows_from m width (drop (suc k * width) bytes)) same
-
--- the rows from one that is on the page
-pub rows_at : (y n width : ℕ) (bytes : List ℕ) → y < n → drop y (rows_from n width bytes) ≡ take width (drop (y * width) bytes) ∷ drop (y + 1) (rows_from n width bytes)
-unfolding rows_from
-rows_at y n width bytes lt =
-    let one : n - y ≡ suc (n - (y + 1)) = omega arith in
-    let step : drop width (drop (y * width) bytes) ≡ drop ((y + 1) * width) bytes =
-    (let places : y * width + width ≡ (y + 1) * width = grind arith in drop-drop width (y * width) bytes ∙ ap (λ (place : ℕ). drop place bytes) places) in
-    drop_rows y n width bytes ∙ ap (λ (m : ℕ). rows_from m width (drop (y * width) bytes)) one
-    ∙ ap (λ (rest : List (List ℕ)). take width (drop (y * width) bytes) ∷ rest)
-    (ap (rows_from (n - (y + 1)) width) step ∙ sym (drop_rows (y + 1) n width bytes))
-
-pub length_rows : (n width : ℕ) (bytes : List ℕ) → length (rows_from n width bytes) ≡ n
-unfolding rows_from
-length_rows zero width bytes = refl
-length_rows (suc n) width bytes = ap suc (length_rows n width (drop width bytes))
-
-pub no_rows : (y n width : ℕ) (bytes : List ℕ) → n ≤ y → drop y (rows_from n width bytes) ≡ []
-no_rows y n width bytes le =
-    let short : length (rows_from n width bytes) ≤ y = omega (arith, length_rows n width bytes) in
-    drop_of_length-le (rows_from n width bytes) short
-
--- no row is longer than coders take
-pub row_small : (size : Size) (dpi : Dpi) → page_row_bytes size dpi ≤ 600
-row_small Executive Dpi300 = lit≤ tt
-row_small Letter Dpi300 = lit≤ tt
-row_small Legal Dpi300 = lit≤ tt
-row_small A4 Dpi300 = lit≤ tt
-row_small Executive Dpi600 = lit≤ tt
-row_small Letter Dpi600 = lit≤ tt
-row_small Legal Dpi600 = lit≤ tt
-row_small A4 Dpi600 = lit≤ tt
 
 -- what was there is the front of what is
 pub front_is : (old new more : List ℕ) → new ≡ old ++ more → take (length old) new ≡ old
@@ -240,38 +191,6 @@ end rows width old now y skipped at h = (
 pub page_joined : (old one two three start body tail : List ℕ) → one ≡ old ++ start → two ≡ one ++ body → three ≡ two ++ tail → three ≡ old ++ (start ++ body ++ tail)
 page_joined old one two three start body tail a b c =
     c ∙ ap (λ (t : List ℕ). t ++ tail) (b ∙ ap (λ (t : List ℕ). t ++ body) a) ∙ simp append_assoc
-
--- ---- rows of bitmaps
-
--- a row has its bytes
-row_room : (k n width : ℕ) (bytes : List ℕ) (height : ℕ) → length bytes ≡ height * width → k + suc n ≡ height → width ≤ length (drop (k * width) bytes)
-row_room k n width bytes height whole e =
-    let all : (k + suc n) * width ≡ k * width + (width + n * width) = grind arith in
-    let same : height * width ≡ (k + suc n) * width = ap (λ (m : ℕ). m * width) (sym e) in
-    omega (arith, length-drop (k * width) bytes, all, same)
-
-rows_from_are : (n k : ℕ) (picture : Picture) → IsPicture picture → k + n ≡ page_height picture.size picture.dpi
-    → AllByRecursion (IsRowOf picture.size picture.dpi)
-    (rows_from n (page_row_bytes picture.size picture.dpi) (drop (k * page_row_bytes picture.size picture.dpi) picture.bytes))
-unfolding rows_from
-rows_from_are zero k picture is e = tt
-rows_from_are (suc n) k picture is e =
-    let width = page_row_bytes picture.size picture.dpi in
-    let bytes = picture.bytes in
-    let next : drop width (drop (k * width) bytes) ≡ drop ((k + 1) * width) bytes =
-    drop-drop width (k * width) bytes ∙ (let place : k * width + width ≡ (k + 1) * width = grind arith in ap (λ (m : ℕ). drop m bytes) place) in
-    let room : width ≤ length (drop (k * width) bytes) = row_room k n width bytes (page_height picture.size picture.dpi) is.whole e in (
-      (length-take-le width (drop (k * width) bytes) room, λ x past. is.clear_pads x k past),
-      subst (λ (rest : List ℕ). AllByRecursion (IsRowOf picture.size picture.dpi) (rows_from n width rest)) (sym next) (rows_from_are n (k + 1) picture is (omega arith)),
-    )
-
--- the rows of a bitmap are rows of its size
-pub bitmap_rows_are : (picture : Picture) → IsPicture picture → AllByRecursion (IsRowOf picture.size picture.dpi) (bitmap_rows picture)
-bitmap_rows_are picture is =
-    let width = page_row_bytes picture.size picture.dpi in
-    let none : 0 * width ≡ 0 = omega arith in
-    subst (λ (bytes : List ℕ). AllByRecursion (IsRowOf picture.size picture.dpi) (rows_from (page_height picture.size picture.dpi) width bytes))
-    (ap (λ (m : ℕ). drop m picture.bytes) none) (rows_from_are (page_height picture.size picture.dpi) 0 picture is (omega arith))
 
 -- each command of a body that sets no method stands for a row at least
 pub few_commands : (inside : Bool) (current : Method) (seed : List ℕ) (tokens : List Token) (rows : List (List ℕ)) → PrintsRows inside current seed tokens rows

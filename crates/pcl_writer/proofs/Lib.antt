@@ -1,4 +1,2 @@
-pub mod Numbers
 pub mod Bodies
 pub mod Starts
-pub mod Examples

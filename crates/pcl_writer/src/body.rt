@@ -4,7 +4,7 @@ ghost use Rattle.std.specs.Prelude.{◌≡◌, ◌++◌, ◌<◌, ◌≤◌, len
 ghost use Rattle.pcl_base.specs.Size.{page_height, page_row_bytes};
 ghost use Rattle.pcl_bitmap.specs.Bitmap.{IsPicture};
 ghost use Rattle.pcl_coders.specs.Coding.{IsCodable};
-ghost use Rattle.pcl_writer.specs.PageText.{AppendsBody, AppendsRow, row_above, skip_bytes};
+ghost use Rattle.pcl_writer.specs.Appending.{AppendsBody, AppendsRow, row_above, skip_bytes};
 
 use crate::number::append_number;
 use pcl_base::ROW_LIMIT;

@@ -1,8 +1,8 @@
 //! Page texts, and what stands around them.
 
 ghost use Rattle.std.specs.Prelude.{◌≡◌, ◌++◌, length, take, if◌then◌else◌, is_ok, OnOk, OnErr};
-ghost use Rattle.pcl_writer.specs.Tokens.{start_bytes, end_bytes, frame_bytes};
-ghost use Rattle.pcl_writer.specs.PageText.{AppendsPage};
+ghost use Rattle.pcl_plan.specs.Tokens.{start_bytes, end_bytes, frame_bytes};
+ghost use Rattle.pcl_writer.specs.Appending.{AppendsPage};
 
 use crate::body::append_body;
 use crate::number::append_number;

@@ -1,5 +1,5 @@
 use Rattle.std.proofs.Common.{◌∙◌, List, ℕ, ◌++◌, ap}
-use Rattle.pcl_writer.specs.Tokens.{frame_bytes}
+use Rattle.pcl_plan.specs.Tokens.{frame_bytes}
 use Rattle.pcl_page.proofs.Jobs.{accepted_pages, has_pages}
 use Rattle.pcl_tool.proofs.Texts.{job_written}
 use Rattle.pcl_tool.proofs.minimizing.minimize.Goals as goal

@@ -5,8 +5,9 @@ use Rattle.pcl_base.specs.declared.dpi.Dpi.{Dpi}
 use Rattle.pcl_base.specs.declared.size.Size.{Size}
 use Rattle.pcl_base.specs.Size.{page_height, page_row_bytes}
 use Rattle.pcl_bitmap.specs.Bitmap.{row_of}
-use Rattle.pcl_writer.specs.PageText.{bitmap_rows}
-use Rattle.pcl_writer.proofs.Bodies.{begin, white_row, sent_row, end, rows_at, no_rows, row_small, front_is}
+use Rattle.pcl_plan.specs.PageText.{bitmap_rows}
+use Rattle.pcl_plan.proofs.RowsFrom.{rows_at, no_rows, row_small}
+use Rattle.pcl_writer.proofs.Bodies.{begin, white_row, sent_row, end, front_is}
 use Rattle.pcl_writer.proofs.body.append_body.Goals as goal
 use Rattle.pcl_writer.proofs.body.append_body.Goals.{then-is_blank, else-is_blank+in_ok-append_row}
 

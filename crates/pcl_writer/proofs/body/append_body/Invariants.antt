@@ -1,6 +1,6 @@
 use Rattle.std.proofs.Common.{◌≤◌, ◌≡◌, length, take}
 use Rattle.pcl_base.specs.Size.{page_row_bytes}
-use Rattle.pcl_writer.specs.PageText.{bitmap_rows}
+use Rattle.pcl_plan.specs.PageText.{bitmap_rows}
 use Rattle.pcl_writer.proofs.Bodies.{IsWritten}
 use Rattle.pcl_writer.proofs.body.append_body.Given as goal
 

@@ -4,9 +4,10 @@ use Rattle.pcl_base.specs.declared.dpi.Dpi.{Dpi}
 use Rattle.pcl_base.specs.declared.size.Size.{Size}
 use Rattle.pcl_base.specs.Size.{page_height, page_row_bytes}
 use Rattle.pcl_page.specs.declared.page.Page.{Page}
-use Rattle.pcl_writer.specs.Tokens.{start_bytes, end_bytes, token_bytes}
-use Rattle.pcl_writer.specs.PageText.{IsRowOf, PrintsAll, PrintsPage, bitmap_rows}
-use Rattle.pcl_writer.proofs.Bodies.{page_joined, length_rows, bitmap_rows_are, few_commands}
+use Rattle.pcl_plan.specs.Tokens.{start_bytes, end_bytes, token_bytes}
+use Rattle.pcl_plan.specs.PageText.{IsRowOf, PrintsAll, PrintsPage, bitmap_rows}
+use Rattle.pcl_plan.proofs.RowsFrom.{length_rows, bitmap_rows_are}
+use Rattle.pcl_writer.proofs.Bodies.{page_joined, few_commands}
 use Rattle.pcl_writer.proofs.text.append_page.Goals as goal
 
 -- of the bitmap's size and resolution, and so of the page's

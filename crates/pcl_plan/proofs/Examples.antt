@@ -6,7 +6,7 @@ use Rattle.pcl_base.specs.declared.method.Method.TheVariants.{Plain, Delta}
 use Rattle.pcl_rows.specs.Heads.{Itself, Near}
 use Rattle.pcl_rows.specs.Elements.{IsElement}
 use Rattle.pcl_rows.specs.Rows.{IsRowData}
-use Rattle.pcl_writer.specs.Tokens.{Token, opening, method, skip, send, token_bytes, IsSpelled, PrintsRows}
+use Rattle.pcl_plan.specs.Tokens.{Token, opening, method, skip, send, token_bytes, IsSpelled, PrintsRows}
 
 -- ---- numbers
 

@@ -5,7 +5,7 @@ use Rattle.std.proofs.lemmas.Fmt.{decimal_by_steps}
 use Rattle.std.proofs.lemmas.Bool.Decides.{nat_tests}
 use Rattle.pcl_escape.specs.Field.{is_digit}
 use Rattle.pcl_escape.specs.Pieces.{AreDigits}
-use Rattle.pcl_writer.specs.Tokens.{IsSpelled}
+use Rattle.pcl_plan.specs.Tokens.{IsSpelled}
 
 digit_is : (n : ℕ) → n < 10 → is_digit (48 + n) ≡ true
 digit_is n lt = grind (arith, nat_tests)

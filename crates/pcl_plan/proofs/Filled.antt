@@ -1,0 +1,207 @@
+-- A table that is filled one row upwards.
+use Rattle.std.proofs.Common.{◌≡◌, ◌≢◌, ℕ, zero, suc, ◌+◌, ◌-◌, ◌*◌, ◌<◌, ◌≤◌, ◌⊎◌, Bool, true, false, List, [], ◌∷◌, length, take, drop, refl, sym, ap, subst, ◌∙◌, inl, inr, arith, add-one}
+use Rattle.std.proofs.lemmas.Bool.{cases_lt}
+use Rattle.std.proofs.lemmas.List.{drop_more, length-drop, get_or-drop, take_all}
+use Rattle.pcl_base.specs.declared.method.Method.{Method}
+use Rattle.pcl_base.specs.declared.method.Method.TheVariants.{Plain, Runs, Packed, Delta}
+use Rattle.pcl_coders.specs.Coding.{IsLeastLength}
+use Rattle.pcl_plan.specs.declared.table.RowNumbers.{RowNumbers}
+use Rattle.pcl_plan.specs.Tokens.{IsWhite, AreWhite}
+use Rattle.pcl_plan.specs.Nodes.{Node, row_at, row_above}
+use Rattle.pcl_plan.specs.Table.{number_in, node_number, end_numbers}
+use Rattle.pcl_plan.specs.Filling.{outside, rest, skipping, sending, AreSkippable, IsWhiteRun, IsReadable, IsLeastStart, IsDirect, IsSwitched, AreRowNumbers, IsRowRight, AreRightFrom}
+use Rattle.pcl_plan.proofs.Walking.{node, white_at}
+use Rattle.pcl_plan.proofs.RightRows.{row_stays, white_row_right}
+use Rattle.pcl_plan.proofs.InkedRows.{IsInkedRow, inked_row_right}
+
+-- ---- white rows
+
+pub white_front : (run count : ℕ) (rows : List (List ℕ)) → AreWhite (take run rows) → count ≤ run → AreWhite (take count rows)
+white_front run zero rows w le = tt
+white_front zero (suc count) rows w le = absurd (omega arith)
+white_front (suc run) (suc count) [] w le = tt
+white_front (suc run) (suc count) (row ∷ rows) w le = (w.0, white_front run count rows w.1 (omega arith))
+
+-- a row among white ones
+pub white_below : (rows : List (List ℕ)) (row run place : ℕ) → AreWhite (take run (drop row rows)) → place < run → row + run ≤ length rows → IsWhite (row_at rows (row + place))
+white_below rows row run place white lt within =
+    subst IsWhite (get_or-drop row rows place []) (white_at run (drop row rows) place white lt (omega (arith, length-drop row rows)))
+
+-- what can be skipped is within the run
+pub skippable_within : (rows : List (List ℕ)) (row run count : ℕ) → IsWhiteRun rows row run → AreSkippable rows row count → count ≤ run
+skippable_within rows row run count is can =
+    elim (cases_lt run count) [
+      | inr within ↦ within
+      | inl past ↦ absurd (is.longest (omega (arith, can.1)) (white_below rows row count run can.2 past can.1))
+    ]
+
+-- the run of a row that is white, and of one that isn't
+pub run_more : (rows : List (List ℕ)) (row run : ℕ) → row < length rows → IsWhiteRun rows (row + 1) run → IsWhite (row_at rows row) → IsWhiteRun rows row (run + 1)
+run_more rows row run lt is white =
+    let there : row + 1 + run ≡ row + (run + 1) = omega arith in
+    record {
+      within = omega (arith, is.within);
+      white = rw (add-one, drop_more rows row [] lt) (white, is.white);
+      longest = λ before last. is.longest (omega arith) (subst (λ (r : ℕ). IsWhite (row_at rows r)) (sym there) last);
+    }
+
+pub run_none : (rows : List (List ℕ)) (row : ℕ) → row < length rows → (IsWhite (row_at rows row) → ⊥) → IsWhiteRun rows row 0
+run_none rows row lt inked =
+    let here : row + 0 ≡ row = omega arith in
+    record {
+      within = omega arith;
+      white = tt;
+      longest = λ before white. inked (subst (λ (r : ℕ). IsWhite (row_at rows r)) here white);
+    }
+
+pub run_end : (rows : List (List ℕ)) (row : ℕ) → row ≡ length rows → IsWhiteRun rows row 0
+run_end rows row e = record { within = omega arith; white = tt; longest = λ before white. absurd (omega arith) }
+
+-- a run to the end
+pub white_to_end : (rows : List (List ℕ)) (row run : ℕ) → IsWhiteRun rows row run → row + run ≡ length rows → AreWhite (drop row rows)
+white_to_end rows row run is e = subst AreWhite (take_all run (drop row rows) (omega (arith, length-drop row rows))) is.white
+
+-- ink behind a run
+pub ink_left : (rows : List (List ℕ)) (row run : ℕ) → IsWhiteRun rows row run → row + run < length rows → AreWhite (drop row rows) → ⊥
+ink_left rows row run is lt white =
+    let all : AreWhite (take (run + 1) (drop row rows)) = white_front (length rows) (run + 1) (drop row rows) (subst AreWhite (sym (take_all (length rows) (drop row rows) (omega (arith, length-drop row rows)))) white) (omega arith) in
+    is.longest lt (white_below rows row (run + 1) run all (omega arith) (omega arith))
+
+-- ---- what is read of a table
+
+falls_by : (width : ℕ) (rows : List (List ℕ)) (table : List RowNumbers) (row run : ℕ) → AreRightFrom width rows table (row + 1) → IsWhiteRun rows row run → (method : Method) (near gap : ℕ) → 0 < near → near + gap ≤ run
+    → rest (node_number table) (row + (near + gap)) method ≤ rest (node_number table) (row + near) method
+falls_by width rows table row run right is method near zero some within =
+    let same : near + 0 ≡ near = omega arith in
+    omega (arith, ap (λ (k : ℕ). rest (node_number table) (row + k) method) same)
+falls_by width rows table row run right is method near (suc gap) some within =
+    let before = falls_by width rows table row run right is method near gap some (omega arith) in
+    let place : ℕ = row + (near + gap) in
+    let white = white_below rows row run (near + gap) is.white (omega arith) is.within in
+    let step = (right.right place (omega arith) (omega (arith, is.within))).falls method (omega (arith, is.within)) white in
+    let next : place + 1 ≡ row + (near + suc gap) = omega arith in
+    omega (arith, before, step, ap (λ (r : ℕ). rest (node_number table) r method) next)
+
+pub readable : (width : ℕ) (rows : List (List ℕ)) (table : List RowNumbers) (row run : ℕ) → length rows ≤ 9999 → AreRightFrom width rows table (row + 1) → IsWhiteRun rows row run → row + run < length rows → IsReadable table row run
+readable width rows table row run few right is ink = record {
+  next = omega (arith, right.size);
+  within = omega (arith, right.size);
+  few = omega (arith, right.size);
+  falls = λ method near far some le within.
+      let gap : near + (far - near) ≡ far = omega arith in
+      omega (arith, falls_by width rows table row run right is method near (far - near) some (omega arith), ap (λ (k : ℕ). rest (node_number table) (row + k) method) gap);
+  small = λ a below inside. omega (arith, (right.right a.row (omega arith) (omega (arith, right.size))).small a refl, few);
+}
+
+-- ---- the numbers of a row
+
+pub direct_of_start : (width : ℕ) (rows : List (List ℕ)) (number : Node → ℕ) (row : ℕ) (method : Method) (run bytes least : ℕ) → IsWhiteRun rows row run
+    → IsLeastLength method (row_above width rows row) (row_at rows row) bytes → IsLeastStart number row method run bytes least → IsDirect width rows number row method least
+direct_of_start width rows number row method run bytes least is length_is start = record {
+  bytes = bytes;
+  is_length = length_is;
+  sent = start.sent;
+  skipped = λ count can. start.skipped count can.0 (skippable_within rows row run count is can);
+  attained =
+      elim start.attained [
+        | inl sent ↦ inl sent
+        | inr skipped ↦ inr (skipped.0, (skipped.1, omega (arith, skipped.2, is.within), white_front run skipped.0 (drop row rows) is.white skipped.2), skipped.3)
+      ];
+}
+
+direct_stays : (width : ℕ) (rows : List (List ℕ)) (number other : Node → ℕ) (row : ℕ) (method : Method) (least : ℕ) → ((a : Node) → row < a.row → other a ≡ number a) → IsDirect width rows number row method least
+    → IsDirect width rows other row method least
+direct_stays width rows number other row method least same is =
+    let there : (count : ℕ) → 0 < count → skipping other row method count ≡ skipping number row method count =
+    λ count some. omega (arith, same (node (row + count) method true) (omega arith), same (node (row + count) method false) (omega arith)) in
+    let next = same (node (row + 1) method false) (omega arith) in
+    record {
+      bytes = is.bytes;
+      is_length = is.is_length;
+      sent = omega (arith, is.sent, next);
+      skipped = λ count can. omega (arith, is.skipped count can, there count can.0);
+      attained =
+          elim is.attained [
+            | inl sent ↦ inl (omega (arith, sent, next))
+            | inr skipped ↦ inr (skipped.0, skipped.1, omega (arith, skipped.2, there skipped.0 skipped.1.0))
+          ];
+    }
+
+-- ---- a row that is put
+
+-- the numbers behind one row were changed, and no others
+pub record IsPut (old new : List RowNumbers) (row : ℕ) (numbers : RowNumbers) : Type 0 where
+  pub size : length new ≡ length old
+  pub changed : (method : Method) (is_open : Bool) → node_number new (node row method is_open) ≡ number_in numbers method is_open
+  pub others : (a : Node) → (a.row ≡ row → ⊥) → node_number new a ≡ node_number old a
+
+stays_behind : (width : ℕ) (rows : List (List ℕ)) (old new : List RowNumbers) (row : ℕ) (numbers : RowNumbers) → IsPut old new row numbers → AreRightFrom width rows old (row + 1)
+    → (behind : ℕ) → row < behind → behind ≤ length rows → IsRowRight width rows (node_number new) behind
+stays_behind width rows old new row numbers put right behind lt within =
+    row_stays width rows (node_number old) (node_number new) behind (λ a le. put.others a (λ same. omega arith)) (right.right behind (omega arith) within)
+
+right_more : (width : ℕ) (rows : List (List ℕ)) (old new : List RowNumbers) (row : ℕ) (numbers : RowNumbers) → IsPut old new row numbers → AreRightFrom width rows old (row + 1)
+    → IsRowRight width rows (node_number new) row → AreRightFrom width rows new row
+right_more width rows old new row numbers put right here = record {
+  size = put.size ∙ right.size;
+  right = λ behind from within.
+      elim (cases_lt row behind) [
+        | inl lt ↦ stays_behind width rows old new row numbers put right behind lt within
+        | inr le ↦
+            let same : row ≡ behind = omega arith in
+            subst (IsRowRight width rows (node_number new)) same here
+      ];
+}
+
+-- where the rest is white
+abbrev pub end_number : Bool → ℕ
+end_number true = 1
+end_number false = 0
+
+pub end_is : (method : Method) (is_open : Bool) → number_in end_numbers method is_open ≡ end_number is_open
+end_is Plain true = refl
+end_is Runs true = refl
+end_is Packed true = refl
+end_is Delta true = refl
+end_is Plain false = refl
+end_is Runs false = refl
+end_is Packed false = refl
+end_is Delta false = refl
+
+pub put_white : (width : ℕ) (rows : List (List ℕ)) (old new : List RowNumbers) (row : ℕ) → row < length rows → IsPut old new row end_numbers → AreRightFrom width rows old (row + 1) → AreWhite (drop row rows)
+    → AreRightFrom width rows new row
+put_white width rows old new row lt put right white =
+    let rest_white : AreWhite (drop (row + 1) rows) = (let all : AreWhite (row_at rows row ∷ drop (row + 1) rows) = subst AreWhite (drop_more rows row [] lt) white in all.1) in
+    right_more width rows old new row end_numbers put right
+    (white_row_right width rows (node_number new) row white
+    (λ method. put.changed method false ∙ end_is method false)
+    (λ method. put.changed method true ∙ end_is method true)
+    (λ method inside. (stays_behind width rows old new row end_numbers put right (row + 1) (omega arith) (omega arith)).ends (node (row + 1) method false) refl (refl, rest_white)))
+
+pub put_inked : (width : ℕ) (rows : List (List ℕ)) (old new : List RowNumbers) (row run : ℕ) (numbers : RowNumbers) → length rows ≤ 9999 → IsPut old new row numbers → AreRightFrom width rows old (row + 1)
+    → IsWhiteRun rows row run → row + run < length rows → AreRowNumbers width rows (node_number old) row numbers → AreRightFrom width rows new row
+put_inked width rows old new row run numbers few put right is ink are =
+    right_more width rows old new row numbers put right
+    (inked_row_right width rows (node_number new) row (record {
+      direct = are.direct;
+      numbers = numbers;
+      inside_page = omega arith;
+      few = omega arith;
+      inked = ink_left rows row run is ink;
+      placed = put.changed;
+      switched = are.switched;
+      are_direct = λ method.
+          direct_stays width rows (node_number old) (node_number new) row method (are.direct method) (λ a below. put.others a (λ same. omega arith)) (are.are_direct method);
+      later = stays_behind width rows old new row numbers put right;
+    }))
+
+-- behind all rows
+pub put_last : (width : ℕ) (rows : List (List ℕ)) (old new : List RowNumbers) (row : ℕ) → row ≡ length rows → length old ≡ length rows + 1 → IsPut old new row end_numbers → drop row rows ≡ [] → AreRightFrom width rows new row
+put_last width rows old new row e size put none = record {
+  size = put.size ∙ size;
+  right = λ behind from within.
+      let same : row ≡ behind = omega arith in
+      subst (IsRowRight width rows (node_number new)) same
+      (white_row_right width rows (node_number new) row (subst AreWhite (sym none) tt) (λ method. put.changed method false ∙ end_is method false) (λ method. put.changed method true ∙ end_is method true)
+      (λ method inside. absurd (omega arith)));
+}

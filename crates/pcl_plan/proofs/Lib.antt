@@ -1,0 +1,15 @@
+pub mod Numbers
+pub mod Walking
+pub mod RowsFrom
+pub mod Texts
+pub mod Digits
+pub mod Switching
+pub mod RightRows
+pub mod InkedRows
+pub mod Skips
+pub mod Filled
+pub mod Reading
+pub mod ReadSteps
+pub mod Planned
+pub mod LeastWalks
+pub mod Examples

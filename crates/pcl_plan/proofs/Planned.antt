@@ -1,0 +1,26 @@
+-- A table that is right, and the steps that were read off it, are a plan.
+use Rattle.std.proofs.Common.{◌≡◌, ℕ, List, length, sym, subst}
+use Rattle.pcl_plan.specs.declared.table.RowNumbers.{RowNumbers}
+use Rattle.pcl_plan.specs.declared.step.Step.{Step}
+use Rattle.pcl_plan.specs.Table.{node_number}
+use Rattle.pcl_plan.specs.Filling.{AreRightFrom}
+use Rattle.pcl_plan.specs.Reading.{AreLeastSteps}
+use Rattle.pcl_plan.specs.Plans.{StepsAndTable, IsPlan}
+use Rattle.pcl_plan.proofs.Reading.{feasible_table, least_table}
+
+plan_of : (width : ℕ) (rows : List (List ℕ)) (table : List RowNumbers) (steps : List Step) → AreRightFrom width rows table 0 → AreLeastSteps width rows (node_number table) steps → IsPlan width rows (record { steps = steps; table = table })
+plan_of width rows table steps right are = record {
+  size = right.size;
+  feasible = feasible_table width rows table right;
+  least = least_table width rows table right;
+  tokens = are.tokens;
+  spelled = are.spelled;
+  walk = are.walk;
+  total_is = are.total_is;
+}
+
+pub plan_is : (width : ℕ) (rows : List (List ℕ)) (table : List RowNumbers) (steps : List Step) (plan : StepsAndTable) → plan.steps ≡ steps → plan.table ≡ table → AreRightFrom width rows table 0
+    → AreLeastSteps width rows (node_number table) steps → IsPlan width rows plan
+plan_is width rows table steps plan s t right are =
+    subst (λ (ss : List Step). IsPlan width rows (record { steps = ss; table = plan.table })) (sym s)
+    (subst (λ (n : List RowNumbers). IsPlan width rows (record { steps = steps; table = n })) (sym t) (plan_of width rows table steps right are))

@@ -1,0 +1,269 @@
+-- The steps that were read so far, and what comes behind them, are a walk of least cost.
+use Rattle.std.proofs.Common.{◌≡◌, ℕ, zero, suc, ◌+◌, ◌<◌, ◌≤◌, ◌⊎◌, Bool, true, false, List, [], ◌∷◌, ◌++◌, length, refl, sym, ap, subst, ◌∙◌, inl, inr, arith, append_assoc}
+use Rattle.std.specs.Prelude.{not}
+use Rattle.std.proofs.lemmas.Bool.{cases_lt}
+use Rattle.std.proofs.lemmas.List.{append-nil}
+use Rattle.pcl_base.specs.declared.method.Method.{Method}
+use Rattle.pcl_base.specs.declared.method.Method.TheVariants.{Plain}
+use Rattle.pcl_base.specs.Method.{method_code}
+use Rattle.pcl_coders.specs.Walks.{Walk, total}
+use Rattle.pcl_plan.specs.declared.table.RowNumbers.{RowNumbers}
+use Rattle.pcl_plan.specs.declared.step.Step.{Step}
+use Rattle.pcl_plan.specs.declared.step.Step.TheVariants.{Skip, Switch, Row}
+use Rattle.pcl_plan.specs.declared.steps.Place.{Place}
+use Rattle.pcl_plan.specs.Tokens.{Token, opening, method, skip, send, IsSpelled}
+use Rattle.pcl_plan.specs.Nodes.{Node, start, row_at, row_above, Leads, Ends, cost}
+use Rattle.pcl_plan.specs.Spelling.{least_spelling}
+use Rattle.pcl_plan.specs.Table.{node_number}
+use Rattle.pcl_plan.specs.Filling.{outside, inside, rest}
+use Rattle.pcl_plan.specs.Plans.{IsTokenOf, stays_inside, opened, is_last, Spells}
+use Rattle.pcl_plan.specs.Reading.{IsBestStep, row_behind, method_behind, IsPlaceBehind, AreLeastSteps}
+use Rattle.pcl_plan.proofs.Walking.{node}
+use Rattle.pcl_plan.proofs.RightRows.{cost_opening, cost_method, cost_skip, cost_send, cost_some, method_small}
+use Rattle.pcl_plan.proofs.InkedRows.{spelled_cost, length_small}
+use Rattle.pcl_plan.proofs.Reading.{IsRightTable, opens, ends}
+
+-- ---- a place
+
+abbrev pub node_of : Place → Node
+node_of place = node place.row place.method place.inside
+
+node_is : (row other : ℕ) (current next : Method) (one two : Bool) → row ≡ other → current ≡ next → one ≡ two → node row current one ≡ node other next two
+node_is row other current next one two r m i = ap (λ (x : ℕ). node x current one) r ∙ ap (λ (x : Method). node other x one) m ∙ ap (λ (x : Bool). node other next x) i
+
+not_not : (b : Bool) → b ≡ not (not b)
+not_not true = refl
+not_not false = refl
+
+-- behind a step that isn't a row, the number is the lesser one
+rest_is : (width : ℕ) (rows : List (List ℕ)) (table : List RowNumbers) (row : ℕ) (current : Method) (is_open : Bool) → IsRightTable width rows table → row ≤ length rows
+    → (is_open ≡ true → 0 < outside (node_number table) row current) → (is_open ≡ false → outside (node_number table) row current ≡ 0)
+    → rest (node_number table) row current ≡ node_number table (node row current is_open)
+rest_is width rows table row current true is within some none = omega (arith, opens width rows table row current is within (some refl))
+rest_is width rows table row current false is within some none = omega (arith, none refl)
+
+-- ---- the token of a step
+
+pub record IsNext (width : ℕ) (rows : List (List ℕ)) (number : Node → ℕ) (row : ℕ) (current : Method) (step : Step) (place : Place) : Type 0 where
+  pub token : Token
+  pub is_of : IsTokenOf step (not place.inside) token
+  pub leads : Leads width rows (node row current true) token (node_of place)
+  pub number_is : inside number row current ≡ cost token + number (node_of place)
+  pub within : place.row ≤ length rows
+
+pub next_is : (width : ℕ) (rows : List (List ℕ)) (table : List RowNumbers) (row : ℕ) (current : Method) (step : Step) (place : Place) → IsRightTable width rows table → row ≤ length rows
+    → IsBestStep width rows (node_number table) row current step → IsPlaceBehind (node_number table) row current step place → IsNext width rows (node_number table) row current step place
+next_is width rows table row current (Skip count) place is before best p =
+    let s = spelled_cost count (omega (arith, best.0.1, is.few)) in
+    let there : place.row ≤ length rows = omega (arith, p.row_is, best.0.1) in
+    let number = rest_is width rows table place.row place.method place.inside is there (λ goes. (p.goes_on goes).1) (λ ended. p.ends ended refl) in
+    let moved : rest (node_number table) place.row place.method ≡ rest (node_number table) (row + count) current =
+    ap (λ (r : ℕ). rest (node_number table) r place.method) p.row_is ∙ ap (rest (node_number table) (row + count)) p.method_is in
+    record {
+      token = skip (least_spelling count) count (not place.inside);
+      is_of = (refl, refl, refl);
+      leads = (refl, s.0, best.0.0, best.0.1, best.0.2, node_is place.row (row + count) place.method current place.inside (not (not place.inside)) p.row_is p.method_is (not_not place.inside));
+      number_is = omega (arith, best.1, number, moved, s.1, cost_skip (least_spelling count) count (not place.inside));
+      within = there;
+    }
+next_is width rows table row current (Switch next) place is before best p =
+    let s = spelled_cost (method_code next) (omega (arith, method_small next)) in
+    let there : place.row ≤ length rows = omega (arith, p.row_is, before) in
+    let number = rest_is width rows table place.row place.method place.inside is there (λ goes. (p.goes_on goes).1) (λ ended. p.ends ended refl) in
+    let moved : rest (node_number table) place.row place.method ≡ rest (node_number table) row next =
+    ap (λ (r : ℕ). rest (node_number table) r place.method) p.row_is ∙ ap (rest (node_number table) row) p.method_is in
+    record {
+      token = method (least_spelling (method_code next)) next (not place.inside);
+      is_of = (refl, refl, refl);
+      leads = (refl, s.0, node_is place.row row place.method next place.inside (not (not place.inside)) p.row_is p.method_is (not_not place.inside));
+      number_is = omega (arith, best, number, moved, s.1, cost_method (least_spelling (method_code next)) next (not place.inside));
+      within = there;
+    }
+next_is width rows table row current (Row bytes) place is before best p =
+    let s = spelled_cost bytes (length_small current (row_above width rows row) (row_at rows row) bytes best.1) in
+    let whole = best.1.attained in
+    let spelled : IsSpelled (least_spelling bytes) (length whole.0) = subst (IsSpelled (least_spelling bytes)) (sym whole.2) s.0 in
+    let there : place.row ≤ length rows = omega (arith, p.row_is, best.0) in
+    let closed : place.inside ≡ false = elim place.inside as (λ (i : Bool). (i ≡ true → false ≡ true) → i ≡ false) [
+      | true ↦ λ no. (let e : false ≡ true = no refl in absurd cc)
+      | false ↦ λ _. refl
+    ] (λ goes. (p.goes_on goes).0) in
+    let same = node_is place.row (row + 1) place.method current place.inside false p.row_is p.method_is closed in
+    record {
+      token = send (least_spelling bytes) whole.0;
+      is_of = (whole.2, refl);
+      leads = (refl, spelled, best.0, whole.1, same);
+      number_is = omega (arith, best.2, ap (node_number table) same, s.1, whole.2, cost_send (least_spelling bytes) whole.0);
+      within = there;
+    }
+
+-- ---- what was read
+
+-- steps that were read up to a place
+pub record IsReadTo (width : ℕ) (rows : List (List ℕ)) (table : List RowNumbers) (steps : List Step) (place : Place) : Type 0 where
+  pub within : place.row ≤ length rows
+  pub inked : place.inside ≡ true → 0 < outside (node_number table) place.row place.method
+  pub tokens : List Token
+  pub goes_on : (more : List Step) (behind : List Token) → (node_number table (node_of place) ≡ 0 → more ≡ []) → (0 < node_number table (node_of place) → is_last more ≡ false)
+      → Spells place.inside more behind → Walk (Leads width rows) (Ends rows) (node_of place) behind → total cost behind ≡ node_number table (node_of place)
+      → Spells false (steps ++ more) (tokens ++ behind) × Walk (Leads width rows) (Ends rows) start (tokens ++ behind) × (total cost (tokens ++ behind) ≡ node_number table start)
+
+pub read_none : (width : ℕ) (rows : List (List ℕ)) (table : List RowNumbers) (place : Place) → node_of place ≡ start → IsReadTo width rows table [] place
+read_none width rows table place e = record {
+  within = omega (arith, ap (λ (n : Node). n.row) e);
+  inked = λ goes. (let no : false ≡ true = sym (ap (λ (n : Node). n.inside) e) ∙ goes in absurd cc);
+  tokens = [];
+  goes_on = λ more behind z s spells walk t. (
+    subst (λ (n : Node). Spells n.inside more behind) e spells,
+    subst (λ (n : Node). Walk (Leads width rows) (Ends rows) n behind) e walk,
+    t ∙ ap (node_number table) e,
+  );
+}
+
+-- at the last step it makes no difference whether a sequence is open
+spells_any : (one two : Bool) (more : List Step) (behind : List Token) → (is_last more ≡ false → one ≡ two) → Spells one more behind → Spells two more behind
+unfolding Spells
+spells_any one two [] behind same s = s
+spells_any one two (step ∷ more) behind same s = subst (λ (o : Bool). Spells o (step ∷ more) behind) (same refl) s
+
+-- a step ends its sequence where no other follows
+token_at_end : (step : Step) (one two : Bool) (token : Token) → one ≡ two → IsTokenOf step one token → IsTokenOf step two token
+token_at_end step one two token e t = subst (λ (o : Bool). IsTokenOf step o token) e t
+
+row_token : (step : Step) (one two : Bool) (token : Token) → stays_inside step ≡ false → IsTokenOf step one token → IsTokenOf step two token
+row_token (Skip count) one two token e t = let never : true ≡ false = e in absurd cc
+row_token (Switch next) one two token e t = let never : true ≡ false = e in absurd cc
+row_token (Row bytes) one two opening e t = absurd t
+row_token (Row bytes) one two (method digits next capital) e t = absurd t
+row_token (Row bytes) one two (skip digits count capital) e t = absurd t
+row_token (Row bytes) one two (send digits written) e t = t
+
+opened_walk : (width : ℕ) (rows : List (List ℕ)) (row : ℕ) (current : Method) (is_open : Bool) (tokens : List Token) → Walk (Leads width rows) (Ends rows) (node row current true) tokens
+    → Walk (Leads width rows) (Ends rows) (node row current is_open) (opened is_open tokens)
+opened_walk width rows row current true tokens w = w
+opened_walk width rows row current false tokens w = (node row current true, (refl, refl), w)
+
+opened_total : (width : ℕ) (rows : List (List ℕ)) (table : List RowNumbers) (row : ℕ) (current : Method) (is_open : Bool) (tokens : List Token) → IsRightTable width rows table → row ≤ length rows
+    → 0 < outside (node_number table) row current → total cost tokens ≡ inside (node_number table) row current → total cost (opened is_open tokens) ≡ node_number table (node row current is_open)
+opened_total width rows table row current true tokens is within some t = t
+opened_total width rows table row current false tokens is within some t = omega (arith, t, cost_opening, opens width rows table row current is within some)
+
+inside_below : (width : ℕ) (rows : List (List ℕ)) (table : List RowNumbers) (row : ℕ) (current : Method) (is_open : Bool) → IsRightTable width rows table → row ≤ length rows
+    → 0 < outside (node_number table) row current → inside (node_number table) row current ≤ node_number table (node row current is_open)
+inside_below width rows table row current true is within some = omega arith
+inside_below width rows table row current false is within some = omega (arith, opens width rows table row current is within some)
+
+-- ink is left where a step is read
+pub ink_left : (width : ℕ) (rows : List (List ℕ)) (table : List RowNumbers) (steps : List Step) (place : Place) → IsReadTo width rows table steps place → 0 < node_number table (node_of place)
+    → 0 < outside (node_number table) place.row place.method
+ink_left width rows table steps place r some =
+    elim place.inside as (λ (i : Bool). (i ≡ true → 0 < outside (node_number table) place.row place.method) → 0 < node_number table (node place.row place.method i) → 0 < outside (node_number table) place.row place.method) [
+      | true ↦ λ inked some. inked refl
+      | false ↦ λ inked some. some
+    ] r.inked some
+
+bool_cases : (b : Bool) → (b ≡ true) ⊎ (b ≡ false)
+bool_cases true = inl refl
+bool_cases false = inr refl
+
+opened_more : (is_open : Bool) (token : Token) (tail : List Token) → opened is_open (token ∷ tail) ≡ opened is_open (token ∷ []) ++ tail
+opened_more true token tail = refl
+opened_more false token tail = refl
+
+-- inside a sequence a parameter is to come
+inside_some : (width : ℕ) (rows : List (List ℕ)) (table : List RowNumbers) (row : ℕ) (current : Method) → IsRightTable width rows table → row ≤ length rows → 0 < inside (node_number table) row current
+inside_some width rows table row current is within =
+    elim (cases_lt 0 (inside (node_number table) row current)) [
+      | inl some ↦ some
+      | inr none ↦ let never : true ≡ false = (ends width rows table (node row current true) is within (omega arith)).0 in absurd cc
+    ]
+
+-- whether other steps follow, by what is known behind a step
+pub record IsFollowed (width : ℕ) (rows : List (List ℕ)) (table : List RowNumbers) (behind : Place) (step : Step) (more : List Step) : Type 0 where
+  pub stops : behind.inside ≡ false → stays_inside step ≡ true → is_last more ≡ true
+  pub goes_on : behind.inside ≡ true → is_last more ≡ false
+
+followed : (width : ℕ) (rows : List (List ℕ)) (table : List RowNumbers) (row : ℕ) (current : Method) (behind : Place) (step : Step) (more : List Step) → IsRightTable width rows table → behind.row ≤ length rows
+    → IsPlaceBehind (node_number table) row current step behind → (node_number table (node_of behind) ≡ 0 → more ≡ []) → (0 < node_number table (node_of behind) → is_last more ≡ false)
+    → IsFollowed width rows table behind step more
+followed width rows table row current behind step more is within p z s = record {
+  stops = λ closed stays. ap is_last (z (ap (λ (i : Bool). node_number table (node behind.row behind.method i)) closed ∙ p.ends closed stays));
+  goes_on = λ goes.
+      let same = ap (λ (i : Bool). node_number table (node behind.row behind.method i)) goes in
+      s (omega (arith, same, inside_some width rows table behind.row behind.method is within));
+}
+
+token_followed : (width : ℕ) (rows : List (List ℕ)) (table : List RowNumbers) (behind : Place) (step : Step) (more : List Step) (token : Token) → IsFollowed width rows table behind step more
+    → IsTokenOf step (not behind.inside) token → IsTokenOf step (is_last more) token
+token_followed width rows table behind step more token f t =
+    elim (bool_cases (stays_inside step)) [
+      | inr row ↦ row_token step (not behind.inside) (is_last more) token row t
+      | inl stays ↦
+          elim (bool_cases behind.inside) [
+            | inl goes ↦ token_at_end step (not behind.inside) (is_last more) token (ap not goes ∙ sym (f.goes_on goes)) t
+            | inr closed ↦ token_at_end step (not behind.inside) (is_last more) token (ap not closed ∙ sym (f.stops closed stays)) t
+          ]
+    ]
+
+spells_followed : (width : ℕ) (rows : List (List ℕ)) (table : List RowNumbers) (row : ℕ) (current : Method) (behind : Place) (step : Step) (more : List Step) (tail : List Token) → IsFollowed width rows table behind step more
+    → IsPlaceBehind (node_number table) row current step behind → Spells behind.inside more tail → Spells (stays_inside step) more tail
+spells_followed width rows table row current behind step more tail f p spells =
+    spells_any behind.inside (stays_inside step) more tail
+    (λ others.
+    elim (bool_cases behind.inside) [
+      | inl goes ↦ goes ∙ sym (p.goes_on goes).0
+      | inr closed ↦
+          elim (bool_cases (stays_inside step)) [
+            | inr row_ends ↦ closed ∙ sym row_ends
+            | inl stays ↦ let never : true ≡ false = sym (f.stops closed stays) ∙ others in absurd cc
+          ]
+    ])
+    spells
+
+pub read_more : (width : ℕ) (rows : List (List ℕ)) (table : List RowNumbers) (steps : List Step) (place behind : Place) (step : Step) → IsRightTable width rows table → IsReadTo width rows table steps place
+    → 0 < node_number table (node_of place) → IsBestStep width rows (node_number table) place.row place.method step → IsPlaceBehind (node_number table) place.row place.method step behind
+    → IsReadTo width rows table (steps ++ step ∷ []) behind
+unfolding Spells
+read_more width rows table steps place behind step is r some best p =
+    let next = next_is width rows table place.row place.method step behind is r.within best p in
+    let ink = ink_left width rows table steps place r some in
+    record {
+      within = next.within;
+      inked = λ goes. (p.goes_on goes).1;
+      tokens = r.tokens ++ opened place.inside (next.token ∷ []);
+      goes_on = λ more tail z s spells walk t.
+          let f = followed width rows table place.row place.method behind step more is next.within p z s in
+          let inside_total : total cost (next.token ∷ tail) ≡ inside (node_number table) place.row place.method = omega (arith, t, next.number_is) in
+          let g = r.goes_on (step ∷ more) (opened place.inside (next.token ∷ tail)) (λ none. absurd (omega (arith, none, some))) (λ _. refl)
+          (next.token, tail, token_followed width rows table behind step more next.token f next.is_of, refl, spells_followed width rows table place.row place.method behind step more tail f p spells)
+          (opened_walk width rows place.row place.method place.inside (next.token ∷ tail) (node_of behind, next.leads, walk))
+          (opened_total width rows table place.row place.method place.inside (next.token ∷ tail) is r.within ink inside_total) in
+          let steps_are : steps ++ (step ∷ more) ≡ (steps ++ step ∷ []) ++ more = sym (append_assoc steps (step ∷ []) more) in
+          let tokens_are : r.tokens ++ opened place.inside (next.token ∷ tail) ≡ (r.tokens ++ opened place.inside (next.token ∷ [])) ++ tail =
+          ap (λ (ts : List Token). r.tokens ++ ts) (opened_more place.inside next.token tail) ∙ sym (append_assoc r.tokens (opened place.inside (next.token ∷ [])) tail) in (
+            subst (λ (ss : List Step). Spells false ss ((r.tokens ++ opened place.inside (next.token ∷ [])) ++ tail)) steps_are (subst (Spells false (steps ++ (step ∷ more))) tokens_are g.0),
+            subst (Walk (Leads width rows) (Ends rows) start) tokens_are g.1,
+            ap (total cost) (sym tokens_are) ∙ g.2,
+          );
+    }
+
+-- the measure of reading
+pub read_less : (width : ℕ) (rows : List (List ℕ)) (table : List RowNumbers) (steps : List Step) (place behind : Place) (step : Step) → IsRightTable width rows table → IsReadTo width rows table steps place
+    → 0 < node_number table (node_of place) → IsBestStep width rows (node_number table) place.row place.method step → IsPlaceBehind (node_number table) place.row place.method step behind
+    → node_number table (node_of behind) < node_number table (node_of place)
+read_less width rows table steps place behind step is r some best p =
+    let next = next_is width rows table place.row place.method step behind is r.within best p in
+    let ink = ink_left width rows table steps place r some in
+    omega (arith, next.number_is, cost_some next.token, inside_below width rows table place.row place.method place.inside is r.within ink)
+
+pub read_all : (width : ℕ) (rows : List (List ℕ)) (table : List RowNumbers) (steps : List Step) (place : Place) → IsRightTable width rows table → IsReadTo width rows table steps place → node_number table (node_of place) ≡ 0
+    → AreLeastSteps width rows (node_number table) steps
+unfolding Spells
+read_all width rows table steps place is r none =
+    let g = r.goes_on [] [] (λ _. refl) (λ some. absurd (omega (arith, none, some))) refl (ends width rows table (node_of place) is r.within none) (sym none) in
+    record {
+      tokens = r.tokens ++ [];
+      spelled = subst (λ (ss : List Step). Spells false ss (r.tokens ++ [])) (append-nil steps) g.0;
+      walk = g.1;
+      total_is = g.2;
+    }

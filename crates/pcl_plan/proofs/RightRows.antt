@@ -1,0 +1,117 @@
+-- The numbers behind some rows are right, where those behind more are.
+use Rattle.std.proofs.Common.{◌≡◌, ℕ, zero, suc, ◌+◌, ◌-◌, ◌*◌, ◌^◌, ◌<◌, ◌≤◌, ◌⊎◌, min, Bool, true, false, List, [], ◌∷◌, ◌++◌, length, take, drop, refl, sym, ap, subst, ◌∙◌, inl, inr, arith}
+use Rattle.std.specs.Prelude.{not}
+use Rattle.std.proofs.lemmas.Bool.{cases_lt}
+use Rattle.std.proofs.lemmas.List.{length-append, drop_more}
+use Rattle.pcl_base.specs.declared.method.Method.{Method}
+use Rattle.pcl_base.specs.declared.method.Method.TheVariants.{Plain, Runs, Packed, Delta}
+use Rattle.pcl_base.specs.Method.{method_code}
+use Rattle.pcl_rows.specs.Rows.{IsRowData}
+use Rattle.pcl_coders.specs.Coding.{IsLeastLength}
+use Rattle.pcl_coders.specs.Walks.{Walk, total, IsAttained}
+use Rattle.pcl_plan.specs.declared.table.RowNumbers.{RowNumbers}
+use Rattle.pcl_plan.specs.Tokens.{Token, opening, method, skip, send, letter, IsSpelled, IsWhite, AreWhite}
+use Rattle.pcl_plan.specs.Nodes.{Node, row_at, row_above, Leads, Ends, cost}
+use Rattle.pcl_plan.specs.Spelling.{least_spelling, digit_count}
+use Rattle.pcl_plan.specs.Table.{number_in}
+use Rattle.pcl_plan.specs.Filling.{switching, sending, outside, inside, rest, skipping, AreSkippable, IsDirect, IsSwitched, IsRowRight}
+use Rattle.pcl_plan.proofs.Digits.{count_le, count_grows, spelled_long, least_spelled, length-least_spelling}
+use Rattle.pcl_plan.proofs.Walking.{node}
+
+-- ---- tokens
+
+length-letter : (capital : ℕ) (ends : Bool) → length (letter capital ends) ≡ 1
+length-letter capital true = refl
+length-letter capital false = refl
+
+pub cost_opening : cost opening ≡ 3
+cost_opening = refl
+
+pub cost_method : (digits : List ℕ) (next : Method) (ends : Bool) → cost (method digits next ends) ≡ length digits + 1
+cost_method digits next ends = omega (arith, length-append digits (letter 77 ends), length-letter 77 ends)
+
+pub cost_skip : (digits : List ℕ) (count : ℕ) (ends : Bool) → cost (skip digits count ends) ≡ length digits + 1
+cost_skip digits count ends = omega (arith, length-append digits (letter 89 ends), length-letter 89 ends)
+
+pub cost_send : (digits bytes : List ℕ) → cost (send digits bytes) ≡ length digits + 1 + length bytes
+cost_send digits bytes = omega (arith, length-append digits (87 ∷ bytes))
+
+pub cost_some : (token : Token) → 0 < cost token
+cost_some opening = omega (arith, cost_opening)
+cost_some (method digits next ends) = omega (arith, cost_method digits next ends)
+cost_some (skip digits count ends) = omega (arith, cost_skip digits count ends)
+cost_some (send digits bytes) = omega (arith, cost_send digits bytes)
+
+-- no token leads upwards
+pub leads_down : (width : ℕ) (rows : List (List ℕ)) (a : Node) (token : Token) (b : Node) → Leads width rows a token b → a.row ≤ b.row
+leads_down width rows a opening b l = omega (arith, ap (λ (n : Node). n.row) l.1)
+leads_down width rows a (method digits next ends) b l = omega (arith, ap (λ (n : Node). n.row) l.2)
+leads_down width rows a (skip digits count ends) b l = omega (arith, ap (λ (n : Node). n.row) l.5)
+leads_down width rows a (send digits bytes) b l = omega (arith, ap (λ (n : Node). n.row) l.4)
+
+pub method_small : (next : Method) → method_code next < 4
+method_small Plain = omega arith
+method_small Runs = omega arith
+method_small Packed = omega arith
+method_small Delta = omega arith
+
+-- ---- nodes
+
+-- what holds in each method, inside a sequence and outside, holds of all nodes behind so many rows
+pub at_row : (P : Node → Type 0) (row : ℕ) → ((current : Method) (is_open : Bool) → P (node row current is_open)) → (a : Node) → a.row ≡ row → P a
+at_row P row h a e = subst (λ (r : ℕ). P (node r a.method a.inside)) (sym e) (h a.method a.inside)
+
+pub rest_below : (number : Node → ℕ) (row : ℕ) (current : Method) (is_open : Bool) → rest number row current ≤ number (node row current is_open)
+rest_below number row current true = omega arith
+rest_below number row current false = omega arith
+
+-- a parameter that ends its sequence or doesn't, and then costs the least
+pub best_end : (number : Node → ℕ) (row : ℕ) (current : Method) → (ends : Bool) × (rest number row current ≡ number (node row current (not ends)))
+best_end number row current =
+    elim (cases_lt (outside number row current) (inside number row current)) [
+      | inl ends ↦ (true, omega arith)
+      | inr stays ↦ (false, omega arith)
+    ]
+
+-- ---- rows that stay right
+
+pub row_stays : (width : ℕ) (rows : List (List ℕ)) (number other : Node → ℕ) (row : ℕ) → ((a : Node) → row ≤ a.row → other a ≡ number a) → IsRowRight width rows number row → IsRowRight width rows other row
+row_stays width rows number other row same is = record {
+  steps = λ a token b at l. omega (arith, is.steps a token b at l, same a (omega arith), same b (omega (arith, leads_down width rows a token b l)));
+  ends = λ a at end. same a (omega arith) ∙ is.ends a at end;
+  attained = λ a at. subst (λ (n : ℕ). IsAttained (Leads width rows) (Ends rows) cost a n) (sym (same a (omega arith))) (is.attained a at);
+  falls = λ current inside_page white.
+      omega (
+        arith,
+        is.falls current inside_page white,
+        same (node row current true) (omega arith),
+        same (node row current false) (omega arith),
+        same (node (row + 1) current true) (omega arith),
+        same (node (row + 1) current false) (omega arith),
+      );
+  small = λ a at. omega (arith, is.small a at, same a (omega arith));
+}
+
+-- ---- where the rest is white
+
+pub white_row_right : (width : ℕ) (rows : List (List ℕ)) (number : Node → ℕ) (row : ℕ) → AreWhite (drop row rows) → ((current : Method) → outside number row current ≡ 0) → ((current : Method) → inside number row current ≡ 1)
+    → ((current : Method) → row < length rows → outside number (row + 1) current ≡ 0) → IsRowRight width rows number row
+white_row_right width rows number row white none one next = record {
+  steps = λ a token b at l.
+      at_row (λ (n : Node). Leads width rows n token b → number n ≤ cost token + number b) row
+      (λ current. elim [ true ↦ λ _. omega (arith, one current, cost_some token) | false ↦ λ _. omega (arith, none current) ]) a at l;
+  ends = λ a at end.
+      at_row (λ (n : Node). Ends rows n → number n ≡ 0) row
+      (λ current. elim [ true ↦ λ e. (let no : true ≡ false = e.0 in absurd cc) | false ↦ λ _. none current ]) a at end;
+  attained =
+      at_row (λ (n : Node). IsAttained (Leads width rows) (Ends rows) cost n (number n)) row
+      (λ current.
+      elim [
+        | true ↦ (method [] Plain true ∷ [], (node row Plain false, (refl, (tt, refl), refl), (refl, white)), omega (arith, one current, cost_method [] Plain true))
+        | false ↦ ([], (refl, white), sym (none current))
+      ]);
+  falls = λ current inside_page first. omega (arith, next current inside_page);
+  small =
+      at_row (λ (n : Node). number n ≤ 65544 * (length rows - row) + 1) row
+      (λ current. elim [ true ↦ omega (arith, one current) | false ↦ omega (arith, none current) ]);
+}

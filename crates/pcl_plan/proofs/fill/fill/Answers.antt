@@ -1,0 +1,47 @@
+use Rattle.std.proofs.Common.{◌≡◌, ◌+◌, ◌-◌, ◌<◌, ◌≤◌, ℕ, length, sym, ap, subst, ◌∙◌, arith}
+use Rattle.pcl_plan.specs.Rows.{rows_of}
+use Rattle.pcl_plan.specs.declared.table.RowNumbers.{RowNumbers}
+use Rattle.pcl_plan.specs.Table.{number_in, end_numbers}
+use Rattle.pcl_plan.specs.Filling.{IsWhiteRun, AreRightFrom}
+use Rattle.pcl_plan.proofs.RowsFrom.{length_rows, no_rows}
+use Rattle.pcl_plan.proofs.Filled.{IsPut, put_white, put_inked, put_last, run_end, white_to_end}
+use Rattle.pcl_plan.proofs.fill.fill.Goals as goal
+use Rattle.pcl_plan.proofs.fill.fill.Goals.{then-row-run, else-row-run}
+
+pub loop-row-init : goal.loop-row-init
+loop-row-init g c =
+    let rows = c.args.rows.now in
+    let count = length_rows rows.count rows.width rows.bytes.now in
+    let put : IsPut c.args.table.now c.put.new.self rows.count end_numbers = record { size = c.put.ensures.rows; changed = λ method is_open. c.put.ensures.changed method is_open ∙ ap (λ (n : RowNumbers). number_in n method is_open) c.at_end.ensures; others = c.put.ensures.others } in
+    record {
+      right = put_last rows.width (rows_of rows) c.args.table.now c.put.new.self rows.count (sym count) (omega (arith, c.requires, count)) put (no_rows rows.count rows.count rows.width rows.bytes.now (omega arith));
+      run = run_end (rows_of rows) rows.count (sym count);
+    }
+
+pub loop-row-preserved : goal.loop-row-preserved
+loop-row-preserved g c =
+    let rows = c.args.rows.now in
+    let count = length_rows rows.count rows.width rows.bytes.now in
+    let row : ℕ = c.loop-row.row - 1 in
+    let after : c.loop-row.row ≡ row + 1 = omega arith in
+    let behind = subst (AreRightFrom rows.width (rows_of rows) c.loop-row.table) after c.loop-row.invariant.right in
+    let inside : row < length (rows_of rows) = omega (arith, count, c.loop-row-test.true, c.loop-row.auto.row) in
+    let new = c.put-in-loop-row.new.self in
+    let put : IsPut c.loop-row.table new row c.if-row-run.numbers = record {
+      size = c.put-in-loop-row.ensures.rows;
+      changed = c.put-in-loop-row.ensures.changed;
+      others = c.put-in-loop-row.ensures.others;
+    } in
+    let run = c.white_run-run.ensures.run in
+    record {
+      right = elim c.if-row-run.branch [
+        | then-row-run w ↦
+            put_white rows.width (rows_of rows) c.loop-row.table new row inside (subst (IsPut c.loop-row.table new row) (w.numbers-is ∙ w.at_end-numbers.ensures) put) behind
+            (white_to_end (rows_of rows) row c.white_run-run.result run (w.if-row-run.true ∙ sym count))
+        | else-row-run w ↦
+            let ink : row + c.white_run-run.result < length (rows_of rows) = omega (arith, count, w.if-row-run.false, c.white_run-run.ensures.within) in
+            put_inked rows.width (rows_of rows) c.loop-row.table new row c.white_run-run.result w.row_numbers-numbers.result (omega (arith, count, rows.few))
+            (subst (IsPut c.loop-row.table new row) w.numbers-is put) behind run ink w.row_numbers-numbers.ensures
+      ];
+      run = run;
+    }

@@ -1,0 +1,9 @@
+use Rattle.pcl_plan.specs.Rows.{rows_of}
+use Rattle.pcl_plan.specs.Filling.{IsWhiteRun, AreRightFrom}
+use Rattle.pcl_plan.proofs.fill.fill.Given as goal
+
+abbrev pub invariant-loop-row : goal.invariant-loop-row
+invariant-loop-row g l = record {
+  right : AreRightFrom l.rows.width (rows_of l.rows) l.table l.row;
+  run : IsWhiteRun (rows_of l.rows) l.row l.run;
+}

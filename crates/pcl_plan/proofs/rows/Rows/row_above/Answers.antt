@@ -1,0 +1,12 @@
+use Rattle.std.proofs.Common.{◌≡◌, ℕ, take, sym, ap, subst, ◌∙◌, arith}
+use Rattle.std.proofs.lemmas.List.{take-replicate}
+use Rattle.pcl_plan.specs.Nodes.{row_above}
+use Rattle.pcl_plan.specs.Rows.{rows_of}
+use Rattle.pcl_plan.proofs.Walking.{row_above_is}
+use Rattle.pcl_plan.proofs.rows.Rows.row_above.Goals as goal
+
+pub returns-else-y-gt0-clause-row : goal.returns-else-y-gt0-clause-row
+returns-else-y-gt0-clause-row c =
+    let rows = c.args.self.now in
+    let topmost : 0 ≡ c.args.y = omega arith in
+    ap (take rows.width) c.requires.zeros ∙ take-replicate rows.width 600 0 rows.small ∙ ap (row_above rows.width (rows_of rows)) topmost

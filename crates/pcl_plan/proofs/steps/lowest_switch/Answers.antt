@@ -1,0 +1,11 @@
+use Rattle.pcl_base.specs.declared.method.Method.TheVariants.{Plain, Runs, Packed}
+use Rattle.pcl_plan.proofs.steps.lowest_switch.Goals as goal
+
+pub switch_number-requires-clause-small : goal.switch_number-requires-clause-small
+switch_number-requires-clause-small c = c.requires.small Plain
+
+pub switch_number-requires-else-switch_number-least-clause-small : goal.switch_number-requires-else-switch_number-least-clause-small
+switch_number-requires-else-switch_number-least-clause-small c = c.requires.small Runs
+
+pub switch_number-requires-else-switch_number-least-2-clause-small : goal.switch_number-requires-else-switch_number-least-2-clause-small
+switch_number-requires-else-switch_number-least-2-clause-small c = c.requires.small Packed

@@ -1,0 +1,13 @@
+pub mod Tokens
+pub mod PageText
+pub mod Nodes
+pub mod LeastTexts
+pub mod Spelling
+pub mod Table
+pub mod TableModel
+pub mod Rows
+pub mod Filling
+pub mod Plans
+pub mod Reading
+pub mod PlanModel
+pub mod PagePlans

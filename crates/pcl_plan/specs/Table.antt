@@ -1,0 +1,34 @@
+-- Tables of numbers for the nodes of a page.
+use Rattle.std.specs.Prelude.{ℕ, Bool, true, false, List, slice_index_or}
+use Rattle.pcl_base.specs.declared.method.Method.{Method}
+use Rattle.pcl_base.specs.declared.method.Method.TheVariants.{Plain, Runs, Packed, Delta}
+use Rattle.pcl_plan.specs.Nodes.{Node}
+use Rattle.pcl_plan.specs.declared.by_method.ByMethod.{ByMethod}
+use Rattle.pcl_plan.specs.declared.table.RowNumbers.{RowNumbers}
+
+-- the number of a method
+abbrev pub by_method : ByMethod → Method → ℕ
+by_method numbers Plain = numbers.plain
+by_method numbers Runs = numbers.runs
+by_method numbers Packed = numbers.packed
+by_method numbers Delta = numbers.delta
+
+-- the number of a method, inside a sequence or outside
+abbrev pub number_in : RowNumbers → Method → Bool → ℕ
+number_in numbers method true = by_method numbers.inside method
+number_in numbers method false = by_method numbers.outside method
+
+-- numbers that are all alike
+abbrev pub all_alike : ℕ → ByMethod
+all_alike number = record { plain = number; runs = number; packed = number; delta = number }
+
+abbrev pub no_numbers : RowNumbers
+no_numbers = record { outside = all_alike 0; inside = all_alike 0 }
+
+-- the numbers where the rest of the rows is white
+abbrev pub end_numbers : RowNumbers
+end_numbers = record { outside = all_alike 0; inside = all_alike 1 }
+
+-- The number of a node in a table. Contracts see a table as the numbers behind no row, behind one, and so on to all.
+abbrev pub node_number : List RowNumbers → Node → ℕ
+node_number table node = number_in (slice_index_or table node.row no_numbers) node.method node.inside

@@ -1,0 +1,156 @@
+//! The steps of a plan, read off its table from the topmost row downwards.
+
+ghost use Rattle.std.specs.Prelude.{◌≡◌, ℕ, ◌+◌, ◌^◌, ◌<◌, ◌≤◌, [], length, OnOk, IfSome, IfNone};
+ghost use Rattle.pcl_base.specs.declared.method.Method.{Method as RowMethod};
+ghost use Rattle.pcl_coders.specs.Coding.{IsLeastLength};
+ghost use Rattle.pcl_plan.specs.Nodes.{row_at, row_above};
+ghost use Rattle.pcl_plan.specs.Table.{node_number};
+ghost use Rattle.pcl_plan.specs.Rows.{rows_of};
+ghost use Rattle.pcl_plan.specs.Filling.{outside, rest, switching, skipping, IsReadable, AreRightFrom};
+ghost use Rattle.pcl_plan.specs.Reading.{AreLeastSteps, IsBestStep};
+
+use crate::costs::{digits, sending_cost};
+use crate::fill::least_skip;
+use crate::lengths::LeastLengths;
+use crate::rows::Rows;
+use crate::step::Step;
+use crate::table::Table;
+use pcl_base::{Method, ROW_LIMIT};
+use std::alloc::AllocError;
+
+/// How many rows are printed, the method, and whether a sequence is open.
+#[derive(Clone, Copy)]
+pub struct Place {
+    pub row: u32,
+    pub method: Method,
+    pub inside: bool,
+}
+
+impl Place {
+    ghost use Rattle.pcl_plan.specs.Reading.{IsPlaceBehind, row_behind};
+
+    /// The place behind a step. A sequence goes on behind rows that are skipped and a switch, unless the rest
+    /// is white.
+    fn behind(self, step: Step, table: &Table) -> Place
+        requires row { self.row + 65535 < 2 ^ 32 }
+        requires within { row_behind self.row step < length table.now }
+        ensures { IsPlaceBehind (node_number table.now) self.row self.method step result }
+    {
+        let (row, method) = match step {
+            Step::Skip(count) => (self.row + u32::from(count), self.method),
+            Step::Switch(next) => (self.row, next),
+            Step::Row(_) => (self.row + 1, self.method),
+        };
+        let inside = !matches!(step, Step::Row(_)) && table.number(row, method, false) > 0;
+        Place {
+            row,
+            method,
+            inside,
+        }
+    }
+}
+
+/// Appends the steps of a walk of least cost along the least numbers of a page.
+pub fn append_steps<L: LeastLengths>(
+    lengths: &L,
+    rows: &Rows<'_>,
+    table: &Table,
+    steps: &mut Vec<Step>,
+) -> Result<(), AllocError>
+    requires none { steps.old.items ≡ [] }
+    requires right { AreRightFrom rows.now.width (rows_of rows.now) table.now 0 }
+    ensures { OnOk result (AreLeastSteps rows.now.width (rows_of rows.now) (node_number table.now) steps.new.items) }
+{
+    let mut place = Place {
+        row: 0,
+        method: Method::Plain,
+        inside: false,
+    };
+    while table.number(place.row, place.method, place.inside) > 0 {
+        let step = best_step(lengths, rows, table, place.row, place.method);
+        steps.push(step)?;
+        place = place.behind(step, table);
+    }
+    Ok(())
+}
+
+/// A step with which the least begins that comes inside a sequence, where the rest isn't white: of several the
+/// longest skip, then the row, then the switch to the method of the lowest number.
+fn best_step<L: LeastLengths>(
+    lengths: &L,
+    rows: &Rows<'_>,
+    table: &Table,
+    row: u32,
+    method: Method,
+) -> Step
+    requires row { row < rows.now.count }
+    requires right { AreRightFrom rows.now.width (rows_of rows.now) table.now 0 }
+    requires ink { 0 < outside (node_number table.now) row method }
+    ensures { IsBestStep rows.now.width (rows_of rows.now) (node_number table.now) row method result }
+{
+    let least = table.number(row, method, true);
+    let run = rows.white_run(row);
+    if let Some(count) = beginning_skip(table, row, method, run, least) {
+        return Step::Skip(count as u16);
+    }
+    let bytes = least_length(lengths, rows, row, method);
+    if sending_cost(bytes) + table.number(row + 1, method, false) == least {
+        return Step::Row(bytes as u16);
+    }
+    Step::Switch(lowest_switch(table, row, least))
+}
+
+/// The longest skip of some of `run` rows with which the least begins, if there is one.
+fn beginning_skip(table: &Table, row: u32, method: Method, run: u32, least: u32) -> Option<u32>
+    requires readable { IsReadable table.now row run }
+    requires least { (count : ℕ) → 0 < count → count ≤ run → least ≤ skipping (node_number table.now) row method count }
+    ensures some { IfSome result (λ count. (0 < count) × (count ≤ run) × (least ≡ skipping (node_number table.now) row method count)) }
+    ensures none { IfNone result ((count : ℕ) → 0 < count → count ≤ run → least < skipping (node_number table.now) row method count) }
+{
+    if run == 0 {
+        return None;
+    }
+    let skip = least_skip(table, row, method, run);
+    if skip.number == least {
+        Some(skip.count)
+    } else {
+        None
+    }
+}
+
+/// The least length of a row's data by a method.
+fn least_length<L: LeastLengths>(lengths: &L, rows: &Rows<'_>, row: u32, method: Method) -> u32
+    requires { row < rows.now.count }
+    ensures least { IsLeastLength method (row_above rows.now.width (rows_of rows.now) row) (row_at (rows_of rows.now) row) result }
+    ensures small { result ≤ 65535 }
+{
+    let zeros = [0; ROW_LIMIT];
+    lengths.least(method, rows.row(row), rows.row_above(row, &zeros))
+}
+
+/// The method of the lowest number with a switch to which the least begins.
+fn lowest_switch(table: &Table, row: u32, least: u32) -> Method
+    requires within { row < length table.now }
+    requires small { (method : RowMethod) → rest (node_number table.now) row method < 2 ^ 30 }
+    requires some { (next : RowMethod) × (least ≡ switching next + rest (node_number table.now) row next) }
+    ensures { least ≡ switching result + rest (node_number table.now) row result }
+{
+    if switch_number(table, row, Method::Plain) == least {
+        Method::Plain
+    } else if switch_number(table, row, Method::Runs) == least {
+        Method::Runs
+    } else if switch_number(table, row, Method::Packed) == least {
+        Method::Packed
+    } else {
+        Method::Delta
+    }
+}
+
+/// What a switch costs, with all that comes behind it.
+fn switch_number(table: &Table, row: u32, next: Method) -> u32
+    requires within { row < length table.now }
+    requires small { rest (node_number table.now) row next < 2 ^ 30 }
+    ensures { result ≡ switching next + rest (node_number table.now) row next }
+{
+    digits(next.code()) + 1 + table.rest(row, next)
+}

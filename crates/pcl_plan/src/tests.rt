@@ -1,0 +1,238 @@
+use super::*;
+use crate::lengths::Coders;
+use crate::planner::plan_rows;
+use crate::rows::Rows;
+use pcl_base::{Dpi, Method, Size};
+use pcl_bitmap::{Bitmap, Ink};
+use pcl_coders::{Delta, Packed, Plain, RowCoder, Runs};
+use pcl_page::Page;
+use std::alloc::{AllocError, Global};
+use std::process::Abort;
+
+/// The plan of a toy page of few rows.
+fn plan_of(
+    rt: &impl Abort,
+    alloc: Global,
+    bytes: &[u8],
+    width: usize,
+    count: u32,
+) -> Result<Plan, AllocError> {
+    assert!(rt; width <= 600 && count <= 9999);
+    assert_eq!(rt; bytes.len(), count as usize * width);
+    let rows = Rows {
+        bytes,
+        width,
+        count,
+    };
+    plan_rows(alloc, &Coders, &rows)
+}
+
+/// Pages of rows of one byte, their bodies worked out by hand, and what these cost.
+#[test]
+fn bodies(rt: HostRuntime) -> Result<(), AllocError> {
+    let delta = Step::Switch(Method::Delta);
+    let cases: [(&[u8], &[Step], u32); 9] = [
+        (&[], &[], 0),
+        (&[0, 0, 0], &[], 0),
+        (&[0x80], &[Step::Row(1)], 6),
+        (&[0x80, 0x80], &[Step::Row(1), Step::Row(1)], 12),
+        (
+            &[0x80, 0x80, 0x80],
+            &[Step::Row(1), delta, Step::Row(0), Step::Row(0)],
+            16,
+        ),
+        (
+            &[0x80, 0, 0x80],
+            &[Step::Row(1), Step::Skip(1), Step::Row(1)],
+            14,
+        ),
+        (
+            &[0, 0, 0, 0, 0, 0, 0, 0, 0, 1],
+            &[Step::Skip(9), Step::Row(1)],
+            8,
+        ),
+        (
+            &[0, 0, 0, 0, 0, 0, 0, 0, 0, 0, 1],
+            &[Step::Skip(10), Step::Row(1)],
+            9,
+        ),
+        (&[0, 0, 1, 0], &[Step::Skip(2), Step::Row(1)], 8),
+    ];
+    for (bytes, steps, cost) in cases {
+        let count = bytes.len() as u32;
+        let plan = plan_of(&rt, rt.alloc(), bytes, 1, count)?;
+        assert_eq!(rt; plan.steps(), steps, "{bytes:?}");
+        assert_eq!(rt; plan.cost(), cost, "{bytes:?}");
+        assert_eq!(rt; plan.table().rows(), count);
+    }
+    Ok(())
+}
+
+/// A Letter page of one dot in a row, at 300 dots per inch.
+fn dot_page(alloc: Global, y: u32) -> Result<Page, AllocError> {
+    let size = Size::Letter;
+    let dpi = Dpi::Dpi300;
+    let mut bitmap = Bitmap::new(alloc, size, dpi)?;
+    bitmap.fill(0, y, 1, 1, Ink::Black);
+    Ok(Page {
+        size,
+        copies: 1,
+        dpi,
+        bitmap,
+    })
+}
+
+/// Whole pages: a dot in the topmost row, and one below white rows.
+#[test]
+fn pages(rt: HostRuntime) -> Result<(), AllocError> {
+    let page = dot_page(rt.alloc(), 0)?;
+    let first = plan(rt.alloc(), &page)?;
+    assert_eq!(rt; first.steps(), &[Step::Row(1)][..]);
+    let table = first.table();
+    assert_eq!(rt; table.rows(), 3300);
+    assert_eq!(rt; table.number(0, Method::Plain, false), 6);
+    assert_eq!(rt; table.number(0, Method::Plain, true), 3);
+    assert_eq!(rt; table.number(0, Method::Runs, true), 4);
+    assert_eq!(rt; table.number(0, Method::Packed, true), 4);
+    assert_eq!(rt; table.number(0, Method::Delta, true), 4);
+    assert_eq!(rt; table.number(3300, Method::Delta, true), 1);
+    let page = dot_page(rt.alloc(), 100)?;
+    let below = plan(rt.alloc(), &page)?;
+    assert_eq!(rt; below.steps(), &[Step::Skip(100), Step::Row(1)][..]);
+    assert_eq!(rt; below.cost(), 10);
+    Ok(())
+}
+
+/// Numbers are kept where they are put.
+#[test]
+fn tables(rt: HostRuntime) -> Result<(), AllocError> {
+    let mut table = Table::new(rt.alloc(), 2)?;
+    assert_eq!(rt; table.rows(), 2);
+    table.set(2, Method::Delta, true, 7);
+    table.set(1, Method::Runs, false, 8);
+    assert_eq!(rt; table.number(2, Method::Delta, true), 7);
+    assert_eq!(rt; table.number(2, Method::Delta, false), 0);
+    assert_eq!(rt; table.number(1, Method::Runs, false), 8);
+    assert_eq!(rt; table.number(0, Method::Runs, false), 0);
+    printing_is_walking();
+    feasible_numbers_bound_texts();
+    least_walk_is_least_text();
+    Ok(())
+}
+
+/// More than any body of a toy page.
+const FAR: u32 = 1000;
+
+/// The numbers of a toy page, which fall until they are least.
+#[derive(Drop)]
+struct Search<'a> {
+    rows: &'a [[u8; 2]],
+    numbers: [u32; 32],
+}
+
+impl Search<'_> {
+    fn number(&self, row: usize, code: u8, inside: bool) -> u32 {
+        let place = row.saturating_mul(8) | usize::from(code % 4 * 2) | usize::from(inside);
+        self.numbers.get(place).copied().unwrap_or(FAR)
+    }
+
+    /// The number of a node falls to `cost` and the number of another one.
+    fn fall(&mut self, row: usize, code: u8, inside: bool, cost: u32, behind: u32) {
+        let place = row.saturating_mul(8) | usize::from(code % 4 * 2) | usize::from(inside);
+        if let Some(slot) = self.numbers.get_mut(place) {
+            *slot = (*slot).min(cost.saturating_add(behind));
+        }
+    }
+
+    fn either(&self, row: usize, code: u8) -> u32 {
+        self.number(row, code, false)
+            .min(self.number(row, code, true))
+    }
+
+    fn is_white(&self, from: usize, to: usize) -> bool {
+        self.rows
+            .iter()
+            .take(to)
+            .skip(from)
+            .all(|row| *row == [0, 0])
+    }
+
+    /// All tokens from a node in turn.
+    fn relax(&mut self, row: usize, code: u8) {
+        if self.is_white(row, 9) {
+            self.fall(row, code, false, 0, 0);
+        }
+        let inside = self.number(row, code, true);
+        self.fall(row, code, false, 3, inside);
+        for next in 0..4u8 {
+            let behind = self.either(row, next);
+            let cost = if next == 0 { 1 } else { 2 };
+            self.fall(row, code, true, cost, behind);
+        }
+        for to in row.saturating_add(1)..self.rows.len().saturating_add(1) {
+            if self.is_white(row, to) {
+                let behind = self.either(to, code);
+                self.fall(row, code, true, 2, behind);
+            }
+        }
+        if let Some(bytes) = self.rows.get(row) {
+            let above = self.rows.get(row.wrapping_sub(1)).copied();
+            let seed = above.unwrap_or([0, 0]);
+            let least = least_bytes(code, bytes, &seed);
+            let digits = if least == 0 { 0 } else { 1 };
+            let behind = self.number(row.saturating_add(1), code, false);
+            self.fall(row, code, true, least.saturating_add(1 + digits), behind);
+        }
+    }
+}
+
+fn least_bytes(code: u8, row: &[u8; 2], seed: &[u8; 2]) -> u32 {
+    let least = match code {
+        0 => Plain.least(row, seed),
+        1 => Runs.least(row, seed),
+        2 => Packed.least(row, seed),
+        _ => Delta.least(row, seed),
+    };
+    least as u32
+}
+
+/// The cost of the least body of a page of three rows at most, by trying all tokens until no number falls.
+fn searched_cost(rows: &[[u8; 2]]) -> u32 {
+    let mut search = Search {
+        rows,
+        numbers: [FAR; 32],
+    };
+    for _ in 0..12 {
+        for row in 0..4 {
+            for code in 0..4u8 {
+                search.relax(row, code);
+            }
+        }
+    }
+    search.number(0, 0, false)
+}
+
+/// Pages of up to three rows of two bytes, each byte one of three: no tokens cost less than the plan says.
+#[test]
+fn searched(rt: HostRuntime) -> Result<(), AllocError> {
+    let values = [0, 0x80, 0xFF];
+    for page in 0..729u32 {
+        let mut rest = page;
+        let mut bytes = [0u8; 6];
+        for byte in bytes.iter_mut() {
+            *byte = values[rest as usize % 3];
+            rest /= 3;
+        }
+        let rows = [
+            [bytes[0], bytes[1]],
+            [bytes[2], bytes[3]],
+            [bytes[4], bytes[5]],
+        ];
+        for count in 0..4u32 {
+            let some = count as usize;
+            let plan = plan_of(&rt, rt.alloc(), &bytes[..2 * some], 2, count)?;
+            assert_eq!(rt; plan.cost(), searched_cost(&rows[..some]), "{bytes:?} {count}");
+        }
+    }
+    Ok(())
+}
