@@ -28,7 +28,7 @@ use Rattle.pcl_plan.proofs.Reading.{IsRightTable, opens, ends}
 abbrev pub node_of : Place → Node
 node_of place = node place.row place.method place.inside
 
-node_is : (row other : ℕ) (current next : Method) (one two : Bool) → row ≡ other → current ≡ next → one ≡ two → node row current one ≡ node other next two
+pub node_is : (row other : ℕ) (current next : Method) (one two : Bool) → row ≡ other → current ≡ next → one ≡ two → node row current one ≡ node other next two
 node_is row other current next one two r m i = ap (λ (x : ℕ). node x current one) r ∙ ap (λ (x : Method). node other x one) m ∙ ap (λ (x : Bool). node other next x) i
 
 not_not : (b : Bool) → b ≡ not (not b)
@@ -121,7 +121,7 @@ read_none width rows table place e = record {
 }
 
 -- at the last step it makes no difference whether a sequence is open
-spells_any : (one two : Bool) (more : List Step) (behind : List Token) → (is_last more ≡ false → one ≡ two) → Spells one more behind → Spells two more behind
+pub spells_any : (one two : Bool) (more : List Step) (behind : List Token) → (is_last more ≡ false → one ≡ two) → Spells one more behind → Spells two more behind
 unfolding Spells
 spells_any one two [] behind same s = s
 spells_any one two (step ∷ more) behind same s = subst (λ (o : Bool). Spells o (step ∷ more) behind) (same refl) s
@@ -166,7 +166,7 @@ bool_cases : (b : Bool) → (b ≡ true) ⊎ (b ≡ false)
 bool_cases true = inl refl
 bool_cases false = inr refl
 
-opened_more : (is_open : Bool) (token : Token) (tail : List Token) → opened is_open (token ∷ tail) ≡ opened is_open (token ∷ []) ++ tail
+pub opened_more : (is_open : Bool) (token : Token) (tail : List Token) → opened is_open (token ∷ tail) ≡ opened is_open (token ∷ []) ++ tail
 opened_more true token tail = refl
 opened_more false token tail = refl
 
