@@ -1,10 +1,9 @@
 -- The steps that were read so far, and what comes behind them, are a walk of least cost.
-use Rattle.std.proofs.Common.{◌≡◌, ℕ, zero, suc, ◌+◌, ◌<◌, ◌≤◌, ◌⊎◌, Bool, true, false, List, [], ◌∷◌, ◌++◌, length, refl, sym, ap, subst, ◌∙◌, inl, inr, arith, append_assoc}
+use Rattle.std.proofs.Common.{◌≡◌, ℕ, ◌+◌, ◌<◌, ◌≤◌, ◌⊎◌, Bool, true, false, List, [], ◌∷◌, ◌++◌, length, refl, sym, ap, subst, ◌∙◌, inl, inr, arith, append_assoc}
 use Rattle.std.specs.Prelude.{not}
 use Rattle.std.proofs.lemmas.Bool.{cases_lt}
 use Rattle.std.proofs.lemmas.List.{append-nil}
 use Rattle.pcl_base.specs.declared.method.Method.{Method}
-use Rattle.pcl_base.specs.declared.method.Method.TheVariants.{Plain}
 use Rattle.pcl_base.specs.Method.{method_code}
 use Rattle.pcl_coders.specs.Walks.{Walk, total}
 use Rattle.pcl_plan.specs.declared.table.RowNumbers.{RowNumbers}
@@ -17,7 +16,7 @@ use Rattle.pcl_plan.specs.Spelling.{least_spelling}
 use Rattle.pcl_plan.specs.Table.{node_number}
 use Rattle.pcl_plan.specs.Filling.{outside, inside, rest}
 use Rattle.pcl_plan.specs.Plans.{IsTokenOf, stays_inside, opened, is_last, Spells}
-use Rattle.pcl_plan.specs.Reading.{IsBestStep, row_behind, method_behind, IsPlaceBehind, AreLeastSteps}
+use Rattle.pcl_plan.specs.Reading.{IsBestStep, IsPlaceBehind, AreLeastSteps}
 use Rattle.pcl_plan.proofs.Walking.{node}
 use Rattle.pcl_plan.proofs.RightRows.{cost_opening, cost_method, cost_skip, cost_send, cost_some, method_small}
 use Rattle.pcl_plan.proofs.InkedRows.{spelled_cost, length_small}

@@ -27,7 +27,6 @@ use Rattle.pcl_plan.specs.Table.{node_number}
 use Rattle.pcl_plan.specs.Plans.{StepsAndTable, IsTokenOf, stays_inside, opened, is_last, Spells}
 use Rattle.pcl_plan.proofs.Walking.{node}
 use Rattle.pcl_plan.proofs.RightRows.{cost_opening, cost_send}
-use Rattle.pcl_plan.proofs.InkedRows.{spelled_cost}
 use Rattle.pcl_plan.proofs.ReadSteps.{node_is, opened_more, spells_any}
 use Rattle.pcl_plan.proofs.LeastWalks.{step_is_least, sent_is_least}
 use Rattle.pcl_writer.specs.declared.place.Place.{Place}

@@ -1,5 +1,5 @@
 -- What a writer appends.
-use Rattle.std.specs.Prelude.{◌≡◌, ℕ, ◌*◌, ◌<◌, ◌≤◌, List, [], ◌∷◌, ◌++◌, length}
+use Rattle.std.specs.Prelude.{◌≡◌, ℕ, ◌*◌, ◌≤◌, List, ◌++◌, length}
 use Rattle.pcl_base.specs.Size.{page_height}
 use Rattle.pcl_page.specs.declared.page.Page.{Page}
 use Rattle.pcl_plan.specs.Tokens.{command_count}

@@ -90,12 +90,7 @@ fn append_parameter(
 
 /// Appends a number and its letter, a capital where it ends its sequence, or a front of it where memory runs
 /// out.
-fn append_setting(
-    number: u32,
-    capital: u8,
-    ends: bool,
-    out: &mut Vec<u8>,
-) -> Result<(), AllocError>
+fn append_setting(number: u32, capital: u8, ends: bool, out: &mut Vec<u8>) -> Result<(), AllocError>
     requires { capital < 128 }
     ensures ok { OnOk result (out.new.items ≡ out.old.items ++ (least_spelling number ++ letter capital ends)) }
     ensures front { take (length out.old.items) out.new.items ≡ out.old.items }
@@ -125,12 +120,7 @@ fn append_row(
 }
 
 /// Appends least data for a row by a method. Where memory runs out nothing is appended.
-fn append_data(
-    method: Method,
-    row: &[u8],
-    seed: &[u8],
-    out: &mut Vec<u8>,
-) -> Result<(), AllocError>
+fn append_data(method: Method, row: &[u8], seed: &[u8], out: &mut Vec<u8>) -> Result<(), AllocError>
     requires { IsCodable seed.now row.now }
     ensures ok { OnOk result (AppendsLeast method seed.now row.now out.old.items out.new.items) }
     ensures front { take (length out.old.items) out.new.items ≡ out.old.items }

@@ -1,4 +1,4 @@
-use Rattle.std.proofs.Common.{◌≡◌, ◌∷◌, ◌+◌, ◌<◌, ◌≤◌, [], ℕ, List, length, drop, refl, sym, ap, subst, ◌∙◌, arith}
+use Rattle.std.proofs.Common.{◌≡◌, ◌+◌, [], List, length, drop, refl, sym, subst, arith}
 use Rattle.std.specs.Prelude.{Bool, ◌==◌, slice_index_or}
 use Rattle.std.proofs.Math.ListN.{drop_of_length-le}
 use Rattle.std.proofs.lemmas.List.{append-nil, drop_more}
@@ -7,7 +7,6 @@ use Rattle.pcl_plan.specs.declared.step.Step.{Step}
 use Rattle.pcl_plan.specs.declared.step.Step.TheVariants.{Skip}
 use Rattle.pcl_plan.specs.Plans.{is_last}
 use Rattle.pcl_plan.proofs.RowsFrom.{length_rows}
-use Rattle.pcl_writer.specs.declared.place.Place.{Place}
 use Rattle.pcl_writer.specs.Steps.{width_of, AppendsStep, IsPlaceBehind}
 use Rattle.pcl_writer.proofs.Bodies.{IsWrittenTo, front_is, begin, writable, written_more, written_all, ends_at, height_small}
 use Rattle.pcl_writer.proofs.body.append_body.Goals as goal

@@ -1,4 +1,4 @@
-use Rattle.std.proofs.Common.{◌≡◌, ◌+◌, ◌++◌, ◌∙◌, ℕ, List, false, length, refl, sym, ap, subst, arith}
+use Rattle.std.proofs.Common.{◌≡◌, ◌+◌, ◌++◌, ◌∙◌, ℕ, false, length, refl, sym, ap, subst, arith}
 use Rattle.std.specs.List.{flat_map, AllByRecursion}
 use Rattle.pcl_base.specs.declared.dpi.Dpi.{Dpi}
 use Rattle.pcl_base.specs.declared.size.Size.{Size}
@@ -8,7 +8,7 @@ use Rattle.pcl_coders.specs.Walks.{Walk}
 use Rattle.pcl_page.specs.declared.page.Page.{Page}
 use Rattle.pcl_plan.specs.Tokens.{start_bytes, end_bytes, token_bytes}
 use Rattle.pcl_plan.specs.PageText.{IsRowOf, PrintsPage, bitmap_rows}
-use Rattle.pcl_plan.specs.Nodes.{start, Leads, Ends, cost}
+use Rattle.pcl_plan.specs.Nodes.{start, Leads, Ends}
 use Rattle.pcl_plan.specs.LeastTexts.{fixed_bytes, IsLeastText}
 use Rattle.pcl_plan.specs.Table.{node_number}
 use Rattle.pcl_plan.specs.Plans.{IsPlan}
