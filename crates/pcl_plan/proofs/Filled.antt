@@ -1,5 +1,5 @@
 -- A table that is filled one row upwards.
-use Rattle.std.proofs.Common.{◌≡◌, ◌≢◌, ℕ, zero, suc, ◌+◌, ◌-◌, ◌*◌, ◌<◌, ◌≤◌, ◌⊎◌, Bool, true, false, List, [], ◌∷◌, length, take, drop, refl, sym, ap, subst, ◌∙◌, inl, inr, arith, add-one}
+use Rattle.std.proofs.Common.{◌≡◌, ℕ, zero, suc, ◌+◌, ◌-◌, ◌<◌, ◌≤◌, Bool, true, false, List, [], ◌∷◌, length, take, drop, refl, sym, ap, subst, ◌∙◌, inl, inr, arith, add-one}
 use Rattle.std.proofs.lemmas.Bool.{cases_lt}
 use Rattle.std.proofs.lemmas.List.{drop_more, length-drop, get_or-drop, take_all}
 use Rattle.pcl_base.specs.declared.method.Method.{Method}
@@ -9,10 +9,10 @@ use Rattle.pcl_plan.specs.declared.table.RowNumbers.{RowNumbers}
 use Rattle.pcl_plan.specs.Tokens.{IsWhite, AreWhite}
 use Rattle.pcl_plan.specs.Nodes.{Node, row_at, row_above}
 use Rattle.pcl_plan.specs.Table.{number_in, node_number, end_numbers}
-use Rattle.pcl_plan.specs.Filling.{outside, rest, skipping, sending, AreSkippable, IsWhiteRun, IsReadable, IsLeastStart, IsDirect, IsSwitched, AreRowNumbers, IsRowRight, AreRightFrom}
+use Rattle.pcl_plan.specs.Filling.{rest, skipping, AreSkippable, IsWhiteRun, IsReadable, IsLeastStart, IsDirect, AreRowNumbers, IsRowRight, AreRightFrom}
 use Rattle.pcl_plan.proofs.Walking.{node, white_at}
 use Rattle.pcl_plan.proofs.RightRows.{row_stays, white_row_right}
-use Rattle.pcl_plan.proofs.InkedRows.{IsInkedRow, inked_row_right}
+use Rattle.pcl_plan.proofs.InkedRows.{inked_row_right}
 
 -- ---- white rows
 

@@ -1,20 +1,19 @@
 -- What holds of every walk of least cost.
-use Rattle.std.proofs.Common.{◌≡◌, ℕ, ◌+◌, ◌-◌, ◌*◌, ◌<◌, ◌≤◌, Bool, true, false, List, [], ◌∷◌, length, refl, sym, ap, subst, ◌∙◌, inl, inr, arith}
+use Rattle.std.proofs.Common.{◌≡◌, ℕ, ◌+◌, ◌-◌, ◌*◌, ◌≤◌, Bool, true, false, List, [], ◌∷◌, length, refl, ap, subst, ◌∙◌, inl, inr, arith}
 use Rattle.std.specs.Prelude.{not}
 use Rattle.std.proofs.lemmas.Bool.{cases_lt}
 use Rattle.pcl_base.specs.declared.method.Method.{Method}
 use Rattle.pcl_base.specs.Method.{method_code}
-use Rattle.pcl_rows.specs.Rows.{IsRowData}
 use Rattle.pcl_coders.specs.Coding.{IsLeastLength}
 use Rattle.pcl_coders.specs.Walks.{Walk, total, IsFeasible}
 use Rattle.pcl_coders.proofs.Walks.{feasible_bounds}
-use Rattle.pcl_plan.specs.Tokens.{Token, opening, method, skip, send, command_count, IsSpelled}
+use Rattle.pcl_plan.specs.Tokens.{Token, opening, method, skip, send, command_count}
 use Rattle.pcl_plan.specs.Nodes.{Node, row_at, row_above, Leads, Ends, cost}
-use Rattle.pcl_plan.specs.Spelling.{least_spelling, digit_count}
+use Rattle.pcl_plan.specs.Spelling.{least_spelling}
 use Rattle.pcl_plan.specs.Filling.{switching}
-use Rattle.pcl_plan.proofs.Digits.{count_grows, spelled_long, length-least_spelling}
+use Rattle.pcl_plan.proofs.Digits.{count_grows, spelled_long}
 use Rattle.pcl_plan.proofs.Walking.{node}
-use Rattle.pcl_plan.proofs.RightRows.{cost_opening, cost_method, cost_skip, cost_send, method_small}
+use Rattle.pcl_plan.proofs.RightRows.{cost_method, cost_send, method_small}
 use Rattle.pcl_plan.proofs.InkedRows.{spelled_cost}
 
 -- a token with which a walk of least cost begins costs just what the number falls by

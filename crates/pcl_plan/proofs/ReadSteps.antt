@@ -1,10 +1,9 @@
 -- The steps that were read so far, and what comes behind them, are a walk of least cost.
-use Rattle.std.proofs.Common.{◌≡◌, ℕ, zero, suc, ◌+◌, ◌<◌, ◌≤◌, ◌⊎◌, Bool, true, false, List, [], ◌∷◌, ◌++◌, length, refl, sym, ap, subst, ◌∙◌, inl, inr, arith, append_assoc}
+use Rattle.std.proofs.Common.{◌≡◌, ℕ, ◌+◌, ◌<◌, ◌≤◌, ◌⊎◌, Bool, true, false, List, [], ◌∷◌, ◌++◌, length, refl, sym, ap, subst, ◌∙◌, inl, inr, arith, append_assoc}
 use Rattle.std.specs.Prelude.{not}
 use Rattle.std.proofs.lemmas.Bool.{cases_lt}
 use Rattle.std.proofs.lemmas.List.{append-nil}
 use Rattle.pcl_base.specs.declared.method.Method.{Method}
-use Rattle.pcl_base.specs.declared.method.Method.TheVariants.{Plain}
 use Rattle.pcl_base.specs.Method.{method_code}
 use Rattle.pcl_coders.specs.Walks.{Walk, total}
 use Rattle.pcl_plan.specs.declared.table.RowNumbers.{RowNumbers}
@@ -17,7 +16,7 @@ use Rattle.pcl_plan.specs.Spelling.{least_spelling}
 use Rattle.pcl_plan.specs.Table.{node_number}
 use Rattle.pcl_plan.specs.Filling.{outside, inside, rest}
 use Rattle.pcl_plan.specs.Plans.{IsTokenOf, stays_inside, opened, is_last, Spells}
-use Rattle.pcl_plan.specs.Reading.{IsBestStep, row_behind, method_behind, IsPlaceBehind, AreLeastSteps}
+use Rattle.pcl_plan.specs.Reading.{IsBestStep, IsPlaceBehind, AreLeastSteps}
 use Rattle.pcl_plan.proofs.Walking.{node}
 use Rattle.pcl_plan.proofs.RightRows.{cost_opening, cost_method, cost_skip, cost_send, cost_some, method_small}
 use Rattle.pcl_plan.proofs.InkedRows.{spelled_cost, length_small}
@@ -28,7 +27,7 @@ use Rattle.pcl_plan.proofs.Reading.{IsRightTable, opens, ends}
 abbrev pub node_of : Place → Node
 node_of place = node place.row place.method place.inside
 
-node_is : (row other : ℕ) (current next : Method) (one two : Bool) → row ≡ other → current ≡ next → one ≡ two → node row current one ≡ node other next two
+pub node_is : (row other : ℕ) (current next : Method) (one two : Bool) → row ≡ other → current ≡ next → one ≡ two → node row current one ≡ node other next two
 node_is row other current next one two r m i = ap (λ (x : ℕ). node x current one) r ∙ ap (λ (x : Method). node other x one) m ∙ ap (λ (x : Bool). node other next x) i
 
 not_not : (b : Bool) → b ≡ not (not b)
@@ -121,7 +120,7 @@ read_none width rows table place e = record {
 }
 
 -- at the last step it makes no difference whether a sequence is open
-spells_any : (one two : Bool) (more : List Step) (behind : List Token) → (is_last more ≡ false → one ≡ two) → Spells one more behind → Spells two more behind
+pub spells_any : (one two : Bool) (more : List Step) (behind : List Token) → (is_last more ≡ false → one ≡ two) → Spells one more behind → Spells two more behind
 unfolding Spells
 spells_any one two [] behind same s = s
 spells_any one two (step ∷ more) behind same s = subst (λ (o : Bool). Spells o (step ∷ more) behind) (same refl) s
@@ -166,7 +165,7 @@ bool_cases : (b : Bool) → (b ≡ true) ⊎ (b ≡ false)
 bool_cases true = inl refl
 bool_cases false = inr refl
 
-opened_more : (is_open : Bool) (token : Token) (tail : List Token) → opened is_open (token ∷ tail) ≡ opened is_open (token ∷ []) ++ tail
+pub opened_more : (is_open : Bool) (token : Token) (tail : List Token) → opened is_open (token ∷ tail) ≡ opened is_open (token ∷ []) ++ tail
 opened_more true token tail = refl
 opened_more false token tail = refl
 

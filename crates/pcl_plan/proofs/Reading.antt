@@ -1,27 +1,27 @@
 -- Steps are read off a table that is right.
-use Rattle.std.proofs.Common.{◌≡◌, ℕ, zero, suc, ◌+◌, ◌-◌, ◌*◌, ◌<◌, ◌≤◌, ◌⊎◌, min, Bool, true, false, List, [], ◌∷◌, ◌++◌, length, take, drop, refl, sym, ap, subst, ◌∙◌, inl, inr, arith, append_assoc}
+use Rattle.std.proofs.Common.{◌≡◌, ℕ, ◌+◌, ◌<◌, ◌≤◌, Bool, true, false, List, [], ◌∷◌, length, drop, refl, sym, ap, subst, ◌∙◌, inl, inr, arith}
 use Rattle.std.specs.Prelude.{not}
 use Rattle.std.proofs.lemmas.Bool.{cases_lt}
 use Rattle.std.proofs.Math.ListN.{drop_of_length-le}
-use Rattle.std.proofs.lemmas.List.{append-nil, get_or_past}
+use Rattle.std.proofs.lemmas.List.{get_or_past}
 use Rattle.pcl_base.specs.declared.method.Method.{Method}
 use Rattle.pcl_base.specs.declared.method.Method.TheVariants.{Plain, Runs, Packed, Delta}
 use Rattle.pcl_base.specs.Method.{method_code}
 use Rattle.pcl_rows.specs.Rows.{IsRowData}
 use Rattle.pcl_coders.specs.Coding.{IsLeastLength}
-use Rattle.pcl_coders.specs.Walks.{Walk, total, IsFeasible, IsAttained, IsLeastCost}
+use Rattle.pcl_coders.specs.Walks.{Walk, total, IsFeasible, IsLeastCost}
 use Rattle.pcl_coders.proofs.Walks.{feasible_bounds, attained_is_least}
 use Rattle.pcl_plan.specs.declared.table.RowNumbers.{RowNumbers}
 use Rattle.pcl_plan.specs.Tokens.{Token, opening, method, skip, send, IsSpelled, AreWhite}
-use Rattle.pcl_plan.specs.Nodes.{Node, start, row_at, row_above, Leads, Ends, cost}
-use Rattle.pcl_plan.specs.Spelling.{least_spelling, digit_count}
+use Rattle.pcl_plan.specs.Nodes.{Node, row_at, row_above, Leads, Ends, cost}
+use Rattle.pcl_plan.specs.Spelling.{least_spelling}
 use Rattle.pcl_plan.specs.Table.{number_in, no_numbers, node_number}
-use Rattle.pcl_plan.specs.Filling.{switching, sending, outside, inside, rest, skipping, AreSkippable, IsWhiteRun, IsReadable, IsRowRight, AreRightFrom}
+use Rattle.pcl_plan.specs.Filling.{switching, sending, outside, inside, rest, skipping, AreSkippable, IsWhiteRun, IsReadable, AreRightFrom}
 use Rattle.pcl_plan.proofs.Digits.{count_grows, spelled_long}
 use Rattle.pcl_plan.proofs.Walking.{node}
-use Rattle.pcl_plan.proofs.RightRows.{cost_opening, cost_method, cost_skip, cost_send, cost_some, leads_down, method_small, rest_below, best_end}
+use Rattle.pcl_plan.proofs.RightRows.{cost_opening, cost_method, cost_skip, cost_send, cost_some, method_small, rest_below, best_end}
 use Rattle.pcl_plan.proofs.InkedRows.{spelled_cost, length_small}
-use Rattle.pcl_plan.proofs.Filled.{readable, white_front, white_to_end, skippable_within}
+use Rattle.pcl_plan.proofs.Filled.{readable, white_front, white_to_end}
 
 -- ---- the whole table
 

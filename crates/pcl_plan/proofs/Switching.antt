@@ -1,13 +1,11 @@
 -- The numbers of a row, with a switch of the method or without.
-use Rattle.std.proofs.Common.{◌≡◌, ℕ, ◌+◌, ◌*◌, ◌<◌, ◌≤◌, ◌⊎◌, min, true, false, refl, sym, ap, ◌∙◌, inl, inr, arith}
+use Rattle.std.proofs.Common.{◌≡◌, ℕ, ◌+◌, ◌≤◌, min, inl, inr, arith}
 use Rattle.std.proofs.lemmas.Bool.{cases_lt}
 use Rattle.pcl_base.specs.declared.method.Method.{Method}
 use Rattle.pcl_base.specs.declared.method.Method.TheVariants.{Plain, Runs, Packed, Delta}
-use Rattle.pcl_base.specs.Method.{method_code}
 use Rattle.pcl_plan.specs.declared.by_method.ByMethod.{ByMethod}
 use Rattle.pcl_plan.specs.declared.table.RowNumbers.{RowNumbers}
-use Rattle.pcl_plan.specs.Spelling.{digit_count}
-use Rattle.pcl_plan.specs.Table.{by_method, number_in}
+use Rattle.pcl_plan.specs.Table.{by_method}
 use Rattle.pcl_plan.specs.Filling.{switching, IsSwitched}
 use Rattle.pcl_plan.proofs.Digits.{count_is, count_of_none}
 

@@ -1,5 +1,5 @@
 -- Lengths of page texts and costs of walks.
-use Rattle.std.proofs.Common.{◌≡◌, ℕ, ◌+◌, ◌-◌, ◌<◌, ◌≤◌, Bool, false, List, [], ◌∷◌, ◌++◌, length, drop, replicate, refl, sym, ap, subst, ◌∙◌, arith}
+use Rattle.std.proofs.Common.{◌≡◌, ℕ, ◌+◌, ◌<◌, ◌≤◌, false, List, [], ◌∷◌, ◌++◌, length, replicate, refl, ap, ◌∙◌, arith}
 use Rattle.std.specs.List.{flat_map, AllByRecursion}
 use Rattle.std.proofs.lemmas.List.{length-append}
 use Rattle.pcl_base.specs.declared.dpi.Dpi.{Dpi}
@@ -30,7 +30,7 @@ pub prints_of_walk : (width : ℕ) (rows : List (List ℕ)) (tokens : List Token
 prints_of_walk width rows tokens are w = tokens_of_walk width rows are tokens false Plain 0 (replicate width 0) (omega arith) refl w
 
 -- a page text has its fixed part, and the bytes of its tokens
-text_length : (dpi : Dpi) (size : Size) (copies : ℕ) (tokens : List Token)
+pub text_length : (dpi : Dpi) (size : Size) (copies : ℕ) (tokens : List Token)
     → length (start_bytes dpi copies size ++ flat_map token_bytes tokens ++ end_bytes) ≡ fixed_bytes dpi size copies + total cost tokens
 text_length dpi size copies tokens =
     let begin = start_bytes dpi copies size in

@@ -1,6 +1,6 @@
 -- Tokens that print rows are a walk, and a walk's tokens print them.
-use Rattle.std.proofs.Common.{◌≡◌, ℕ, zero, suc, ◌+◌, ◌-◌, ◌<◌, ◌≤◌, Bool, true, false, List, [], ◌∷◌, ◌++◌, length, take, drop, replicate, get_or, refl, sym, ap, subst, ◌∙◌, arith, add-one}
-use Rattle.std.specs.Prelude.{not, slice_index_or}
+use Rattle.std.proofs.Common.{◌≡◌, ℕ, zero, suc, ◌+◌, ◌-◌, ◌<◌, ◌≤◌, Bool, true, false, List, [], ◌∷◌, length, take, drop, replicate, refl, sym, ap, subst, ◌∙◌, arith, add-one}
+use Rattle.std.specs.Prelude.{not}
 use Rattle.std.proofs.lemmas.List.{drop-drop, drop_more, length-drop, length-replicate, get_or-drop}
 use Rattle.pcl_base.specs.declared.method.Method.{Method}
 use Rattle.pcl_rows.specs.Rows.{IsRowData}
@@ -75,9 +75,11 @@ walk_of_tokens width rows are (skip digits count ends ∷ tokens) true current y
     let room : y + count ≤ length rows = omega (arith, p.1, p.2, ap length l, length-drop y rows) in
     let white : AreWhite (take count (drop y rows)) = subst (λ (rest : List (List ℕ)). AreWhite (take count rest)) (sym l) p.3 in
     let seed_is : replicate (length seed) 0 ≡ row_above width rows (y + count) =
-    ap (λ (n : ℕ). replicate n 0) (ap length s ∙ above_width width rows y are within) ∙ sym (zeros_above width rows y count are p.1 room white) in
-    (node (y + count) current (not ends), (refl, p.0, p.1, room, white, refl),
-    walk_of_tokens width rows are tokens (not ends) current (y + count) (replicate (length seed) 0) (drop count left) room seed_is (sym (drop-drop count y rows) ∙ ap (drop count) l) p.4)
+    ap (λ (n : ℕ). replicate n 0) (ap length s ∙ above_width width rows y are within) ∙ sym (zeros_above width rows y count are p.1 room white) in (
+      node (y + count) current (not ends),
+      (refl, p.0, p.1, room, white, refl),
+      walk_of_tokens width rows are tokens (not ends) current (y + count) (replicate (length seed) 0) (drop count left) room seed_is (sym (drop-drop count y rows) ∙ ap (drop count) l) p.4,
+    )
 walk_of_tokens width rows are (send digits bytes ∷ tokens) false current y seed left within s l p = absurd p
 walk_of_tokens width rows are (send digits bytes ∷ tokens) true current y seed [] within s l p = absurd p
 walk_of_tokens width rows are (send digits bytes ∷ tokens) true current y seed (first ∷ rest) within s l p =
@@ -85,9 +87,11 @@ walk_of_tokens width rows are (send digits bytes ∷ tokens) true current y seed
     let first_is : first ≡ row_at rows y = sym (row_at_first y rows first rest l) in
     let data_is : IsRowData current (row_above width rows y) (row_at rows y) bytes =
     subst (λ (above : List ℕ). IsRowData current above (row_at rows y) bytes) s (subst (λ (row : List ℕ). IsRowData current seed row bytes) first_is p.1) in
-    let seed_is : first ≡ row_above width rows (y + 1) = first_is ∙ rw add-one refl in
-    (node (y + 1) current false, (refl, p.0, room, data_is, refl),
-    walk_of_tokens width rows are tokens false current (y + 1) first rest (omega arith) seed_is (sym (drop-drop 1 y rows) ∙ ap (drop 1) l) p.2)
+    let seed_is : first ≡ row_above width rows (y + 1) = first_is ∙ rw add-one refl in (
+      node (y + 1) current false,
+      (refl, p.0, room, data_is, refl),
+      walk_of_tokens width rows are tokens false current (y + 1) first rest (omega arith) seed_is (sym (drop-drop 1 y rows) ∙ ap (drop 1) l) p.2,
+    )
 
 -- ---- a walk's tokens
 
@@ -107,9 +111,13 @@ tokens_of_walk width rows are (skip digits count ends ∷ tokens) true current y
     let l = w.1 in
     let seed_is : replicate (length seed) 0 ≡ row_above width rows (y + count) =
     ap (λ (n : ℕ). replicate n 0) (ap length s ∙ above_width width rows y are within) ∙ sym (zeros_above width rows y count are l.2 l.3 l.4) in
-    let rest = tokens_of_walk width rows are tokens (not ends) current (y + count) (replicate (length seed) 0) l.3 seed_is (subst (λ (b : Node). Walk (Leads width rows) (Ends rows) b tokens) l.5 w.2) in
-    (l.1, l.2, omega (arith, length-drop y rows, l.2, l.3), l.4,
-    subst (λ (left : List (List ℕ)). PrintsRows (not ends) current (replicate (length seed) 0) tokens left) (sym (drop-drop count y rows)) rest)
+    let rest = tokens_of_walk width rows are tokens (not ends) current (y + count) (replicate (length seed) 0) l.3 seed_is (subst (λ (b : Node). Walk (Leads width rows) (Ends rows) b tokens) l.5 w.2) in (
+      l.1,
+      l.2,
+      omega (arith, length-drop y rows, l.2, l.3),
+      l.4,
+      subst (λ (left : List (List ℕ)). PrintsRows (not ends) current (replicate (length seed) 0) tokens left) (sym (drop-drop count y rows)) rest,
+    )
 tokens_of_walk width rows are (send digits bytes ∷ tokens) false current y seed within s w = let no : false ≡ true = w.1.0 in absurd cc
 tokens_of_walk width rows are (send digits bytes ∷ tokens) true current y seed within s w =
     let l = w.1 in

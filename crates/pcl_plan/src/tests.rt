@@ -231,7 +231,11 @@ fn searched(rt: HostRuntime) -> Result<(), AllocError> {
         for count in 0..4u32 {
             let some = count as usize;
             let plan = plan_of(&rt, rt.alloc(), &bytes[..2 * some], 2, count)?;
-            assert_eq!(rt; plan.cost(), searched_cost(&rows[..some]), "{bytes:?} {count}");
+            assert_eq!(rt;
+                plan.cost(),
+                searched_cost(&rows[..some]),
+                "{bytes:?} {count}"
+            );
         }
     }
     Ok(())

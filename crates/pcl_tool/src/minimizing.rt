@@ -7,6 +7,7 @@ use crate::reading::read_all;
 use crate::writing::write_bytes;
 use pcl_base::Dpi;
 use pcl_page::{Page, PageSink, perform};
+use pcl_plan::plan;
 use pcl_writer::{write_frame, write_page};
 use std::alloc::{AllocError, Global};
 use std::io::{Read, Write};
@@ -79,6 +80,7 @@ impl PageSink for Written {
     ghost takes = { λ old page new. AppendsPage page old new };
 
     fn page(&mut self, page: &Page) -> Result<(), AllocError> {
-        write_page(page, &mut self.bytes)
+        let least = plan(*self.bytes.allocator(), page)?;
+        write_page(page, &least, &mut self.bytes)
     }
 }

@@ -1,211 +1,293 @@
--- The body of a page, row after row.
-use Rattle.std.proofs.Common.{◌≡◌, ℕ, Bool, length-take-le, length-drop, zero, suc, ◌+◌, ◌-◌, ◌*◌, ◌^◌, ◌<◌, ◌≤◌, true, false, List, [], ◌∷◌, ◌++◌, length, take, drop, replicate, refl, sym, ap, subst, ◌∙◌, append_assoc, ltb, arith, add-one, lit≤}
+-- The body of a page along the steps of its plan.
+use Rattle.std.proofs.Common.{◌≡◌, ℕ, ◌+◌, ◌<◌, ◌≤◌, Bool, true, false, List, [], ◌∷◌, ◌++◌, length, take, drop, refl, sym, ap, subst, ◌∙◌, inl, inr, append_assoc, arith, lit<, lit≤}
 use Rattle.std.proofs.Math.ListN.{drop_of_length-le}
+use Rattle.std.proofs.lemmas.Bool.{cases_lt}
 use Rattle.std.proofs.lemmas.Bool.Decides.{nat_tests}
+use Rattle.std.specs.Prelude.{not, ◌&&◌, ◌==◌}
+use Rattle.std.specs.List.{flat_map}
+use Rattle.std.proofs.lemmas.List.{append-nil, drop_more, take_at}
+use Rattle.std.proofs.lemmas.List.Concat.{flat_map-append}
 use Rattle.pcl_base.specs.declared.dpi.Dpi.{Dpi}
 use Rattle.pcl_base.specs.declared.dpi.Dpi.TheVariants.{Dpi300, Dpi600}
 use Rattle.pcl_base.specs.declared.size.Size.{Size}
 use Rattle.pcl_base.specs.declared.size.Size.TheVariants.{Executive, Letter, Legal, A4}
-use Rattle.pcl_base.specs.Size.{page_row_bytes}
-use Rattle.std.specs.Prelude.{decimal}
-use Rattle.std.specs.List.{flat_map, AllByRecursion}
-use Rattle.std.proofs.lemmas.List.{append-nil, drop-drop, length-replicate, take_at}
-use Rattle.std.proofs.lemmas.List.Concat.{flat_map-append}
-use Rattle.pcl_base.specs.declared.method.Method.TheVariants.{Plain}
-use Rattle.pcl_rows.specs.Rows.{IsRowData, RowFrom}
-use Rattle.pcl_coders.specs.Coding.{IsLeastLength}
-use Rattle.std.specs.Prelude.{not}
 use Rattle.pcl_base.specs.declared.method.Method.{Method}
 use Rattle.pcl_base.specs.Size.{page_height}
-use Rattle.pcl_bitmap.specs.Bitmap.{Picture, IsPicture}
-use Rattle.pcl_plan.specs.Tokens.{Token, opening, method, skip, command_count, send, token_bytes, IsWhite, AreWhite, PrintsRows}
-use Rattle.pcl_plan.specs.PageText.{IsRowOf, bitmap_rows, rows_from}
-use Rattle.pcl_writer.specs.Appending.{AreWithoutMethods, IsWithoutMethod, row_tokens, skip_bytes}
-use Rattle.pcl_plan.proofs.Numbers.{decimal_spelled}
-
--- ---- data of the plain method
-
--- plain data doesn't depend on what the seed row has
-pub any_seed : (seed other row bytes : List ℕ) → length seed ≡ length other → IsRowData Plain seed row bytes → IsRowData Plain other row bytes
-any_seed seed other row bytes e d =
-    record { whole = d.whole; decodes = subst (λ (n : ℕ). RowFrom Plain bytes (replicate n 0) row) e d.decodes; fits = d.fits }
-
--- there is one least length
-pub one_least : (seed row : List ℕ) (m n : ℕ) → IsLeastLength Plain seed row m → IsLeastLength Plain seed row n → m ≡ n
-one_least seed row m n a b =
-    let below = a.shortest b.attained.0 b.attained.1 in
-    let above = b.shortest a.attained.0 a.attained.1 in
-    omega (arith, a.attained.2, b.attained.2, below, above)
+use Rattle.pcl_base.specs.Method.{method_code}
+use Rattle.pcl_bitmap.specs.Bitmap.{Picture}
+use Rattle.pcl_coders.specs.Coding.{IsLeastLength, AppendsLeast}
+use Rattle.pcl_coders.specs.Walks.{Walk, total, IsFeasible}
+use Rattle.pcl_plan.specs.declared.step.Step.{Step}
+use Rattle.pcl_plan.specs.declared.step.Step.TheVariants.{Skip, Switch, Row}
+use Rattle.pcl_plan.specs.Tokens.{Token, opening, method, skip, send, token_bytes, IsSpelled}
+use Rattle.pcl_plan.specs.PageText.{bitmap_rows}
+use Rattle.pcl_plan.specs.Nodes.{Node, start, row_at, Leads, Ends, cost}
+use Rattle.pcl_plan.specs.Spelling.{least_spelling}
+use Rattle.pcl_plan.specs.Table.{node_number}
+use Rattle.pcl_plan.specs.Plans.{StepsAndTable, IsTokenOf, stays_inside, opened, is_last, Spells}
+use Rattle.pcl_plan.proofs.Walking.{node}
+use Rattle.pcl_plan.proofs.RightRows.{cost_opening, cost_send}
+use Rattle.pcl_plan.proofs.ReadSteps.{node_is, opened_more, spells_any}
+use Rattle.pcl_plan.proofs.LeastWalks.{step_is_least, sent_is_least}
+use Rattle.pcl_writer.specs.declared.place.Place.{Place}
+use Rattle.pcl_writer.specs.Steps.{width_of, above, IsBitmapPlan, IsWritable, HasRowData, AppendsRow, AppendsStep, IsPlaceBehind, AppendsBody}
 
 -- what was there is the front of what is
 pub front_is : (old new more : List ℕ) → new ≡ old ++ more → take (length old) new ≡ old
 front_is old new more e = ap (take (length old)) e ∙ take_at old more (length old) refl
 
--- ---- white rows
-
-pub white_more : (k : ℕ) (rows : List (List ℕ)) (row : List ℕ) (rest : List (List ℕ)) → AreWhite (take k rows) → drop k rows ≡ row ∷ rest → IsWhite row → AreWhite (take (suc k) rows)
-white_more zero [] row rest w e r = tt
-white_more zero (first ∷ rows) row rest w e r =
-    let same : first ≡ row = cc in (subst IsWhite (sym same) r, tt)
-white_more (suc k) [] row rest w e r = tt
-white_more (suc k) (first ∷ rows) row rest w e r = (w.0, white_more k rows row rest w.1 e r)
-
-pub all_white : (k : ℕ) (rows : List (List ℕ)) → AreWhite (take k rows) → drop k rows ≡ [] → AreWhite rows
-all_white zero [] w e = tt
-all_white zero (first ∷ rows) w e = absurd cc
-all_white (suc k) [] w e = tt
-all_white (suc k) (first ∷ rows) w e = (w.0, all_white k rows w.1 e)
-
-some_left : (k : ℕ) (rows : List (List ℕ)) (row : List ℕ) (rest : List (List ℕ)) → drop k rows ≡ row ∷ rest → k < length rows
-some_left zero [] row rest e = absurd cc
-some_left zero (first ∷ rows) row rest e = omega arith
-some_left (suc k) [] row rest e = absurd cc
-some_left (suc k) (first ∷ rows) row rest e = let below = some_left k rows row rest e in omega arith
-
--- ---- a row that is sent
-
-pub prints_sent : (skipped : ℕ) (seed row bytes : List ℕ) (behind rest : List (List ℕ)) (more : List Token)
-    → skipped < 2 ^ 64 → length bytes < 2 ^ 64 → length seed ≡ length row → AreWhite (take skipped behind) → drop skipped behind ≡ row ∷ rest → IsRowData Plain seed row bytes
-    → PrintsRows false Plain row more rest → PrintsRows false Plain seed (row_tokens skipped bytes ++ more) behind
-unfolding PrintsRows
-prints_sent zero seed row bytes behind rest more few small sized white left d h =
-    subst (λ (rows : List (List ℕ)). PrintsRows false Plain seed (row_tokens 0 bytes ++ more) rows) (sym left) (decimal_spelled (length bytes) small, d, h)
-prints_sent (suc k) seed row bytes behind rest more few small sized white left d h =
-    let below : suc k < length behind = some_left (suc k) behind row rest left in
-    let seed_is : length seed ≡ length (replicate (length seed) 0) = sym (length-replicate (length seed) 0) in
-    let some : 0 < suc k = omega arith in
-    let within : suc k ≤ length behind = omega arith in (
-      decimal_spelled (suc k) few,
-      some,
-      within,
-      white,
-      subst (λ (rows : List (List ℕ)). PrintsRows true Plain (replicate (length seed) 0) (send (decimal (length bytes)) bytes ∷ more) rows) (sym left)
-          (decimal_spelled (length bytes) small, any_seed seed (replicate (length seed) 0) row bytes seed_is d, h),
-    )
-
-row_parts : (bytes old one two three four new skips : List ℕ) (count : ℕ) → one ≡ old ++ 27 ∷ 42 ∷ 98 ∷ [] → two ≡ one ++ skips → three ≡ two ++ decimal count → four ≡ three ++ 87 ∷ [] → new ≡ four ++ bytes
-    → new ≡ ((((old ++ 27 ∷ 42 ∷ 98 ∷ []) ++ skips) ++ decimal count) ++ 87 ∷ []) ++ bytes
-row_parts bytes old one two three four new skips count a b d e f =
-    f ∙ ap (λ (t : List ℕ). t ++ bytes) (e ∙ ap (λ (t : List ℕ). t ++ 87 ∷ []) (d ∙ ap (λ (t : List ℕ). t ++ decimal count) (b ∙ ap (λ (t : List ℕ). t ++ skips) a)))
-
-row_joined : (old skips digits bytes : List ℕ) → ((((old ++ 27 ∷ 42 ∷ 98 ∷ []) ++ skips) ++ digits) ++ 87 ∷ []) ++ bytes ≡ old ++ 27 ∷ 42 ∷ 98 ∷ (skips ++ (digits ++ 87 ∷ bytes))
-row_joined old skips digits bytes = simp append_assoc
-
--- the bytes of a row's sequence, as they are written
-pub row_spelled : (skipped : ℕ) (bytes old one two three four new : List ℕ) (count : ℕ) → one ≡ old ++ 27 ∷ 42 ∷ 98 ∷ [] → two ≡ one ++ skip_bytes skipped → count ≡ length bytes
-    → three ≡ two ++ decimal count → four ≡ three ++ 87 ∷ [] → new ≡ four ++ bytes → new ≡ old ++ flat_map token_bytes (row_tokens skipped bytes)
-row_spelled zero bytes old one two three four new count a b c d e f =
-    row_parts bytes old one two three four new [] count a b d e f ∙ row_joined old [] (decimal count) bytes
-    ∙ ap (λ (n : ℕ). old ++ 27 ∷ 42 ∷ 98 ∷ (decimal n ++ 87 ∷ bytes)) c
-    ∙ ap (λ (t : List ℕ). old ++ 27 ∷ 42 ∷ 98 ∷ t) (sym (append-nil (decimal (length bytes) ++ 87 ∷ bytes)))
-row_spelled (suc k) bytes old one two three four new count a b c d e f =
-    let some : ltb 0 (suc k) ≡ true = grind (arith, nat_tests) in
-    let skip_is : skip_bytes (suc k) ≡ decimal (suc k) ++ 121 ∷ [] = rw some refl in
-    row_parts bytes old one two three four new (decimal (suc k) ++ 121 ∷ []) count a (b ∙ ap (λ (t : List ℕ). one ++ t) skip_is) d e f
-    ∙ row_joined old (decimal (suc k) ++ 121 ∷ []) (decimal count) bytes
-    ∙ ap (λ (n : ℕ). old ++ 27 ∷ 42 ∷ 98 ∷ ((decimal (suc k) ++ 121 ∷ []) ++ (decimal n ++ 87 ∷ bytes))) c
-    ∙ ap (λ (t : List ℕ). old ++ 27 ∷ 42 ∷ 98 ∷ ((decimal (suc k) ++ 121 ∷ []) ++ t)) (sym (append-nil (decimal (length bytes) ++ 87 ∷ bytes)))
-
--- what holds of two lists' elements holds of both together
-pub all_append : {X : Type 0} (P : X → Type 0) (one two : List X) → AllByRecursion P one → AllByRecursion P two → AllByRecursion P (one ++ two)
-all_append P [] two a b = b
-all_append P (x ∷ one) two a b = (a.0, all_append P one two a.1 b)
-
--- a row's sequence sets no method
-row_plain : (skipped : ℕ) (bytes : List ℕ) → AreWithoutMethods (row_tokens skipped bytes)
-row_plain zero bytes = (tt, (tt, tt))
-row_plain (suc more) bytes = (tt, (tt, (tt, tt)))
-
--- ---- how far the body is written
-
-pub record IsWritten (rows : List (List ℕ)) (width : ℕ) (old now : List ℕ) (y skipped : ℕ) : Type 0 where
-  pub tokens : List Token
-  pub spelled : now ≡ old ++ flat_map token_bytes tokens
-  pub seed : List ℕ
-  pub sized : length seed ≡ width
-  pub behind : List (List ℕ)
-  pub white : AreWhite (take skipped behind)
-  pub left : drop skipped behind ≡ drop y rows
-  pub plain : AreWithoutMethods tokens
-  pub goes_on : (more : List Token) → PrintsRows false Plain seed more behind → PrintsRows false Plain (replicate width 0) (tokens ++ more) rows
-
-pub begin : (rows : List (List ℕ)) (width : ℕ) (old : List ℕ) → IsWritten rows width old old 0 0
-begin rows width old = record {
-  tokens = [];
-  spelled = sym (append-nil old);
-  seed = replicate width 0;
-  sized = length-replicate width 0;
-  behind = rows;
-  white = tt;
-  left = refl;
-  plain = tt;
-  goes_on = λ more h. h;
-}
-
-pub white_row : (rows : List (List ℕ)) (width : ℕ) (old now row : List ℕ) (y skipped : ℕ) → drop y rows ≡ row ∷ drop (y + 1) rows → IsWhite row
-    → IsWritten rows width old now y skipped → IsWritten rows width old now (y + 1) (skipped + 1)
-white_row rows width old now row y skipped at w h = record {
-  tokens = h.tokens;
-  spelled = h.spelled;
-  seed = h.seed;
-  sized = h.sized;
-  behind = h.behind;
-  white = rw add-one (white_more skipped h.behind row (drop (y + 1) rows) h.white (h.left ∙ at) w);
-  left = sym (drop-drop 1 skipped h.behind) ∙ ap (drop 1) h.left ∙ drop-drop 1 y rows;
-  plain = h.plain;
-  goes_on = h.goes_on;
-}
-
-pub sent_row : (rows : List (List ℕ)) (width : ℕ) (old now new row seed bytes : List ℕ) (y skipped : ℕ) → drop y rows ≡ row ∷ drop (y + 1) rows → length row ≡ width → length seed ≡ width → skipped < 2 ^ 64
-    → IsRowData Plain seed row bytes → new ≡ now ++ flat_map token_bytes (row_tokens skipped bytes)
-    → IsWritten rows width old now y skipped → IsWritten rows width old new (y + 1) 0
-sent_row rows width old now new row seed bytes y skipped at row_sized sized few d e h = record {
-  tokens = h.tokens ++ row_tokens skipped bytes;
-  spelled = e ∙ ap (λ (t : List ℕ). t ++ flat_map token_bytes (row_tokens skipped bytes)) h.spelled ∙ append_assoc old (flat_map token_bytes h.tokens) (flat_map token_bytes (row_tokens skipped bytes))
-      ∙ ap (λ (t : List ℕ). old ++ t) (sym (flat_map-append token_bytes h.tokens (row_tokens skipped bytes)));
-  seed = row;
-  sized = row_sized;
-  behind = drop (y + 1) rows;
-  white = tt;
-  left = refl;
-  plain = all_append IsWithoutMethod h.tokens (row_tokens skipped bytes) h.plain (row_plain skipped bytes);
-  goes_on = λ more p.
-      subst (λ (tokens : List Token). PrintsRows false Plain (replicate width 0) tokens rows) (sym (append_assoc h.tokens (row_tokens skipped bytes) more))
-      (h.goes_on (row_tokens skipped bytes ++ more)
-      (prints_sent skipped h.seed row bytes h.behind (drop (y + 1) rows) more few (omega (arith, d.fits)) (h.sized ∙ sym row_sized) h.white (h.left ∙ at)
-      (any_seed seed h.seed row bytes (sized ∙ sym h.sized) d) p));
-}
-
-pub end : (rows : List (List ℕ)) (width : ℕ) (old now : List ℕ) (y skipped : ℕ) → drop y rows ≡ [] → IsWritten rows width old now y skipped
-    → (tokens : List Token) × (now ≡ old ++ flat_map token_bytes tokens) × PrintsRows false Plain (replicate width 0) tokens rows × AreWithoutMethods tokens
-unfolding PrintsRows
-end rows width old now y skipped at h = (
-  h.tokens,
-  h.spelled,
-  subst (λ (tokens : List Token). PrintsRows false Plain (replicate width 0) tokens rows) (append-nil h.tokens) (h.goes_on [] (all_white skipped h.behind h.white (h.left ∙ at))),
-  h.plain,
-)
-
--- ---- the page text
-
 pub page_joined : (old one two three start body tail : List ℕ) → one ≡ old ++ start → two ≡ one ++ body → three ≡ two ++ tail → three ≡ old ++ (start ++ body ++ tail)
 page_joined old one two three start body tail a b c =
     c ∙ ap (λ (t : List ℕ). t ++ tail) (b ∙ ap (λ (t : List ℕ). t ++ body) a) ∙ simp append_assoc
 
--- each command of a body that sets no method stands for a row at least
-pub few_commands : (inside : Bool) (current : Method) (seed : List ℕ) (tokens : List Token) (rows : List (List ℕ)) → PrintsRows inside current seed tokens rows
-    → AreWithoutMethods tokens → command_count tokens ≤ length rows
-unfolding PrintsRows
-few_commands false current seed [] rows p w = omega arith
-few_commands true current seed [] rows p w = absurd p
-few_commands false current seed (opening ∷ tokens) rows p w =
-    let more = few_commands true current seed tokens rows p w.1 in omega (arith, more)
-few_commands true current seed (opening ∷ tokens) rows p w = absurd p
-few_commands inside current seed (method digits next ends ∷ tokens) rows p w = absurd w.0
-few_commands false current seed (skip digits count ends ∷ tokens) rows p w = absurd p
-few_commands true current seed (skip digits count ends ∷ tokens) rows p w =
-    let below = few_commands (not ends) current (replicate (length seed) 0) tokens (drop count rows) p.4 w.1 in
-    omega (arith, below, p.1, p.2, length-drop count rows)
-few_commands false current seed (send digits bytes ∷ tokens) rows p w = absurd p
-few_commands true current seed (send digits bytes ∷ tokens) [] p w = absurd p
-few_commands true current seed (send digits bytes ∷ tokens) (row ∷ rest) p w = let below = few_commands false current row tokens rest p.2 w.1 in omega (arith, below)
+-- ---- the token of a step
+
+skip_token : (count : ℕ) (ends : Bool) (token : Token) → IsTokenOf (Skip count) ends token → token ≡ skip (least_spelling count) count ends
+skip_token count ends opening t = absurd t
+skip_token count ends (method digits next capital) t = absurd t
+skip_token count ends (skip digits rows capital) t = let a = t.0 in let b = t.1 in let e = t.2 in cc
+skip_token count ends (send digits bytes) t = absurd t
+
+switch_token : (next : Method) (ends : Bool) (token : Token) → IsTokenOf (Switch next) ends token → token ≡ method (least_spelling (method_code next)) next ends
+switch_token next ends opening t = absurd t
+switch_token next ends (method digits current capital) t = let a = t.0 in let b = t.1 in let e = t.2 in cc
+switch_token next ends (skip digits rows capital) t = absurd t
+switch_token next ends (send digits bytes) t = absurd t
+
+row_token : (count : ℕ) (ends : Bool) (token : Token) → IsTokenOf (Row count) ends token → (bytes : List ℕ) × (token ≡ send (least_spelling count) bytes) × (length bytes ≡ count)
+row_token count ends opening t = absurd t
+row_token count ends (method digits current capital) t = absurd t
+row_token count ends (skip digits rows capital) t = absurd t
+row_token count ends (send digits bytes) t = (bytes, ap (λ (d : List ℕ). send d bytes) t.1, t.0)
+
+abbrev pub node_of : Place → Node
+node_of place = node place.row place.method place.inside
+
+-- another token of the same step leads to the same place, and costs the same
+pub record LeadsToo (picture : Picture) (place behind : Place) (token written : Token) (b : Node) : Type 0 where
+  pub there : b ≡ node_of behind
+  pub leads : Leads (width_of picture) (bitmap_rows picture) (node place.row place.method true) written b
+  pub costs : cost written ≡ cost token
+  pub within : behind.row ≤ length (bitmap_rows picture)
+
+leads_too : (picture : Picture) (place behind : Place) (step : Step) (ends : Bool) (token written : Token) (b : Node) → place.row ≤ length (bitmap_rows picture) → IsTokenOf step ends token → IsTokenOf step ends written → HasRowData picture place.row place.method written
+    → IsPlaceBehind place step ends behind → Leads (width_of picture) (bitmap_rows picture) (node place.row place.method true) token b → LeadsToo picture place behind token written b
+leads_too picture place behind (Skip count) ends token written b before t w d p l =
+    let from = node place.row place.method true in
+    let is = skip_token count ends token t in
+    let same : token ≡ written = is ∙ sym (skip_token count ends written w) in
+    let led = subst (λ (x : Token). Leads (width_of picture) (bitmap_rows picture) from x b) is l in
+    record {
+      within = omega (arith, p.row_is, led.3);
+      there = led.5 ∙ sym (node_is behind.row (place.row + count) behind.method place.method behind.inside (not ends) p.row_is p.method_is p.inside_is);
+      leads = subst (λ (x : Token). Leads (width_of picture) (bitmap_rows picture) from x b) same l;
+      costs = ap cost (sym same);
+    }
+leads_too picture place behind (Switch next) ends token written b before t w d p l =
+    let from = node place.row place.method true in
+    let is = switch_token next ends token t in
+    let same : token ≡ written = is ∙ sym (switch_token next ends written w) in
+    let led = subst (λ (x : Token). Leads (width_of picture) (bitmap_rows picture) from x b) is l in
+    record {
+      within = omega (arith, p.row_is, before);
+      there = led.2 ∙ sym (node_is behind.row place.row behind.method next behind.inside (not ends) p.row_is p.method_is p.inside_is);
+      leads = subst (λ (x : Token). Leads (width_of picture) (bitmap_rows picture) from x b) same l;
+      costs = ap cost (sym same);
+    }
+leads_too picture place behind (Row count) ends token written b before t w d p l =
+    let from = node place.row place.method true in
+    let one = row_token count ends token t in
+    let other = row_token count ends written w in
+    let led = subst (λ (x : Token). Leads (width_of picture) (bitmap_rows picture) from x b) one.1 l in
+    let whole = subst (HasRowData picture place.row place.method) other.1 d in
+    let spelled : IsSpelled (least_spelling count) (length other.0) = subst (IsSpelled (least_spelling count)) (one.2 ∙ sym other.2) led.1 in
+    record {
+      within = omega (arith, p.row_is, led.2);
+      there = led.4 ∙ sym (node_is behind.row (place.row + 1) behind.method place.method behind.inside false p.row_is p.method_is p.inside_is);
+      leads = subst (λ (x : Token). Leads (width_of picture) (bitmap_rows picture) from x b) (sym other.1) (refl, spelled, led.2, whole, led.4);
+      costs = omega (arith, ap cost one.1, ap cost other.1, cost_send (least_spelling count) one.0, cost_send (least_spelling count) other.0, one.2, other.2);
+    }
+
+-- ---- a walk from inside a sequence
+
+pub record IsOpened (picture : Picture) (number : Node → ℕ) (row : ℕ) (current : Method) (is_open : Bool) (tokens : List Token) : Type 0 where
+  pub walk : Walk (Leads (width_of picture) (bitmap_rows picture)) (Ends (bitmap_rows picture)) (node row current true) tokens
+  pub total_is : total cost tokens ≡ number (node row current true)
+  pub back : (other : List Token) → Walk (Leads (width_of picture) (bitmap_rows picture)) (Ends (bitmap_rows picture)) (node row current true) other → total cost other ≡ number (node row current true)
+      → Walk (Leads (width_of picture) (bitmap_rows picture)) (Ends (bitmap_rows picture)) (node row current is_open) (opened is_open other) × (total cost (opened is_open other) ≡ number (node row current is_open))
+
+opened_is : (picture : Picture) (number : Node → ℕ) → IsFeasible (Leads (width_of picture) (bitmap_rows picture)) (Ends (bitmap_rows picture)) cost number → (row : ℕ) (current : Method) (is_open : Bool) (tokens : List Token)
+    → Walk (Leads (width_of picture) (bitmap_rows picture)) (Ends (bitmap_rows picture)) (node row current is_open) (opened is_open tokens) → total cost (opened is_open tokens) ≡ number (node row current is_open)
+    → IsOpened picture number row current is_open tokens
+opened_is picture number feasible row current true tokens w t = record { walk = w; total_is = t; back = λ other v u. (v, u) }
+opened_is picture number feasible row current false tokens w t =
+    let s = step_is_least (width_of picture) (bitmap_rows picture) number feasible (node row current false) w.0 opening tokens w.1 w.2 t in
+    let at = w.1.1 in
+    record {
+      walk = subst (λ (n : Node). Walk (Leads (width_of picture) (bitmap_rows picture)) (Ends (bitmap_rows picture)) n tokens) at w.2;
+      total_is = s.1 ∙ ap number at;
+      back = λ other v u. ((node row current true, (refl, refl), v), omega (arith, u, s.0, ap number at, cost_opening));
+    }
+
+-- ---- what is written
+
+-- what is written up to a place, and what is to come
+pub record IsWrittenTo (picture : Picture) (table : StepsAndTable) (old now : List ℕ) (todo : List Step) (place : Place) : Type 0 where
+  pub within : place.row ≤ length (bitmap_rows picture)
+  pub done : List Token
+  pub spelled : now ≡ old ++ flat_map token_bytes done
+  pub left : List Token
+  pub spells : Spells place.inside todo left
+  pub walk : Walk (Leads (width_of picture) (bitmap_rows picture)) (Ends (bitmap_rows picture)) (node_of place) left
+  pub total_is : total cost left ≡ node_number table.table (node_of place)
+  pub goes_on : (rest : List Token) → Walk (Leads (width_of picture) (bitmap_rows picture)) (Ends (bitmap_rows picture)) (node_of place) rest → total cost rest ≡ node_number table.table (node_of place)
+      → Walk (Leads (width_of picture) (bitmap_rows picture)) (Ends (bitmap_rows picture)) start (done ++ rest) × (total cost (done ++ rest) ≡ node_number table.table start)
+
+pub begin : (picture : Picture) (plan : StepsAndTable) (old : List ℕ) (place : Place) → IsBitmapPlan picture plan → place.inside ≡ false → node_of place ≡ start → IsWrittenTo picture plan old old plan.steps place
+begin picture plan old place is closed at = record {
+  within = omega (arith, ap (λ (n : Node). n.row) at);
+  done = [];
+  spelled = sym (append-nil old);
+  left = is.tokens;
+  spells = subst (λ (i : Bool). Spells i plan.steps is.tokens) (sym closed) is.spelled;
+  walk = subst (λ (n : Node). Walk (Leads (width_of picture) (bitmap_rows picture)) (Ends (bitmap_rows picture)) n is.tokens) (sym at) is.walk;
+  total_is = is.total_is ∙ ap (node_number plan.table) (sym at);
+  goes_on = λ rest w t. (subst (λ (n : Node). Walk (Leads (width_of picture) (bitmap_rows picture)) (Ends (bitmap_rows picture)) n rest) at w, t ∙ ap (node_number plan.table) at);
+}
+
+-- the token that comes next
+pub record IsNextToken (picture : Picture) (plan : StepsAndTable) (place : Place) (step : Step) (more : List Step) : Type 0 where
+  pub token : Token
+  pub rest : List Token
+  pub is_of : IsTokenOf step (is_last more) token
+  pub spells : Spells (stays_inside step) more rest
+  pub from : IsOpened picture (node_number plan.table) place.row place.method place.inside (token ∷ rest)
+
+next_token : (picture : Picture) (plan : StepsAndTable) (old now : List ℕ) (step : Step) (more : List Step) (place : Place) → IsBitmapPlan picture plan → IsWrittenTo picture plan old now (step ∷ more) place
+    → IsNextToken picture plan place step more
+unfolding Spells
+next_token picture plan old now step more place is w =
+    let s = w.spells in
+    record {
+      token = s.0;
+      rest = s.1;
+      is_of = s.2;
+      spells = s.4;
+      from = opened_is picture (node_number plan.table) is.feasible place.row place.method place.inside (s.0 ∷ s.1)
+          (subst (Walk (Leads (width_of picture) (bitmap_rows picture)) (Ends (bitmap_rows picture)) (node_of place)) s.3 w.walk) (ap (total cost) (sym s.3) ∙ w.total_is);
+    }
+
+-- a row that comes next is sent by as few bytes as can be
+writable_from : (picture : Picture) (plan : StepsAndTable) (place : Place) (step : Step) (more : List Step) → IsBitmapPlan picture plan → IsNextToken picture plan place step more → IsWritable picture place.row place.method step
+writable_from picture plan place (Skip count) more is n = tt
+writable_from picture plan place (Switch next) more is n = tt
+writable_from picture plan place (Row count) more is n =
+    let one = row_token count (is_last more) n.token n.is_of in
+    let from = node place.row place.method true in
+    let w = subst (λ (t : Token). Walk (Leads (width_of picture) (bitmap_rows picture)) (Ends (bitmap_rows picture)) from (t ∷ n.rest)) one.1 n.from.walk in
+    let t = ap (λ (x : Token). total cost (x ∷ n.rest)) (sym one.1) ∙ n.from.total_is in
+    let least = sent_is_least (width_of picture) (bitmap_rows picture) (node_number plan.table) is.feasible place.row place.method w.0 (least_spelling count) one.0 n.rest w.1 w.2 t in
+    (w.1.2, subst (IsLeastLength place.method (above picture place.row) (row_at (bitmap_rows picture) place.row)) one.2 least)
+
+pub writable : (picture : Picture) (plan : StepsAndTable) (old now : List ℕ) (step : Step) (more : List Step) (place : Place) → IsBitmapPlan picture plan → IsWrittenTo picture plan old now (step ∷ more) place
+    → IsWritable picture place.row place.method step
+writable picture plan old now step more place is w = writable_from picture plan place step more is (next_token picture plan old now step more place is w)
+
+-- behind the last step it makes no difference whether a sequence is open
+goes_on_open : (step : Step) (last : Bool) → last ≡ false → stays_inside step ≡ (stays_inside step && not last)
+goes_on_open (Skip count) last e = sym (ap not e)
+goes_on_open (Switch next) last e = sym (ap not e)
+goes_on_open (Row count) last e = refl
+
+pub written_more : (picture : Picture) (plan : StepsAndTable) (old now new : List ℕ) (step : Step) (more : List Step) (place behind : Place) → IsBitmapPlan picture plan → IsWrittenTo picture plan old now (step ∷ more) place
+    → AppendsStep picture place step (is_last more) now new → IsPlaceBehind place step (is_last more) behind → IsWrittenTo picture plan old new more behind
+written_more picture plan old now new step more place behind is w a p =
+    let n = next_token picture plan old now step more place is w in
+    let walk = n.from.walk in
+    let from = node place.row place.method true in
+    let too = leads_too picture place behind step (is_last more) n.token a.0 walk.0 w.within n.is_of a.1 a.2 p walk.1 in
+    let s = step_is_least (width_of picture) (bitmap_rows picture) (node_number plan.table) is.feasible from walk.0 n.token n.rest walk.1 walk.2 n.from.total_is in
+    let token : List Token = opened place.inside (a.0 ∷ []) in
+    record {
+      within = too.within;
+      done = w.done ++ token;
+      spelled = a.3 ∙ ap (λ (t : List ℕ). t ++ flat_map token_bytes token) w.spelled ∙ append_assoc old (flat_map token_bytes w.done) (flat_map token_bytes token)
+          ∙ ap (λ (t : List ℕ). old ++ t) (sym (flat_map-append token_bytes w.done token));
+      left = n.rest;
+      spells = spells_any (stays_inside step) behind.inside more n.rest (λ others. goes_on_open step (is_last more) others ∙ sym p.inside_is) n.spells;
+      walk = subst (λ (x : Node). Walk (Leads (width_of picture) (bitmap_rows picture)) (Ends (bitmap_rows picture)) x n.rest) too.there walk.2;
+      total_is = s.1 ∙ ap (node_number plan.table) too.there;
+      goes_on = λ rest v t.
+          let v' = subst (λ (x : Node). Walk (Leads (width_of picture) (bitmap_rows picture)) (Ends (bitmap_rows picture)) x rest) (sym too.there) v in
+          let b = n.from.back (a.0 ∷ rest) (walk.0, too.leads, v') (omega (arith, t, s.0, too.costs, ap (node_number plan.table) too.there)) in
+          let g = w.goes_on (opened place.inside (a.0 ∷ rest)) b.0 b.1 in
+          let same : w.done ++ opened place.inside (a.0 ∷ rest) ≡ (w.done ++ token) ++ rest =
+          ap (λ (ts : List Token). w.done ++ ts) (opened_more place.inside a.0 rest) ∙ sym (append_assoc w.done token rest) in
+          (subst (Walk (Leads (width_of picture) (bitmap_rows picture)) (Ends (bitmap_rows picture)) start) same g.0, ap (total cost) (sym same) ∙ g.1);
+    }
+
+pub written_all : (picture : Picture) (plan : StepsAndTable) (old now : List ℕ) (place : Place) → IsWrittenTo picture plan old now [] place → AppendsBody picture plan old now
+unfolding Spells
+written_all picture plan old now place w =
+    let none : w.left ≡ [] = w.spells in
+    let g = w.goes_on w.left w.walk w.total_is in
+    let all : w.done ++ w.left ≡ w.done = ap (λ (ts : List Token). w.done ++ ts) none ∙ append-nil w.done in (
+      w.done,
+      w.spelled,
+      subst (Walk (Leads (width_of picture) (bitmap_rows picture)) (Ends (bitmap_rows picture)) start) all g.0,
+      ap (total cost) (sym all) ∙ g.1,
+    )
+
+-- there is one least length
+pub one_least : (current : Method) (seed row : List ℕ) (m n : ℕ) → IsLeastLength current seed row m → IsLeastLength current seed row n → m ≡ n
+one_least current seed row m n a b =
+    let below = a.shortest b.attained.0 b.attained.1 in
+    let over = b.shortest a.attained.0 a.attained.1 in
+    omega (arith, a.attained.2, b.attained.2, below, over)
+
+-- a token behind the opening of its sequence
+pub opened_bytes : (is_open : Bool) (token : Token) → flat_map token_bytes (opened is_open []) ++ token_bytes token ≡ flat_map token_bytes (opened is_open (token ∷ []))
+opened_bytes true token = sym (append-nil (token_bytes token))
+opened_bytes false token = simp append_assoc (ap (λ (t : List ℕ). token_bytes opening ++ t) (sym (append-nil (token_bytes token))))
+
+pub row_joined : (old digits bytes : List ℕ) → ((old ++ digits) ++ 87 ∷ []) ++ bytes ≡ old ++ (digits ++ 87 ∷ bytes)
+row_joined old digits bytes = simp append_assoc
+
+equal_is : (k : ℕ) → (k == k) ≡ true
+equal_is k = grind (arith, nat_tests)
+
+unequal_is : (k n : ℕ) → k < n → (k == n) ≡ false
+unequal_is k n lt = grind (arith, nat_tests)
+
+-- the last step by its place
+pub ends_at : (steps : List Step) (k : ℕ) → k ≤ length steps → is_last (drop k steps) ≡ (k == length steps)
+ends_at steps k le =
+    elim (cases_lt k (length steps)) [
+      | inl lt ↦ ap is_last (drop_more steps k (Skip 0) lt) ∙ sym (unequal_is k (length steps) lt)
+      | inr ge ↦
+          let same : k ≡ length steps = omega arith in
+          ap is_last (drop_of_length-le steps ge) ∙ sym (ap (λ (n : ℕ). k == n) (sym same) ∙ equal_is k)
+    ]
+
+-- a row's data behind its length
+pub appended_row : (picture : Picture) (y : ℕ) (current : Method) (count : ℕ) (old one mid new seed row : List ℕ) → row ≡ row_at (bitmap_rows picture) y → seed ≡ above picture y
+    → IsLeastLength current (above picture y) (row_at (bitmap_rows picture) y) count → one ≡ old ++ least_spelling count → mid ≡ one ++ 87 ∷ [] → AppendsLeast current seed row mid new
+    → AppendsRow picture y current count old new
+appended_row picture y current count old one mid new seed row r s least a b appends =
+    let is = subst (λ (x : List ℕ). AppendsLeast current (above picture y) x mid new) r (subst (λ (x : List ℕ). AppendsLeast current x row mid new) s appends) in (
+      is.bytes,
+      is.whole,
+      one_least current (above picture y) (row_at (bitmap_rows picture) y) (length is.bytes) count is.least least,
+      is.joined ∙ ap (λ (t : List ℕ). t ++ is.bytes) (b ∙ ap (λ (t : List ℕ). t ++ 87 ∷ []) a) ∙ row_joined old (least_spelling count) is.bytes,
+    )
+
+-- heights of pages
+pub height_small : (size : Size) (dpi : Dpi) → (0 < page_height size dpi) × (page_height size dpi ≤ 9999)
+height_small Executive Dpi300 = (lit< tt, lit≤ tt)
+height_small Letter Dpi300 = (lit< tt, lit≤ tt)
+height_small Legal Dpi300 = (lit< tt, lit≤ tt)
+height_small A4 Dpi300 = (lit< tt, lit≤ tt)
+height_small Executive Dpi600 = (lit< tt, lit≤ tt)
+height_small Letter Dpi600 = (lit< tt, lit≤ tt)
+height_small Legal Dpi600 = (lit< tt, lit≤ tt)
+height_small A4 Dpi600 = (lit< tt, lit≤ tt)

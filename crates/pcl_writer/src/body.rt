@@ -1,42 +1,143 @@
-//! The body of a page text: a sequence for each row that isn't white.
+//! The body of a page text, along the steps of its plan.
 
-ghost use Rattle.std.specs.Prelude.{◌≡◌, ◌++◌, ◌<◌, ◌≤◌, length, take, if◌then◌else◌, is_ok, OnOk};
+ghost use Rattle.std.specs.Prelude.{◌≡◌, ◌++◌, ◌<◌, [], length, take, replicate, OnOk};
+ghost use Rattle.std.specs.List.{flat_map};
 ghost use Rattle.pcl_base.specs.Size.{page_height, page_row_bytes};
-ghost use Rattle.pcl_bitmap.specs.Bitmap.{IsPicture};
-ghost use Rattle.pcl_coders.specs.Coding.{IsCodable};
-ghost use Rattle.pcl_writer.specs.Appending.{AppendsBody, AppendsRow, row_above, skip_bytes};
+ghost use Rattle.pcl_coders.specs.Coding.{IsCodable, IsLeastLength, AppendsLeast};
+ghost use Rattle.pcl_plan.specs.Tokens.{letter, token_bytes};
+ghost use Rattle.pcl_plan.specs.PageText.{bitmap_rows};
+ghost use Rattle.pcl_plan.specs.Nodes.{row_at};
+ghost use Rattle.pcl_plan.specs.Spelling.{least_spelling};
+ghost use Rattle.pcl_plan.specs.Plans.{opened};
+ghost use Rattle.pcl_writer.specs.Steps.{above, IsBitmapPlan, IsWritable, AppendsBody, AppendsStep, AppendsParameter, AppendsRow};
 
-use crate::number::append_number;
-use pcl_base::ROW_LIMIT;
+use crate::number::append_spelling;
+use crate::place::Place;
+use pcl_base::{Method, ROW_LIMIT};
 use pcl_bitmap::Bitmap;
-use pcl_coders::{Plain, RowCoder};
+use pcl_coders::{Delta, Packed, Plain, RowCoder, Runs};
+use pcl_plan::{Plan, Step};
 use std::alloc::AllocError;
 
-/// Appends the body of a page: for each row that isn't white, the count of white rows before it where
-/// there are any, and the row. Where memory runs out a front of it is appended.
-pub fn append_body(bitmap: &Bitmap, out: &mut Vec<u8>) -> Result<(), AllocError>
-    ensures ok { OnOk result (AppendsBody bitmap.now out.old.items out.new.items) }
-    ensures picture { IsPicture bitmap.now }
+/// Appends the body of a page along the steps of its plan. Where memory runs out a front of it is appended.
+pub fn append_body(bitmap: &Bitmap, plan: &Plan, out: &mut Vec<u8>) -> Result<(), AllocError>
+    requires { IsBitmapPlan bitmap.now plan.now }
+    ensures ok { OnOk result (AppendsBody bitmap.now plan.now out.old.items out.new.items) }
+    ensures front { take (length out.old.items) out.new.items ≡ out.old.items }
+{
+    let steps = plan.steps();
+    let mut place = Place {
+        row: 0,
+        method: Method::Plain,
+        inside: false,
+    };
+    for (i, step) in steps.iter().enumerate() {
+        let ends = i + 1 == steps.len();
+        append_step(bitmap, place, *step, ends, out)?;
+        place = place.behind(*step, ends);
+    }
+    Ok(())
+}
+
+/// Appends the parameter of a step, in a new sequence where none is open, or a front of it where memory runs
+/// out.
+fn append_step(
+    bitmap: &Bitmap,
+    place: Place,
+    step: Step,
+    ends: bool,
+    out: &mut Vec<u8>,
+) -> Result<(), AllocError>
+    requires { IsWritable bitmap.now place.row place.method step }
+    ensures ok { OnOk result (AppendsStep bitmap.now place step ends out.old.items out.new.items) }
+    ensures front { take (length out.old.items) out.new.items ≡ out.old.items }
+{
+    append_opening(place.inside, out)?;
+    append_parameter(bitmap, place.row, place.method, step, ends, out)
+}
+
+/// Opens a sequence where none is open, or appends a front of that where memory runs out.
+fn append_opening(inside: bool, out: &mut Vec<u8>) -> Result<(), AllocError>
+    ensures ok { OnOk result (out.new.items ≡ out.old.items ++ flat_map token_bytes (opened inside [])) }
+    ensures front { take (length out.old.items) out.new.items ≡ out.old.items }
+{
+    if inside {
+        Ok(())
+    } else {
+        out.extend_from_slice(b"\x1b*b")
+    }
+}
+
+/// Appends the parameter of a step, or a front of it where memory runs out.
+fn append_parameter(
+    bitmap: &Bitmap,
+    row: u32,
+    method: Method,
+    step: Step,
+    ends: bool,
+    out: &mut Vec<u8>,
+) -> Result<(), AllocError>
+    requires { IsWritable bitmap.now row method step }
+    ensures ok { OnOk result (AppendsParameter bitmap.now row method step ends out.old.items out.new.items) }
+    ensures front { take (length out.old.items) out.new.items ≡ out.old.items }
+{
+    match step {
+        Step::Skip(count) => append_setting(u32::from(count), b'Y', ends, out),
+        Step::Switch(next) => append_setting(next.code(), b'M', ends, out),
+        Step::Row(bytes) => append_row(bitmap, row, method, bytes, out),
+    }
+}
+
+/// Appends a number and its letter, a capital where it ends its sequence, or a front of it where memory runs
+/// out.
+fn append_setting(number: u32, capital: u8, ends: bool, out: &mut Vec<u8>) -> Result<(), AllocError>
+    requires { capital < 128 }
+    ensures ok { OnOk result (out.new.items ≡ out.old.items ++ (least_spelling number ++ letter capital ends)) }
+    ensures front { take (length out.old.items) out.new.items ≡ out.old.items }
+{
+    append_spelling(number, out)?;
+    out.push(if ends { capital } else { capital + 32 })?;
+    Ok(())
+}
+
+/// Appends the length of a row's data and the data, or a front of it where memory runs out.
+fn append_row(
+    bitmap: &Bitmap,
+    row: u32,
+    method: Method,
+    bytes: u16,
+    out: &mut Vec<u8>,
+) -> Result<(), AllocError>
+    requires row { row < page_height bitmap.now.size bitmap.now.dpi }
+    requires bytes { IsLeastLength method (above bitmap.now row) (row_at (bitmap_rows bitmap.now) row) bytes }
+    ensures ok { OnOk result (AppendsRow bitmap.now row method bytes out.old.items out.new.items) }
     ensures front { take (length out.old.items) out.new.items ≡ out.old.items }
 {
     let zeros = [0; ROW_LIMIT];
-    let mut skipped = 0;
-    for y in 0..bitmap.size().height(bitmap.dpi()) {
-        if bitmap.is_blank(y) {
-            skipped += 1;
-        } else {
-            append_row(bitmap.row(y), row_above(bitmap, y, &zeros), skipped, out)?;
-            skipped = 0;
-        }
+    append_spelling(u32::from(bytes), out)?;
+    out.extend_from_slice(b"W")?;
+    append_data(method, bitmap.row(row), row_above(bitmap, row, &zeros), out)
+}
+
+/// Appends least data for a row by a method. Where memory runs out nothing is appended.
+fn append_data(method: Method, row: &[u8], seed: &[u8], out: &mut Vec<u8>) -> Result<(), AllocError>
+    requires { IsCodable seed.now row.now }
+    ensures ok { OnOk result (AppendsLeast method seed.now row.now out.old.items out.new.items) }
+    ensures front { take (length out.old.items) out.new.items ≡ out.old.items }
+{
+    match method {
+        Method::Plain => Plain.write(row, seed, out),
+        Method::Runs => Runs.write(row, seed, out),
+        Method::Packed => Packed.write(row, seed, out),
+        Method::Delta => Delta.write(row, seed, out),
     }
-    Ok(())
 }
 
 /// The row above row `y`, zeros above the topmost one.
 fn row_above<'a>(bitmap: &'a Bitmap, y: u32, zeros: &'a [u8]) -> &'a [u8]
     requires row { y < page_height bitmap.now.size bitmap.now.dpi }
-    requires zeros { length zeros.now ≡ 600 }
-    ensures row { result.now ≡ row_above bitmap.now y zeros.now }
+    requires zeros { zeros.now ≡ replicate 600 0 }
+    ensures row { result.now ≡ above bitmap.now y }
     ensures len { length result.now ≡ page_row_bytes bitmap.now.size bitmap.now.dpi }
 {
     if y > 0 {
@@ -44,30 +145,4 @@ fn row_above<'a>(bitmap: &'a Bitmap, y: u32, zeros: &'a [u8]) -> &'a [u8]
     } else {
         &zeros[..bitmap.size().row_bytes(bitmap.dpi())]
     }
-}
-
-/// Appends the sequence of a row behind rows that are skipped, or a front of it where memory runs out.
-fn append_row(row: &[u8], seed: &[u8], skipped: u32, out: &mut Vec<u8>) -> Result<(), AllocError>
-    requires { IsCodable seed.now row.now }
-    ensures ok { OnOk result (AppendsRow row.now seed.now skipped out.old.items out.new.items) }
-    ensures front { take (length out.old.items) out.new.items ≡ out.old.items }
-{
-    out.extend_from_slice(b"\x1b*b")?;
-    append_skip(skipped, out)?;
-    append_number(Plain.least(row, seed) as u32, out)?;
-    out.extend_from_slice(b"W")?;
-    Plain.write(row, seed, out)?;
-    Ok(())
-}
-
-/// Appends the count of rows that are skipped, if there are any, or a front of it where memory runs out.
-fn append_skip(skipped: u32, out: &mut Vec<u8>) -> Result<(), AllocError>
-    ensures ok { OnOk result (out.new.items ≡ out.old.items ++ skip_bytes skipped) }
-    ensures front { take (length out.old.items) out.new.items ≡ out.old.items }
-{
-    if skipped > 0 {
-        append_number(skipped, out)?;
-        out.extend_from_slice(b"y")?;
-    }
-    Ok(())
 }

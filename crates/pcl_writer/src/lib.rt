@@ -3,6 +3,7 @@
 
 mod body;
 mod number;
+mod place;
 mod text;
 
 pub use text::{write_frame, write_page};

@@ -1,6 +1,7 @@
 //! Numbers in a job.
 
-ghost use Rattle.std.specs.Prelude.{◌≡◌, ◌++◌, if◌then◌else◌, is_ok, decimal};
+ghost use Rattle.std.specs.Prelude.{◌≡◌, ◌++◌, length, take, if◌then◌else◌, is_ok, decimal, OnOk};
+ghost use Rattle.pcl_plan.specs.Spelling.{least_spelling};
 
 use itoa::Buffer;
 use std::alloc::AllocError;
@@ -11,4 +12,15 @@ pub fn append_number(number: u32, out: &mut Vec<u8>) -> Result<(), AllocError>
 {
     let mut digits = Buffer::new();
     out.extend_from_slice(digits.format(number).as_bytes())
+}
+
+/// Appends a number in its shortest spelling: 0 has no digit. Where memory runs out `out` stays as it was.
+pub fn append_spelling(number: u32, out: &mut Vec<u8>) -> Result<(), AllocError>
+    ensures ok { OnOk result (out.new.items ≡ out.old.items ++ least_spelling number) }
+    ensures front { take (length out.old.items) out.new.items ≡ out.old.items }
+{
+    if number > 0 {
+        append_number(number, out)?;
+    }
+    Ok(())
 }

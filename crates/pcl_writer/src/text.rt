@@ -2,22 +2,25 @@
 
 ghost use Rattle.std.specs.Prelude.{◌≡◌, ◌++◌, length, take, if◌then◌else◌, is_ok, OnOk, OnErr};
 ghost use Rattle.pcl_plan.specs.Tokens.{start_bytes, end_bytes, frame_bytes};
+ghost use Rattle.pcl_plan.specs.PagePlans.{IsPlanOf};
 ghost use Rattle.pcl_writer.specs.Appending.{AppendsPage};
 
 use crate::body::append_body;
 use crate::number::append_number;
 use pcl_base::{Dpi, Size};
 use pcl_page::Page;
+use pcl_plan::Plan;
 use std::alloc::AllocError;
 
-/// Appends a page text that prints the page (docs/OUTPUT.md, "Page texts"). Where memory runs out `out`
-/// stays as it was.
-pub fn write_page(page: &Page, out: &mut Vec<u8>) -> Result<(), AllocError>
+/// Appends the page text that a plan of the page says (docs/OUTPUT.md, "Page texts"). It prints the page, and
+/// no page text that does is shorter. Where memory runs out `out` stays as it was.
+pub fn write_page(page: &Page, plan: &Plan, out: &mut Vec<u8>) -> Result<(), AllocError>
+    requires { IsPlanOf page.now plan.now }
     ensures ok { OnOk result (AppendsPage page.now out.old.items out.new.items) }
     ensures err { OnErr result (out.new.items ≡ out.old.items) }
 {
     let before = out.len();
-    let written = append_page(page, out);
+    let written = append_page(page, plan, out);
     if written.is_err() {
         out.truncate(before);
     }
@@ -33,12 +36,14 @@ pub fn write_frame(out: &mut Vec<u8>) -> Result<(), AllocError>
 }
 
 /// Appends a page text, or a front of it where memory runs out.
-fn append_page(page: &Page, out: &mut Vec<u8>) -> Result<(), AllocError>
+fn append_page(page: &Page, plan: &Plan, out: &mut Vec<u8>) -> Result<(), AllocError>
+    requires { IsPlanOf page.now plan.now }
     ensures ok { OnOk result (AppendsPage page.now out.old.items out.new.items) }
     ensures front { take (length out.old.items) out.new.items ≡ out.old.items }
 {
-    append_start(page.copies, page.size, page.dpi, out)?;
-    append_body(&page.bitmap, out)?;
+    let bitmap = &page.bitmap;
+    append_start(page.copies, bitmap.size(), bitmap.dpi(), out)?;
+    append_body(bitmap, plan, out)?;
     out.extend_from_slice(b"\x1b*rC\x0c")?;
     Ok(())
 }

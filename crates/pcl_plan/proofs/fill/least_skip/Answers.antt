@@ -1,4 +1,4 @@
-use Rattle.std.proofs.Common.{◌≡◌, min, sym, ap, ◌∙◌}
+use Rattle.std.proofs.Common.{ap, ◌∙◌}
 use Rattle.pcl_plan.specs.Table.{node_number}
 use Rattle.pcl_plan.specs.Filling.{skipping}
 use Rattle.pcl_plan.proofs.Skips.{least_skip_is}

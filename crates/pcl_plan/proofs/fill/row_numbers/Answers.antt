@@ -1,5 +1,4 @@
-use Rattle.std.proofs.Common.{◌≡◌, ◌+◌, ◌≤◌, ◌<◌, ℕ, List, length, false, arith}
-use Rattle.pcl_base.specs.declared.method.Method.{Method}
+use Rattle.std.proofs.Common.{◌+◌, ◌≤◌, ◌<◌, ℕ, List, false, arith}
 use Rattle.pcl_plan.specs.Nodes.{row_at, row_above}
 use Rattle.pcl_plan.specs.Table.{by_method, node_number}
 use Rattle.pcl_plan.specs.Rows.{rows_of}

@@ -1,4 +1,4 @@
-use Rattle.std.proofs.Common.{◌≡◌, ◌+◌, ◌≤◌, ◌<◌, ◌++◌, [], ◌∷◌, ℕ, List, length, refl, sym, ap, subst, ◌∙◌, arith}
+use Rattle.std.proofs.Common.{List, sym, subst, arith}
 use Rattle.pcl_plan.specs.declared.rows.Rows.{Rows}
 use Rattle.pcl_plan.specs.declared.table.RowNumbers.{RowNumbers}
 use Rattle.pcl_plan.specs.declared.step.Step.{Step}
@@ -6,7 +6,7 @@ use Rattle.pcl_plan.specs.Rows.{rows_of}
 use Rattle.pcl_plan.specs.Filling.{AreRightFrom}
 use Rattle.pcl_plan.proofs.RowsFrom.{length_rows}
 use Rattle.pcl_plan.proofs.Reading.{IsRightTable, row_left}
-use Rattle.pcl_plan.proofs.ReadSteps.{IsReadTo, ink_left, read_none, read_more, read_less, read_all}
+use Rattle.pcl_plan.proofs.ReadSteps.{IsReadTo, ink_left, read_more, read_less, read_all}
 use Rattle.pcl_plan.proofs.steps.append_steps.Goals as goal
 
 right_table : (rows : Rows) (table : List RowNumbers) → AreRightFrom rows.width (rows_of rows) table 0 → IsRightTable rows.width (rows_of rows) table

@@ -1,13 +1,33 @@
-use Rattle.std.proofs.Common.{length}
-use Rattle.pcl_writer.proofs.Bodies.{row_spelled, one_least}
+use Rattle.std.proofs.Common.{◌≡◌, ◌++◌, ◌∷◌, [], ◌∙◌, ℕ, List, sym, ap, append_assoc, arith}
+use Rattle.std.proofs.lemmas.Result.{on_ok_weaker}
+use Rattle.pcl_base.specs.Size.{page_height}
+use Rattle.pcl_coders.proofs.Filling.{front_stays}
+use Rattle.pcl_plan.specs.Spelling.{least_spelling}
+use Rattle.pcl_plan.proofs.RowsFrom.{row_of_bytes, row_small}
+use Rattle.pcl_writer.specs.Steps.{width_of}
+use Rattle.pcl_writer.proofs.Bodies.{appended_row}
 use Rattle.pcl_writer.proofs.body.append_row.Goals as goal
+
+pub append_data-requires : goal.append_data-requires
+append_data-requires c = record {
+  same_size = c.row_above.ensures.len ∙ sym c.row.ensures.len;
+  small = omega (arith, c.row.ensures.len, row_small c.args.bitmap.now.size c.args.bitmap.now.dpi);
+}
+
+digits_are : (old new : List ℕ) (number same : ℕ) → new ≡ old ++ least_spelling number → number ≡ same → new ≡ old ++ least_spelling same
+digits_are old new number same e n = e ∙ ap (λ (m : ℕ). old ++ least_spelling m) n
 
 pub returns-clause-ok : goal.returns-clause-ok
 returns-clause-ok c =
-    let w = c.in_ok-write.ensures.ok in (
-      w.bytes,
-      row_spelled c.args.skipped w.bytes c.args.out.now.items c.extend_from_slice.new.self.items c.append_skip.new.out.items c.append_number.new.out.items c.extend_from_slice-2.new.self.items c.write.new.out.items c.least.result
-          c.in_ok-extend_from_slice.ensures.items c.in_ok-append_skip.ensures.ok (one_least c.args.seed.now c.args.row.now c.least.result (length w.bytes) c.least.ensures w.least)
-          c.in_ok-append_number.ensures c.in_ok-extend_from_slice-2.ensures.items w.joined,
-      w.whole,
-    )
+    let picture = c.args.bitmap.now in
+    let row_is = c.row.ensures.bytes ∙ sym (row_of_bytes c.args.row (page_height picture.size picture.dpi) (width_of picture) picture.bytes c.requires.row) in
+    on_ok_weaker c.append_data.result
+    (appended_row picture c.args.row c.args.method c.args.bytes c.args.out.now.items c.append_spelling.new.out.items c.extend_from_slice.new.self.items c.append_data.new.out.items c.row_above.result.now c.row.result.now
+    row_is c.row_above.ensures.row c.requires.bytes (digits_are c.args.out.now.items c.append_spelling.new.out.items c.from.result c.args.bytes c.in_ok-append_spelling.ensures.ok c.from.ensures) c.in_ok-extend_from_slice.ensures.items)
+    c.append_data.ensures.ok
+
+pub returns-clause-front : goal.returns-clause-front
+returns-clause-front c =
+    let mid : List ℕ = c.extend_from_slice.new.self.items in
+    let joined = c.in_ok-extend_from_slice.ensures.items ∙ ap (λ (t : List ℕ). t ++ 87 ∷ []) c.in_ok-append_spelling.ensures.ok ∙ append_assoc c.args.out.now.items (least_spelling c.from.result) (87 ∷ []) in
+    front_stays c.args.out.now.items mid c.append_data.new.out.items (least_spelling c.from.result ++ 87 ∷ []) joined c.append_data.ensures.front

@@ -1,40 +1,67 @@
-use Rattle.std.proofs.Common.{◌≡◌, ◌++◌, length, refl, subst, arith}
+use Rattle.std.proofs.Common.{◌≡◌, ◌+◌, ◌++◌, ◌∙◌, ℕ, false, length, refl, sym, ap, subst, arith}
 use Rattle.std.specs.List.{flat_map, AllByRecursion}
 use Rattle.pcl_base.specs.declared.dpi.Dpi.{Dpi}
 use Rattle.pcl_base.specs.declared.size.Size.{Size}
+use Rattle.pcl_base.specs.declared.method.Method.TheVariants.{Plain}
 use Rattle.pcl_base.specs.Size.{page_height, page_row_bytes}
+use Rattle.pcl_coders.specs.Walks.{Walk}
 use Rattle.pcl_page.specs.declared.page.Page.{Page}
 use Rattle.pcl_plan.specs.Tokens.{start_bytes, end_bytes, token_bytes}
-use Rattle.pcl_plan.specs.PageText.{IsRowOf, PrintsAll, PrintsPage, bitmap_rows}
+use Rattle.pcl_plan.specs.PageText.{IsRowOf, PrintsPage, bitmap_rows}
+use Rattle.pcl_plan.specs.Nodes.{start, Leads, Ends}
+use Rattle.pcl_plan.specs.LeastTexts.{fixed_bytes, IsLeastText}
+use Rattle.pcl_plan.specs.Table.{node_number}
+use Rattle.pcl_plan.specs.Plans.{IsPlan}
 use Rattle.pcl_plan.proofs.RowsFrom.{length_rows, bitmap_rows_are}
-use Rattle.pcl_writer.proofs.Bodies.{page_joined, few_commands}
+use Rattle.pcl_plan.proofs.Texts.{widths, prints_of_walk, text_length, text_of_least}
+use Rattle.pcl_plan.proofs.LeastWalks.{few_commands}
+use Rattle.pcl_writer.proofs.Bodies.{page_joined, height_small}
 use Rattle.pcl_writer.proofs.text.append_page.Goals as goal
 
 -- of the bitmap's size and resolution, and so of the page's
 as_page : (page : Page) (P : Size → Dpi → Type 0) → P page.bitmap.size page.bitmap.dpi → P page.size page.dpi
 as_page page P p = subst (λ (d : Dpi). P page.size d) page.dpi_is (subst (λ (z : Size). P z page.bitmap.dpi) page.size_is p)
 
+as_bitmap : (page : Page) (P : Size → Dpi → Type 0) → P page.size page.dpi → P page.bitmap.size page.bitmap.dpi
+as_bitmap page P p = subst (λ (z : Size). P z page.bitmap.dpi) (sym page.size_is) (subst (λ (d : Dpi). P page.size d) (sym page.dpi_is) p)
+
+pub append_body-requires : goal.append_body-requires
+append_body-requires c =
+    let page = c.args.page.now in
+    as_bitmap page (λ (z : Size) (d : Dpi). IsPlan (page_row_bytes z d) (bitmap_rows page.bitmap) c.args.plan.now) c.requires
+
 pub returns-clause-ok : goal.returns-clause-ok
 returns-clause-ok c =
     let page = c.args.page.now in
+    let plan = c.args.plan.now in
     let old = c.args.out.now.items in
     let rows = bitmap_rows page.bitmap in
+    let width : ℕ = page_row_bytes page.size page.dpi in
     let body = c.in_ok-append_body.ensures.ok in
-    let picture = c.in_ok-append_body.ensures.picture in
     let count : length rows ≡ page_height page.size page.dpi =
     as_page page (λ (z : Size) (d : Dpi). length rows ≡ page_height z d) (length_rows (page_height page.bitmap.size page.bitmap.dpi) (page_row_bytes page.bitmap.size page.bitmap.dpi) page.bitmap.bytes) in
-    let prints : PrintsAll page.size page.dpi body.0 rows = as_page page (λ (z : Size) (d : Dpi). PrintsAll z d body.0 rows) body.2 in
+    let rows_are = as_page page (λ (z : Size) (d : Dpi). AllByRecursion (IsRowOf z d) rows) (bitmap_rows_are page.bitmap c.size.ensures.picture) in
+    let walk : Walk (Leads width rows) (Ends rows) start body.0 = as_page page (λ (z : Size) (d : Dpi). Walk (Leads (page_row_bytes z d) rows) (Ends rows) start body.0) body.2 in
+    let height = height_small page.size page.dpi in
+    let started : c.append_start.new.out.items ≡ old ++ start_bytes page.dpi page.copies page.size =
+    c.in_ok-append_start.ensures.ok ∙ ap (λ (d : Dpi). old ++ start_bytes d page.copies c.size.result) (c.dpi.ensures.value ∙ page.dpi_is)
+    ∙ ap (λ (z : Size). old ++ start_bytes page.dpi page.copies z) (c.size.ensures.value ∙ page.size_is) in
+    let few = few_commands width rows (node_number plan.table) (omega (arith, count, height.1)) c.requires.feasible body.0 0 Plain false walk body.3 in
     let text = start_bytes page.dpi page.copies page.size ++ flat_map token_bytes body.0 ++ end_bytes in
     let printed : PrintsPage page text = record {
       some_copies = page.copies_in_range.0;
       few_copies = omega (arith, page.copies_in_range.1);
       count = count;
-      rows_are = as_page page (λ (z : Size) (d : Dpi). AllByRecursion (IsRowOf z d) rows) (bitmap_rows_are page.bitmap picture);
+      rows_are = rows_are;
       tokens = body.0;
       spelled = refl;
-      prints = prints;
-    } in (
+      prints = prints_of_walk width rows body.0 (widths page.size page.dpi rows rows_are) walk;
+    } in
+    let least = text_of_least page.dpi page.size page.copies rows (node_number plan.table start) page.copies_in_range.0 (omega (arith, page.copies_in_range.1)) count rows_are (c.requires.least start (omega arith)) in
+    let text_is : fixed_bytes page.dpi page.size page.copies + node_number plan.table start ≡ length text =
+    sym (text_length page.dpi page.size page.copies body.0 ∙ ap (λ (n : ℕ). fixed_bytes page.dpi page.size page.copies + n) body.3) in (
       text,
-      page_joined old c.append_start.new.out.items c.append_body.new.out.items c.extend_from_slice.new.self.items _ _ _ c.in_ok-append_start.ensures.ok body.1 c.in_ok-extend_from_slice.ensures.items,
-      (printed, omega (arith, count, few_commands _ _ _ body.0 rows prints body.3)),
+      page_joined old c.append_start.new.out.items c.append_body.new.out.items c.extend_from_slice.new.self.items _ _ _ started body.1 c.in_ok-extend_from_slice.ensures.items,
+      (printed, omega (arith, count, few, height.0)),
+      subst (IsLeastText page.dpi page.size page.copies rows) text_is least,
     )

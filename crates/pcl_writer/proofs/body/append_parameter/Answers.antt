@@ -1,0 +1,49 @@
+use Rattle.std.proofs.Common.{◌≡◌, ◌++◌, ◌∙◌, ℕ, List, refl, sym, ap, subst, arith}
+use Rattle.std.proofs.lemmas.Result.{on_ok_weaker}
+use Rattle.pcl_base.specs.Method.{method_code}
+use Rattle.pcl_base.specs.Size.{page_height}
+use Rattle.pcl_plan.specs.declared.step.Step.{Step}
+use Rattle.pcl_plan.specs.Tokens.{method, skip, send, letter}
+use Rattle.pcl_plan.specs.Spelling.{least_spelling}
+use Rattle.pcl_plan.proofs.RowsFrom.{length_rows}
+use Rattle.pcl_writer.specs.Steps.{width_of, IsWritable, AppendsParameter}
+use Rattle.pcl_writer.proofs.body.append_parameter.Goals as goal
+
+pub append_row-requires-clause-row : goal.append_row-requires-clause-row
+append_row-requires-clause-row c =
+    let picture = c.args.bitmap.now in
+    let w = subst (IsWritable picture c.args.row c.args.method) c.in-Row.is c.requires in
+    omega (arith, w.0, length_rows (page_height picture.size picture.dpi) (width_of picture) picture.bytes)
+
+setting_is : (old new tail : List ℕ) (number same : ℕ) → new ≡ old ++ (least_spelling number ++ tail) → number ≡ same → new ≡ old ++ (least_spelling same ++ tail)
+setting_is old new tail number same e n = e ∙ ap (λ (m : ℕ). old ++ (least_spelling m ++ tail)) n
+
+pub returns-in-Skip-clause-ok : goal.returns-in-Skip-clause-ok
+returns-in-Skip-clause-ok c =
+    let old = c.args.out.now.items in
+    let new = c.append_setting.new.out.items in
+    let count = c.in-Skip.count in
+    on_ok_weaker c.append_setting.result
+    (λ e. subst (λ (s : Step). AppendsParameter c.args.bitmap.now c.args.row c.args.method s c.args.ends old new) (sym c.in-Skip.is)
+    (skip (least_spelling count) count c.args.ends, (refl, refl, refl), tt, setting_is old new (letter 89 c.args.ends) c.from.result count e c.from.ensures))
+    c.append_setting.ensures.ok
+
+pub returns-in-Switch-clause-ok : goal.returns-in-Switch-clause-ok
+returns-in-Switch-clause-ok c =
+    let old = c.args.out.now.items in
+    let new = c.append_setting-in-Switch.new.out.items in
+    let next = c.in-Switch.next in
+    on_ok_weaker c.append_setting-in-Switch.result
+    (λ e. subst (λ (s : Step). AppendsParameter c.args.bitmap.now c.args.row c.args.method s c.args.ends old new) (sym c.in-Switch.is)
+    (method (least_spelling (method_code next)) next c.args.ends, (refl, refl, refl), tt, setting_is old new (letter 77 c.args.ends) c.code.result (method_code next) e c.code.ensures))
+    c.append_setting-in-Switch.ensures.ok
+
+pub returns-in-Row-clause-ok : goal.returns-in-Row-clause-ok
+returns-in-Row-clause-ok c =
+    let old = c.args.out.now.items in
+    let new = c.append_row.new.out.items in
+    let bytes = c.in-Row.bytes in
+    on_ok_weaker c.append_row.result
+    (λ a. subst (λ (s : Step). AppendsParameter c.args.bitmap.now c.args.row c.args.method s c.args.ends old new) (sym c.in-Row.is)
+    (send (least_spelling bytes) a.0, (a.2, refl), a.1, a.3))
+    c.append_row.ensures.ok
