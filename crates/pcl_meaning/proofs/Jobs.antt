@@ -174,7 +174,7 @@ sheet_alike dpi sheet page inked shows black = record {
 at_resolution : (page : Page) (text : List ℕ) (dpi : Dpi) → page.dpi ≡ dpi → IsWrittenPage page text
     → (printed : IsPageText dpi page.size page.copies (bitmap_rows page.bitmap) text) × (command_count printed.tokens ≤ 3 * page_height page.size dpi)
 at_resolution page text dpi e w =
-    subst (λ (r : Dpi). (printed : IsPageText r page.size page.copies (bitmap_rows page.bitmap) text) × (command_count printed.tokens ≤ 3 * page_height page.size r)) e w
+    subst (λ (r : Dpi). (printed : IsPageText r page.size page.copies (bitmap_rows page.bitmap) text) × (command_count printed.tokens ≤ 3 * page_height page.size r)) e (w.0, w.1)
 
 pub texts_taken : (dpi : Dpi) (meant : List Sheet) (texts : List ℕ) (t : Settings) (pages : List Sheet) (n : ℕ)
     → PrintSheets dpi meant texts → IsBetween t → length pages + length meant ≤ 256 → AreTextsTaken dpi meant texts (between t pages n) pages

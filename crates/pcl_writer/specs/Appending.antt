@@ -6,11 +6,13 @@ use Rattle.pcl_plan.specs.Tokens.{command_count}
 use Rattle.pcl_plan.specs.PageText.{PrintsPage, bitmap_rows}
 use Rattle.pcl_plan.specs.LeastTexts.{IsLeastText}
 
--- the text is one that a page is written as: it prints the page, in at most three commands a row beside those of its begin and its end
+-- The text is one that a page is written as: it prints the page, in at most three commands a row beside those of its
+-- begin and its end, and no text that prints the page is shorter.
 abbrev pub IsWrittenPage : Page → List ℕ → Type 0
-IsWrittenPage page text = (printed : PrintsPage page text) × (command_count printed.tokens ≤ 3 * page_height page.size page.dpi)
+IsWrittenPage page text =
+    (printed : PrintsPage page text) × (command_count printed.tokens ≤ 3 * page_height page.size page.dpi)
+    × IsLeastText page.dpi page.size page.copies (bitmap_rows page.bitmap) (length text)
 
--- a page text is appended that is written for a page, and no text that prints the page is shorter
+-- a page text is appended that is written for a page
 abbrev pub AppendsPage : Page → List ℕ → List ℕ → Type 0
-AppendsPage page old new =
-    (text : List ℕ) × (new ≡ old ++ text) × IsWrittenPage page text × IsLeastText page.dpi page.size page.copies (bitmap_rows page.bitmap) (length text)
+AppendsPage page old new = (text : List ℕ) × (new ≡ old ++ text) × IsWrittenPage page text
