@@ -18,7 +18,15 @@ struct Comparison<'a> {
     is_same: bool,
 }
 
-impl Comparison<'_> {
+impl<'a> Comparison<'a> {
+    fn new(case: &'a Case) -> Self {
+        Comparison {
+            case,
+            count: 0,
+            is_same: true,
+        }
+    }
+
     /// Whether all pages came that are expected, and no other.
     fn holds(&self) -> bool {
         self.is_same && self.count == self.case.page_count()
@@ -46,11 +54,7 @@ pub fn fault_of(alloc: Global, case: &Case) -> Result<Option<String>, AllocError
         Err(NotationFault::Memory(error)) => return Err(error),
         Err(fault) => return Ok(Some(format!(in alloc; "  {fault}")?)),
     };
-    let mut comparison = Comparison {
-        case,
-        count: 0,
-        is_same: true,
-    };
+    let mut comparison = Comparison::new(case);
     match perform(alloc, &job, case.dpi, &mut comparison) {
         Err(JobFault::Refused(refusal)) => refusal_fault(alloc, case, &job, refusal),
         Err(JobFault::Memory) => Err(AllocError),
@@ -95,11 +99,7 @@ fn written_fault(alloc: Global, case: &Case, job: &[u8]) -> Result<Option<String
         Err(Fault::Memory) => return Err(AllocError),
         Err(_) => return Ok(Some(String::from_str(alloc, "  not written")?)),
     };
-    let mut comparison = Comparison {
-        case,
-        count: 0,
-        is_same: true,
-    };
+    let mut comparison = Comparison::new(case);
     let read = perform(alloc, &output.job, case.dpi, &mut comparison);
     if read.is_err() || !comparison.holds() {
         let pages = show_pages(alloc, &output.job, case.dpi)?;

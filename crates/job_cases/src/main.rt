@@ -2,10 +2,10 @@
 //! Each case is performed, and its pages are compared dot for dot, or its refusal word for word; then the job
 //! is written again, and what was written has to have the same pages.
 //!
-//! It prints how many cases hold. A case that doesn't is printed with its job and with what came instead, and
-//! the status is then 1. The tables lie in the folder that its argument names, or where it runs: the gate runs it
-//! in `data/`, and beside `src/` it is `rt run -- data`. `bench/reference.py` checks the same tables without a
-//! line of this repository's code.
+//! It prints how many cases hold; `stdout` has how many there are. A case that doesn't is printed with its job and
+//! with what came instead, and the status is then 1. The tables lie in the folder that its argument names, or
+//! where it runs: the gate runs it in `data/`, and beside `src/` it is `rt run -- data`. `bench/reference.py`
+//! checks the same tables without a line of this repository's code.
 #![tactic(auto)]
 
 mod case;
@@ -23,10 +23,11 @@ use table::{TableFault, cases_of};
 use thiserror::Error;
 
 /// The tables, each a file of `data/`.
-const TABLES: [&str; 16] = [
+const TABLES: [&str; 17] = [
     "bytes.txt",
     "sequences.txt",
     "cut.txt",
+    "samples.txt",
     "values.txt",
     "names.txt",
     "exits.txt",

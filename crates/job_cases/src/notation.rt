@@ -20,7 +20,7 @@ use thiserror::Error;
 pub const ESC: u8 = 0x1B;
 
 /// What is wrong with a notation.
-#[derive(Clone, Copy, Debug, PartialEq, Eq, Error)]
+#[derive(Clone, Copy, Debug, Error)]
 pub enum NotationFault {
     #[error("a bracket, a brace or a repetition isn't closed")]
     Unclosed,
@@ -45,7 +45,7 @@ impl<T: Drop> From<AllocFailed<T>> for NotationFault {
 }
 
 /// What is repeated, which says what ends it.
-#[derive(Clone, Copy, Debug, PartialEq, Eq)]
+#[derive(Clone, Copy, PartialEq, Eq)]
 enum Repeated {
     /// A byte in brackets.
     Byte,
@@ -56,7 +56,7 @@ enum Repeated {
 }
 
 /// A repetition that isn't closed yet.
-#[derive(Clone, Copy, Debug)]
+#[derive(Clone, Copy)]
 struct Repetition {
     /// How often.
     times: usize,

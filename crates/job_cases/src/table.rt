@@ -31,7 +31,7 @@ use thiserror::Error;
 const ROW_BYTES: usize = 600;
 
 /// What is wrong with a line of a table.
-#[derive(Clone, Copy, Debug, PartialEq, Eq, Error)]
+#[derive(Clone, Copy, Debug, Error)]
 pub enum TableFault {
     #[error("no case has begun")]
     NoCase,
