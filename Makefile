@@ -4,7 +4,7 @@
 PREFIX ?= /usr/local
 PROGRAM := crates/pclmin/out/pclmin
 
-.PHONY: build test examples bench install clean
+.PHONY: build test test-memory examples bench install clean
 
 # Proves and builds the program, and previews the sample job into build/sample.pbm.
 build:
@@ -16,6 +16,26 @@ build:
 # The merge gate: proves every crate from nothing, tries each wrong edit, runs each test and each program.
 test:
 	rt ci
+
+# The most allocations of a test of want of memory; it has to be above what any of them makes.
+ALLOCATIONS := 100
+
+# Makes the first allocation of each test of want of memory fail, then the second, and so on, until a run in which
+# memory ran out nowhere. In each run each of these tests has to pass; the first fails in all of them. It takes some
+# minutes.
+test-memory:
+	@mkdir -p build
+	@tests=$$(grep -c '^#\[test\]' crates/worked_examples/src/tests/memory.rt); \
+	for allocation in $$(seq $(ALLOCATIONS)); do \
+		(cd crates/worked_examples && rt try --test --fail-alloc $$allocation) > build/memory.log 2>&1 || true; \
+		passed=$$(grep -c '^test tests::memory::.* ok$$' build/memory.log); \
+		failures=$$(grep -c 'memory ran out$$' build/memory.log); \
+		echo "allocation $$allocation fails: memory ran out in $$failures of $$tests tests, $$passed passed"; \
+		if [ "$$passed" -ne "$$tests" ]; then exit 1; fi; \
+		if [ "$$allocation" -eq 1 ] && [ "$$failures" -ne "$$tests" ]; then exit 1; fi; \
+		if [ "$$failures" -eq 0 ]; then exit 0; fi; \
+	done; \
+	echo "memory still ran out"; exit 1
 
 # Makes the jobs of examples/ and the picture of the README anew. Needs Python 3, and pbmtolj of netpbm.
 examples:

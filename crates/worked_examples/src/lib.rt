@@ -1,5 +1,5 @@
-//! Worked examples of the whole filter: jobs and what they mean, with values worked out by hand from
-//! docs/LANGUAGE.md. There is nothing here but tests.
+//! Tests that cross the crates and that no table of jobs can hold: laws, devices that fail, want of memory. Jobs
+//! and what becomes of them are the tables of `job_cases`. There is nothing here but tests.
 #![tactic(auto)]
 
 #[cfg(test)]

@@ -1,10 +1,26 @@
 //! Each public call of `pcl_page` that the other examples don't make.
 
-use super::Count;
 use pcl_base::{Dpi, JobFault, Kind, Name, Refusal, Value};
 use pcl_escape::{Command, read_job};
-use pcl_page::{one_meaning, run};
+use pcl_page::{Page, PageSink, one_meaning, run};
+use std::alloc::AllocError;
 use std::test::Fail;
+
+/// Counts the pages that come, and keeps none.
+#[derive(Drop)]
+struct Count {
+    /// How many came so far.
+    pages: usize,
+}
+
+impl PageSink for Count {
+    ghost takes = { λ old page new. Unit {0} };
+
+    fn page(&mut self, _page: &Page) -> Result<(), AllocError> {
+        self.pages = self.pages.saturating_add(1);
+        Ok(())
+    }
+}
 
 // The law does nothing.
 #[test]

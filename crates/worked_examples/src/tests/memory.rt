@@ -1,13 +1,20 @@
-//! Want of memory: under `rt try --test --fail-alloc 1..` each allocation of these calls fails in turn.
+//! Want of memory: under `make test-memory` each allocation of these calls fails in turn, one a run. A call
+//! that it made fail answers want of memory and writes nothing, and made once more it succeeds: so a call that
+//! answers want of memory where there is none fails its test, also in a run in which nothing fails.
 
 use pcl_base::{Dpi, JobFault, Kind, Name, Refusal};
 use pcl_page::read_pages;
-use pcl_tool::{Fault, filter, preview, read_all};
+use pcl_tool::{Fault, filter, minimize, preview, read_all};
+use std::alloc::Global;
 use std::io;
 use std::io::Write;
+use std::process::Abort;
 
-/// A page with the dot (0, 0).
+/// A page with the dot (0, 0), written again in 48 bytes.
 const JOB: &[u8] = b"\x1bE\x1b&l0E\x1b*p0x0Y\x1b*t300R\x1b*r0A\x1b*b1W\x80\x1b*rC\x0c";
+
+/// A Letter page with a dot, and a blank page of A4, written again in 87 bytes.
+const TWO_SIZES: &[u8] = b"\x1b&l0E\x1b*p0x0Y\x1b*c1a1b0P\x1b&l26A\x0c";
 
 /// Counts the bytes that it takes, and needs no memory.
 #[derive(Drop)]
@@ -24,69 +31,116 @@ impl Write for Counted {
     }
 }
 
+/// Says that memory ran out. `make test-memory` ends with the first run in which no test says so.
+fn say_that_memory_ran_out(rt: &impl Print) {
+    let _ = rt.println("memory ran out");
+}
+
+/// Asserts what a preview of page `page` answers, and that it then has written so many bytes.
+fn assert_preview(
+    rt: &(impl Abort + Print),
+    alloc: Global,
+    job: &[u8],
+    page: usize,
+    expected: Result<(), Fault>,
+    len: usize,
+) {
+    let mut out = Counted(0);
+    let mut result = preview(alloc, job, page, Dpi::Dpi300, &mut out);
+    if result == Err(Fault::Memory) {
+        say_that_memory_ran_out(rt);
+        assert_eq!(rt; out.0, 0);
+        result = preview(alloc, job, page, Dpi::Dpi300, &mut out);
+    }
+    assert_eq!(rt; result, expected);
+    assert_eq!(rt; out.0, len);
+}
+
+/// Asserts how many pages a job has.
+fn assert_page_count(rt: &(impl Abort + Print), alloc: Global, job: &[u8], count: usize) {
+    let mut result = read_pages(alloc, job, Dpi::Dpi300).map(|pages| pages.len());
+    if result == Err(JobFault::Memory) {
+        say_that_memory_ran_out(rt);
+        result = read_pages(alloc, job, Dpi::Dpi300).map(|pages| pages.len());
+    }
+    assert_eq!(rt; result, Ok(count));
+}
+
+/// Asserts how many bytes a job has where it is written again.
+fn assert_written(rt: &(impl Abort + Print), alloc: Global, job: &[u8], len: usize) {
+    let mut result = minimize(alloc, job, Dpi::Dpi300).map(|output| output.job.len());
+    if result == Err(Fault::Memory) {
+        say_that_memory_ran_out(rt);
+        result = minimize(alloc, job, Dpi::Dpi300).map(|output| output.job.len());
+    }
+    assert_eq!(rt; result, Ok(len));
+}
+
 // The whole image is written, or nothing where memory runs out.
 #[test]
 fn for_a_preview(rt: HostRuntime) {
-    let mut out = Counted(0);
-    match preview(rt.alloc(), JOB, 1, Dpi::Dpi300, &mut out) {
-        Ok(()) => assert_eq!(rt; out.0, 990_013),
-        Err(fault) => {
-            assert_eq!(rt; fault, Fault::Memory);
-            assert_eq!(rt; out.0, 0);
-        }
-    }
+    assert_preview(&rt, rt.alloc(), JOB, 1, Ok(()), 990_013);
 }
 
-// A refused job stays refused, and a missing page missing, unless memory runs out.
+// A missing page stays missing.
 #[test]
-fn for_a_fault(rt: HostRuntime) {
+fn for_a_missing_page(rt: HostRuntime) {
+    assert_preview(&rt, rt.alloc(), JOB, 2, Err(Fault::NoSuchPage), 0);
+}
+
+// A refused job stays refused.
+#[test]
+fn for_a_refusal(rt: HostRuntime) {
     let refusal = Refusal {
         kind: Kind::UnsupportedValue,
         at: 1,
         name: Name::Three(b'*', b'r', b'A'),
     };
-    let cases: [(&[u8], Fault); 2] = [
-        (b"\x0c\x1b*r2A", Fault::Refused(refusal)),
-        (JOB, Fault::NoSuchPage),
-    ];
-    for (job, expected) in cases {
-        let mut out = Counted(0);
-        match preview(rt.alloc(), job, 2, Dpi::Dpi300, &mut out) {
-            Ok(()) => assert!(rt; false, "there is no such page"),
-            Err(fault) => assert!(rt; fault == expected || fault == Fault::Memory),
-        }
-        assert_eq!(rt; out.0, 0);
-    }
+    let expected = Err(Fault::Refused(refusal));
+    assert_preview(&rt, rt.alloc(), b"\x0c\x1b*r2A", 1, expected, 0);
 }
 
-// Pages that are kept.
 #[test]
 fn for_pages(rt: HostRuntime) {
-    match read_pages(rt.alloc(), JOB, Dpi::Dpi300) {
-        Ok(pages) => assert_eq!(rt; pages.len(), 1),
-        Err(fault) => assert_eq!(rt; fault, JobFault::Memory),
-    }
+    assert_page_count(&rt, rt.alloc(), JOB, 1);
+}
+
+#[test]
+fn for_pages_of_two_sizes(rt: HostRuntime) {
+    assert_page_count(&rt, rt.alloc(), TWO_SIZES, 2);
+}
+
+#[test]
+fn for_a_written_job(rt: HostRuntime) {
+    assert_written(&rt, rt.alloc(), JOB, 48);
+}
+
+#[test]
+fn for_a_written_job_of_two_sizes(rt: HostRuntime) {
+    assert_written(&rt, rt.alloc(), TWO_SIZES, 87);
 }
 
 // An input that is read.
 #[test]
 fn for_an_input(rt: HostRuntime) {
-    let mut reader = JOB;
-    match read_all(rt.alloc(), &mut reader, 100) {
-        Ok(bytes) => assert!(rt; bytes.as_slice() == JOB),
-        Err(fault) => assert_eq!(rt; fault, Fault::Memory),
+    let mut result = read_all(rt.alloc(), &mut &*JOB, 100).map(|bytes| bytes.as_slice() == JOB);
+    if result == Err(Fault::Memory) {
+        say_that_memory_ran_out(&rt);
+        result = read_all(rt.alloc(), &mut &*JOB, 100).map(|bytes| bytes.as_slice() == JOB);
     }
+    assert_eq!(rt; result, Ok(true));
 }
 
-// The whole job is written again, or nothing where memory runs out.
+// The whole job is written again to a writer, or nothing where memory runs out.
 #[test]
-fn for_a_job_written_again(rt: HostRuntime) {
+fn for_a_filter(rt: HostRuntime) {
     let mut out = Counted(0);
-    match filter(rt.alloc(), &mut &*JOB, Dpi::Dpi300, &mut out) {
-        Ok(()) => assert_eq!(rt; out.0, 48),
-        Err(fault) => {
-            assert_eq!(rt; fault, Fault::Memory);
-            assert_eq!(rt; out.0, 0);
-        }
+    let mut result = filter(rt.alloc(), &mut &*JOB, Dpi::Dpi300, &mut out);
+    if result == Err(Fault::Memory) {
+        say_that_memory_ran_out(&rt);
+        assert_eq!(rt; out.0, 0);
+        result = filter(rt.alloc(), &mut &*JOB, Dpi::Dpi300, &mut out);
     }
+    assert_eq!(rt; result, Ok(()));
+    assert_eq!(rt; out.0, 48);
 }
