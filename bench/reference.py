@@ -7,13 +7,15 @@
 
 The tables are those of crates/job_cases/data; src/notation.rt and src/table.rt there tell how they are
 written. What a job means is worked out here from docs/LANGUAGE.md, rule by rule, plain and slow, and shares no
-line with the product. A case that fails is printed with what this program has in place of what is expected,
+line with the product; the bodies that are written are those of least.py. A case that fails is printed with what this program has in place of what is expected,
 and the status is then 1.
 """
 
 import functools
 import re
 import sys
+
+from least import least_body
 
 ESC = 0x1B
 
@@ -693,6 +695,55 @@ def page_text(case, page, body):
     return bytes_of(head) + body + bytes_of("ESC*rC [0C]")
 
 
+@functools.cache
+def least_of(rows, count, width):
+    return least_body(dict(rows), count, width)
+
+
+def body_of(page, dpi):
+    """The least body of a page, by least.py."""
+    _, width, height = SIZES[page.size]
+    scale = dpi // 300
+    rows = tuple((y, bytes(int("{:08b}".format(byte)[::-1], 2) for byte in row.to_bytes((row.bit_length() + 7) // 8, "little")))
+                 for y, row in sorted(page.rows.items()))
+    return least_of(rows, height * scale, (width * scale + 7) // 8)
+
+
+def notation_of(body):
+    """A body as a table has it: sequences that follow each other and are equal are one."""
+    sequences, at = [], 0
+    while at < len(body):
+        text, at = "ESC*b", at + 3
+        while True:
+            number = re.compile(rb"[0-9]*").match(body, at)
+            letter = chr(body[number.end()])
+            text, at = text + number.group().decode() + letter, number.end() + 1
+            if letter.isupper():
+                break
+        if letter == "W" and number.group():
+            data, at = body[at:at + int(number.group())], at + int(number.group())
+            groups = [(found.group()[0], len(found.group())) for found in re.finditer(rb"(?s)(.)\1*", data)]
+            text += " [%s]" % " ".join(bytes_said(byte, count) for byte, count in groups)
+        sequences.append(text)
+    return " ".join(" ".join([text] * count) if count < 3 else "%d*<%s>" % (count, text) for text, count in counted(sequences))
+
+
+def bytes_said(byte, count):
+    """Bytes of one value; two of them are written out."""
+    return " ".join(["%02X" % byte] * count) if count < 3 else "%d*%02X" % (count, byte)
+
+
+def counted(items):
+    """Items that follow each other and are equal, with how many they are."""
+    groups = []
+    for item in items:
+        if groups and groups[-1][0] == item:
+            groups[-1][1] += 1
+        else:
+            groups.append([item, 1])
+    return groups
+
+
 def written_fault(case, pages):
     """What is wrong with the bodies and the length that a case wants to be written."""
     if not case.bodies:
@@ -703,6 +754,9 @@ def written_fault(case, pages):
     written = bytes_of("ESC E") + b"".join(texts) + bytes_of("ESC E")
     if case.length not in (None, len(written)):
         return "the written job has %d bytes" % len(written)
+    least = [body_of(page, case.dpi) for page in pages]
+    if case.bodies != least:
+        return "\n".join("written " + notation_of(body) for body in least)
     if pages_of(written, case.dpi) != pages:
         return "the written job has other pages"
     return None
