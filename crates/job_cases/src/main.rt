@@ -23,7 +23,7 @@ use table::{TableFault, cases_of};
 use thiserror::Error;
 
 /// The tables, each a file of `data/`.
-const TABLES: [&str; 17] = [
+const TABLES: [&str; 18] = [
     "bytes.txt",
     "sequences.txt",
     "cut.txt",
@@ -41,6 +41,7 @@ const TABLES: [&str; 17] = [
     "rectangles.txt",
     "mixtures.txt",
     "written.txt",
+    "least.txt",
 ];
 
 /// Why the program ends with a status other than 0.
