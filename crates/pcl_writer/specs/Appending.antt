@@ -13,4 +13,5 @@ IsWrittenPage page text = (printed : PrintsPage page text) × (command_count pri
 -- a page text is appended that is written for a page, and no text that prints the page is shorter
 abbrev pub AppendsPage : Page → List ℕ → List ℕ → Type 0
 AppendsPage page old new =
-    (text : List ℕ) × (new ≡ old ++ text) × IsWrittenPage page text × IsLeastText page.dpi page.size page.copies (bitmap_rows page.bitmap) (length text)
+    (text : List ℕ) × (new ≡ old ++ text) × IsWrittenPage page text
+    × IsLeastText page.dpi page.size page.copies (bitmap_rows page.bitmap) (length text)
