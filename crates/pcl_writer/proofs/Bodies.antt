@@ -86,7 +86,7 @@ leads_too picture place behind (Skip count) ends token written b before t w d p 
     record {
       within = omega (arith, p.row_is, led.3);
       there = led.5 ∙ sym (node_is behind.row (place.row + count) behind.method place.method behind.inside (not ends) p.row_is p.method_is
-      p.inside_is);
+          p.inside_is);
       leads = subst (λ (x : Token). Leads (width_of picture) (bitmap_rows picture) from x b) same l;
       costs = ap cost (sym same);
     }
@@ -112,23 +112,31 @@ leads_too picture place behind (Row count) ends token written b before t w d p l
     record {
       within = omega (arith, p.row_is, led.2);
       there = led.4 ∙ sym (node_is behind.row (place.row + 1) behind.method place.method behind.inside false p.row_is p.method_is
-      p.inside_is);
+          p.inside_is);
       leads = subst (λ (x : Token). Leads (width_of picture) (bitmap_rows picture) from x b) (sym other.1)
-      (refl, spelled, led.2, whole, led.4);
-      costs = omega (arith, ap cost one.1, ap cost other.1, cost_send (least_spelling count) one.0, cost_send (least_spelling count)
-      other.0, one.2, other.2);
+          (refl, spelled, led.2, whole, led.4);
+      costs = omega (
+        arith,
+        ap cost one.1,
+        ap cost other.1,
+        cost_send (least_spelling count) one.0,
+        cost_send (least_spelling count)
+            other.0,
+        one.2,
+        other.2,
+      );
     }
 
 -- ---- a walk from inside a sequence
 
 pub record IsOpened (picture : Picture) (number : Node → ℕ) (row : ℕ) (current : Method) (is_open : Bool) (tokens : List Token) : Type 0
-    where
-  pub walk : Walk (Leads (width_of picture) (bitmap_rows picture)) (Ends (bitmap_rows picture)) (node row current true) tokens
-  pub total_is : total cost tokens ≡ number (node row current true)
-  pub back : (other : List Token) → Walk (Leads (width_of picture) (bitmap_rows picture)) (Ends (bitmap_rows picture))
-  (node row current true) other → total cost other ≡ number (node row current true)
-      → Walk (Leads (width_of picture) (bitmap_rows picture)) (Ends (bitmap_rows picture)) (node row current is_open)
-      (opened is_open other) × (total cost (opened is_open other) ≡ number (node row current is_open))
+  where
+    pub walk : Walk (Leads (width_of picture) (bitmap_rows picture)) (Ends (bitmap_rows picture)) (node row current true) tokens
+    pub total_is : total cost tokens ≡ number (node row current true)
+    pub back : (other : List Token) → Walk (Leads (width_of picture) (bitmap_rows picture)) (Ends (bitmap_rows picture))
+        (node row current true) other → total cost other ≡ number (node row current true)
+        → Walk (Leads (width_of picture) (bitmap_rows picture)) (Ends (bitmap_rows picture)) (node row current is_open)
+        (opened is_open other) × (total cost (opened is_open other) ≡ number (node row current is_open))
 
 opened_is : (picture : Picture) (number : Node → ℕ) → IsFeasible (Leads (width_of picture) (bitmap_rows picture))
     (Ends (bitmap_rows picture)) cost number → (row : ℕ) (current : Method) (is_open : Bool) (tokens : List Token)
@@ -157,7 +165,7 @@ pub record IsWrittenTo (picture : Picture) (table : StepsAndTable) (old now : Li
   pub walk : Walk (Leads (width_of picture) (bitmap_rows picture)) (Ends (bitmap_rows picture)) (node_of place) left
   pub total_is : total cost left ≡ node_number table.table (node_of place)
   pub goes_on : (rest : List Token) → Walk (Leads (width_of picture) (bitmap_rows picture)) (Ends (bitmap_rows picture)) (node_of place)
-  rest → total cost rest ≡ node_number table.table (node_of place)
+      rest → total cost rest ≡ node_number table.table (node_of place)
       → Walk (Leads (width_of picture) (bitmap_rows picture)) (Ends (bitmap_rows picture)) start (done ++ rest)
       × (total cost (done ++ rest) ≡ node_number table.table start)
 
@@ -170,10 +178,13 @@ begin picture plan old place is closed at = record {
   left = is.tokens;
   spells = subst (λ (i : Bool). Spells i plan.steps is.tokens) (sym closed) is.spelled;
   walk = subst (λ (n : Node). Walk (Leads (width_of picture) (bitmap_rows picture)) (Ends (bitmap_rows picture)) n is.tokens) (sym at)
-  is.walk;
+      is.walk;
   total_is = is.total_is ∙ ap (node_number plan.table) (sym at);
-  goes_on = λ rest w t. (subst (λ (n : Node). Walk (Leads (width_of picture) (bitmap_rows picture)) (Ends (bitmap_rows picture)) n rest)
-  at w, t ∙ ap (node_number plan.table) at);
+  goes_on = λ rest w t. (
+    subst (λ (n : Node). Walk (Leads (width_of picture) (bitmap_rows picture)) (Ends (bitmap_rows picture)) n rest)
+        at w,
+    t ∙ ap (node_number plan.table) at,
+  );
 }
 
 -- the token that comes next
@@ -243,13 +254,13 @@ written_more picture plan old now new step more place behind is w a p =
       within = too.within;
       done = w.done ++ token;
       spelled = a.3 ∙ ap (λ (t : List ℕ). t ++ flat_map token_bytes token) w.spelled ∙ append_assoc old (flat_map token_bytes w.done)
-      (flat_map token_bytes token)
+          (flat_map token_bytes token)
           ∙ ap (λ (t : List ℕ). old ++ t) (sym (flat_map-append token_bytes w.done token));
       left = n.rest;
       spells = spells_any (stays_inside step) behind.inside more n.rest
-      (λ others. goes_on_open step (is_last more) others ∙ sym p.inside_is) n.spells;
+          (λ others. goes_on_open step (is_last more) others ∙ sym p.inside_is) n.spells;
       walk = subst (λ (x : Node). Walk (Leads (width_of picture) (bitmap_rows picture)) (Ends (bitmap_rows picture)) x n.rest) too.there
-      walk.2;
+          walk.2;
       total_is = s.1 ∙ ap (node_number plan.table) too.there;
       goes_on = λ rest v t.
           let v' = subst (λ (x : Node). Walk (Leads (width_of picture) (bitmap_rows picture)) (Ends (bitmap_rows picture)) x rest)
@@ -258,9 +269,11 @@ written_more picture plan old now new step more place behind is w a p =
           (arith, t, s.0, too.costs, ap (node_number plan.table) too.there)) in
           let g = w.goes_on (opened place.inside (a.0 ∷ rest)) b.0 b.1 in
           let same : w.done ++ opened place.inside (a.0 ∷ rest) ≡ (w.done ++ token) ++ rest =
-          ap (λ (ts : List Token). w.done ++ ts) (opened_more place.inside a.0 rest) ∙ sym (append_assoc w.done token rest) in
-          (subst (Walk (Leads (width_of picture) (bitmap_rows picture)) (Ends (bitmap_rows picture)) start) same g.0, ap (total cost)
-          (sym same) ∙ g.1);
+          ap (λ (ts : List Token). w.done ++ ts) (opened_more place.inside a.0 rest) ∙ sym (append_assoc w.done token rest) in (
+            subst (Walk (Leads (width_of picture) (bitmap_rows picture)) (Ends (bitmap_rows picture)) start) same g.0,
+            ap (total cost)
+                (sym same) ∙ g.1,
+          );
     }
 
 pub written_all : (picture : Picture) (plan : StepsAndTable) (old now : List ℕ) (place : Place)
@@ -322,7 +335,7 @@ appended_row picture y current count old one mid new seed row r s least a b appe
       is.whole,
       one_least current (above picture y) (row_at (bitmap_rows picture) y) (length is.bytes) count is.least least,
       is.joined ∙ ap (λ (t : List ℕ). t ++ is.bytes) (b ∙ ap (λ (t : List ℕ). t ++ 87 ∷ []) a) ∙ row_joined old (least_spelling count)
-      is.bytes,
+          is.bytes,
     )
 
 -- heights of pages
