@@ -19,7 +19,8 @@ regrouped : (a b c : ℕ) → c ≡ 10 * b → a * 10 * b ≡ a * c
 regrouped a b c e = (let same : a * 10 * b ≡ a * (10 * b) = grind arith in same) ∙ ap (λ (x : ℕ). a * x) (sym e)
 
 -- digits spell a number below the power of ten of their count
-number_below : (digits : List ℕ) (n : ℕ) → AreDigits digits → fold (λ (m : ℕ) (d : ℕ). m * 10 + (d - 48)) n digits < (n + 1) * 10 ^ length digits
+number_below : (digits : List ℕ) (n : ℕ) → AreDigits digits → fold (λ (m : ℕ) (d : ℕ). m * 10 + (d - 48)) n digits < (n + 1) * 10 ^ length
+    digits
 number_below [] n are = omega arith
 number_below (d ∷ digits) n are =
     let next : ℕ = n * 10 + (d - 48) in
@@ -28,7 +29,8 @@ number_below (d ∷ digits) n are =
     let room : next + 1 ≤ (n + 1) * 10 = omega arith in
     let power : 10 ^ suc (length digits) ≡ 10 * 10 ^ length digits = pow-succ' 10 (length digits) in
     let more : (next + 1) * 10 ^ length digits ≤ (n + 1) * 10 * 10 ^ length digits = mul-le-mul_right (10 ^ length digits) room in
-    let same : (n + 1) * 10 * 10 ^ length digits ≡ (n + 1) * 10 ^ suc (length digits) = regrouped (n + 1) (10 ^ length digits) (10 ^ suc (length digits)) power in
+    let same : (n + 1) * 10 * 10 ^ length digits ≡ (n + 1) * 10 ^ suc (length digits) = regrouped (n + 1) (10 ^ length digits)
+    (10 ^ suc (length digits)) power in
     omega (arith, below, more, same)
 
 -- a number is below the power of ten of its digits
@@ -38,7 +40,8 @@ decimal_above n lt =
     (λ m small. omega arith)
     (λ m digits large below.
     let size : length (digits ++ (48 + m % 10) ∷ []) ≡ suc (length digits) = omega (arith, length-append digits ((48 + m % 10) ∷ [])) in
-    let power : 10 ^ length (digits ++ (48 + m % 10) ∷ []) ≡ 10 * 10 ^ length digits = ap (λ (k : ℕ). 10 ^ k) size ∙ pow-succ' 10 (length digits) in
+    let power : 10 ^ length (digits ++ (48 + m % 10) ∷ []) ≡ 10 * 10 ^ length digits = ap (λ (k : ℕ). 10 ^ k) size ∙ pow-succ' 10
+    (length digits) in
     omega (arith, power))
     n lt
 

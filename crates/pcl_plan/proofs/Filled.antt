@@ -23,7 +23,8 @@ white_front (suc run) (suc count) [] w le = tt
 white_front (suc run) (suc count) (row ∷ rows) w le = (w.0, white_front run count rows w.1 (omega arith))
 
 -- a row among white ones
-pub white_below : (rows : List (List ℕ)) (row run place : ℕ) → AreWhite (take run (drop row rows)) → place < run → row + run ≤ length rows → IsWhite (row_at rows (row + place))
+pub white_below : (rows : List (List ℕ)) (row run place : ℕ) → AreWhite (take run (drop row rows)) → place < run → row + run ≤ length rows
+    → IsWhite (row_at rows (row + place))
 white_below rows row run place white lt within =
     subst IsWhite (get_or-drop row rows place []) (white_at run (drop row rows) place white lt (omega (arith, length-drop row rows)))
 
@@ -36,7 +37,8 @@ skippable_within rows row run count is can =
     ]
 
 -- the run of a row that is white, and of one that isn't
-pub run_more : (rows : List (List ℕ)) (row run : ℕ) → row < length rows → IsWhiteRun rows (row + 1) run → IsWhite (row_at rows row) → IsWhiteRun rows row (run + 1)
+pub run_more : (rows : List (List ℕ)) (row run : ℕ) → row < length rows → IsWhiteRun rows (row + 1) run → IsWhite (row_at rows row)
+    → IsWhiteRun rows row (run + 1)
 run_more rows row run lt is white =
     let there : row + 1 + run ≡ row + (run + 1) = omega arith in
     record {
@@ -64,12 +66,14 @@ white_to_end rows row run is e = subst AreWhite (take_all run (drop row rows) (o
 -- ink behind a run
 pub ink_left : (rows : List (List ℕ)) (row run : ℕ) → IsWhiteRun rows row run → row + run < length rows → AreWhite (drop row rows) → ⊥
 ink_left rows row run is lt white =
-    let all : AreWhite (take (run + 1) (drop row rows)) = white_front (length rows) (run + 1) (drop row rows) (subst AreWhite (sym (take_all (length rows) (drop row rows) (omega (arith, length-drop row rows)))) white) (omega arith) in
+    let all : AreWhite (take (run + 1) (drop row rows)) = white_front (length rows) (run + 1) (drop row rows)
+    (subst AreWhite (sym (take_all (length rows) (drop row rows) (omega (arith, length-drop row rows)))) white) (omega arith) in
     is.longest lt (white_below rows row (run + 1) run all (omega arith) (omega arith))
 
 -- ---- what is read of a table
 
-falls_by : (width : ℕ) (rows : List (List ℕ)) (table : List RowNumbers) (row run : ℕ) → AreRightFrom width rows table (row + 1) → IsWhiteRun rows row run → (method : Method) (near gap : ℕ) → 0 < near → near + gap ≤ run
+falls_by : (width : ℕ) (rows : List (List ℕ)) (table : List RowNumbers) (row run : ℕ) → AreRightFrom width rows table (row + 1)
+    → IsWhiteRun rows row run → (method : Method) (near gap : ℕ) → 0 < near → near + gap ≤ run
     → rest (node_number table) (row + (near + gap)) method ≤ rest (node_number table) (row + near) method
 falls_by width rows table row run right is method near zero some within =
     let same : near + 0 ≡ near = omega arith in
@@ -82,21 +86,29 @@ falls_by width rows table row run right is method near (suc gap) some within =
     let next : place + 1 ≡ row + (near + suc gap) = omega arith in
     omega (arith, before, step, ap (λ (r : ℕ). rest (node_number table) r method) next)
 
-pub readable : (width : ℕ) (rows : List (List ℕ)) (table : List RowNumbers) (row run : ℕ) → length rows ≤ 9999 → AreRightFrom width rows table (row + 1) → IsWhiteRun rows row run → row + run < length rows → IsReadable table row run
+pub readable : (width : ℕ) (rows : List (List ℕ)) (table : List RowNumbers) (row run : ℕ) → length rows ≤ 9999
+    → AreRightFrom width rows table (row + 1) → IsWhiteRun rows row run → row + run < length rows → IsReadable table row run
 readable width rows table row run few right is ink = record {
   next = omega (arith, right.size);
   within = omega (arith, right.size);
   few = omega (arith, right.size);
   falls = λ method near far some le within.
       let gap : near + (far - near) ≡ far = omega arith in
-      omega (arith, falls_by width rows table row run right is method near (far - near) some (omega arith), ap (λ (k : ℕ). rest (node_number table) (row + k) method) gap);
+      omega (
+        arith,
+        falls_by width rows table row run right is method near (far - near) some (omega arith),
+        ap
+            (λ (k : ℕ). rest (node_number table) (row + k) method) gap,
+      );
   small = λ a below inside. omega (arith, (right.right a.row (omega arith) (omega (arith, right.size))).small a refl, few);
 }
 
 -- ---- the numbers of a row
 
-pub direct_of_start : (width : ℕ) (rows : List (List ℕ)) (number : Node → ℕ) (row : ℕ) (method : Method) (run bytes least : ℕ) → IsWhiteRun rows row run
-    → IsLeastLength method (row_above width rows row) (row_at rows row) bytes → IsLeastStart number row method run bytes least → IsDirect width rows number row method least
+pub direct_of_start : (width : ℕ) (rows : List (List ℕ)) (number : Node → ℕ) (row : ℕ) (method : Method) (run bytes least : ℕ)
+    → IsWhiteRun rows row run
+    → IsLeastLength method (row_above width rows row) (row_at rows row) bytes → IsLeastStart number row method run bytes least
+    → IsDirect width rows number row method least
 direct_of_start width rows number row method run bytes least is length_is start = record {
   bytes = bytes;
   is_length = length_is;
@@ -105,15 +117,26 @@ direct_of_start width rows number row method run bytes least is length_is start 
   attained =
       elim start.attained [
         | inl sent ↦ inl sent
-        | inr skipped ↦ inr (skipped.0, (skipped.1, omega (arith, skipped.2, is.within), white_front run skipped.0 (drop row rows) is.white skipped.2), skipped.3)
+        | inr skipped ↦ inr (
+          skipped.0,
+          (
+            skipped.1,
+            omega (arith, skipped.2, is.within),
+            white_front run skipped.0 (drop row rows)
+                is.white skipped.2,
+          ),
+          skipped.3,
+        )
       ];
 }
 
-direct_stays : (width : ℕ) (rows : List (List ℕ)) (number other : Node → ℕ) (row : ℕ) (method : Method) (least : ℕ) → ((a : Node) → row < a.row → other a ≡ number a) → IsDirect width rows number row method least
+direct_stays : (width : ℕ) (rows : List (List ℕ)) (number other : Node → ℕ) (row : ℕ) (method : Method) (least : ℕ)
+    → ((a : Node) → row < a.row → other a ≡ number a) → IsDirect width rows number row method least
     → IsDirect width rows other row method least
 direct_stays width rows number other row method least same is =
     let there : (count : ℕ) → 0 < count → skipping other row method count ≡ skipping number row method count =
-    λ count some. omega (arith, same (node (row + count) method true) (omega arith), same (node (row + count) method false) (omega arith)) in
+    λ count some. omega (arith, same (node (row + count) method true) (omega arith), same (node (row + count) method false) (omega arith))
+    in
     let next = same (node (row + 1) method false) (omega arith) in
     record {
       bytes = is.bytes;
@@ -135,12 +158,15 @@ pub record IsPut (old new : List RowNumbers) (row : ℕ) (numbers : RowNumbers) 
   pub changed : (method : Method) (is_open : Bool) → node_number new (node row method is_open) ≡ number_in numbers method is_open
   pub others : (a : Node) → (a.row ≡ row → ⊥) → node_number new a ≡ node_number old a
 
-stays_behind : (width : ℕ) (rows : List (List ℕ)) (old new : List RowNumbers) (row : ℕ) (numbers : RowNumbers) → IsPut old new row numbers → AreRightFrom width rows old (row + 1)
+stays_behind : (width : ℕ) (rows : List (List ℕ)) (old new : List RowNumbers) (row : ℕ) (numbers : RowNumbers) → IsPut old new row numbers
+    → AreRightFrom width rows old (row + 1)
     → (behind : ℕ) → row < behind → behind ≤ length rows → IsRowRight width rows (node_number new) behind
 stays_behind width rows old new row numbers put right behind lt within =
-    row_stays width rows (node_number old) (node_number new) behind (λ a le. put.others a (λ same. omega arith)) (right.right behind (omega arith) within)
+    row_stays width rows (node_number old) (node_number new) behind (λ a le. put.others a (λ same. omega arith))
+    (right.right behind (omega arith) within)
 
-right_more : (width : ℕ) (rows : List (List ℕ)) (old new : List RowNumbers) (row : ℕ) (numbers : RowNumbers) → IsPut old new row numbers → AreRightFrom width rows old (row + 1)
+right_more : (width : ℕ) (rows : List (List ℕ)) (old new : List RowNumbers) (row : ℕ) (numbers : RowNumbers) → IsPut old new row numbers
+    → AreRightFrom width rows old (row + 1)
     → IsRowRight width rows (node_number new) row → AreRightFrom width rows new row
 right_more width rows old new row numbers put right here = record {
   size = put.size ∙ right.size;
@@ -168,18 +194,23 @@ end_is Runs false = refl
 end_is Packed false = refl
 end_is Delta false = refl
 
-pub put_white : (width : ℕ) (rows : List (List ℕ)) (old new : List RowNumbers) (row : ℕ) → row < length rows → IsPut old new row end_numbers → AreRightFrom width rows old (row + 1) → AreWhite (drop row rows)
+pub put_white : (width : ℕ) (rows : List (List ℕ)) (old new : List RowNumbers) (row : ℕ) → row < length rows
+    → IsPut old new row end_numbers → AreRightFrom width rows old (row + 1) → AreWhite (drop row rows)
     → AreRightFrom width rows new row
 put_white width rows old new row lt put right white =
-    let rest_white : AreWhite (drop (row + 1) rows) = (let all : AreWhite (row_at rows row ∷ drop (row + 1) rows) = subst AreWhite (drop_more rows row [] lt) white in all.1) in
+    let rest_white : AreWhite (drop (row + 1) rows) = (let all : AreWhite (row_at rows row ∷ drop (row + 1) rows) = subst AreWhite
+    (drop_more rows row [] lt) white in all.1) in
     right_more width rows old new row end_numbers put right
     (white_row_right width rows (node_number new) row white
     (λ method. put.changed method false ∙ end_is method false)
     (λ method. put.changed method true ∙ end_is method true)
-    (λ method inside. (stays_behind width rows old new row end_numbers put right (row + 1) (omega arith) (omega arith)).ends (node (row + 1) method false) refl (refl, rest_white)))
+    (λ method inside. (stays_behind width rows old new row end_numbers put right (row + 1) (omega arith) (omega arith)).ends
+    (node (row + 1) method false) refl (refl, rest_white)))
 
-pub put_inked : (width : ℕ) (rows : List (List ℕ)) (old new : List RowNumbers) (row run : ℕ) (numbers : RowNumbers) → length rows ≤ 9999 → IsPut old new row numbers → AreRightFrom width rows old (row + 1)
-    → IsWhiteRun rows row run → row + run < length rows → AreRowNumbers width rows (node_number old) row numbers → AreRightFrom width rows new row
+pub put_inked : (width : ℕ) (rows : List (List ℕ)) (old new : List RowNumbers) (row run : ℕ) (numbers : RowNumbers) → length rows ≤ 9999
+    → IsPut old new row numbers → AreRightFrom width rows old (row + 1)
+    → IsWhiteRun rows row run → row + run < length rows → AreRowNumbers width rows (node_number old) row numbers
+    → AreRightFrom width rows new row
 put_inked width rows old new row run numbers few put right is ink are =
     right_more width rows old new row numbers put right
     (inked_row_right width rows (node_number new) row (record {
@@ -191,17 +222,20 @@ put_inked width rows old new row run numbers few put right is ink are =
       placed = put.changed;
       switched = are.switched;
       are_direct = λ method.
-          direct_stays width rows (node_number old) (node_number new) row method (are.direct method) (λ a below. put.others a (λ same. omega arith)) (are.are_direct method);
+          direct_stays width rows (node_number old) (node_number new) row method (are.direct method)
+          (λ a below. put.others a (λ same. omega arith)) (are.are_direct method);
       later = stays_behind width rows old new row numbers put right;
     }))
 
 -- behind all rows
-pub put_last : (width : ℕ) (rows : List (List ℕ)) (old new : List RowNumbers) (row : ℕ) → row ≡ length rows → length old ≡ length rows + 1 → IsPut old new row end_numbers → drop row rows ≡ [] → AreRightFrom width rows new row
+pub put_last : (width : ℕ) (rows : List (List ℕ)) (old new : List RowNumbers) (row : ℕ) → row ≡ length rows → length old ≡ length rows + 1
+    → IsPut old new row end_numbers → drop row rows ≡ [] → AreRightFrom width rows new row
 put_last width rows old new row e size put none = record {
   size = put.size ∙ size;
   right = λ behind from within.
       let same : row ≡ behind = omega arith in
       subst (IsRowRight width rows (node_number new)) same
-      (white_row_right width rows (node_number new) row (subst AreWhite (sym none) tt) (λ method. put.changed method false ∙ end_is method false) (λ method. put.changed method true ∙ end_is method true)
+      (white_row_right width rows (node_number new) row (subst AreWhite (sym none) tt)
+      (λ method. put.changed method false ∙ end_is method false) (λ method. put.changed method true ∙ end_is method true)
       (λ method inside. absurd (omega arith)));
 }

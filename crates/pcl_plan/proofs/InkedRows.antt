@@ -39,11 +39,13 @@ sending_small bytes small = omega (arith, count_le 5 bytes (omega arith) (omega 
 -- ---- tokens from the row
 
 -- a sequence is opened
-opens : (width : ℕ) (rows : List (List ℕ)) (number : Node → ℕ) (row : ℕ) (current : Method) → IsInkedRow width rows number row → outside number row current ≡ 3 + inside number row current
+opens : (width : ℕ) (rows : List (List ℕ)) (number : Node → ℕ) (row : ℕ) (current : Method) → IsInkedRow width rows number row
+    → outside number row current ≡ 3 + inside number row current
 opens width rows number row current is = omega (arith, is.placed current true, is.placed current false, is.switched.opens current)
 
 -- a switch
-switches : (width : ℕ) (rows : List (List ℕ)) (number : Node → ℕ) (row : ℕ) (current next : Method) (is_open : Bool) → IsInkedRow width rows number row
+switches : (width : ℕ) (rows : List (List ℕ)) (number : Node → ℕ) (row : ℕ) (current next : Method) (is_open : Bool)
+    → IsInkedRow width rows number row
     → inside number row current ≤ switching next + number (node row next is_open)
 switches width rows number row current next is_open is =
     let here = is.placed current true in
@@ -60,21 +62,40 @@ switches width rows number row current next is_open is =
     ]
 
 -- rows are skipped
-skips : (width : ℕ) (rows : List (List ℕ)) (number : Node → ℕ) (row : ℕ) (current : Method) (count : ℕ) (is_open : Bool) → IsInkedRow width rows number row → AreSkippable rows row count
+skips : (width : ℕ) (rows : List (List ℕ)) (number : Node → ℕ) (row : ℕ) (current : Method) (count : ℕ) (is_open : Bool)
+    → IsInkedRow width rows number row → AreSkippable rows row count
     → inside number row current ≤ digit_count count + 1 + number (node (row + count) current is_open)
 skips width rows number row current count is_open is can =
-    omega (arith, is.placed current true, is.switched.stays current, (is.are_direct current).skipped count can, rest_below number (row + count) current is_open)
+    omega (
+      arith,
+      is.placed current true,
+      is.switched.stays current,
+      (is.are_direct current).skipped count can,
+      rest_below number
+          (row + count) current is_open,
+    )
 
 -- the row is sent
-sends : (width : ℕ) (rows : List (List ℕ)) (number : Node → ℕ) (row : ℕ) (current : Method) (bytes : List ℕ) → IsInkedRow width rows number row
-    → IsRowData current (row_above width rows row) (row_at rows row) bytes → inside number row current ≤ sending (length bytes) + outside number (row + 1) current
+sends : (width : ℕ) (rows : List (List ℕ)) (number : Node → ℕ) (row : ℕ) (current : Method) (bytes : List ℕ)
+    → IsInkedRow width rows number row
+    → IsRowData current (row_above width rows row) (row_at rows row) bytes
+    → inside number row current ≤ sending (length bytes) + outside number (row + 1) current
 sends width rows number row current bytes is whole =
     let d = is.are_direct current in
     let least = d.is_length.shortest bytes whole in
-    omega (arith, is.placed current true, is.switched.stays current, d.sent, least, count_grows d.bytes (length bytes) least (omega (arith, whole.fits)))
+    omega (
+      arith,
+      is.placed current true,
+      is.switched.stays current,
+      d.sent,
+      least,
+      count_grows d.bytes (length bytes) least
+          (omega (arith, whole.fits)),
+    )
 
 steps_from : (width : ℕ) (rows : List (List ℕ)) (number : Node → ℕ) (row : ℕ) → IsInkedRow width rows number row
-    → (current : Method) (is_open : Bool) (token : Token) (b : Node) → Leads width rows (node row current is_open) token b → number (node row current is_open) ≤ cost token + number b
+    → (current : Method) (is_open : Bool) (token : Token) (b : Node) → Leads width rows (node row current is_open) token b
+    → number (node row current is_open) ≤ cost token + number b
 steps_from width rows number row is current true opening b l = let no : true ≡ false = l.0 in absurd cc
 steps_from width rows number row is current false opening b l =
     omega (arith, opens width rows number row current is, cost_opening, ap number l.1)
@@ -109,7 +130,8 @@ steps_from width rows number row is current true (send digits bytes) b l =
 -- ---- walks from the row
 
 -- a token that leads to where a walk begins
-pub walk_more : (width : ℕ) (rows : List (List ℕ)) (a b : Node) (token : Token) (n m : ℕ) → Leads width rows a token b → IsAttained (Leads width rows) (Ends rows) cost b m → n ≡ cost token + m
+pub walk_more : (width : ℕ) (rows : List (List ℕ)) (a b : Node) (token : Token) (n m : ℕ) → Leads width rows a token b
+    → IsAttained (Leads width rows) (Ends rows) cost b m → n ≡ cost token + m
     → IsAttained (Leads width rows) (Ends rows) cost a n
 walk_more width rows a b token n m l w e = (token ∷ w.0, (b, l, w.1), omega (arith, w.2, e))
 
@@ -124,9 +146,11 @@ direct_walk width rows number row current is =
       | inl sent ↦
           let whole = d.is_length.attained in
           let s = spelled_cost d.bytes (length_small current (row_above width rows row) (row_at rows row) d.bytes d.is_length) in
-          let spelled : IsSpelled (least_spelling d.bytes) (length whole.0) = subst (IsSpelled (least_spelling d.bytes)) (sym whole.2) s.0 in
+          let spelled : IsSpelled (least_spelling d.bytes) (length whole.0) = subst (IsSpelled (least_spelling d.bytes)) (sym whole.2) s.0
+          in
           let behind = (is.later (row + 1) (omega arith) (omega (arith, is.inside_page))).attained (node (row + 1) current false) refl in
-          walk_more width rows (node row current true) (node (row + 1) current false) (send (least_spelling d.bytes) whole.0) (is.direct current) (outside number (row + 1) current)
+          walk_more width rows (node row current true) (node (row + 1) current false) (send (least_spelling d.bytes) whole.0)
+          (is.direct current) (outside number (row + 1) current)
           (refl, spelled, is.inside_page, whole.1, refl) behind
           (omega (arith, sent, s.1, whole.2, cost_send (least_spelling d.bytes) whole.0))
       | inr skipped ↦
@@ -135,7 +159,8 @@ direct_walk width rows number row current is =
           let best = best_end number (row + count) current in
           let s = spelled_cost count (omega (arith, can.1, is.few)) in
           let behind = (is.later (row + count) (omega (arith, can.0)) can.1).attained (node (row + count) current (not best.0)) refl in
-          walk_more width rows (node row current true) (node (row + count) current (not best.0)) (skip (least_spelling count) count best.0) (is.direct current) (number (node (row + count) current (not best.0)))
+          walk_more width rows (node row current true) (node (row + count) current (not best.0))
+          (skip (least_spelling count) count best.0) (is.direct current) (number (node (row + count) current (not best.0)))
           (refl, s.0, can.0, can.1, can.2, refl) behind
           (omega (arith, skipped.2, s.1, best.1, cost_skip (least_spelling count) count best.0))
     ]
@@ -145,15 +170,18 @@ inside_walk : (width : ℕ) (rows : List (List ℕ)) (number : Node → ℕ) (ro
 inside_walk width rows number row current is =
     elim (is.switched.attained current) [
       | inl stays ↦
-          subst (λ (n : ℕ). IsAttained (Leads width rows) (Ends rows) cost (node row current true) n) (sym stays ∙ sym (is.placed current true)) (direct_walk width rows number row current is)
+          subst (λ (n : ℕ). IsAttained (Leads width rows) (Ends rows) cost (node row current true) n)
+          (sym stays ∙ sym (is.placed current true)) (direct_walk width rows number row current is)
       | inr next ↦
           let s = spelled_cost (method_code next.0) (omega (arith, method_small next.0)) in
-          walk_more width rows (node row current true) (node row next.0 true) (method (least_spelling (method_code next.0)) next.0 false) (inside number row current) (is.direct next.0)
+          walk_more width rows (node row current true) (node row next.0 true) (method (least_spelling (method_code next.0)) next.0 false)
+          (inside number row current) (is.direct next.0)
           (refl, s.0, refl) (direct_walk width rows number row next.0 is)
           (omega (arith, is.placed current true, next.1, s.1, cost_method (least_spelling (method_code next.0)) next.0 false))
     ]
 
-walk_from : (width : ℕ) (rows : List (List ℕ)) (number : Node → ℕ) (row : ℕ) → IsInkedRow width rows number row → (current : Method) (is_open : Bool)
+walk_from : (width : ℕ) (rows : List (List ℕ)) (number : Node → ℕ) (row : ℕ) → IsInkedRow width rows number row
+    → (current : Method) (is_open : Bool)
     → IsAttained (Leads width rows) (Ends rows) cost (node row current is_open) (number (node row current is_open))
 walk_from width rows number row is current true = inside_walk width rows number row current is
 walk_from width rows number row is current false =
@@ -166,10 +194,12 @@ walk_from width rows number row is current false =
 skippable_rest : (rows : List (List ℕ)) (row count : ℕ) → AreSkippable rows row (suc (suc count)) → AreSkippable rows (row + 1) (suc count)
 skippable_rest rows row count can =
     let first : drop row rows ≡ row_at rows row ∷ drop (row + 1) rows = drop_more rows row [] (omega (arith, can.1)) in
-    let white : AreWhite (take (suc (suc count)) (row_at rows row ∷ drop (row + 1) rows)) = subst (λ (left : List (List ℕ)). AreWhite (take (suc (suc count)) left)) first can.2 in
+    let white : AreWhite (take (suc (suc count)) (row_at rows row ∷ drop (row + 1) rows)) = subst
+    (λ (left : List (List ℕ)). AreWhite (take (suc (suc count)) left)) first can.2 in
     (omega arith, omega (arith, can.1), white.1)
 
-skip_falls : (width : ℕ) (rows : List (List ℕ)) (number : Node → ℕ) (row : ℕ) (current : Method) (count : ℕ) → IsInkedRow width rows number row → AreSkippable rows row count
+skip_falls : (width : ℕ) (rows : List (List ℕ)) (number : Node → ℕ) (row : ℕ) (current : Method) (count : ℕ)
+    → IsInkedRow width rows number row → AreSkippable rows row count
     → rest number (row + 1) current ≤ skipping number row current count
 skip_falls width rows number row current zero is can = absurd (omega (arith, can.0))
 skip_falls width rows number row current (suc zero) is can = omega arith
@@ -178,7 +208,8 @@ skip_falls width rows number row current (suc (suc count)) is can =
     let there : row + 1 + suc count ≡ row + suc (suc count) = omega arith in
     let best = best_end number (row + suc (suc count)) current in
     let s = spelled_cost (suc count) (omega (arith, can.1, is.few)) in
-    let step = (is.later (row + 1) (omega arith) (omega (arith, is.inside_page))).steps (node (row + 1) current true) (skip (least_spelling (suc count)) (suc count) best.0)
+    let step = (is.later (row + 1) (omega arith) (omega (arith, is.inside_page))).steps (node (row + 1) current true)
+    (skip (least_spelling (suc count)) (suc count) best.0)
     (node (row + 1 + suc count) current (not best.0)) refl (refl, s.0, few.0, few.1, few.2, refl) in
     omega (
       arith,
@@ -190,7 +221,8 @@ skip_falls width rows number row current (suc (suc count)) is can =
       count_grows (suc count) (suc (suc count)) (omega arith) (omega (arith, can.1, is.few)),
     )
 
-direct_falls : (width : ℕ) (rows : List (List ℕ)) (number : Node → ℕ) (row : ℕ) (current : Method) → (is : IsInkedRow width rows number row) → rest number (row + 1) current ≤ is.direct current
+direct_falls : (width : ℕ) (rows : List (List ℕ)) (number : Node → ℕ) (row : ℕ) (current : Method)
+    → (is : IsInkedRow width rows number row) → rest number (row + 1) current ≤ is.direct current
 direct_falls width rows number row current is =
     elim (is.are_direct current).attained [
       | inl sent ↦ omega (arith, sent)
@@ -202,38 +234,51 @@ switch_falls : (width : ℕ) (rows : List (List ℕ)) (number : Node → ℕ) (r
 switch_falls width rows number row current next is =
     let best = best_end number (row + 1) next in
     let s = spelled_cost (method_code next) (omega (arith, method_small next)) in
-    let step = (is.later (row + 1) (omega arith) (omega (arith, is.inside_page))).steps (node (row + 1) current true) (method (least_spelling (method_code next)) next best.0)
+    let step = (is.later (row + 1) (omega arith) (omega (arith, is.inside_page))).steps (node (row + 1) current true)
+    (method (least_spelling (method_code next)) next best.0)
     (node (row + 1) next (not best.0)) refl (refl, s.0, refl) in
     omega (arith, step, s.1, cost_method (least_spelling (method_code next)) next best.0, best.1)
 
-falls_from : (width : ℕ) (rows : List (List ℕ)) (number : Node → ℕ) (row : ℕ) (current : Method) → IsInkedRow width rows number row → rest number (row + 1) current ≤ rest number row current
+falls_from : (width : ℕ) (rows : List (List ℕ)) (number : Node → ℕ) (row : ℕ) (current : Method) → IsInkedRow width rows number row
+    → rest number (row + 1) current ≤ rest number row current
 falls_from width rows number row current is =
     let below : rest number (row + 1) current ≤ inside number row current =
     elim (is.switched.attained current) [
       | inl stays ↦ omega (arith, stays, is.placed current true, direct_falls width rows number row current is)
       | inr next ↦
-          omega (arith, next.1, is.placed current true, switch_falls width rows number row current next.0 is, direct_falls width rows number row next.0 is)
+          omega (
+            arith,
+            next.1,
+            is.placed current true,
+            switch_falls width rows number row current next.0 is,
+            direct_falls width rows
+                number row next.0 is,
+          )
     ] in
     omega (arith, below, opens width rows number row current is)
 
 -- ---- the row
 
-small_from : (width : ℕ) (rows : List (List ℕ)) (number : Node → ℕ) (row : ℕ) → IsInkedRow width rows number row → (current : Method) (is_open : Bool)
+small_from : (width : ℕ) (rows : List (List ℕ)) (number : Node → ℕ) (row : ℕ) → IsInkedRow width rows number row
+    → (current : Method) (is_open : Bool)
     → number (node row current is_open) ≤ 65544 * (length rows - row) + 1
 small_from width rows number row is current is_open =
     let d = is.are_direct current in
     let behind = (is.later (row + 1) (omega arith) (omega (arith, is.inside_page))).small (node (row + 1) current false) refl in
     let sent = sending_small d.bytes (length_small current (row_above width rows row) (row_at rows row) d.bytes d.is_length) in
-    let low : inside number row current ≤ 65544 * (length rows - row) - 2 = omega (arith, is.placed current true, is.switched.stays current, d.sent, behind, sent, is.inside_page) in
+    let low : inside number row current ≤ 65544 * (length rows - row) - 2 = omega
+    (arith, is.placed current true, is.switched.stays current, d.sent, behind, sent, is.inside_page) in
     elim is_open as (λ (o : Bool). number (node row current o) ≤ 65544 * (length rows - row) + 1) [
       | true ↦ omega (arith, low)
       | false ↦ omega (arith, low, opens width rows number row current is, is.inside_page)
     ]
 
-pub inked_row_right : (width : ℕ) (rows : List (List ℕ)) (number : Node → ℕ) (row : ℕ) → IsInkedRow width rows number row → IsRowRight width rows number row
+pub inked_row_right : (width : ℕ) (rows : List (List ℕ)) (number : Node → ℕ) (row : ℕ) → IsInkedRow width rows number row
+    → IsRowRight width rows number row
 inked_row_right width rows number row is = record {
   steps = λ a token b at l.
-      at_row (λ (n : Node). Leads width rows n token b → number n ≤ cost token + number b) row (λ current is_open. steps_from width rows number row is current is_open token b) a at l;
+      at_row (λ (n : Node). Leads width rows n token b → number n ≤ cost token + number b) row
+      (λ current is_open. steps_from width rows number row is current is_open token b) a at l;
   ends = λ a at end. absurd (is.inked (subst (λ (r : ℕ). AreWhite (drop r rows)) at end.1));
   attained = at_row (λ (n : Node). IsAttained (Leads width rows) (Ends rows) cost n (number n)) row (walk_from width rows number row is);
   falls = λ current inside_page white. falls_from width rows number row current is;

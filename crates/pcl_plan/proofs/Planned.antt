@@ -8,7 +8,8 @@ use Rattle.pcl_plan.specs.Reading.{AreLeastSteps}
 use Rattle.pcl_plan.specs.Plans.{StepsAndTable, IsPlan}
 use Rattle.pcl_plan.proofs.Reading.{feasible_table, least_table}
 
-plan_of : (width : ℕ) (rows : List (List ℕ)) (table : List RowNumbers) (steps : List Step) → AreRightFrom width rows table 0 → AreLeastSteps width rows (node_number table) steps → IsPlan width rows (record { steps = steps; table = table })
+plan_of : (width : ℕ) (rows : List (List ℕ)) (table : List RowNumbers) (steps : List Step) → AreRightFrom width rows table 0
+    → AreLeastSteps width rows (node_number table) steps → IsPlan width rows (record { steps = steps; table = table })
 plan_of width rows table steps right are = record {
   size = right.size;
   feasible = feasible_table width rows table right;
@@ -19,8 +20,10 @@ plan_of width rows table steps right are = record {
   total_is = are.total_is;
 }
 
-pub plan_is : (width : ℕ) (rows : List (List ℕ)) (table : List RowNumbers) (steps : List Step) (plan : StepsAndTable) → plan.steps ≡ steps → plan.table ≡ table → AreRightFrom width rows table 0
+pub plan_is : (width : ℕ) (rows : List (List ℕ)) (table : List RowNumbers) (steps : List Step) (plan : StepsAndTable) → plan.steps ≡ steps
+    → plan.table ≡ table → AreRightFrom width rows table 0
     → AreLeastSteps width rows (node_number table) steps → IsPlan width rows plan
 plan_is width rows table steps plan s t right are =
     subst (λ (ss : List Step). IsPlan width rows (record { steps = ss; table = plan.table })) (sym s)
-    (subst (λ (n : List RowNumbers). IsPlan width rows (record { steps = steps; table = n })) (sym t) (plan_of width rows table steps right are))
+    (subst (λ (n : List RowNumbers). IsPlan width rows (record { steps = steps; table = n })) (sym t)
+    (plan_of width rows table steps right are))

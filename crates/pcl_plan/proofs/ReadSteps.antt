@@ -27,15 +27,18 @@ use Rattle.pcl_plan.proofs.Reading.{IsRightTable, opens, ends}
 abbrev pub node_of : Place → Node
 node_of place = node place.row place.method place.inside
 
-pub node_is : (row other : ℕ) (current next : Method) (one two : Bool) → row ≡ other → current ≡ next → one ≡ two → node row current one ≡ node other next two
-node_is row other current next one two r m i = ap (λ (x : ℕ). node x current one) r ∙ ap (λ (x : Method). node other x one) m ∙ ap (λ (x : Bool). node other next x) i
+pub node_is : (row other : ℕ) (current next : Method) (one two : Bool) → row ≡ other → current ≡ next → one ≡ two → node row current one
+    ≡ node other next two
+node_is row other current next one two r m i = ap (λ (x : ℕ). node x current one) r ∙ ap (λ (x : Method). node other x one) m ∙ ap
+    (λ (x : Bool). node other next x) i
 
 not_not : (b : Bool) → b ≡ not (not b)
 not_not true = refl
 not_not false = refl
 
 -- behind a step that isn't a row, the number is the lesser one
-rest_is : (width : ℕ) (rows : List (List ℕ)) (table : List RowNumbers) (row : ℕ) (current : Method) (is_open : Bool) → IsRightTable width rows table → row ≤ length rows
+rest_is : (width : ℕ) (rows : List (List ℕ)) (table : List RowNumbers) (row : ℕ) (current : Method) (is_open : Bool)
+    → IsRightTable width rows table → row ≤ length rows
     → (is_open ≡ true → 0 < outside (node_number table) row current) → (is_open ≡ false → outside (node_number table) row current ≡ 0)
     → rest (node_number table) row current ≡ node_number table (node row current is_open)
 rest_is width rows table row current true is within some none = omega (arith, opens width rows table row current is within (some refl))
@@ -43,38 +46,56 @@ rest_is width rows table row current false is within some none = omega (arith, n
 
 -- ---- the token of a step
 
-pub record IsNext (width : ℕ) (rows : List (List ℕ)) (number : Node → ℕ) (row : ℕ) (current : Method) (step : Step) (place : Place) : Type 0 where
+pub record IsNext (width : ℕ) (rows : List (List ℕ)) (number : Node → ℕ) (row : ℕ) (current : Method) (step : Step) (place : Place) : Type
+    0 where
   pub token : Token
   pub is_of : IsTokenOf step (not place.inside) token
   pub leads : Leads width rows (node row current true) token (node_of place)
   pub number_is : inside number row current ≡ cost token + number (node_of place)
   pub within : place.row ≤ length rows
 
-pub next_is : (width : ℕ) (rows : List (List ℕ)) (table : List RowNumbers) (row : ℕ) (current : Method) (step : Step) (place : Place) → IsRightTable width rows table → row ≤ length rows
-    → IsBestStep width rows (node_number table) row current step → IsPlaceBehind (node_number table) row current step place → IsNext width rows (node_number table) row current step place
+pub next_is : (width : ℕ) (rows : List (List ℕ)) (table : List RowNumbers) (row : ℕ) (current : Method) (step : Step) (place : Place)
+    → IsRightTable width rows table → row ≤ length rows
+    → IsBestStep width rows (node_number table) row current step → IsPlaceBehind (node_number table) row current step place
+    → IsNext width rows (node_number table) row current step place
 next_is width rows table row current (Skip count) place is before best p =
     let s = spelled_cost count (omega (arith, best.0.1, is.few)) in
     let there : place.row ≤ length rows = omega (arith, p.row_is, best.0.1) in
-    let number = rest_is width rows table place.row place.method place.inside is there (λ goes. (p.goes_on goes).1) (λ ended. p.ends ended refl) in
+    let number = rest_is width rows table place.row place.method place.inside is there (λ goes. (p.goes_on goes).1)
+    (λ ended. p.ends ended refl) in
     let moved : rest (node_number table) place.row place.method ≡ rest (node_number table) (row + count) current =
     ap (λ (r : ℕ). rest (node_number table) r place.method) p.row_is ∙ ap (rest (node_number table) (row + count)) p.method_is in
     record {
       token = skip (least_spelling count) count (not place.inside);
       is_of = (refl, refl, refl);
-      leads = (refl, s.0, best.0.0, best.0.1, best.0.2, node_is place.row (row + count) place.method current place.inside (not (not place.inside)) p.row_is p.method_is (not_not place.inside));
+      leads = (
+        refl,
+        s.0,
+        best.0.0,
+        best.0.1,
+        best.0.2,
+        node_is place.row (row + count) place.method current place.inside
+            (not (not place.inside)) p.row_is p.method_is (not_not place.inside),
+      );
       number_is = omega (arith, best.1, number, moved, s.1, cost_skip (least_spelling count) count (not place.inside));
       within = there;
     }
 next_is width rows table row current (Switch next) place is before best p =
     let s = spelled_cost (method_code next) (omega (arith, method_small next)) in
     let there : place.row ≤ length rows = omega (arith, p.row_is, before) in
-    let number = rest_is width rows table place.row place.method place.inside is there (λ goes. (p.goes_on goes).1) (λ ended. p.ends ended refl) in
+    let number = rest_is width rows table place.row place.method place.inside is there (λ goes. (p.goes_on goes).1)
+    (λ ended. p.ends ended refl) in
     let moved : rest (node_number table) place.row place.method ≡ rest (node_number table) row next =
     ap (λ (r : ℕ). rest (node_number table) r place.method) p.row_is ∙ ap (rest (node_number table) row) p.method_is in
     record {
       token = method (least_spelling (method_code next)) next (not place.inside);
       is_of = (refl, refl, refl);
-      leads = (refl, s.0, node_is place.row row place.method next place.inside (not (not place.inside)) p.row_is p.method_is (not_not place.inside));
+      leads = (
+        refl,
+        s.0,
+        node_is place.row row place.method next place.inside (not (not place.inside)) p.row_is p.method_is
+            (not_not place.inside),
+      );
       number_is = omega (arith, best, number, moved, s.1, cost_method (least_spelling (method_code next)) next (not place.inside));
       within = there;
     }
@@ -103,11 +124,15 @@ pub record IsReadTo (width : ℕ) (rows : List (List ℕ)) (table : List RowNumb
   pub within : place.row ≤ length rows
   pub inked : place.inside ≡ true → 0 < outside (node_number table) place.row place.method
   pub tokens : List Token
-  pub goes_on : (more : List Step) (behind : List Token) → (node_number table (node_of place) ≡ 0 → more ≡ []) → (0 < node_number table (node_of place) → is_last more ≡ false)
-      → Spells place.inside more behind → Walk (Leads width rows) (Ends rows) (node_of place) behind → total cost behind ≡ node_number table (node_of place)
-      → Spells false (steps ++ more) (tokens ++ behind) × Walk (Leads width rows) (Ends rows) start (tokens ++ behind) × (total cost (tokens ++ behind) ≡ node_number table start)
+  pub goes_on : (more : List Step) (behind : List Token) → (node_number table (node_of place) ≡ 0 → more ≡ [])
+      → (0 < node_number table (node_of place) → is_last more ≡ false)
+      → Spells place.inside more behind → Walk (Leads width rows) (Ends rows) (node_of place) behind → total cost behind
+      ≡ node_number table (node_of place)
+      → Spells false (steps ++ more) (tokens ++ behind) × Walk (Leads width rows) (Ends rows) start (tokens ++ behind)
+      × (total cost (tokens ++ behind) ≡ node_number table start)
 
-pub read_none : (width : ℕ) (rows : List (List ℕ)) (table : List RowNumbers) (place : Place) → node_of place ≡ start → IsReadTo width rows table [] place
+pub read_none : (width : ℕ) (rows : List (List ℕ)) (table : List RowNumbers) (place : Place) → node_of place ≡ start
+    → IsReadTo width rows table [] place
 read_none width rows table place e = record {
   within = omega (arith, ap (λ (n : Node). n.row) e);
   inked = λ goes. (let no : false ≡ true = sym (ap (λ (n : Node). n.inside) e) ∙ goes in absurd cc);
@@ -120,7 +145,8 @@ read_none width rows table place e = record {
 }
 
 -- at the last step it makes no difference whether a sequence is open
-pub spells_any : (one two : Bool) (more : List Step) (behind : List Token) → (is_last more ≡ false → one ≡ two) → Spells one more behind → Spells two more behind
+pub spells_any : (one two : Bool) (more : List Step) (behind : List Token) → (is_last more ≡ false → one ≡ two) → Spells one more behind
+    → Spells two more behind
 unfolding Spells
 spells_any one two [] behind same s = s
 spells_any one two (step ∷ more) behind same s = subst (λ (o : Bool). Spells o (step ∷ more) behind) (same refl) s
@@ -137,26 +163,33 @@ row_token (Row bytes) one two (method digits next capital) e t = absurd t
 row_token (Row bytes) one two (skip digits count capital) e t = absurd t
 row_token (Row bytes) one two (send digits written) e t = t
 
-opened_walk : (width : ℕ) (rows : List (List ℕ)) (row : ℕ) (current : Method) (is_open : Bool) (tokens : List Token) → Walk (Leads width rows) (Ends rows) (node row current true) tokens
+opened_walk : (width : ℕ) (rows : List (List ℕ)) (row : ℕ) (current : Method) (is_open : Bool) (tokens : List Token)
+    → Walk (Leads width rows) (Ends rows) (node row current true) tokens
     → Walk (Leads width rows) (Ends rows) (node row current is_open) (opened is_open tokens)
 opened_walk width rows row current true tokens w = w
 opened_walk width rows row current false tokens w = (node row current true, (refl, refl), w)
 
-opened_total : (width : ℕ) (rows : List (List ℕ)) (table : List RowNumbers) (row : ℕ) (current : Method) (is_open : Bool) (tokens : List Token) → IsRightTable width rows table → row ≤ length rows
-    → 0 < outside (node_number table) row current → total cost tokens ≡ inside (node_number table) row current → total cost (opened is_open tokens) ≡ node_number table (node row current is_open)
+opened_total : (width : ℕ) (rows : List (List ℕ)) (table : List RowNumbers) (row : ℕ) (current : Method) (is_open : Bool)
+    (tokens : List Token) → IsRightTable width rows table → row ≤ length rows
+    → 0 < outside (node_number table) row current → total cost tokens ≡ inside (node_number table) row current
+    → total cost (opened is_open tokens) ≡ node_number table (node row current is_open)
 opened_total width rows table row current true tokens is within some t = t
-opened_total width rows table row current false tokens is within some t = omega (arith, t, cost_opening, opens width rows table row current is within some)
+opened_total width rows table row current false tokens is within some t = omega
+    (arith, t, cost_opening, opens width rows table row current is within some)
 
-inside_below : (width : ℕ) (rows : List (List ℕ)) (table : List RowNumbers) (row : ℕ) (current : Method) (is_open : Bool) → IsRightTable width rows table → row ≤ length rows
+inside_below : (width : ℕ) (rows : List (List ℕ)) (table : List RowNumbers) (row : ℕ) (current : Method) (is_open : Bool)
+    → IsRightTable width rows table → row ≤ length rows
     → 0 < outside (node_number table) row current → inside (node_number table) row current ≤ node_number table (node row current is_open)
 inside_below width rows table row current true is within some = omega arith
 inside_below width rows table row current false is within some = omega (arith, opens width rows table row current is within some)
 
 -- ink is left where a step is read
-pub ink_left : (width : ℕ) (rows : List (List ℕ)) (table : List RowNumbers) (steps : List Step) (place : Place) → IsReadTo width rows table steps place → 0 < node_number table (node_of place)
+pub ink_left : (width : ℕ) (rows : List (List ℕ)) (table : List RowNumbers) (steps : List Step) (place : Place)
+    → IsReadTo width rows table steps place → 0 < node_number table (node_of place)
     → 0 < outside (node_number table) place.row place.method
 ink_left width rows table steps place r some =
-    elim place.inside as (λ (i : Bool). (i ≡ true → 0 < outside (node_number table) place.row place.method) → 0 < node_number table (node place.row place.method i) → 0 < outside (node_number table) place.row place.method) [
+    elim place.inside as (λ (i : Bool). (i ≡ true → 0 < outside (node_number table) place.row place.method) → 0 < node_number table
+    (node place.row place.method i) → 0 < outside (node_number table) place.row place.method) [
       | true ↦ λ inked some. inked refl
       | false ↦ λ inked some. some
     ] r.inked some
@@ -170,7 +203,8 @@ opened_more true token tail = refl
 opened_more false token tail = refl
 
 -- inside a sequence a parameter is to come
-inside_some : (width : ℕ) (rows : List (List ℕ)) (table : List RowNumbers) (row : ℕ) (current : Method) → IsRightTable width rows table → row ≤ length rows → 0 < inside (node_number table) row current
+inside_some : (width : ℕ) (rows : List (List ℕ)) (table : List RowNumbers) (row : ℕ) (current : Method) → IsRightTable width rows table
+    → row ≤ length rows → 0 < inside (node_number table) row current
 inside_some width rows table row current is within =
     elim (cases_lt 0 (inside (node_number table) row current)) [
       | inl some ↦ some
@@ -178,21 +212,26 @@ inside_some width rows table row current is within =
     ]
 
 -- whether other steps follow, by what is known behind a step
-pub record IsFollowed (width : ℕ) (rows : List (List ℕ)) (table : List RowNumbers) (behind : Place) (step : Step) (more : List Step) : Type 0 where
+pub record IsFollowed (width : ℕ) (rows : List (List ℕ)) (table : List RowNumbers) (behind : Place) (step : Step) (more : List Step) :
+    Type 0 where
   pub stops : behind.inside ≡ false → stays_inside step ≡ true → is_last more ≡ true
   pub goes_on : behind.inside ≡ true → is_last more ≡ false
 
-followed : (width : ℕ) (rows : List (List ℕ)) (table : List RowNumbers) (row : ℕ) (current : Method) (behind : Place) (step : Step) (more : List Step) → IsRightTable width rows table → behind.row ≤ length rows
-    → IsPlaceBehind (node_number table) row current step behind → (node_number table (node_of behind) ≡ 0 → more ≡ []) → (0 < node_number table (node_of behind) → is_last more ≡ false)
+followed : (width : ℕ) (rows : List (List ℕ)) (table : List RowNumbers) (row : ℕ) (current : Method) (behind : Place) (step : Step)
+    (more : List Step) → IsRightTable width rows table → behind.row ≤ length rows
+    → IsPlaceBehind (node_number table) row current step behind → (node_number table (node_of behind) ≡ 0 → more ≡ [])
+    → (0 < node_number table (node_of behind) → is_last more ≡ false)
     → IsFollowed width rows table behind step more
 followed width rows table row current behind step more is within p z s = record {
-  stops = λ closed stays. ap is_last (z (ap (λ (i : Bool). node_number table (node behind.row behind.method i)) closed ∙ p.ends closed stays));
+  stops = λ closed stays. ap is_last (z (ap (λ (i : Bool). node_number table (node behind.row behind.method i)) closed ∙ p.ends closed
+      stays));
   goes_on = λ goes.
       let same = ap (λ (i : Bool). node_number table (node behind.row behind.method i)) goes in
       s (omega (arith, same, inside_some width rows table behind.row behind.method is within));
 }
 
-token_followed : (width : ℕ) (rows : List (List ℕ)) (table : List RowNumbers) (behind : Place) (step : Step) (more : List Step) (token : Token) → IsFollowed width rows table behind step more
+token_followed : (width : ℕ) (rows : List (List ℕ)) (table : List RowNumbers) (behind : Place) (step : Step) (more : List Step)
+    (token : Token) → IsFollowed width rows table behind step more
     → IsTokenOf step (not behind.inside) token → IsTokenOf step (is_last more) token
 token_followed width rows table behind step more token f t =
     elim (bool_cases (stays_inside step)) [
@@ -204,7 +243,8 @@ token_followed width rows table behind step more token f t =
           ]
     ]
 
-spells_followed : (width : ℕ) (rows : List (List ℕ)) (table : List RowNumbers) (row : ℕ) (current : Method) (behind : Place) (step : Step) (more : List Step) (tail : List Token) → IsFollowed width rows table behind step more
+spells_followed : (width : ℕ) (rows : List (List ℕ)) (table : List RowNumbers) (row : ℕ) (current : Method) (behind : Place) (step : Step)
+    (more : List Step) (tail : List Token) → IsFollowed width rows table behind step more
     → IsPlaceBehind (node_number table) row current step behind → Spells behind.inside more tail → Spells (stays_inside step) more tail
 spells_followed width rows table row current behind step more tail f p spells =
     spells_any behind.inside (stays_inside step) more tail
@@ -219,8 +259,10 @@ spells_followed width rows table row current behind step more tail f p spells =
     ])
     spells
 
-pub read_more : (width : ℕ) (rows : List (List ℕ)) (table : List RowNumbers) (steps : List Step) (place behind : Place) (step : Step) → IsRightTable width rows table → IsReadTo width rows table steps place
-    → 0 < node_number table (node_of place) → IsBestStep width rows (node_number table) place.row place.method step → IsPlaceBehind (node_number table) place.row place.method step behind
+pub read_more : (width : ℕ) (rows : List (List ℕ)) (table : List RowNumbers) (steps : List Step) (place behind : Place) (step : Step)
+    → IsRightTable width rows table → IsReadTo width rows table steps place
+    → 0 < node_number table (node_of place) → IsBestStep width rows (node_number table) place.row place.method step
+    → IsPlaceBehind (node_number table) place.row place.method step behind
     → IsReadTo width rows table (steps ++ step ∷ []) behind
 unfolding Spells
 read_more width rows table steps place behind step is r some best p =
@@ -232,34 +274,48 @@ read_more width rows table steps place behind step is r some best p =
       tokens = r.tokens ++ opened place.inside (next.token ∷ []);
       goes_on = λ more tail z s spells walk t.
           let f = followed width rows table place.row place.method behind step more is next.within p z s in
-          let inside_total : total cost (next.token ∷ tail) ≡ inside (node_number table) place.row place.method = omega (arith, t, next.number_is) in
-          let g = r.goes_on (step ∷ more) (opened place.inside (next.token ∷ tail)) (λ none. absurd (omega (arith, none, some))) (λ _. refl)
-          (next.token, tail, token_followed width rows table behind step more next.token f next.is_of, refl, spells_followed width rows table place.row place.method behind step more tail f p spells)
+          let inside_total : total cost (next.token ∷ tail) ≡ inside (node_number table) place.row place.method = omega
+          (arith, t, next.number_is) in
+          let g = r.goes_on (step ∷ more) (opened place.inside (next.token ∷ tail)) (λ none. absurd (omega (arith, none, some))) (λ _. refl) (
+            next.token,
+            tail,
+            token_followed width rows table behind step more next.token f next.is_of,
+            refl,
+            spells_followed width rows
+                table place.row place.method behind step more tail f p spells,
+          )
           (opened_walk width rows place.row place.method place.inside (next.token ∷ tail) (node_of behind, next.leads, walk))
           (opened_total width rows table place.row place.method place.inside (next.token ∷ tail) is r.within ink inside_total) in
           let steps_are : steps ++ (step ∷ more) ≡ (steps ++ step ∷ []) ++ more = sym (append_assoc steps (step ∷ []) more) in
-          let tokens_are : r.tokens ++ opened place.inside (next.token ∷ tail) ≡ (r.tokens ++ opened place.inside (next.token ∷ [])) ++ tail =
-          ap (λ (ts : List Token). r.tokens ++ ts) (opened_more place.inside next.token tail) ∙ sym (append_assoc r.tokens (opened place.inside (next.token ∷ [])) tail) in (
-            subst (λ (ss : List Step). Spells false ss ((r.tokens ++ opened place.inside (next.token ∷ [])) ++ tail)) steps_are (subst (Spells false (steps ++ (step ∷ more))) tokens_are g.0),
+          let tokens_are : r.tokens ++ opened place.inside (next.token ∷ tail)
+          ≡ (r.tokens ++ opened place.inside (next.token ∷ [])) ++ tail =
+          ap (λ (ts : List Token). r.tokens ++ ts) (opened_more place.inside next.token tail) ∙ sym
+          (append_assoc r.tokens (opened place.inside (next.token ∷ [])) tail) in (
+            subst (λ (ss : List Step). Spells false ss ((r.tokens ++ opened place.inside (next.token ∷ [])) ++ tail)) steps_are
+                (subst (Spells false (steps ++ (step ∷ more))) tokens_are g.0),
             subst (Walk (Leads width rows) (Ends rows) start) tokens_are g.1,
             ap (total cost) (sym tokens_are) ∙ g.2,
           );
     }
 
 -- the measure of reading
-pub read_less : (width : ℕ) (rows : List (List ℕ)) (table : List RowNumbers) (steps : List Step) (place behind : Place) (step : Step) → IsRightTable width rows table → IsReadTo width rows table steps place
-    → 0 < node_number table (node_of place) → IsBestStep width rows (node_number table) place.row place.method step → IsPlaceBehind (node_number table) place.row place.method step behind
+pub read_less : (width : ℕ) (rows : List (List ℕ)) (table : List RowNumbers) (steps : List Step) (place behind : Place) (step : Step)
+    → IsRightTable width rows table → IsReadTo width rows table steps place
+    → 0 < node_number table (node_of place) → IsBestStep width rows (node_number table) place.row place.method step
+    → IsPlaceBehind (node_number table) place.row place.method step behind
     → node_number table (node_of behind) < node_number table (node_of place)
 read_less width rows table steps place behind step is r some best p =
     let next = next_is width rows table place.row place.method step behind is r.within best p in
     let ink = ink_left width rows table steps place r some in
     omega (arith, next.number_is, cost_some next.token, inside_below width rows table place.row place.method place.inside is r.within ink)
 
-pub read_all : (width : ℕ) (rows : List (List ℕ)) (table : List RowNumbers) (steps : List Step) (place : Place) → IsRightTable width rows table → IsReadTo width rows table steps place → node_number table (node_of place) ≡ 0
+pub read_all : (width : ℕ) (rows : List (List ℕ)) (table : List RowNumbers) (steps : List Step) (place : Place)
+    → IsRightTable width rows table → IsReadTo width rows table steps place → node_number table (node_of place) ≡ 0
     → AreLeastSteps width rows (node_number table) steps
 unfolding Spells
 read_all width rows table steps place is r none =
-    let g = r.goes_on [] [] (λ _. refl) (λ some. absurd (omega (arith, none, some))) refl (ends width rows table (node_of place) is r.within none) (sym none) in
+    let g = r.goes_on [] [] (λ _. refl) (λ some. absurd (omega (arith, none, some))) refl
+    (ends width rows table (node_of place) is r.within none) (sym none) in
     record {
       tokens = r.tokens ++ [];
       spelled = subst (λ (ss : List Step). Spells false ss (r.tokens ++ [])) (append-nil steps) g.0;

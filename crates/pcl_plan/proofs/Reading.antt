@@ -37,9 +37,11 @@ none_is Delta false = refl
 
 -- past the rows all numbers are 0
 past_is : (table : List RowNumbers) (a : Node) → length table ≤ a.row → node_number table a ≡ 0
-past_is table a past = ap (λ (n : RowNumbers). number_in n a.method a.inside) (get_or_past table a.row no_numbers past) ∙ none_is a.method a.inside
+past_is table a past = ap (λ (n : RowNumbers). number_in n a.method a.inside) (get_or_past table a.row no_numbers past) ∙ none_is a.method
+    a.inside
 
-pub feasible_table : (width : ℕ) (rows : List (List ℕ)) (table : List RowNumbers) → AreRightFrom width rows table 0 → IsFeasible (Leads width rows) (Ends rows) cost (node_number table)
+pub feasible_table : (width : ℕ) (rows : List (List ℕ)) (table : List RowNumbers) → AreRightFrom width rows table 0
+    → IsFeasible (Leads width rows) (Ends rows) cost (node_number table)
 feasible_table width rows table right = record {
   steps = λ a token b l.
       elim (cases_lt (length rows) a.row) [
@@ -53,9 +55,11 @@ feasible_table width rows table right = record {
       ];
 }
 
-pub least_table : (width : ℕ) (rows : List (List ℕ)) (table : List RowNumbers) → AreRightFrom width rows table 0 → (a : Node) → a.row ≤ length rows → IsLeastCost (Leads width rows) (Ends rows) cost a (node_number table a)
+pub least_table : (width : ℕ) (rows : List (List ℕ)) (table : List RowNumbers) → AreRightFrom width rows table 0 → (a : Node)
+    → a.row ≤ length rows → IsLeastCost (Leads width rows) (Ends rows) cost a (node_number table a)
 least_table width rows table right a within =
-    attained_is_least (Leads width rows) (Ends rows) cost (node_number table) (feasible_table width rows table right) a ((right.right a.row (omega arith) within).attained a refl)
+    attained_is_least (Leads width rows) (Ends rows) cost (node_number table) (feasible_table width rows table right) a
+    ((right.right a.row (omega arith) within).attained a refl)
 
 -- ---- what begins the least inside a sequence
 
@@ -64,45 +68,59 @@ pub record IsRightTable (width : ℕ) (rows : List (List ℕ)) (table : List Row
   pub few : length rows ≤ 9999
   pub right : AreRightFrom width rows table 0
 
-bounds : (width : ℕ) (rows : List (List ℕ)) (table : List RowNumbers) → IsRightTable width rows table → (a : Node) (es : List Token) → Walk (Leads width rows) (Ends rows) a es → node_number table a ≤ total cost es
-bounds width rows table is = feasible_bounds (Leads width rows) (Ends rows) cost (node_number table) (feasible_table width rows table is.right)
+bounds : (width : ℕ) (rows : List (List ℕ)) (table : List RowNumbers) → IsRightTable width rows table → (a : Node) (es : List Token)
+    → Walk (Leads width rows) (Ends rows) a es → node_number table a ≤ total cost es
+bounds width rows table is = feasible_bounds (Leads width rows) (Ends rows) cost (node_number table)
+    (feasible_table width rows table is.right)
 
-step : (width : ℕ) (rows : List (List ℕ)) (table : List RowNumbers) → IsRightTable width rows table → (a : Node) (token : Token) (b : Node) → Leads width rows a token b → node_number table a ≤ cost token + node_number table b
+step : (width : ℕ) (rows : List (List ℕ)) (table : List RowNumbers) → IsRightTable width rows table
+    → (a : Node) (token : Token) (b : Node) → Leads width rows a token b → node_number table a ≤ cost token + node_number table b
 step width rows table is = (feasible_table width rows table is.right).steps
 
-pub switch_bound : (width : ℕ) (rows : List (List ℕ)) (table : List RowNumbers) (row : ℕ) (current next : Method) → IsRightTable width rows table
+pub switch_bound : (width : ℕ) (rows : List (List ℕ)) (table : List RowNumbers) (row : ℕ) (current next : Method)
+    → IsRightTable width rows table
     → inside (node_number table) row current ≤ switching next + rest (node_number table) row next
 switch_bound width rows table row current next is =
     let best = best_end (node_number table) row next in
     let s = spelled_cost (method_code next) (omega (arith, method_small next)) in
-    let l = step width rows table is (node row current true) (method (least_spelling (method_code next)) next best.0) (node row next (not best.0)) (refl, s.0, refl) in
+    let l = step width rows table is (node row current true) (method (least_spelling (method_code next)) next best.0)
+    (node row next (not best.0)) (refl, s.0, refl) in
     omega (arith, l, s.1, cost_method (least_spelling (method_code next)) next best.0, best.1)
 
-pub skip_bound : (width : ℕ) (rows : List (List ℕ)) (table : List RowNumbers) (row : ℕ) (current : Method) (count : ℕ) → IsRightTable width rows table → AreSkippable rows row count
+pub skip_bound : (width : ℕ) (rows : List (List ℕ)) (table : List RowNumbers) (row : ℕ) (current : Method) (count : ℕ)
+    → IsRightTable width rows table → AreSkippable rows row count
     → inside (node_number table) row current ≤ skipping (node_number table) row current count
 skip_bound width rows table row current count is can =
     let best = best_end (node_number table) (row + count) current in
     let s = spelled_cost count (omega (arith, can.1, is.few)) in
-    let l = step width rows table is (node row current true) (skip (least_spelling count) count best.0) (node (row + count) current (not best.0)) (refl, s.0, can.0, can.1, can.2, refl) in
+    let l = step width rows table is (node row current true) (skip (least_spelling count) count best.0)
+    (node (row + count) current (not best.0)) (refl, s.0, can.0, can.1, can.2, refl) in
     omega (arith, l, s.1, cost_skip (least_spelling count) count best.0, best.1)
 
-pub send_bound : (width : ℕ) (rows : List (List ℕ)) (table : List RowNumbers) (row : ℕ) (current : Method) (bytes : ℕ) → IsRightTable width rows table → row < length rows
-    → IsLeastLength current (row_above width rows row) (row_at rows row) bytes → inside (node_number table) row current ≤ sending bytes + outside (node_number table) (row + 1) current
+pub send_bound : (width : ℕ) (rows : List (List ℕ)) (table : List RowNumbers) (row : ℕ) (current : Method) (bytes : ℕ)
+    → IsRightTable width rows table → row < length rows
+    → IsLeastLength current (row_above width rows row) (row_at rows row) bytes
+    → inside (node_number table) row current ≤ sending bytes + outside (node_number table) (row + 1) current
 send_bound width rows table row current bytes is lt length_is =
     let whole = length_is.attained in
     let s = spelled_cost bytes (length_small current (row_above width rows row) (row_at rows row) bytes length_is) in
     let spelled : IsSpelled (least_spelling bytes) (length whole.0) = subst (IsSpelled (least_spelling bytes)) (sym whole.2) s.0 in
-    let l = step width rows table is (node row current true) (send (least_spelling bytes) whole.0) (node (row + 1) current false) (refl, spelled, lt, whole.1, refl) in
+    let l = step width rows table is (node row current true) (send (least_spelling bytes) whole.0) (node (row + 1) current false)
+    (refl, spelled, lt, whole.1, refl) in
     omega (arith, l, s.1, whole.2, cost_send (least_spelling bytes) whole.0)
 
 -- a parameter with which the least begins
 pub data Beginning (width : ℕ) (rows : List (List ℕ)) (table : List RowNumbers) (row : ℕ) (current : Method) : Type 0 where
-  by_switch : (next : Method) → inside (node_number table) row current ≡ switching next + rest (node_number table) row next → Beginning width rows table row current
-  by_skip : (count : ℕ) → AreSkippable rows row count → inside (node_number table) row current ≡ skipping (node_number table) row current count → Beginning width rows table row current
+  by_switch : (next : Method) → inside (node_number table) row current ≡ switching next + rest (node_number table) row next
+      → Beginning width rows table row current
+  by_skip : (count : ℕ) → AreSkippable rows row count → inside (node_number table) row current
+      ≡ skipping (node_number table) row current count → Beginning width rows table row current
   by_row : (bytes : List ℕ) → row < length rows → IsRowData current (row_above width rows row) (row_at rows row) bytes
-      → sending (length bytes) + outside (node_number table) (row + 1) current ≤ inside (node_number table) row current → Beginning width rows table row current
+      → sending (length bytes) + outside (node_number table) (row + 1) current ≤ inside (node_number table) row current
+      → Beginning width rows table row current
 
-begins_with : (width : ℕ) (rows : List (List ℕ)) (table : List RowNumbers) (row : ℕ) (current : Method) → IsRightTable width rows table → (es : List Token) → Walk (Leads width rows) (Ends rows) (node row current true) es
+begins_with : (width : ℕ) (rows : List (List ℕ)) (table : List RowNumbers) (row : ℕ) (current : Method) → IsRightTable width rows table
+    → (es : List Token) → Walk (Leads width rows) (Ends rows) (node row current true) es
     → total cost es ≡ inside (node_number table) row current → Beginning width rows table row current
 begins_with width rows table row current is [] w t = let no : true ≡ false = w.0 in absurd cc
 begins_with width rows table row current is (opening ∷ es) w t = let no : true ≡ false = w.1.0 in absurd cc
@@ -142,15 +160,18 @@ begins_with width rows table row current is (send digits bytes ∷ es) w t =
       spelled_long digits (length bytes) w.1.1 (omega (arith, w.1.3.fits)),
     ))
 
-pub begins : (width : ℕ) (rows : List (List ℕ)) (table : List RowNumbers) (row : ℕ) (current : Method) → IsRightTable width rows table → row ≤ length rows → Beginning width rows table row current
+pub begins : (width : ℕ) (rows : List (List ℕ)) (table : List RowNumbers) (row : ℕ) (current : Method) → IsRightTable width rows table
+    → row ≤ length rows → Beginning width rows table row current
 begins width rows table row current is within =
     let w = (is.right.right row (omega arith) within).attained (node row current true) refl in
     begins_with width rows table row current is w.0 w.1 w.2
 
 -- where no row and no skip begins the least, a switch does
-pub switch_begins : (width : ℕ) (rows : List (List ℕ)) (table : List RowNumbers) (row : ℕ) (current : Method) (bytes : ℕ) → IsRightTable width rows table → row ≤ length rows
+pub switch_begins : (width : ℕ) (rows : List (List ℕ)) (table : List RowNumbers) (row : ℕ) (current : Method) (bytes : ℕ)
+    → IsRightTable width rows table → row ≤ length rows
     → ((count : ℕ) → AreSkippable rows row count → inside (node_number table) row current < skipping (node_number table) row current count)
-    → IsLeastLength current (row_above width rows row) (row_at rows row) bytes → (sending bytes + outside (node_number table) (row + 1) current ≡ inside (node_number table) row current → ⊥)
+    → IsLeastLength current (row_above width rows row) (row_at rows row) bytes
+    → (sending bytes + outside (node_number table) (row + 1) current ≡ inside (node_number table) row current → ⊥)
     → (next : Method) × (inside (node_number table) row current ≡ switching next + rest (node_number table) row next)
 switch_begins width rows table row current bytes is within no_skip length_is no_row =
     elim (begins width rows table row current is within) [
@@ -158,13 +179,22 @@ switch_begins width rows table row current bytes is within no_skip length_is no_
       | by_skip count can e ↦ absurd (let more = no_skip count can in omega (arith, more, e))
       | by_row whole lt has below ↦
           absurd (no_row (let short = length_is.shortest whole has in
-          omega (arith, below, short, count_grows bytes (length whole) short (omega (arith, has.fits)), send_bound width rows table row current bytes is lt length_is)))
+          omega (
+            arith,
+            below,
+            short,
+            count_grows bytes (length whole) short (omega (arith, has.fits)),
+            send_bound width rows table row
+                current bytes is lt length_is,
+          )))
     ]
 
 -- ---- outside a sequence
 
-opens_with : (width : ℕ) (rows : List (List ℕ)) (table : List RowNumbers) (row : ℕ) (current : Method) → IsRightTable width rows table → (es : List Token) → Walk (Leads width rows) (Ends rows) (node row current false) es
-    → total cost es ≡ outside (node_number table) row current → 0 < outside (node_number table) row current → outside (node_number table) row current ≡ 3 + inside (node_number table) row current
+opens_with : (width : ℕ) (rows : List (List ℕ)) (table : List RowNumbers) (row : ℕ) (current : Method) → IsRightTable width rows table
+    → (es : List Token) → Walk (Leads width rows) (Ends rows) (node row current false) es
+    → total cost es ≡ outside (node_number table) row current → 0 < outside (node_number table) row current
+    → outside (node_number table) row current ≡ 3 + inside (node_number table) row current
 opens_with width rows table row current is [] w t some = absurd (omega arith)
 opens_with width rows table row current is (opening ∷ es) w t some =
     omega (
@@ -180,49 +210,70 @@ opens_with width rows table row current is (skip digits count ends ∷ es) w t s
 opens_with width rows table row current is (send digits bytes ∷ es) w t some = let no : false ≡ true = w.1.0 in absurd cc
 
 -- where the rest isn't white, a sequence is opened
-pub opens : (width : ℕ) (rows : List (List ℕ)) (table : List RowNumbers) (row : ℕ) (current : Method) → IsRightTable width rows table → row ≤ length rows → 0 < outside (node_number table) row current
+pub opens : (width : ℕ) (rows : List (List ℕ)) (table : List RowNumbers) (row : ℕ) (current : Method) → IsRightTable width rows table
+    → row ≤ length rows → 0 < outside (node_number table) row current
     → outside (node_number table) row current ≡ 3 + inside (node_number table) row current
 opens width rows table row current is within some =
     let w = (is.right.right row (omega arith) within).attained (node row current false) refl in
     opens_with width rows table row current is w.0 w.1 w.2 some
 
-ends_with : (width : ℕ) (rows : List (List ℕ)) (table : List RowNumbers) (a : Node) (es : List Token) → Walk (Leads width rows) (Ends rows) a es → total cost es ≡ 0 → Ends rows a
+ends_with : (width : ℕ) (rows : List (List ℕ)) (table : List RowNumbers) (a : Node) (es : List Token)
+    → Walk (Leads width rows) (Ends rows) a es → total cost es ≡ 0 → Ends rows a
 ends_with width rows table a [] w t = w
 ends_with width rows table a (token ∷ es) w t = absurd (omega (arith, t, cost_some token))
 
 -- where the number is 0, the rest is white and no sequence is open
-pub ends : (width : ℕ) (rows : List (List ℕ)) (table : List RowNumbers) (a : Node) → IsRightTable width rows table → a.row ≤ length rows → node_number table a ≡ 0 → Ends rows a
+pub ends : (width : ℕ) (rows : List (List ℕ)) (table : List RowNumbers) (a : Node) → IsRightTable width rows table → a.row ≤ length rows
+    → node_number table a ≡ 0 → Ends rows a
 ends width rows table a is within none =
     let w = (is.right.right a.row (omega arith) within).attained a refl in
     ends_with width rows table a w.0 w.1 (w.2 ∙ none)
 
 -- where the rest isn't white, a row is left
-pub row_left : (width : ℕ) (rows : List (List ℕ)) (table : List RowNumbers) (row : ℕ) (current : Method) → IsRightTable width rows table → row ≤ length rows → 0 < outside (node_number table) row current → row < length rows
+pub row_left : (width : ℕ) (rows : List (List ℕ)) (table : List RowNumbers) (row : ℕ) (current : Method) → IsRightTable width rows table
+    → row ≤ length rows → 0 < outside (node_number table) row current → row < length rows
 row_left width rows table row current is within some =
     elim (cases_lt row (length rows)) [
       | inl left ↦ left
-      | inr past ↦ absurd (omega (arith, (is.right.right row (omega arith) within).ends (node row current false) refl (refl, subst AreWhite (sym (drop_of_length-le rows past)) tt)))
+      | inr past ↦ absurd (omega (
+        arith,
+        (is.right.right row (omega arith) within).ends (node row current false) refl
+            (refl, subst AreWhite (sym (drop_of_length-le rows past)) tt),
+      ))
     ]
 
 -- the run of white rows ends before the rows do
-pub run_inked : (width : ℕ) (rows : List (List ℕ)) (table : List RowNumbers) (row : ℕ) (current : Method) (run : ℕ) → IsRightTable width rows table → 0 < outside (node_number table) row current → IsWhiteRun rows row run
+pub run_inked : (width : ℕ) (rows : List (List ℕ)) (table : List RowNumbers) (row : ℕ) (current : Method) (run : ℕ)
+    → IsRightTable width rows table → 0 < outside (node_number table) row current → IsWhiteRun rows row run
     → row + run < length rows
 run_inked width rows table row current run is some white =
     elim (cases_lt (row + run) (length rows)) [
       | inl inked ↦ inked
       | inr past ↦
           let within = white.within in
-          let none = (is.right.right row (omega arith) (omega arith)).ends (node row current false) refl (refl, white_to_end rows row run white (omega arith)) in
+          let none = (is.right.right row (omega arith) (omega arith)).ends (node row current false) refl
+          (refl, white_to_end rows row run white (omega arith)) in
           absurd (omega (arith, none))
     ]
 
-pub readable_run : (width : ℕ) (rows : List (List ℕ)) (table : List RowNumbers) (row : ℕ) (current : Method) (run : ℕ) → IsRightTable width rows table → 0 < outside (node_number table) row current → IsWhiteRun rows row run
+pub readable_run : (width : ℕ) (rows : List (List ℕ)) (table : List RowNumbers) (row : ℕ) (current : Method) (run : ℕ)
+    → IsRightTable width rows table → 0 < outside (node_number table) row current → IsWhiteRun rows row run
     → IsReadable table row run
 readable_run width rows table row current run is some white =
-    readable width rows table row run is.few (record { size = is.right.size; right = λ behind from within. is.right.right behind (omega arith) within }) white (run_inked width rows table row current run is some white)
+    readable width rows table row run is.few (record {
+      size = is.right.size;
+      right = λ behind from within. is.right.right behind
+          (omega arith) within;
+    }) white (run_inked width rows table row current run is some white)
 
 pub skippable : (rows : List (List ℕ)) (row run count : ℕ) → IsWhiteRun rows row run → 0 < count → count ≤ run → AreSkippable rows row count
-skippable rows row run count white some within = (some, omega (arith, white.within), white_front run count (drop row rows) white.white within)
+skippable rows row run count white some within = (
+  some,
+  omega (arith, white.within),
+  white_front run count (drop row rows) white.white
+      within,
+)
 
-pub small_number : (width : ℕ) (rows : List (List ℕ)) (table : List RowNumbers) (a : Node) → IsRightTable width rows table → a.row ≤ length rows → node_number table a ≤ 655374457
+pub small_number : (width : ℕ) (rows : List (List ℕ)) (table : List RowNumbers) (a : Node) → IsRightTable width rows table
+    → a.row ≤ length rows → node_number table a ≤ 655374457
 small_number width rows table a is within = omega (arith, (is.right.right a.row (omega arith) within).small a refl, is.few)

@@ -52,15 +52,18 @@ method_small Delta = omega arith
 -- ---- nodes
 
 -- what holds in each method, inside a sequence and outside, holds of all nodes behind so many rows
-pub at_row : (P : Node → Type 0) (row : ℕ) → ((current : Method) (is_open : Bool) → P (node row current is_open)) → (a : Node) → a.row ≡ row → P a
+pub at_row : (P : Node → Type 0) (row : ℕ) → ((current : Method) (is_open : Bool) → P (node row current is_open)) → (a : Node) → a.row
+    ≡ row → P a
 at_row P row h a e = subst (λ (r : ℕ). P (node r a.method a.inside)) (sym e) (h a.method a.inside)
 
-pub rest_below : (number : Node → ℕ) (row : ℕ) (current : Method) (is_open : Bool) → rest number row current ≤ number (node row current is_open)
+pub rest_below : (number : Node → ℕ) (row : ℕ) (current : Method) (is_open : Bool)
+    → rest number row current ≤ number (node row current is_open)
 rest_below number row current true = omega arith
 rest_below number row current false = omega arith
 
 -- a parameter that ends its sequence or doesn't, and then costs the least
-pub best_end : (number : Node → ℕ) (row : ℕ) (current : Method) → (ends : Bool) × (rest number row current ≡ number (node row current (not ends)))
+pub best_end : (number : Node → ℕ) (row : ℕ) (current : Method) → (ends : Bool)
+    × (rest number row current ≡ number (node row current (not ends)))
 best_end number row current =
     elim (cases_lt (outside number row current) (inside number row current)) [
       | inl ends ↦ (true, omega arith)
@@ -69,9 +72,16 @@ best_end number row current =
 
 -- ---- rows that stay right
 
-pub row_stays : (width : ℕ) (rows : List (List ℕ)) (number other : Node → ℕ) (row : ℕ) → ((a : Node) → row ≤ a.row → other a ≡ number a) → IsRowRight width rows number row → IsRowRight width rows other row
+pub row_stays : (width : ℕ) (rows : List (List ℕ)) (number other : Node → ℕ) (row : ℕ) → ((a : Node) → row ≤ a.row → other a ≡ number a)
+    → IsRowRight width rows number row → IsRowRight width rows other row
 row_stays width rows number other row same is = record {
-  steps = λ a token b at l. omega (arith, is.steps a token b at l, same a (omega arith), same b (omega (arith, leads_down width rows a token b l)));
+  steps = λ a token b at l. omega (
+    arith,
+    is.steps a token b at l,
+    same a (omega arith),
+    same b
+        (omega (arith, leads_down width rows a token b l)),
+  );
   ends = λ a at end. same a (omega arith) ∙ is.ends a at end;
   attained = λ a at. subst (λ (n : ℕ). IsAttained (Leads width rows) (Ends rows) cost a n) (sym (same a (omega arith))) (is.attained a at);
   falls = λ current inside_page white.
@@ -88,7 +98,8 @@ row_stays width rows number other row same is = record {
 
 -- ---- where the rest is white
 
-pub white_row_right : (width : ℕ) (rows : List (List ℕ)) (number : Node → ℕ) (row : ℕ) → AreWhite (drop row rows) → ((current : Method) → outside number row current ≡ 0) → ((current : Method) → inside number row current ≡ 1)
+pub white_row_right : (width : ℕ) (rows : List (List ℕ)) (number : Node → ℕ) (row : ℕ) → AreWhite (drop row rows)
+    → ((current : Method) → outside number row current ≡ 0) → ((current : Method) → inside number row current ≡ 1)
     → ((current : Method) → row < length rows → outside number (row + 1) current ≡ 0) → IsRowRight width rows number row
 white_row_right width rows number row white none one next = record {
   steps = λ a token b at l.
@@ -101,7 +112,12 @@ white_row_right width rows number row white none one next = record {
       at_row (λ (n : Node). IsAttained (Leads width rows) (Ends rows) cost n (number n)) row
       (λ current.
       elim [
-        | true ↦ (method [] Plain true ∷ [], (node row Plain false, (refl, (tt, refl), refl), (refl, white)), omega (arith, one current, cost_method [] Plain true))
+        | true ↦ (
+          method [] Plain true ∷ [],
+          (node row Plain false, (refl, (tt, refl), refl), (refl, white)),
+          omega
+              (arith, one current, cost_method [] Plain true),
+        )
         | false ↦ ([], (refl, white), sym (none current))
       ]);
   falls = λ current inside_page first. omega (arith, next current inside_page);

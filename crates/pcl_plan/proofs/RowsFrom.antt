@@ -30,12 +30,14 @@ drop_rows (suc k) (suc n) width bytes =
     ∙ ap (λ (m : ℕ). rows_from m width (drop (suc k * width) bytes)) same
 
 -- the rows from one that is on the page
-pub rows_at : (y n width : ℕ) (bytes : List ℕ) → y < n → drop y (rows_from n width bytes) ≡ take width (drop (y * width) bytes) ∷ drop (y + 1) (rows_from n width bytes)
+pub rows_at : (y n width : ℕ) (bytes : List ℕ) → y < n → drop y (rows_from n width bytes)
+    ≡ take width (drop (y * width) bytes) ∷ drop (y + 1) (rows_from n width bytes)
 unfolding rows_from
 rows_at y n width bytes lt =
     let one : n - y ≡ suc (n - (y + 1)) = omega arith in
     let step : drop width (drop (y * width) bytes) ≡ drop ((y + 1) * width) bytes =
-    (let places : y * width + width ≡ (y + 1) * width = grind arith in drop-drop width (y * width) bytes ∙ ap (λ (place : ℕ). drop place bytes) places) in
+    (let places : y * width + width ≡ (y + 1) * width = grind arith in drop-drop width (y * width) bytes ∙ ap
+    (λ (place : ℕ). drop place bytes) places) in
     drop_rows y n width bytes ∙ ap (λ (m : ℕ). rows_from m width (drop (y * width) bytes)) one
     ∙ ap (λ (rest : List (List ℕ)). take width (drop (y * width) bytes) ∷ rest)
     (ap (rows_from (n - (y + 1)) width) step ∙ sym (drop_rows (y + 1) n width bytes))
@@ -63,12 +65,14 @@ row_small A4 Dpi600 = lit≤ tt
 
 pub row_of_bytes : (y n width : ℕ) (bytes : List ℕ) → y < n → row_at (rows_from n width bytes) y ≡ take width (drop (y * width) bytes)
 row_of_bytes y n width bytes lt =
-    row_at_first y (rows_from n width bytes) (take width (drop (y * width) bytes)) (drop (y + 1) (rows_from n width bytes)) (rows_at y n width bytes lt)
+    row_at_first y (rows_from n width bytes) (take width (drop (y * width) bytes)) (drop (y + 1) (rows_from n width bytes))
+    (rows_at y n width bytes lt)
 
 -- ---- rows of bitmaps
 
 -- a row has its bytes
-row_room : (k n width : ℕ) (bytes : List ℕ) (height : ℕ) → length bytes ≡ height * width → k + suc n ≡ height → width ≤ length (drop (k * width) bytes)
+row_room : (k n width : ℕ) (bytes : List ℕ) (height : ℕ) → length bytes ≡ height * width → k + suc n ≡ height
+    → width ≤ length (drop (k * width) bytes)
 row_room k n width bytes height whole e =
     let all : (k + suc n) * width ≡ k * width + (width + n * width) = grind arith in
     let same : height * width ≡ (k + suc n) * width = ap (λ (m : ℕ). m * width) (sym e) in
@@ -83,10 +87,12 @@ rows_from_are (suc n) k picture is e =
     let width = page_row_bytes picture.size picture.dpi in
     let bytes = picture.bytes in
     let next : drop width (drop (k * width) bytes) ≡ drop ((k + 1) * width) bytes =
-    drop-drop width (k * width) bytes ∙ (let place : k * width + width ≡ (k + 1) * width = grind arith in ap (λ (m : ℕ). drop m bytes) place) in
+    drop-drop width (k * width) bytes ∙ (let place : k * width + width ≡ (k + 1) * width = grind arith in ap (λ (m : ℕ). drop m bytes)
+    place) in
     let room : width ≤ length (drop (k * width) bytes) = row_room k n width bytes (page_height picture.size picture.dpi) is.whole e in (
       (length-take-le width (drop (k * width) bytes) room, λ x past. is.clear_pads x k past),
-      subst (λ (rest : List ℕ). AllByRecursion (IsRowOf picture.size picture.dpi) (rows_from n width rest)) (sym next) (rows_from_are n (k + 1) picture is (omega arith)),
+      subst (λ (rest : List ℕ). AllByRecursion (IsRowOf picture.size picture.dpi) (rows_from n width rest)) (sym next)
+          (rows_from_are n (k + 1) picture is (omega arith)),
     )
 
 -- the rows of a bitmap are rows of its size
@@ -94,5 +100,6 @@ pub bitmap_rows_are : (picture : Picture) → IsPicture picture → AllByRecursi
 bitmap_rows_are picture is =
     let width = page_row_bytes picture.size picture.dpi in
     let none : 0 * width ≡ 0 = omega arith in
-    subst (λ (bytes : List ℕ). AllByRecursion (IsRowOf picture.size picture.dpi) (rows_from (page_height picture.size picture.dpi) width bytes))
+    subst (λ (bytes : List ℕ). AllByRecursion (IsRowOf picture.size picture.dpi)
+    (rows_from (page_height picture.size picture.dpi) width bytes))
     (ap (λ (m : ℕ). drop m picture.bytes) none) (rows_from_are (page_height picture.size picture.dpi) 0 picture is (omega arith))

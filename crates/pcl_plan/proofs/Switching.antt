@@ -27,7 +27,8 @@ pub record IsLeastSwitch (direct : ByMethod) (switched : ℕ) : Type 0 where
   pub bound : (next : Method) → switched ≤ switch_cost next + by_method direct next
   pub attained : (next : Method) × (switched ≡ switch_cost next + by_method direct next)
 
-pub least_switch : (direct : ByMethod) (first others switched : ℕ) → first ≡ min direct.runs direct.packed → others ≡ min first direct.delta → switched ≡ min (direct.plain + 1) (others + 2)
+pub least_switch : (direct : ByMethod) (first others switched : ℕ) → first ≡ min direct.runs direct.packed → others
+    ≡ min first direct.delta → switched ≡ min (direct.plain + 1) (others + 2)
     → IsLeastSwitch direct switched
 least_switch direct first others switched f o s = record {
   bound = elim [

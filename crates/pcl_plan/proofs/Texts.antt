@@ -19,14 +19,18 @@ total_is [] = refl
 total_is (token ∷ tokens) = omega (arith, total_is tokens, length-append (token_bytes token) (flat_map token_bytes tokens))
 
 -- rows of a page have its width
-pub widths : (size : Size) (dpi : Dpi) (rows : List (List ℕ)) → AllByRecursion (IsRowOf size dpi) rows → AreOfWidth (page_row_bytes size dpi) rows
+pub widths : (size : Size) (dpi : Dpi) (rows : List (List ℕ)) → AllByRecursion (IsRowOf size dpi) rows
+    → AreOfWidth (page_row_bytes size dpi) rows
 widths size dpi [] are = tt
 widths size dpi (row ∷ rows) are = (are.0.0, widths size dpi rows are.1)
 
-pub walk_of_prints : (width : ℕ) (rows : List (List ℕ)) (tokens : List Token) → AreOfWidth width rows → PrintsRows false Plain (replicate width 0) tokens rows → Walk (Leads width rows) (Ends rows) start tokens
-walk_of_prints width rows tokens are p = walk_of_tokens width rows are tokens false Plain 0 (replicate width 0) rows (omega arith) refl refl p
+pub walk_of_prints : (width : ℕ) (rows : List (List ℕ)) (tokens : List Token) → AreOfWidth width rows
+    → PrintsRows false Plain (replicate width 0) tokens rows → Walk (Leads width rows) (Ends rows) start tokens
+walk_of_prints width rows tokens are p = walk_of_tokens width rows are tokens false Plain 0 (replicate width 0) rows (omega arith) refl
+    refl p
 
-pub prints_of_walk : (width : ℕ) (rows : List (List ℕ)) (tokens : List Token) → AreOfWidth width rows → Walk (Leads width rows) (Ends rows) start tokens → PrintsRows false Plain (replicate width 0) tokens rows
+pub prints_of_walk : (width : ℕ) (rows : List (List ℕ)) (tokens : List Token) → AreOfWidth width rows
+    → Walk (Leads width rows) (Ends rows) start tokens → PrintsRows false Plain (replicate width 0) tokens rows
 prints_of_walk width rows tokens are w = tokens_of_walk width rows are tokens false Plain 0 (replicate width 0) (omega arith) refl w
 
 -- a page text has its fixed part, and the bytes of its tokens
@@ -37,11 +41,13 @@ text_length dpi size copies tokens =
     let body = flat_map token_bytes tokens in
     omega (arith, length-append (begin ++ body) end_bytes, length-append begin body, total_is tokens)
 
-pub printed_length : (dpi : Dpi) (size : Size) (copies : ℕ) (rows : List (List ℕ)) (text : List ℕ) → (printed : IsPageText dpi size copies rows text)
+pub printed_length : (dpi : Dpi) (size : Size) (copies : ℕ) (rows : List (List ℕ)) (text : List ℕ)
+    → (printed : IsPageText dpi size copies rows text)
     → length text ≡ fixed_bytes dpi size copies + total cost printed.tokens
 printed_length dpi size copies rows text printed = ap length printed.spelled ∙ text_length dpi size copies printed.tokens
 
-pub printed_walk : (dpi : Dpi) (size : Size) (copies : ℕ) (rows : List (List ℕ)) (text : List ℕ) → (printed : IsPageText dpi size copies rows text)
+pub printed_walk : (dpi : Dpi) (size : Size) (copies : ℕ) (rows : List (List ℕ)) (text : List ℕ)
+    → (printed : IsPageText dpi size copies rows text)
     → Walk (Leads (page_row_bytes size dpi) rows) (Ends rows) start printed.tokens
 printed_walk dpi size copies rows text printed =
     walk_of_prints (page_row_bytes size dpi) rows printed.tokens (widths size dpi rows printed.rows_are) printed.prints
@@ -53,10 +59,12 @@ text_bounded dpi size copies rows text number feasible printed =
     omega (
       arith,
       printed_length dpi size copies rows text printed,
-      feasible_bounds (Leads (page_row_bytes size dpi) rows) (Ends rows) cost number feasible start printed.tokens (printed_walk dpi size copies rows text printed),
+      feasible_bounds (Leads (page_row_bytes size dpi) rows) (Ends rows) cost number feasible start printed.tokens
+          (printed_walk dpi size copies rows text printed),
     )
 
-pub text_of_least : (dpi : Dpi) (size : Size) (copies : ℕ) (rows : List (List ℕ)) (number : ℕ) → 0 < copies → copies < 100 → length rows ≡ page_height size dpi
+pub text_of_least : (dpi : Dpi) (size : Size) (copies : ℕ) (rows : List (List ℕ)) (number : ℕ) → 0 < copies → copies < 100 → length rows
+    ≡ page_height size dpi
     → AllByRecursion (IsRowOf size dpi) rows → IsLeastCost (Leads (page_row_bytes size dpi) rows) (Ends rows) cost start number
     → IsLeastText dpi size copies rows (fixed_bytes dpi size copies + number)
 text_of_least dpi size copies rows number some few count are least =
@@ -74,5 +82,10 @@ text_of_least dpi size copies rows number some few count are least =
     } in
     record {
       attained = (text, printed, text_length dpi size copies w.0 ∙ ap (λ (n : ℕ). fixed_bytes dpi size copies + n) w.2);
-      shortest = λ other is. omega (arith, printed_length dpi size copies rows other is, least.least is.tokens (printed_walk dpi size copies rows other is));
+      shortest = λ other is. omega (
+        arith,
+        printed_length dpi size copies rows other is,
+        least.least is.tokens
+            (printed_walk dpi size copies rows other is),
+      );
     }

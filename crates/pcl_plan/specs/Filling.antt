@@ -62,14 +62,16 @@ pub record IsReadable (table : List RowNumbers) (row run : ℕ) : Type 0 where
   pub next : row + 1 < length table
   pub within : row + run < length table
   pub few : length table ≤ 10000
-  pub falls : (method : Method) (near far : ℕ) → 0 < near → near ≤ far → far ≤ run → rest (node_number table) (row + far) method ≤ rest (node_number table) (row + near) method
+  pub falls : (method : Method) (near far : ℕ) → 0 < near → near ≤ far → far ≤ run
+      → rest (node_number table) (row + far) method ≤ rest (node_number table) (row + near) method
   pub small : (a : Node) → row < a.row → a.row < length table → node_number table a ≤ 655374457
 
 -- the least of sending a row by so many bytes, and of skipping some of so many rows
 pub record IsLeastStart (number : Node → ℕ) (row : ℕ) (method : Method) (run bytes least : ℕ) : Type 0 where
   pub sent : least ≤ sending bytes + outside number (row + 1) method
   pub skipped : (count : ℕ) → 0 < count → count ≤ run → least ≤ skipping number row method count
-  pub attained : (least ≡ sending bytes + outside number (row + 1) method) ⊎ ((count : ℕ) × (0 < count) × (count ≤ run) × (least ≡ skipping number row method count))
+  pub attained : (least ≡ sending bytes + outside number (row + 1) method)
+      ⊎ ((count : ℕ) × (0 < count) × (count ≤ run) × (least ≡ skipping number row method count))
 
 -- the least that comes in an open sequence where no method is set first: the row is sent, or rows are skipped
 pub record IsDirect (width : ℕ) (rows : List (List ℕ)) (number : Node → ℕ) (row : ℕ) (method : Method) (least : ℕ) : Type 0 where
@@ -77,13 +79,15 @@ pub record IsDirect (width : ℕ) (rows : List (List ℕ)) (number : Node → �
   pub is_length : IsLeastLength method (row_above width rows row) (row_at rows row) bytes
   pub sent : least ≤ sending bytes + outside number (row + 1) method
   pub skipped : (count : ℕ) → AreSkippable rows row count → least ≤ skipping number row method count
-  pub attained : (least ≡ sending bytes + outside number (row + 1) method) ⊎ ((count : ℕ) × AreSkippable rows row count × (least ≡ skipping number row method count))
+  pub attained : (least ≡ sending bytes + outside number (row + 1) method)
+      ⊎ ((count : ℕ) × AreSkippable rows row count × (least ≡ skipping number row method count))
 
 -- the numbers of a row: with a switch before that, or none, and with a sequence opened
 pub record IsSwitched (direct : Method → ℕ) (numbers : RowNumbers) : Type 0 where
   pub stays : (method : Method) → number_in numbers method true ≤ direct method
   pub switches : (method next : Method) → number_in numbers method true ≤ switching next + direct next
-  pub attained : (method : Method) → (number_in numbers method true ≡ direct method) ⊎ ((next : Method) × (number_in numbers method true ≡ switching next + direct next))
+  pub attained : (method : Method) → (number_in numbers method true ≡ direct method)
+      ⊎ ((next : Method) × (number_in numbers method true ≡ switching next + direct next))
   pub opens : (method : Method) → number_in numbers method false ≡ 3 + number_in numbers method true
 
 -- the least that comes in each method with no switch before it, and the numbers by that

@@ -36,7 +36,8 @@ Leads width rows a (skip digits count ends) b =
     (a.inside ≡ true) × IsSpelled digits count × (0 < count) × (a.row + count ≤ length rows) × AreWhite (take count (drop a.row rows))
     × (b ≡ record { row = a.row + count; method = a.method; inside = not ends })
 Leads width rows a (send digits bytes) b =
-    (a.inside ≡ true) × IsSpelled digits (length bytes) × (a.row < length rows) × IsRowData a.method (row_above width rows a.row) (row_at rows a.row) bytes
+    (a.inside ≡ true) × IsSpelled digits (length bytes) × (a.row < length rows)
+    × IsRowData a.method (row_above width rows a.row) (row_at rows a.row) bytes
     × (b ≡ record { row = a.row + 1; method = a.method; inside = false })
 
 -- a body may end outside a sequence, where the rest of the rows is white

@@ -17,7 +17,8 @@ use Rattle.pcl_plan.specs.declared.step.Step.TheVariants.{Skip, Switch, Row}
 abbrev pub IsTokenOf : Step → Bool → Token → Type 0
 IsTokenOf step ends opening = ⊥
 IsTokenOf (Skip rows) ends (skip digits count capital) = (count ≡ rows) × (digits ≡ least_spelling rows) × (capital ≡ ends)
-IsTokenOf (Switch next) ends (method digits current capital) = (current ≡ next) × (digits ≡ least_spelling (method_code next)) × (capital ≡ ends)
+IsTokenOf (Switch next) ends (method digits current capital) = (current ≡ next) × (digits ≡ least_spelling (method_code next))
+    × (capital ≡ ends)
 IsTokenOf (Row count) ends (send digits bytes) = (length bytes ≡ count) × (digits ≡ least_spelling count)
 IsTokenOf _ ends _ = ⊥
 
@@ -40,7 +41,8 @@ is_last (step ∷ steps) = false
 unfoldable pub Spells : Bool → List Step → List Token → Type 0
 Spells inside [] tokens = tokens ≡ []
 Spells inside (step ∷ steps) tokens =
-    (token : Token) × (rest : List Token) × IsTokenOf step (is_last steps) token × (tokens ≡ opened inside (token ∷ rest)) × Spells (stays_inside step) steps rest
+    (token : Token) × (rest : List Token) × IsTokenOf step (is_last steps) token × (tokens ≡ opened inside (token ∷ rest))
+    × Spells (stays_inside step) steps rest
 
 -- ---- plans
 

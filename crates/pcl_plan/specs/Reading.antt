@@ -13,10 +13,12 @@ use Rattle.pcl_plan.specs.declared.step.Step.TheVariants.{Skip, Switch, Row}
 
 -- a step with which the least begins that comes inside a sequence
 abbrev pub IsBestStep : ℕ → List (List ℕ) → (Node → ℕ) → ℕ → Method → Step → Type 0
-IsBestStep width rows number row method (Skip count) = AreSkippable rows row count × (inside number row method ≡ skipping number row method count)
+IsBestStep width rows number row method (Skip count) = AreSkippable rows row count
+    × (inside number row method ≡ skipping number row method count)
 IsBestStep width rows number row method (Switch next) = inside number row method ≡ switching next + rest number row next
 IsBestStep width rows number row method (Row bytes) =
-    (row < length rows) × IsLeastLength method (row_above width rows row) (row_at rows row) bytes × (inside number row method ≡ sending bytes + outside number (row + 1) method)
+    (row < length rows) × IsLeastLength method (row_above width rows row) (row_at rows row) bytes
+    × (inside number row method ≡ sending bytes + outside number (row + 1) method)
 
 -- how many rows are printed behind a step, and the method there
 abbrev pub row_behind : ℕ → Step → ℕ

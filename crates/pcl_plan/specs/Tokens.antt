@@ -52,7 +52,8 @@ PrintsRows true current seed [] rows = ⊥
 PrintsRows false current seed (opening ∷ tokens) rows = PrintsRows true current seed tokens rows
 PrintsRows true current seed (opening ∷ tokens) rows = ⊥
 PrintsRows false current seed (method digits next ends ∷ tokens) rows = ⊥
-PrintsRows true current seed (method digits next ends ∷ tokens) rows = IsSpelled digits (method_code next) × PrintsRows (not ends) next seed tokens rows
+PrintsRows true current seed (method digits next ends ∷ tokens) rows = IsSpelled digits (method_code next)
+    × PrintsRows (not ends) next seed tokens rows
 PrintsRows false current seed (skip digits count ends ∷ tokens) rows = ⊥
 PrintsRows true current seed (skip digits count ends ∷ tokens) rows =
     IsSpelled digits count × (0 < count) × (count ≤ length rows) × AreWhite (take count rows)

@@ -64,7 +64,8 @@ fn row_numbers<L: LeastLengths>(
 /// The least lengths of a row's data by the four methods.
 fn least_lengths<L: LeastLengths>(lengths: &L, rows: &Rows<'_>, row: u32) -> ByMethod
     requires { row < rows.now.count }
-    ensures { (method : RowMethod) → IsLeastLength method (row_above rows.now.width (rows_of rows.now) row) (row_at (rows_of rows.now) row) (by_method result method) }
+    ensures { (method : RowMethod)
+        → IsLeastLength method (row_above rows.now.width (rows_of rows.now) row) (row_at (rows_of rows.now) row) (by_method result method) }
 {
     let zeros = [0; ROW_LIMIT];
     let bytes = rows.row(row);
@@ -82,7 +83,8 @@ fn least_lengths<L: LeastLengths>(lengths: &L, rows: &Rows<'_>, row: u32) -> ByM
 fn least_starts(table: &Table, row: u32, run: u32, bytes: ByMethod) -> ByMethod
     requires readable { IsReadable table.now row run }
     requires bytes { (method : RowMethod) → by_method bytes method ≤ 65535 }
-    ensures { (method : RowMethod) → IsLeastStart (node_number table.now) row method run (by_method bytes method) (by_method result method) }
+    ensures { (method : RowMethod)
+        → IsLeastStart (node_number table.now) row method run (by_method bytes method) (by_method result method) }
 {
     ByMethod {
         plain: least_start(table, row, Method::Plain, run, bytes.plain),

@@ -120,7 +120,8 @@ impl Table {
         requires { row < length self.old }
         ensures rows { length self.new ≡ length self.old }
         ensures changed { node_number self.new record { row = row; method = method; inside = inside } ≡ number }
-        ensures others { (node : Node) → node ≢ record { row = row; method = method; inside = inside } → node_number self.new node ≡ node_number self.old node }
+        ensures others { (node : Node) → node ≢ record { row = row; method = method; inside = inside }
+            → node_number self.new node ≡ node_number self.old node }
     {
         let mut numbers = self.numbers[row as usize];
         if inside {
@@ -135,7 +136,8 @@ impl Table {
     pub fn put(&mut self, row: u32, numbers: RowNumbers)
         requires { row < length self.old }
         ensures rows { length self.new ≡ length self.old }
-        ensures changed { (method : RowMethod) (inside : Bool) → node_number self.new record { row = row; method = method; inside = inside } ≡ number_in numbers method inside }
+        ensures changed { (method : RowMethod) (inside : Bool)
+            → node_number self.new record { row = row; method = method; inside = inside } ≡ number_in numbers method inside }
         ensures others { (node : Node) → node.row ≢ row → node_number self.new node ≡ node_number self.old node }
     {
         self.numbers[row as usize] = numbers;

@@ -36,7 +36,8 @@ use Rattle.pcl_writer.specs.Steps.{width_of, above, IsBitmapPlan, IsWritable, Ha
 pub front_is : (old new more : List ℕ) → new ≡ old ++ more → take (length old) new ≡ old
 front_is old new more e = ap (take (length old)) e ∙ take_at old more (length old) refl
 
-pub page_joined : (old one two three start body tail : List ℕ) → one ≡ old ++ start → two ≡ one ++ body → three ≡ two ++ tail → three ≡ old ++ (start ++ body ++ tail)
+pub page_joined : (old one two three start body tail : List ℕ) → one ≡ old ++ start → two ≡ one ++ body → three ≡ two ++ tail → three
+    ≡ old ++ (start ++ body ++ tail)
 page_joined old one two three start body tail a b c =
     c ∙ ap (λ (t : List ℕ). t ++ tail) (b ∙ ap (λ (t : List ℕ). t ++ body) a) ∙ simp append_assoc
 
@@ -48,13 +49,15 @@ skip_token count ends (method digits next capital) t = absurd t
 skip_token count ends (skip digits rows capital) t = let a = t.0 in let b = t.1 in let e = t.2 in cc
 skip_token count ends (send digits bytes) t = absurd t
 
-switch_token : (next : Method) (ends : Bool) (token : Token) → IsTokenOf (Switch next) ends token → token ≡ method (least_spelling (method_code next)) next ends
+switch_token : (next : Method) (ends : Bool) (token : Token) → IsTokenOf (Switch next) ends token → token
+    ≡ method (least_spelling (method_code next)) next ends
 switch_token next ends opening t = absurd t
 switch_token next ends (method digits current capital) t = let a = t.0 in let b = t.1 in let e = t.2 in cc
 switch_token next ends (skip digits rows capital) t = absurd t
 switch_token next ends (send digits bytes) t = absurd t
 
-row_token : (count : ℕ) (ends : Bool) (token : Token) → IsTokenOf (Row count) ends token → (bytes : List ℕ) × (token ≡ send (least_spelling count) bytes) × (length bytes ≡ count)
+row_token : (count : ℕ) (ends : Bool) (token : Token) → IsTokenOf (Row count) ends token → (bytes : List ℕ)
+    × (token ≡ send (least_spelling count) bytes) × (length bytes ≡ count)
 row_token count ends opening t = absurd t
 row_token count ends (method digits current capital) t = absurd t
 row_token count ends (skip digits rows capital) t = absurd t
@@ -70,8 +73,11 @@ pub record LeadsToo (picture : Picture) (place behind : Place) (token written : 
   pub costs : cost written ≡ cost token
   pub within : behind.row ≤ length (bitmap_rows picture)
 
-leads_too : (picture : Picture) (place behind : Place) (step : Step) (ends : Bool) (token written : Token) (b : Node) → place.row ≤ length (bitmap_rows picture) → IsTokenOf step ends token → IsTokenOf step ends written → HasRowData picture place.row place.method written
-    → IsPlaceBehind place step ends behind → Leads (width_of picture) (bitmap_rows picture) (node place.row place.method true) token b → LeadsToo picture place behind token written b
+leads_too : (picture : Picture) (place behind : Place) (step : Step) (ends : Bool) (token written : Token) (b : Node)
+    → place.row ≤ length (bitmap_rows picture) → IsTokenOf step ends token → IsTokenOf step ends written
+    → HasRowData picture place.row place.method written
+    → IsPlaceBehind place step ends behind → Leads (width_of picture) (bitmap_rows picture) (node place.row place.method true) token b
+    → LeadsToo picture place behind token written b
 leads_too picture place behind (Skip count) ends token written b before t w d p l =
     let from = node place.row place.method true in
     let is = skip_token count ends token t in
@@ -79,7 +85,8 @@ leads_too picture place behind (Skip count) ends token written b before t w d p 
     let led = subst (λ (x : Token). Leads (width_of picture) (bitmap_rows picture) from x b) is l in
     record {
       within = omega (arith, p.row_is, led.3);
-      there = led.5 ∙ sym (node_is behind.row (place.row + count) behind.method place.method behind.inside (not ends) p.row_is p.method_is p.inside_is);
+      there = led.5 ∙ sym (node_is behind.row (place.row + count) behind.method place.method behind.inside (not ends) p.row_is p.method_is
+          p.inside_is);
       leads = subst (λ (x : Token). Leads (width_of picture) (bitmap_rows picture) from x b) same l;
       costs = ap cost (sym same);
     }
@@ -100,24 +107,41 @@ leads_too picture place behind (Row count) ends token written b before t w d p l
     let other = row_token count ends written w in
     let led = subst (λ (x : Token). Leads (width_of picture) (bitmap_rows picture) from x b) one.1 l in
     let whole = subst (HasRowData picture place.row place.method) other.1 d in
-    let spelled : IsSpelled (least_spelling count) (length other.0) = subst (IsSpelled (least_spelling count)) (one.2 ∙ sym other.2) led.1 in
+    let spelled : IsSpelled (least_spelling count) (length other.0) = subst (IsSpelled (least_spelling count)) (one.2 ∙ sym other.2) led.1
+    in
     record {
       within = omega (arith, p.row_is, led.2);
-      there = led.4 ∙ sym (node_is behind.row (place.row + 1) behind.method place.method behind.inside false p.row_is p.method_is p.inside_is);
-      leads = subst (λ (x : Token). Leads (width_of picture) (bitmap_rows picture) from x b) (sym other.1) (refl, spelled, led.2, whole, led.4);
-      costs = omega (arith, ap cost one.1, ap cost other.1, cost_send (least_spelling count) one.0, cost_send (least_spelling count) other.0, one.2, other.2);
+      there = led.4 ∙ sym (node_is behind.row (place.row + 1) behind.method place.method behind.inside false p.row_is p.method_is
+          p.inside_is);
+      leads = subst (λ (x : Token). Leads (width_of picture) (bitmap_rows picture) from x b) (sym other.1)
+          (refl, spelled, led.2, whole, led.4);
+      costs = omega (
+        arith,
+        ap cost one.1,
+        ap cost other.1,
+        cost_send (least_spelling count) one.0,
+        cost_send (least_spelling count)
+            other.0,
+        one.2,
+        other.2,
+      );
     }
 
 -- ---- a walk from inside a sequence
 
-pub record IsOpened (picture : Picture) (number : Node → ℕ) (row : ℕ) (current : Method) (is_open : Bool) (tokens : List Token) : Type 0 where
-  pub walk : Walk (Leads (width_of picture) (bitmap_rows picture)) (Ends (bitmap_rows picture)) (node row current true) tokens
-  pub total_is : total cost tokens ≡ number (node row current true)
-  pub back : (other : List Token) → Walk (Leads (width_of picture) (bitmap_rows picture)) (Ends (bitmap_rows picture)) (node row current true) other → total cost other ≡ number (node row current true)
-      → Walk (Leads (width_of picture) (bitmap_rows picture)) (Ends (bitmap_rows picture)) (node row current is_open) (opened is_open other) × (total cost (opened is_open other) ≡ number (node row current is_open))
+pub record IsOpened (picture : Picture) (number : Node → ℕ) (row : ℕ) (current : Method) (is_open : Bool) (tokens : List Token) : Type 0
+  where
+    pub walk : Walk (Leads (width_of picture) (bitmap_rows picture)) (Ends (bitmap_rows picture)) (node row current true) tokens
+    pub total_is : total cost tokens ≡ number (node row current true)
+    pub back : (other : List Token) → Walk (Leads (width_of picture) (bitmap_rows picture)) (Ends (bitmap_rows picture))
+        (node row current true) other → total cost other ≡ number (node row current true)
+        → Walk (Leads (width_of picture) (bitmap_rows picture)) (Ends (bitmap_rows picture)) (node row current is_open)
+        (opened is_open other) × (total cost (opened is_open other) ≡ number (node row current is_open))
 
-opened_is : (picture : Picture) (number : Node → ℕ) → IsFeasible (Leads (width_of picture) (bitmap_rows picture)) (Ends (bitmap_rows picture)) cost number → (row : ℕ) (current : Method) (is_open : Bool) (tokens : List Token)
-    → Walk (Leads (width_of picture) (bitmap_rows picture)) (Ends (bitmap_rows picture)) (node row current is_open) (opened is_open tokens) → total cost (opened is_open tokens) ≡ number (node row current is_open)
+opened_is : (picture : Picture) (number : Node → ℕ) → IsFeasible (Leads (width_of picture) (bitmap_rows picture))
+    (Ends (bitmap_rows picture)) cost number → (row : ℕ) (current : Method) (is_open : Bool) (tokens : List Token)
+    → Walk (Leads (width_of picture) (bitmap_rows picture)) (Ends (bitmap_rows picture)) (node row current is_open)
+    (opened is_open tokens) → total cost (opened is_open tokens) ≡ number (node row current is_open)
     → IsOpened picture number row current is_open tokens
 opened_is picture number feasible row current true tokens w t = record { walk = w; total_is = t; back = λ other v u. (v, u) }
 opened_is picture number feasible row current false tokens w t =
@@ -140,19 +164,27 @@ pub record IsWrittenTo (picture : Picture) (table : StepsAndTable) (old now : Li
   pub spells : Spells place.inside todo left
   pub walk : Walk (Leads (width_of picture) (bitmap_rows picture)) (Ends (bitmap_rows picture)) (node_of place) left
   pub total_is : total cost left ≡ node_number table.table (node_of place)
-  pub goes_on : (rest : List Token) → Walk (Leads (width_of picture) (bitmap_rows picture)) (Ends (bitmap_rows picture)) (node_of place) rest → total cost rest ≡ node_number table.table (node_of place)
-      → Walk (Leads (width_of picture) (bitmap_rows picture)) (Ends (bitmap_rows picture)) start (done ++ rest) × (total cost (done ++ rest) ≡ node_number table.table start)
+  pub goes_on : (rest : List Token) → Walk (Leads (width_of picture) (bitmap_rows picture)) (Ends (bitmap_rows picture)) (node_of place)
+      rest → total cost rest ≡ node_number table.table (node_of place)
+      → Walk (Leads (width_of picture) (bitmap_rows picture)) (Ends (bitmap_rows picture)) start (done ++ rest)
+      × (total cost (done ++ rest) ≡ node_number table.table start)
 
-pub begin : (picture : Picture) (plan : StepsAndTable) (old : List ℕ) (place : Place) → IsBitmapPlan picture plan → place.inside ≡ false → node_of place ≡ start → IsWrittenTo picture plan old old plan.steps place
+pub begin : (picture : Picture) (plan : StepsAndTable) (old : List ℕ) (place : Place) → IsBitmapPlan picture plan → place.inside ≡ false
+    → node_of place ≡ start → IsWrittenTo picture plan old old plan.steps place
 begin picture plan old place is closed at = record {
   within = omega (arith, ap (λ (n : Node). n.row) at);
   done = [];
   spelled = sym (append-nil old);
   left = is.tokens;
   spells = subst (λ (i : Bool). Spells i plan.steps is.tokens) (sym closed) is.spelled;
-  walk = subst (λ (n : Node). Walk (Leads (width_of picture) (bitmap_rows picture)) (Ends (bitmap_rows picture)) n is.tokens) (sym at) is.walk;
+  walk = subst (λ (n : Node). Walk (Leads (width_of picture) (bitmap_rows picture)) (Ends (bitmap_rows picture)) n is.tokens) (sym at)
+      is.walk;
   total_is = is.total_is ∙ ap (node_number plan.table) (sym at);
-  goes_on = λ rest w t. (subst (λ (n : Node). Walk (Leads (width_of picture) (bitmap_rows picture)) (Ends (bitmap_rows picture)) n rest) at w, t ∙ ap (node_number plan.table) at);
+  goes_on = λ rest w t. (
+    subst (λ (n : Node). Walk (Leads (width_of picture) (bitmap_rows picture)) (Ends (bitmap_rows picture)) n rest)
+        at w,
+    t ∙ ap (node_number plan.table) at,
+  );
 }
 
 -- the token that comes next
@@ -163,7 +195,8 @@ pub record IsNextToken (picture : Picture) (plan : StepsAndTable) (place : Place
   pub spells : Spells (stays_inside step) more rest
   pub from : IsOpened picture (node_number plan.table) place.row place.method place.inside (token ∷ rest)
 
-next_token : (picture : Picture) (plan : StepsAndTable) (old now : List ℕ) (step : Step) (more : List Step) (place : Place) → IsBitmapPlan picture plan → IsWrittenTo picture plan old now (step ∷ more) place
+next_token : (picture : Picture) (plan : StepsAndTable) (old now : List ℕ) (step : Step) (more : List Step) (place : Place)
+    → IsBitmapPlan picture plan → IsWrittenTo picture plan old now (step ∷ more) place
     → IsNextToken picture plan place step more
 unfolding Spells
 next_token picture plan old now step more place is w =
@@ -174,24 +207,30 @@ next_token picture plan old now step more place is w =
       is_of = s.2;
       spells = s.4;
       from = opened_is picture (node_number plan.table) is.feasible place.row place.method place.inside (s.0 ∷ s.1)
-          (subst (Walk (Leads (width_of picture) (bitmap_rows picture)) (Ends (bitmap_rows picture)) (node_of place)) s.3 w.walk) (ap (total cost) (sym s.3) ∙ w.total_is);
+          (subst (Walk (Leads (width_of picture) (bitmap_rows picture)) (Ends (bitmap_rows picture)) (node_of place)) s.3 w.walk)
+          (ap (total cost) (sym s.3) ∙ w.total_is);
     }
 
 -- a row that comes next is sent by as few bytes as can be
-writable_from : (picture : Picture) (plan : StepsAndTable) (place : Place) (step : Step) (more : List Step) → IsBitmapPlan picture plan → IsNextToken picture plan place step more → IsWritable picture place.row place.method step
+writable_from : (picture : Picture) (plan : StepsAndTable) (place : Place) (step : Step) (more : List Step) → IsBitmapPlan picture plan
+    → IsNextToken picture plan place step more → IsWritable picture place.row place.method step
 writable_from picture plan place (Skip count) more is n = tt
 writable_from picture plan place (Switch next) more is n = tt
 writable_from picture plan place (Row count) more is n =
     let one = row_token count (is_last more) n.token n.is_of in
     let from = node place.row place.method true in
-    let w = subst (λ (t : Token). Walk (Leads (width_of picture) (bitmap_rows picture)) (Ends (bitmap_rows picture)) from (t ∷ n.rest)) one.1 n.from.walk in
+    let w = subst (λ (t : Token). Walk (Leads (width_of picture) (bitmap_rows picture)) (Ends (bitmap_rows picture)) from (t ∷ n.rest))
+    one.1 n.from.walk in
     let t = ap (λ (x : Token). total cost (x ∷ n.rest)) (sym one.1) ∙ n.from.total_is in
-    let least = sent_is_least (width_of picture) (bitmap_rows picture) (node_number plan.table) is.feasible place.row place.method w.0 (least_spelling count) one.0 n.rest w.1 w.2 t in
+    let least = sent_is_least (width_of picture) (bitmap_rows picture) (node_number plan.table) is.feasible place.row place.method w.0
+    (least_spelling count) one.0 n.rest w.1 w.2 t in
     (w.1.2, subst (IsLeastLength place.method (above picture place.row) (row_at (bitmap_rows picture) place.row)) one.2 least)
 
-pub writable : (picture : Picture) (plan : StepsAndTable) (old now : List ℕ) (step : Step) (more : List Step) (place : Place) → IsBitmapPlan picture plan → IsWrittenTo picture plan old now (step ∷ more) place
+pub writable : (picture : Picture) (plan : StepsAndTable) (old now : List ℕ) (step : Step) (more : List Step) (place : Place)
+    → IsBitmapPlan picture plan → IsWrittenTo picture plan old now (step ∷ more) place
     → IsWritable picture place.row place.method step
-writable picture plan old now step more place is w = writable_from picture plan place step more is (next_token picture plan old now step more place is w)
+writable picture plan old now step more place is w = writable_from picture plan place step more is
+    (next_token picture plan old now step more place is w)
 
 -- behind the last step it makes no difference whether a sequence is open
 goes_on_open : (step : Step) (last : Bool) → last ≡ false → stays_inside step ≡ (stays_inside step && not last)
@@ -199,34 +238,46 @@ goes_on_open (Skip count) last e = sym (ap not e)
 goes_on_open (Switch next) last e = sym (ap not e)
 goes_on_open (Row count) last e = refl
 
-pub written_more : (picture : Picture) (plan : StepsAndTable) (old now new : List ℕ) (step : Step) (more : List Step) (place behind : Place) → IsBitmapPlan picture plan → IsWrittenTo picture plan old now (step ∷ more) place
-    → AppendsStep picture place step (is_last more) now new → IsPlaceBehind place step (is_last more) behind → IsWrittenTo picture plan old new more behind
+pub written_more : (picture : Picture) (plan : StepsAndTable) (old now new : List ℕ) (step : Step) (more : List Step)
+    (place behind : Place) → IsBitmapPlan picture plan → IsWrittenTo picture plan old now (step ∷ more) place
+    → AppendsStep picture place step (is_last more) now new → IsPlaceBehind place step (is_last more) behind
+    → IsWrittenTo picture plan old new more behind
 written_more picture plan old now new step more place behind is w a p =
     let n = next_token picture plan old now step more place is w in
     let walk = n.from.walk in
     let from = node place.row place.method true in
     let too = leads_too picture place behind step (is_last more) n.token a.0 walk.0 w.within n.is_of a.1 a.2 p walk.1 in
-    let s = step_is_least (width_of picture) (bitmap_rows picture) (node_number plan.table) is.feasible from walk.0 n.token n.rest walk.1 walk.2 n.from.total_is in
+    let s = step_is_least (width_of picture) (bitmap_rows picture) (node_number plan.table) is.feasible from walk.0 n.token n.rest walk.1
+    walk.2 n.from.total_is in
     let token : List Token = opened place.inside (a.0 ∷ []) in
     record {
       within = too.within;
       done = w.done ++ token;
-      spelled = a.3 ∙ ap (λ (t : List ℕ). t ++ flat_map token_bytes token) w.spelled ∙ append_assoc old (flat_map token_bytes w.done) (flat_map token_bytes token)
+      spelled = a.3 ∙ ap (λ (t : List ℕ). t ++ flat_map token_bytes token) w.spelled ∙ append_assoc old (flat_map token_bytes w.done)
+          (flat_map token_bytes token)
           ∙ ap (λ (t : List ℕ). old ++ t) (sym (flat_map-append token_bytes w.done token));
       left = n.rest;
-      spells = spells_any (stays_inside step) behind.inside more n.rest (λ others. goes_on_open step (is_last more) others ∙ sym p.inside_is) n.spells;
-      walk = subst (λ (x : Node). Walk (Leads (width_of picture) (bitmap_rows picture)) (Ends (bitmap_rows picture)) x n.rest) too.there walk.2;
+      spells = spells_any (stays_inside step) behind.inside more n.rest
+          (λ others. goes_on_open step (is_last more) others ∙ sym p.inside_is) n.spells;
+      walk = subst (λ (x : Node). Walk (Leads (width_of picture) (bitmap_rows picture)) (Ends (bitmap_rows picture)) x n.rest) too.there
+          walk.2;
       total_is = s.1 ∙ ap (node_number plan.table) too.there;
       goes_on = λ rest v t.
-          let v' = subst (λ (x : Node). Walk (Leads (width_of picture) (bitmap_rows picture)) (Ends (bitmap_rows picture)) x rest) (sym too.there) v in
-          let b = n.from.back (a.0 ∷ rest) (walk.0, too.leads, v') (omega (arith, t, s.0, too.costs, ap (node_number plan.table) too.there)) in
+          let v' = subst (λ (x : Node). Walk (Leads (width_of picture) (bitmap_rows picture)) (Ends (bitmap_rows picture)) x rest)
+          (sym too.there) v in
+          let b = n.from.back (a.0 ∷ rest) (walk.0, too.leads, v') (omega
+          (arith, t, s.0, too.costs, ap (node_number plan.table) too.there)) in
           let g = w.goes_on (opened place.inside (a.0 ∷ rest)) b.0 b.1 in
           let same : w.done ++ opened place.inside (a.0 ∷ rest) ≡ (w.done ++ token) ++ rest =
-          ap (λ (ts : List Token). w.done ++ ts) (opened_more place.inside a.0 rest) ∙ sym (append_assoc w.done token rest) in
-          (subst (Walk (Leads (width_of picture) (bitmap_rows picture)) (Ends (bitmap_rows picture)) start) same g.0, ap (total cost) (sym same) ∙ g.1);
+          ap (λ (ts : List Token). w.done ++ ts) (opened_more place.inside a.0 rest) ∙ sym (append_assoc w.done token rest) in (
+            subst (Walk (Leads (width_of picture) (bitmap_rows picture)) (Ends (bitmap_rows picture)) start) same g.0,
+            ap (total cost)
+                (sym same) ∙ g.1,
+          );
     }
 
-pub written_all : (picture : Picture) (plan : StepsAndTable) (old now : List ℕ) (place : Place) → IsWrittenTo picture plan old now [] place → AppendsBody picture plan old now
+pub written_all : (picture : Picture) (plan : StepsAndTable) (old now : List ℕ) (place : Place)
+    → IsWrittenTo picture plan old now [] place → AppendsBody picture plan old now
 unfolding Spells
 written_all picture plan old now place w =
     let none : w.left ≡ [] = w.spells in
@@ -239,14 +290,16 @@ written_all picture plan old now place w =
     )
 
 -- there is one least length
-pub one_least : (current : Method) (seed row : List ℕ) (m n : ℕ) → IsLeastLength current seed row m → IsLeastLength current seed row n → m ≡ n
+pub one_least : (current : Method) (seed row : List ℕ) (m n : ℕ) → IsLeastLength current seed row m → IsLeastLength current seed row n → m
+    ≡ n
 one_least current seed row m n a b =
     let below = a.shortest b.attained.0 b.attained.1 in
     let over = b.shortest a.attained.0 a.attained.1 in
     omega (arith, a.attained.2, b.attained.2, below, over)
 
 -- a token behind the opening of its sequence
-pub opened_bytes : (is_open : Bool) (token : Token) → flat_map token_bytes (opened is_open []) ++ token_bytes token ≡ flat_map token_bytes (opened is_open (token ∷ []))
+pub opened_bytes : (is_open : Bool) (token : Token) → flat_map token_bytes (opened is_open []) ++ token_bytes token
+    ≡ flat_map token_bytes (opened is_open (token ∷ []))
 opened_bytes true token = sym (append-nil (token_bytes token))
 opened_bytes false token = simp append_assoc (ap (λ (t : List ℕ). token_bytes opening ++ t) (sym (append-nil (token_bytes token))))
 
@@ -270,15 +323,19 @@ ends_at steps k le =
     ]
 
 -- a row's data behind its length
-pub appended_row : (picture : Picture) (y : ℕ) (current : Method) (count : ℕ) (old one mid new seed row : List ℕ) → row ≡ row_at (bitmap_rows picture) y → seed ≡ above picture y
-    → IsLeastLength current (above picture y) (row_at (bitmap_rows picture) y) count → one ≡ old ++ least_spelling count → mid ≡ one ++ 87 ∷ [] → AppendsLeast current seed row mid new
+pub appended_row : (picture : Picture) (y : ℕ) (current : Method) (count : ℕ) (old one mid new seed row : List ℕ) → row
+    ≡ row_at (bitmap_rows picture) y → seed ≡ above picture y
+    → IsLeastLength current (above picture y) (row_at (bitmap_rows picture) y) count → one ≡ old ++ least_spelling count → mid
+    ≡ one ++ 87 ∷ [] → AppendsLeast current seed row mid new
     → AppendsRow picture y current count old new
 appended_row picture y current count old one mid new seed row r s least a b appends =
-    let is = subst (λ (x : List ℕ). AppendsLeast current (above picture y) x mid new) r (subst (λ (x : List ℕ). AppendsLeast current x row mid new) s appends) in (
+    let is = subst (λ (x : List ℕ). AppendsLeast current (above picture y) x mid new) r
+    (subst (λ (x : List ℕ). AppendsLeast current x row mid new) s appends) in (
       is.bytes,
       is.whole,
       one_least current (above picture y) (row_at (bitmap_rows picture) y) (length is.bytes) count is.least least,
-      is.joined ∙ ap (λ (t : List ℕ). t ++ is.bytes) (b ∙ ap (λ (t : List ℕ). t ++ 87 ∷ []) a) ∙ row_joined old (least_spelling count) is.bytes,
+      is.joined ∙ ap (λ (t : List ℕ). t ++ is.bytes) (b ∙ ap (λ (t : List ℕ). t ++ 87 ∷ []) a) ∙ row_joined old (least_spelling count)
+          is.bytes,
     )
 
 -- heights of pages

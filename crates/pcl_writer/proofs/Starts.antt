@@ -7,13 +7,16 @@ use Rattle.pcl_base.specs.Dpi.{dots_per_inch}
 use Rattle.pcl_base.specs.Size.{code_of, page_width}
 use Rattle.pcl_plan.specs.Tokens.{start_bytes}
 
-pub five_joined : (old a b c d e one two three four five : List ℕ) → one ≡ old ++ a → two ≡ one ++ b → three ≡ two ++ c → four ≡ three ++ d → five ≡ four ++ e
+pub five_joined : (old a b c d e one two three four five : List ℕ) → one ≡ old ++ a → two ≡ one ++ b → three ≡ two ++ c → four
+    ≡ three ++ d → five ≡ four ++ e
     → five ≡ old ++ (a ++ (b ++ (c ++ (d ++ e))))
 five_joined old a b c d e one two three four five p q r s t =
-    t ∙ ap (λ (x : List ℕ). x ++ e) (s ∙ ap (λ (x : List ℕ). x ++ d) (r ∙ ap (λ (x : List ℕ). x ++ c) (q ∙ ap (λ (x : List ℕ). x ++ b) p))) ∙ simp append_assoc
+    t ∙ ap (λ (x : List ℕ). x ++ e) (s ∙ ap (λ (x : List ℕ). x ++ d) (r ∙ ap (λ (x : List ℕ). x ++ c)
+    (q ∙ ap (λ (x : List ℕ). x ++ b) p))) ∙ simp append_assoc
 
 pub start_regrouped : (dpi : Dpi) (copies : ℕ) (size : Size)
-    → ((27 ∷ 38 ∷ 108 ∷ []) ++ (decimal copies ++ ((120 ∷ []) ++ (decimal (code_of size) ++ (97 ∷ 48 ∷ 69 ∷ 27 ∷ 42 ∷ 112 ∷ 48 ∷ 120 ∷ 48 ∷ 89 ∷ 27 ∷ 42 ∷ 116 ∷ [])))))
+    → ((27 ∷ 38 ∷ 108 ∷ []) ++ (decimal copies ++ ((120 ∷ []) ++ (decimal (code_of size) ++
+    (97 ∷ 48 ∷ 69 ∷ 27 ∷ 42 ∷ 112 ∷ 48 ∷ 120 ∷ 48 ∷ 89 ∷ 27 ∷ 42 ∷ 116 ∷ [])))))
     ++ (decimal (dots_per_inch dpi) ++ ((82 ∷ 27 ∷ 42 ∷ 114 ∷ []) ++ (decimal (page_width size dpi) ++ (115 ∷ 48 ∷ 65 ∷ []))))
     ≡ start_bytes dpi copies size
 start_regrouped dpi copies size = simp append_assoc

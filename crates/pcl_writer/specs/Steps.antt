@@ -33,7 +33,8 @@ IsBitmapPlan picture plan = IsPlan (width_of picture) (bitmap_rows picture) plan
 abbrev pub IsWritable : Picture → ℕ → Method → Step → Type 0
 IsWritable picture row current (Skip count) = Unit {0}
 IsWritable picture row current (Switch next) = Unit {0}
-IsWritable picture row current (Row bytes) = (row < length (bitmap_rows picture)) × IsLeastLength current (above picture row) (row_at (bitmap_rows picture) row) bytes
+IsWritable picture row current (Row bytes) = (row < length (bitmap_rows picture))
+    × IsLeastLength current (above picture row) (row_at (bitmap_rows picture) row) bytes
 
 -- the data of a row that is sent is whole data for it
 abbrev pub HasRowData : Picture → ℕ → Method → Token → Type 0
@@ -70,5 +71,6 @@ pub record IsPlaceBehind (place : Place) (step : Step) (ends : Bool) (behind : P
 -- a body along a walk of least cost
 abbrev pub AppendsBody : Picture → StepsAndTable → List ℕ → List ℕ → Type 0
 AppendsBody picture plan old new =
-    (tokens : List Token) × (new ≡ old ++ flat_map token_bytes tokens) × Walk (Leads (width_of picture) (bitmap_rows picture)) (Ends (bitmap_rows picture)) start tokens
+    (tokens : List Token) × (new ≡ old ++ flat_map token_bytes tokens)
+    × Walk (Leads (width_of picture) (bitmap_rows picture)) (Ends (bitmap_rows picture)) start tokens
     × (total cost tokens ≡ node_number plan.table start)

@@ -4,4 +4,10 @@ use Rattle.pcl_plan.proofs.fill.least_start.Goals as goal
 
 pub overflow_add-sent : goal.overflow_add-sent
 overflow_add-sent c =
-    omega (arith, c.sending_cost.ensures.small, c.number.ensures, c.requires.readable.small (node (c.args.row + 1) c.args.method false) (omega arith) c.requires.readable.next)
+    omega (
+      arith,
+      c.sending_cost.ensures.small,
+      c.number.ensures,
+      c.requires.readable.small (node (c.args.row + 1) c.args.method false)
+          (omega arith) c.requires.readable.next,
+    )

@@ -11,25 +11,35 @@ use Rattle.pcl_plan.proofs.InkedRows.{length_small, sending_small}
 use Rattle.pcl_plan.proofs.Filled.{readable, direct_of_start}
 use Rattle.pcl_plan.proofs.fill.row_numbers.Goals as goal
 
-readable_rows : (rows : Rows) (table : List RowNumbers) (row run : ℕ) → AreRightFrom rows.width (rows_of rows) table (row + 1) → IsWhiteRun (rows_of rows) row run → row + run < rows.count → IsReadable table row run
+readable_rows : (rows : Rows) (table : List RowNumbers) (row run : ℕ) → AreRightFrom rows.width (rows_of rows) table (row + 1)
+    → IsWhiteRun (rows_of rows) row run → row + run < rows.count → IsReadable table row run
 readable_rows rows table row run right is ink =
     let count = length_rows rows.count rows.width rows.bytes.now in
     readable rows.width (rows_of rows) table row run (omega (arith, count, rows.few)) right is (omega (arith, count))
 
 pub least_starts-requires-clause-readable : goal.least_starts-requires-clause-readable
-least_starts-requires-clause-readable g c = readable_rows c.args.rows.now c.args.table.now c.args.row c.args.run c.requires.right c.requires.run c.requires.ink
+least_starts-requires-clause-readable g c = readable_rows c.args.rows.now c.args.table.now c.args.row c.args.run c.requires.right
+    c.requires.run c.requires.ink
 
 pub least_starts-requires-clause-bytes : goal.least_starts-requires-clause-bytes
 least_starts-requires-clause-bytes g c = λ method.
-    length_small method (row_above c.args.rows.now.width (rows_of c.args.rows.now) c.args.row) (row_at (rows_of c.args.rows.now) c.args.row) (by_method c.least_lengths-bytes.result method) (c.least_lengths-bytes.ensures method)
+    length_small method (row_above c.args.rows.now.width (rows_of c.args.rows.now) c.args.row)
+    (row_at (rows_of c.args.rows.now) c.args.row) (by_method c.least_lengths-bytes.result method) (c.least_lengths-bytes.ensures method)
 
 pub from_direct-requires : goal.from_direct-requires
 from_direct-requires g c = λ method.
     let rows = c.args.rows.now in
     let is = readable_rows rows c.args.table.now c.args.row c.args.run c.requires.right c.requires.run c.requires.ink in
     let bytes : ℕ = by_method c.least_lengths-bytes.result method in
-    let small : bytes ≤ 65535 = length_small method (row_above rows.width (rows_of rows) c.args.row) (row_at (rows_of rows) c.args.row) bytes (c.least_lengths-bytes.ensures method) in
-    omega (arith, (c.least_starts.ensures method).sent, sending_small bytes small, is.small (node (c.args.row + 1) method false) (omega arith) is.next)
+    let small : bytes ≤ 65535 = length_small method (row_above rows.width (rows_of rows) c.args.row) (row_at (rows_of rows) c.args.row)
+    bytes (c.least_lengths-bytes.ensures method) in
+    omega (
+      arith,
+      (c.least_starts.ensures method).sent,
+      sending_small bytes small,
+      is.small (node (c.args.row + 1) method false)
+          (omega arith) is.next,
+    )
 
 pub returns : goal.returns
 returns g c =
@@ -37,7 +47,8 @@ returns g c =
     record {
       direct = by_method c.least_starts.result;
       are_direct = λ method.
-          direct_of_start rows.width (rows_of rows) (node_number c.args.table.now) c.args.row method c.args.run (by_method c.least_lengths-bytes.result method) (by_method c.least_starts.result method)
+          direct_of_start rows.width (rows_of rows) (node_number c.args.table.now) c.args.row method c.args.run
+          (by_method c.least_lengths-bytes.result method) (by_method c.least_starts.result method)
           c.requires.run (c.least_lengths-bytes.ensures method) (c.least_starts.ensures method);
       switched = c.from_direct.ensures;
     }

@@ -9,7 +9,8 @@ use Rattle.pcl_plan.proofs.Reading.{IsRightTable, row_left}
 use Rattle.pcl_plan.proofs.ReadSteps.{IsReadTo, ink_left, read_more, read_less, read_all}
 use Rattle.pcl_plan.proofs.steps.append_steps.Goals as goal
 
-right_table : (rows : Rows) (table : List RowNumbers) → AreRightFrom rows.width (rows_of rows) table 0 → IsRightTable rows.width (rows_of rows) table
+right_table : (rows : Rows) (table : List RowNumbers) → AreRightFrom rows.width (rows_of rows) table 0
+    → IsRightTable rows.width (rows_of rows) table
 right_table rows table right = record { few = omega (arith, length_rows rows.count rows.width rows.bytes.now, rows.few); right = right }
 
 pub best_step-step-requires-clause-row : goal.best_step-step-requires-clause-row
@@ -19,8 +20,14 @@ best_step-step-requires-clause-row g c =
     let is = right_table rows table c.requires.right in
     let place = c.loop-place.place in
     let r = c.loop-place.invariant in
-    let ink = ink_left rows.width (rows_of rows) table c.loop-place.steps.items place r (omega (arith, c.loop-place-test.true, c.number.ensures)) in
-    omega (arith, row_left rows.width (rows_of rows) table place.row place.method is r.within ink, length_rows rows.count rows.width rows.bytes.now)
+    let ink = ink_left rows.width (rows_of rows) table c.loop-place.steps.items place r
+    (omega (arith, c.loop-place-test.true, c.number.ensures)) in
+    omega (
+      arith,
+      row_left rows.width (rows_of rows) table place.row place.method is r.within ink,
+      length_rows rows.count rows.width
+          rows.bytes.now,
+    )
 
 pub behind-place-requires-clause-row : goal.behind-place-requires-clause-row
 behind-place-requires-clause-row g c =
@@ -31,7 +38,8 @@ pub loop-place-smaller : goal.loop-place-smaller
 loop-place-smaller g c =
     let rows = c.args.rows.now in
     let table = c.args.table.now in
-    read_less rows.width (rows_of rows) table c.loop-place.steps.items c.loop-place.place c.behind-place.result c.best_step-step.result (right_table rows table c.requires.right) c.loop-place.invariant
+    read_less rows.width (rows_of rows) table c.loop-place.steps.items c.loop-place.place c.behind-place.result c.best_step-step.result
+    (right_table rows table c.requires.right) c.loop-place.invariant
     (omega (arith, c.loop-place-test.true, c.number.ensures)) c.best_step-step.ensures c.behind-place.ensures
 
 pub loop-place-preserved : goal.loop-place-preserved
@@ -39,11 +47,13 @@ loop-place-preserved g c =
     let rows = c.args.rows.now in
     let table = c.args.table.now in
     subst (λ (steps : List Step). IsReadTo rows.width (rows_of rows) table steps c.behind-place.result) (sym c.in_ok-push.ensures.items)
-    (read_more rows.width (rows_of rows) table c.loop-place.steps.items c.loop-place.place c.behind-place.result c.best_step-step.result (right_table rows table c.requires.right) c.loop-place.invariant
+    (read_more rows.width (rows_of rows) table c.loop-place.steps.items c.loop-place.place c.behind-place.result c.best_step-step.result
+    (right_table rows table c.requires.right) c.loop-place.invariant
     (omega (arith, c.loop-place-test.true, c.number.ensures)) c.best_step-step.ensures c.behind-place.ensures)
 
 pub returns : goal.returns
 returns g c =
     let rows = c.args.rows.now in
     let table = c.args.table.now in
-    read_all rows.width (rows_of rows) table c.loop-place.steps.items c.loop-place.place (right_table rows table c.requires.right) c.loop-place.invariant (omega (arith, c.loop-place-test.false, c.number.ensures))
+    read_all rows.width (rows_of rows) table c.loop-place.steps.items c.loop-place.place (right_table rows table c.requires.right)
+    c.loop-place.invariant (omega (arith, c.loop-place-test.false, c.number.ensures))

@@ -9,53 +9,90 @@ use Rattle.pcl_plan.proofs.Filled.{skippable_within}
 use Rattle.pcl_plan.proofs.Reading.{IsRightTable, readable_run, skippable, skip_bound, small_number, switch_begins}
 use Rattle.pcl_plan.proofs.steps.best_step.Goals as goal
 
-right_table : (rows : Rows) (table : List RowNumbers) → AreRightFrom rows.width (rows_of rows) table 0 → IsRightTable rows.width (rows_of rows) table
+right_table : (rows : Rows) (table : List RowNumbers) → AreRightFrom rows.width (rows_of rows) table 0
+    → IsRightTable rows.width (rows_of rows) table
 right_table rows table right = record { few = omega (arith, length_rows rows.count rows.width rows.bytes.now, rows.few); right = right }
 
 pub beginning_skip-requires-clause-readable : goal.beginning_skip-requires-clause-readable
 beginning_skip-requires-clause-readable g c =
     let rows = c.args.rows.now in
-    readable_run rows.width (rows_of rows) c.args.table.now c.args.row c.args.method c.white_run-run.result (right_table rows c.args.table.now c.requires.right) c.requires.ink c.white_run-run.ensures.run
+    readable_run rows.width (rows_of rows) c.args.table.now c.args.row c.args.method c.white_run-run.result
+    (right_table rows c.args.table.now c.requires.right) c.requires.ink c.white_run-run.ensures.run
 
 pub beginning_skip-requires-clause-least : goal.beginning_skip-requires-clause-least
 beginning_skip-requires-clause-least g c = λ count some within.
     let rows = c.args.rows.now in
     let can = skippable (rows_of rows) c.args.row c.white_run-run.result count c.white_run-run.ensures.run some within in
-    omega (arith, c.number-least.ensures, skip_bound rows.width (rows_of rows) c.args.table.now c.args.row c.args.method count (right_table rows c.args.table.now c.requires.right) can)
+    omega (
+      arith,
+      c.number-least.ensures,
+      skip_bound rows.width (rows_of rows) c.args.table.now c.args.row c.args.method count
+          (right_table rows c.args.table.now c.requires.right) can,
+    )
 
 pub returns-in-Some : goal.returns-in-Some
 returns-in-Some g c =
     let rows = c.args.rows.now in
-    let some = c.in-Some.ensures.some in
-    (skippable (rows_of rows) c.args.row c.white_run-run.result c.in-Some.count c.white_run-run.ensures.run some.0 some.1, sym c.number-least.ensures ∙ some.2)
+    let some = c.in-Some.ensures.some in (
+      skippable (rows_of rows) c.args.row c.white_run-run.result c.in-Some.count c.white_run-run.ensures.run some.0 some.1,
+      sym
+          c.number-least.ensures ∙ some.2,
+    )
 
 pub number-requires : goal.number-requires
-number-requires g c = let rows = c.args.rows.now in omega (arith, c.requires.row, c.requires.right.size, length_rows rows.count rows.width rows.bytes.now)
+number-requires g c = let rows = c.args.rows.now in omega (
+  arith,
+  c.requires.row,
+  c.requires.right.size,
+  length_rows rows.count rows.width
+      rows.bytes.now,
+)
 
 pub overflow_add-sending_cost : goal.overflow_add-sending_cost
 overflow_add-sending_cost g c =
     let rows = c.args.rows.now in
     let inside : c.args.row + 1 ≤ length (rows_of rows) = omega (arith, c.requires.row, length_rows rows.count rows.width rows.bytes.now) in
-    omega (arith, c.sending_cost.ensures.small, c.number.ensures, small_number rows.width (rows_of rows) c.args.table.now (node (c.args.row + 1) c.args.method false) (right_table rows c.args.table.now c.requires.right) inside)
+    omega (
+      arith,
+      c.sending_cost.ensures.small,
+      c.number.ensures,
+      small_number rows.width (rows_of rows) c.args.table.now
+          (node (c.args.row + 1) c.args.method false) (right_table rows c.args.table.now c.requires.right) inside,
+    )
 
 pub returns-then-sending_cost-number : goal.returns-then-sending_cost-number
 returns-then-sending_cost-number g c =
     let rows = c.args.rows.now in
-    let inside : c.args.row < length (rows_of rows) = omega (arith, c.requires.row, length_rows rows.count rows.width rows.bytes.now) in
-    (inside, c.least_length-bytes.ensures.least, omega (arith, c.number-least.ensures, c.if-sending_cost-number.true, c.sending_cost.ensures.cost, c.number.ensures))
+    let inside : c.args.row < length (rows_of rows) = omega (arith, c.requires.row, length_rows rows.count rows.width rows.bytes.now) in (
+      inside,
+      c.least_length-bytes.ensures.least,
+      omega (
+        arith,
+        c.number-least.ensures,
+        c.if-sending_cost-number.true,
+        c.sending_cost.ensures.cost,
+        c.number.ensures,
+      ),
+    )
 
 pub lowest_switch-requires-clause-small : goal.lowest_switch-requires-clause-small
 lowest_switch-requires-clause-small g c = λ method.
     let rows = c.args.rows.now in
     let inside : c.args.row ≤ length (rows_of rows) = omega (arith, c.requires.row, length_rows rows.count rows.width rows.bytes.now) in
-    omega (arith, small_number rows.width (rows_of rows) c.args.table.now (node c.args.row method false) (right_table rows c.args.table.now c.requires.right) inside)
+    omega (
+      arith,
+      small_number rows.width (rows_of rows) c.args.table.now (node c.args.row method false)
+          (right_table rows c.args.table.now c.requires.right) inside,
+    )
 
 pub lowest_switch-requires-clause-some : goal.lowest_switch-requires-clause-some
 lowest_switch-requires-clause-some g c =
     let rows = c.args.rows.now in
     let inside : c.args.row ≤ length (rows_of rows) = omega (arith, c.requires.row, length_rows rows.count rows.width rows.bytes.now) in
-    let next = switch_begins rows.width (rows_of rows) c.args.table.now c.args.row c.args.method c.least_length-bytes.result (right_table rows c.args.table.now c.requires.right) inside
-    (λ count can. (let more = c.in_default.ensures.none count can.0 (skippable_within (rows_of rows) c.args.row c.white_run-run.result count c.white_run-run.ensures.run can) in omega (arith, more, c.number-least.ensures)))
+    let next = switch_begins rows.width (rows_of rows) c.args.table.now c.args.row c.args.method c.least_length-bytes.result
+    (right_table rows c.args.table.now c.requires.right) inside
+    (λ count can. (let more = c.in_default.ensures.none count can.0 (skippable_within (rows_of rows) c.args.row c.white_run-run.result
+    count c.white_run-run.ensures.run can) in omega (arith, more, c.number-least.ensures)))
     c.least_length-bytes.ensures.least
     (λ same. c.if-sending_cost-number.false (omega (arith, same, c.number-least.ensures, c.sending_cost.ensures.cost, c.number.ensures))) in
     (next.0, c.number-least.ensures ∙ next.1)

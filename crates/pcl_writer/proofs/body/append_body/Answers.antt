@@ -16,7 +16,8 @@ loop-i-init c =
     let old = c.args.out.now.items in
     record {
       front = front_is old old [] (sym (append-nil old));
-      written = subst (λ (steps : List Step). IsWrittenTo c.args.bitmap.now c.args.plan.now old old steps _) (sym c.steps-steps.ensures) (begin c.args.bitmap.now c.args.plan.now old _ c.requires refl refl);
+      written = subst (λ (steps : List Step). IsWrittenTo c.args.bitmap.now c.args.plan.now old old steps _) (sym c.steps-steps.ensures)
+          (begin c.args.bitmap.now c.args.plan.now old _ c.requires refl refl);
     }
 
 pub append_step-requires : goal.append_step-requires
@@ -25,13 +26,20 @@ append_step-requires c =
     let steps = c.steps-steps.result.now in
     let i = c.loop-i.i in
     let more = drop (i + 1) steps in
-    writable picture c.args.plan.now c.args.out.now.items c.loop-i.out.items (slice_index_or steps i (Skip 0)) more c.loop-i.place c.requires
-    (subst (λ (todo : List Step). IsWrittenTo picture c.args.plan.now c.args.out.now.items c.loop-i.out.items todo c.loop-i.place) (drop_more steps i (Skip 0) c.loop-i-test.true) c.loop-i.invariant.written)
+    writable picture c.args.plan.now c.args.out.now.items c.loop-i.out.items (slice_index_or steps i (Skip 0)) more c.loop-i.place
+    c.requires
+    (subst (λ (todo : List Step). IsWrittenTo picture c.args.plan.now c.args.out.now.items c.loop-i.out.items todo c.loop-i.place)
+    (drop_more steps i (Skip 0) c.loop-i-test.true) c.loop-i.invariant.written)
 
 pub behind-place-requires : goal.behind-place-requires
 behind-place-requires c =
     let picture = c.args.bitmap.now in
-    omega (arith, c.loop-i.invariant.written.within, length_rows (page_height picture.size picture.dpi) (width_of picture) picture.bytes, (height_small picture.size picture.dpi).1)
+    omega (
+      arith,
+      c.loop-i.invariant.written.within,
+      length_rows (page_height picture.size picture.dpi) (width_of picture) picture.bytes,
+      (height_small picture.size picture.dpi).1,
+    )
 
 pub loop-i-preserved : goal.loop-i-preserved
 loop-i-preserved c =
@@ -45,7 +53,8 @@ loop-i-preserved c =
     let step = slice_index_or steps i (Skip 0) in
     let more = drop (i + 1) steps in
     let ends : is_last more ≡ (i + 1 == length steps) = ends_at steps (i + 1) (omega (arith, c.loop-i-test.true)) in
-    let before = subst (λ (todo : List Step). IsWrittenTo picture plan old now todo c.loop-i.place) (drop_more steps i (Skip 0) c.loop-i-test.true) c.loop-i.invariant.written in
+    let before = subst (λ (todo : List Step). IsWrittenTo picture plan old now todo c.loop-i.place)
+    (drop_more steps i (Skip 0) c.loop-i-test.true) c.loop-i.invariant.written in
     let appends = subst (λ (e : Bool). AppendsStep picture c.loop-i.place step e now new) (sym ends) c.in_ok-append_step.ensures.ok in
     let moves = subst (λ (e : Bool). IsPlaceBehind c.loop-i.place step e c.behind-place.result) (sym ends) c.behind-place.ensures in
     let written = written_more picture plan old now new step more c.loop-i.place c.behind-place.result c.requires before appends moves in
@@ -55,4 +64,5 @@ pub returns-clause-ok : goal.returns-clause-ok
 returns-clause-ok c =
     let steps = c.steps-steps.result.now in
     written_all c.args.bitmap.now c.args.plan.now c.args.out.now.items c.loop-i.out.items c.loop-i.place
-    (subst (λ (todo : List Step). IsWrittenTo c.args.bitmap.now c.args.plan.now c.args.out.now.items c.loop-i.out.items todo c.loop-i.place) (drop_of_length-le steps c.loop-i-test.false) c.loop-i.invariant.written)
+    (subst (λ (todo : List Step). IsWrittenTo c.args.bitmap.now c.args.plan.now c.args.out.now.items c.loop-i.out.items todo
+    c.loop-i.place) (drop_of_length-le steps c.loop-i-test.false) c.loop-i.invariant.written)

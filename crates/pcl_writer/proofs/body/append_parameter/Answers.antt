@@ -15,7 +15,8 @@ append_row-requires-clause-row c =
     let w = subst (IsWritable picture c.args.row c.args.method) c.in-Row.is c.requires in
     omega (arith, w.0, length_rows (page_height picture.size picture.dpi) (width_of picture) picture.bytes)
 
-setting_is : (old new tail : List ℕ) (number same : ℕ) → new ≡ old ++ (least_spelling number ++ tail) → number ≡ same → new ≡ old ++ (least_spelling same ++ tail)
+setting_is : (old new tail : List ℕ) (number same : ℕ) → new ≡ old ++ (least_spelling number ++ tail) → number ≡ same → new
+    ≡ old ++ (least_spelling same ++ tail)
 setting_is old new tail number same e n = e ∙ ap (λ (m : ℕ). old ++ (least_spelling m ++ tail)) n
 
 pub returns-in-Skip-clause-ok : goal.returns-in-Skip-clause-ok
@@ -24,8 +25,13 @@ returns-in-Skip-clause-ok c =
     let new = c.append_setting.new.out.items in
     let count = c.in-Skip.count in
     on_ok_weaker c.append_setting.result
-    (λ e. subst (λ (s : Step). AppendsParameter c.args.bitmap.now c.args.row c.args.method s c.args.ends old new) (sym c.in-Skip.is)
-    (skip (least_spelling count) count c.args.ends, (refl, refl, refl), tt, setting_is old new (letter 89 c.args.ends) c.from.result count e c.from.ensures))
+    (λ e. subst (λ (s : Step). AppendsParameter c.args.bitmap.now c.args.row c.args.method s c.args.ends old new) (sym c.in-Skip.is) (
+      skip (least_spelling count) count c.args.ends,
+      (refl, refl, refl),
+      tt,
+      setting_is old new (letter 89 c.args.ends) c.from.result count
+          e c.from.ensures,
+    ))
     c.append_setting.ensures.ok
 
 pub returns-in-Switch-clause-ok : goal.returns-in-Switch-clause-ok
@@ -34,8 +40,13 @@ returns-in-Switch-clause-ok c =
     let new = c.append_setting-in-Switch.new.out.items in
     let next = c.in-Switch.next in
     on_ok_weaker c.append_setting-in-Switch.result
-    (λ e. subst (λ (s : Step). AppendsParameter c.args.bitmap.now c.args.row c.args.method s c.args.ends old new) (sym c.in-Switch.is)
-    (method (least_spelling (method_code next)) next c.args.ends, (refl, refl, refl), tt, setting_is old new (letter 77 c.args.ends) c.code.result (method_code next) e c.code.ensures))
+    (λ e. subst (λ (s : Step). AppendsParameter c.args.bitmap.now c.args.row c.args.method s c.args.ends old new) (sym c.in-Switch.is) (
+      method (least_spelling (method_code next)) next c.args.ends,
+      (refl, refl, refl),
+      tt,
+      setting_is old new (letter 77 c.args.ends)
+          c.code.result (method_code next) e c.code.ensures,
+    ))
     c.append_setting-in-Switch.ensures.ok
 
 pub returns-in-Row-clause-ok : goal.returns-in-Row-clause-ok

@@ -20,14 +20,19 @@ digits_are old new number same e n = e ∙ ap (λ (m : ℕ). old ++ least_spelli
 pub returns-clause-ok : goal.returns-clause-ok
 returns-clause-ok c =
     let picture = c.args.bitmap.now in
-    let row_is = c.row.ensures.bytes ∙ sym (row_of_bytes c.args.row (page_height picture.size picture.dpi) (width_of picture) picture.bytes c.requires.row) in
+    let row_is = c.row.ensures.bytes ∙ sym (row_of_bytes c.args.row (page_height picture.size picture.dpi) (width_of picture)
+    picture.bytes c.requires.row) in
     on_ok_weaker c.append_data.result
-    (appended_row picture c.args.row c.args.method c.args.bytes c.args.out.now.items c.append_spelling.new.out.items c.extend_from_slice.new.self.items c.append_data.new.out.items c.row_above.result.now c.row.result.now
-    row_is c.row_above.ensures.row c.requires.bytes (digits_are c.args.out.now.items c.append_spelling.new.out.items c.from.result c.args.bytes c.in_ok-append_spelling.ensures.ok c.from.ensures) c.in_ok-extend_from_slice.ensures.items)
+    (appended_row picture c.args.row c.args.method c.args.bytes c.args.out.now.items c.append_spelling.new.out.items
+    c.extend_from_slice.new.self.items c.append_data.new.out.items c.row_above.result.now c.row.result.now
+    row_is c.row_above.ensures.row c.requires.bytes (digits_are c.args.out.now.items c.append_spelling.new.out.items c.from.result
+    c.args.bytes c.in_ok-append_spelling.ensures.ok c.from.ensures) c.in_ok-extend_from_slice.ensures.items)
     c.append_data.ensures.ok
 
 pub returns-clause-front : goal.returns-clause-front
 returns-clause-front c =
     let mid : List ℕ = c.extend_from_slice.new.self.items in
-    let joined = c.in_ok-extend_from_slice.ensures.items ∙ ap (λ (t : List ℕ). t ++ 87 ∷ []) c.in_ok-append_spelling.ensures.ok ∙ append_assoc c.args.out.now.items (least_spelling c.from.result) (87 ∷ []) in
-    front_stays c.args.out.now.items mid c.append_data.new.out.items (least_spelling c.from.result ++ 87 ∷ []) joined c.append_data.ensures.front
+    let joined = c.in_ok-extend_from_slice.ensures.items ∙ ap (λ (t : List ℕ). t ++ 87 ∷ []) c.in_ok-append_spelling.ensures.ok ∙
+    append_assoc c.args.out.now.items (least_spelling c.from.result) (87 ∷ []) in
+    front_stays c.args.out.now.items mid c.append_data.new.out.items (least_spelling c.from.result ++ 87 ∷ []) joined
+    c.append_data.ensures.front

@@ -15,6 +15,7 @@ returns-clause-ok c =
       a.0,
       a.1,
       a.2,
-      a.3 ∙ ap (λ (t : List ℕ). t ++ token_bytes a.0) c.in_ok-append_opening.ensures.ok ∙ append_assoc old begun (token_bytes a.0) ∙ ap (λ (t : List ℕ). old ++ t) (opened_bytes c.args.place.inside a.0),
+      a.3 ∙ ap (λ (t : List ℕ). t ++ token_bytes a.0) c.in_ok-append_opening.ensures.ok ∙ append_assoc old begun (token_bytes a.0) ∙ ap
+          (λ (t : List ℕ). old ++ t) (opened_bytes c.args.place.inside a.0),
     ))
     c.append_parameter.ensures.ok

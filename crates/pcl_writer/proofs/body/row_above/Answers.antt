@@ -22,5 +22,7 @@ returns-else-y-gt0-clause-row c =
     let picture = c.args.bitmap.now in
     let topmost : 0 ≡ c.args.y = omega arith in
     let width : c.row_bytes.result ≡ width_of picture =
-    c.row_bytes.ensures ∙ ap (λ (z : Size). page_row_bytes z c.dpi.result) c.size.ensures.value ∙ ap (λ (d : Dpi). page_row_bytes picture.size d) c.dpi.ensures.value in
-    ap (λ (n : ℕ). take n c.args.zeros.now) width ∙ ap (take (width_of picture)) c.requires.zeros ∙ take-replicate (width_of picture) 600 0 (row_small picture.size picture.dpi) ∙ ap (above picture) topmost
+    c.row_bytes.ensures ∙ ap (λ (z : Size). page_row_bytes z c.dpi.result) c.size.ensures.value ∙ ap
+    (λ (d : Dpi). page_row_bytes picture.size d) c.dpi.ensures.value in
+    ap (λ (n : ℕ). take n c.args.zeros.now) width ∙ ap (take (width_of picture)) c.requires.zeros ∙ take-replicate (width_of picture) 600
+    0 (row_small picture.size picture.dpi) ∙ ap (above picture) topmost

@@ -39,14 +39,18 @@ returns-clause-ok c =
     let width : ℕ = page_row_bytes page.size page.dpi in
     let body = c.in_ok-append_body.ensures.ok in
     let count : length rows ≡ page_height page.size page.dpi =
-    as_page page (λ (z : Size) (d : Dpi). length rows ≡ page_height z d) (length_rows (page_height page.bitmap.size page.bitmap.dpi) (page_row_bytes page.bitmap.size page.bitmap.dpi) page.bitmap.bytes) in
-    let rows_are = as_page page (λ (z : Size) (d : Dpi). AllByRecursion (IsRowOf z d) rows) (bitmap_rows_are page.bitmap c.size.ensures.picture) in
-    let walk : Walk (Leads width rows) (Ends rows) start body.0 = as_page page (λ (z : Size) (d : Dpi). Walk (Leads (page_row_bytes z d) rows) (Ends rows) start body.0) body.2 in
+    as_page page (λ (z : Size) (d : Dpi). length rows ≡ page_height z d)
+    (length_rows (page_height page.bitmap.size page.bitmap.dpi) (page_row_bytes page.bitmap.size page.bitmap.dpi) page.bitmap.bytes) in
+    let rows_are = as_page page (λ (z : Size) (d : Dpi). AllByRecursion (IsRowOf z d) rows)
+    (bitmap_rows_are page.bitmap c.size.ensures.picture) in
+    let walk : Walk (Leads width rows) (Ends rows) start body.0 = as_page page
+    (λ (z : Size) (d : Dpi). Walk (Leads (page_row_bytes z d) rows) (Ends rows) start body.0) body.2 in
     let height = height_small page.size page.dpi in
     let started : c.append_start.new.out.items ≡ old ++ start_bytes page.dpi page.copies page.size =
     c.in_ok-append_start.ensures.ok ∙ ap (λ (d : Dpi). old ++ start_bytes d page.copies c.size.result) (c.dpi.ensures.value ∙ page.dpi_is)
     ∙ ap (λ (z : Size). old ++ start_bytes page.dpi page.copies z) (c.size.ensures.value ∙ page.size_is) in
-    let few = few_commands width rows (node_number plan.table) (omega (arith, count, height.1)) c.requires.feasible body.0 0 Plain false walk body.3 in
+    let few = few_commands width rows (node_number plan.table) (omega (arith, count, height.1)) c.requires.feasible body.0 0 Plain false
+    walk body.3 in
     let text = start_bytes page.dpi page.copies page.size ++ flat_map token_bytes body.0 ++ end_bytes in
     let printed : PrintsPage page text = record {
       some_copies = page.copies_in_range.0;
@@ -57,7 +61,8 @@ returns-clause-ok c =
       spelled = refl;
       prints = prints_of_walk width rows body.0 (widths page.size page.dpi rows rows_are) walk;
     } in
-    let least = text_of_least page.dpi page.size page.copies rows (node_number plan.table start) page.copies_in_range.0 (omega (arith, page.copies_in_range.1)) count rows_are (c.requires.least start (omega arith)) in
+    let least = text_of_least page.dpi page.size page.copies rows (node_number plan.table start) page.copies_in_range.0
+    (omega (arith, page.copies_in_range.1)) count rows_are (c.requires.least start (omega arith)) in
     let text_is : fixed_bytes page.dpi page.size page.copies + node_number plan.table start ≡ length text =
     sym (text_length page.dpi page.size page.copies body.0 ∙ ap (λ (n : ℕ). fixed_bytes page.dpi page.size page.copies + n) body.3) in (
       text,
