@@ -7,7 +7,8 @@ use Rattle.pcl_fonts.specs.Fields.{Character, word, has_fixed_bytes, is_characte
 pub is_taken : (bytes : List ℕ) (width height : ℕ) → 16 ≤ length bytes → has_fixed_bytes bytes ≡ true → width ≡ word bytes 10
     → height ≡ word bytes 12 → 16 + pattern_bytes width height ≤ length bytes → is_character bytes ≡ true
 is_taken bytes width height long fixed w h whole =
-    ap (λ (b : Bool). b && has_fixed_bytes bytes && nat_le (16 + pattern_bytes (word bytes 10) (word bytes 12)) (length bytes)) (le-leb 16 (length bytes) long)
+    ap (λ (b : Bool). b && has_fixed_bytes bytes && nat_le (16 + pattern_bytes (word bytes 10) (word bytes 12)) (length bytes))
+    (le-leb 16 (length bytes) long)
     ∙ ap (λ (b : Bool). true && b && nat_le (16 + pattern_bytes (word bytes 10) (word bytes 12)) (length bytes)) fixed
     ∙ le-leb (16 + pattern_bytes (word bytes 10) (word bytes 12)) (length bytes)
     (rw (← w, ← h) whole)

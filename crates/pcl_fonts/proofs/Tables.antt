@@ -81,9 +81,11 @@ pub follows_header : (es fs : Entries) (id : ℕ) (bytes : List ℕ) (e : Entry)
     → e.characters.entries ≡ [] → Follows (view es) (view fs) (header id bytes)
 follows_header es fs id bytes e b is none history h = record {
   fonts = λ q. font_becomes es fs id (Some e) b q
-      ∙ ap (λ (f : Font). cond (nat_eq id q) (Some f) (font_at (view es) q)) is ∙ ap (cond (nat_eq id q) (Some (font_of bytes))) (h.fonts q);
+      ∙ ap (λ (f : Font). cond (nat_eq id q) (Some f) (font_at (view es) q)) is
+      ∙ ap (cond (nat_eq id q) (Some (font_of bytes))) (h.fonts q);
   characters = λ q code. character_becomes es fs id (Some e) b q code
-      ∙ ap (λ (cs : List (ℕ × Glyph)). cond (nat_eq id q) (option_map character_in (lookup (nat_eq code) cs)) (character_at (view es) q code)) none
+      ∙ ap (λ (cs : List (ℕ × Glyph)). cond (nat_eq id q) (option_map character_in (lookup (nat_eq code) cs))
+      (character_at (view es) q code)) none
       ∙ ap (cond (nat_eq id q) None) (h.characters q code);
 }
 
@@ -228,8 +230,18 @@ follows_mark es fs id code e f permanent m history h = marked permanent refl
         ∙ h.characters q its
 
     marked : (b : Bool) → b ≡ permanent → Holds (view fs) (control (making b) id code ∷ history)
-    marked true is = record { fonts = λ q. fonts q ∙ ap (λ b. cond (nat_eq id q) (option_map (with_permanent b) (font_after history q)) (font_after history q)) (sym is); characters = characters }
-    marked false is = record { fonts = λ q. fonts q ∙ ap (λ b. cond (nat_eq id q) (option_map (with_permanent b) (font_after history q)) (font_after history q)) (sym is); characters = characters }
+    marked true is =
+        record {
+          fonts = λ q. fonts q
+              ∙ ap (λ b. cond (nat_eq id q) (option_map (with_permanent b) (font_after history q)) (font_after history q)) (sym is);
+          characters = characters;
+        }
+    marked false is =
+        record {
+          fonts = λ q. fonts q
+              ∙ ap (λ b. cond (nat_eq id q) (option_map (with_permanent b) (font_after history q)) (font_after history q)) (sym is);
+          characters = characters;
+        }
 
 -- what isn't there is left alone
 absent : {A : Type 0} (t : Bool) (x y : Option A) → (t ≡ true → y ≡ None) → (f : Option A → Option A) → f None ≡ None → cond t (f y) y ≡ y
@@ -301,7 +313,8 @@ follows_temporary es fs id code distinct kept history h = record {
     characters None its = refl
     characters (Some e) its =
         through (λ (o : Option Entry). entry_character o its) e.is_permanent (Some e) None
-        ∙ ap (λ (b : Bool). cond b (entry_character (Some e) its) None) (sym (through is_some e.is_permanent (Some (font_in e)) None ∙ whether e.is_permanent))
+        ∙ ap (λ (b : Bool). cond b (entry_character (Some e) its) None)
+        (sym (through is_some e.is_permanent (Some (font_in e)) None ∙ whether e.is_permanent))
 
 -- ---- what a map's calls say
 
@@ -351,7 +364,8 @@ pub printed_none : (es : Entries) (id code : ℕ) → lookup (nat_eq id) es ≡ 
 printed_none es id code none = ap (printed_in (view es) id code) (font_view es id ∙ ap (option_map font_in) none)
 
 pub printed_view : (es : Entries) (id code : ℕ) (e : Entry) → lookup (nat_eq id) es ≡ Some e
-    → printed (view es) id code ≡ (if has_code e.font_type code then option_map character_in (lookup (nat_eq code) e.characters.entries) else None)
+    → printed (view es) id code
+    ≡ (if has_code e.font_type code then option_map character_in (lookup (nat_eq code) e.characters.entries) else None)
 printed_view es id code e there =
     ap (printed_in (view es) id code) (font_view es id ∙ ap (option_map font_in) there)
     ∙ ap (λ (o : Option Character). cond (has_code e.font_type code) o None)

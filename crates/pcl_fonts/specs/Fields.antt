@@ -46,7 +46,8 @@ is_header bytes =
 
 -- the font that a header defines; a new font is temporary
 abbrev pub font_of : List ℕ → Font
-font_of bytes = record { proportional = has_byte bytes 13 1; pitch = word bytes 16; type = type_with_number (slice_index bytes 3); permanent = false }
+font_of bytes =
+    record { proportional = has_byte bytes 13 1; pitch = word bytes 16; type = type_with_number (slice_index bytes 3); permanent = false }
 
 -- ---- characters
 

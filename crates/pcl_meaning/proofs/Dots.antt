@@ -19,7 +19,8 @@ abbrev pub dot_from : ℕ → List (List ℕ) → ℕ → ℕ → Bool
 dot_from k rows x y = nat_le k y && dot_of_rows rows x (y - k)
 
 -- the topmost row, and the rows below it
-pub first_row : (k : ℕ) (row : List ℕ) (rows : List (List ℕ)) (x y : ℕ) → dot_from k (row ∷ rows) x y ≡ ((k == y && dot_of_row row x) || dot_from (k + 1) rows x y)
+pub first_row : (k : ℕ) (row : List ℕ) (rows : List (List ℕ)) (x y : ℕ)
+    → dot_from k (row ∷ rows) x y ≡ ((k == y && dot_of_row row x) || dot_from (k + 1) rows x y)
 first_row k row rows x y =
     elim (cases_lt y k) [
       | inl above ↦
@@ -62,7 +63,8 @@ pub white_from : (k : ℕ) (rows : List (List ℕ)) (x y : ℕ) → AreWhite row
 white_from k rows x y w = ap (λ (b : Bool). nat_le k y && b) (white_dots rows x (y - k) w) ∙ and-false (nat_le k y)
 
 -- white rows at the top have no dots
-pub skipped_dots : (count k : ℕ) (rows : List (List ℕ)) (x y : ℕ) → AreWhite (take count rows) → dot_from (k + count) (drop count rows) x y ≡ dot_from k rows x y
+pub skipped_dots : (count k : ℕ) (rows : List (List ℕ)) (x y : ℕ) → AreWhite (take count rows)
+    → dot_from (k + count) (drop count rows) x y ≡ dot_from k rows x y
 skipped_dots zero k rows x y w = let place : k + 0 ≡ k = omega arith in ap (λ (n : ℕ). dot_from n rows x y) place
 skipped_dots (suc count) k [] x y w = and-false (nat_le (k + suc count) y) ∙ sym (and-false (nat_le k y))
 skipped_dots (suc count) k (row ∷ rows) x y w =
@@ -72,7 +74,8 @@ skipped_dots (suc count) k (row ∷ rows) x y w =
     ∙ sym (first_row k row rows x y ∙ ap (λ (b : Bool). b || dot_from (k + 1) rows x y) first)
 
 -- what a row inks that is sent at the left edge, k rows below the top
-pub row_inks : (k width : ℕ) (bytes : List ℕ) (x y : ℕ) → x < width → raster_dot 0 (0 + k * 1) 1 width bytes x y ≡ (k == y && dot_of_row bytes x)
+pub row_inks : (k width : ℕ) (bytes : List ℕ) (x y : ℕ) → x < width
+    → raster_dot 0 (0 + k * 1) 1 width bytes x y ≡ (k == y && dot_of_row bytes x)
 row_inks k width bytes x y within =
     let at : (x - 0) / 1 ≡ x = omega arith in
     let wide : nat_lt x width ≡ true = grind (arith, nat_tests) in
@@ -98,11 +101,14 @@ row_inks k width bytes x y within =
 
 -- ---- the rows of a page
 
-pub page_dot : (n width : ℕ) (bytes : List ℕ) (x y : ℕ) → y < n → dot_of_rows (rows_from n width bytes) x y ≡ dot_of_row (take width (drop (y * width) bytes)) x
+pub page_dot : (n width : ℕ) (bytes : List ℕ) (x y : ℕ) → y < n
+    → dot_of_rows (rows_from n width bytes) x y ≡ dot_of_row (take width (drop (y * width) bytes)) x
 unfolding rows_from
 page_dot zero width bytes x y lt = absurd (omega arith)
-page_dot (suc n) width bytes x zero lt = let start : 0 * width ≡ 0 = omega arith in ap (λ (place : ℕ). dot_of_row (take width (drop place bytes)) x) (sym start)
+page_dot (suc n) width bytes x zero lt = let start : 0 * width ≡ 0 =
+    omega arith in ap (λ (place : ℕ). dot_of_row (take width (drop place bytes)) x) (sym start)
 page_dot (suc n) width bytes x (suc y) lt =
     let places : width + y * width ≡ suc y * width = grind arith in
     page_dot n width (drop width bytes) x y (omega arith)
-    ∙ ap (λ (rest : List ℕ). dot_of_row (take width rest) x) (drop-drop (y * width) width bytes ∙ ap (λ (place : ℕ). drop place bytes) places)
+    ∙ ap (λ (rest : List ℕ). dot_of_row (take width rest) x)
+    (drop-drop (y * width) width bytes ∙ ap (λ (place : ℕ). drop place bytes) places)

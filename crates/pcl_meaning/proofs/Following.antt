@@ -40,7 +40,8 @@ done_same : (dpi : Dpi) (operation : Operation) (at : ℕ) (name : Name) (value 
     → done_with dpi operation (record { at = at; name = name; value = value; bytes = bytes }) o s
     ≡ done_with dpi operation (record { at = 0; name = Empty; value = value; bytes = bytes }) o s
 done_same dpi operation at name value bytes None s = refl
-done_same dpi operation at name value bytes (Some done) s = ap (λ (z : Situation). Some z) (drawn_same dpi operation at name value bytes (turned done.0 done.1 s))
+done_same dpi operation at name value bytes (Some done) s =
+    ap (λ (z : Situation). Some z) (drawn_same dpi operation at name value bytes (turned done.0 done.1 s))
 
 -- neither the place nor the name of a command matters to what it does
 after_same : (dpi : Dpi) (operation : Operation) (at : ℕ) (name : Name) (value : Value) (bytes : List ℕ) (s : Situation)
@@ -60,19 +61,22 @@ Leads dpi [] s later = later ≡ s
 Leads dpi (d ∷ deeds) s later =
     (next : Situation) × (after dpi d.operation (said_of d) s ≡ Some next) × (page_refusal next ≡ None) × Leads dpi deeds next later
 
-pub leads_append : (dpi : Dpi) (one two : List Deed) (s middle later : Situation) → Leads dpi one s middle → Leads dpi two middle later → Leads dpi (one ++ two) s later
+pub leads_append : (dpi : Dpi) (one two : List Deed) (s middle later : Situation) → Leads dpi one s middle → Leads dpi two middle later
+    → Leads dpi (one ++ two) s later
 leads_append dpi [] two s middle later a b = subst (λ (z : Situation). Leads dpi two z later) a b
 leads_append dpi (d ∷ one) two s middle later a b = (a.0, a.1, a.2, leads_append dpi one two a.0 middle later a.3 b)
 
 -- each deed counts one
-drawn_counts : (dpi : Dpi) (operation : Operation) (command : Said) (s : Situation) → (drawn dpi operation command s).performed ≡ s.performed
+drawn_counts : (dpi : Dpi) (operation : Operation) (command : Said) (s : Situation)
+    → (drawn dpi operation command s).performed ≡ s.performed
 drawn_counts dpi FillRectangle command s = refl
 drawn_counts dpi StartRaster command s = refl
 drawn_counts dpi RasterOffset command s = refl
 drawn_counts dpi RasterRow command s = refl
 drawn_counts dpi other command s = refl
 
-turned_counts : (settings : Settings) (effect : Effect) (s : Situation) (test : Bool) → ejects effect (is_marked s) ≡ test → (turned settings effect s).performed ≡ s.performed
+turned_counts : (settings : Settings) (effect : Effect) (s : Situation) (test : Bool) → ejects effect (is_marked s) ≡ test
+    → (turned settings effect s).performed ≡ s.performed
 turned_counts settings effect s true e = rw e refl
 turned_counts settings effect s false e = rw e refl
 
@@ -80,25 +84,30 @@ prepared_counts : (dpi : Dpi) (ends : Bool) (s : Situation) → (cond ends (end_
 prepared_counts dpi true s = refl
 prepared_counts dpi false s = refl
 
-done_counts : (dpi : Dpi) (operation : Operation) (command : Said) (o : Outcome) (s later : Situation) → done_with dpi operation command o s ≡ Some later → later.performed ≡ s.performed
+done_counts : (dpi : Dpi) (operation : Operation) (command : Said) (o : Outcome) (s later : Situation)
+    → done_with dpi operation command o s ≡ Some later → later.performed ≡ s.performed
 done_counts dpi operation command None s later e = absurd cc
 done_counts dpi operation command (Some done) s later e =
     let same : drawn dpi operation command (turned done.0 done.1 s) ≡ later = cc in
-    ap (λ (z : Situation). z.performed) (sym same) ∙ drawn_counts dpi operation command (turned done.0 done.1 s) ∙ turned_counts done.0 done.1 s (ejects done.1 (is_marked s)) refl
+    ap (λ (z : Situation). z.performed) (sym same) ∙ drawn_counts dpi operation command (turned done.0 done.1 s)
+    ∙ turned_counts done.0 done.1 s (ejects done.1 (is_marked s)) refl
 
 after_by : (dpi : Dpi) (operation : Operation) (command : Said) (s later : Situation) (ignored : Bool)
-    → cond ignored (Some (counted s)) (taken dpi operation command (prepared dpi operation (counted s))) ≡ Some later → later.performed ≡ s.performed + 1
+    → cond ignored (Some (counted s)) (taken dpi operation command (prepared dpi operation (counted s))) ≡ Some later
+    → later.performed ≡ s.performed + 1
 after_by dpi operation command s later true e = let same : counted s ≡ later = cc in ap (λ (z : Situation). z.performed) (sym same)
 after_by dpi operation command s later false e =
     let before = prepared dpi operation (counted s) in
     done_counts dpi operation command (outcome dpi operation command.value (is_marked before) before.settings) before later e
     ∙ prepared_counts dpi (ends_raster operation) (counted s)
 
-after_counts : (dpi : Dpi) (operation : Operation) (command : Said) (s later : Situation) → after dpi operation command s ≡ Some later → later.performed ≡ s.performed + 1
+after_counts : (dpi : Dpi) (operation : Operation) (command : Said) (s later : Situation) → after dpi operation command s ≡ Some later
+    → later.performed ≡ s.performed + 1
 unfolding after
 after_counts dpi operation command s later e = after_by dpi operation command s later (is_ignored operation s) e
 
-pub leads_counts : (dpi : Dpi) (deeds : List Deed) (s later : Situation) → Leads dpi deeds s later → later.performed ≡ s.performed + length deeds
+pub leads_counts : (dpi : Dpi) (deeds : List Deed) (s later : Situation) → Leads dpi deeds s later
+    → later.performed ≡ s.performed + length deeds
 leads_counts dpi [] s later a = ap (λ (z : Situation). z.performed) a ∙ (let none : s.performed ≡ s.performed + 0 = omega arith in none)
 leads_counts dpi (d ∷ deeds) s later a =
     let one = after_counts dpi d.operation (said_of d) s a.0 a.1 in
@@ -115,7 +124,8 @@ not_refused dpi command operation s next named done fits few =
     ∙ ap (λ (o : Option Operation). operation_refusal dpi o command s) named ∙ ap value_refusal done ∙ fits
 
 -- performing a command is its deed
-deed_done : (dpi : Dpi) (command : Said) (d : Deed) (s next : Situation) → IsSaid command d → after dpi d.operation (said_of d) s ≡ Some next
+deed_done : (dpi : Dpi) (command : Said) (d : Deed) (s next : Situation) → IsSaid command d
+    → after dpi d.operation (said_of d) s ≡ Some next
     → after dpi d.operation command s ≡ Some next
 deed_done dpi command d s next is e =
     after_same dpi d.operation command.at command.name command.value command.bytes s
@@ -129,8 +139,10 @@ pub record ComesTo (dpi : Dpi) (end : ℕ) (commands : List Said) (history : His
   pub at : situation dpi reached ≡ later
   pub same : performance dpi end history commands ≡ performance dpi end reached []
 
-pub commands_done : (dpi : Dpi) (end : ℕ) (commands : List Said) (deeds : List Deed) (history : History) (later : Situation) → AreSaid commands deeds
-    → Leads dpi deeds (situation dpi history) later → (situation dpi history).performed + length deeds ≤ 100000000 → ComesTo dpi end commands history later
+pub commands_done : (dpi : Dpi) (end : ℕ) (commands : List Said) (deeds : List Deed) (history : History) (later : Situation)
+    → AreSaid commands deeds
+    → Leads dpi deeds (situation dpi history) later → (situation dpi history).performed + length deeds ≤ 100000000
+    → ComesTo dpi end commands history later
 commands_done dpi end [] [] history later a l few = record { reached = history; at = sym l; same = refl }
 commands_done dpi end [] (d ∷ deeds) history later a l few = absurd a
 commands_done dpi end (command ∷ commands) [] history later a l few = absurd a
@@ -140,9 +152,11 @@ commands_done dpi end (command ∷ commands) (d ∷ deeds) history later a l few
     let one = after_counts dpi d.operation command s l.0 done in
     let at : situation dpi (performed d.operation command ∷ history) ≡ l.0 = situation_next dpi history command d.operation l.0 done in
     let rest = commands_done dpi end commands deeds (performed d.operation command ∷ history) later a.1
-    (subst (λ (z : Situation). Leads dpi deeds z later) (sym at) l.3) (subst (λ (z : Situation). z.performed + length deeds ≤ 100000000) (sym at) (omega (arith, one))) in
+    (subst (λ (z : Situation). Leads dpi deeds z later) (sym at) l.3)
+    (subst (λ (z : Situation). z.performed + length deeds ≤ 100000000) (sym at) (omega (arith, one))) in
     record {
       reached = rest.reached;
       at = rest.at;
-      same = performed_next dpi end history command commands d.operation a.0.0 (not_refused dpi command d.operation s l.0 a.0.0 done l.2 (omega arith)) ∙ rest.same;
+      same = performed_next dpi end history command commands d.operation a.0.0
+          (not_refused dpi command d.operation s l.0 a.0.0 done l.2 (omega arith)) ∙ rest.same;
     }

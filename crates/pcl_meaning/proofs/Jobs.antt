@@ -46,15 +46,18 @@ height_small A4 Dpi300 = lit≤ tt
 height_small A4 Dpi600 = lit≤ tt
 
 -- what stands in a text
-pub text_read : (dpi : Dpi) (size : Size) (copies : ℕ) (rows : List (List ℕ)) (text : List ℕ) (printed : IsPageText dpi size copies rows text)
+pub text_read : (dpi : Dpi) (size : Size) (copies : ℕ) (rows : List (List ℕ)) (text : List ℕ)
+    (printed : IsPageText dpi size copies rows text)
     → ReadsAs text (text_deeds dpi size copies printed.tokens)
 text_read dpi size copies rows text printed =
     let few : length rows ≤ 65535 = omega (arith, printed.count, height_small size dpi) in
     let small : copies ≤ 65535 = omega (arith, printed.few_copies) in
     let start = start_bytes dpi copies size in
     let body = flat_map token_bytes printed.tokens in
-    subst (λ (bytes : List ℕ). ReadsAs bytes (text_deeds dpi size copies printed.tokens)) (sym (printed.spelled ∙ append_assoc start body end_bytes))
-    (reads_joined start (body ++ end_bytes) (start_deeds dpi copies size) (body_deeds printed.tokens ++ end_deeds) (start_read dpi copies size small)
+    subst (λ (bytes : List ℕ). ReadsAs bytes (text_deeds dpi size copies printed.tokens))
+    (sym (printed.spelled ∙ append_assoc start body end_bytes))
+    (reads_joined start (body ++ end_bytes) (start_deeds dpi copies size) (body_deeds printed.tokens ++ end_deeds)
+    (start_read dpi copies size small)
     (reads_joined body end_bytes (body_deeds printed.tokens) end_deeds (body_read _ _ printed.tokens rows printed.prints few) end_read))
 
 token_counted : (token : Token) → length (token_deeds token) ≡ commands_in token
@@ -65,9 +68,11 @@ token_counted (send digits bytes) = refl
 
 body_counted : (tokens : List Token) → length (body_deeds tokens) ≡ command_count tokens
 body_counted [] = refl
-body_counted (token ∷ tokens) = omega (arith, length-append (token_deeds token) (body_deeds tokens), token_counted token, body_counted tokens)
+body_counted (token ∷ tokens) =
+    omega (arith, length-append (token_deeds token) (body_deeds tokens), token_counted token, body_counted tokens)
 
-text_counted : (dpi : Dpi) (size : Size) (copies : ℕ) (tokens : List Token) → length (text_deeds dpi size copies tokens) ≡ command_count tokens + 10
+text_counted : (dpi : Dpi) (size : Size) (copies : ℕ) (tokens : List Token)
+    → length (text_deeds dpi size copies tokens) ≡ command_count tokens + 10
 text_counted dpi size copies tokens =
     omega (
       arith,
@@ -82,7 +87,8 @@ reset_first : (dpi : Dpi) → after dpi Reset (said_of reset) at_begin ≡ Some 
 unfolding after outcome
 reset_first dpi = refl
 
-reset_last : (dpi : Dpi) (t : Settings) (pages : List Sheet) (n : ℕ) → after dpi Reset (said_of reset) (between t pages n) ≡ Some (between defaults pages (n + 1))
+reset_last : (dpi : Dpi) (t : Settings) (pages : List Sheet) (n : ℕ)
+    → after dpi Reset (said_of reset) (between t pages n) ≡ Some (between defaults pages (n + 1))
 unfolding after outcome
 reset_last dpi t pages n = refl
 
@@ -90,10 +96,12 @@ reset_last dpi t pages n = refl
 end_refused : (dpi : Dpi) (pages : List Sheet) (n : ℕ) → length pages ≤ 256 → page_refusal (at_end dpi (between defaults pages n)) ≡ None
 end_refused dpi pages n few = pages_fit (at_end dpi (between defaults pages n)) few
 
-ended_there : (dpi : Dpi) (end : ℕ) (history : History) (pages : List Sheet) (n : ℕ) → situation dpi history ≡ between defaults pages n → length pages ≤ 256
+ended_there : (dpi : Dpi) (end : ℕ) (history : History) (pages : List Sheet) (n : ℕ) → situation dpi history ≡ between defaults pages n
+    → length pages ≤ 256
     → performance dpi end history [] ≡ record { history = ended ∷ history; refusal = None }
 ended_there dpi end history pages n at few =
-    ap (λ (s : Situation). after_end end history (page_refusal (at_end dpi s))) at ∙ ap (after_end end history) (end_refused dpi pages n few)
+    ap (λ (s : Situation). after_end end history (page_refusal (at_end dpi s))) at
+    ∙ ap (after_end end history) (end_refused dpi pages n few)
 
 -- bytes that are read as deeds that eject these pages
 pub job_accepted : (dpi : Dpi) (text : List ℕ) (deeds : List Deed) (t : Settings) (pages : List Sheet) (n : ℕ)
@@ -101,7 +109,8 @@ pub job_accepted : (dpi : Dpi) (text : List ℕ) (deeds : List Deed) (t : Settin
     → HasPages dpi (frame_bytes ++ text ++ frame_bytes) pages
 job_accepted dpi text deeds t pages n read leads fits few =
     let all = reset ∷ (deeds ++ reset ∷ []) in
-    let r = reads_joined frame_bytes (text ++ frame_bytes) (reset ∷ []) (deeds ++ reset ∷ []) frame_read (reads_joined text frame_bytes deeds (reset ∷ []) read frame_read) in
+    let r = reads_joined frame_bytes (text ++ frame_bytes) (reset ∷ []) (deeds ++ reset ∷ []) frame_read
+    (reads_joined text frame_bytes deeds (reset ∷ []) read frame_read) in
     let end = length (frame_bytes ++ text ++ frame_bytes) in
     let commands = commands_of 0 r.pieces in
     let first = between defaults [] 1 in
@@ -128,7 +137,8 @@ text_means_page dpi size copies rows text printed few =
     let sheet : Sheet = record { size = size; copies = copies; marks = t.inked } in
     record {
       sheet = sheet;
-      meaning = job_accepted dpi text (text_deeds dpi size copies printed.tokens) t.settings (sheet ∷ []) t.count (text_read dpi size copies rows text printed) t.leads (lit≤ tt)
+      meaning = job_accepted dpi text (text_deeds dpi size copies printed.tokens) t.settings (sheet ∷ []) t.count
+          (text_read dpi size copies rows text printed) t.leads (lit≤ tt)
           (omega (arith, few, text_counted dpi size copies printed.tokens));
       size_is = refl;
       copies_are = refl;
@@ -154,7 +164,8 @@ rows_dot : (size : Size) (dpi : Dpi) (page : Page) (x y : ℕ) → page.bitmap.s
 rows_dot size dpi page x y s d below =
     let height : page_height size dpi ≡ page_height page.bitmap.size page.bitmap.dpi =
     ap (λ (z : Size). page_height z dpi) (sym s) ∙ ap (λ (r : Dpi). page_height page.bitmap.size r) (sym d) in
-    page_dot (page_height page.bitmap.size page.bitmap.dpi) (page_row_bytes page.bitmap.size page.bitmap.dpi) page.bitmap.bytes x y (subst (λ (n : ℕ). y < n) height below)
+    page_dot (page_height page.bitmap.size page.bitmap.dpi) (page_row_bytes page.bitmap.size page.bitmap.dpi) page.bitmap.bytes x y
+    (subst (λ (n : ℕ). y < n) height below)
 
 sheet_alike : (dpi : Dpi) (sheet : Sheet) (page : Page) (inked : List Mark) → Shows dpi page sheet
     → ((x y : ℕ) → x < page_width page.size page.dpi → is_black inked x y ≡ dot_of_rows (bitmap_rows page.bitmap) x y)
@@ -172,12 +183,15 @@ sheet_alike dpi sheet page inked shows black = record {
 
 -- a written page, said with the resolution of its job
 at_resolution : (page : Page) (text : List ℕ) (dpi : Dpi) → page.dpi ≡ dpi → IsWrittenPage page text
-    → (printed : IsPageText dpi page.size page.copies (bitmap_rows page.bitmap) text) × (command_count printed.tokens ≤ 3 * page_height page.size dpi)
+    → (printed : IsPageText dpi page.size page.copies (bitmap_rows page.bitmap) text)
+    × (command_count printed.tokens ≤ 3 * page_height page.size dpi)
 at_resolution page text dpi e w =
-    subst (λ (r : Dpi). (printed : IsPageText r page.size page.copies (bitmap_rows page.bitmap) text) × (command_count printed.tokens ≤ 3 * page_height page.size r)) e (w.0, w.1)
+    subst (λ (r : Dpi). (printed : IsPageText r page.size page.copies (bitmap_rows page.bitmap) text)
+    × (command_count printed.tokens ≤ 3 * page_height page.size r)) e (w.0, w.1)
 
 pub texts_taken : (dpi : Dpi) (meant : List Sheet) (texts : List ℕ) (t : Settings) (pages : List Sheet) (n : ℕ)
-    → PrintSheets dpi meant texts → IsBetween t → length pages + length meant ≤ 256 → AreTextsTaken dpi meant texts (between t pages n) pages
+    → PrintSheets dpi meant texts → IsBetween t → length pages + length meant ≤ 256
+    → AreTextsTaken dpi meant texts (between t pages n) pages
 texts_taken dpi [] texts t pages n p b few = record {
   deeds = [];
   read = subst (λ (bytes : List ℕ). ReadsAs bytes []) (sym p) reads_none;
@@ -202,7 +216,8 @@ texts_taken dpi (sheet ∷ meant) texts t pages n p b few =
     let middle = between one.settings more one.count in
     let last = between rest.settings (pages ++ (again ∷ rest.again)) rest.count in
     let behind : Leads dpi rest.deeds middle last =
-    subst (λ (ps : List Sheet). Leads dpi rest.deeds middle (between rest.settings ps rest.count)) (append_assoc pages (again ∷ []) rest.again) rest.leads in
+    subst (λ (ps : List Sheet). Leads dpi rest.deeds middle (between rest.settings ps rest.count))
+    (append_assoc pages (again ∷ []) rest.again) rest.leads in
     record {
       deeds = deeds ++ rest.deeds;
       read = subst (λ (bytes : List ℕ). ReadsAs bytes (deeds ++ rest.deeds)) (sym p.5)
@@ -211,9 +226,21 @@ texts_taken dpi (sheet ∷ meant) texts t pages n p b few =
       settings = rest.settings;
       count = rest.count;
       leads = leads_append dpi deeds rest.deeds (between t pages n) middle last one.leads behind;
-      alike = (sheet_alike dpi sheet page one.inked shows (subst (λ (r : Dpi). (x y : ℕ) → x < page_width page.size r → is_black one.inked x y ≡ dot_of_rows (bitmap_rows page.bitmap) x y) (sym shows.resolution) one.black), rest.alike);
+      alike = (
+        sheet_alike dpi sheet page one.inked shows
+            (subst (λ (r : Dpi). (x y : ℕ) → x < page_width page.size r → is_black one.inked x y ≡ dot_of_rows (bitmap_rows page.bitmap) x y)
+            (sym shows.resolution) one.black),
+        rest.alike,
+      );
       same_many = omega (arith, rest.same_many);
-      few = omega (arith, rest.few, written.1, height_small page.size dpi, text_counted dpi page.size page.copies printed.tokens, length-append deeds rest.deeds);
+      few = omega (
+        arith,
+        rest.few,
+        written.1,
+        height_small page.size dpi,
+        text_counted dpi page.size page.copies printed.tokens,
+        length-append deeds rest.deeds,
+      );
     }
 
 -- ---- the pages of an accepted job
@@ -228,13 +255,15 @@ fits_of s false e n = let refused : page_refusal s ≡ Some TooManyPages = rw e 
 
 end_fits : (dpi : Dpi) (end : ℕ) (history : History) (kind : Option Kind) → kind ≡ page_refusal (at_end dpi (situation dpi history))
     → Fits dpi (after_end end history kind)
-end_fits dpi end history None e = λ n. fits_of (at_end dpi (situation dpi history)) (nat_le (length (at_end dpi (situation dpi history)).pages) 256) refl (sym e)
+end_fits dpi end history None e =
+    λ n. fits_of (at_end dpi (situation dpi history)) (nat_le (length (at_end dpi (situation dpi history)).pages) 256) refl (sym e)
 end_fits dpi end history (Some kind) e = λ n. absurd cc
 
 -- the performance of commands behind one, by why that one is refused
 abbrev from_refusal : Dpi → ℕ → History → Said → List Said → Option Kind → Performance
 from_refusal dpi end history command commands kind =
-    then_on (then_on (after_command command history kind) (after_all dpi commands)) (λ all. after_end end all (page_refusal (at_end dpi (situation dpi all))))
+    then_on (then_on (after_command command history kind) (after_all dpi commands))
+    (λ all. after_end end all (page_refusal (at_end dpi (situation dpi all))))
 
 command_fits : (dpi : Dpi) (end : ℕ) (history : History) (command : Said) (commands : List Said) (kind : Option Kind)
     → (kind ≡ None → Fits dpi (performance dpi end (with_operation (operation_of command.name) command history) commands))
@@ -259,5 +288,9 @@ pub written_again : (dpi : Dpi) (job texts : List ℕ) (pages : List Sheet) → 
     → (again : List Sheet) × HasPages dpi (frame_bytes ++ texts ++ frame_bytes) again × AllAlike dpi pages again
 written_again dpi job texts pages h p =
     let few = job_fits dpi job pages h in
-    let t = texts_taken dpi pages texts defaults [] 1 p (record { method = refl; height = refl }) (omega (arith, few)) in
-    (t.again, job_accepted dpi texts t.deeds t.settings t.again t.count t.read t.leads (omega (arith, t.same_many, few)) (omega (arith, few, t.few)), t.alike)
+    let t = texts_taken dpi pages texts defaults [] 1 p (record { method = refl; height = refl }) (omega (arith, few)) in (
+      t.again,
+      job_accepted dpi texts t.deeds t.settings t.again t.count t.read t.leads (omega (arith, t.same_many, few))
+          (omega (arith, few, t.few)),
+      t.alike,
+    )

@@ -68,7 +68,8 @@ first_is (suc (suc (suc (suc (suc (suc zero)))))) byte h =
 first_is (suc (suc (suc (suc (suc (suc (suc zero))))))) byte h =
     let i = bit_clear byte 1 (h 7 (lit≤ tt) (lit< tt)) in
     let all : byte / 2 * 2 ≡ byte = omega arith in all
-first_is (suc (suc (suc (suc (suc (suc (suc (suc n)))))))) byte h = whole_byte (suc (suc (suc (suc (suc (suc (suc (suc n)))))))) byte (omega arith)
+first_is (suc (suc (suc (suc (suc (suc (suc (suc n)))))))) byte h =
+    whole_byte (suc (suc (suc (suc (suc (suc (suc (suc n)))))))) byte (omega arith)
 
 dot_at : (bytes : List ℕ) (x i k : ℕ) → x / 8 ≡ i → x % 8 ≡ k → dot_of_row bytes x ≡ bit_of_byte (slice_index bytes i) k
 dot_at bytes x i k a b = ap (λ (n : ℕ). bit_of_byte (slice_index bytes n) (x % 8)) a ∙ ap (bit_of_byte (slice_index bytes i)) b

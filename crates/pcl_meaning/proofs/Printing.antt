@@ -55,7 +55,8 @@ between t pages n = record { settings = t; raster = None; marks = []; pages = pa
 pub pages_fit : (s : Situation) → length s.pages ≤ 256 → page_refusal s ≡ None
 pages_fit s le = let t : nat_le (length s.pages) 256 ≡ true = grind (arith, nat_tests) in rw t refl
 
-prepared_is : (dpi : Dpi) (ends : Bool) (t : Settings) (pages : List Sheet) (n : ℕ) → cond ends (end_raster dpi (between t pages n)) (between t pages n) ≡ between t pages n
+prepared_is : (dpi : Dpi) (ends : Bool) (t : Settings) (pages : List Sheet) (n : ℕ)
+    → cond ends (end_raster dpi (between t pages n)) (between t pages n) ≡ between t pages n
 prepared_is dpi true t pages n = refl
 prepared_is dpi false t pages n = refl
 
@@ -70,7 +71,10 @@ set_between dpi operation value t t' effect pages n o e d =
     let at = between t pages (n + 1) in
     ap (λ (z : Situation). taken dpi operation command z) (prepared_is dpi (ends_raster operation) t pages (n + 1))
     ∙ ap (λ (out : Outcome). done_with dpi operation command out at) o
-    ∙ ap (λ (test : Bool). Some (drawn dpi operation command (cond test (record at { settings = to_first_line t'; marks = []; pages = pages ++ sheet_of at ∷ [] }) (record at { settings = t' })))) e
+    ∙ ap (λ (test : Bool). Some
+    (drawn dpi operation command
+    (cond test (record at { settings = to_first_line t'; marks = []; pages = pages ++ sheet_of at ∷ [] })
+    (record at { settings = t' })))) e
     ∙ ap (λ (z : Situation). Some z) (d (between t' pages (n + 1)))
 
 -- ---- what the begin of a text sets
@@ -83,7 +87,8 @@ copies_out dpi copies t some few =
     let to : nat_le copies 99 ≡ true = grind (arith, nat_tests) in
     ap (λ (n : ℕ). stays_if (nat_le 1 n && nat_le n 99) (record t { copies = n })) (whole_is copies) ∙ rw (from, to) refl
 
-size_out : (dpi : Dpi) (size : Size) (t : Settings) → outcome dpi PageSize (number_value (code_of size)) false t ≡ Some (with_size size t, page.EjectMarked)
+size_out : (dpi : Dpi) (size : Size) (t : Settings)
+    → outcome dpi PageSize (number_value (code_of size)) false t ≡ Some (with_size size t, page.EjectMarked)
 unfolding outcome
 size_out dpi Executive t = refl
 size_out dpi Letter t = refl
@@ -104,18 +109,21 @@ across_out : (dpi : Dpi) (t : Settings) → outcome dpi (Move Horizontal PclUnit
 unfolding outcome
 across_out dpi t = let none : 0 + 0 * t.pcl_unit / 10000 ≡ 0 = omega arith in ap (λ (n : ℕ). stays (put_x n t)) none
 
-down_out : (dpi : Dpi) (t : Settings) → t.top ≡ 0 → outcome dpi (Move Vertical PclUnit) (number_value 0) false t ≡ Some (put_y 0 t, page.Stay)
+down_out : (dpi : Dpi) (t : Settings) → t.top ≡ 0
+    → outcome dpi (Move Vertical PclUnit) (number_value 0) false t ≡ Some (put_y 0 t, page.Stay)
 unfolding outcome
 down_out dpi t top = let none : t.top + 0 * t.pcl_unit / 10000 ≡ 0 = omega arith in ap (λ (n : ℕ). stays (put_y n t)) none
 
 resolution_out : (dpi : Dpi) (t : Settings)
-    → outcome dpi RasterResolution (number_value (dots_per_inch dpi)) false t ≡ Some (record t { resolution = dots_per_inch dpi }, page.Stay)
+    → outcome dpi RasterResolution (number_value (dots_per_inch dpi)) false t
+    ≡ Some (record t { resolution = dots_per_inch dpi }, page.Stay)
 unfolding outcome
 resolution_out Dpi300 t = refl
 resolution_out Dpi600 t = refl
 
 width_out : (size : Size) (dpi : Dpi) (t : Settings)
-    → outcome dpi RasterWidth (number_value (page_width size dpi)) false t ≡ Some (record t { raster_width = Some (page_width size dpi) }, page.Stay)
+    → outcome dpi RasterWidth (number_value (page_width size dpi)) false t
+    ≡ Some (record t { raster_width = Some (page_width size dpi) }, page.Stay)
 unfolding outcome
 width_out Executive Dpi300 t = refl
 width_out Executive Dpi600 t = refl
@@ -129,7 +137,8 @@ width_out A4 Dpi600 t = refl
 -- the settings of a text's raster
 abbrev pub ready : Dpi → Size → ℕ → Settings → Settings
 ready dpi size copies t =
-    record (put_y 0 (put_x 0 (top_zero (with_size size (record t { copies = copies }))))) { resolution = dots_per_inch dpi; raster_width = Some (page_width size dpi) }
+    record (put_y 0 (put_x 0 (top_zero (with_size size (record t { copies = copies })))))
+    { resolution = dots_per_inch dpi; raster_width = Some (page_width size dpi) }
 
 -- the raster of a text: at the page's left edge, as wide as the page, k rows done
 abbrev body_raster : Size → Dpi → ℕ → List ℕ → Raster
@@ -153,13 +162,58 @@ first_dot Dpi300 y e = omega (arith, e)
 first_dot Dpi600 y e = omega (arith, e)
 
 one_scale : (dpi : Dpi) (size : Size) (top : ℕ) (height : Option ℕ) → height ≡ None → top ≡ 0
-    → record { left = 0; top = top; scale = scale_of dpi (dots_per_inch dpi); width = page_width size dpi; height = height; rows = 0; seed = zeros size dpi } ≡ body_raster size dpi 0 (zeros size dpi)
+    → record {
+      left = 0;
+      top = top;
+      scale = scale_of dpi (dots_per_inch dpi);
+      width = page_width size dpi;
+      height = height;
+      rows =
+          0;
+      seed = zeros size dpi;
+    } ≡ body_raster size dpi 0 (zeros size dpi)
 one_scale Dpi300 size top height h t =
-    ap (λ (o : Option ℕ). record { left = 0; top = top; scale = 1; width = page_width size Dpi300; height = o; rows = 0; seed = zeros size Dpi300 }) h
-    ∙ ap (λ (n : ℕ). record { left = 0; top = n; scale = 1; width = page_width size Dpi300; height = None; rows = 0; seed = zeros size Dpi300 }) t
+    ap (λ (o : Option ℕ). record {
+      left = 0;
+      top = top;
+      scale = 1;
+      width = page_width size Dpi300;
+      height = o;
+      rows = 0;
+      seed =
+          zeros size Dpi300;
+    }) h
+    ∙ ap (λ (n : ℕ). record {
+      left = 0;
+      top = n;
+      scale = 1;
+      width = page_width size Dpi300;
+      height = None;
+      rows = 0;
+      seed =
+          zeros size Dpi300;
+    }) t
 one_scale Dpi600 size top height h t =
-    ap (λ (o : Option ℕ). record { left = 0; top = top; scale = 1; width = page_width size Dpi600; height = o; rows = 0; seed = zeros size Dpi600 }) h
-    ∙ ap (λ (n : ℕ). record { left = 0; top = n; scale = 1; width = page_width size Dpi600; height = None; rows = 0; seed = zeros size Dpi600 }) t
+    ap (λ (o : Option ℕ). record {
+      left = 0;
+      top = top;
+      scale = 1;
+      width = page_width size Dpi600;
+      height = o;
+      rows = 0;
+      seed =
+          zeros size Dpi600;
+    }) h
+    ∙ ap (λ (n : ℕ). record {
+      left = 0;
+      top = n;
+      scale = 1;
+      width = page_width size Dpi600;
+      height = None;
+      rows = 0;
+      seed =
+          zeros size Dpi600;
+    }) t
 
 start_after : (size : Size) (dpi : Dpi) (copies : ℕ) (t : Settings) (pages : List Sheet) (n : ℕ) → IsBetween t
     → after dpi StartRaster (said_of (deed StartRaster (number_value 0) [])) (between (ready dpi size copies t) pages n)
@@ -168,12 +222,23 @@ unfolding after outcome
 start_after size dpi copies t pages n b =
     let at = ready dpi size copies t in
     let y : at.cursor.y ≡ 0 = omega arith in
-    let raster : raster_from dpi 0 at ≡ body_raster size dpi 0 (zeros size dpi) = one_scale dpi size (dot_at dpi at.cursor.y) t.raster_height b.height (first_dot dpi at.cursor.y y) in
+    let raster : raster_from dpi 0 at ≡ body_raster size dpi 0 (zeros size dpi) =
+    one_scale dpi size (dot_at dpi at.cursor.y) t.raster_height b.height (first_dot dpi at.cursor.y y) in
     ap (λ (r : Raster). Some (record { settings = at; raster = Some r; marks = []; pages = pages; performed = n + 1 })) raster
-    ∙ ap (λ (m : Method). Some (record { settings = record at { method = m }; raster = Some (body_raster size dpi 0 (zeros size dpi)); marks = []; pages = pages; performed = n + 1 })) b.method
+    ∙ ap (λ (m : Method). Some
+    (record {
+      settings = record at { method = m };
+      raster = Some (body_raster size dpi 0 (zeros size dpi));
+      marks = [];
+      pages =
+          pages;
+      performed = n + 1;
+    })) b.method
 
-start_leads : (size : Size) (dpi : Dpi) (copies : ℕ) (t : Settings) (pages : List Sheet) (n : ℕ) → IsBetween t → 0 < copies → copies < 100 → length pages ≤ 256
-    → (m : ℕ) × Leads dpi (start_deeds dpi copies size) (between t pages n) (in_body size dpi (ready dpi size copies t) Plain 0 (zeros size dpi) [] pages m)
+start_leads : (size : Size) (dpi : Dpi) (copies : ℕ) (t : Settings) (pages : List Sheet) (n : ℕ) → IsBetween t → 0 < copies → copies < 100
+    → length pages ≤ 256
+    → (m : ℕ) × Leads dpi (start_deeds dpi copies size) (between t pages n)
+    (in_body size dpi (ready dpi size copies t) Plain 0 (zeros size dpi) [] pages m)
 start_leads size dpi copies t pages n b some few fits =
     let a1 = record t { copies = copies } in
     let a2 = with_size size a1 in
@@ -190,7 +255,8 @@ start_leads size dpi copies t pages n b some few fits =
         ok a1 (n + 1),
         (
           between a2 pages (n + 1 + 1),
-          set_between dpi PageSize (number_value (code_of size)) a1 a2 page.EjectMarked pages (n + 1) (size_out dpi size a1) refl (λ s. refl),
+          set_between dpi PageSize (number_value (code_of size)) a1 a2 page.EjectMarked pages (n + 1) (size_out dpi size a1) refl
+              (λ s. refl),
           ok a2 (n + 1 + 1),
           (
             between a3 pages (n + 1 + 1 + 1),
@@ -198,21 +264,30 @@ start_leads size dpi copies t pages n b some few fits =
             ok a3 (n + 1 + 1 + 1),
             (
               between a4 pages (n + 1 + 1 + 1 + 1),
-              set_between dpi (Move Horizontal PclUnit) (number_value 0) a3 a4 page.Stay pages (n + 1 + 1 + 1) (across_out dpi a3) refl (λ s. refl),
+              set_between dpi (Move Horizontal PclUnit) (number_value 0) a3 a4 page.Stay pages (n + 1 + 1 + 1) (across_out dpi a3) refl
+                  (λ s. refl),
               ok a4 (n + 1 + 1 + 1 + 1),
               (
                 between a5 pages (n + 1 + 1 + 1 + 1 + 1),
-                set_between dpi (Move Vertical PclUnit) (number_value 0) a4 a5 page.Stay pages (n + 1 + 1 + 1 + 1) (down_out dpi a4 refl) refl (λ s. refl),
+                set_between dpi (Move Vertical PclUnit) (number_value 0) a4 a5 page.Stay pages (n + 1 + 1 + 1 + 1) (down_out dpi a4 refl)
+                    refl (λ s. refl),
                 ok a5 (n + 1 + 1 + 1 + 1 + 1),
                 (
                   between a6 pages (n + 1 + 1 + 1 + 1 + 1 + 1),
-                  set_between dpi RasterResolution (number_value (dots_per_inch dpi)) a5 a6 page.Stay pages (n + 1 + 1 + 1 + 1 + 1) (resolution_out dpi a5) refl (λ s. refl),
+                  set_between dpi RasterResolution (number_value (dots_per_inch dpi)) a5 a6 page.Stay pages (n + 1 + 1 + 1 + 1 + 1)
+                      (resolution_out dpi a5) refl (λ s. refl),
                   ok a6 (n + 1 + 1 + 1 + 1 + 1 + 1),
                   (
                     between a7 pages (n + 1 + 1 + 1 + 1 + 1 + 1 + 1),
-                    set_between dpi RasterWidth (number_value (page_width size dpi)) a6 a7 page.Stay pages (n + 1 + 1 + 1 + 1 + 1 + 1) (width_out size dpi a6) refl (λ s. refl),
+                    set_between dpi RasterWidth (number_value (page_width size dpi)) a6 a7 page.Stay pages (n + 1 + 1 + 1 + 1 + 1 + 1)
+                        (width_out size dpi a6) refl (λ s. refl),
                     ok a7 (n + 1 + 1 + 1 + 1 + 1 + 1 + 1),
-                    (in_body size dpi a7 Plain 0 (zeros size dpi) [] pages (n + 1 + 1 + 1 + 1 + 1 + 1 + 1 + 1), start_after size dpi copies t pages (n + 1 + 1 + 1 + 1 + 1 + 1 + 1) b, pages_fit (in_body size dpi a7 Plain 0 (zeros size dpi) [] pages (n + 1 + 1 + 1 + 1 + 1 + 1 + 1 + 1)) fits, refl),
+                    (
+                      in_body size dpi a7 Plain 0 (zeros size dpi) [] pages (n + 1 + 1 + 1 + 1 + 1 + 1 + 1 + 1),
+                      start_after size dpi copies t pages (n + 1 + 1 + 1 + 1 + 1 + 1 + 1) b,
+                      pages_fit (in_body size dpi a7 Plain 0 (zeros size dpi) [] pages (n + 1 + 1 + 1 + 1 + 1 + 1 + 1 + 1)) fits,
+                      refl,
+                    ),
                   ),
                 ),
               ),
@@ -224,7 +299,8 @@ start_leads size dpi copies t pages n b some few fits =
 
 -- ---- the body
 
-method_after : (size : Size) (dpi : Dpi) (t : Settings) (m next : Method) (k : ℕ) (seed : List ℕ) (marks : List Mark) (pages : List Sheet) (n : ℕ)
+method_after : (size : Size) (dpi : Dpi) (t : Settings) (m next : Method) (k : ℕ) (seed : List ℕ) (marks : List Mark) (pages : List Sheet)
+    (n : ℕ)
     → after dpi RasterMethod (said_of (deed RasterMethod (number_value (method_code next)) [])) (in_body size dpi t m k seed marks pages n)
     ≡ Some (in_body size dpi t next k seed marks pages (n + 1))
 unfolding after outcome
@@ -233,7 +309,8 @@ method_after size dpi t m Runs k seed marks pages n = refl
 method_after size dpi t m Packed k seed marks pages n = refl
 method_after size dpi t m Delta k seed marks pages n = refl
 
-skip_after : (size : Size) (dpi : Dpi) (t : Settings) (m : Method) (count k : ℕ) (seed : List ℕ) (marks : List Mark) (pages : List Sheet) (n : ℕ)
+skip_after : (size : Size) (dpi : Dpi) (t : Settings) (m : Method) (count k : ℕ) (seed : List ℕ) (marks : List Mark) (pages : List Sheet)
+    (n : ℕ)
     → after dpi RasterOffset (said_of (deed RasterOffset (number_value count) [])) (in_body size dpi t m k seed marks pages n)
     ≡ Some (in_body size dpi t m (k + count) (zeros size dpi) marks pages (n + 1))
 unfolding after outcome
@@ -243,7 +320,8 @@ skip_after size dpi t m count k seed marks pages n =
 abbrev sent_mark : Size → Dpi → ℕ → List ℕ → List ℕ → Mark
 sent_mark size dpi k seed row = row_mark row (body_raster size dpi k seed)
 
-row_after : (size : Size) (dpi : Dpi) (t : Settings) (m : Method) (k : ℕ) (seed row bytes : List ℕ) (marks : List Mark) (pages : List Sheet) (n : ℕ)
+row_after : (size : Size) (dpi : Dpi) (t : Settings) (m : Method) (k : ℕ) (seed row bytes : List ℕ) (marks : List Mark)
+    (pages : List Sheet) (n : ℕ)
     → row_sent m bytes (body_raster size dpi k seed) ≡ row
     → after dpi RasterRow (said_of (deed RasterRow (number_value (length bytes)) bytes)) (in_body size dpi t m k seed marks pages n)
     ≡ Some (in_body size dpi t m (k + 1) row (sent_mark size dpi k seed row ∷ marks) pages (n + 1))
@@ -257,13 +335,15 @@ sent_is : (size : Size) (dpi : Dpi) (m : Method) (k : ℕ) (seed row bytes : Lis
 sent_is size dpi m k seed row bytes d is =
     ap (cleared_past (page_width size dpi)) (sym (decoded_is m seed bytes row d.decodes)) ∙ cleared_is row (page_width size dpi) is.1
 
-rows_below : (count : ℕ) (size : Size) (dpi : Dpi) (rows : List (List ℕ)) → AllByRecursion (IsRowOf size dpi) rows → AllByRecursion (IsRowOf size dpi) (drop count rows)
+rows_below : (count : ℕ) (size : Size) (dpi : Dpi) (rows : List (List ℕ)) → AllByRecursion (IsRowOf size dpi) rows
+    → AllByRecursion (IsRowOf size dpi) (drop count rows)
 rows_below zero size dpi rows a = a
 rows_below (suc count) size dpi [] a = a
 rows_below (suc count) size dpi (row ∷ rows) a = rows_below count size dpi rows a.1
 
 -- the tokens are performed behind row k, and ink the dots of the rows that they print
-record IsPrinted (size : Size) (dpi : Dpi) (t : Settings) (deeds : List Deed) (rows : List (List ℕ)) (k : ℕ) (from : Situation) (inked : List Mark) (pages : List Sheet) : Type 0 where
+record IsPrinted (size : Size) (dpi : Dpi) (t : Settings) (deeds : List Deed) (rows : List (List ℕ)) (k : ℕ) (from : Situation)
+    (inked : List Mark) (pages : List Sheet) : Type 0 where
   last : Method
   end : ℕ
   seed : List ℕ
@@ -284,18 +364,22 @@ over : (covered older : Bool) → cond covered true older ≡ (covered || older)
 over true older = refl
 over false older = refl
 
-sent_dots : (size : Size) (dpi : Dpi) (k : ℕ) (seed row : List ℕ) (rest : List (List ℕ)) (inked all : List Mark) (x y : ℕ) → x < page_width size dpi
+sent_dots : (size : Size) (dpi : Dpi) (k : ℕ) (seed row : List ℕ) (rest : List (List ℕ)) (inked all : List Mark) (x y : ℕ)
+    → x < page_width size dpi
     → is_black all x y ≡ (dot_from (k + 1) rest x y || is_black (sent_mark size dpi k seed row ∷ inked) x y)
     → is_black all x y ≡ (dot_from k (row ∷ rest) x y || is_black inked x y)
 sent_dots size dpi k seed row rest inked all x y within e =
-    let covers : (sent_mark size dpi k seed row).covers x y ≡ (k == y && dot_of_row row x) = row_inks k (page_width size dpi) row x y within in
+    let covers : (sent_mark size dpi k seed row).covers x y ≡ (k == y && dot_of_row row x) =
+    row_inks k (page_width size dpi) row x y within in
     e ∙ ap (λ (b : Bool). dot_from (k + 1) rest x y || b) (over ((sent_mark size dpi k seed row).covers x y) (is_black inked x y))
     ∙ ap (λ (b : Bool). dot_from (k + 1) rest x y || (b || is_black inked x y)) covers
     ∙ swapped (dot_from (k + 1) rest x y) (k == y && dot_of_row row x) (is_black inked x y)
     ∙ ap (λ (b : Bool). b || is_black inked x y) (sym (first_row k row rest x y))
 
-body_printed : (inside : Bool) (tokens : List Token) (size : Size) (dpi : Dpi) (t : Settings) (m : Method) (seed : List ℕ) (rows : List (List ℕ)) (k : ℕ) (inked : List Mark) (pages : List Sheet) (n : ℕ)
-    → PrintsRows inside m seed tokens rows → AllByRecursion (IsRowOf size dpi) rows → length seed ≡ bytes_of_width (page_width size dpi) → length pages ≤ 256
+body_printed : (inside : Bool) (tokens : List Token) (size : Size) (dpi : Dpi) (t : Settings) (m : Method) (seed : List ℕ)
+    (rows : List (List ℕ)) (k : ℕ) (inked : List Mark) (pages : List Sheet) (n : ℕ)
+    → PrintsRows inside m seed tokens rows → AllByRecursion (IsRowOf size dpi) rows → length seed ≡ bytes_of_width (page_width size dpi)
+    → length pages ≤ 256
     → IsPrinted size dpi t (body_deeds tokens) rows k (in_body size dpi t m k seed inked pages n) inked pages
 unfolding PrintsRows
 body_printed true [] size dpi t m seed rows k inked pages n p are long fits = absurd p
@@ -329,7 +413,8 @@ body_printed false (skip digits count ends ∷ tokens) size dpi t m seed rows k 
 body_printed true (skip digits count ends ∷ tokens) size dpi t m seed rows k inked pages n p are long fits =
     let seeds : replicate (length seed) 0 ≡ zeros size dpi = ap (λ (len : ℕ). replicate len 0) long in
     let printed = subst (λ (z : List ℕ). PrintsRows (not ends) m z tokens (drop count rows)) seeds p.4 in
-    let r = body_printed (not ends) tokens size dpi t m (zeros size dpi) (drop count rows) (k + count) inked pages (n + 1) printed (rows_below count size dpi rows are)
+    let r = body_printed (not ends) tokens size dpi t m (zeros size dpi) (drop count rows) (k + count) inked pages (n + 1) printed
+    (rows_below count size dpi rows are)
     (length-replicate (bytes_of_width (page_width size dpi)) 0) fits in
     let at = in_body size dpi t m (k + count) (zeros size dpi) inked pages (n + 1) in
     record {
@@ -353,7 +438,12 @@ body_printed true (send digits bytes ∷ tokens) size dpi t m seed (row ∷ rest
       seed = r.seed;
       all = r.all;
       count = r.count;
-      leads = (at, row_after size dpi t m k seed row bytes inked pages n (sent_is size dpi m k seed row bytes p.1 are.0), pages_fit at fits, r.leads);
+      leads = (
+        at,
+        row_after size dpi t m k seed row bytes inked pages n (sent_is size dpi m k seed row bytes p.1 are.0),
+        pages_fit at fits,
+        r.leads,
+      );
       black = λ x y within. sent_dots size dpi k seed row rest inked r.all x y within (r.black x y within);
     }
 
@@ -370,7 +460,8 @@ unfolding after outcome
 end_after size dpi t m k seed marks pages n = refl
 
 feed_after : (dpi : Dpi) (u : Settings) (marks : List Mark) (pages : List Sheet) (n : ℕ)
-    → after dpi FormFeed (said_of (deed FormFeed zero_value [])) (record { settings = u; raster = None; marks = marks; pages = pages; performed = n })
+    → after dpi FormFeed (said_of (deed FormFeed zero_value []))
+    (record { settings = u; raster = None; marks = marks; pages = pages; performed = n })
     ≡ Some (between (to_first_line (before_feed u)) (pages ++ record { size = u.size; copies = u.copies; marks = marks } ∷ []) (n + 1))
 unfolding after outcome
 feed_after dpi u marks pages n = refl
@@ -414,7 +505,8 @@ abbrev pub text_deeds : Dpi → Size → ℕ → List Token → List Deed
 text_deeds dpi size copies tokens = start_deeds dpi copies size ++ (body_deeds tokens ++ end_deeds)
 
 -- a text leads from between texts to between texts, and ejects the page that it prints
-pub record IsTextTaken (dpi : Dpi) (size : Size) (copies : ℕ) (deeds : List Deed) (rows : List (List ℕ)) (from : Situation) (pages : List Sheet) : Type 0 where
+pub record IsTextTaken (dpi : Dpi) (size : Size) (copies : ℕ) (deeds : List Deed) (rows : List (List ℕ)) (from : Situation)
+    (pages : List Sheet) : Type 0 where
   pub settings : Settings
   pub stands : IsBetween settings
   pub inked : List Mark
@@ -428,7 +520,8 @@ all_rows rows x y =
     let below : nat_le 0 y ≡ true = grind (arith, nat_tests) in
     or-false (dot_from 0 rows x y) ∙ ap (λ (b : Bool). b && dot_of_rows rows x (y - 0)) below ∙ ap (λ (n : ℕ). dot_of_rows rows x n) place
 
-pub text_taken : (dpi : Dpi) (size : Size) (copies : ℕ) (rows : List (List ℕ)) (text : List ℕ) (printed : IsPageText dpi size copies rows text)
+pub text_taken : (dpi : Dpi) (size : Size) (copies : ℕ) (rows : List (List ℕ)) (text : List ℕ)
+    (printed : IsPageText dpi size copies rows text)
     (t : Settings) (pages : List Sheet) (n : ℕ) → IsBetween t → length pages < 256
     → IsTextTaken dpi size copies (text_deeds dpi size copies printed.tokens) rows (between t pages n) pages
 text_taken dpi size copies rows text printed t pages n b few =

@@ -25,4 +25,5 @@ AllAlike dpi (sheet ∷ sheets) (other ∷ others) = AreAlike dpi sheet other ×
 abbrev pub PrintSheets : Dpi → List Sheet → List ℕ → Type 0
 PrintSheets dpi [] texts = texts ≡ []
 PrintSheets dpi (sheet ∷ sheets) texts =
-    (page : Page) × (text rest : List ℕ) × Shows dpi page sheet × IsWrittenPage page text × (texts ≡ text ++ rest) × PrintSheets dpi sheets rest
+    (page : Page) × (text rest : List ℕ) × Shows dpi page sheet × IsWrittenPage page text × (texts ≡ text ++ rest)
+    × PrintSheets dpi sheets rest

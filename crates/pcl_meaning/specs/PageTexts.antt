@@ -22,7 +22,8 @@ abbrev pub job_of : List ℕ → List ℕ
 job_of text = frame_bytes ++ text ++ frame_bytes
 
 -- the commands of that job: the two resets, eight before the body and two behind it
-abbrev pub job_commands : {dpi : Dpi} {size : Size} {copies : ℕ} {rows : List (List ℕ)} {text : List ℕ} → IsPageText dpi size copies rows text → ℕ
+abbrev pub job_commands : {dpi : Dpi} {size : Size} {copies : ℕ} {rows : List (List ℕ)} {text : List ℕ}
+    → IsPageText dpi size copies rows text → ℕ
 job_commands printed = command_count printed.tokens + 12
 
 -- the job is accepted, and all that it means is so many copies of one page of this size with these rows, dot for dot

@@ -276,7 +276,8 @@ read_more width rows table steps place behind step is r some best p =
           let f = followed width rows table place.row place.method behind step more is next.within p z s in
           let inside_total : total cost (next.token ∷ tail) ≡ inside (node_number table) place.row place.method = omega
           (arith, t, next.number_is) in
-          let g = r.goes_on (step ∷ more) (opened place.inside (next.token ∷ tail)) (λ none. absurd (omega (arith, none, some))) (λ _. refl) (
+          let g = r.goes_on (step ∷ more) (opened place.inside (next.token ∷ tail)) (λ none. absurd (omega (arith, none, some)))
+          (λ _. refl) (
             next.token,
             tail,
             token_followed width rows table behind step more next.token f next.is_of,

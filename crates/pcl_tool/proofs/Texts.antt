@@ -12,7 +12,8 @@ use Rattle.pcl_meaning.specs.Alike.{PrintSheets}
 use Rattle.pcl_meaning.proofs.Jobs.{written_again}
 use Rattle.pcl_tool.specs.Minimizing.{IsJobOf}
 
-pub texts_gathered : (dpi : Dpi) (sheets : List Sheet) (old new : List ℕ) → Hands (λ (o : List ℕ) (page : Page) (n : List ℕ). AppendsPage page o n) dpi sheets old new
+pub texts_gathered : (dpi : Dpi) (sheets : List Sheet) (old new : List ℕ)
+    → Hands (λ (o : List ℕ) (page : Page) (n : List ℕ). AppendsPage page o n) dpi sheets old new
     → (texts : List ℕ) × PrintSheets dpi sheets texts × (new ≡ old ++ texts)
 texts_gathered dpi [] old new h = ([], refl, h ∙ sym (append-nil old))
 texts_gathered dpi (sheet ∷ sheets) old new h =
@@ -24,11 +25,13 @@ texts_gathered dpi (sheet ∷ sheets) old new h =
     )
 
 pub job_written : (dpi : Dpi) (job start body output : List ℕ) (pages : List Sheet) → HasPages dpi job pages → start ≡ frame_bytes
-    → Hands (λ (o : List ℕ) (page : Page) (n : List ℕ). AppendsPage page o n) dpi pages start body → output ≡ body ++ frame_bytes → IsJobOf dpi job output
+    → Hands (λ (o : List ℕ) (page : Page) (n : List ℕ). AppendsPage page o n) dpi pages start body → output ≡ body ++ frame_bytes
+    → IsJobOf dpi job output
 job_written dpi job start body output pages meaning opened handed closed =
     let t = texts_gathered dpi pages start body handed in
     let spelled : output ≡ frame_bytes ++ t.0 ++ frame_bytes =
-    closed ∙ ap (λ (b : List ℕ). b ++ frame_bytes) (t.2 ∙ ap (λ (s : List ℕ). s ++ t.0) opened) ∙ append_assoc frame_bytes t.0 frame_bytes in
+    closed ∙ ap (λ (b : List ℕ). b ++ frame_bytes) (t.2 ∙ ap (λ (s : List ℕ). s ++ t.0) opened)
+    ∙ append_assoc frame_bytes t.0 frame_bytes in
     let w = written_again dpi job t.0 pages meaning t.1 in
     record {
       pages = pages;

@@ -41,10 +41,14 @@ pub record IsRead (old new : Option (List ℕ)) (job : List ℕ) : Type 0 where
 
 -- what a reader gave and a writer holds after a filter
 abbrev pub IsFiltered : Dpi → Option (List ℕ) → Option (List ℕ) → Option (List ℕ) → Option (List ℕ) → Result (Unit {0}) Fault → Type 0
-IsFiltered dpi given left old new (Ok unit) = (job output : List ℕ) × IsRead given left job × IsJobOf dpi job output × Appends old new output
-IsFiltered dpi given left old new (Err WriteFault) = (job output : List ℕ) × IsRead given left job × IsJobOf dpi job output × AppendsFront old new output
-IsFiltered dpi given left old new (Err (Refused refusal)) = (job : List ℕ) × IsRead given left job × IsRefusal dpi job refusal × Keeps old new
+IsFiltered dpi given left old new (Ok unit) =
+    (job output : List ℕ) × IsRead given left job × IsJobOf dpi job output × Appends old new output
+IsFiltered dpi given left old new (Err WriteFault) =
+    (job output : List ℕ) × IsRead given left job × IsJobOf dpi job output × AppendsFront old new output
+IsFiltered dpi given left old new (Err (Refused refusal)) =
+    (job : List ℕ) × IsRead given left job × IsRefusal dpi job refusal × Keeps old new
 IsFiltered dpi given left old new (Err Memory) = GivesAtMost given left (input_limit + 1) × Keeps old new
 IsFiltered dpi given left old new (Err ReadFault) = GivesAtMost given left input_limit × Keeps old new
-IsFiltered dpi given left old new (Err TooLong) = (bytes : List ℕ) × Consumes given left bytes × (length bytes ≡ input_limit + 1) × Keeps old new
+IsFiltered dpi given left old new (Err TooLong) =
+    (bytes : List ℕ) × Consumes given left bytes × (length bytes ≡ input_limit + 1) × Keeps old new
 IsFiltered dpi given left old new (Err NoSuchPage) = ⊥

@@ -20,6 +20,7 @@ returns g c =
         output,
         [],
         sym (append-nil output),
-        Appends-kept _ _ _ output (subst (Appends (g.W.Write.contents c.args.out.now) (g.W.Write.contents c.write_bytes.new.out)) c.deref-2.ensures.value w) k,
+        Appends-kept _ _ _ output
+            (subst (Appends (g.W.Write.contents c.args.out.now) (g.W.Write.contents c.write_bytes.new.out)) c.deref-2.ensures.value w) k,
       ),
     )

@@ -8,5 +8,10 @@ loop-rest-preserved g c =
     let i = c.loop-rest.invariant in
     let count = c.in-Ok.count in
     let rest = c.loop-rest.rest.now in
-    let parts : c.args.bytes.now ≡ (i.0 ++ take count rest) ++ drop count rest = i.1 ∙ ap (λ (r : List ℕ). i.0 ++ r) (sym (take-append-drop count rest)) ∙ sym (append_assoc i.0 (take count rest) (drop count rest)) in
-    (i.0 ++ take count rest, parts ∙ ap (λ (r : List ℕ). (i.0 ++ take count rest) ++ r) (sym (take_rest rest count)), Appends-trans _ _ _ _ _ i.2 c.in-Ok.ensures.bytes)
+    let parts : c.args.bytes.now ≡ (i.0 ++ take count rest) ++ drop count rest =
+    i.1 ∙ ap (λ (r : List ℕ). i.0 ++ r) (sym (take-append-drop count rest))
+    ∙ sym (append_assoc i.0 (take count rest) (drop count rest)) in (
+      i.0 ++ take count rest,
+      parts ∙ ap (λ (r : List ℕ). (i.0 ++ take count rest) ++ r) (sym (take_rest rest count)),
+      Appends-trans _ _ _ _ _ i.2 c.in-Ok.ensures.bytes,
+    )

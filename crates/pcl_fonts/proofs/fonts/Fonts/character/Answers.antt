@@ -22,7 +22,8 @@ returns-in_default-read c =
     let e = c.in-Some.entry.now in
     let n = c.get_mut.follows.lender e in
     let w = writes_of m n c.args.id e e (sym c.in-Some.ensures.value) (c.get_mut.follows.holds e) refl in
-    subst (λ (t : FontTable). HasCharacter c.args.id c.args.code c.args.bytes.now (Err (Refused CharacterData)) t (view n.entries)) c.self.view_is
+    subst (λ (t : FontTable). HasCharacter c.args.id c.args.code c.args.bytes.now (Err (Refused CharacterData)) t (view n.entries))
+    c.self.view_is
     (character_refused c.args.code c.args.bytes.now w (λ q. refl) c.in_default-read.ensures)
 
 pub invariant_of-self-2 : goal.invariant_of-self-2

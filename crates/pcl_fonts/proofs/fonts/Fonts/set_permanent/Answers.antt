@@ -10,7 +10,8 @@ returns c =
     elim c.match-get_mut.branch [
       | in-Some w ↦
           let e = w.in-Some.entry.now in
-          let f : Entry = record { info = e.info; font_type = e.font_type; is_permanent = c.args.is_permanent; characters = e.characters } in
+          let f : Entry =
+          record { info = e.info; font_type = e.font_type; is_permanent = c.args.is_permanent; characters = e.characters } in
           let n = c.get_mut.follows.lender f in
           follows_as c.self.view_is (ap (λ i. view i.entries.entries) (sym w.self-inside-is)) refl
           (follows_mark m.entries n.entries c.args.id 0 e f c.args.is_permanent (record {

@@ -5,4 +5,5 @@ use Rattle.pcl_tool.proofs.minimizing.WrittenPageSink.page.Goals as goal
 
 pub returns-clause-taken : goal.returns-clause-taken
 returns-clause-taken c =
-    subst (λ (old : List ℕ). OnOk c.write_page.result (AppendsPage c.args.page.now old c.write_page.new.out.items)) c.self.view_is c.write_page.ensures.ok
+    subst (λ (old : List ℕ). OnOk c.write_page.result (AppendsPage c.args.page.now old c.write_page.new.out.items)) c.self.view_is
+    c.write_page.ensures.ok
