@@ -54,19 +54,19 @@ pub struct Rows {
 
 impl Case {
     /// How many pages are expected.
-    pub fn page_count(&self) -> usize {
+    pub(crate) fn page_count(&self) -> usize {
         self.pages.last().map_or(0, |pages| pages.end)
     }
 
     /// The page that is expected at a place, from 0.
-    pub fn page(&self, number: usize) -> Option<&Pages> {
+    pub(crate) fn page(&self, number: usize) -> Option<&Pages> {
         self.pages.iter().find(|pages| number < pages.end)
     }
 }
 
 impl Pages {
     /// Whether a page is one of these: its size, its copies and each of its dots.
-    pub fn has(&self, page: &Page) -> bool {
+    pub(crate) fn has(&self, page: &Page) -> bool {
         if page.copies != self.copies || page.bitmap.size() != self.size {
             return false;
         }

@@ -48,7 +48,7 @@ impl PageSink for Comparison<'_> {
 }
 
 /// What came in place of what a case expects; none where it holds.
-pub fn fault_of(alloc: Global, case: &Case) -> Result<Option<String>, AllocError> {
+pub(crate) fn fault_of(alloc: Global, case: &Case) -> Result<Option<String>, AllocError> {
     let job = match bytes_of(alloc, case.notation.as_str()) {
         Ok(job) => job,
         Err(NotationFault::Memory(error)) => return Err(error),

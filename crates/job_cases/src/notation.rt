@@ -80,12 +80,12 @@ struct Reader<'a> {
 }
 
 /// The bytes that a notation stands for.
-pub fn bytes_of(alloc: Global, notation: &str) -> Result<Vec<u8>, NotationFault> {
+pub(crate) fn bytes_of(alloc: Global, notation: &str) -> Result<Vec<u8>, NotationFault> {
     read(alloc, notation, false)
 }
 
 /// The bytes of a notation that stands as if in brackets.
-pub fn bracketed_bytes_of(alloc: Global, notation: &str) -> Result<Vec<u8>, NotationFault> {
+pub(crate) fn bracketed_bytes_of(alloc: Global, notation: &str) -> Result<Vec<u8>, NotationFault> {
     read(alloc, notation, true)
 }
 

@@ -15,7 +15,7 @@ const MOST_BYTES: usize = 40;
 const MOST_JOB_BYTES: usize = 400;
 
 /// The name of a size.
-pub fn name_of(size: Size) -> &'static str {
+pub(crate) fn name_of(size: Size) -> &'static str {
     match size {
         Size::Executive => "Executive",
         Size::Letter => "Letter",
@@ -25,7 +25,7 @@ pub fn name_of(size: Size) -> &'static str {
 }
 
 /// The pages of a job, each with its first rows that aren't white.
-pub fn show_pages(alloc: Global, job: &[u8], dpi: Dpi) -> Result<String, AllocError> {
+pub(crate) fn show_pages(alloc: Global, job: &[u8], dpi: Dpi) -> Result<String, AllocError> {
     let mut text = String::new(alloc);
     match read_pages(alloc, job, dpi) {
         Ok(pages) if pages.is_empty() => text.push_str("  no page")?,
@@ -69,7 +69,7 @@ fn show_row(text: &mut String, y: u32, row: &[u8]) -> Result<(), AllocError> {
 }
 
 /// The first bytes of a job, in the notation of `notation`.
-pub fn show_job(alloc: Global, job: &[u8]) -> Result<String, AllocError> {
+pub(crate) fn show_job(alloc: Global, job: &[u8]) -> Result<String, AllocError> {
     let mut text = String::new(alloc);
     for byte in job.iter().take(MOST_JOB_BYTES) {
         match *byte {

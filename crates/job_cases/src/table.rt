@@ -66,7 +66,7 @@ impl From<NotationFault> for TableFault {
 }
 
 /// The cases of a table, or its first line that is wrong.
-pub fn cases_of(alloc: Global, text: &str) -> Result<Vec<Case>, (usize, TableFault)> {
+pub(crate) fn cases_of(alloc: Global, text: &str) -> Result<Vec<Case>, (usize, TableFault)> {
     let mut cases = Vec::new(alloc);
     let mut number = 0usize;
     for line in text.lines() {

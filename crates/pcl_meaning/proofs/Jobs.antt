@@ -228,7 +228,8 @@ texts_taken dpi (sheet ∷ meant) texts t pages n p b few =
       leads = leads_append dpi deeds rest.deeds (between t pages n) middle last one.leads behind;
       alike = (
         sheet_alike dpi sheet page one.inked shows
-            (subst (λ (r : Dpi). (x y : ℕ) → x < page_width page.size r → is_black one.inked x y ≡ dot_of_rows (bitmap_rows page.bitmap) x y)
+            (subst (λ (r : Dpi). (x y : ℕ) → x < page_width page.size r
+            → is_black one.inked x y ≡ dot_of_rows (bitmap_rows page.bitmap) x y)
             (sym shows.resolution) one.black),
         rest.alike,
       );
