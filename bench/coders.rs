@@ -17,93 +17,7 @@ impl Generator {
     }
 }
 
-mod linear {
-    use std::collections::VecDeque;
-
-    pub fn needed_len(method: u32, old: &[u8], row: &[u8]) -> usize {
-        let kept = if method == 3 {
-            if old == row {
-                return 0;
-            }
-            row.iter().rev().zip(old.iter().rev()).take_while(|(a, b)| a == b).count()
-        } else {
-            row.iter().rev().take_while(|byte| **byte == 0).count()
-        };
-        row.len() - kept
-    }
-
-    pub fn least(method: u32, old: &[u8], row: &[u8]) -> usize {
-        let end = needed_len(method, old, row);
-        if end == 0 || method == 0 {
-            return end;
-        }
-        let mut numbers = [0u16; super::ROW_BYTES + 1];
-        fill_before(method, old, row, end, &mut numbers);
-        numbers[0] as usize
-    }
-
-    pub fn fill(method: u32, old: &[u8], row: &[u8], numbers: &mut [u16]) {
-        fill_before(method, old, row, needed_len(method, old, row), numbers);
-    }
-
-    fn fill_before(method: u32, old: &[u8], row: &[u8], end: usize, numbers: &mut [u16]) {
-        numbers[end..].fill(0);
-        match method {
-            0 => (0..end).rev().for_each(|place| numbers[place] = numbers[place + 1] + 1),
-            1 => fill_runs(row, end, numbers),
-            2 => fill_packed(row, end, numbers),
-            _ => fill_delta(old, row, end, numbers),
-        }
-    }
-
-    fn fill_runs(row: &[u8], end: usize, numbers: &mut [u16]) {
-        let mut run_end = end;
-        for place in (0..end).rev() {
-            if place + 1 < end && row[place] != row[place + 1] {
-                run_end = place + 1;
-            }
-            numbers[place] = numbers[run_end.min(place + 256)] + 2;
-        }
-    }
-
-    fn fill_packed(row: &[u8], end: usize, numbers: &mut [u16]) {
-        let mut window: VecDeque<(usize, usize)> = VecDeque::with_capacity(129);
-        let mut run_end = end;
-        for place in (0..end).rev() {
-            let number = place + 1 + numbers[place + 1] as usize;
-            while window.back().is_some_and(|(_, last)| *last >= number) {
-                window.pop_back();
-            }
-            window.push_back((place + 1, number));
-            if window[0].0 > place + 128 {
-                window.pop_front();
-            }
-            if place + 1 < end && row[place] != row[place + 1] {
-                run_end = place + 1;
-            }
-            let mut number = window[0].1 + 1 - place;
-            if run_end > place + 1 {
-                number = number.min(numbers[run_end.min(place + 128)] as usize + 2);
-            }
-            numbers[place] = number as u16;
-        }
-    }
-
-    fn fill_delta(old: &[u8], row: &[u8], end: usize, numbers: &mut [u16]) {
-        let mut start = end;
-        let mut best = 0;
-        for place in (0..end).rev() {
-            if old[place] != row[place] {
-                start = place;
-                let most = (row.len() - place).min(8);
-                best = (1..=most).map(|len| len + numbers[place + len] as usize).min().unwrap();
-            }
-            let offset = start - place;
-            let head = if offset < 31 { 1 } else { 2 + (offset - 31) / 255 };
-            numbers[place] = (head + best) as u16;
-        }
-    }
-}
+mod linear;
 
 enum Step {
     Byte,
@@ -180,8 +94,11 @@ fn fill(method: u32, old: &[u8], row: &[u8], numbers: &mut [u16]) {
 fn write(linear: bool, method: u32, seed: &[u8], row: &[u8], out: &mut Vec<u8>) {
     let zeros = [0u8; ROW_BYTES];
     let old = if method == 3 { seed } else { &zeros[..] };
+    if linear {
+        return linear::write(method, old, row, out);
+    }
     let mut numbers = [0u16; ROW_BYTES + 1];
-    if linear { linear::fill(method, old, row, &mut numbers) } else { fill(method, old, row, &mut numbers) }
+    fill(method, old, row, &mut numbers);
     let mut place = 0;
     while numbers[place] > 0 {
         let wanted = &row[place..];

@@ -1,11 +1,11 @@
 #!/usr/bin/env python3
-"""Previews each job by two programs in turn, writes it again by the first, and prints a table of times and peak memory.
+"""Previews each job by two programs in turn, writes it again, and prints a table of their times and peak memory.
 
     python3 bench/measure.py PCLMIN PLAIN FOLDER
 
 FOLDER holds the jobs that make_jobs.py makes. A time is the median of 21 runs, from the start of the process to
 its end, with the input and the output in files. A peak is what GNU time tells of one more run. It fails where the
-two programs preview different bytes. PLAIN writes plain rows alone, so it isn't asked to write.
+two programs write different bytes.
 """
 
 import filecmp
@@ -52,27 +52,22 @@ def peak(command, job):
     return 1024 * int(result.stderr.split()[-1])
 
 
-def row_of(name, words, job, output, times, peaks):
-    """Prints a row of the table; where only one program ran, the columns of the other stay empty."""
-    row = [words[0], name] + ["{:,}".format(os.path.getsize(path)) for path in (job, output)]
-    for form, values in (("%.4f", times), ("%.1f", [peak / 1e6 for peak in peaks])):
-        row += [form % value for value in values]
-        row += ["%.2f" % (values[0] / values[1])] if len(values) == 2 else ["", ""]
-    print("| " + " | ".join(row) + " |", flush=True)
-
-
 def compare(programs, folder, name, words):
     job = os.path.join(folder, name + ".pcl")
-    outputs = [os.path.join(folder, "%s-%s-%d" % (name, words[0], which)) for which in range(len(programs))]
+    outputs = [os.path.join(folder, "%s-%s-%d" % (name, words[0], which)) for which in range(2)]
     commands = [[program] + words for program in programs]
-    seconds = [[] for _ in programs]
+    seconds = [[], []]
     for _ in range(RUNS):
-        for which, command in enumerate(commands):
-            seconds[which].append(run(command, job, outputs[which]))
-    if not all(filecmp.cmp(outputs[0], output, shallow=False) for output in outputs):
+        for which in range(2):
+            seconds[which].append(run(commands[which], job, outputs[which]))
+    if not filecmp.cmp(*outputs, shallow=False):
         sys.exit("%s: the programs write different bytes" % name)
     times = [statistics.median(runs) for runs in seconds]
-    row_of(name, words, job, outputs[0], times, [peak(command, job) for command in commands])
+    peaks = [peak(command, job) for command in commands]
+    row = [words[0], name] + ["{:,}".format(os.path.getsize(path)) for path in (job, outputs[0])]
+    row += ["%.4f" % times[0], "%.4f" % times[1], "%.2f" % (times[0] / times[1])]
+    row += ["%.1f" % (peaks[0] / 1e6), "%.1f" % (peaks[1] / 1e6), "%.2f" % (peaks[0] / peaks[1])]
+    print("| " + " | ".join(row) + " |", flush=True)
 
 
 def main(arguments):
@@ -84,7 +79,7 @@ def main(arguments):
     for name, page, dpi in JOBS:
         compare(programs, folder, name, ["pbm", "--page", str(page), "--dpi", str(dpi)])
     for name, page, dpi in JOBS:
-        compare(programs[:1], folder, name, ["min", "--dpi", str(dpi)])
+        compare(programs, folder, name, ["min", "--dpi", str(dpi)])
 
 
 main(sys.argv[1:])

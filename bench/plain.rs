@@ -8,6 +8,9 @@
 //! the commands of raster jobs: of those that only move text it has the top margin, and no line spacing, no columns,
 //! no tabs, no line feeds, and no universal exit; and no rectangles.
 
+mod linear;
+mod plan;
+
 use std::io::{self, Read, Write};
 use std::process::ExitCode;
 
@@ -169,27 +172,14 @@ impl Bitmap {
         }
     }
 
-    /// Appends the page as a raster of its rows: white ones are skipped, and zeros at the end of a row left out.
+    /// Appends the page as a raster of its rows, by a least body.
     fn rewrite(&self, dpi: u32, copies: u32, text: &mut Vec<u8>) {
         let start = format!(
             "\x1b&l{copies}x{}a0E\x1b*p0x0Y\x1b*t{dpi}R\x1b*r{}s0A",
             self.size as u32, self.width
         );
         text.extend_from_slice(start.as_bytes());
-        let mut skipped = 0;
-        for row in self.dots.chunks_exact(self.row_bytes) {
-            let Some(last) = row.iter().rposition(|&byte| byte != 0) else {
-                skipped += 1;
-                continue;
-            };
-            text.extend_from_slice(b"\x1b*b");
-            if skipped > 0 {
-                text.extend_from_slice(format!("{skipped}y").as_bytes());
-                skipped = 0;
-            }
-            text.extend_from_slice(format!("{}W", last + 1).as_bytes());
-            text.extend_from_slice(&row[..=last]);
-        }
+        plan::append_body(&self.dots, self.row_bytes, text);
         text.extend_from_slice(b"\x1b*rC\x0c");
     }
 
