@@ -1,0 +1,3 @@
+pub mod RowTables
+pub mod Certificates
+pub mod ReadingCertificates

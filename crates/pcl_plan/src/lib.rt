@@ -14,11 +14,12 @@ mod step;
 mod steps;
 mod table;
 
+pub use by_method::ByMethod;
 pub use laws::{feasible_numbers_bound_texts, least_walk_is_least_text, printing_is_walking};
 pub use page_plan::Plan;
 pub use planner::plan;
 pub use step::Step;
-pub use table::Table;
+pub use table::{RowNumbers, Table};
 
 #[cfg(test)]
 mod tests;

@@ -68,7 +68,8 @@ impl Model for Table {
 }
 
 impl Table {
-    ghost use Rattle.pcl_plan.specs.Table.{number_in, node_number};
+    ghost use Rattle.std.specs.Prelude.{slice_index_or};
+    ghost use Rattle.pcl_plan.specs.Table.{number_in, node_number, no_numbers};
     ghost use Rattle.pcl_plan.specs.Filling.{rest};
 
     /// A table of zeros for a page of so many rows, 65535 at most. It fails where memory runs out.
@@ -84,6 +85,23 @@ impl Table {
         Ok(Table {
             numbers: vec![in alloc; none; rows as usize + 1]?,
         })
+    }
+
+    /// A table of the numbers behind no row, behind one, and so on to all.
+    pub fn of(numbers: Vec<RowNumbers>) -> Table
+        requires some { 0 < length numbers.items }
+        requires few { length numbers.items ≤ 65536 }
+        ensures { result ≡ numbers.items }
+    {
+        Table { numbers }
+    }
+
+    /// The numbers behind so many rows.
+    pub fn row(&self, row: u32) -> RowNumbers
+        requires { row < length self.now }
+        ensures { result ≡ slice_index_or self.now row no_numbers }
+    {
+        self.numbers[row as usize]
     }
 
     /// How many rows the page has.

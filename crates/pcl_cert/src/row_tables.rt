@@ -1,0 +1,115 @@
+//! The row tables of a page.
+
+ghost use Rattle.std.specs.Prelude.{◌≡◌, ◌+◌, ◌*◌, ◌<◌, ◌≤◌, length, take, drop, OnOk};
+ghost use Rattle.std.specs.Int.{w16, from_be_bytes};
+ghost use Rattle.pcl_cert.specs.RowTables.{contents, count_of, list_from, number_at_place, IsListAt};
+ghost use Rattle.std.specs.List.{flat_map};
+ghost use Rattle.pcl_cert.specs.Certificates.{list_bytes};
+
+use pcl_base::Method;
+use std::alloc::AllocError;
+use std::marker::Model;
+
+/// Bytes that are kept or lent.
+#[derive(Drop, Debug)]
+pub enum Bytes<'a> {
+    Kept(Vec<u8>),
+    Lent(&'a [u8]),
+}
+
+impl<'a> Bytes<'a> {
+    /// The bytes.
+    pub fn as_slice(&self) -> &[u8]
+        ensures { result.now ≡ contents self.now }
+    {
+        match self {
+            Bytes::Kept(bytes) => bytes.as_slice(),
+            Bytes::Lent(bytes) => bytes,
+        }
+    }
+}
+
+/// For each row of a page and each method a list of numbers, one for each place of the row; those behind the list's end
+/// are 0 (docs/CERTIFICATE.md, "Row tables"). The lists of a certificate stay in its bytes.
+#[derive(Drop, Debug)]
+pub struct RowTables<'a> {
+    // Each list as it stands in a certificate: how many numbers, and these.
+    bytes: Bytes<'a>,
+    // Where the lists begin: for each row those of methods 0 to 3 in turn.
+    starts: Vec<usize>,
+}
+
+impl<'a> Model for RowTables<'a> {
+    ghost use Rattle.std.specs.Prelude.{ℕ, List};
+    ghost use Rattle.pcl_cert.specs.RowTables.{tables_view, AreTables};
+
+    ghost Value = { List (List ℕ) };
+
+    ghost view = { tables_view };
+
+    ghost invariant = { AreTables };
+}
+
+impl<'a> RowTables<'a> {
+    ghost use Rattle.pcl_cert.specs.RowTables.{lists_at};
+    ghost use Rattle.std.specs.Prelude.{ℕ};
+    ghost use Rattle.std.specs.List.{AllByRecursion};
+
+    /// Row tables whose lists stand in these bytes and begin at these places, four for each row.
+    pub fn within(bytes: Bytes<'a>, starts: Vec<usize>) -> RowTables<'a>
+        requires rows { (rows : ℕ) × (rows ≤ 10000) × (length starts.items ≡ 4 * rows) }
+        requires lists { AllByRecursion (IsListAt (contents bytes)) starts.items }
+        ensures { result ≡ lists_at (contents bytes) starts.items }
+    {
+        RowTables { bytes, starts }
+    }
+
+    /// The number of a place in the table of a row and a method.
+    pub fn number(&self, row: u32, method: Method, place: u32) -> u16
+        requires { 4 * row + 4 ≤ length self.now }
+        ensures { result ≡ number_at_place self.now row method place }
+    {
+        let list = 4 * row as usize + method.code() as usize;
+        let bytes = &self.bytes.as_slice()[self.starts[list]..];
+        if place < u32::from(word(bytes, 0)) {
+            word(bytes, 2 + 2 * place as usize)
+        } else {
+            0
+        }
+    }
+
+    /// Appends the lists as they stand in a certificate, or a front of them where memory runs out.
+    pub fn append(&self, out: &mut Vec<u8>) -> Result<(), AllocError>
+        ensures ok { OnOk result (out.new.items ≡ out.old.items ++ flat_map list_bytes self.now) }
+        ensures front { take (length out.old.items) out.new.items ≡ out.old.items }
+    {
+        for start in &self.starts {
+            out.extend_from_slice(list_at(self.bytes.as_slice(), *start))?;
+        }
+        Ok(())
+    }
+
+    /// How many rows the page has.
+    pub fn rows(&self) -> u32
+        ensures { 4 * result ≡ length self.now }
+    {
+        (self.starts.len() / 4) as u32
+    }
+}
+
+/// The bytes of the list that begins at a place.
+fn list_at(bytes: &[u8], start: usize) -> &[u8]
+    requires { IsListAt bytes.now start }
+    ensures { result.now ≡ list_bytes (list_from (drop start bytes.now)) }
+{
+    let numbers = usize::from(word(bytes, start));
+    &bytes[start..start + 2 + 2 * numbers]
+}
+
+/// The number in the two bytes from a place on.
+fn word(bytes: &[u8], place: usize) -> u16
+    requires { place + 2 ≤ length bytes.now }
+    ensures { result ≡ from_be_bytes w16 (take 2 (drop place bytes.now)) }
+{
+    u16::from_be_bytes([bytes[place], bytes[place + 1]])
+}
