@@ -1,7 +1,8 @@
 -- Reading a certificate from its first byte to its last, and the first field where something is wrong.
-use Rattle.std.specs.Prelude.{◌≡◌, ℕ, zero, suc, ◌+◌, ◌*◌, nat_lt, nat_eq, ◌==◌, if◌then◌else◌, List, [], ◌∷◌, length, take, drop, codes, Option, None, Some, Result, Ok, Err}
+use Rattle.std.specs.Prelude.{◌≡◌, ℕ, zero, suc, ◌+◌, ◌*◌, nat_lt, nat_eq, ◌==◌, if◌then◌else◌, List, [], ◌∷◌, length, take, drop, Option, None, Some, Result, Ok, Err}
 use Rattle.std.specs.Int.{Width, w16, w32, byte_len, from_be_bytes}
 use Rattle.std.specs.List.{starts_with}
+use Rattle.std.specs.Global.{Vec}
 use Rattle.pcl_base.specs.declared.dpi.Dpi.{Dpi}
 use Rattle.pcl_base.specs.declared.size.Size.{Size}
 use Rattle.pcl_base.specs.Size.{page_row_bytes}
@@ -27,6 +28,10 @@ Fails fault read = read ≡ Err fault
 abbrev pub Gives : {X Y : Type 0} → (X → Y) → Result X CertFault → Result Y CertFault → Type 0
 Gives view (Ok x) read = read ≡ Ok (view x)
 Gives view (Err fault) read = Fails fault read
+
+-- a format and pages that were read
+abbrev pub contents_of : Format × Vec PageProof → Format × List PageProof
+contents_of read = (read.0, read.1.items)
 
 -- the bytes behind what is read
 abbrev pub behind : {X : Type 0} → Result (X × List ℕ) CertFault → Result (List ℕ) CertFault
@@ -81,13 +86,15 @@ table_at (suc n) bytes = do
 -- ---- row tables
 
 -- a list of at most so many numbers: its count is looked at before they are read, and the last of them behind all
+abbrev pub list_behind : ℕ → ℕ × List ℕ → Result (List ℕ × List ℕ) CertFault
+list_behind most count =
+    if nat_lt most count.0 then Err Places
+    else (if nat_lt (length count.1) (2 * count.0) then Err Short
+    else (if ends_in_zero (numbers_from count.0 count.1) then Err Places
+    else Ok (numbers_from count.0 count.1, drop (2 * count.0) count.1)))
+
 unfoldable pub list_at : ℕ → List ℕ → Result (List ℕ × List ℕ) CertFault
-list_at most bytes = do
-  count ← number_at w16 bytes
-  if nat_lt most count.0 then Err Places
-  else (if nat_lt (length count.1) (2 * count.0) then Err Short
-  else (if ends_in_zero (numbers_from count.0 count.1) then Err Places
-  else Ok (numbers_from count.0 count.1, drop (2 * count.0) count.1)))
+list_at most bytes = number_at w16 bytes >>= list_behind most
 
 unfoldable pub lists_at : ℕ → ℕ → List ℕ → Result (List (List ℕ) × List ℕ) CertFault
 lists_at zero most bytes = Ok ([], bytes)

@@ -1,5 +1,5 @@
 -- Lists of numbers as they stand in a certificate.
-use Rattle.std.specs.Prelude.{◌≡◌, ℕ, zero, suc, ◌+◌, ◌*◌, ◌≤◌, List, [], ◌∷◌, ◌++◌, length, map, take, drop, slice_index_or}
+use Rattle.std.specs.Prelude.{◌≡◌, ℕ, zero, suc, ◌+◌, ◌*◌, ◌≤◌, List, [], ◌∷◌, length, map, take, drop, slice_index_or}
 use Rattle.std.specs.Int.{w16, from_be_bytes}
 use Rattle.std.specs.List.{AllByRecursion}
 use Rattle.pcl_base.specs.declared.method.Method.{Method}
@@ -42,11 +42,11 @@ abbrev pub contents : Bytes → List ℕ
 contents (Kept bytes) = bytes.items
 contents (Lent bytes) = bytes.now
 
-abbrev pub lists_at : List ℕ → List ℕ → List (List ℕ)
-lists_at bytes starts = map (λ start. list_from (drop start bytes)) starts
+abbrev pub lists_within : List ℕ → List ℕ → List (List ℕ)
+lists_within bytes starts = map (λ start. list_from (drop start bytes)) starts
 
 abbrev pub tables_view : Inside → List (List ℕ)
-tables_view a = lists_at (contents a.bytes) a.starts.items
+tables_view a = lists_within (contents a.bytes) a.starts.items
 
 pub record AreTables (a : Inside) : Type 0 where
   pub rows : ℕ

@@ -6,13 +6,13 @@ ghost use Rattle.pcl_cert.specs.declared.format.Format.{Format as CertificateFor
 ghost use Rattle.pcl_cert.specs.declared.page_proof.PageProof.{PageProof as Proof};
 ghost use Rattle.pcl_cert.specs.Certificates.{size_with_height, ends_in_zero, AreProofs, certificate_bytes};
 ghost use Rattle.pcl_cert.specs.RowTables.{numbers_from};
-ghost use Rattle.pcl_cert.specs.ReadingCertificates.{Gives, sized, table_at, list_at, lists_at, places_at, proof_at, proofs_at, certificate_at, behind};
+ghost use Rattle.pcl_cert.specs.ReadingCertificates.{Gives, contents_of, sized, table_at, list_at, lists_at, places_at, proof_at, proofs_at, certificate_at, behind};
 
 use crate::fault::CertFault;
 use crate::fields::{format_at, number_at, row_at, word_at};
 use crate::format::Format;
 use crate::page_proof::PageProof;
-use crate::row_tables::{Bytes, RowTables};
+use crate::row_tables::{Bytes, RowTables, word};
 use pcl_base::{Dpi, Size};
 use pcl_plan::Table;
 use std::alloc::Global;
@@ -28,9 +28,9 @@ pub fn read_certificate(
     ensures found { IfOk result (λ read. AreProofs dpi read.0 read.1.items × (bytes.now ≡ certificate_bytes read.0 read.1.items)) }
     // What is spelled so is read, unless memory runs out.
     ensures only { (format : CertificateFormat) (proofs : List Proof) → AreProofs dpi format proofs
-        → bytes.now ≡ certificate_bytes format proofs → Gives (λ read. (read.0, read.1.items)) result (Ok (format, proofs)) }
+        → bytes.now ≡ certificate_bytes format proofs → Gives contents_of result (Ok (format, proofs)) }
     // Which fault it is.
-    ensures exact { Gives (λ read. (read.0, read.1.items)) result (certificate_at dpi bytes.now) }
+    ensures exact { Gives contents_of result (certificate_at dpi bytes.now) }
 {
     read_all(alloc, bytes, dpi)
 }
@@ -42,7 +42,7 @@ fn read_all(
     bytes: &[u8],
     dpi: Dpi,
 ) -> Result<(Format, Vec<PageProof<'_>>), CertFault>
-    ensures { Gives (λ read. (read.0, read.1.items)) result (certificate_at dpi bytes.now) }
+    ensures { Gives contents_of result (certificate_at dpi bytes.now) }
 {
     let (format, rest) = format_at(bytes)?;
     let (count, rest) = number_at(rest)?;
@@ -101,10 +101,17 @@ fn size_with_height(rows: u32, dpi: Dpi) -> Result<Size, CertFault>
     ensures size { Gives (λ size. size) result (sized (size_with_height dpi rows)) }
     ensures height { IfOk result (λ size. page_height size dpi ≡ rows) }
 {
-    [Size::Executive, Size::Letter, Size::Legal, Size::A4]
-        .into_iter()
-        .find(|size| size.height(dpi) == rows)
-        .ok_or(CertFault::Rows)
+    if rows == Size::Executive.height(dpi) {
+        Ok(Size::Executive)
+    } else if rows == Size::Letter.height(dpi) {
+        Ok(Size::Letter)
+    } else if rows == Size::Legal.height(dpi) {
+        Ok(Size::Legal)
+    } else if rows == Size::A4.height(dpi) {
+        Ok(Size::A4)
+    } else {
+        Err(CertFault::Rows)
+    }
 }
 
 /// Reads the table of a page of so many rows.
@@ -114,7 +121,7 @@ fn table_at(alloc: Global, rows: u32, bytes: &[u8]) -> Result<(Table, &[u8]), Ce
 {
     let mut numbers = Vec::new(alloc);
     let mut rest = bytes;
-    for _ in 0..=rows {
+    for _ in 0..rows + 1 {
         let (row, after) = row_at(rest)?;
         numbers.push(row)?;
         rest = after;
@@ -187,5 +194,8 @@ fn ends_in_zero(numbers: &[u8], count: usize) -> bool
     requires { length numbers.now ≡ 2 * count }
     ensures { result ≡ ends_in_zero (numbers_from count numbers.now) }
 {
-    count > 0 && numbers[2 * count - 2] == 0 && numbers[2 * count - 1] == 0
+    match count {
+        0 => false,
+        _ => word(numbers, 2 * (count - 1)) == 0,
+    }
 }

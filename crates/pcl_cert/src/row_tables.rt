@@ -1,9 +1,9 @@
 //! The row tables of a page.
 
-ghost use Rattle.std.specs.Prelude.{◌≡◌, ◌+◌, ◌*◌, ◌<◌, ◌≤◌, length, take, drop, OnOk};
+ghost use Rattle.std.specs.Prelude.{◌≡◌, ◌++◌, ◌+◌, ◌*◌, ◌<◌, ◌≤◌, length, take, drop, OnOk};
 ghost use Rattle.std.specs.Int.{w16, from_be_bytes};
-ghost use Rattle.pcl_cert.specs.RowTables.{contents, count_of, list_from, number_at_place, IsListAt};
-ghost use Rattle.std.specs.List.{flat_map};
+ghost use Rattle.pcl_cert.specs.RowTables.{contents, count_of, list_from, number_at_place, lists_within, IsListAt};
+ghost use Rattle.std.specs.List.{flat_map, AllByRecursion};
 ghost use Rattle.pcl_cert.specs.Certificates.{list_bytes};
 
 use pcl_base::Method;
@@ -51,15 +51,13 @@ impl<'a> Model for RowTables<'a> {
 }
 
 impl<'a> RowTables<'a> {
-    ghost use Rattle.pcl_cert.specs.RowTables.{lists_at};
     ghost use Rattle.std.specs.Prelude.{ℕ};
-    ghost use Rattle.std.specs.List.{AllByRecursion};
 
     /// Row tables whose lists stand in these bytes and begin at these places, four for each row.
     pub fn within(bytes: Bytes<'a>, starts: Vec<usize>) -> RowTables<'a>
         requires rows { (rows : ℕ) × (rows ≤ 10000) × (length starts.items ≡ 4 * rows) }
         requires lists { AllByRecursion (IsListAt (contents bytes)) starts.items }
-        ensures { result ≡ lists_at (contents bytes) starts.items }
+        ensures { result ≡ lists_within (contents bytes.entry) starts.items }
     {
         RowTables { bytes, starts }
     }
@@ -70,9 +68,10 @@ impl<'a> RowTables<'a> {
         ensures { result ≡ number_at_place self.now row method place }
     {
         let list = 4 * row as usize + method.code() as usize;
-        let bytes = &self.bytes.as_slice()[self.starts[list]..];
-        if place < u32::from(word(bytes, 0)) {
-            word(bytes, 2 + 2 * place as usize)
+        let bytes = self.bytes.as_slice();
+        let start = self.starts[list];
+        if place < u32::from(word(bytes, start)) {
+            word(bytes, start + 2 + 2 * place as usize)
         } else {
             0
         }
@@ -83,10 +82,7 @@ impl<'a> RowTables<'a> {
         ensures ok { OnOk result (out.new.items ≡ out.old.items ++ flat_map list_bytes self.now) }
         ensures front { take (length out.old.items) out.new.items ≡ out.old.items }
     {
-        for start in &self.starts {
-            out.extend_from_slice(list_at(self.bytes.as_slice(), *start))?;
-        }
-        Ok(())
+        append_lists(self.bytes.as_slice(), &self.starts, out)
     }
 
     /// How many rows the page has.
@@ -95,6 +91,18 @@ impl<'a> RowTables<'a> {
     {
         (self.starts.len() / 4) as u32
     }
+}
+
+/// Appends the lists that begin at these places, or a front of them where memory runs out.
+fn append_lists(bytes: &[u8], starts: &[usize], out: &mut Vec<u8>) -> Result<(), AllocError>
+    requires { AllByRecursion (IsListAt bytes.now) starts.now }
+    ensures ok { OnOk result (out.new.items ≡ out.old.items ++ flat_map list_bytes (lists_within bytes.now starts.now)) }
+    ensures front { take (length out.old.items) out.new.items ≡ out.old.items }
+{
+    for start in starts {
+        out.extend_from_slice(list_at(bytes, *start))?;
+    }
+    Ok(())
 }
 
 /// The bytes of the list that begins at a place.
@@ -107,7 +115,7 @@ fn list_at(bytes: &[u8], start: usize) -> &[u8]
 }
 
 /// The number in the two bytes from a place on.
-fn word(bytes: &[u8], place: usize) -> u16
+pub fn word(bytes: &[u8], place: usize) -> u16
     requires { place + 2 ≤ length bytes.now }
     ensures { result ≡ from_be_bytes w16 (take 2 (drop place bytes.now)) }
 {

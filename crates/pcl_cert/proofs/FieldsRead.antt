@@ -1,0 +1,105 @@
+-- Numbers at the front of bytes: what is read is what is spelled, and the other way round.
+use Rattle.std.proofs.Common.{◌≡◌, ℕ, ◌+◌, ◌^◌, ◌<◌, ◌≤◌, Bool, true, false, cond, ltb, List, ◌++◌, length, get_or, take, drop, Result, Ok, Err, refl, sym, ap, subst, ◌∙◌, append_assoc, arith, inl, inr}
+use Rattle.std.specs.Int.{Width, w16, w32, byte_len, from_be_bytes, to_be_bytes}
+use Rattle.std.proofs.lemmas.Bool.{cases_lt, ltb-false, le-ltb}
+use Rattle.std.proofs.lemmas.List.{take_at, drop_at, take-append-drop, length-append, length-take, get_or-drop, get_or-take, get_or_past}
+use Rattle.std.proofs.lemmas.Nat.{be_bytes_2, be_bytes_4, from_be_bytes-to_be_bytes_2, from_be_bytes-to_be_bytes_4}
+use Rattle.pcl_cert.specs.declared.fault.CertFault.{CertFault}
+use Rattle.pcl_cert.specs.declared.fault.CertFault.TheVariants.{Short}
+use Rattle.pcl_cert.specs.ReadingCertificates.{◌>>=◌, number_at}
+
+-- ---- bytes
+
+abbrev pub AreBytes : List ℕ → Type 0
+AreBytes bytes = (i : ℕ) → get_or bytes i 0 < 256
+
+pub rest_bytes : (n : ℕ) (bytes : List ℕ) → AreBytes bytes → AreBytes (drop n bytes)
+rest_bytes n bytes are i = rw get_or-drop (are (n + i))
+
+pub front_bytes : (n : ℕ) (bytes : List ℕ) → AreBytes bytes → AreBytes (take n bytes)
+front_bytes n bytes are i =
+    elim (cases_lt i n) [
+      | inl lt ↦ rw (get_or-take n bytes i 0 lt) (are i)
+      | inr le ↦ rw (get_or_past (take n bytes) i 0 (omega (arith, length-take n bytes))) (omega arith)
+    ]
+
+-- the bytes are a text and a rest
+pub record Splits (bytes text rest : List ℕ) : Type 0 where
+  pub joined : bytes ≡ text ++ rest
+  pub rest_are : AreBytes rest
+
+pub splits_both : {a x b y c : List ℕ} → Splits a x b → Splits b y c → Splits a (x ++ y) c
+splits_both {a} {x} {b} {y} {c} p q =
+    record { joined = p.joined ∙ ap (λ (t : List ℕ). x ++ t) q.joined ∙ sym (append_assoc x y c); rest_are = q.rest_are }
+
+-- ---- steps of reading that didn't fail
+
+pub step_ok : {A B : Type 0} (r : Result A CertFault) (f : A → Result B CertFault) (y : B) → (r >>= f) ≡ Ok y
+    → (x : A) × (r ≡ Ok x) × (f x ≡ Ok y)
+step_ok (Ok x) f y e = (x, refl, e)
+step_ok (Err fault) f y e = absurd cc
+
+pub passed : {A : Type 0} (b : Bool) (fault : CertFault) (r : Result A CertFault) (y : A) → cond b (Err fault) r ≡ Ok y
+    → (b ≡ false) × (r ≡ Ok y)
+passed true fault r y e = absurd cc
+passed false fault r y e = (refl, e)
+
+abbrev answered : {A : Type 0} → A → Result A CertFault
+answered x = Ok x
+
+pub same_ok : {A : Type 0} (x y : A) → answered x ≡ answered y → x ≡ y
+same_ok x y e = cc
+
+-- ---- numbers of two and of four bytes
+
+pub record IsNumberWidth (w : Width) (limit : ℕ) : Type 0 where
+  pub len : (n : ℕ) → length (to_be_bytes w n) ≡ byte_len w
+  pub spelled : (bytes : List ℕ) → length bytes ≡ byte_len w → AreBytes bytes → to_be_bytes w (from_be_bytes w bytes) ≡ bytes
+  pub again : (n : ℕ) → n < limit → from_be_bytes w (to_be_bytes w n) ≡ n
+  pub below : (bytes : List ℕ) → AreBytes bytes → from_be_bytes w bytes < limit
+
+pub two_bytes : IsNumberWidth w16 (2 ^ 16)
+two_bytes = record {
+  len = λ n. refl;
+  spelled = λ bytes len are. be_bytes_2 bytes _ len are refl;
+  again = λ n lt. from_be_bytes-to_be_bytes_2 n lt;
+  below = λ bytes are. omega (arith, are 0, are 1);
+}
+
+pub four_bytes : IsNumberWidth w32 (2 ^ 32)
+four_bytes = record {
+  len = λ n. refl;
+  spelled = λ bytes len are. be_bytes_4 bytes _ len are refl;
+  again = λ n lt. from_be_bytes-to_be_bytes_4 n lt;
+  below = λ bytes are. omega (arith, are 0, are 1, are 2, are 3);
+}
+
+-- a number's bytes are the front that it is read from
+pub front_spelled : (w : Width) (limit : ℕ) → IsNumberWidth w limit → (bytes : List ℕ) → AreBytes bytes → byte_len w ≤ length bytes
+    → to_be_bytes w (from_be_bytes w (take (byte_len w) bytes)) ≡ take (byte_len w) bytes
+front_spelled w limit is bytes are long =
+    is.spelled (take (byte_len w) bytes) (omega (arith, length-take (byte_len w) bytes)) (front_bytes (byte_len w) bytes are)
+
+pub number_found : (w : Width) (limit : ℕ) → IsNumberWidth w limit → (bytes : List ℕ) (n : ℕ) (rest : List ℕ) → AreBytes bytes
+    → number_at w bytes ≡ Ok (n, rest) → Splits bytes (to_be_bytes w n) rest × (n < limit)
+number_found w limit is bytes n rest are e =
+    let front : List ℕ = take (byte_len w) bytes in
+    let read : ℕ × List ℕ = (from_be_bytes w front, drop (byte_len w) bytes) in
+    let test = passed (ltb (length bytes) (byte_len w)) Short (Ok read) (n, rest) e in
+    let long : byte_len w ≤ length bytes = ltb-false _ _ test.0 in
+    let made : read ≡ (n, rest) = same_ok read (n, rest) test.1 in
+    subst (λ (x : ℕ × List ℕ). Splits bytes (to_be_bytes w x.0) x.1 × (x.0 < limit)) made (
+      record {
+        joined = sym (ap (λ (t : List ℕ). t ++ drop (byte_len w) bytes) (front_spelled w limit is bytes are long)
+            ∙ take-append-drop (byte_len w) bytes);
+        rest_are = rest_bytes (byte_len w) bytes are;
+      },
+      is.below front (front_bytes (byte_len w) bytes are),
+    )
+
+pub number_again : (w : Width) (limit : ℕ) → IsNumberWidth w limit → (n : ℕ) (rest : List ℕ) → n < limit
+    → number_at w (to_be_bytes w n ++ rest) ≡ Ok (n, rest)
+number_again w limit is n rest lt =
+    let text : List ℕ = to_be_bytes w n in
+    let long : ltb (length (text ++ rest)) (byte_len w) ≡ false = le-ltb _ _ (omega (arith, length-append text rest, is.len n)) in
+    rw (long, take_at text rest (byte_len w) (is.len n), drop_at text rest (byte_len w) (is.len n), is.again n lt) refl

@@ -1,0 +1,9 @@
+pub mod FieldsRead
+pub mod Numbers
+pub mod Loops
+pub mod PagesRead
+pub mod Lists
+pub mod Spelled
+pub mod ListsSpelled
+pub mod PagesSpelled
+pub mod Written

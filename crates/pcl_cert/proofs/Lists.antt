@@ -1,0 +1,149 @@
+-- Reading row tables: where the lists stand in the bytes.
+use Rattle.std.proofs.Common.{◌≡◌, ℕ, ◌+◌, ◌-◌, ◌*◌, ◌<◌, ◌≤◌, Bool, true, false, List, [], ◌∷◌, ◌++◌, length, take, drop, Result, Ok, Err, refl, sym, ap, subst, ◌∙◌, arith}
+use Rattle.std.specs.Int.{w16}
+use Rattle.std.specs.List.{AllByRecursion}
+use Rattle.pcl_cert.specs.RowTables.{numbers_from, count_of, list_from, lists_within, IsListAt}
+use Rattle.std.proofs.lemmas.Bool.{ltb-false, le-ltb}
+use Rattle.std.proofs.lemmas.List.{drop-drop, length-drop, length-append, map_push}
+use Rattle.std.specs.Prelude.{nat_lt, if◌then◌else◌}
+use Rattle.pcl_cert.specs.declared.fault.CertFault.{CertFault}
+use Rattle.pcl_cert.specs.declared.fault.CertFault.TheVariants.{BadMagic, Short, Extra, Rows, Places, Memory}
+use Rattle.pcl_cert.specs.Certificates.{ends_in_zero}
+use Rattle.pcl_cert.specs.ReadingCertificates.{Fails, behind, number_at, list_behind, list_at, lists_at}
+use Rattle.pcl_cert.proofs.FieldsRead.{step_ok, passed, same_ok}
+use Rattle.pcl_cert.proofs.Numbers.{numbers_of_front}
+use Rattle.pcl_cert.proofs.Loops.{Stands, begins, goes_on}
+use Rattle.pcl_cert.proofs.PagesRead.{lists_are_many}
+
+-- where a loop stands that has read so many lists: the rest of the bytes, and where the lists begin
+pub record StandsInLists (count most done : ℕ) (bytes rest : List ℕ) (starts : List ℕ) : Type 0 where
+  pub read : Stands (λ n. lists_at n most) count done bytes rest (lists_within bytes starts)
+  pub suffix : rest ≡ drop (length bytes - length rest) bytes
+  pub within : length rest ≤ length bytes
+  pub whole : AllByRecursion (IsListAt bytes) starts
+  pub many : length starts ≡ done
+
+-- ---- one list
+
+pub behind_ok : {X : Type 0} (read : Result (X × List ℕ) CertFault) (rest : List ℕ) → behind read ≡ Ok rest
+    → (x : X) × (read ≡ Ok (x, rest))
+behind_ok {X} (Ok x) rest e = (x.0, ap (λ (bytes : List ℕ). Ok (x.0, bytes)) (same_ok x.1 rest e))
+behind_ok (Err fault) rest e = absurd cc
+
+behind_err : {X : Type 0} (fault : CertFault) (read : Result (X × List ℕ) CertFault) → behind read ≡ Err fault → read ≡ Err fault
+behind_err {X} fault (Ok x) e = absurd cc
+behind_err {X} fault (Err other) e = cc
+
+pub behind_fails : {X : Type 0} (fault : CertFault) (read : Result (X × List ℕ) CertFault) → Fails fault (behind read) → Fails fault read
+behind_fails Memory read e = tt
+behind_fails BadMagic read e = behind_err BadMagic read e
+behind_fails Short read e = behind_err Short read e
+behind_fails Extra read e = behind_err Extra read e
+behind_fails Rows read e = behind_err Rows read e
+behind_fails Places read e = behind_err Places read e
+
+behind_either : (b : Bool) (numbers rest : List ℕ)
+    → behind (if b then Err Places else Ok (numbers, rest)) ≡ (if b then Err Places else Ok rest)
+behind_either true numbers rest = refl
+behind_either false numbers rest = refl
+
+-- what is found where the count is good and the numbers are there
+pub list_checked : (most : ℕ) (bytes : List ℕ) (count : ℕ) (rest : List ℕ) → number_at w16 bytes ≡ Ok (count, rest)
+    → count ≤ most → 2 * count ≤ length rest
+    → behind (list_at most bytes)
+    ≡ (if ends_in_zero (numbers_from count (take (2 * count) rest)) then Err Places else Ok (drop (2 * count) rest))
+unfolding list_at
+list_checked most bytes count rest read few long =
+    let good : nat_lt most count ≡ false = le-ltb _ _ few in
+    let there : nat_lt (length rest) (2 * count) ≡ false = le-ltb _ _ long in
+    rw (read, good, there, numbers_of_front count rest)
+    (behind_either (ends_in_zero (numbers_from count rest)) (numbers_from count rest) (drop (2 * count) rest))
+
+-- a list that is read stands there, whole
+pub record IsFound (most : ℕ) (bytes : List ℕ) (numbers rest : List ℕ) : Type 0 where
+  pub numbers_are : numbers ≡ list_from bytes
+  pub whole : 2 + 2 * count_of bytes ≤ length bytes
+  pub rest_is : rest ≡ drop (2 + 2 * count_of bytes) bytes
+  pub few : count_of bytes ≤ most
+  pub ends : ends_in_zero numbers ≡ false
+
+abbrev end_of_list : ℕ × List ℕ → Result (List ℕ × List ℕ) CertFault
+end_of_list count =
+    if ends_in_zero (numbers_from count.0 count.1) then Err Places
+    else Ok (numbers_from count.0 count.1, drop (2 * count.0) count.1)
+
+abbrev rest_of_list : ℕ × List ℕ → Result (List ℕ × List ℕ) CertFault
+rest_of_list count = if nat_lt (length count.1) (2 * count.0) then Err Short else end_of_list count
+
+found_at : (most : ℕ) (bytes : List ℕ) (count : ℕ) (behind_count numbers rest : List ℕ) → count_of bytes ≡ count → drop 2 bytes ≡ behind_count
+    → 2 ≤ length bytes → 2 * count ≤ length behind_count → numbers_from count behind_count ≡ numbers
+    → drop (2 * count) behind_count ≡ rest → count ≤ most → ends_in_zero (numbers_from count behind_count) ≡ false
+    → IsFound most bytes numbers rest
+found_at most bytes count behind_count numbers rest counted behind_it two long numbers_are rest_is few ends = record {
+  numbers_are = sym numbers_are ∙ ap (numbers_from count) (sym behind_it) ∙ ap (λ (n : ℕ). numbers_from n (drop 2 bytes)) (sym counted);
+  whole = omega (arith, counted, ap length behind_it, length-drop 2 bytes);
+  rest_is = sym rest_is ∙ ap (drop (2 * count)) (sym behind_it) ∙ ap (λ (n : ℕ). drop (2 * n) (drop 2 bytes)) (sym counted)
+      ∙ drop-drop (2 * count_of bytes) 2 bytes;
+  few = omega (arith, counted, few);
+  ends = ap ends_in_zero (sym numbers_are) ∙ ends;
+}
+
+pub list_found : (most : ℕ) (bytes numbers rest : List ℕ) → list_at most bytes ≡ Ok (numbers, rest)
+    → IsFound most bytes numbers rest
+unfolding list_at
+list_found most bytes numbers rest e =
+    let first = step_ok (number_at w16 bytes) (list_behind most) (numbers, rest) e in
+    let count = first.0 in
+    let read = passed (nat_lt (length bytes) 2) Short (Ok (count_of bytes, drop 2 bytes)) count first.1 in
+    let count_is = same_ok (count_of bytes, drop 2 bytes) count read.1 in
+    let few = passed (nat_lt most count.0) Places (rest_of_list count) (numbers, rest) first.2 in
+    let there = passed (nat_lt (length count.1) (2 * count.0)) Short (end_of_list count) (numbers, rest) few.1 in
+    let ends = passed (ends_in_zero (numbers_from count.0 count.1)) Places (Ok (numbers_from count.0 count.1, drop (2 * count.0) count.1))
+    (numbers, rest) there.1 in
+    let made = same_ok (numbers_from count.0 count.1, drop (2 * count.0) count.1) (numbers, rest) ends.1 in
+    found_at most bytes count.0 count.1 numbers rest (ap (λ (x : ℕ × List ℕ). x.0) count_is) (ap (λ (x : ℕ × List ℕ). x.1) count_is)
+    (ltb-false _ _ read.0) (ltb-false _ _ there.0) (ap (λ (x : List ℕ × List ℕ). x.0) made) (ap (λ (x : List ℕ × List ℕ). x.1) made)
+    (ltb-false _ _ few.0) ends.0
+
+-- ---- many lists
+
+all_and_one : {X : Type 0} (P : X → Type 0) (xs : List X) (x : X) → AllByRecursion P xs → P x → AllByRecursion P (xs ++ x ∷ [])
+all_and_one P [] x all one = (one, tt)
+all_and_one P (y ∷ xs) x all one = (all.0, all_and_one P xs x all.1 one)
+
+-- one list more was read
+pub next_list : {count most done : ℕ} {bytes rest starts : List ℕ} (numbers after : List ℕ)
+    → done < count → list_at most rest ≡ Ok (numbers, after) → StandsInLists count most done bytes rest starts
+    → StandsInLists count most (done + 1) bytes after (starts ++ (length bytes - length rest) ∷ [])
+next_list {count} {most} {done} {bytes} {rest} {starts} numbers after lt read stands =
+    let start : ℕ = length bytes - length rest in
+    let found = list_found most rest numbers after read in
+    let there : length (drop start bytes) ≡ length rest = ap length (sym stands.suffix) in
+    let is_list : list_from (drop start bytes) ≡ numbers = ap list_from (sym stands.suffix) ∙ sym found.numbers_are in
+    let counted : count_of (drop start bytes) ≡ count_of rest = ap count_of (sym stands.suffix) in
+    let taken : length after ≡ length rest - (2 + 2 * count_of rest) =
+    ap length found.rest_is ∙ length-drop (2 + 2 * count_of rest) rest in
+    let place : start + (2 + 2 * count_of rest) ≡ length bytes - length after = omega (arith, taken, found.whole, stands.within) in
+    record {
+      read = subst (λ (lists : List (List ℕ)). Stands (λ n. lists_at n most) count (done + 1) bytes after lists)
+          (sym (map_push (λ (s : ℕ). list_from (drop s bytes)) starts start
+          ∙ ap (λ (list : List ℕ). lists_within bytes starts ++ list ∷ []) is_list))
+          (goes_on numbers after (lists_are_many most) lt read stands.read);
+      suffix = found.rest_is ∙ ap (drop (2 + 2 * count_of rest)) stands.suffix
+          ∙ drop-drop (2 + 2 * count_of rest) start bytes ∙ ap (λ (k : ℕ). drop k bytes) place;
+      within = omega (arith, taken, stands.within);
+      whole = all_and_one (IsListAt bytes) starts start stands.whole
+          (record { whole = omega (arith, counted, found.whole, stands.within) });
+      many = omega (arith, length-append starts (start ∷ []), stands.many);
+    }
+
+pub no_lists : {count most : ℕ} {bytes : List ℕ} → StandsInLists count most 0 bytes bytes []
+no_lists {count} {most} {bytes} =
+    let none : 0 ≡ length bytes - length bytes = omega arith in
+    record {
+      read = begins;
+      suffix = ap (λ (k : ℕ). drop k bytes) none;
+      within = omega arith;
+      whole = tt;
+      many = refl;
+    }

@@ -1,0 +1,111 @@
+-- Lists of row tables: whatever is read is spelled so, and what is spelled is read.
+use Rattle.std.proofs.Common.{◌≡◌, ℕ, zero, suc, ◌+◌, ◌*◌, ◌^◌, ◌<◌, false, List, [], ◌∷◌, ◌++◌, length, take, drop, Option, Some, None, Ok, refl, sym, ap, subst, ◌∙◌, append_assoc, arith}
+use Rattle.std.specs.Int.{w16, to_be_bytes}
+use Rattle.std.specs.List.{flat_map, AllByRecursion}
+use Rattle.std.specs.Prelude.{nat_lt}
+use Rattle.std.proofs.lemmas.Bool.{le-ltb}
+use Rattle.std.proofs.lemmas.List.{drop_at, take-append-drop, length-append}
+use Rattle.std.proofs.lemmas.List.Concat.{flat_map-cons}
+use Rattle.pcl_cert.specs.declared.format.Format.{Format}
+use Rattle.pcl_cert.specs.declared.format.Format.TheVariants.{One, Two}
+use Rattle.pcl_cert.specs.Certificates.{IsList, list_bytes, lists_bytes, HasLists}
+use Rattle.pcl_cert.specs.RowTables.{numbers_from, count_of}
+use Rattle.pcl_cert.specs.ReadingCertificates.{list_at, lists_at, places_at}
+use Rattle.pcl_cert.proofs.FieldsRead.{AreBytes, rest_bytes, front_bytes, Splits, step_ok, same_ok, two_bytes, number_again}
+use Rattle.pcl_cert.proofs.Numbers.{length_numbers, list_spelled}
+use Rattle.pcl_cert.proofs.Lists.{list_found}
+use Rattle.pcl_cert.proofs.PagesRead.{lists_are_many}
+use Rattle.pcl_cert.proofs.Spelled.{Spells, many_spell}
+
+-- ---- numbers
+
+numbers_small : (n : ℕ) (bytes : List ℕ) → AreBytes bytes → AllByRecursion (λ k. k < 2 ^ 16) (numbers_from n bytes)
+unfolding numbers_from
+numbers_small zero bytes are = tt
+numbers_small (suc n) bytes are =
+    (two_bytes.below (take 2 bytes) (front_bytes 2 bytes are), numbers_small n (drop 2 bytes) (rest_bytes 2 bytes are))
+
+text_len : (numbers : List ℕ) → length (flat_map (to_be_bytes w16) numbers) ≡ 2 * length numbers
+text_len [] = refl
+text_len (n ∷ numbers) =
+    let text : List ℕ = flat_map (to_be_bytes w16) numbers in
+    omega (arith, ap length (flat_map-cons (to_be_bytes w16) n numbers), length-append (to_be_bytes w16 n) text, two_bytes.len n, text_len numbers)
+
+numbers_again : (numbers rest : List ℕ) → AllByRecursion (λ k. k < 2 ^ 16) numbers
+    → numbers_from (length numbers) (flat_map (to_be_bytes w16) numbers ++ rest) ≡ numbers
+unfolding numbers_from
+numbers_again [] rest small = refl
+numbers_again (n ∷ numbers) rest small =
+    let text : List ℕ = flat_map (to_be_bytes w16) numbers ++ rest in
+    let joined : flat_map (to_be_bytes w16) (n ∷ numbers) ++ rest ≡ to_be_bytes w16 n ++ text =
+    ap (λ (t : List ℕ). t ++ rest) (flat_map-cons (to_be_bytes w16) n numbers)
+    ∙ append_assoc (to_be_bytes w16 n) (flat_map (to_be_bytes w16) numbers) rest in
+    ap (numbers_from (suc (length numbers))) joined
+    ∙ ap (λ (k : ℕ). k ∷ numbers_from (length numbers) text) (two_bytes.again n small.0)
+    ∙ ap (λ (others : List ℕ). n ∷ others) (numbers_again numbers rest small.1)
+
+-- ---- one list
+
+list_again : (most : ℕ) (numbers rest : List ℕ) → most < 2 ^ 16 → IsList most numbers
+    → list_at most (list_bytes numbers ++ rest) ≡ Ok (numbers, rest)
+unfolding list_at
+list_again most numbers rest few is =
+    let count : ℕ = length numbers in
+    let text : List ℕ = flat_map (to_be_bytes w16) numbers in
+    let joined : list_bytes numbers ++ rest ≡ to_be_bytes w16 count ++ (text ++ rest) = append_assoc (to_be_bytes w16 count) text rest in
+    let short : nat_lt most count ≡ false = le-ltb _ _ is.short in
+    let there : nat_lt (length (text ++ rest)) (2 * count) ≡ false =
+    le-ltb _ _ (omega (arith, length-append text rest, text_len numbers)) in
+    ap (list_at most) joined
+    ∙ rw (number_again w16 (2 ^ 16) two_bytes count (text ++ rest) (omega (arith, is.short)), short, there,
+    numbers_again numbers rest is.small, is.ends, drop_at text rest (2 * count) (text_len numbers)) refl
+
+pub list_spells : (most : ℕ) → most < 2 ^ 16 → Spells (list_at most) list_bytes (IsList most)
+list_spells most few = record {
+  found = λ bytes x are e.
+      let found = list_found most bytes x.0 x.1 e in
+      let text : list_bytes x.0 ≡ take (2 + 2 * count_of bytes) bytes =
+      ap list_bytes found.numbers_are ∙ list_spelled bytes are found.whole in
+      (record {
+        joined = sym (take-append-drop (2 + 2 * count_of bytes) bytes) ∙ ap (λ (t : List ℕ). t ++ drop (2 + 2 * count_of bytes) bytes) (sym text)
+            ∙ ap (λ (t : List ℕ). list_bytes x.0 ++ t) (sym found.rest_is);
+        rest_are = subst AreBytes (sym found.rest_is) (rest_bytes (2 + 2 * count_of bytes) bytes are);
+      }, record {
+        short = omega (arith, found.few, ap length found.numbers_are, length_numbers (count_of bytes) (drop 2 bytes));
+        small = subst (AllByRecursion (λ k. k < 2 ^ 16)) (sym found.numbers_are)
+            (numbers_small (count_of bytes) (drop 2 bytes) (rest_bytes 2 bytes are));
+        ends = found.ends;
+      });
+  again = λ numbers rest is. list_again most numbers rest few is;
+}
+
+-- ---- the lists of a page
+
+two_again : (rows most : ℕ) → most < 2 ^ 16 → (places : Option (List (List ℕ))) (rest : List ℕ) → HasLists Two rows most places
+    → places_at Two rows most (lists_bytes places ++ rest) ≡ Ok (places, rest)
+unfolding places_at
+two_again rows most few None rest is = absurd is
+two_again rows most few (Some lists) rest is =
+    let spell = many_spell (4 * rows) (lists_are_many most) (list_spells most few) in
+    rw (spell.again lists rest is) refl
+
+pub places_spell : (format : Format) (rows most : ℕ) → most < 2 ^ 16
+    → Spells (places_at format rows most) lists_bytes (HasLists format rows most)
+unfolding places_at
+places_spell One rows most few = record {
+  found = λ bytes x are e.
+      subst (λ (y : Option (List (List ℕ)) × List ℕ). Splits bytes (lists_bytes y.0) y.1 × HasLists One rows most y.0)
+      (same_ok (None, bytes) x e) (record { joined = refl; rest_are = are }, refl);
+  again = λ places rest is. ap (λ (p : Option (List (List ℕ))). places_at One rows most (lists_bytes p ++ rest)) is
+      ∙ ap (λ (p : Option (List (List ℕ))). Ok (p, rest)) (sym is);
+}
+places_spell Two rows most few =
+    let lists = many_spell (4 * rows) (lists_are_many most) (list_spells most few) in
+    record {
+      found = λ bytes x are e.
+          let a = step_ok (lists_at (4 * rows) most bytes) _ x e in
+          let found = lists.found bytes a.0 are a.1 in
+          subst (λ (y : Option (List (List ℕ)) × List ℕ). Splits bytes (lists_bytes y.0) y.1 × HasLists Two rows most y.0)
+          (same_ok (Some a.0.0, a.0.1) x a.2) found;
+      again = two_again rows most few;
+    }

@@ -1,0 +1,88 @@
+-- Numbers of two bytes, one behind the other.
+use Rattle.std.proofs.Common.{◌≡◌, ℕ, zero, suc, ◌+◌, ◌-◌, ◌*◌, ◌^◌, ◌<◌, ◌≤◌, false, nat_eq, List, ◌++◌, length, get_or, take, drop, refl, sym, ap, ◌∙◌, arith}
+use Rattle.std.specs.Int.{w16, from_be_bytes, to_be_bytes}
+use Rattle.std.specs.List.{flat_map}
+use Rattle.std.proofs.lemmas.List.{drop-drop, drop-take, take-take, length-drop}
+use Rattle.std.proofs.lemmas.List.Concat.{flat_map-cons}
+use Rattle.std.proofs.Math.Seq.{take-add}
+use Rattle.pcl_cert.specs.Certificates.{ends_in_zero, list_bytes}
+use Rattle.pcl_cert.specs.RowTables.{numbers_from, count_of, list_from}
+use Rattle.pcl_cert.proofs.FieldsRead.{AreBytes, rest_bytes, two_bytes, front_spelled}
+
+pub length_numbers : (n : ℕ) (bytes : List ℕ) → length (numbers_from n bytes) ≡ n
+unfolding numbers_from
+length_numbers zero bytes = refl
+length_numbers (suc n) bytes = ap suc (length_numbers n (drop 2 bytes))
+
+-- only the bytes of the numbers are looked at
+pub numbers_of_front : (n : ℕ) (bytes : List ℕ) → numbers_from n (take (2 * n) bytes) ≡ numbers_from n bytes
+unfolding numbers_from
+numbers_of_front zero bytes = refl
+numbers_of_front (suc n) bytes =
+    let more : 2 * suc n ≡ 2 + 2 * n = omega arith in
+    let first : take 2 (take (2 * suc n) bytes) ≡ take 2 bytes = take-take 2 (2 * suc n) bytes (omega arith) in
+    let others : drop 2 (take (2 * suc n) bytes) ≡ take (2 * n) (drop 2 bytes) = rw more (drop-take 2 (2 * n) bytes) in
+    rw (first, others, numbers_of_front n (drop 2 bytes)) refl
+
+-- the last of the numbers
+pub last_of_numbers : (n : ℕ) (bytes : List ℕ)
+    → ends_in_zero (numbers_from (suc n) bytes) ≡ nat_eq (from_be_bytes w16 (take 2 (drop (2 * n) bytes))) 0
+unfolding numbers_from
+last_of_numbers zero bytes = refl
+last_of_numbers (suc n) bytes =
+    let place : 2 + 2 * n ≡ 2 * suc n = omega arith in
+    last_of_numbers n (drop 2 bytes)
+    ∙ ap (λ (rest : List ℕ). nat_eq (from_be_bytes w16 (take 2 rest)) 0) (drop-drop (2 * n) 2 bytes ∙ ap (λ (k : ℕ). drop k bytes) place)
+
+pub end_of_numbers : (count : ℕ) (bytes : List ℕ) → 0 < count
+    → ends_in_zero (numbers_from count bytes) ≡ nat_eq (from_be_bytes w16 (take 2 (drop (2 * (count - 1)) bytes))) 0
+end_of_numbers zero bytes some = absurd (omega arith)
+end_of_numbers (suc n) bytes some =
+    let before : n ≡ suc n - 1 = omega arith in
+    last_of_numbers n bytes ∙ ap (λ (k : ℕ). nat_eq (from_be_bytes w16 (take 2 (drop (2 * k) bytes))) 0) before
+
+pub no_numbers_end : (count : ℕ) (bytes : List ℕ) → count ≡ 0 → false ≡ ends_in_zero (numbers_from count bytes)
+unfolding numbers_from
+no_numbers_end zero bytes none = refl
+no_numbers_end (suc n) bytes none = absurd (omega arith)
+
+-- number k of them, and 0 behind all
+pub number_within : (n k : ℕ) (bytes : List ℕ) → k < n
+    → get_or (numbers_from n bytes) k 0 ≡ from_be_bytes w16 (take 2 (drop (2 * k) bytes))
+unfolding numbers_from
+number_within zero k bytes lt = absurd (omega arith)
+number_within (suc n) zero bytes lt = refl
+number_within (suc n) (suc k) bytes lt =
+    let place : 2 + 2 * k ≡ 2 * suc k = omega arith in
+    number_within n k (drop 2 bytes) (omega arith)
+    ∙ ap (λ (rest : List ℕ). from_be_bytes w16 (take 2 rest)) (drop-drop (2 * k) 2 bytes ∙ ap (λ (m : ℕ). drop m bytes) place)
+
+-- ---- the bytes that spell them
+
+pub numbers_spelled : (n : ℕ) (bytes : List ℕ) → AreBytes bytes → 2 * n ≤ length bytes
+    → flat_map (to_be_bytes w16) (numbers_from n bytes) ≡ take (2 * n) bytes
+unfolding numbers_from
+numbers_spelled zero bytes are long = refl
+numbers_spelled (suc n) bytes are long =
+    let more : 2 + 2 * n ≡ 2 * suc n = omega arith in
+    let first : ℕ = from_be_bytes w16 (take 2 bytes) in
+    let others : List ℕ = numbers_from n (drop 2 bytes) in
+    flat_map-cons (to_be_bytes w16) first others
+    ∙ ap (λ (text : List ℕ). text ++ flat_map (to_be_bytes w16) others) (front_spelled w16 (2 ^ 16) two_bytes bytes are (omega arith))
+    ∙ ap (λ (rest : List ℕ). take 2 bytes ++ rest)
+    (numbers_spelled n (drop 2 bytes) (rest_bytes 2 bytes are) (omega (arith, length-drop 2 bytes)))
+    ∙ sym (take-add 2 (2 * n) bytes)
+    ∙ ap (λ (m : ℕ). take m bytes) more
+
+-- the list at the front of bytes, spelled
+pub list_spelled : (bytes : List ℕ) → AreBytes bytes → 2 + 2 * count_of bytes ≤ length bytes
+    → list_bytes (list_from bytes) ≡ take (2 + 2 * count_of bytes) bytes
+list_spelled bytes are long =
+    let count : ℕ = count_of bytes in
+    let rest : List ℕ = drop 2 bytes in
+    ap (λ (n : ℕ). to_be_bytes w16 n ++ flat_map (to_be_bytes w16) (list_from bytes)) (length_numbers count rest)
+    ∙ ap (λ (text : List ℕ). text ++ flat_map (to_be_bytes w16) (list_from bytes))
+    (front_spelled w16 (2 ^ 16) two_bytes bytes are (omega arith))
+    ∙ ap (λ (text : List ℕ). take 2 bytes ++ text)
+    (numbers_spelled count rest (rest_bytes 2 bytes are) (omega (arith, length-drop 2 bytes)))
+    ∙ sym (take-add 2 (2 * count) bytes)

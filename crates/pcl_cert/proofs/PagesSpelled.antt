@@ -1,0 +1,275 @@
+-- Certificates: whatever is read is spelled so, and what is spelled is read.
+use Rattle.std.proofs.Common.{◌≡◌, ℕ, ◌+◌, ◌^◌, ◌<◌, Bool, true, false, cond, eqb, List, [], ◌++◌, length, take, drop, Some, Result, Ok, Err, refl, sym, ap, subst, ◌∙◌, append_assoc, arith, lit≤, inl, inr}
+use Rattle.std.specs.Int.{w16, w32, to_be_bytes}
+use Rattle.std.specs.List.{flat_map, AllByRecursion, starts_with}
+use Rattle.std.specs.Prelude.{◌==◌, nat_eq, if◌then◌else◌, IfOk, Option, ◌⊎◌}
+use Rattle.std.specs.Global.{Vec}
+use Rattle.std.proofs.lemmas.Bool.{eqb-true}
+use Rattle.std.proofs.lemmas.List.{append-nil, nil_from_length, take-append-drop}
+use Rattle.std.specs.Cmp.Lexicographic.{same_text}
+use Rattle.pcl_base.specs.declared.dpi.Dpi.{Dpi}
+use Rattle.pcl_base.specs.declared.dpi.Dpi.TheVariants.{Dpi300, Dpi600}
+use Rattle.pcl_base.specs.declared.size.Size.{Size}
+use Rattle.pcl_base.specs.declared.size.Size.TheVariants.{Executive, Letter, Legal, A4}
+use Rattle.pcl_base.specs.Size.{page_height, page_row_bytes}
+use Rattle.pcl_plan.specs.declared.table.RowNumbers.{RowNumbers}
+use Rattle.pcl_plan.proofs.RowsFrom.{row_small}
+use Rattle.pcl_cert.specs.declared.fault.CertFault.{CertFault}
+use Rattle.pcl_cert.specs.declared.fault.CertFault.TheVariants.{BadMagic, Extra}
+use Rattle.pcl_cert.specs.declared.format.Format.{Format}
+use Rattle.pcl_cert.specs.declared.format.Format.TheVariants.{One, Two}
+use Rattle.pcl_cert.specs.declared.page_proof.PageProof.{PageProof}
+use Rattle.pcl_cert.specs.Certificates.{magic, pair_bytes, row_bytes, table_bytes, lists_bytes, rows_in, proof_bytes, certificate_bytes, AreSmall, size_with_height, HasLists, IsProof, AreProofs}
+use Rattle.pcl_cert.specs.ReadingCertificates.{Gives, contents_of, number_at, format_at, sized, pair_at, row_at, table_at, places_at, proof_at, proofs_at, certificate_at}
+use Rattle.pcl_cert.proofs.FieldsRead.{AreBytes, rest_bytes, Splits, splits_both, step_ok, same_ok, two_bytes, four_bytes}
+use Rattle.pcl_cert.proofs.PagesRead.{tables_are_many, proofs_are_many}
+use Rattle.pcl_cert.proofs.Spelled.{Spells, number_spells, many_spell}
+use Rattle.pcl_cert.proofs.ListsSpelled.{places_spell}
+
+-- ---- tables
+
+abbrev both_bytes : ℕ × ℕ → List ℕ
+both_bytes p = pair_bytes p.0 p.1
+
+abbrev AreBoth : ℕ × ℕ → Type 0
+AreBoth p = (p.0 < 2 ^ 32) × (p.1 < 2 ^ 32)
+
+four : Spells (number_at w32) (to_be_bytes w32) (λ n. n < 2 ^ 32)
+four = number_spells w32 (2 ^ 32) four_bytes
+
+pairs_spell : Spells pair_at both_bytes AreBoth
+unfolding pair_at
+pairs_spell = record {
+  found = λ bytes x are e.
+      let a = step_ok (number_at w32 bytes) _ x e in
+      let b = step_ok (number_at w32 a.0.1) _ x a.2 in
+      let outside = four.found bytes a.0 are a.1 in
+      let inside = four.found a.0.1 b.0 outside.0.rest_are b.1 in
+      subst (λ (y : (ℕ × ℕ) × List ℕ). Splits bytes (both_bytes y.0) y.1 × AreBoth y.0) (same_ok ((a.0.0, b.0.0), b.0.1) x b.2)
+      (splits_both outside.0 inside.0, (outside.1, inside.1));
+  again = λ p rest fits.
+      let joined : both_bytes p ++ rest ≡ to_be_bytes w32 p.0 ++ (to_be_bytes w32 p.1 ++ rest) =
+      append_assoc (to_be_bytes w32 p.0) (to_be_bytes w32 p.1) rest in
+      ap pair_at joined ∙ rw (four.again p.0 (to_be_bytes w32 p.1 ++ rest) fits.0, four.again p.1 rest fits.1) refl;
+}
+
+row_spells : Spells row_at row_bytes AreSmall
+unfolding row_at
+row_spells = record {
+  found = λ bytes x are e.
+      let plain = step_ok (pair_at bytes) _ x e in
+      let runs = step_ok (pair_at plain.0.1) _ x plain.2 in
+      let packed = step_ok (pair_at runs.0.1) _ x runs.2 in
+      let delta = step_ok (pair_at packed.0.1) _ x packed.2 in
+      let a = pairs_spell.found bytes plain.0 are plain.1 in
+      let b = pairs_spell.found plain.0.1 runs.0 a.0.rest_are runs.1 in
+      let c = pairs_spell.found runs.0.1 packed.0 b.0.rest_are packed.1 in
+      let d = pairs_spell.found packed.0.1 delta.0 c.0.rest_are delta.1 in
+      let made : RowNumbers × List ℕ = (record {
+        outside = record { plain = plain.0.0.0; runs = runs.0.0.0; packed = packed.0.0.0; delta = delta.0.0.0 };
+        inside = record { plain = plain.0.0.1; runs = runs.0.0.1; packed = packed.0.0.1; delta = delta.0.0.1 };
+      }, delta.0.1) in
+      subst (λ (y : RowNumbers × List ℕ). Splits bytes (row_bytes y.0) y.1 × AreSmall y.0) (same_ok made x delta.2)
+      (splits_both a.0 (splits_both b.0 (splits_both c.0 d.0)), (a.1.0, a.1.1, b.1.0, b.1.1, c.1.0, c.1.1, d.1.0, d.1.1));
+  again = λ n rest fits.
+      let plain : ℕ × ℕ = (n.outside.plain, n.inside.plain) in
+      let runs : ℕ × ℕ = (n.outside.runs, n.inside.runs) in
+      let packed : ℕ × ℕ = (n.outside.packed, n.inside.packed) in
+      let delta : ℕ × ℕ = (n.outside.delta, n.inside.delta) in
+      let last : List ℕ = both_bytes delta ++ rest in
+      let joined : row_bytes n ++ rest ≡ both_bytes plain ++ (both_bytes runs ++ (both_bytes packed ++ last)) =
+      append_assoc (both_bytes plain) (both_bytes runs ++ (both_bytes packed ++ both_bytes delta)) rest
+      ∙ ap (λ (t : List ℕ). both_bytes plain ++ t) (append_assoc (both_bytes runs) (both_bytes packed ++ both_bytes delta) rest
+      ∙ ap (λ (t : List ℕ). both_bytes runs ++ t) (append_assoc (both_bytes packed) (both_bytes delta) rest)) in
+      ap row_at joined ∙ rw (
+        pairs_spell.again plain (both_bytes runs ++ (both_bytes packed ++ last)) (fits.0, fits.1),
+        pairs_spell.again runs (both_bytes packed ++ last) (fits.2, fits.3),
+        pairs_spell.again packed last (fits.4, fits.5),
+        pairs_spell.again delta rest (fits.6, fits.7),
+      ) refl;
+}
+
+pub table_spells : (n : ℕ) → Spells (table_at n) table_bytes (λ table. (length table ≡ n) × AllByRecursion AreSmall table)
+table_spells n = many_spell n tables_are_many row_spells
+
+-- ---- pages
+
+two : Spells (number_at w16) (to_be_bytes w16) (λ n. n < 2 ^ 16)
+two = number_spells w16 (2 ^ 16) two_bytes
+
+-- a size is found by its height, and has it
+first_or_other : (b : Bool) (first size : Size) (other : Option Size) → sized (if b then Some first else other) ≡ Ok size
+    → ((b ≡ true) × (first ≡ size)) ⊎ (sized other ≡ Ok size)
+first_or_other true first size other e = inl (refl, same_ok first size e)
+first_or_other false first size other e = inr e
+
+size_or_other : (dpi : Dpi) (rows : ℕ) (first size : Size) (other : Option Size)
+    → sized (if rows == page_height first dpi then Some first else other) ≡ Ok size
+    → (page_height size dpi ≡ rows) ⊎ (sized other ≡ Ok size)
+size_or_other dpi rows first size other e =
+    elim (first_or_other (eqb rows (page_height first dpi)) first size other e) [
+      | inl is ↦ inl (ap (λ (s : Size). page_height s dpi) (sym is.1) ∙ sym (eqb-true _ _ is.0))
+      | inr later ↦ inr later
+    ]
+
+size_found : (dpi : Dpi) (rows : ℕ) (size : Size) → sized (size_with_height dpi rows) ≡ Ok size → page_height size dpi ≡ rows
+size_found dpi rows size e =
+    elim (size_or_other dpi rows Executive size _ e) [
+      | inl is ↦ is
+      | inr e ↦ elim (size_or_other dpi rows Letter size _ e) [
+        | inl is ↦ is
+        | inr e ↦ elim (size_or_other dpi rows Legal size _ e) [
+          | inl is ↦ is
+          | inr e ↦ elim (size_or_other dpi rows A4 size _ e) [
+            | inl is ↦ is
+            | inr e ↦ absurd cc
+          ]
+        ]
+      ]
+    ]
+
+size_again : (dpi : Dpi) (size : Size) → size_with_height dpi (page_height size dpi) ≡ Some size
+size_again Dpi300 Executive = refl
+size_again Dpi300 Letter = refl
+size_again Dpi300 Legal = refl
+size_again Dpi300 A4 = refl
+size_again Dpi600 Executive = refl
+size_again Dpi600 Letter = refl
+size_again Dpi600 Legal = refl
+size_again Dpi600 A4 = refl
+
+height_small : (size : Size) (dpi : Dpi) → page_height size dpi < 2 ^ 16
+height_small Executive Dpi300 = lit≤ tt
+height_small Letter Dpi300 = lit≤ tt
+height_small Legal Dpi300 = lit≤ tt
+height_small A4 Dpi300 = lit≤ tt
+height_small Executive Dpi600 = lit≤ tt
+height_small Letter Dpi600 = lit≤ tt
+height_small Legal Dpi600 = lit≤ tt
+height_small A4 Dpi600 = lit≤ tt
+
+row_bytes_small : (size : Size) (dpi : Dpi) → page_row_bytes size dpi < 2 ^ 16
+row_bytes_small size dpi = omega (arith, row_small size dpi)
+
+proof_spells : (dpi : Dpi) (format : Format) → Spells (proof_at dpi format) proof_bytes (IsProof dpi format)
+unfolding proof_at
+proof_spells dpi format = record {
+  found = λ bytes x are e.
+      let text_len = step_ok (number_at w32 bytes) _ x e in
+      let rows = step_ok (number_at w16 text_len.0.1) _ x text_len.2 in
+      let size = step_ok (sized (size_with_height dpi rows.0.0)) _ x rows.2 in
+      let table = step_ok (table_at (rows.0.0 + 1) rows.0.1) _ x size.2 in
+      let places = step_ok (places_at format rows.0.0 (page_row_bytes size.0 dpi) table.0.1) _ x table.2 in
+      let a = four.found bytes text_len.0 are text_len.1 in
+      let b = two.found text_len.0.1 rows.0 a.0.rest_are rows.1 in
+      let height : page_height size.0 dpi ≡ rows.0.0 = size_found dpi rows.0.0 size.0 size.1 in
+      let c = (table_spells (rows.0.0 + 1)).found rows.0.1 table.0 b.0.rest_are table.1 in
+      let d = (places_spell format rows.0.0 (page_row_bytes size.0 dpi) (row_bytes_small size.0 dpi)).found table.0.1 places.0 c.0.rest_are places.1 in
+      let made : PageProof × List ℕ = (record { text_len = text_len.0.0; table = table.0.0; places = places.0.0 }, places.0.1) in
+      let rows_are : rows.0.0 ≡ rows_in table.0.0 = omega (arith, c.1.0) in
+      subst (λ (y : PageProof × List ℕ). Splits bytes (proof_bytes y.0) y.1 × IsProof dpi format y.0) (same_ok made x places.2) (
+        subst (λ (n : ℕ). Splits bytes (to_be_bytes w32 text_len.0.0 ++ to_be_bytes w16 n ++ table_bytes table.0.0 ++ lists_bytes places.0.0) places.0.1)
+            rows_are (splits_both a.0 (splits_both b.0 (splits_both c.0 d.0))),
+        record {
+          size = size.0;
+          text_len = a.1;
+          height = omega (arith, c.1.0, height);
+          numbers = c.1.1;
+          lists = subst (λ (n : ℕ). HasLists format n (page_row_bytes size.0 dpi) places.0.0) (sym height) d.1;
+        },
+      );
+  again = λ proof rest is.
+      let rows : ℕ = rows_in proof.table in
+      let height : page_height is.size dpi ≡ rows = omega (arith, is.height) in
+      let small : rows < 2 ^ 16 = omega (arith, height, height_small is.size dpi) in
+      let lists : List ℕ = lists_bytes proof.places ++ rest in
+      let table : List ℕ = table_bytes proof.table ++ lists in
+      let joined : proof_bytes proof ++ rest ≡ to_be_bytes w32 proof.text_len ++ (to_be_bytes w16 rows ++ table) =
+      append_assoc (to_be_bytes w32 proof.text_len) (to_be_bytes w16 rows ++ table_bytes proof.table ++ lists_bytes proof.places) rest
+      ∙ ap (λ (t : List ℕ). to_be_bytes w32 proof.text_len ++ t)
+      (append_assoc (to_be_bytes w16 rows) (table_bytes proof.table ++ lists_bytes proof.places) rest
+      ∙ ap (λ (t : List ℕ). to_be_bytes w16 rows ++ t) (append_assoc (table_bytes proof.table) (lists_bytes proof.places) rest)) in
+      let found : size_with_height dpi rows ≡ Some is.size = ap (size_with_height dpi) (sym height) ∙ size_again dpi is.size in
+      let count : length proof.table ≡ rows + 1 = omega (arith, is.height) in
+      let has : HasLists format rows (page_row_bytes is.size dpi) proof.places =
+      subst (λ (n : ℕ). HasLists format n (page_row_bytes is.size dpi) proof.places) height is.lists in
+      ap (proof_at dpi format) joined ∙ rw (
+        four.again proof.text_len (to_be_bytes w16 rows ++ table) is.text_len,
+        two.again rows table small,
+        found,
+        (table_spells (rows + 1)).again proof.table lists (count, is.numbers),
+        (places_spell format rows (page_row_bytes is.size dpi) (row_bytes_small is.size dpi)).again proof.places rest has,
+      ) refl;
+}
+
+-- ---- certificates
+
+which_format : (one two : Bool) (rest : List ℕ) (x : Format × List ℕ)
+    → (if one then Ok (One, rest) else (if two then Ok (Two, rest) else Err BadMagic)) ≡ Ok x
+    → ((one ≡ true) × ((One, rest) ≡ x)) ⊎ ((two ≡ true) × ((Two, rest) ≡ x))
+which_format true two rest x e = inl (refl, same_ok (One, rest) x e)
+which_format false true rest x e = inr (refl, same_ok (Two, rest) x e)
+which_format false false rest x e = absurd cc
+
+begins_with : (format : Format) (bytes : List ℕ) (x : Format × List ℕ) → AreBytes bytes → magic format ≡ take 8 bytes
+    → (format, drop 8 bytes) ≡ x → Splits bytes (magic x.0) x.1
+begins_with format bytes x are is made =
+    subst (λ (y : Format × List ℕ). Splits bytes (magic y.0) y.1) made (record {
+      joined = sym (take-append-drop 8 bytes) ∙ ap (λ (t : List ℕ). t ++ drop 8 bytes) (sym is);
+      rest_are = rest_bytes 8 bytes are;
+    })
+
+format_found : (bytes : List ℕ) (x : Format × List ℕ) → AreBytes bytes → format_at bytes ≡ Ok x → Splits bytes (magic x.0) x.1
+format_found bytes x are e =
+    elim (which_format (starts_with nat_eq bytes (magic One)) (starts_with nat_eq bytes (magic Two)) (drop 8 bytes) x e) [
+      | inl is ↦ begins_with One bytes x are (same_text (magic One) (take 8 bytes) (sym is.0)) is.1
+      | inr is ↦ begins_with Two bytes x are (same_text (magic Two) (take 8 bytes) (sym is.0)) is.1
+    ]
+
+ended : {A : Type 0} (b : Bool) (fault : CertFault) (x y : A) → cond b (Ok x) (Err fault) ≡ Ok y → (b ≡ true) × (x ≡ y)
+ended true fault x y e = (refl, same_ok x y e)
+ended false fault x y e = absurd cc
+
+pub certificate_found : (dpi : Dpi) (bytes : List ℕ) (x : Format × List PageProof) → AreBytes bytes → certificate_at dpi bytes ≡ Ok x
+    → AreProofs dpi x.0 x.1 × (bytes ≡ certificate_bytes x.0 x.1)
+unfolding certificate_at
+certificate_found dpi bytes x are e =
+    let format = step_ok (format_at bytes) _ x e in
+    let count = step_ok (number_at w32 format.0.1) _ x format.2 in
+    let proofs = step_ok (proofs_at count.0.0 dpi format.0.0 count.0.1) _ x count.2 in
+    let a = format_found bytes format.0 are format.1 in
+    let b = four.found format.0.1 count.0 a.rest_are count.1 in
+    let pages = many_spell count.0.0 (proofs_are_many dpi format.0.0) (proof_spells dpi format.0.0) in
+    let c = pages.found count.0.1 proofs.0 b.0.rest_are proofs.1 in
+    let end = ended (eqb (length proofs.0.1) 0) Extra (format.0.0, proofs.0.0) x proofs.2 in
+    let none : proofs.0.1 ≡ [] = nil_from_length proofs.0.1 (eqb-true _ _ end.0) in
+    let text : List ℕ = to_be_bytes w32 count.0.0 ++ flat_map proof_bytes proofs.0.0 in
+    let all : bytes ≡ magic format.0.0 ++ text =
+    (splits_both a (splits_both b.0 c.0)).joined ∙ ap (λ (t : List ℕ). (magic format.0.0 ++ text) ++ t) none
+    ∙ append-nil (magic format.0.0 ++ text) in
+    subst (λ (y : Format × List PageProof). AreProofs dpi y.0 y.1 × (bytes ≡ certificate_bytes y.0 y.1)) end.1 (
+      (omega (arith, c.1.0, b.1), c.1.1),
+      all ∙ sym (append_assoc (magic format.0.0) (to_be_bytes w32 count.0.0) (flat_map proof_bytes proofs.0.0))
+          ∙ ap (λ (n : ℕ). magic format.0.0 ++ to_be_bytes w32 n ++ flat_map proof_bytes proofs.0.0) (sym c.1.0),
+    )
+
+pages_again : (dpi : Dpi) (format : Format) (proofs : List PageProof) → AreProofs dpi format proofs
+    → proofs_at (length proofs) dpi format (flat_map proof_bytes proofs) ≡ Ok (proofs, [])
+pages_again dpi format proofs are =
+    ap (proofs_at (length proofs) dpi format) (sym (append-nil (flat_map proof_bytes proofs)))
+    ∙ (many_spell (length proofs) (proofs_are_many dpi format) (proof_spells dpi format)).again proofs [] (refl, are.1)
+
+pub certificate_again : (dpi : Dpi) (format : Format) (proofs : List PageProof) → AreProofs dpi format proofs
+    → certificate_at dpi (certificate_bytes format proofs) ≡ Ok (format, proofs)
+unfolding certificate_at
+certificate_again dpi One proofs are =
+    rw (four.again (length proofs) (flat_map proof_bytes proofs) are.0, pages_again dpi One proofs are) refl
+certificate_again dpi Two proofs are =
+    rw (four.again (length proofs) (flat_map proof_bytes proofs) are.0, pages_again dpi Two proofs are) refl
+
+-- what a call gives that reads all of the bytes
+pub is_found : (dpi : Dpi) (bytes : List ℕ) (read : Result (Format × Vec PageProof) CertFault) → AreBytes bytes
+    → Gives contents_of read (certificate_at dpi bytes)
+    → IfOk read (λ r. AreProofs dpi r.0 r.1.items × (bytes ≡ certificate_bytes r.0 r.1.items))
+is_found dpi bytes (Ok read) are gives = certificate_found dpi bytes (contents_of read) are gives
+is_found dpi bytes (Err fault) are gives = tt

@@ -1,0 +1,24 @@
+use Rattle.std.proofs.Common.{◌≡◌, ◌*◌, ap, ◌∙◌, true, false, take, drop, List, ℕ, Ok, Err, arith}
+use Rattle.std.specs.Prelude.{if◌then◌else◌}
+use Rattle.pcl_cert.specs.declared.fault.CertFault.TheVariants.{Places}
+use Rattle.pcl_cert.specs.Certificates.{ends_in_zero}
+use Rattle.pcl_cert.specs.RowTables.{numbers_from}
+use Rattle.pcl_cert.proofs.Lists.{list_checked}
+use Rattle.pcl_cert.proofs.reading_certificates.behind_list.Goals as goal
+
+pub returns-then-ends_in_zero : goal.returns-then-ends_in_zero
+returns-then-ends_in_zero c =
+    let count : ℕ = c.in_ok-count.count in
+    let rest : List ℕ = c.in_ok-count.rest.now in
+    let ends : ends_in_zero (numbers_from count (take (2 * count) rest)) ≡ true = cc in
+    list_checked c.args.most c.args.bytes.now count rest c.in_ok-count.ensures (omega arith) (omega arith)
+    ∙ ap (λ b. if b then Err Places else Ok (drop (2 * count) rest)) ends
+
+pub returns : goal.returns
+returns c =
+    let count : ℕ = c.in_ok-count.count in
+    let rest : List ℕ = c.in_ok-count.rest.now in
+    let ends : ends_in_zero (numbers_from count (take (2 * count) rest)) ≡ false = cc in
+    let back : drop (2 * count) rest ≡ c.split_at.result.1.now = cc in
+    list_checked c.args.most c.args.bytes.now count rest c.in_ok-count.ensures (omega arith) (omega arith)
+    ∙ ap (λ b. if b then Err Places else Ok (drop (2 * count) rest)) ends ∙ ap (λ bytes. Ok bytes) back
