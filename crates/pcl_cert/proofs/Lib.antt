@@ -7,3 +7,4 @@ pub mod Spelled
 pub mod ListsSpelled
 pub mod PagesSpelled
 pub mod Written
+pub mod KeptLists

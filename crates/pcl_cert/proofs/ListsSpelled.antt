@@ -25,13 +25,13 @@ numbers_small zero bytes are = tt
 numbers_small (suc n) bytes are =
     (two_bytes.below (take 2 bytes) (front_bytes 2 bytes are), numbers_small n (drop 2 bytes) (rest_bytes 2 bytes are))
 
-text_len : (numbers : List ℕ) → length (flat_map (to_be_bytes w16) numbers) ≡ 2 * length numbers
+pub text_len : (numbers : List ℕ) → length (flat_map (to_be_bytes w16) numbers) ≡ 2 * length numbers
 text_len [] = refl
 text_len (n ∷ numbers) =
     let text : List ℕ = flat_map (to_be_bytes w16) numbers in
     omega (arith, ap length (flat_map-cons (to_be_bytes w16) n numbers), length-append (to_be_bytes w16 n) text, two_bytes.len n, text_len numbers)
 
-numbers_again : (numbers rest : List ℕ) → AllByRecursion (λ k. k < 2 ^ 16) numbers
+pub numbers_again : (numbers rest : List ℕ) → AllByRecursion (λ k. k < 2 ^ 16) numbers
     → numbers_from (length numbers) (flat_map (to_be_bytes w16) numbers ++ rest) ≡ numbers
 unfolding numbers_from
 numbers_again [] rest small = refl

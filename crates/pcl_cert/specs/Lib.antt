@@ -1,3 +1,5 @@
 pub mod RowTables
 pub mod Certificates
 pub mod ReadingCertificates
+pub mod PageTables
+pub mod Listing

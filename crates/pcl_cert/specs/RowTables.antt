@@ -4,9 +4,9 @@ use Rattle.std.specs.Int.{w16, from_be_bytes}
 use Rattle.std.specs.List.{AllByRecursion}
 use Rattle.pcl_base.specs.declared.method.Method.{Method}
 use Rattle.pcl_base.specs.Method.{method_code}
-use Rattle.pcl_cert.specs.declared.row_tables.Bytes.{Bytes}
-use Rattle.pcl_cert.specs.declared.row_tables.Bytes.TheVariants.{Kept, Lent}
-use Rattle.pcl_cert.specs.declared.row_tables.RowTables.TheInside.{Inside}
+use Rattle.pcl_cert.specs.declared.tables.Bytes.{Bytes}
+use Rattle.pcl_cert.specs.declared.tables.Bytes.TheVariants.{Kept, Lent}
+use Rattle.pcl_cert.specs.declared.tables.RowTables.TheInside.{Inside}
 
 -- ---- lists as numbers
 

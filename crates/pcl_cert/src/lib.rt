@@ -5,14 +5,17 @@
 mod fault;
 mod fields;
 mod format;
+mod listing;
 mod page_proof;
+mod page_tables;
 mod reading_certificates;
-mod row_tables;
+mod tables;
 mod writing_certificates;
 
 pub use fault::CertFault;
 pub use format::Format;
 pub use page_proof::PageProof;
+pub use page_tables::row_tables;
 pub use reading_certificates::read_certificate;
-pub use row_tables::RowTables;
+pub use tables::RowTables;
 pub use writing_certificates::write_certificate;

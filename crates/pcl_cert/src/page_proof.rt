@@ -1,6 +1,6 @@
 //! What a certificate says of a page.
 
-use crate::row_tables::RowTables;
+use crate::tables::RowTables;
 use pcl_plan::Table;
 
 /// What a certificate says of a page: the length of its text in bytes, a number for each node of the page, and in the

@@ -12,7 +12,7 @@ use crate::fault::CertFault;
 use crate::fields::{format_at, number_at, row_at, word_at};
 use crate::format::Format;
 use crate::page_proof::PageProof;
-use crate::row_tables::{Bytes, RowTables, word};
+use crate::tables::{Bytes, RowTables, word};
 use pcl_base::{Dpi, Size};
 use pcl_plan::Table;
 use std::alloc::Global;

@@ -3,7 +3,7 @@ use Rattle.std.proofs.lemmas.List.{length-drop}
 use Rattle.pcl_cert.specs.RowTables.{count_of}
 use Rattle.pcl_cert.proofs.FieldsRead.{rest_bytes}
 use Rattle.pcl_cert.proofs.Numbers.{list_spelled}
-use Rattle.pcl_cert.proofs.row_tables.list_at.Goals as goal
+use Rattle.pcl_cert.proofs.tables.list_at.Goals as goal
 
 pub returns : goal.returns
 returns c =

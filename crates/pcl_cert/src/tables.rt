@@ -1,10 +1,11 @@
 //! The row tables of a page.
 
-ghost use Rattle.std.specs.Prelude.{◌≡◌, ◌++◌, ◌+◌, ◌*◌, ◌<◌, ◌≤◌, length, take, drop, OnOk};
+ghost use Rattle.std.specs.Prelude.{◌≡◌, ◌++◌, ◌+◌, ◌*◌, ◌^◌, ◌<◌, ◌≤◌, length, take, drop, OnOk};
 ghost use Rattle.std.specs.Int.{w16, from_be_bytes};
-ghost use Rattle.pcl_cert.specs.RowTables.{contents, count_of, list_from, number_at_place, lists_within, IsListAt};
+ghost use Rattle.pcl_cert.specs.RowTables.{contents, count_of, list_from, list_of, number_at_place, lists_within, IsListAt};
 ghost use Rattle.std.specs.List.{flat_map, AllByRecursion};
 ghost use Rattle.pcl_cert.specs.Certificates.{list_bytes};
+ghost use Rattle.pcl_cert.specs.PageTables.{table_of};
 
 use pcl_base::Method;
 use std::alloc::AllocError;
@@ -74,6 +75,17 @@ impl<'a> RowTables<'a> {
             word(bytes, start + 2 + 2 * place as usize)
         } else {
             0
+        }
+    }
+
+    /// Writes out the table of a row and a method: a number for each place.
+    pub fn copy_table(&self, row: u32, method: Method, out: &mut [u16])
+        requires row { 4 * row + 4 ≤ length self.now }
+        requires few { length out.old < 2 ^ 32 }
+        ensures { out.new ≡ table_of (length out.old) (list_of self.now row method) }
+    {
+        for place in 0..out.len() {
+            out[place] = self.number(row, method, place as u32);
         }
     }
 

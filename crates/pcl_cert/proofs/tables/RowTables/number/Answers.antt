@@ -2,7 +2,7 @@ use Rattle.std.proofs.Common.{◌≡◌, ◌+◌, ◌*◌, ◌<◌, ◌≤◌, �
 use Rattle.std.specs.Int.{w16, from_be_bytes}
 use Rattle.pcl_cert.specs.RowTables.{contents, count_of, lists_within}
 use Rattle.pcl_cert.proofs.Written.{number_there, number_past, list_within}
-use Rattle.pcl_cert.proofs.row_tables.RowTables.number.Goals as goal
+use Rattle.pcl_cert.proofs.tables.RowTables.number.Goals as goal
 
 pub returns-then-place-from : goal.returns-then-place-from
 returns-then-place-from c =

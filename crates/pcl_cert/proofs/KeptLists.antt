@@ -1,0 +1,314 @@
+-- Lists that are put one behind the other, and the tables that they stand for.
+use Rattle.std.proofs.Common.{◌≡◌, ℕ, zero, suc, ◌+◌, ◌-◌, ◌*◌, ◌^◌, ◌<◌, ◌≤◌, false, List, [], ◌∷◌, ◌++◌, length, take, drop, get_or, set, replicate, refl, sym, ap, subst, ◌∙◌, append_assoc, arith, inl, inr, lit≤}
+use Rattle.std.specs.Prelude.{nat_eq}
+use Rattle.std.specs.Int.{w16, from_be_bytes, to_be_bytes}
+use Rattle.std.specs.List.{flat_map, AllByRecursion}
+use Rattle.std.proofs.lemmas.Bool.{cases_lt, true≢false}
+use Rattle.std.proofs.lemmas.List.{ext_get_or, get_or_append_left, get_or-append_right, get_or-replicate, get_or_past, get_or-take, length-append, length-replicate, length-take, length-drop, take_more, take_more_set, drop_at, append-nil, take-append-le, drop-append-le, map_push, length-map}
+use Rattle.std.proofs.Math.ListN.{drop_of_length-le}
+use Rattle.pcl_cert.specs.Certificates.{ends_in_zero, IsList, list_bytes}
+use Rattle.pcl_cert.specs.RowTables.{numbers_from, count_of, list_from, lists_within, IsListAt}
+use Rattle.pcl_cert.specs.PageTables.{table_of, AreLeastTables}
+use Rattle.pcl_base.specs.declared.method.Method.{Method}
+use Rattle.pcl_base.specs.declared.method.Method.TheVariants.{Plain, Runs, Packed, Delta}
+use Rattle.pcl_base.specs.Method.{method_code}
+use Rattle.pcl_rows.specs.Rows.{base}
+use Rattle.pcl_coders.specs.RowWalks.{IsLeastTable}
+use Rattle.pcl_coders.proofs.RowWalks.{length-base}
+use Rattle.pcl_base.specs.Size.{page_height, page_row_bytes}
+use Rattle.pcl_bitmap.specs.Bitmap.{Picture}
+use Rattle.pcl_plan.specs.Nodes.{row_at, row_above}
+use Rattle.pcl_plan.specs.PageText.{bitmap_rows}
+use Rattle.pcl_plan.proofs.RowsFrom.{length_rows}
+use Rattle.pcl_cert.specs.declared.listing.Lists.{Lists}
+use Rattle.pcl_cert.specs.Listing.{IsTrimmed, HasListMore, HasRowMore, HoldsRows, HoldsRowsOf, AreWhole, listed}
+use Rattle.pcl_cert.proofs.FieldsRead.{two_bytes}
+use Rattle.pcl_cert.proofs.Numbers.{numbers_of_front}
+use Rattle.pcl_cert.proofs.ListsSpelled.{numbers_again, text_len}
+
+-- ---- tables of lists
+
+pub table_length : (n : ℕ) (list : List ℕ) → length (table_of n list) ≡ n
+table_length n list =
+    let zero_number : ℕ = 0 in
+    omega (arith, length-take n (list ++ replicate n zero_number), length-append list (replicate n zero_number), length-replicate n zero_number)
+
+pub table_number : (n : ℕ) (list : List ℕ) (k : ℕ) → k < n → get_or (table_of n list) k 0 ≡ get_or list k 0
+table_number n list k lt =
+    get_or-take n (list ++ replicate n 0) k 0 lt ∙ elim (cases_lt k (length list)) [
+      | inl within ↦ get_or_append_left list (replicate n 0) 0 k within
+      | inr past ↦
+          let place : k - length list < n = omega arith in
+          get_or-append_right list (replicate n 0) (length list) k 0 refl past ∙ get_or-replicate n (k - length list) 0 0 place
+          ∙ sym (get_or_past list k 0 past)
+    ]
+
+-- one place more of a table is written out
+pub one_place_more : (n : ℕ) (list out : List ℕ) (k number : ℕ) → k < n → length out ≡ n → take k out ≡ take k (table_of n list)
+    → number ≡ get_or list k 0 → take (k + 1) (set out k number) ≡ take (k + 1) (table_of n list)
+one_place_more n list out k number lt size so_far is =
+    take_more_set out k number (omega (arith, size))
+    ∙ ap (λ (front : List ℕ). front ++ number ∷ []) so_far
+    ∙ ap (λ (m : ℕ). take k (table_of n list) ++ m ∷ []) (is ∙ sym (table_number n list k lt))
+    ∙ sym (take_more (table_of n list) k 0 (omega (arith, table_length n list)))
+
+-- ---- numbers without the zeros at their end
+
+end_of_front : (numbers : List ℕ) (len : ℕ) → 0 < len → len ≤ length numbers
+    → ends_in_zero (take len numbers) ≡ nat_eq (get_or numbers (len - 1) 0) 0
+end_of_front [] len some within = absurd (omega arith)
+end_of_front (n ∷ numbers) zero some within = absurd (omega arith)
+end_of_front (n ∷ numbers) (suc zero) some within = refl
+end_of_front (n ∷ []) (suc (suc len)) some within = absurd (omega arith)
+end_of_front (n ∷ m ∷ numbers) (suc (suc len)) some within =
+    let place : suc (suc len - 1) ≡ suc (suc len) - 1 = omega arith in
+    end_of_front (m ∷ numbers) (suc len) (omega arith) (omega arith)
+    ∙ ap (λ (k : ℕ). nat_eq (get_or (n ∷ m ∷ numbers) k 0) 0) place
+
+pub trimmed_is : (numbers : List ℕ) (len : ℕ) → len ≤ length numbers
+    → ((k : ℕ) → len ≤ k → k < length numbers → get_or numbers k 0 ≡ 0) → (0 < len → nat_eq (get_or numbers (len - 1) 0) 0 ≡ false)
+    → IsTrimmed numbers (take len numbers)
+trimmed_is numbers len within zeros ends = record {
+  len = len;
+  within = within;
+  front = refl;
+  zeros = zeros;
+  ends = elim (cases_lt 0 len) [
+    | inl some ↦ end_of_front numbers len some within ∙ ends some
+    | inr none ↦
+        let no : len ≡ 0 = omega arith in
+        ap (λ (n : ℕ). ends_in_zero (take n numbers)) no
+  ];
+}
+
+-- a trimmed list stands for the numbers
+pub table_of_trimmed : (numbers list : List ℕ) → IsTrimmed numbers list → table_of (length numbers) list ≡ numbers
+table_of_trimmed numbers list is =
+    ext_get_or 0 (table_of (length numbers) list) numbers (table_length (length numbers) list) (λ k lt.
+    let in_numbers : k < length numbers = omega (arith, table_length (length numbers) list) in
+    table_number (length numbers) list k in_numbers ∙ ap (λ (l : List ℕ). get_or l k 0) is.front ∙ elim (cases_lt k is.len) [
+      | inl within ↦ get_or-take is.len numbers k 0 within
+      | inr past ↦ get_or_past (take is.len numbers) k 0 (omega (arith, length-take is.len numbers)) ∙ sym (is.zeros k past in_numbers)
+    ])
+
+-- ---- a list more
+
+numbers_stay : (n : ℕ) (bytes more : List ℕ) → 2 * n ≤ length bytes → numbers_from n (bytes ++ more) ≡ numbers_from n bytes
+numbers_stay n bytes more long =
+    sym (numbers_of_front n (bytes ++ more)) ∙ ap (numbers_from n) (take-append-le (2 * n) bytes more long) ∙ numbers_of_front n bytes
+
+-- a list that is whole stays where more bytes come
+pub record Stays (bytes more : List ℕ) (start : ℕ) : Type 0 where
+  pub same : list_from (drop start (bytes ++ more)) ≡ list_from (drop start bytes)
+  pub whole : IsListAt (bytes ++ more) start
+
+list_stays : (bytes more : List ℕ) (start : ℕ) → IsListAt bytes start → Stays bytes more start
+list_stays bytes more start is =
+    let list : List ℕ = drop start bytes in
+    let room : 2 + 2 * count_of list ≤ length list = omega (arith, is.whole, length-drop start bytes) in
+    let moved : drop start (bytes ++ more) ≡ list ++ more = drop-append-le start bytes more (omega (arith, is.whole)) in
+    let counted : count_of (list ++ more) ≡ count_of list =
+    ap (from_be_bytes w16) (take-append-le 2 list more (omega (arith, room))) in
+    record {
+      same = ap list_from moved
+          ∙ ap (λ (n : ℕ). numbers_from n (drop 2 (list ++ more))) counted
+          ∙ ap (numbers_from (count_of list)) (drop-append-le 2 list more (omega (arith, room)))
+          ∙ numbers_stay (count_of list) (drop 2 list) more (omega (arith, room, length-drop 2 list));
+      whole = record {
+        whole = omega (arith, ap count_of moved, counted, is.whole, length-append bytes more);
+      };
+    }
+
+lists_stay : (bytes more starts : List ℕ) → AllByRecursion (IsListAt bytes) starts
+    → (lists_within (bytes ++ more) starts ≡ lists_within bytes starts) × AllByRecursion (IsListAt (bytes ++ more)) starts
+lists_stay bytes more [] whole = (refl, tt)
+lists_stay bytes more (start ∷ starts) whole =
+    let first = list_stays bytes more start whole.0 in
+    let others = lists_stay bytes more starts whole.1 in (
+      ap (λ (list : List ℕ). list ∷ lists_within (bytes ++ more) starts) first.same
+          ∙ ap (λ (lists : List (List ℕ)). list_from (drop start bytes) ∷ lists) others.0,
+      (first.whole, others.1),
+    )
+
+list_at_front : (list : List ℕ) → length list < 2 ^ 16 → AllByRecursion (λ n. n < 2 ^ 16) list
+    → (count_of (list_bytes list) ≡ length list) × (list_from (list_bytes list) ≡ list)
+list_at_front list few small =
+    let text : List ℕ = flat_map (to_be_bytes w16) list in
+    let count : count_of (list_bytes list) ≡ length list = two_bytes.again (length list) few in (
+      count,
+      ap (λ (n : ℕ). numbers_from n text) count ∙ ap (numbers_from (length list)) (sym (append-nil text)) ∙ numbers_again list [] small,
+    )
+
+small_front : (numbers : List ℕ) (len : ℕ) → ((k : ℕ) → get_or numbers k 0 < 2 ^ 16) → AllByRecursion (λ n. n < 2 ^ 16) (take len numbers)
+small_front [] zero small = tt
+small_front [] (suc len) small = tt
+small_front (n ∷ numbers) zero small = tt
+small_front (n ∷ numbers) (suc len) small = (small 0, small_front numbers len (λ k. small (suc k)))
+
+all_and_one : {X : Type 0} (P : X → Type 0) (xs : List X) (x : X) → AllByRecursion P xs → P x → AllByRecursion P (xs ++ x ∷ [])
+all_and_one P [] x all one = (one, tt)
+all_and_one P (y ∷ xs) x all one = (all.0, all_and_one P xs x all.1 one)
+
+pub list_more : (old new : Lists) (numbers list : List ℕ) → AreWhole old → length numbers < 2 ^ 16
+    → ((k : ℕ) → get_or numbers k 0 < 2 ^ 16) → IsTrimmed numbers list → new.bytes.items ≡ old.bytes.items ++ list_bytes list
+    → new.starts.items ≡ old.starts.items ++ length old.bytes.items ∷ [] → HasListMore old new numbers
+list_more old new numbers list whole few small is bytes_are starts_are =
+    let bytes : List ℕ = old.bytes.items in
+    let text : List ℕ = list_bytes list in
+    let start : ℕ = length bytes in
+    let size : length list ≤ length numbers = omega (arith, ap length is.front, length-take is.len numbers) in
+    let small_list : AllByRecursion (λ n. n < 2 ^ 16) list =
+    subst (AllByRecursion (λ n. n < 2 ^ 16)) (sym is.front) (small_front numbers is.len small) in
+    let at_front = list_at_front list (omega (arith, size, few)) small_list in
+    let there : drop start (bytes ++ text) ≡ text = drop_at bytes text start refl in
+    let stay = lists_stay bytes text old.starts.items whole in
+    let text_size : length text ≡ 2 + 2 * length list =
+    omega (arith, length-append (to_be_bytes w16 (length list)) (flat_map (to_be_bytes w16) list), two_bytes.len (length list), text_len list) in
+    record {
+      list = list;
+      trimmed = is;
+      small = small_list;
+      lists = ap (λ (b : List ℕ). lists_within b new.starts.items) bytes_are ∙ ap (lists_within (bytes ++ text)) starts_are
+          ∙ map_push (λ (s : ℕ). list_from (drop s (bytes ++ text))) old.starts.items start
+          ∙ ap (λ (lists : List (List ℕ)). lists ++ list_from (drop start (bytes ++ text)) ∷ []) stay.0
+          ∙ ap (λ (l : List ℕ). lists_within bytes old.starts.items ++ l ∷ []) (ap list_from there ∙ at_front.1);
+      whole = subst (λ (b : List ℕ). AllByRecursion (IsListAt b) new.starts.items) (sym bytes_are)
+          (subst (AllByRecursion (IsListAt (bytes ++ text))) (sym starts_are)
+          (all_and_one (IsListAt (bytes ++ text)) old.starts.items start stay.1
+          (record { whole = omega (arith, ap count_of there, at_front.0, length-append bytes text, text_size) })));
+    }
+
+-- ---- a row's list more
+
+pub row_more : (method : Method) (seed row : List ℕ) (old new : Lists) (numbers : List ℕ) → length seed ≡ length row
+    → IsLeastTable method seed row numbers → HasListMore old new numbers
+    → HasRowMore method seed row old new
+row_more method seed row old new numbers same least more =
+    let is = more.trimmed in
+    let list : List ℕ = more.list in
+    let size : length numbers ≡ length row + 1 = least.table_is.size in
+    let width : ℕ = length row in
+    let last : get_or numbers width 0 ≡ 0 = least.table_is.feasible.ends width
+    (drop_of_length-le row (omega arith) ∙ sym (drop_of_length-le (base method seed) (omega (arith, length-base method seed, same)))) in
+    let len_is : length list ≡ is.len = omega (arith, ap length is.front, length-take is.len numbers, is.within) in
+    record {
+      list = list;
+      lists = more.lists;
+      whole = more.whole;
+      is_list = record {
+        short = elim (cases_lt width is.len) [
+          | inl full ↦
+              let all : is.len ≡ width + 1 = omega (arith, is.within, size) in
+              let before : is.len - 1 ≡ width = omega (arith, all) in
+              absurd (true≢false (sym (ap (λ (n : ℕ). nat_eq n 0) (ap (λ (k : ℕ). get_or numbers k 0) before ∙ last))
+              ∙ sym (end_of_front numbers is.len (omega (arith, all)) is.within) ∙ ap ends_in_zero (sym is.front) ∙ is.ends))
+          | inr shorter ↦ omega (arith, len_is, shorter)
+        ];
+        small = more.small;
+        ends = is.ends;
+      };
+      least = subst (IsLeastTable method seed row)
+          (sym (ap (λ (n : ℕ). table_of n list) (sym size) ∙ table_of_trimmed numbers list is)) least;
+    }
+
+-- ---- rows
+
+all_both : {X : Type 0} (P : X → Type 0) (xs ys : List X) → AllByRecursion P xs → AllByRecursion P ys → AllByRecursion P (xs ++ ys)
+all_both P [] ys all others = others
+all_both P (x ∷ xs) ys all others = (all.0, all_both P xs ys all.1 others)
+
+code_below_four : (method : Method) → method_code method < 4
+code_below_four Plain = lit≤ tt
+code_below_four Runs = lit≤ tt
+code_below_four Packed = lit≤ tt
+code_below_four Delta = lit≤ tt
+
+-- the lists of a row are put behind the others, one after the other
+pub record HasFourMore (seed row : List ℕ) (old new : Lists) : Type 0 where
+  pub first : Lists
+  pub second : Lists
+  pub third : Lists
+  pub plain : HasRowMore Plain seed row old first
+  pub runs : HasRowMore Runs seed row first second
+  pub packed : HasRowMore Packed seed row second third
+  pub delta : HasRowMore Delta seed row third new
+
+abbrev four_lists : {seed row : List ℕ} {old new : Lists} → HasFourMore seed row old new → List (List ℕ)
+four_lists more = more.plain.list ∷ more.runs.list ∷ more.packed.list ∷ more.delta.list ∷ []
+
+four_listed : {seed row : List ℕ} {old new : Lists} (more : HasFourMore seed row old new) → listed new ≡ listed old ++ four_lists more
+four_listed {seed} {row} {old} {new} more =
+    more.delta.lists ∙ ap (λ (l : List (List ℕ)). l ++ more.delta.list ∷ []) (more.packed.lists
+    ∙ ap (λ (l : List (List ℕ)). l ++ more.packed.list ∷ []) (more.runs.lists
+    ∙ ap (λ (l : List (List ℕ)). l ++ more.runs.list ∷ []) more.plain.lists))
+    ∙ simp append_assoc
+
+four_least : {seed row : List ℕ} {old new : Lists} (more : HasFourMore seed row old new) (method : Method)
+    → IsLeastTable method seed row (table_of (length row + 1) (get_or (four_lists more) (method_code method) []))
+four_least more Plain = more.plain.least
+four_least more Runs = more.runs.least
+four_least more Packed = more.packed.least
+four_least more Delta = more.delta.least
+
+listed_length : (lists : Lists) → length (listed lists) ≡ length lists.starts.items
+listed_length lists = length-map lists.starts.items (λ (s : ℕ). list_from (drop s lists.bytes.items))
+
+pub one_row_more : (width : ℕ) (rows : List (List ℕ)) (done : ℕ) (old new : Lists) → HoldsRows width rows done old
+    → length (row_at rows done) ≡ width → HasFourMore (row_above width rows done) (row_at rows done) old new
+    → HoldsRows width rows (done + 1) new
+one_row_more width rows done old new holds wide more =
+    let four : List (List ℕ) = four_lists more in
+    let all : listed new ≡ listed old ++ four = four_listed more in
+    let before : length (listed old) ≡ 4 * done = listed_length old ∙ holds.size in
+    let row : List ℕ = row_at rows done in
+    record {
+      size = omega (arith, sym (listed_length new), ap length all, length-append (listed old) four, before);
+      whole = more.delta.whole;
+      lists_are = subst (AllByRecursion (IsList width)) (sym all) (all_both (IsList width) (listed old) four holds.lists_are (
+          subst (λ (n : ℕ). AllByRecursion (IsList n) four) wide
+          (more.plain.is_list, (more.runs.is_list, (more.packed.is_list, (more.delta.is_list, tt))))));
+      least = λ y method lt. subst (λ (lists : List (List ℕ)). IsLeastTable method (row_above width rows y) (row_at rows y)
+          (table_of (width + 1) (get_or lists (4 * y + method_code method) []))) (sym all) (elim (cases_lt y done) [
+            | inl earlier ↦
+                let kept : get_or (listed old ++ four) (4 * y + method_code method) [] ≡ get_or (listed old) (4 * y + method_code method) [] =
+                get_or_append_left (listed old) four [] (4 * y + method_code method)
+                (omega (arith, before, earlier, code_below_four method)) in
+                subst (λ (list : List ℕ). IsLeastTable method (row_above width rows y) (row_at rows y) (table_of (width + 1) list))
+                (sym kept) (holds.least y method earlier)
+            | inr le ↦
+                let last : done ≡ y = omega (arith, le, lt) in
+                let place : 4 * y + method_code method - 4 * done ≡ method_code method = omega (arith, last) in
+                let mine : get_or (listed old ++ four) (4 * y + method_code method) [] ≡ get_or four (method_code method) [] =
+                get_or-append_right (listed old) four (4 * done) (4 * y + method_code method) [] before (omega (arith, last))
+                ∙ ap (λ (k : ℕ). get_or four k []) place in
+                subst (λ (list : List ℕ). IsLeastTable method (row_above width rows y) (row_at rows y) (table_of (width + 1) list))
+                (sym mine) (subst (λ (z : ℕ). IsLeastTable method (row_above width rows z) (row_at rows z)
+                (table_of (width + 1) (get_or four (method_code method) []))) last
+                (subst (λ (n : ℕ). IsLeastTable method (row_above width rows done) row (table_of (n + 1) (get_or four (method_code method) [])))
+                wide (four_least more method)))
+          ]);
+    }
+
+-- all rows are there
+pub all_rows : (picture : Picture) (done : ℕ) (lists : Lists) → HoldsRowsOf picture done lists
+    → done ≡ page_height picture.size picture.dpi
+    → AreLeastTables (page_row_bytes picture.size picture.dpi) (bitmap_rows picture) (listed lists)
+all_rows picture done lists holds all =
+    let count : length (bitmap_rows picture) ≡ page_height picture.size picture.dpi =
+    length_rows (page_height picture.size picture.dpi) (page_row_bytes picture.size picture.dpi) picture.bytes in
+    record {
+      size = omega (arith, listed_length lists, holds.size, all, count);
+      lists_are = holds.lists_are;
+      least = λ row method lt. holds.least row method (omega (arith, all, count, lt));
+    }
+
+pub none_yet : (width : ℕ) (rows : List (List ℕ)) (lists : Lists) → lists.bytes.items ≡ [] → lists.starts.items ≡ []
+    → HoldsRows width rows 0 lists
+none_yet width rows lists no_bytes no_starts =
+    let none : listed lists ≡ [] = ap (lists_within lists.bytes.items) no_starts in
+    record {
+      size = ap length no_starts;
+      whole = subst (AllByRecursion (IsListAt lists.bytes.items)) (sym no_starts) tt;
+      lists_are = subst (AllByRecursion (IsList width)) (sym none) tt;
+      least = λ row method lt. absurd (omega (arith, lt));
+    }
