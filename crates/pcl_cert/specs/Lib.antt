@@ -1,0 +1,2 @@
+pub mod TextVerdicts
+pub mod Reading

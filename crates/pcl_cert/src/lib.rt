@@ -3,5 +3,7 @@
 #![tactic(auto)]
 
 mod format;
+mod reading;
 
 pub use format::Format;
+pub use reading::{TextVerdict, read_page_text};
