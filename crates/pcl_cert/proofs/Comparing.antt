@@ -47,6 +47,9 @@ of_parts (row ∷ a) b (first ∷ all) p q =
 
 -- ---- moves one after the other
 
+joined : (a b c : List (List ℕ)) → (a ++ b) ++ c ≡ a ++ (b ++ c)
+joined a b c = simp append_assoc
+
 pub becomes_trans : (size : Size) (dpi : Dpi) (a : Left) (given : List (List ℕ)) (b : Left) (more : List (List ℕ)) (c : Left)
     → Becomes size dpi a given b → Becomes size dpi b more c → Becomes size dpi a (given ++ more) c
 becomes_trans size dpi a given b more c first second = record {
@@ -54,11 +57,11 @@ becomes_trans size dpi a given b more c first second = record {
     let one = first.splits rows p in
     let two = second.splits one.0 one.2 in (
       two.0,
-      one.1 ∙ ap (λ (z : List (List ℕ)). given ++ z) two.1 ∙ sym (append_assoc {xs = given} {ys = more} {zs = two.0}),
+      one.1 ∙ ap (λ (z : List (List ℕ)). given ++ z) two.1 ∙ sym (joined given more two.0),
       two.2,
     );
   joins = λ rows p.
-    subst (IsPrinted size dpi a) (sym (append_assoc {xs = given} {ys = more} {zs = rows})) (first.joins (more ++ rows) (second.joins rows p));
+    subst (IsPrinted size dpi a) (sym (joined given more rows)) (first.joins (more ++ rows) (second.joins rows p));
 }
 
 pub becomes_same : (size : Size) (dpi : Dpi) (a b : Left) → a ≡ b → Becomes size dpi a [] b

@@ -4,3 +4,6 @@ pub mod Fronts
 pub mod Moves
 pub mod Outside
 pub mod Comparing
+pub mod Steps
+pub mod Decimals
+pub mod Beginnings

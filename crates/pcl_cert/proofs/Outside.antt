@@ -22,7 +22,7 @@ opened_by : (size : Size) (dpi : Dpi) (current : Method) (above : List ℕ) (lef
     → AllByRecursion (IsRowOf size dpi) rows → PrintsRows false current above tokens rows
     → IsPrinted size dpi (left_of true current above left rest) rows
 unfolding PrintsRows
-opened_by size dpi current above left rest [] rows e n all p = let same : 98 ≡ 114 = cc in absurd (omega arith)
+opened_by size dpi current above left rest [] rows e n all p = let same : ◌≡◌ {A = ℕ} 98 114 = cc in absurd (omega arith)
 opened_by size dpi current above left rest (opening ∷ tokens) rows e n all p =
     record { count = n; rows_are = all; tokens = tokens; spelled = cc; prints = p }
 opened_by size dpi current above left rest (method spelled next ends ∷ tokens) rows e n all p = absurd p
@@ -72,7 +72,7 @@ ended_by : (size : Size) (dpi : Dpi) (current : Method) (above : List ℕ) (toke
     → PrintsRows false current above tokens rows → rows ≡ white_rows size dpi (length rows)
 unfolding PrintsRows
 ended_by size dpi current above [] rows e all p = all_white size dpi rows all p
-ended_by size dpi current above (opening ∷ tokens) rows e all p = let same : 114 ≡ 98 = cc in absurd (omega arith)
+ended_by size dpi current above (opening ∷ tokens) rows e all p = let same : ◌≡◌ {A = ℕ} 114 98 = cc in absurd (omega arith)
 ended_by size dpi current above (method spelled next ends ∷ tokens) rows e all p = absurd p
 ended_by size dpi current above (skip spelled count ends ∷ tokens) rows e all p = absurd p
 ended_by size dpi current above (send spelled bytes ∷ tokens) rows e all p = absurd p

@@ -42,7 +42,7 @@ pub fn read_parameter(text: &[u8]) -> Option<Parameter<'_>>
 pub fn read_decimal(text: &[u8], letter: u8) -> Option<(u32, &[u8])>
     requires { is_digit letter ≡ false }
     ensures { MatchOption result ((n : ℕ) (rest : List ℕ) → n ≤ 65535 → text.now ≡ decimal n ++ letter ∷ rest → ⊥)
-        (λ found. text.now ≡ decimal found.0 ++ letter ∷ found.1.now) }
+        (λ found. (text.now ≡ decimal found.0 ++ letter ∷ found.1.now) × (found.0 ≤ 65536)) }
 {
     let parameter = read_parameter(text)?;
     let mut shortest = Buffer::new();

@@ -39,10 +39,12 @@ fn raster_start(size: Size, dpi: Dpi) -> &'static [u8]
 {
     match (size, dpi) {
         (Size::Executive, Dpi::Dpi300) => b"0E\x1b*p0x0Y\x1b*t300R\x1b*r2025s0A",
-        (Size::Letter | Size::Legal, Dpi::Dpi300) => b"0E\x1b*p0x0Y\x1b*t300R\x1b*r2400s0A",
+        (Size::Letter, Dpi::Dpi300) => b"0E\x1b*p0x0Y\x1b*t300R\x1b*r2400s0A",
+        (Size::Legal, Dpi::Dpi300) => b"0E\x1b*p0x0Y\x1b*t300R\x1b*r2400s0A",
         (Size::A4, Dpi::Dpi300) => b"0E\x1b*p0x0Y\x1b*t300R\x1b*r2338s0A",
         (Size::Executive, Dpi::Dpi600) => b"0E\x1b*p0x0Y\x1b*t600R\x1b*r4050s0A",
-        (Size::Letter | Size::Legal, Dpi::Dpi600) => b"0E\x1b*p0x0Y\x1b*t600R\x1b*r4800s0A",
+        (Size::Letter, Dpi::Dpi600) => b"0E\x1b*p0x0Y\x1b*t600R\x1b*r4800s0A",
+        (Size::Legal, Dpi::Dpi600) => b"0E\x1b*p0x0Y\x1b*t600R\x1b*r4800s0A",
         (Size::A4, Dpi::Dpi600) => b"0E\x1b*p0x0Y\x1b*t600R\x1b*r4676s0A",
     }
 }
