@@ -7,3 +7,4 @@ pub mod Comparing
 pub mod Steps
 pub mod Decimals
 pub mod Beginnings
+pub mod Painted

@@ -1,9 +1,10 @@
 //! The body of a page text: its sequences, and the rows that they say.
 
-ghost use Rattle.std.specs.Prelude.{◌≡◌, ℕ, ◌≤◌, ◌⊎◌, true, List, length};
+ghost use Rattle.std.specs.Prelude.{◌≡◌, ℕ, ◌≤◌, ◌⊎◌, true, false, List, length};
 ghost use Rattle.pcl_base.specs.declared.size.Size.{Size};
 ghost use Rattle.pcl_base.specs.Size.{page_height, page_row_bytes};
 ghost use Rattle.pcl_bitmap.specs.Bitmap.{Picture};
+ghost use Rattle.pcl_plan.specs.Tokens.{end_bytes};
 ghost use Rattle.pcl_cert.specs.Reading.{IsParameter, IsStep, IsBodyVerdict, IsPaintedRow};
 
 use super::parameter::{Parameter, read_parameter};
@@ -56,6 +57,7 @@ pub fn read_body(sheet: Sheet<'_>, text: &[u8], is_same: bool) -> Option<bool>
 fn step<'a>(sheet: Sheet<'_>, place: Place<'a>, above: &mut [u8]) -> Option<Place<'a>>
     requires row { place.row ≤ page_height sheet.size sheet.bitmap.now.dpi }
     requires above { length above.old ≡ page_row_bytes sheet.size sheet.bitmap.now.dpi }
+    requires goes_on { place.inside ≡ false → place.text.now ≡ end_bytes → ⊥ }
     ensures { IsStep sheet.entry.bitmap.now sheet.entry.size place.entry above.old result above.new }
 {
     if !place.inside {

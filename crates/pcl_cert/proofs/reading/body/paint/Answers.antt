@@ -1,4 +1,17 @@
+use Rattle.std.proofs.Common.{◌≡◌, ℕ, List, length, sym, ap, subst, ◌∙◌, refl, arith}
+use Rattle.pcl_rows.specs.Rows.{Decodes}
+use Rattle.pcl_cert.proofs.Painted.{painted}
 use Rattle.pcl_cert.proofs.reading.body.paint.Goals as goal
 
 pub returns-then-is_whole : goal.returns-then-is_whole
-returns-then-is_whole c = ?
+returns-then-is_whole c =
+    let wide : length c.copy_from_slice.new.self ≡ length c.args.above.now = c.copy_from_slice.auto.self in
+    painted c.args.sheet.size c.args.sheet.bitmap.now.dpi c.args.method c.args.above.now c.args.data.now c.copy_from_slice.new.self
+    c.has_clear_pads.result
+    (record {
+      whole = c.is_whole.ensures.0 c.if-is_whole.true;
+      decodes = subst (Decodes c.args.method c.args.above.now c.args.data.now) (sym c.copy_from_slice.ensures.after) c.decode.ensures;
+      fits = c.requires.fits;
+      width = wide ∙ c.requires.above;
+    })
+    c.has_clear_pads.ensures
