@@ -1,10 +1,10 @@
 -- Rows of a text beside those of a page.
 use Rattle.std.proofs.Common.{◌≡◌, ℕ, zero, suc, ◌+◌, ◌-◌, ◌<◌, ◌≤◌, Bool, true, false, IsTrue, List, [], ◌∷◌, ◌++◌, length, take, drop, replicate, refl, sym, ap, subst, ◌∙◌, append_assoc, arith}
 use Rattle.std.specs.Prelude.{◌↔◌}
-use Rattle.std.proofs.lemmas.List.{length-append}
+use Rattle.std.proofs.lemmas.List.{length-append, length-replicate}
 use Rattle.pcl_base.specs.declared.dpi.Dpi.{Dpi}
 use Rattle.pcl_base.specs.declared.size.Size.{Size}
-use Rattle.pcl_base.specs.Size.{page_height}
+use Rattle.pcl_base.specs.Size.{page_height, page_row_bytes}
 use Rattle.pcl_bitmap.specs.Bitmap.{Picture}
 use Rattle.pcl_plan.specs.Tokens.{end_bytes}
 use Rattle.pcl_plan.specs.PageText.{bitmap_rows}
@@ -138,3 +138,13 @@ read_all picture size text may_be place above outcome read outside ended same =
           ),
       );
     }
+
+-- a test of white rows, by their count
+pub white_test : (picture : Picture) (size : Size) (y n count : ℕ) (test : Bool) → n ≡ count
+    → (IsTrue test ↔ (white_rows size picture.dpi n ≡ take n (drop y (bitmap_rows picture))))
+    → IsTrue test ↔ AreRowsAt picture y (white_rows size picture.dpi count)
+white_test picture size y n count test e says =
+    let white = white_rows size picture.dpi in
+    let many : length (white count) ≡ count = length-replicate count (replicate (page_row_bytes size picture.dpi) 0) in
+    let counted = subst (λ (k : ℕ). IsTrue test ↔ (white k ≡ take k (drop y (bitmap_rows picture)))) e says in
+    subst (λ (k : ℕ). IsTrue test ↔ (white count ≡ take k (drop y (bitmap_rows picture)))) (sym many) counted

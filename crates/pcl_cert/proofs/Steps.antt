@@ -20,6 +20,7 @@ use Rattle.pcl_cert.specs.declared.reading.body.Place.{Place}
 use Rattle.pcl_cert.specs.declared.reading.parameter.Parameter.{Parameter}
 use Rattle.pcl_cert.specs.Reading.{Left, IsParameter, IsPrinted, Becomes, left_at, AreRowsAt, Leads, IsStep}
 use Rattle.pcl_cert.proofs.Fronts.{sign, left_of, white_rows}
+use Rattle.pcl_cert.proofs.Outside.{opening_bytes, opening_becomes}
 use Rattle.pcl_cert.proofs.Moves.{Told, with_code, no_method, no_skip, no_send, method_becomes, skip_becomes, send_becomes}
 
 pub told : (picture : Picture) (size : Size) (above : List ℕ) (place : Place) (parameter : Parameter) → place.inside ≡ true
@@ -121,7 +122,7 @@ heights Letter Dpi600 = lit≤ tt
 heights Legal Dpi600 = lit≤ tt
 heights A4 Dpi600 = lit≤ tt
 
-becomes_to : (size : Size) (dpi : Dpi) (old : Left) (given : List (List ℕ)) (inside outcome : Bool) (current : Method)
+pub becomes_to : (size : Size) (dpi : Dpi) (old : Left) (given : List (List ℕ)) (inside outcome : Bool) (current : Method)
     (above below : List ℕ) (rows left : ℕ) (text : List ℕ) → inside ≡ outcome → above ≡ below → rows ≡ left
     → Becomes size dpi old given (left_of inside current above rows text) → Becomes size dpi old given (left_of outcome current below left text)
 becomes_to size dpi old given inside outcome current above below rows left text i a r b =
@@ -246,3 +247,29 @@ sent picture size above below place parameter bytes more is_same inside is lette
       },
       omega (arith, fewer, ap length parts, length-append bytes more.now),
     )
+
+-- ---- outside a sequence, and what no letter is
+
+pub neither_letter : (capital byte : ℕ) → (byte ≡ capital → ⊥) → (byte ≡ capital + 32 → ⊥) → (ends : Bool) → byte ≡ sign capital ends → ⊥
+neither_letter capital byte large small true e = large e
+neither_letter capital byte large small false e = small e
+
+pub opened : (picture : Picture) (size : Size) (above : List ℕ) (place : Place) (rest : Bor (List ℕ)) → place.inside ≡ false
+    → place.text.now ≡ opening_bytes ++ rest.now → place.row ≤ page_height size picture.dpi
+    → IsStep picture size place above (Some record {
+      text = rest;
+      row = place.row;
+      method = place.method;
+      inside = true;
+      is_same = place.is_same;
+    }) above
+opened picture size above place rest outside e within = (
+  record {
+    given = [];
+    becomes = opening_becomes size picture.dpi (left_at size picture.dpi place above) rest.now outside e;
+    row_is = omega arith;
+    within = within;
+    same = (λ yes. (yes, refl), λ h. h.0);
+  },
+  omega (arith, ap length e, length-append opening_bytes rest.now),
+)
