@@ -8,3 +8,4 @@ pub mod Steps
 pub mod Decimals
 pub mod Beginnings
 pub mod Painted
+pub mod Verdicts
