@@ -1,5 +1,5 @@
 -- Rows of a text beside those of a page.
-use Rattle.std.proofs.Common.{◌≡◌, ℕ, zero, suc, ◌+◌, ◌-◌, ◌<◌, ◌≤◌, Bool, true, false, IsTrue, List, [], ◌∷◌, ◌++◌, length, take, drop, replicate, refl, sym, ap, subst, ◌∙◌, append_assoc, arith}
+use Rattle.std.proofs.Common.{◌≡◌, ℕ, ◌-◌, ◌≤◌, Bool, true, false, IsTrue, List, [], ◌∷◌, ◌++◌, length, take, drop, replicate, refl, sym, ap, subst, ◌∙◌, append_assoc, arith}
 use Rattle.std.specs.Prelude.{◌↔◌}
 use Rattle.std.proofs.lemmas.List.{length-append, length-replicate}
 use Rattle.pcl_base.specs.declared.dpi.Dpi.{Dpi}
@@ -54,20 +54,22 @@ pub becomes_trans : (size : Size) (dpi : Dpi) (a : Left) (given : List (List ℕ
     → Becomes size dpi a given b → Becomes size dpi b more c → Becomes size dpi a (given ++ more) c
 becomes_trans size dpi a given b more c first second = record {
   splits = λ rows p.
-    let one = first.splits rows p in
-    let two = second.splits one.0 one.2 in (
-      two.0,
-      one.1 ∙ ap (λ (z : List (List ℕ)). given ++ z) two.1 ∙ sym (joined given more two.0),
-      two.2,
-    );
+      let one = first.splits rows p in
+      let two = second.splits one.0 one.2 in (
+        two.0,
+        one.1 ∙ ap (λ (z : List (List ℕ)). given ++ z) two.1 ∙ sym (joined given more two.0),
+        two.2,
+      );
   joins = λ rows p.
-    subst (IsPrinted size dpi a) (sym (joined given more rows)) (first.joins (more ++ rows) (second.joins rows p));
+      subst (IsPrinted size dpi a) (sym (joined given more rows)) (first.joins (more ++ rows) (second.joins rows p));
 }
 
 pub becomes_same : (size : Size) (dpi : Dpi) (a b : Left) → a ≡ b → Becomes size dpi a [] b
 becomes_same size dpi a b e =
-    record { splits = λ rows p. (rows, refl, subst (λ (z : Left). IsPrinted size dpi z rows) e p);
-      joins = λ rows p. subst (λ (z : Left). IsPrinted size dpi z rows) (sym e) p }
+    record {
+      splits = λ rows p. (rows, refl, subst (λ (z : Left). IsPrinted size dpi z rows) e p);
+      joins = λ rows p. subst (λ (z : Left). IsPrinted size dpi z rows) (sym e) p;
+    }
 
 -- a body read to some place, and the comparison so far
 pub record IsReadTo (picture : Picture) (size : Size) (text : List ℕ) (may_be : Bool) (place : Place) (above : List ℕ) : Type 0 where
@@ -91,18 +93,17 @@ read_on picture size text may_be place above next below read leads =
       within = leads.within;
       same = (
         λ yes.
-          let now = leads.same.0 yes in
-          let before = read.same.0 now.0 in
-          let later : leads.given ≡ take (length leads.given) (drop (length read.given) all) =
-          subst (λ (y : ℕ). leads.given ≡ take (length leads.given) (drop y all)) place_is now.1 in
-          (before.0, of_parts read.given leads.given all before.1 later),
+            let now = leads.same.0 yes in
+            let before = read.same.0 now.0 in
+            let later : leads.given ≡ take (length leads.given) (drop (length read.given) all) =
+            subst (λ (y : ℕ). leads.given ≡ take (length leads.given) (drop y all)) place_is now.1 in
+            (before.0, of_parts read.given leads.given all before.1 later),
         λ h.
-          let parts = parts_of read.given leads.given all h.1 in
-          leads.same.1
-          (
-            read.same.1 (h.0, parts.0),
-            subst (λ (y : ℕ). leads.given ≡ take (length leads.given) (drop y all)) (sym place_is) parts.1,
-          ),
+            let parts = parts_of read.given leads.given all h.1 in
+            leads.same.1 (
+              read.same.1 (h.0, parts.0),
+              subst (λ (y : ℕ). leads.given ≡ take (length leads.given) (drop y all)) (sym place_is) parts.1,
+            ),
       );
     }
 
@@ -120,22 +121,21 @@ read_all picture size text may_be place above outcome read outside ended same =
       rows = read.given ++ white;
       printed = read.becomes.joins white (end_prints size picture.dpi left outside ended);
       only = λ other p.
-        let parts = read.becomes.splits other p in
-        parts.1 ∙ ap (λ (z : List (List ℕ)). read.given ++ z) (end_only size picture.dpi left parts.0 outside ended parts.2);
+          let parts = read.becomes.splits other p in
+          parts.1 ∙ ap (λ (z : List (List ℕ)). read.given ++ z) (end_only size picture.dpi left parts.0 outside ended parts.2);
       same = (
         λ yes.
-          let now = same.0 yes in
-          let before = read.same.0 now.0 in
-          let later : white ≡ take (length white) (drop (length read.given) all) =
-          subst (λ (y : ℕ). white ≡ take (length white) (drop y all)) read.row_is now.1 in
-          (before.0, of_parts read.given white all before.1 later),
+            let now = same.0 yes in
+            let before = read.same.0 now.0 in
+            let later : white ≡ take (length white) (drop (length read.given) all) =
+            subst (λ (y : ℕ). white ≡ take (length white) (drop y all)) read.row_is now.1 in
+            (before.0, of_parts read.given white all before.1 later),
         λ h.
-          let parts = parts_of read.given white all h.1 in
-          same.1
-          (
-            read.same.1 (h.0, parts.0),
-            subst (λ (y : ℕ). white ≡ take (length white) (drop y all)) (sym read.row_is) parts.1,
-          ),
+            let parts = parts_of read.given white all h.1 in
+            same.1 (
+              read.same.1 (h.0, parts.0),
+              subst (λ (y : ℕ). white ≡ take (length white) (drop y all)) (sym read.row_is) parts.1,
+            ),
       );
     }
 

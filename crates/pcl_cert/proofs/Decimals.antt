@@ -1,11 +1,11 @@
 -- Numbers at the front of a text.
-use Rattle.std.proofs.Common.{◌≡◌, ℕ, ◌+◌, ◌<◌, ◌≤◌, ◌^◌, ◌⊎◌, ◌==◌, min, Bool, true, false, List, [], ◌∷◌, ◌++◌, length, take, drop, Option, Some, None, refl, sym, ap, subst, ◌∙◌, arith, lit<}
+use Rattle.std.proofs.Common.{◌≡◌, ℕ, ◌≤◌, false, List, [], ◌∷◌, ◌++◌, length, take, drop, refl, sym, ap, subst, ◌∙◌, arith}
 use Rattle.std.specs.Prelude.{decimal}
 use Rattle.std.specs.List.{prefix_len}
 use Rattle.std.proofs.lemmas.List.{append-nil}
 use Rattle.pcl_escape.specs.Field.{is_digit, number_of}
 use Rattle.pcl_escape.specs.Pieces.{AreDigits}
-use Rattle.pcl_escape.proofs.Fronts.{IsFront, StopsAt, front_split}
+use Rattle.pcl_escape.proofs.Fronts.{StopsAt, front_split}
 use Rattle.pcl_plan.proofs.Numbers.{decimal_spelled}
 use Rattle.pcl_cert.specs.declared.reading.parameter.Parameter.{Parameter}
 use Rattle.pcl_cert.specs.Reading.{IsParameter}

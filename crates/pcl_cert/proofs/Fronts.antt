@@ -11,7 +11,7 @@ use Rattle.pcl_base.specs.Size.{page_row_bytes}
 use Rattle.pcl_escape.specs.Field.{is_digit, number_of}
 use Rattle.pcl_escape.specs.Pieces.{AreDigits}
 use Rattle.pcl_rows.specs.Rows.{IsRowData}
-use Rattle.pcl_plan.specs.Tokens.{Token, opening, method, skip, send, letter, token_bytes, IsWhite, AreWhite, PrintsRows, end_bytes}
+use Rattle.pcl_plan.specs.Tokens.{Token, opening, method, skip, send, letter, token_bytes, AreWhite, PrintsRows, end_bytes}
 use Rattle.pcl_plan.specs.PageText.{IsRowOf}
 use Rattle.pcl_plan.proofs.Walking.{white_is_zeros}
 use Rattle.pcl_cert.specs.Reading.{Left, IsPrinted}

@@ -1,22 +1,22 @@
 -- From what is left before a token to what is left behind it.
-use Rattle.std.proofs.Common.{◌≡◌, ℕ, zero, suc, ◌+◌, ◌-◌, ◌/◌, ◌%◌, ◌^◌, ◌<◌, ◌≤◌, ◌==◌, Bool, true, false, List, [], ◌∷◌, ◌++◌, length, take, drop, replicate, Option, Some, None, refl, sym, ap, subst, ◌∙◌, append_assoc, arith}
+use Rattle.std.proofs.Common.{◌≡◌, ℕ, zero, suc, ◌-◌, ◌/◌, ◌%◌, ◌<◌, ◌≤◌, Bool, true, false, List, [], ◌∷◌, ◌++◌, length, take, drop, replicate, Some, refl, sym, ap, subst, ◌∙◌, arith}
 use Rattle.std.specs.Prelude.{not, slice_index}
 use Rattle.std.specs.List.{flat_map, AllByRecursion}
-use Rattle.std.proofs.lemmas.List.{length-drop, length-append, length-replicate, take_at, drop_at}
+use Rattle.std.proofs.lemmas.List.{length-append, length-replicate, take_at, drop_at}
 use Rattle.std.proofs.Math.Nat.{zero-div}
 use Rattle.pcl_base.specs.declared.dpi.Dpi.{Dpi}
 use Rattle.pcl_base.specs.declared.method.Method.{Method}
 use Rattle.pcl_base.specs.declared.method.Method.TheVariants.{Plain, Runs, Packed, Delta}
 use Rattle.pcl_base.specs.declared.size.Size.{Size}
 use Rattle.pcl_base.specs.Method.{method_code, method_with_code}
-use Rattle.pcl_base.specs.Size.{page_width, page_row_bytes}
+use Rattle.pcl_base.specs.Size.{page_row_bytes}
 use Rattle.pcl_bitmap.specs.Bitmap.{bit_of_byte, dot_of_row}
 use Rattle.pcl_escape.specs.Field.{is_digit, number_of}
 use Rattle.pcl_escape.specs.Pieces.{AreDigits}
 use Rattle.pcl_rows.specs.Rows.{IsRowData}
 use Rattle.pcl_rows.proofs.Decoded.{decoded_is}
 use Rattle.pcl_rows.specs.Decoding.{decoded}
-use Rattle.pcl_plan.specs.Tokens.{Token, opening, method, skip, send, letter, token_bytes, IsWhite, AreWhite, PrintsRows, end_bytes}
+use Rattle.pcl_plan.specs.Tokens.{Token, opening, method, skip, send, token_bytes, IsWhite, AreWhite, PrintsRows, end_bytes}
 use Rattle.pcl_plan.specs.PageText.{IsRowOf}
 use Rattle.pcl_plan.proofs.Walking.{white_is_zeros}
 use Rattle.pcl_cert.specs.Reading.{Left, IsPrinted, Becomes}
@@ -117,7 +117,7 @@ pub method_becomes : (size : Size) (dpi : Dpi) (left : Left) (digits : List ℕ)
 unfolding PrintsRows
 method_becomes size dpi left digits byte rest next ends told b n = record {
   splits = λ rows printed. elim (front_at size dpi left digits byte rest rows told printed) [
-    is_method other last c m p ↦ (
+    | is_method other last c m p ↦ (
       rows,
       refl,
       subst (λ (z : Method). IsPrinted size dpi (left_of (not ends) z left.above left.rows rest) rows)
@@ -149,37 +149,37 @@ pub skip_becomes : (size : Size) (dpi : Dpi) (left : Left) (digits : List ℕ) (
 unfolding PrintsRows
 skip_becomes size dpi left digits byte rest ends told b some few = record {
   splits = λ rows printed. elim (front_at size dpi left digits byte rest rows told printed) [
-    is_method other last c m p ↦ absurd (letters_77_89 last ends (sym c ∙ b))
+    | is_method other last c m p ↦ absurd (letters_77_89 last ends (sym c ∙ b))
     | is_skip last others c positive within r p ↦ (
       others,
       r,
       subst (λ (z : Bool). IsPrinted size dpi
-      (left_of (not z) left.method (replicate (length left.above) 0) (left.rows - number_of digits) rest) others)
+          (left_of (not z) left.method (replicate (length left.above) 0) (left.rows - number_of digits) rest) others)
           (same_case 89 last ends (sym c ∙ b)) p,
     )
     | is_send bytes more first others c m r positive f row row_data p ↦ absurd (letters_89_87 ends (sym b ∙ c))
   ];
   joins = λ rows printed.
-    let count = number_of digits in
-    let white = white_rows size dpi count in
-    let many : length white ≡ count = length-replicate count (replicate (page_row_bytes size dpi) 0) in
-    let all : length (white ++ rows) ≡ left.rows = omega (arith, length-append white rows, many, printed.count) in
-    let behind : PrintsRows (not ends) left.method (replicate (length left.above) 0) printed.tokens (drop count (white ++ rows)) =
-    subst (λ (rs : List (List ℕ)). PrintsRows (not ends) left.method (replicate (length left.above) 0) printed.tokens rs)
-    (sym (drop_at white rows count many)) printed.prints in
-    let are_white : AreWhite (take count (white ++ rows)) = subst AreWhite (sym (take_at white rows count many)) (rows_white size dpi count) in
-    let within : count ≤ length (white ++ rows) = omega (arith, all, few) in
-    record {
-      count = all;
-      rows_are = white_before size dpi count rows printed.rows_are;
-      tokens = skip digits count ends ∷ printed.tokens;
-      spelled = spelled_by left.text digits byte rest (sign 89 ends) [] (flat_map token_bytes printed.tokens) end_bytes told.text b
-          printed.spelled
-          ∙ ap (λ (l : List ℕ). ((digits ++ l) ++ flat_map token_bytes printed.tokens) ++ end_bytes) (sym (letter_is 89 ends));
-      prints = subst (λ (i : Bool). PrintsRows i left.method left.above (skip digits count ends ∷ printed.tokens) (white ++ rows))
-          (sym told.inside)
-          ((told.are_digits, refl), some, within, are_white, behind);
-    };
+      let count = number_of digits in
+      let white = white_rows size dpi count in
+      let many : length white ≡ count = length-replicate count (replicate (page_row_bytes size dpi) 0) in
+      let all : length (white ++ rows) ≡ left.rows = omega (arith, length-append white rows, many, printed.count) in
+      let behind : PrintsRows (not ends) left.method (replicate (length left.above) 0) printed.tokens (drop count (white ++ rows)) =
+      subst (λ (rs : List (List ℕ)). PrintsRows (not ends) left.method (replicate (length left.above) 0) printed.tokens rs)
+      (sym (drop_at white rows count many)) printed.prints in
+      let are_white : AreWhite (take count (white ++ rows)) = subst AreWhite (sym (take_at white rows count many)) (rows_white size dpi count) in
+      let within : count ≤ length (white ++ rows) = omega (arith, all, few) in
+      record {
+        count = all;
+        rows_are = white_before size dpi count rows printed.rows_are;
+        tokens = skip digits count ends ∷ printed.tokens;
+        spelled = spelled_by left.text digits byte rest (sign 89 ends) [] (flat_map token_bytes printed.tokens) end_bytes told.text b
+            printed.spelled
+            ∙ ap (λ (l : List ℕ). ((digits ++ l) ++ flat_map token_bytes printed.tokens) ++ end_bytes) (sym (letter_is 89 ends));
+        prints = subst (λ (i : Bool). PrintsRows i left.method left.above (skip digits count ends ∷ printed.tokens) (white ++ rows))
+            (sym told.inside)
+            ((told.are_digits, refl), some, within, are_white, behind);
+      };
 }
 
 -- ---- a row that is sent
@@ -191,22 +191,22 @@ pub send_becomes : (size : Size) (dpi : Dpi) (left : Left) (digits : List ℕ) (
 unfolding PrintsRows
 send_becomes size dpi left digits byte rest bytes more first told b n parts some is_row is_data = record {
   splits = λ rows printed. elim (front_at size dpi left digits byte rest rows told printed) [
-    is_method other last c m p ↦ absurd (letters_77_87 last (sym c ∙ b))
+    | is_method other last c m p ↦ absurd (letters_77_87 last (sym c ∙ b))
     | is_skip last others c positive within r p ↦ absurd (letters_89_87 last (sym c ∙ b))
     | is_send sent behind painted others c m r positive f row row_data p ↦
-      let joined : bytes ++ more ≡ sent ++ behind = sym parts ∙ r in
-      let len : length bytes ≡ length sent = sym n ∙ m in
-      let same : sent ≡ bytes = sym (take_at sent behind (length sent) refl) ∙ ap (take (length sent)) (sym joined)
-      ∙ take_at bytes more (length sent) len in
-      let same_rest : behind ≡ more = sym (drop_at sent behind (length sent) refl) ∙ ap (drop (length sent)) (sym joined)
-      ∙ drop_at bytes more (length sent) len in
-      let same_row : painted ≡ first = decoded_is left.method left.above sent painted row_data.decodes
-      ∙ ap (decoded left.method left.above) same ∙ sym (decoded_is left.method left.above bytes first is_data.decodes) in (
-        others,
-        f ∙ ap (λ (z : List ℕ). z ∷ others) same_row,
-        subst (λ (z : List ℕ). IsPrinted size dpi (left_of false left.method first (left.rows - 1) z) others) same_rest
-            (subst (λ (z : List ℕ). IsPrinted size dpi (left_of false left.method z (left.rows - 1) behind) others) same_row p),
-      )
+        let joined : bytes ++ more ≡ sent ++ behind = sym parts ∙ r in
+        let len : length bytes ≡ length sent = sym n ∙ m in
+        let same : sent ≡ bytes = sym (take_at sent behind (length sent) refl) ∙ ap (take (length sent)) (sym joined)
+        ∙ take_at bytes more (length sent) len in
+        let same_rest : behind ≡ more = sym (drop_at sent behind (length sent) refl) ∙ ap (drop (length sent)) (sym joined)
+        ∙ drop_at bytes more (length sent) len in
+        let same_row : painted ≡ first = decoded_is left.method left.above sent painted row_data.decodes
+        ∙ ap (decoded left.method left.above) same ∙ sym (decoded_is left.method left.above bytes first is_data.decodes) in (
+          others,
+          f ∙ ap (λ (z : List ℕ). z ∷ others) same_row,
+          subst (λ (z : List ℕ). IsPrinted size dpi (left_of false left.method first (left.rows - 1) z) others) same_rest
+              (subst (λ (z : List ℕ). IsPrinted size dpi (left_of false left.method z (left.rows - 1) behind) others) same_row p),
+        )
   ];
   joins = λ rows printed. record {
     count = omega (arith, printed.count);
@@ -227,7 +227,7 @@ pub no_method : (size : Size) (dpi : Dpi) (left : Left) (digits : List ℕ) (byt
     → Told left digits byte rest → byte ≡ sign 77 ends → ((next : Method) → number_of digits ≡ method_code next → ⊥)
     → IsPrinted size dpi left rows → ⊥
 no_method size dpi left digits byte rest ends rows told b none printed = elim (front_at size dpi left digits byte rest rows told printed) [
-  is_method other last c m p ↦ none other m
+  | is_method other last c m p ↦ none other m
   | is_skip last others c some few r p ↦ letters_77_89 ends last (sym b ∙ c)
   | is_send bytes more first others c m r some f row row_data p ↦ letters_77_87 ends (sym b ∙ c)
 ]
@@ -237,7 +237,7 @@ pub no_skip : (size : Size) (dpi : Dpi) (left : Left) (digits : List ℕ) (byte 
     → Told left digits byte rest → byte ≡ sign 89 ends → (0 < number_of digits → number_of digits ≤ left.rows → ⊥)
     → IsPrinted size dpi left rows → ⊥
 no_skip size dpi left digits byte rest ends rows told b none printed = elim (front_at size dpi left digits byte rest rows told printed) [
-  is_method other last c m p ↦ letters_77_89 last ends (sym c ∙ b)
+  | is_method other last c m p ↦ letters_77_89 last ends (sym c ∙ b)
   | is_skip last others c some few r p ↦ none some few
   | is_send bytes more first others c m r some f row row_data p ↦ letters_89_87 ends (sym b ∙ c)
 ]
@@ -249,7 +249,7 @@ pub no_send : (size : Size) (dpi : Dpi) (left : Left) (digits : List ℕ) (byte 
     → IsRowData left.method left.above first bytes → ⊥)
     → IsPrinted size dpi left rows → ⊥
 no_send size dpi left digits byte rest rows told b none printed = elim (front_at size dpi left digits byte rest rows told printed) [
-  is_method other last c m p ↦ letters_77_87 last (sym c ∙ b)
+  | is_method other last c m p ↦ letters_77_87 last (sym c ∙ b)
   | is_skip last others c some few r p ↦ letters_89_87 last (sym c ∙ b)
   | is_send bytes more first others c m r some f row row_data p ↦ none bytes more first m r some row row_data
 ]
@@ -259,7 +259,7 @@ pub no_letter : (size : Size) (dpi : Dpi) (left : Left) (digits : List ℕ) (byt
     → Told left digits byte rest → ((ends : Bool) → byte ≡ sign 77 ends → ⊥) → ((ends : Bool) → byte ≡ sign 89 ends → ⊥) → (byte ≡ 87 → ⊥)
     → IsPrinted size dpi left rows → ⊥
 no_letter size dpi left digits byte rest rows told m y w printed = elim (front_at size dpi left digits byte rest rows told printed) [
-  is_method other last c n p ↦ m last c
+  | is_method other last c n p ↦ m last c
   | is_skip last others c some few r p ↦ y last c
   | is_send bytes more first others c n r some f row row_data p ↦ w c
 ]

@@ -1,12 +1,12 @@
 -- A row that data paint.
-use Rattle.std.proofs.Common.{◌≡◌, ℕ, ◌≤◌, Bool, true, false, IsTrue, List, length, refl, sym, ap, subst, ◌∙◌}
+use Rattle.std.proofs.Common.{◌≡◌, ℕ, ◌≤◌, Bool, true, false, IsTrue, List, length, refl, sym, subst, ◌∙◌}
 use Rattle.std.specs.Prelude.{◌↔◌}
 use Rattle.pcl_base.specs.declared.dpi.Dpi.{Dpi}
 use Rattle.pcl_base.specs.declared.method.Method.{Method}
 use Rattle.pcl_base.specs.declared.size.Size.{Size}
 use Rattle.pcl_base.specs.Size.{page_width, page_row_bytes}
 use Rattle.pcl_bitmap.specs.Bitmap.{dot_of_row}
-use Rattle.pcl_rows.specs.Rows.{Decodes, IsWhole, IsRowData}
+use Rattle.pcl_rows.specs.Rows.{Decodes, IsWhole}
 use Rattle.pcl_rows.proofs.Decoded.{decoded_is}
 use Rattle.pcl_cert.specs.Reading.{IsPaintedRow}
 

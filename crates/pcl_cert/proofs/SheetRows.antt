@@ -1,11 +1,10 @@
 -- Rows of a page beside rows of a text.
-use Rattle.std.proofs.Common.{◌≡◌, ℕ, zero, suc, ◌+◌, ◌-◌, ◌*◌, ◌<◌, ◌≤◌, List, [], ◌∷◌, ◌++◌, length, take, drop, replicate, refl, sym, ap, subst, ◌∙◌, arith, add-one}
+use Rattle.std.proofs.Common.{◌≡◌, ℕ, zero, suc, ◌<◌, ◌≤◌, List, [], ◌∷◌, length, take, drop, replicate, refl, ap, ◌∙◌, arith}
 use Rattle.std.specs.Prelude.{All}
 use Rattle.std.proofs.lemmas.List.{get_or-replicate, length-replicate}
-use Rattle.std.specs.List.{AllByRecursion}
 use Rattle.pcl_base.specs.Size.{page_height, page_row_bytes}
 use Rattle.pcl_bitmap.specs.Bitmap.{Picture, row_of}
-use Rattle.pcl_plan.specs.PageText.{bitmap_rows, rows_from}
+use Rattle.pcl_plan.specs.PageText.{bitmap_rows}
 use Rattle.pcl_plan.proofs.RowsFrom.{rows_at, no_rows}
 
 -- row y of a page is the first of those from it on

@@ -1,6 +1,5 @@
 -- Bytes that pass a test with another one behind them: they can be told in one way.
-use Rattle.std.proofs.Common.{◌≡◌, ℕ, ◌≤◌, ◌^◌, Bool, true, false, List, [], ◌∷◌, ◌++◌, take, length, drop, refl, sym, ap, subst, ◌∙◌, arith}
-use Rattle.std.specs.List.{prefix_len, AllByRecursion}
+use Rattle.std.proofs.Common.{◌≡◌, ℕ, Bool, true, false, List, [], ◌∷◌, ◌++◌, refl, ap}
 use Rattle.pcl_escape.proofs.Fronts.{Pass}
 
 pub one_split : (test : ℕ → Bool) (a b : List ℕ) (c d : ℕ) (x y : List ℕ) → Pass test a → Pass test b → test c ≡ false → test d ≡ false

@@ -18,7 +18,7 @@ use Rattle.pcl_plan.specs.PageText.{IsRowOf, bitmap_rows}
 use Rattle.pcl_rows.specs.Rows.{IsRowData}
 use Rattle.pcl_cert.specs.declared.reading.body.Place.{Place}
 use Rattle.pcl_cert.specs.declared.reading.parameter.Parameter.{Parameter}
-use Rattle.pcl_cert.specs.Reading.{Left, IsParameter, IsPrinted, Becomes, left_at, AreRowsAt, Leads, IsStep}
+use Rattle.pcl_cert.specs.Reading.{Left, IsParameter, IsPrinted, Becomes, left_at, AreRowsAt, IsStep}
 use Rattle.pcl_cert.proofs.Fronts.{sign, left_of, white_rows}
 use Rattle.pcl_cert.proofs.Outside.{opening_bytes, opening_becomes}
 use Rattle.pcl_cert.proofs.Moves.{Told, with_code, no_method, no_skip, no_send, method_becomes, skip_becomes, send_becomes}
@@ -76,10 +76,10 @@ no_switch picture size above place parameter inside is letter none = λ rows pri
     no_method size picture.dpi (left_at size picture.dpi place above) parameter.digits.now parameter.letter parameter.rest.now signed.0 rows
     (told picture size above place parameter inside is) signed.1
     (λ next e.
-      let le = few_codes next in
-      let number : parameter.number ≡ method_code next = omega (arith, is.number_is) in
-      let some : Some next ≡ None = sym (with_code next) ∙ ap method_with_code (sym number) ∙ none in
-      absurd cc)
+    let le = few_codes next in
+    let number : parameter.number ≡ method_code next = omega (arith, is.number_is) in
+    let some : Some next ≡ None = sym (with_code next) ∙ ap method_with_code (sym number) ∙ none in
+    absurd cc)
     printed
 
 pub switched : (picture : Picture) (size : Size) (above : List ℕ) (place : Place) (parameter : Parameter) (next : Method)
@@ -197,10 +197,10 @@ few_bytes picture size above place parameter inside is letter none = λ rows pri
     no_send size picture.dpi (left_at size picture.dpi place above) parameter.digits.now parameter.letter parameter.rest.now rows
     (told picture size above place parameter inside is) letter
     (λ bytes more first n parts some row row_data.
-      let fits = row_data.fits in
-      let number : parameter.number ≡ length bytes = omega (arith, is.number_is, n) in
-      let lacks = none (omega (arith, number)) in
-      omega (arith, lacks, number, ap length parts, length-append bytes more))
+    let fits = row_data.fits in
+    let number : parameter.number ≡ length bytes = omega (arith, is.number_is, n) in
+    let lacks = none (omega (arith, number)) in
+    omega (arith, lacks, number, ap length parts, length-append bytes more))
     printed
 
 pub no_row : (picture : Picture) (size : Size) (above : List ℕ) (place : Place) (parameter : Parameter) (bytes more : List ℕ)
@@ -214,8 +214,8 @@ no_row picture size above place parameter bytes more rows inside is letter le n 
     no_send size picture.dpi (left_at size picture.dpi place above) parameter.digits.now parameter.letter parameter.rest.now rows
     (told picture size above place parameter inside is) letter
     (λ sent behind first m joined some row row_data.
-      let same = same_bytes sent bytes behind more (sym joined ∙ parts) (omega (arith, is.number_is, m, n)) in
-      none some first row (subst (λ (z : List ℕ). IsRowData place.method above first z) same.0 row_data))
+    let same = same_bytes sent bytes behind more (sym joined ∙ parts) (omega (arith, is.number_is, m, n)) in
+    none some first row (subst (λ (z : List ℕ). IsRowData place.method above first z) same.0 row_data))
     printed
 
 pub sent : (picture : Picture) (size : Size) (above below : List ℕ) (place : Place) (parameter : Parameter) (bytes : List ℕ)

@@ -1,6 +1,6 @@
 -- Page texts by their begin and their body.
-use Rattle.std.proofs.Common.{◌≡◌, ℕ, ◌<◌, ◌≤◌, Bool, true, false, IsTrue, List, [], ◌∷◌, ◌++◌, length, take, drop, replicate, Option, Some, None, refl, sym, ap, subst, ◌∙◌, append_assoc, arith}
-use Rattle.std.specs.Prelude.{◌↔◌, decimal}
+use Rattle.std.proofs.Common.{◌≡◌, ℕ, ◌<◌, Bool, true, false, IsTrue, List, ◌++◌, length, take, Some, None, refl, sym, ap, subst, ◌∙◌, append_assoc, arith}
+use Rattle.std.specs.Prelude.{◌↔◌}
 use Rattle.std.specs.List.{flat_map}
 use Rattle.std.proofs.lemmas.List.{take_all, append_cancel_left}
 use Rattle.pcl_base.specs.declared.dpi.Dpi.{Dpi}
@@ -10,14 +10,13 @@ use Rattle.pcl_base.specs.contracts.size.Size.{the_type}
 use denote.Enum.Bare.{sameb}
 use Rattle.pcl_base.specs.Size.{page_height, page_row_bytes, code_of, size_with_code}
 use Rattle.pcl_bitmap.specs.Bitmap.{Picture}
-use Rattle.pcl_page.specs.declared.page.Page.{Page}
 use Rattle.pcl_plan.specs.Tokens.{token_bytes, start_bytes, end_bytes}
-use Rattle.pcl_plan.specs.PageText.{IsPageText, PrintsPage, bitmap_rows}
+use Rattle.pcl_plan.specs.PageText.{IsPageText, bitmap_rows}
 use Rattle.pcl_plan.proofs.RowsFrom.{length_rows}
 use Rattle.pcl_cert.specs.declared.reading.start.Start.{Start}
-use Rattle.pcl_cert.specs.Reading.{IsStart, IsPrinted, body_of, IsBodyVerdict, IsOnlyPrinted, raster_start}
+use Rattle.pcl_cert.specs.Reading.{IsStart, IsPrinted, body_of, IsBodyVerdict, raster_start}
 use Rattle.pcl_cert.specs.TextVerdicts.{IsSomePageText}
-use Rattle.pcl_cert.proofs.Beginnings.{first_bytes, start_is, code_small, size_coded, size_read, IsSize}
+use Rattle.pcl_cert.proofs.Beginnings.{start_is, code_small, size_coded, size_read, IsSize}
 
 -- ---- a begin and a body
 

@@ -59,7 +59,7 @@ impl Sheet<'_> {
         requires { y + count < 2 ^ 32 }
         ensures { IsTrue result
             ↔ (replicate count (replicate (page_row_bytes self.now.size self.now.bitmap.now.dpi) 0)
-                ≡ take count (drop y (bitmap_rows self.now.bitmap.now))) }
+            ≡ take count (drop y (bitmap_rows self.now.bitmap.now))) }
     {
         for row in y..y + count {
             if !self.has_white_row(row) {
@@ -73,7 +73,7 @@ impl Sheet<'_> {
     fn has_white_row(&self, y: u32) -> bool
         ensures { IsTrue result
             ↔ (replicate (page_row_bytes self.now.size self.now.bitmap.now.dpi) 0 ∷ []
-                ≡ take 1 (drop y (bitmap_rows self.now.bitmap.now))) }
+            ≡ take 1 (drop y (bitmap_rows self.now.bitmap.now))) }
     {
         if y >= self.page_height() {
             return false;

@@ -1,4 +1,4 @@
-use Rattle.std.proofs.Common.{◌≡◌, ◌==◌, ℕ, List, Bool, true, false, IsTrue, Some, None, sym, ap, subst, ◌∙◌, refl, arith}
+use Rattle.std.proofs.Common.{◌≡◌, ◌==◌, ℕ, List, Bool, true, false, Some, sym, ap, subst, ◌∙◌}
 use Rattle.pcl_base.specs.declared.dpi.Dpi.{Dpi}
 use Rattle.pcl_base.specs.declared.size.Size.{Size}
 use Rattle.pcl_page.specs.declared.page.Page.{Page}
@@ -55,8 +55,8 @@ returns-in-Some-true c =
     let text = c.args.text.now in
     let start = c.in-Some.start in
     let may : MayBe page.bitmap page.copies start c.if-eq.is_same = elim c.if-eq.branch [
-      then-eq w ↦ may_by_copies page start c.eq.result c.if-eq.is_same c.eq.ensures w.if-eq.true
-      (w.is_same-is ∙ ap (λ (n : ℕ). start.copies == n) w.from.ensures)
+      | then-eq w ↦ may_by_copies page start c.eq.result c.if-eq.is_same c.eq.ensures w.if-eq.true
+          (w.is_same-is ∙ ap (λ (n : ℕ). start.copies == n) w.from.ensures)
       | else-eq w ↦ may_by_size page start c.eq.result c.if-eq.is_same c.eq.ensures w.if-eq.false w.is_same-is
     ] in
     as_page page (λ (z : Size) (d : Dpi). IsPageText d z page.copies (bitmap_rows page.bitmap) text)
@@ -70,8 +70,8 @@ returns-in-Some-false c =
     let text = c.args.text.now in
     let start = c.in-Some.start in
     let may : MayBe page.bitmap page.copies start c.if-eq.is_same = elim c.if-eq.branch [
-      then-eq w ↦ may_by_copies page start c.eq.result c.if-eq.is_same c.eq.ensures w.if-eq.true
-      (w.is_same-is ∙ ap (λ (n : ℕ). start.copies == n) w.from.ensures)
+      | then-eq w ↦ may_by_copies page start c.eq.result c.if-eq.is_same c.eq.ensures w.if-eq.true
+          (w.is_same-is ∙ ap (λ (n : ℕ). start.copies == n) w.from.ensures)
       | else-eq w ↦ may_by_size page start c.eq.result c.if-eq.is_same c.eq.ensures w.if-eq.false w.is_same-is
     ] in
     let only : IsBodyVerdict page.bitmap start.size start.rest.now c.if-eq.is_same (Some false) =
@@ -80,5 +80,5 @@ returns-in-Some-false c =
     let begun = begun_at page text start c.in-Some.ensures in (
       subst (λ (d : Dpi). IsSomePageText d text) page.dpi_is (some_page page.bitmap text start c.if-eq.is_same false begun only),
       λ is. other_page page.bitmap page.copies text start c.if-eq.is_same begun may only
-        (as_bitmap page (λ (z : Size) (d : Dpi). IsPageText d z page.copies (bitmap_rows page.bitmap) text) is),
+          (as_bitmap page (λ (z : Size) (d : Dpi). IsPageText d z page.copies (bitmap_rows page.bitmap) text) is),
     )

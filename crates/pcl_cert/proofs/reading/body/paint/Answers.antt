@@ -1,4 +1,4 @@
-use Rattle.std.proofs.Common.{◌≡◌, ℕ, List, length, sym, ap, subst, ◌∙◌, refl, arith}
+use Rattle.std.proofs.Common.{◌≡◌, length, sym, subst, ◌∙◌}
 use Rattle.pcl_rows.specs.Rows.{Decodes}
 use Rattle.pcl_cert.proofs.Painted.{painted}
 use Rattle.pcl_cert.proofs.reading.body.paint.Goals as goal

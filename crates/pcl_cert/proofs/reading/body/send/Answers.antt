@@ -1,4 +1,4 @@
-use Rattle.std.proofs.Common.{◌≡◌, ◌-◌, ◌≤◌, ◌<◌, ◌∷◌, [], ℕ, List, take, drop, replicate, sym, ap, subst, ◌∙◌, true, false, refl, arith}
+use Rattle.std.proofs.Common.{◌≡◌, ◌∷◌, [], take, drop, sym, subst, arith}
 use Rattle.pcl_plan.specs.PageText.{bitmap_rows}
 use Rattle.pcl_cert.specs.Reading.{IsStep}
 use Rattle.pcl_cert.proofs.Comparing.{both, neither}
@@ -19,7 +19,7 @@ returns-then-place-height c = λ rows printed.
     c.in_ok-data.rest.now rows c.requires.inside c.requires.parameter c.requires.letter c.in_ok-data.ensures.0 c.in_ok-data.ensures.1
     c.in_ok-data.ensures.2
     (λ some other row row_data. elim c.then-place-height.branch [
-      then-place-height-via-then-place-height w ↦ let last = w.if-place-height.true in omega (arith, c.height.ensures)
+      | then-place-height-via-then-place-height w ↦ let last = w.if-place-height.true in omega (arith, c.height.ensures)
       | then-place-height-via-else-place-height+then-not-paint w ↦ w.if-not-paint.ensures other row row_data
     ])
     printed
@@ -34,8 +34,8 @@ returns c =
     (let off = c.if-place-height.false in omega (arith, c.height.ensures, c.requires.row)) c.in_ok-data.ensures.0 c.in_ok-data.ensures.1
     c.in_ok-data.ensures.2 row.0 row.1
     (elim c.if-place.branch [
-      then-place w ↦ both place.is_same w.has_row.result c.if-place.result
-      (c.paint.new.above ∷ [] ≡ take 1 (drop place.row (bitmap_rows picture))) w.has_row.ensures w.if-place.true w.result-is
+      | then-place w ↦ both place.is_same w.has_row.result c.if-place.result
+          (c.paint.new.above ∷ [] ≡ take 1 (drop place.row (bitmap_rows picture))) w.has_row.ensures w.if-place.true w.result-is
       | else-place w ↦ neither place.is_same c.if-place.result
-      (c.paint.new.above ∷ [] ≡ take 1 (drop place.row (bitmap_rows picture))) w.if-place.false w.result-is
+          (c.paint.new.above ∷ [] ≡ take 1 (drop place.row (bitmap_rows picture))) w.if-place.false w.result-is
     ])

@@ -1,4 +1,4 @@
-use Rattle.std.proofs.Common.{◌≡◌, ◌∷◌, ◌++◌, ◌≤◌, ℕ, List, sym, ap, subst, ◌∙◌, true, false, MatchOption, refl, arith}
+use Rattle.std.proofs.Common.{◌≡◌, ◌∷◌, ◌++◌, ◌≤◌, ℕ, List, sym, subst, ◌∙◌, true, false, MatchOption}
 use Rattle.std.specs.Prelude.{decimal}
 use Rattle.std.proofs.lemmas.Slice.Eq.{slice_eq-Decides}
 use Rattle.std.proofs.lemmas.Bool.Decides.{Decides-eqb}
@@ -21,6 +21,6 @@ returns-else-is_shortest c = λ n rest le e.
     (slice_eq-Decides Decides-eqb c.as_bytes.result.now c.in_ok-parameter.parameter.digits.now c.eq-is_shortest.result
     c.eq-is_shortest.ensures).1 digits in
     elim c.else-is_shortest.branch [
-      else-is_shortest-via-then-is_shortest+else-parameter-letter w ↦ w.if-parameter-letter.false found.letter
+      | else-is_shortest-via-then-is_shortest+else-parameter-letter w ↦ w.if-parameter-letter.false found.letter
       | else-is_shortest-via-else-is_shortest w ↦ let no : c.eq-is_shortest.result ≡ false = w.if-is_shortest.false in absurd cc
     ]

@@ -1,4 +1,4 @@
-use Rattle.std.proofs.Common.{◌≡◌, ◌∷◌, take, drop, sym, ap, subst, ◌∙◌, MatchOption, ℕ}
+use Rattle.std.proofs.Common.{take, drop, sym, ap, subst, ◌∙◌, MatchOption, ℕ}
 use Rattle.pcl_escape.specs.Pieces.{AreDigits}
 use Rattle.pcl_cert.specs.Reading.{IsParameter}
 use Rattle.pcl_cert.proofs.Decimals.{all_digits, digits_cut}

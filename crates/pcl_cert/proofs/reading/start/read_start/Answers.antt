@@ -1,10 +1,9 @@
-use Rattle.std.proofs.Common.{◌≡◌, ◌∷◌, ◌++◌, ◌≤◌, ◌<◌, ℕ, List, [], Some, None, sym, ap, subst, ◌∙◌, true, false, MatchOption, refl, arith}
+use Rattle.std.proofs.Common.{◌∷◌, ◌++◌, ℕ, List, Some, None, sym, ap, subst, ◌∙◌, arith}
 use Rattle.std.specs.Prelude.{decimal}
 use Rattle.std.proofs.lemmas.Slice.Eq.{strip_prefix_is}
 use Rattle.std.proofs.lemmas.Bool.Decides.{Decides-eqb}
-use Rattle.pcl_base.specs.Size.{size_with_code}
-use Rattle.pcl_cert.specs.Reading.{IsStart, raster_start}
-use Rattle.pcl_cert.proofs.Beginnings.{first_bytes, no_copies, no_code, no_size, no_raster, size_read, same_size, begun, Begins, IsCopies, IsSize}
+use Rattle.pcl_cert.specs.Reading.{IsStart}
+use Rattle.pcl_cert.proofs.Beginnings.{first_bytes, no_copies, no_code, no_size, no_raster, size_read, begun, IsCopies, IsSize}
 use Rattle.pcl_cert.proofs.reading.start.read_start.Goals as goal
 use Rattle.pcl_cert.proofs.reading.start.read_start.Goals.{then-copies-eq0-via-then-copies-eq0, then-copies-eq0-via-else-copies-eq0+then-copies-from}
 
@@ -72,9 +71,9 @@ returns-then-copies-eq0 c = λ copies size rest some few e.
     let found = size_read c.args.dpi text c.in_ok-copies.copies c.in_ok-code.code c.in_ok-code.rest.now copies size rest read
     (record { few = few; text_is = e }) in
     elim c.then-copies-eq0.branch [
-      then-copies-eq0-via-then-copies-eq0 w ↦ let none = w.if-copies-eq0.true in omega (arith, found.copies_are)
+      | then-copies-eq0-via-then-copies-eq0 w ↦ let none = w.if-copies-eq0.true in omega (arith, found.copies_are)
       | then-copies-eq0-via-else-copies-eq0+then-copies-from w ↦ let many = w.if-copies-from.true in
-      omega (arith, found.copies_are, w.from.ensures)
+          omega (arith, found.copies_are, w.from.ensures)
     ]
 
 pub returns : goal.returns

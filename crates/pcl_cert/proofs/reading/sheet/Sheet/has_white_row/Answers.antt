@@ -1,4 +1,4 @@
-use Rattle.std.proofs.Common.{◌≡◌, ◌∷◌, [], ℕ, List, take, drop, length, replicate, sym, ap, subst, ◌∙◌, true, false, refl, arith}
+use Rattle.std.proofs.Common.{◌≡◌, ◌∷◌, [], ℕ, List, length, replicate, sym, ap, subst, ◌∙◌, arith}
 use Rattle.std.specs.Prelude.{All}
 use Rattle.std.proofs.lemmas.List.{length-replicate}
 use Rattle.std.proofs.lemmas.Bool.Decides.{nat_tests}
@@ -19,11 +19,11 @@ returns-then-row-row_bytes c =
     let first = first_row picture c.args.y (omega (arith, c.page_height.ensures)) in
     let wide : length (row_of picture c.args.y) ≡ width = ap length (sym c.row.ensures.bytes) ∙ c.if-row-row_bytes.true ∙ c.row_bytes.ensures in (
       λ yes.
-        let zeros = all_zeros (row_of picture c.args.y) (c.is_blank.ensures.bytes.0 yes) in
-        ap (λ (z : List ℕ). z ∷ []) (sym (zeros ∙ ap (λ (n : ℕ). replicate n 0) wide)) ∙ sym first,
+          let zeros = all_zeros (row_of picture c.args.y) (c.is_blank.ensures.bytes.0 yes) in
+          ap (λ (z : List ℕ). z ∷ []) (sym (zeros ∙ ap (λ (n : ℕ). replicate n 0) wide)) ∙ sym first,
       λ e.
-        let same : replicate width 0 ≡ row_of picture c.args.y = (let both = e ∙ first in cc) in
-        c.is_blank.ensures.bytes.1 (subst (λ (z : List ℕ). All {X = ℕ} (λ byte. byte ≡ 0) z) same (zeros_all width)),
+          let same : replicate width 0 ≡ row_of picture c.args.y = (let both = e ∙ first in cc) in
+          c.is_blank.ensures.bytes.1 (subst (λ (z : List ℕ). All {X = ℕ} (λ byte. byte ≡ 0) z) same (zeros_all width)),
     )
 
 pub returns-else-row-row_bytes : goal.returns-else-row-row_bytes
@@ -33,7 +33,7 @@ returns-else-row-row_bytes c =
     let first = first_row picture c.args.y (omega (arith, c.page_height.ensures)) in (
       λ yes. absurd (grind (arith, nat_tests)),
       λ e.
-        let same : replicate width 0 ≡ row_of picture c.args.y = (let both = e ∙ first in cc) in
-        let wide = ap length same in
-        absurd (c.if-row-row_bytes.false (ap length c.row.ensures.bytes ∙ sym wide ∙ length-replicate width 0 ∙ sym c.row_bytes.ensures)),
+          let same : replicate width 0 ≡ row_of picture c.args.y = (let both = e ∙ first in cc) in
+          let wide = ap length same in
+          absurd (c.if-row-row_bytes.false (ap length c.row.ensures.bytes ∙ sym wide ∙ length-replicate width 0 ∙ sym c.row_bytes.ensures)),
     )

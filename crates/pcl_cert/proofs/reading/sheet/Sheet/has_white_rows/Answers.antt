@@ -1,4 +1,4 @@
-use Rattle.std.proofs.Common.{◌≡◌, ◌+◌, ◌-◌, ◌<◌, ◌∷◌, [], ℕ, suc, List, take, drop, replicate, sym, ap, subst, ◌∙◌, true, false, refl, arith}
+use Rattle.std.proofs.Common.{◌≡◌, ◌+◌, ◌-◌, ℕ, suc, List, take, drop, replicate, sym, ap, subst, ◌∙◌, true, false, refl, arith}
 use Rattle.std.proofs.lemmas.List.{drop-drop}
 use Rattle.pcl_base.specs.Size.{page_row_bytes}
 use Rattle.pcl_plan.specs.PageText.{bitmap_rows}
@@ -14,8 +14,8 @@ returns-then-not-has_white_row c =
     drop-drop n c.args.y rows ∙ (let same : c.args.y + n ≡ c.loop-row.row = omega arith in ap (λ (y : ℕ). drop y rows) same) in (
       λ yes. absurd cc,
       λ e. absurd
-        (let no : false ≡ true = c.if-not-has_white_row.ensures.1
-        (one_row n c.args.count white (drop c.args.y rows) (omega arith) e ∙ ap (take 1) at) in cc),
+          (let no : false ≡ true = c.if-not-has_white_row.ensures.1
+          (one_row n c.args.count white (drop c.args.y rows) (omega arith) e ∙ ap (take 1) at) in cc),
     )
 
 pub loop-row-preserved : goal.loop-row-preserved

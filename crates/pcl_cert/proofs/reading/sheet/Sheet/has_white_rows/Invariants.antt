@@ -1,4 +1,4 @@
-use Rattle.std.proofs.Common.{◌≡◌, ◌-◌, ◌<◌, ℕ, take, drop, replicate, [], ◌∷◌}
+use Rattle.std.proofs.Common.{◌≡◌, ◌-◌, take, drop, replicate}
 use Rattle.pcl_base.specs.Size.{page_row_bytes}
 use Rattle.pcl_plan.specs.PageText.{bitmap_rows}
 use Rattle.pcl_cert.proofs.reading.sheet.Sheet.has_white_rows.Given as goal
