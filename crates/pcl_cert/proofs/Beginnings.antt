@@ -51,23 +51,23 @@ pub record IsSize (text : List ℕ) (copies code : ℕ) (rest : List ℕ) : Type
   pub text_is : text ≡ first_bytes ++ (decimal copies ++ 120 ∷ (decimal code ++ 97 ∷ rest))
 
 -- a text that begins so and so
-pub record Begins (dpi : Dpi) (text : List ℕ) (copies : ℕ) (size : Size) (rest : List ℕ) : Type 0 where
+pub record BeginsAs (dpi : Dpi) (text : List ℕ) (copies : ℕ) (size : Size) (rest : List ℕ) : Type 0 where
   pub few : copies < 100
   pub text_is : text ≡ start_bytes dpi copies size ++ rest
 
-begins_as : (dpi : Dpi) (text : List ℕ) (copies : ℕ) (size : Size) (rest : List ℕ) → Begins dpi text copies size rest
+begins_as : (dpi : Dpi) (text : List ℕ) (copies : ℕ) (size : Size) (rest : List ℕ) → BeginsAs dpi text copies size rest
     → text ≡ first_bytes ++ (decimal copies ++ 120 ∷ (decimal (code_of size) ++ 97 ∷ (raster_start size dpi ++ rest)))
 begins_as dpi text copies size rest is = is.text_is ∙ start_is dpi copies size rest
 
 pub no_copies : (dpi : Dpi) (text front : List ℕ) (copies : ℕ) (size : Size) (rest : List ℕ) → text ≡ first_bytes ++ front
-    → ((n : ℕ) (more : List ℕ) → n ≤ 65535 → front ≡ decimal n ++ 120 ∷ more → ⊥) → Begins dpi text copies size rest → ⊥
+    → ((n : ℕ) (more : List ℕ) → n ≤ 65535 → front ≡ decimal n ++ 120 ∷ more → ⊥) → BeginsAs dpi text copies size rest → ⊥
 no_copies dpi text front copies size rest e none is =
     none copies (decimal (code_of size) ++ 97 ∷ (raster_start size dpi ++ rest)) (omega (arith, is.few))
     (append_cancel_left first_bytes front (decimal copies ++ 120 ∷ (decimal (code_of size) ++ 97 ∷ (raster_start size dpi ++ rest)))
     (sym e ∙ begins_as dpi text copies size rest is))
 
 pub copies_read : (dpi : Dpi) (text : List ℕ) (n : ℕ) (more : List ℕ) (copies : ℕ) (size : Size) (rest : List ℕ) → IsCopies text n more
-    → Begins dpi text copies size rest
+    → BeginsAs dpi text copies size rest
     → (n ≡ copies) × (more ≡ decimal (code_of size) ++ 97 ∷ (raster_start size dpi ++ rest))
 copies_read dpi text n more copies size rest read is =
     same_front n copies 120 more (decimal (code_of size) ++ 97 ∷ (raster_start size dpi ++ rest)) read.few (omega (arith, is.few)) refl
@@ -76,7 +76,7 @@ copies_read dpi text n more copies size rest read is =
     (sym read.text_is ∙ begins_as dpi text copies size rest is))
 
 pub no_code : (dpi : Dpi) (text : List ℕ) (n : ℕ) (more : List ℕ) (copies : ℕ) (size : Size) (rest : List ℕ) → IsCopies text n more
-    → ((code : ℕ) (behind : List ℕ) → code ≤ 65535 → more ≡ decimal code ++ 97 ∷ behind → ⊥) → Begins dpi text copies size rest → ⊥
+    → ((code : ℕ) (behind : List ℕ) → code ≤ 65535 → more ≡ decimal code ++ 97 ∷ behind → ⊥) → BeginsAs dpi text copies size rest → ⊥
 no_code dpi text n more copies size rest read none is =
     none (code_of size) (raster_start size dpi ++ rest) (code_small size) (copies_read dpi text n more copies size rest read is).1
 
@@ -86,28 +86,29 @@ pub record IsRead (dpi : Dpi) (n code : ℕ) (more : List ℕ) (copies : ℕ) (s
   pub more_is : more ≡ raster_start size dpi ++ rest
 
 pub size_read : (dpi : Dpi) (text : List ℕ) (n code : ℕ) (more : List ℕ) (copies : ℕ) (size : Size) (rest : List ℕ)
-    → IsSize text n code more → Begins dpi text copies size rest → IsRead dpi n code more copies size rest
+    → IsSize text n code more → BeginsAs dpi text copies size rest → IsRead dpi n code more copies size rest
 size_read dpi text n code more copies size rest read is =
-    let first = copies_read dpi text n (decimal code ++ 97 ∷ more) copies size rest (record { few = read.few; text_is = read.text_is }) is in
+    let first = copies_read dpi text n (decimal code ++ 97 ∷ more) copies size rest
+    (record { few = read.few; text_is = read.text_is }) is in
     let second = same_front code (code_of size) 97 more (raster_start size dpi ++ rest) read.small
     (let small = code_small size in omega arith) refl first.1 in
     record { copies_are = first.0; code_is = second.0; more_is = second.1 }
 
 pub no_size : (dpi : Dpi) (text : List ℕ) (n code : ℕ) (more : List ℕ) (copies : ℕ) (size : Size) (rest : List ℕ)
-    → IsSize text n code more → size_with_code code ≡ None → Begins dpi text copies size rest → ⊥
+    → IsSize text n code more → size_with_code code ≡ None → BeginsAs dpi text copies size rest → ⊥
 no_size dpi text n code more copies size rest read none is =
     let found = size_read dpi text n code more copies size rest read is in
     let some : Some size ≡ None = sym (size_coded size) ∙ ap size_with_code (sym found.code_is) ∙ none in cc
 
 pub same_size : (dpi : Dpi) (text : List ℕ) (n code : ℕ) (more : List ℕ) (copies : ℕ) (size found : Size) (rest : List ℕ)
-    → IsSize text n code more → size_with_code code ≡ Some found → Begins dpi text copies size rest → size ≡ found
+    → IsSize text n code more → size_with_code code ≡ Some found → BeginsAs dpi text copies size rest → size ≡ found
 same_size dpi text n code more copies size found rest read some is =
     let parts = size_read dpi text n code more copies size rest read is in
     let same : Some size ≡ Some found = sym (size_coded size) ∙ ap size_with_code (sym parts.code_is) ∙ some in cc
 
 pub no_raster : (dpi : Dpi) (text : List ℕ) (n code : ℕ) (more : List ℕ) (copies : ℕ) (size found : Size) (rest : List ℕ)
     → IsSize text n code more → size_with_code code ≡ Some found → ((behind : List ℕ) → more ≡ raster_start found dpi ++ behind → ⊥)
-    → Begins dpi text copies size rest → ⊥
+    → BeginsAs dpi text copies size rest → ⊥
 no_raster dpi text n code more copies size found rest read some none is =
     let parts = size_read dpi text n code more copies size rest read is in
     none rest (parts.more_is ∙ ap (λ (s : Size). raster_start s dpi ++ rest)

@@ -9,7 +9,7 @@ use Rattle.pcl_bitmap.specs.Bitmap.{Picture}
 use Rattle.pcl_plan.specs.Tokens.{end_bytes}
 use Rattle.pcl_plan.specs.PageText.{bitmap_rows}
 use Rattle.pcl_cert.specs.declared.reading.body.Place.{Place}
-use Rattle.pcl_cert.specs.Reading.{Left, IsPrinted, Becomes, left_at, body_of, AreRowsAt, Leads, IsOnlyPrinted}
+use Rattle.pcl_cert.specs.Reading.{LeftOver, RestPrints, GivesRows, left_at, body_of, AreRowsAt, Advances, IsOnlyPrinted}
 use Rattle.pcl_cert.proofs.Fronts.{white_rows}
 use Rattle.pcl_cert.proofs.Outside.{end_only, end_prints}
 
@@ -50,8 +50,8 @@ of_parts (row ∷ a) b (first ∷ all) p q =
 joined : (a b c : List (List ℕ)) → (a ++ b) ++ c ≡ a ++ (b ++ c)
 joined a b c = simp append_assoc
 
-pub becomes_trans : (size : Size) (dpi : Dpi) (a : Left) (given : List (List ℕ)) (b : Left) (more : List (List ℕ)) (c : Left)
-    → Becomes size dpi a given b → Becomes size dpi b more c → Becomes size dpi a (given ++ more) c
+pub becomes_trans : (size : Size) (dpi : Dpi) (a : LeftOver) (given : List (List ℕ)) (b : LeftOver) (more : List (List ℕ)) (c : LeftOver)
+    → GivesRows size dpi a given b → GivesRows size dpi b more c → GivesRows size dpi a (given ++ more) c
 becomes_trans size dpi a given b more c first second = record {
   splits = λ rows p.
       let one = first.splits rows p in
@@ -61,55 +61,56 @@ becomes_trans size dpi a given b more c first second = record {
         two.2,
       );
   joins = λ rows p.
-      subst (IsPrinted size dpi a) (sym (joined given more rows)) (first.joins (more ++ rows) (second.joins rows p));
+      subst (RestPrints size dpi a) (sym (joined given more rows)) (first.joins (more ++ rows) (second.joins rows p));
 }
 
-pub becomes_same : (size : Size) (dpi : Dpi) (a b : Left) → a ≡ b → Becomes size dpi a [] b
+pub becomes_same : (size : Size) (dpi : Dpi) (a b : LeftOver) → a ≡ b → GivesRows size dpi a [] b
 becomes_same size dpi a b e =
     record {
-      splits = λ rows p. (rows, refl, subst (λ (z : Left). IsPrinted size dpi z rows) e p);
-      joins = λ rows p. subst (λ (z : Left). IsPrinted size dpi z rows) (sym e) p;
+      splits = λ rows p. (rows, refl, subst (λ (z : LeftOver). RestPrints size dpi z rows) e p);
+      joins = λ rows p. subst (λ (z : LeftOver). RestPrints size dpi z rows) (sym e) p;
     }
 
 -- a body read to some place, and the comparison so far
-pub record IsReadTo (picture : Picture) (size : Size) (text : List ℕ) (may_be : Bool) (place : Place) (above : List ℕ) : Type 0 where
+pub record IsBodyReadTo (picture : Picture) (size : Size) (text : List ℕ) (may_be : Bool) (place : Place) (above : List ℕ) : Type 0 where
   pub given : List (List ℕ)
-  pub becomes : Becomes size picture.dpi (body_of size picture.dpi text) given (left_at size picture.dpi place above)
+  pub becomes : GivesRows size picture.dpi (body_of size picture.dpi text) given (left_at size picture.dpi place above)
   pub row_is : place.row ≡ length given
   pub within : place.row ≤ page_height size picture.dpi
   pub same : IsTrue place.is_same ↔ (IsTrue may_be × AreRowsAt picture 0 given)
 
 pub read_on : (picture : Picture) (size : Size) (text : List ℕ) (may_be : Bool) (place : Place) (above : List ℕ) (next : Place)
-    (below : List ℕ) → IsReadTo picture size text may_be place above → Leads picture size place above next below
-    → IsReadTo picture size text may_be next below
-read_on picture size text may_be place above next below read leads =
+    (below : List ℕ) → IsBodyReadTo picture size text may_be place above → Advances picture size place above next below
+    → IsBodyReadTo picture size text may_be next below
+read_on picture size text may_be place above next below read advances =
     let all = bitmap_rows picture in
     let place_is : place.row ≡ length read.given = read.row_is in
     record {
-      given = read.given ++ leads.given;
-      becomes = becomes_trans size picture.dpi (body_of size picture.dpi text) read.given (left_at size picture.dpi place above) leads.given
-          (left_at size picture.dpi next below) read.becomes leads.becomes;
-      row_is = omega (arith, length-append read.given leads.given, read.row_is, leads.row_is);
-      within = leads.within;
+      given = read.given ++ advances.given;
+      becomes = becomes_trans size picture.dpi (body_of size picture.dpi text) read.given (left_at size picture.dpi place above)
+          advances.given
+          (left_at size picture.dpi next below) read.becomes advances.becomes;
+      row_is = omega (arith, length-append read.given advances.given, read.row_is, advances.row_is);
+      within = advances.within;
       same = (
         λ yes.
-            let now = leads.same.0 yes in
+            let now = advances.same.0 yes in
             let before = read.same.0 now.0 in
-            let later : leads.given ≡ take (length leads.given) (drop (length read.given) all) =
-            subst (λ (y : ℕ). leads.given ≡ take (length leads.given) (drop y all)) place_is now.1 in
-            (before.0, of_parts read.given leads.given all before.1 later),
+            let later : advances.given ≡ take (length advances.given) (drop (length read.given) all) =
+            subst (λ (y : ℕ). advances.given ≡ take (length advances.given) (drop y all)) place_is now.1 in
+            (before.0, of_parts read.given advances.given all before.1 later),
         λ h.
-            let parts = parts_of read.given leads.given all h.1 in
-            leads.same.1 (
+            let parts = parts_of read.given advances.given all h.1 in
+            advances.same.1 (
               read.same.1 (h.0, parts.0),
-              subst (λ (y : ℕ). leads.given ≡ take (length leads.given) (drop y all)) (sym place_is) parts.1,
+              subst (λ (y : ℕ). advances.given ≡ take (length advances.given) (drop y all)) (sym place_is) parts.1,
             ),
       );
     }
 
 -- at the end of the text the other rows are white
 pub read_all : (picture : Picture) (size : Size) (text : List ℕ) (may_be : Bool) (place : Place) (above : List ℕ) (outcome : Bool)
-    → IsReadTo picture size text may_be place above → place.inside ≡ false → place.text.now ≡ end_bytes
+    → IsBodyReadTo picture size text may_be place above → place.inside ≡ false → place.text.now ≡ end_bytes
     → (IsTrue outcome ↔ (IsTrue place.is_same × AreRowsAt picture place.row
     (white_rows size picture.dpi (page_height size picture.dpi - place.row))))
     → IsOnlyPrinted picture size text may_be outcome

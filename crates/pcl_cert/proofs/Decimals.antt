@@ -25,13 +25,13 @@ all_digits text behind e none =
     subst AreDigits (sym whole) front.pass
 
 -- digits, and the byte behind them
-pub record IsCut (text front : List ℕ) (byte : ℕ) (rest : List ℕ) : Type 0 where
+pub record IsCutAt (text front : List ℕ) (byte : ℕ) (rest : List ℕ) : Type 0 where
   pub are_digits : AreDigits front
   pub no_digit : is_digit byte ≡ false
   pub spelled : text ≡ front ++ byte ∷ rest
 
 pub digits_cut : (text front behind : List ℕ) (byte : ℕ) (rest : List ℕ) → front ≡ take (prefix_len is_digit text) text
-    → behind ≡ drop (prefix_len is_digit text) text → behind ≡ byte ∷ rest → IsCut text front byte rest
+    → behind ≡ drop (prefix_len is_digit text) text → behind ≡ byte ∷ rest → IsCutAt text front byte rest
 digits_cut text front behind byte rest f b e =
     let split = front_split is_digit text in
     let back : drop (prefix_len is_digit text) text ≡ byte ∷ rest = sym b ∙ e in
@@ -39,7 +39,8 @@ digits_cut text front behind byte rest f b e =
     record {
       are_digits = subst AreDigits (sym f) split.pass;
       no_digit = stops;
-      spelled = split.joined ∙ ap (λ (z : List ℕ). z ++ drop (prefix_len is_digit text) text) (sym f) ∙ ap (λ (z : List ℕ). front ++ z) back;
+      spelled = split.joined
+          ∙ ap (λ (z : List ℕ). z ++ drop (prefix_len is_digit text) text) (sym f) ∙ ap (λ (z : List ℕ). front ++ z) back;
     }
 
 -- ---- decimals

@@ -14,49 +14,49 @@ use Rattle.pcl_rows.specs.Rows.{IsRowData}
 use Rattle.pcl_plan.specs.Tokens.{Token, opening, method, skip, send, letter, token_bytes, AreWhite, PrintsRows, end_bytes}
 use Rattle.pcl_plan.specs.PageText.{IsRowOf}
 use Rattle.pcl_plan.proofs.Walking.{white_is_zeros}
-use Rattle.pcl_cert.specs.Reading.{Left, IsPrinted}
+use Rattle.pcl_cert.specs.Reading.{LeftOver, RestPrints}
 use Rattle.pcl_cert.proofs.Splits.{one_split}
 
 -- a letter as a number: a capital where it ends the sequence
-abbrev pub sign : ℕ → Bool → ℕ
-sign capital true = capital
-sign capital false = capital + 32
+abbrev pub letter_code : ℕ → Bool → ℕ
+letter_code capital true = capital
+letter_code capital false = capital + 32
 
-pub letter_is : (capital : ℕ) (ends : Bool) → letter capital ends ≡ sign capital ends ∷ []
+pub letter_is : (capital : ℕ) (ends : Bool) → letter capital ends ≡ letter_code capital ends ∷ []
 letter_is capital true = refl
 letter_is capital false = refl
 
-abbrev pub left_of : Bool → Method → List ℕ → ℕ → List ℕ → Left
-left_of inside current above rows text = record { inside = inside; method = current; above = above; rows = rows; text = text }
+abbrev pub left_over : Bool → Method → List ℕ → ℕ → List ℕ → LeftOver
+left_over inside current above rows text = record { inside = inside; method = current; above = above; rows = rows; text = text }
 
 -- so many white rows of a size
 abbrev pub white_rows : Size → Dpi → ℕ → List (List ℕ)
 white_rows size dpi count = replicate count (replicate (page_row_bytes size dpi) 0)
 
 -- what a number and the byte behind it say, inside a sequence
-pub data Front (size : Size) (dpi : Dpi) (current : Method) (above : List ℕ) (left number byte : ℕ) (rest : List ℕ)
+pub data Foremost (size : Size) (dpi : Dpi) (current : Method) (above : List ℕ) (left number byte : ℕ) (rest : List ℕ)
     (rows : List (List ℕ)) : Type 0 where
-  is_method : (next : Method) (ends : Bool) → byte ≡ sign 77 ends → number ≡ method_code next
-      → IsPrinted size dpi (left_of (not ends) next above left rest) rows
-      → Front size dpi current above left number byte rest rows
-  is_skip : (ends : Bool) (others : List (List ℕ)) → byte ≡ sign 89 ends → 0 < number → number ≤ left
+  is_method : (next : Method) (ends : Bool) → byte ≡ letter_code 77 ends → number ≡ method_code next
+      → RestPrints size dpi (left_over (not ends) next above left rest) rows
+      → Foremost size dpi current above left number byte rest rows
+  is_skip : (ends : Bool) (others : List (List ℕ)) → byte ≡ letter_code 89 ends → 0 < number → number ≤ left
       → rows ≡ white_rows size dpi number ++ others
-      → IsPrinted size dpi (left_of (not ends) current (replicate (length above) 0) (left - number) rest) others
-      → Front size dpi current above left number byte rest rows
+      → RestPrints size dpi (left_over (not ends) current (replicate (length above) 0) (left - number) rest) others
+      → Foremost size dpi current above left number byte rest rows
   is_send : (bytes more first : List ℕ) (others : List (List ℕ)) → byte ≡ 87 → number ≡ length bytes → rest ≡ bytes ++ more → 0 < left
       → rows ≡ first ∷ others → IsRowOf size dpi first → IsRowData current above first bytes
-      → IsPrinted size dpi (left_of false current first (left - 1) more) others
-      → Front size dpi current above left number byte rest rows
+      → RestPrints size dpi (left_over false current first (left - 1) more) others
+      → Foremost size dpi current above left number byte rest rows
 
 pub regroup : (digits : List ℕ) (byte : ℕ) (bytes tokens end : List ℕ)
     → ((digits ++ (byte ∷ bytes)) ++ tokens) ++ end ≡ digits ++ byte ∷ (bytes ++ (tokens ++ end))
 regroup digits byte bytes tokens end = simp append_assoc
 
-pub no_digit_77 : (ends : Bool) → is_digit (sign 77 ends) ≡ false
+pub no_digit_77 : (ends : Bool) → is_digit (letter_code 77 ends) ≡ false
 no_digit_77 true = refl
 no_digit_77 false = refl
 
-pub no_digit_89 : (ends : Bool) → is_digit (sign 89 ends) ≡ false
+pub no_digit_89 : (ends : Bool) → is_digit (letter_code 89 ends) ≡ false
 no_digit_89 true = refl
 no_digit_89 false = refl
 
@@ -89,22 +89,22 @@ front_by : (size : Size) (dpi : Dpi) (current : Method) (above : List ℕ) (left
     → AreDigits digits → is_digit byte ≡ false → (tokens : List Token) (rows : List (List ℕ))
     → digits ++ byte ∷ rest ≡ flat_map token_bytes tokens ++ end_bytes → length rows ≡ left
     → AllByRecursion (IsRowOf size dpi) rows → PrintsRows true current above tokens rows
-    → Front size dpi current above left (number_of digits) byte rest rows
+    → Foremost size dpi current above left (number_of digits) byte rest rows
 unfolding PrintsRows
 front_by size dpi current above left digits byte rest are off [] rows e n all p = absurd p
 front_by size dpi current above left digits byte rest are off (opening ∷ tokens) rows e n all p = absurd p
 front_by size dpi current above left digits byte rest are off (method spelled next ends ∷ tokens) rows e n all p =
     let more = flat_map token_bytes tokens in
-    let same = same_front digits spelled byte (sign 77 ends) rest [] more end_bytes are p.0.0 off (no_digit_77 ends)
+    let same = same_front digits spelled byte (letter_code 77 ends) rest [] more end_bytes are p.0.0 off (no_digit_77 ends)
     (e ∙ ap (λ (l : List ℕ). ((spelled ++ l) ++ more) ++ end_bytes) (letter_is 77 ends)) in
     is_method next ends same.1 (ap number_of same.0 ∙ p.0.1)
     (record { count = n; rows_are = all; tokens = tokens; spelled = same.2; prints = p.1 })
 front_by size dpi current above left digits byte rest are off (skip spelled count ends ∷ tokens) rows e n all p =
     let more = flat_map token_bytes tokens in
-    let same = same_front digits spelled byte (sign 89 ends) rest [] more end_bytes are p.0.0 off (no_digit_89 ends)
+    let same = same_front digits spelled byte (letter_code 89 ends) rest [] more end_bytes are p.0.0 off (no_digit_89 ends)
     (e ∙ ap (λ (l : List ℕ). ((spelled ++ l) ++ more) ++ end_bytes) (letter_is 89 ends)) in
     let number : number_of digits ≡ count = ap number_of same.0 ∙ p.0.1 in
-    subst (λ (k : ℕ). Front size dpi current above left k byte rest rows) (sym number)
+    subst (λ (k : ℕ). Foremost size dpi current above left k byte rest rows) (sym number)
     (is_skip ends (drop count rows) same.1 p.1 (omega (arith, p.2)) (white_front size dpi count rows all p.2 p.3)
     (record {
       count = omega (arith, length-drop count rows, p.2);
@@ -121,9 +121,9 @@ front_by size dpi current above left digits byte rest are off (send spelled byte
     (record { count = omega arith; rows_are = all.1; tokens = tokens; spelled = refl; prints = p.2 })
 
 -- what is at the front of what is left
-pub front_of : (size : Size) (dpi : Dpi) (left : Left) (digits : List ℕ) (byte : ℕ) (rest : List ℕ) (rows : List (List ℕ))
+pub front_of : (size : Size) (dpi : Dpi) (left : LeftOver) (digits : List ℕ) (byte : ℕ) (rest : List ℕ) (rows : List (List ℕ))
     → left.inside ≡ true → AreDigits digits → is_digit byte ≡ false → left.text ≡ digits ++ byte ∷ rest
-    → IsPrinted size dpi left rows → Front size dpi left.method left.above left.rows (number_of digits) byte rest rows
+    → RestPrints size dpi left rows → Foremost size dpi left.method left.above left.rows (number_of digits) byte rest rows
 front_of size dpi left digits byte rest rows inside are off text printed =
     front_by size dpi left.method left.above left.rows digits byte rest are off printed.tokens rows (sym text ∙ printed.spelled)
     printed.count printed.rows_are

@@ -1,5 +1,5 @@
 pub mod Splits
-pub mod SheetRows
+pub mod ComparedRows
 pub mod Fronts
 pub mod Moves
 pub mod Outside

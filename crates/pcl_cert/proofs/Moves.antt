@@ -19,27 +19,27 @@ use Rattle.pcl_rows.specs.Decoding.{decoded}
 use Rattle.pcl_plan.specs.Tokens.{Token, opening, method, skip, send, token_bytes, IsWhite, AreWhite, PrintsRows, end_bytes}
 use Rattle.pcl_plan.specs.PageText.{IsRowOf}
 use Rattle.pcl_plan.proofs.Walking.{white_is_zeros}
-use Rattle.pcl_cert.specs.Reading.{Left, IsPrinted, Becomes}
+use Rattle.pcl_cert.specs.Reading.{LeftOver, RestPrints, GivesRows}
 use Rattle.pcl_cert.proofs.Splits.{no_split}
-use Rattle.pcl_cert.proofs.Fronts.{sign, letter_is, left_of, white_rows, Front, is_method, is_skip, is_send, front_of, regroup, no_digit_77, no_digit_89}
+use Rattle.pcl_cert.proofs.Fronts.{letter_code, letter_is, left_over, white_rows, Foremost, is_method, is_skip, is_send, front_of, regroup, no_digit_77, no_digit_89}
 
 -- ---- letters and methods
 
-pub letters_77_89 : (a b : Bool) → sign 77 a ≡ sign 89 b → ⊥
+pub letters_77_89 : (a b : Bool) → letter_code 77 a ≡ letter_code 89 b → ⊥
 letters_77_89 true true e = omega arith
 letters_77_89 true false e = omega arith
 letters_77_89 false true e = omega arith
 letters_77_89 false false e = omega arith
 
-pub letters_77_87 : (a : Bool) → sign 77 a ≡ 87 → ⊥
+pub letters_77_87 : (a : Bool) → letter_code 77 a ≡ 87 → ⊥
 letters_77_87 true e = omega arith
 letters_77_87 false e = omega arith
 
-pub letters_89_87 : (a : Bool) → sign 89 a ≡ 87 → ⊥
+pub letters_89_87 : (a : Bool) → letter_code 89 a ≡ 87 → ⊥
 letters_89_87 true e = omega arith
 letters_89_87 false e = omega arith
 
-pub same_case : (capital : ℕ) (a b : Bool) → sign capital a ≡ sign capital b → a ≡ b
+pub same_case : (capital : ℕ) (a b : Bool) → letter_code capital a ≡ letter_code capital b → a ≡ b
 same_case capital true true e = refl
 same_case capital true false e = absurd (omega arith)
 same_case capital false true e = absurd (omega arith)
@@ -91,15 +91,15 @@ all_white size dpi (row ∷ rows) are white =
 
 -- ---- a number and the byte behind it at the front
 
-pub record Told (left : Left) (digits : List ℕ) (byte : ℕ) (rest : List ℕ) : Type 0 where
+pub record Told (left : LeftOver) (digits : List ℕ) (byte : ℕ) (rest : List ℕ) : Type 0 where
   pub inside : left.inside ≡ true
   pub are_digits : AreDigits digits
   pub no_digit : is_digit byte ≡ false
   pub text : left.text ≡ digits ++ byte ∷ rest
 
-front_at : (size : Size) (dpi : Dpi) (left : Left) (digits : List ℕ) (byte : ℕ) (rest : List ℕ) (rows : List (List ℕ))
-    → Told left digits byte rest → IsPrinted size dpi left rows
-    → Front size dpi left.method left.above left.rows (number_of digits) byte rest rows
+front_at : (size : Size) (dpi : Dpi) (left : LeftOver) (digits : List ℕ) (byte : ℕ) (rest : List ℕ) (rows : List (List ℕ))
+    → Told left digits byte rest → RestPrints size dpi left rows
+    → Foremost size dpi left.method left.above left.rows (number_of digits) byte rest rows
 front_at size dpi left digits byte rest rows told printed =
     front_of size dpi left digits byte rest rows told.inside told.are_digits told.no_digit told.text printed
 
@@ -111,18 +111,18 @@ spelled_by text digits byte rest sent bytes tokens end e b r =
 
 -- ---- a method
 
-pub method_becomes : (size : Size) (dpi : Dpi) (left : Left) (digits : List ℕ) (byte : ℕ) (rest : List ℕ) (next : Method) (ends : Bool)
-    → Told left digits byte rest → byte ≡ sign 77 ends → number_of digits ≡ method_code next
-    → Becomes size dpi left [] (left_of (not ends) next left.above left.rows rest)
+pub method_becomes : (size : Size) (dpi : Dpi) (left : LeftOver) (digits : List ℕ) (byte : ℕ) (rest : List ℕ) (next : Method) (ends : Bool)
+    → Told left digits byte rest → byte ≡ letter_code 77 ends → number_of digits ≡ method_code next
+    → GivesRows size dpi left [] (left_over (not ends) next left.above left.rows rest)
 unfolding PrintsRows
 method_becomes size dpi left digits byte rest next ends told b n = record {
   splits = λ rows printed. elim (front_at size dpi left digits byte rest rows told printed) [
     | is_method other last c m p ↦ (
       rows,
       refl,
-      subst (λ (z : Method). IsPrinted size dpi (left_of (not ends) z left.above left.rows rest) rows)
+      subst (λ (z : Method). RestPrints size dpi (left_over (not ends) z left.above left.rows rest) rows)
           (same_method other next (sym m ∙ n))
-          (subst (λ (z : Bool). IsPrinted size dpi (left_of (not z) other left.above left.rows rest) rows)
+          (subst (λ (z : Bool). RestPrints size dpi (left_over (not z) other left.above left.rows rest) rows)
           (same_case 77 last ends (sym c ∙ b)) p),
     )
     | is_skip last others c some few r p ↦ absurd (letters_77_89 ends last (sym b ∙ c))
@@ -132,7 +132,7 @@ method_becomes size dpi left digits byte rest next ends told b n = record {
     count = printed.count;
     rows_are = printed.rows_are;
     tokens = method digits next ends ∷ printed.tokens;
-    spelled = spelled_by left.text digits byte rest (sign 77 ends) [] (flat_map token_bytes printed.tokens) end_bytes told.text b
+    spelled = spelled_by left.text digits byte rest (letter_code 77 ends) [] (flat_map token_bytes printed.tokens) end_bytes told.text b
         printed.spelled
         ∙ ap (λ (l : List ℕ). ((digits ++ l) ++ flat_map token_bytes printed.tokens) ++ end_bytes) (sym (letter_is 77 ends));
     prints = subst (λ (i : Bool). PrintsRows i left.method left.above (method digits next ends ∷ printed.tokens) rows) (sym told.inside)
@@ -142,10 +142,10 @@ method_becomes size dpi left digits byte rest next ends told b n = record {
 
 -- ---- rows that are skipped
 
-pub skip_becomes : (size : Size) (dpi : Dpi) (left : Left) (digits : List ℕ) (byte : ℕ) (rest : List ℕ) (ends : Bool)
-    → Told left digits byte rest → byte ≡ sign 89 ends → 0 < number_of digits → number_of digits ≤ left.rows
-    → Becomes size dpi left (white_rows size dpi (number_of digits))
-    (left_of (not ends) left.method (replicate (length left.above) 0) (left.rows - number_of digits) rest)
+pub skip_becomes : (size : Size) (dpi : Dpi) (left : LeftOver) (digits : List ℕ) (byte : ℕ) (rest : List ℕ) (ends : Bool)
+    → Told left digits byte rest → byte ≡ letter_code 89 ends → 0 < number_of digits → number_of digits ≤ left.rows
+    → GivesRows size dpi left (white_rows size dpi (number_of digits))
+    (left_over (not ends) left.method (replicate (length left.above) 0) (left.rows - number_of digits) rest)
 unfolding PrintsRows
 skip_becomes size dpi left digits byte rest ends told b some few = record {
   splits = λ rows printed. elim (front_at size dpi left digits byte rest rows told printed) [
@@ -153,8 +153,8 @@ skip_becomes size dpi left digits byte rest ends told b some few = record {
     | is_skip last others c positive within r p ↦ (
       others,
       r,
-      subst (λ (z : Bool). IsPrinted size dpi
-          (left_of (not z) left.method (replicate (length left.above) 0) (left.rows - number_of digits) rest) others)
+      subst (λ (z : Bool). RestPrints size dpi
+          (left_over (not z) left.method (replicate (length left.above) 0) (left.rows - number_of digits) rest) others)
           (same_case 89 last ends (sym c ∙ b)) p,
     )
     | is_send bytes more first others c m r positive f row row_data p ↦ absurd (letters_89_87 ends (sym b ∙ c))
@@ -167,13 +167,14 @@ skip_becomes size dpi left digits byte rest ends told b some few = record {
       let behind : PrintsRows (not ends) left.method (replicate (length left.above) 0) printed.tokens (drop count (white ++ rows)) =
       subst (λ (rs : List (List ℕ)). PrintsRows (not ends) left.method (replicate (length left.above) 0) printed.tokens rs)
       (sym (drop_at white rows count many)) printed.prints in
-      let are_white : AreWhite (take count (white ++ rows)) = subst AreWhite (sym (take_at white rows count many)) (rows_white size dpi count) in
+      let are_white : AreWhite (take count (white ++ rows)) =
+      subst AreWhite (sym (take_at white rows count many)) (rows_white size dpi count) in
       let within : count ≤ length (white ++ rows) = omega (arith, all, few) in
       record {
         count = all;
         rows_are = white_before size dpi count rows printed.rows_are;
         tokens = skip digits count ends ∷ printed.tokens;
-        spelled = spelled_by left.text digits byte rest (sign 89 ends) [] (flat_map token_bytes printed.tokens) end_bytes told.text b
+        spelled = spelled_by left.text digits byte rest (letter_code 89 ends) [] (flat_map token_bytes printed.tokens) end_bytes told.text b
             printed.spelled
             ∙ ap (λ (l : List ℕ). ((digits ++ l) ++ flat_map token_bytes printed.tokens) ++ end_bytes) (sym (letter_is 89 ends));
         prints = subst (λ (i : Bool). PrintsRows i left.method left.above (skip digits count ends ∷ printed.tokens) (white ++ rows))
@@ -184,10 +185,10 @@ skip_becomes size dpi left digits byte rest ends told b some few = record {
 
 -- ---- a row that is sent
 
-pub send_becomes : (size : Size) (dpi : Dpi) (left : Left) (digits : List ℕ) (byte : ℕ) (rest bytes more first : List ℕ)
+pub send_becomes : (size : Size) (dpi : Dpi) (left : LeftOver) (digits : List ℕ) (byte : ℕ) (rest bytes more first : List ℕ)
     → Told left digits byte rest → byte ≡ 87 → number_of digits ≡ length bytes → rest ≡ bytes ++ more → 0 < left.rows
     → IsRowOf size dpi first → IsRowData left.method left.above first bytes
-    → Becomes size dpi left (first ∷ []) (left_of false left.method first (left.rows - 1) more)
+    → GivesRows size dpi left (first ∷ []) (left_over false left.method first (left.rows - 1) more)
 unfolding PrintsRows
 send_becomes size dpi left digits byte rest bytes more first told b n parts some is_row is_data = record {
   splits = λ rows printed. elim (front_at size dpi left digits byte rest rows told printed) [
@@ -204,8 +205,8 @@ send_becomes size dpi left digits byte rest bytes more first told b n parts some
         ∙ ap (decoded left.method left.above) same ∙ sym (decoded_is left.method left.above bytes first is_data.decodes) in (
           others,
           f ∙ ap (λ (z : List ℕ). z ∷ others) same_row,
-          subst (λ (z : List ℕ). IsPrinted size dpi (left_of false left.method first (left.rows - 1) z) others) same_rest
-              (subst (λ (z : List ℕ). IsPrinted size dpi (left_of false left.method z (left.rows - 1) behind) others) same_row p),
+          subst (λ (z : List ℕ). RestPrints size dpi (left_over false left.method first (left.rows - 1) z) others) same_rest
+              (subst (λ (z : List ℕ). RestPrints size dpi (left_over false left.method z (left.rows - 1) behind) others) same_row p),
         )
   ];
   joins = λ rows printed. record {
@@ -223,9 +224,10 @@ send_becomes size dpi left digits byte rest bytes more first told b n parts some
 -- ---- what no token begins
 
 -- a method that there is none of
-pub no_method : (size : Size) (dpi : Dpi) (left : Left) (digits : List ℕ) (byte : ℕ) (rest : List ℕ) (ends : Bool) (rows : List (List ℕ))
-    → Told left digits byte rest → byte ≡ sign 77 ends → ((next : Method) → number_of digits ≡ method_code next → ⊥)
-    → IsPrinted size dpi left rows → ⊥
+pub no_method : (size : Size) (dpi : Dpi) (left : LeftOver) (digits : List ℕ) (byte : ℕ) (rest : List ℕ) (ends : Bool)
+    (rows : List (List ℕ))
+    → Told left digits byte rest → byte ≡ letter_code 77 ends → ((next : Method) → number_of digits ≡ method_code next → ⊥)
+    → RestPrints size dpi left rows → ⊥
 no_method size dpi left digits byte rest ends rows told b none printed = elim (front_at size dpi left digits byte rest rows told printed) [
   | is_method other last c m p ↦ none other m
   | is_skip last others c some few r p ↦ letters_77_89 ends last (sym b ∙ c)
@@ -233,9 +235,9 @@ no_method size dpi left digits byte rest ends rows told b none printed = elim (f
 ]
 
 -- no row is skipped, or too many are
-pub no_skip : (size : Size) (dpi : Dpi) (left : Left) (digits : List ℕ) (byte : ℕ) (rest : List ℕ) (ends : Bool) (rows : List (List ℕ))
-    → Told left digits byte rest → byte ≡ sign 89 ends → (0 < number_of digits → number_of digits ≤ left.rows → ⊥)
-    → IsPrinted size dpi left rows → ⊥
+pub no_skip : (size : Size) (dpi : Dpi) (left : LeftOver) (digits : List ℕ) (byte : ℕ) (rest : List ℕ) (ends : Bool) (rows : List (List ℕ))
+    → Told left digits byte rest → byte ≡ letter_code 89 ends → (0 < number_of digits → number_of digits ≤ left.rows → ⊥)
+    → RestPrints size dpi left rows → ⊥
 no_skip size dpi left digits byte rest ends rows told b none printed = elim (front_at size dpi left digits byte rest rows told printed) [
   | is_method other last c m p ↦ letters_77_89 last ends (sym c ∙ b)
   | is_skip last others c some few r p ↦ none some few
@@ -243,11 +245,11 @@ no_skip size dpi left digits byte rest ends rows told b none printed = elim (fro
 ]
 
 -- what is sent isn't there, or paints no row of the size
-pub no_send : (size : Size) (dpi : Dpi) (left : Left) (digits : List ℕ) (byte : ℕ) (rest : List ℕ) (rows : List (List ℕ))
+pub no_send : (size : Size) (dpi : Dpi) (left : LeftOver) (digits : List ℕ) (byte : ℕ) (rest : List ℕ) (rows : List (List ℕ))
     → Told left digits byte rest → byte ≡ 87
     → ((bytes more first : List ℕ) → number_of digits ≡ length bytes → rest ≡ bytes ++ more → 0 < left.rows → IsRowOf size dpi first
     → IsRowData left.method left.above first bytes → ⊥)
-    → IsPrinted size dpi left rows → ⊥
+    → RestPrints size dpi left rows → ⊥
 no_send size dpi left digits byte rest rows told b none printed = elim (front_at size dpi left digits byte rest rows told printed) [
   | is_method other last c m p ↦ letters_77_87 last (sym c ∙ b)
   | is_skip last others c some few r p ↦ letters_89_87 last (sym c ∙ b)
@@ -255,9 +257,10 @@ no_send size dpi left digits byte rest rows told b none printed = elim (front_at
 ]
 
 -- no letter of the grammar
-pub no_letter : (size : Size) (dpi : Dpi) (left : Left) (digits : List ℕ) (byte : ℕ) (rest : List ℕ) (rows : List (List ℕ))
-    → Told left digits byte rest → ((ends : Bool) → byte ≡ sign 77 ends → ⊥) → ((ends : Bool) → byte ≡ sign 89 ends → ⊥) → (byte ≡ 87 → ⊥)
-    → IsPrinted size dpi left rows → ⊥
+pub no_letter : (size : Size) (dpi : Dpi) (left : LeftOver) (digits : List ℕ) (byte : ℕ) (rest : List ℕ) (rows : List (List ℕ))
+    → Told left digits byte rest → ((ends : Bool) → byte ≡ letter_code 77 ends → ⊥) → ((ends : Bool) → byte ≡ letter_code 89 ends → ⊥)
+    → (byte ≡ 87 → ⊥)
+    → RestPrints size dpi left rows → ⊥
 no_letter size dpi left digits byte rest rows told m y w printed = elim (front_at size dpi left digits byte rest rows told printed) [
   | is_method other last c n p ↦ m last c
   | is_skip last others c some few r p ↦ y last c
@@ -272,18 +275,20 @@ digits_only current above text are [] rows e p = p
 digits_only current above text are (opening ∷ tokens) rows e p = p
 digits_only current above text are (method spelled next ends ∷ tokens) rows e p =
     let more = flat_map token_bytes tokens in
-    no_split is_digit text spelled (sign 77 ends) (more ++ end_bytes) are (no_digit_77 ends)
-    (e ∙ ap (λ (l : List ℕ). ((spelled ++ l) ++ more) ++ end_bytes) (letter_is 77 ends) ∙ regroup spelled (sign 77 ends) [] more end_bytes)
+    no_split is_digit text spelled (letter_code 77 ends) (more ++ end_bytes) are (no_digit_77 ends)
+    (e ∙ ap (λ (l : List ℕ). ((spelled ++ l) ++ more) ++ end_bytes) (letter_is 77 ends)
+    ∙ regroup spelled (letter_code 77 ends) [] more end_bytes)
 digits_only current above text are (skip spelled count ends ∷ tokens) rows e p =
     let more = flat_map token_bytes tokens in
-    no_split is_digit text spelled (sign 89 ends) (more ++ end_bytes) are (no_digit_89 ends)
-    (e ∙ ap (λ (l : List ℕ). ((spelled ++ l) ++ more) ++ end_bytes) (letter_is 89 ends) ∙ regroup spelled (sign 89 ends) [] more end_bytes)
+    no_split is_digit text spelled (letter_code 89 ends) (more ++ end_bytes) are (no_digit_89 ends)
+    (e ∙ ap (λ (l : List ℕ). ((spelled ++ l) ++ more) ++ end_bytes) (letter_is 89 ends)
+    ∙ regroup spelled (letter_code 89 ends) [] more end_bytes)
 digits_only current above text are (send spelled bytes ∷ tokens) rows e p =
     let more = flat_map token_bytes tokens in
     no_split is_digit text spelled 87 (bytes ++ (more ++ end_bytes)) are refl (e ∙ regroup spelled 87 bytes more end_bytes)
 
-pub no_byte : (size : Size) (dpi : Dpi) (left : Left) (rows : List (List ℕ)) → left.inside ≡ true → AreDigits left.text
-    → IsPrinted size dpi left rows → ⊥
+pub no_byte : (size : Size) (dpi : Dpi) (left : LeftOver) (rows : List (List ℕ)) → left.inside ≡ true → AreDigits left.text
+    → RestPrints size dpi left rows → ⊥
 no_byte size dpi left rows inside are printed =
     digits_only left.method left.above left.text are printed.tokens rows printed.spelled
     (subst (λ (i : Bool). PrintsRows i left.method left.above printed.tokens rows) inside printed.prints)

@@ -18,8 +18,8 @@ use Rattle.pcl_plan.specs.PageText.{IsRowOf, bitmap_rows}
 use Rattle.pcl_rows.specs.Rows.{IsRowData}
 use Rattle.pcl_cert.specs.declared.reading.body.Place.{Place}
 use Rattle.pcl_cert.specs.declared.reading.parameter.Parameter.{Parameter}
-use Rattle.pcl_cert.specs.Reading.{Left, IsParameter, IsPrinted, Becomes, left_at, AreRowsAt, IsStep}
-use Rattle.pcl_cert.proofs.Fronts.{sign, left_of, white_rows}
+use Rattle.pcl_cert.specs.Reading.{LeftOver, IsParameter, RestPrints, GivesRows, left_at, AreRowsAt, IsStep}
+use Rattle.pcl_cert.proofs.Fronts.{letter_code, left_over, white_rows}
 use Rattle.pcl_cert.proofs.Outside.{opening_bytes, opening_becomes}
 use Rattle.pcl_cert.proofs.Moves.{Told, with_code, no_method, no_skip, no_send, method_becomes, skip_becomes, send_becomes}
 
@@ -34,7 +34,7 @@ shorter text parameter is =
     omega (arith, ap length is.spelled, length-append parameter.digits.now (parameter.letter ∷ parameter.rest.now))
 
 -- a letter with its case
-cased : (capital byte : ℕ) → (byte ≡ capital) ⊎ (byte ≡ capital + 32) → (ends : Bool) × (byte ≡ sign capital ends)
+cased : (capital byte : ℕ) → (byte ≡ capital) ⊎ (byte ≡ capital + 32) → (ends : Bool) × (byte ≡ letter_code capital ends)
     × ((byte == capital + 32) ≡ not ends)
 cased capital byte (inl e) = (true, e, grind (arith, nat_tests))
 cased capital byte (inr e) = (false, e, grind (arith, nat_tests))
@@ -58,8 +58,10 @@ none_past n lt =
 of_code : (number : ℕ) (m : Method) → method_with_code number ≡ Some m → number ≡ method_code m
 of_code zero m e = let same : ◌≡◌ {A = Option Method} (Some Plain) (Some m) = e in let is : Plain ≡ m = cc in ap method_code is
 of_code (suc zero) m e = let same : ◌≡◌ {A = Option Method} (Some Runs) (Some m) = e in let is : Runs ≡ m = cc in ap method_code is
-of_code (suc (suc zero)) m e = let same : ◌≡◌ {A = Option Method} (Some Packed) (Some m) = e in let is : Packed ≡ m = cc in ap method_code is
-of_code (suc (suc (suc zero))) m e = let same : ◌≡◌ {A = Option Method} (Some Delta) (Some m) = e in let is : Delta ≡ m = cc in ap method_code is
+of_code (suc (suc zero)) m e =
+    let same : ◌≡◌ {A = Option Method} (Some Packed) (Some m) = e in let is : Packed ≡ m = cc in ap method_code is
+of_code (suc (suc (suc zero))) m e =
+    let same : ◌≡◌ {A = Option Method} (Some Delta) (Some m) = e in let is : Delta ≡ m = cc in ap method_code is
 of_code (suc (suc (suc (suc n)))) m e =
     let same : ◌≡◌ {A = Option Method} None (Some m) = sym (none_past (suc (suc (suc (suc n)))) (omega arith)) ∙ e in absurd cc
 
@@ -100,7 +102,8 @@ switched picture size above place parameter next inside is letter some within =
     let left = left_at size picture.dpi place above in (
       record {
         given = [];
-        becomes = subst (λ (b : Bool). Becomes size picture.dpi left [] (left_of b next above left.rows parameter.rest.now)) (sym signed.2)
+        becomes = subst (λ (b : Bool). GivesRows size picture.dpi left [] (left_over b next above left.rows parameter.rest.now))
+            (sym signed.2)
             (method_becomes size picture.dpi left parameter.digits.now parameter.letter parameter.rest.now next signed.0
             (told picture size above place parameter inside is) signed.1 spelled);
         row_is = omega arith;
@@ -122,18 +125,19 @@ heights Letter Dpi600 = lit≤ tt
 heights Legal Dpi600 = lit≤ tt
 heights A4 Dpi600 = lit≤ tt
 
-pub becomes_to : (size : Size) (dpi : Dpi) (old : Left) (given : List (List ℕ)) (inside outcome : Bool) (current : Method)
+pub becomes_to : (size : Size) (dpi : Dpi) (old : LeftOver) (given : List (List ℕ)) (inside outcome : Bool) (current : Method)
     (above below : List ℕ) (rows left : ℕ) (text : List ℕ) → inside ≡ outcome → above ≡ below → rows ≡ left
-    → Becomes size dpi old given (left_of inside current above rows text) → Becomes size dpi old given (left_of outcome current below left text)
+    → GivesRows size dpi old given (left_over inside current above rows text)
+    → GivesRows size dpi old given (left_over outcome current below left text)
 becomes_to size dpi old given inside outcome current above below rows left text i a r b =
-    subst (λ (z : ℕ). Becomes size dpi old given (left_of outcome current below z text)) r
-    (subst (λ (z : List ℕ). Becomes size dpi old given (left_of outcome current z rows text)) a
-    (subst (λ (z : Bool). Becomes size dpi old given (left_of z current above rows text)) i b))
+    subst (λ (z : ℕ). GivesRows size dpi old given (left_over outcome current below z text)) r
+    (subst (λ (z : List ℕ). GivesRows size dpi old given (left_over outcome current z rows text)) a
+    (subst (λ (z : Bool). GivesRows size dpi old given (left_over z current above rows text)) i b))
 
 pub too_many : (picture : Picture) (size : Size) (above : List ℕ) (place : Place) (parameter : Parameter) (rows : List (List ℕ))
     → place.inside ≡ true → IsParameter place.text.now parameter → (parameter.letter ≡ 89) ⊎ (parameter.letter ≡ 121)
     → (0 < parameter.number → parameter.number ≤ page_height size picture.dpi - place.row → ⊥)
-    → IsPrinted size picture.dpi (left_at size picture.dpi place above) rows → ⊥
+    → RestPrints size picture.dpi (left_at size picture.dpi place above) rows → ⊥
 too_many picture size above place parameter rows inside is letter none printed =
     let signed = cased 89 parameter.letter letter in
     no_skip size picture.dpi (left_at size picture.dpi place above) parameter.digits.now parameter.letter parameter.rest.now signed.0 rows
@@ -161,8 +165,8 @@ skipped picture size above below place parameter is_same inside is letter some f
     let many : length given ≡ parameter.number = length-replicate parameter.number (replicate (page_row_bytes size picture.dpi) 0) in
     let moved = skip_becomes size picture.dpi left parameter.digits.now parameter.letter parameter.rest.now signed.0
     (told picture size above place parameter inside is) signed.1 (omega (arith, number)) (omega (arith, number)) in
-    let counted = subst (λ (n : ℕ). Becomes size picture.dpi left (white_rows size picture.dpi n)
-    (left_of (not signed.0) place.method (replicate (length above) 0) (left.rows - n) parameter.rest.now)) number moved in
+    let counted = subst (λ (n : ℕ). GivesRows size picture.dpi left (white_rows size picture.dpi n)
+    (left_over (not signed.0) place.method (replicate (length above) 0) (left.rows - n) parameter.rest.now)) number moved in
     let at : Type 0 = AreRowsAt picture place.row given in
     let rows_at : (given ≡ take parameter.number (drop place.row (bitmap_rows picture))) → AreRowsAt picture place.row given =
     λ e. subst (λ (n : ℕ). given ≡ take n (drop place.row (bitmap_rows picture))) (sym many) e in
@@ -209,7 +213,7 @@ pub no_row : (picture : Picture) (size : Size) (above : List ℕ) (place : Place
     → length bytes ≡ parameter.number → parameter.rest.now ≡ bytes ++ more
     → (0 < page_height size picture.dpi - place.row → (other : List ℕ) → IsRowOf size picture.dpi other
     → IsRowData place.method above other bytes → ⊥)
-    → IsPrinted size picture.dpi (left_at size picture.dpi place above) rows → ⊥
+    → RestPrints size picture.dpi (left_at size picture.dpi place above) rows → ⊥
 no_row picture size above place parameter bytes more rows inside is letter le n parts none printed =
     no_send size picture.dpi (left_at size picture.dpi place above) parameter.digits.now parameter.letter parameter.rest.now rows
     (told picture size above place parameter inside is) letter
@@ -250,11 +254,12 @@ sent picture size above below place parameter bytes more is_same inside is lette
 
 -- ---- outside a sequence, and what no letter is
 
-pub neither_letter : (capital byte : ℕ) → (byte ≡ capital → ⊥) → (byte ≡ capital + 32 → ⊥) → (ends : Bool) → byte ≡ sign capital ends → ⊥
+pub neither_letter : (capital byte : ℕ) → (byte ≡ capital → ⊥) → (byte ≡ capital + 32 → ⊥) → (ends : Bool)
+    → byte ≡ letter_code capital ends → ⊥
 neither_letter capital byte large small true e = large e
 neither_letter capital byte large small false e = small e
 
-pub opened : (picture : Picture) (size : Size) (above : List ℕ) (place : Place) (rest : Bor (List ℕ)) → place.inside ≡ false
+pub sequence_opened : (picture : Picture) (size : Size) (above : List ℕ) (place : Place) (rest : Bor (List ℕ)) → place.inside ≡ false
     → place.text.now ≡ opening_bytes ++ rest.now → place.row ≤ page_height size picture.dpi
     → IsStep picture size place above (Some record {
       text = rest;
@@ -263,7 +268,7 @@ pub opened : (picture : Picture) (size : Size) (above : List ℕ) (place : Place
       inside = true;
       is_same = place.is_same;
     }) above
-opened picture size above place rest outside e within = (
+sequence_opened picture size above place rest outside e within = (
   record {
     given = [];
     becomes = opening_becomes size picture.dpi (left_at size picture.dpi place above) rest.now outside e;

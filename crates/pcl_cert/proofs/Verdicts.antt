@@ -14,7 +14,7 @@ use Rattle.pcl_plan.specs.Tokens.{token_bytes, start_bytes, end_bytes}
 use Rattle.pcl_plan.specs.PageText.{IsPageText, bitmap_rows}
 use Rattle.pcl_plan.proofs.RowsFrom.{length_rows}
 use Rattle.pcl_cert.specs.declared.reading.start.Start.{Start}
-use Rattle.pcl_cert.specs.Reading.{IsStart, IsPrinted, body_of, IsBodyVerdict, raster_start}
+use Rattle.pcl_cert.specs.Reading.{IsStart, RestPrints, body_of, IsBodyVerdict, raster_start}
 use Rattle.pcl_cert.specs.TextVerdicts.{IsSomePageText}
 use Rattle.pcl_cert.proofs.Beginnings.{start_is, code_small, size_coded, size_read, IsSize}
 
@@ -24,7 +24,7 @@ joined : (a b c : List ℕ) → a ++ (b ++ c) ≡ (a ++ b) ++ c
 joined a b c = simp append_assoc
 
 pub printed_text : (dpi : Dpi) (size : Size) (copies : ℕ) (rows : List (List ℕ)) (text rest : List ℕ) → 0 < copies → copies < 100
-    → text ≡ start_bytes dpi copies size ++ rest → IsPrinted size dpi (body_of size dpi rest) rows → IsPageText dpi size copies rows text
+    → text ≡ start_bytes dpi copies size ++ rest → RestPrints size dpi (body_of size dpi rest) rows → IsPageText dpi size copies rows text
 printed_text dpi size copies rows text rest some few e p = record {
   some_copies = some;
   few_copies = few;
@@ -38,7 +38,7 @@ printed_text dpi size copies rows text rest some few e p = record {
 
 -- the body behind the begin of a page text
 pub text_body : (dpi : Dpi) (size : Size) (copies : ℕ) (rows : List (List ℕ)) (text : List ℕ) → IsPageText dpi size copies rows text
-    → (rest : List ℕ) × (text ≡ start_bytes dpi copies size ++ rest) × IsPrinted size dpi (body_of size dpi rest) rows
+    → (rest : List ℕ) × (text ≡ start_bytes dpi copies size ++ rest) × RestPrints size dpi (body_of size dpi rest) rows
 text_body dpi size copies rows text is = (
   flat_map token_bytes is.tokens ++ end_bytes,
   is.spelled ∙ sym (joined (start_bytes dpi copies size) (flat_map token_bytes is.tokens) end_bytes),
@@ -79,14 +79,14 @@ no_start dpi text none is =
 -- the body of a page text that begins so
 body_at : (dpi : Dpi) (text : List ℕ) (start : Start) (size : Size) (copies : ℕ) (rows : List (List ℕ)) → IsStart dpi text (Some start)
     → IsPageText dpi size copies rows text
-    → (start.copies ≡ copies) × (start.size ≡ size) × IsPrinted start.size dpi (body_of start.size dpi start.rest.now) rows
+    → (start.copies ≡ copies) × (start.size ≡ size) × RestPrints start.size dpi (body_of start.size dpi start.rest.now) rows
 body_at dpi text start size copies rows begun is =
     let body = text_body dpi size copies rows text is in
     let same = one_start dpi text start.copies copies start.size size start.rest.now body.0 begun.1 is.few_copies begun.2 body.1 in (
       same.copies_is,
       same.size_is,
-      subst (λ (z : Size). IsPrinted z dpi (body_of z dpi start.rest.now) rows) (sym same.size_is)
-          (subst (λ (z : List ℕ). IsPrinted size dpi (body_of size dpi z) rows) (sym same.rest_is) body.2),
+      subst (λ (z : Size). RestPrints z dpi (body_of z dpi start.rest.now) rows) (sym same.size_is)
+          (subst (λ (z : List ℕ). RestPrints size dpi (body_of size dpi z) rows) (sym same.rest_is) body.2),
     )
 
 pub no_body : (picture : Picture) (text : List ℕ) (start : Start) (may_be : Bool) → IsStart picture.dpi text (Some start)

@@ -41,13 +41,15 @@ raster_start size dpi = codes "0E" ++ 27 ∷ codes "*p0x0Y" ++ 27 ∷ codes "*t"
 
 -- the begin of a text and what stands behind it, or none where it doesn't begin as a text does
 abbrev pub IsStart : Dpi → List ℕ → Option Start → Type 0
-IsStart dpi text None = (copies : ℕ) (size : Size) (rest : List ℕ) → 0 < copies → copies < 100 → text ≡ start_bytes dpi copies size ++ rest → ⊥
-IsStart dpi text (Some start) = (0 < start.copies) × (start.copies < 100) × (text ≡ start_bytes dpi start.copies start.size ++ start.rest.now)
+IsStart dpi text None = (copies : ℕ) (size : Size) (rest : List ℕ)
+    → 0 < copies → copies < 100 → text ≡ start_bytes dpi copies size ++ rest → ⊥
+IsStart dpi text (Some start) = (0 < start.copies) × (start.copies < 100)
+    × (text ≡ start_bytes dpi start.copies start.size ++ start.rest.now)
 
 -- ---- what is left of a text
 
 -- whether a sequence is open, the method, the row above, how many rows come, and the bytes
-pub record Left : Type 0 where
+pub record LeftOver : Type 0 where
   pub inside : Bool
   pub method : Method
   pub above : List ℕ
@@ -55,7 +57,7 @@ pub record Left : Type 0 where
   pub text : List ℕ
 
 -- some tokens and the end of a text print these rows of a size, as many as come
-pub record IsPrinted (size : Size) (dpi : Dpi) (left : Left) (rows : List (List ℕ)) : Type 0 where
+pub record RestPrints (size : Size) (dpi : Dpi) (left : LeftOver) (rows : List (List ℕ)) : Type 0 where
   pub count : length rows ≡ left.rows
   pub rows_are : AllByRecursion (IsRowOf size dpi) rows
   pub tokens : List Token
@@ -63,13 +65,13 @@ pub record IsPrinted (size : Size) (dpi : Dpi) (left : Left) (rows : List (List 
   pub prints : PrintsRows left.inside left.method left.above tokens rows
 
 -- what is left before a token and behind it: the first prints given rows and then those that the second prints
-pub record Becomes (size : Size) (dpi : Dpi) (old : Left) (given : List (List ℕ)) (new : Left) : Type 0 where
-  pub splits : (rows : List (List ℕ)) → IsPrinted size dpi old rows
-      → (rest : List (List ℕ)) × (rows ≡ given ++ rest) × IsPrinted size dpi new rest
-  pub joins : (rest : List (List ℕ)) → IsPrinted size dpi new rest → IsPrinted size dpi old (given ++ rest)
+pub record GivesRows (size : Size) (dpi : Dpi) (old : LeftOver) (given : List (List ℕ)) (new : LeftOver) : Type 0 where
+  pub splits : (rows : List (List ℕ)) → RestPrints size dpi old rows
+      → (rest : List (List ℕ)) × (rows ≡ given ++ rest) × RestPrints size dpi new rest
+  pub joins : (rest : List (List ℕ)) → RestPrints size dpi new rest → RestPrints size dpi old (given ++ rest)
 
 -- what is left at a place
-abbrev pub left_at : Size → Dpi → Place → List ℕ → Left
+abbrev pub left_at : Size → Dpi → Place → List ℕ → LeftOver
 left_at size dpi place above = record {
   inside = place.inside;
   method = place.method;
@@ -83,9 +85,9 @@ abbrev pub AreRowsAt : Picture → ℕ → List (List ℕ) → Type 0
 AreRowsAt picture y rows = rows ≡ take (length rows) (drop y (bitmap_rows picture))
 
 -- tokens lead from one place to another, and say given rows, which are compared with the page's
-pub record Leads (picture : Picture) (size : Size) (place : Place) (above : List ℕ) (next : Place) (below : List ℕ) : Type 0 where
+pub record Advances (picture : Picture) (size : Size) (place : Place) (above : List ℕ) (next : Place) (below : List ℕ) : Type 0 where
   pub given : List (List ℕ)
-  pub becomes : Becomes size picture.dpi (left_at size picture.dpi place above) given (left_at size picture.dpi next below)
+  pub becomes : GivesRows size picture.dpi (left_at size picture.dpi place above) given (left_at size picture.dpi next below)
   pub row_is : next.row ≡ place.row + length given
   pub within : next.row ≤ page_height size picture.dpi
   pub same : IsTrue next.is_same ↔ (IsTrue place.is_same × AreRowsAt picture place.row given)
@@ -93,9 +95,9 @@ pub record Leads (picture : Picture) (size : Size) (place : Place) (above : List
 -- a token is read, or there is none that a text may go on with
 abbrev pub IsStep : Picture → Size → Place → List ℕ → Option Place → List ℕ → Type 0
 IsStep picture size place above None below =
-    (rows : List (List ℕ)) → IsPrinted size picture.dpi (left_at size picture.dpi place above) rows → ⊥
+    (rows : List (List ℕ)) → RestPrints size picture.dpi (left_at size picture.dpi place above) rows → ⊥
 IsStep picture size place above (Some next) below =
-    Leads picture size place above next below × (length next.text.now < length place.text.now)
+    Advances picture size place above next below × (length next.text.now < length place.text.now)
 
 -- ---- rows
 
@@ -108,7 +110,7 @@ IsPaintedRow dpi size method above bytes false row =
 -- ---- bodies
 
 -- a body and the end of its text, from the first row on
-abbrev pub body_of : Size → Dpi → List ℕ → Left
+abbrev pub body_of : Size → Dpi → List ℕ → LeftOver
 body_of size dpi text = record {
   inside = false;
   method = Plain;
@@ -120,11 +122,11 @@ body_of size dpi text = record {
 -- the only rows that a body prints, and whether they are those of a page that may be its own
 pub record IsOnlyPrinted (picture : Picture) (size : Size) (text : List ℕ) (may_be is_same : Bool) : Type 0 where
   pub rows : List (List ℕ)
-  pub printed : IsPrinted size picture.dpi (body_of size picture.dpi text) rows
-  pub only : (other : List (List ℕ)) → IsPrinted size picture.dpi (body_of size picture.dpi text) other → other ≡ rows
+  pub printed : RestPrints size picture.dpi (body_of size picture.dpi text) rows
+  pub only : (other : List (List ℕ)) → RestPrints size picture.dpi (body_of size picture.dpi text) other → other ≡ rows
   pub same : IsTrue is_same ↔ (IsTrue may_be × AreRowsAt picture 0 rows)
 
 abbrev pub IsBodyVerdict : Picture → Size → List ℕ → Bool → Option Bool → Type 0
 IsBodyVerdict picture size text may_be None =
-    (rows : List (List ℕ)) → IsPrinted size picture.dpi (body_of size picture.dpi text) rows → ⊥
+    (rows : List (List ℕ)) → RestPrints size picture.dpi (body_of size picture.dpi text) rows → ⊥
 IsBodyVerdict picture size text may_be (Some is_same) = IsOnlyPrinted picture size text may_be is_same

@@ -2,15 +2,15 @@
 //! and compares each row with the page's as it goes. It holds a row and the row above it, and takes no memory.
 
 mod body;
+mod comparison;
 mod parameter;
-mod sheet;
 mod start;
 
 ghost use Rattle.pcl_cert.specs.TextVerdicts.{IsTextVerdict};
 
 use body::read_body;
+use comparison::Comparison;
 use pcl_page::Page;
-use sheet::Sheet;
 use start::read_start;
 
 /// What a text is, beside a page.
@@ -32,14 +32,17 @@ pub fn read_page_text(page: &Page, text: &[u8]) -> TextVerdict
     let Some(start) = read_start(page.dpi, text) else {
         return TextVerdict::NotGrammar;
     };
-    let sheet = Sheet {
+    let comparison = Comparison {
         bitmap: &page.bitmap,
         size: start.size,
     };
     let is_same = start.size == page.size && start.copies == u32::from(page.copies);
-    match read_body(sheet, start.rest, is_same) {
+    match read_body(comparison, start.rest, is_same) {
         None => TextVerdict::NotGrammar,
         Some(false) => TextVerdict::OtherPage,
         Some(true) => TextVerdict::Prints,
     }
 }
+
+#[cfg(test)]
+mod tests;

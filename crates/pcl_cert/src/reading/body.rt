@@ -7,8 +7,8 @@ ghost use Rattle.pcl_bitmap.specs.Bitmap.{Picture};
 ghost use Rattle.pcl_plan.specs.Tokens.{end_bytes};
 ghost use Rattle.pcl_cert.specs.Reading.{IsParameter, IsStep, IsBodyVerdict, IsPaintedRow};
 
+use super::comparison::Comparison;
 use super::parameter::{Parameter, read_parameter};
-use super::sheet::Sheet;
 use pcl_base::{Method, ROW_LIMIT};
 use pcl_rows::{decode, is_whole};
 
@@ -35,11 +35,11 @@ pub struct Place<'a> {
 
 /// Reads a body and the end of its page text, beside a page that may be its own or is surely another: none where the
 /// text isn't of the grammar, else whether its rows are the page's.
-pub fn read_body(sheet: Sheet<'_>, text: &[u8], is_same: bool) -> Option<bool>
-    ensures { IsBodyVerdict sheet.entry.bitmap.now sheet.entry.size text.now is_same result }
+pub fn read_body(comparison: Comparison<'_>, text: &[u8], is_same: bool) -> Option<bool>
+    ensures { IsBodyVerdict comparison.entry.bitmap.now comparison.entry.size text.now is_same result }
 {
     let mut space = [0; ROW_LIMIT];
-    let above = &mut space[..sheet.row_bytes()];
+    let above = &mut space[..comparison.row_bytes()];
     let mut place = Place {
         text,
         row: 0,
@@ -48,17 +48,17 @@ pub fn read_body(sheet: Sheet<'_>, text: &[u8], is_same: bool) -> Option<bool>
         is_same,
     };
     while place.inside || place.text != END {
-        place = step(sheet, place, above)?;
+        place = step(comparison, place, above)?;
     }
-    Some(place.is_same && sheet.has_white_rows(place.row, sheet.height() - place.row))
+    Some(place.is_same && comparison.has_white_rows(place.row, comparison.height() - place.row))
 }
 
 /// Reads a token. `above` is the row above, and becomes the row above what is left.
-fn step<'a>(sheet: Sheet<'_>, place: Place<'a>, above: &mut [u8]) -> Option<Place<'a>>
-    requires row { place.row ≤ page_height sheet.size sheet.bitmap.now.dpi }
-    requires above { length above.old ≡ page_row_bytes sheet.size sheet.bitmap.now.dpi }
+fn step<'a>(comparison: Comparison<'_>, place: Place<'a>, above: &mut [u8]) -> Option<Place<'a>>
+    requires row { place.row ≤ page_height comparison.size comparison.bitmap.now.dpi }
+    requires above { length above.old ≡ page_row_bytes comparison.size comparison.bitmap.now.dpi }
     requires goes_on { place.inside ≡ false → place.text.now ≡ end_bytes → ⊥ }
-    ensures { IsStep sheet.entry.bitmap.now sheet.entry.size place.entry above.old result above.new }
+    ensures { IsStep comparison.entry.bitmap.now comparison.entry.size place.entry above.old result above.new }
 {
     if !place.inside {
         let text = place.text.strip_prefix(OPENING)?;
@@ -71,8 +71,8 @@ fn step<'a>(sheet: Sheet<'_>, place: Place<'a>, above: &mut [u8]) -> Option<Plac
     let parameter = read_parameter(place.text)?;
     match parameter.letter {
         b'm' | b'M' => switch(place, parameter),
-        b'y' | b'Y' => skip(sheet, place, parameter, above),
-        b'W' => send(sheet, place, parameter, above),
+        b'y' | b'Y' => skip(comparison, place, parameter, above),
+        b'W' => send(comparison, place, parameter, above),
         _ => None,
     }
 }
@@ -96,7 +96,7 @@ fn switch<'a>(place: Place<'a>, parameter: Parameter<'a>) -> Option<Place<'a>>
 
 /// Skips rows.
 fn skip<'a>(
-    sheet: Sheet<'_>,
+    comparison: Comparison<'_>,
     place: Place<'a>,
     parameter: Parameter<'a>,
     above: &mut [u8],
@@ -104,12 +104,12 @@ fn skip<'a>(
     requires inside { place.inside ≡ true }
     requires parameter { IsParameter place.text.now parameter }
     requires letter { (parameter.letter ≡ 89) ⊎ (parameter.letter ≡ 121) }
-    requires row { place.row ≤ page_height sheet.size sheet.bitmap.now.dpi }
-    requires above { length above.old ≡ page_row_bytes sheet.size sheet.bitmap.now.dpi }
-    ensures { IsStep sheet.entry.bitmap.now sheet.entry.size place.entry above.old result above.new }
+    requires row { place.row ≤ page_height comparison.size comparison.bitmap.now.dpi }
+    requires above { length above.old ≡ page_row_bytes comparison.size comparison.bitmap.now.dpi }
+    ensures { IsStep comparison.entry.bitmap.now comparison.entry.size place.entry above.old result above.new }
 {
     let count = parameter.number;
-    if count == 0 || count > sheet.height() - place.row {
+    if count == 0 || count > comparison.height() - place.row {
         return None;
     }
     above.fill(0);
@@ -117,14 +117,14 @@ fn skip<'a>(
         text: parameter.rest,
         row: place.row + count,
         inside: parameter.letter == b'y',
-        is_same: place.is_same && sheet.has_white_rows(place.row, count),
+        is_same: place.is_same && comparison.has_white_rows(place.row, count),
         ..place
     })
 }
 
 /// Takes the data of a row.
 fn send<'a>(
-    sheet: Sheet<'_>,
+    comparison: Comparison<'_>,
     place: Place<'a>,
     parameter: Parameter<'a>,
     above: &mut [u8],
@@ -132,32 +132,32 @@ fn send<'a>(
     requires inside { place.inside ≡ true }
     requires parameter { IsParameter place.text.now parameter }
     requires letter { parameter.letter ≡ 87 }
-    requires row { place.row ≤ page_height sheet.size sheet.bitmap.now.dpi }
-    requires above { length above.old ≡ page_row_bytes sheet.size sheet.bitmap.now.dpi }
-    ensures { IsStep sheet.entry.bitmap.now sheet.entry.size place.entry above.old result above.new }
+    requires row { place.row ≤ page_height comparison.size comparison.bitmap.now.dpi }
+    requires above { length above.old ≡ page_row_bytes comparison.size comparison.bitmap.now.dpi }
+    ensures { IsStep comparison.entry.bitmap.now comparison.entry.size place.entry above.old result above.new }
 {
-    let (data, rest) = parameter.split_data()?;
-    if place.row == sheet.height() || !paint(sheet, place.method, data, above) {
+    let (bytes, rest) = parameter.split_data()?;
+    if place.row == comparison.height() || !paint(comparison, place.method, bytes, above) {
         return None;
     }
     Some(Place {
         text: rest,
         row: place.row + 1,
         inside: false,
-        is_same: place.is_same && sheet.has_row(place.row, above),
+        is_same: place.is_same && comparison.has_row(place.row, above),
         ..place
     })
 }
 
 /// Makes a row of the row above it, and answers whether its data is whole and its pad bits are clear.
-fn paint(sheet: Sheet<'_>, method: Method, data: &[u8], above: &mut [u8]) -> bool
-    requires above { length above.old ≡ page_row_bytes sheet.size sheet.bitmap.now.dpi }
-    requires fits { length data.now ≤ 65535 }
-    ensures { IsPaintedRow sheet.entry.bitmap.now.dpi sheet.entry.size method above.old data.now result above.new }
+fn paint(comparison: Comparison<'_>, method: Method, bytes: &[u8], above: &mut [u8]) -> bool
+    requires above { length above.old ≡ page_row_bytes comparison.size comparison.bitmap.now.dpi }
+    requires fits { length bytes.now ≤ 65535 }
+    ensures { IsPaintedRow comparison.entry.bitmap.now.dpi comparison.entry.size method above.old bytes.now result above.new }
 {
     let mut space = [0; ROW_LIMIT];
     let row = &mut space[..above.len()];
-    decode(method, above, data, row);
+    decode(method, above, bytes, row);
     above.copy_from_slice(row);
-    is_whole(method, data, above.len()) && sheet.has_clear_pads(above)
+    is_whole(method, bytes, above.len()) && comparison.has_clear_pads(above)
 }

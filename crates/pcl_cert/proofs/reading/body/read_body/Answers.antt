@@ -16,8 +16,8 @@ use Rattle.pcl_cert.proofs.reading.body.read_body.Goals as goal
 
 pub loop-place-init : goal.loop-place-init
 loop-place-init c =
-    let size = c.args.sheet.size in
-    let dpi = c.args.sheet.bitmap.now.dpi in
+    let size = c.args.comparison.size in
+    let dpi = c.args.comparison.bitmap.now.dpi in
     let body = body_of size dpi c.args.text.now in
     let width : ℕ = page_row_bytes size dpi in
     let small = row_small size dpi in
@@ -35,12 +35,12 @@ loop-place-init c =
 pub returns-in_err-place : goal.returns-in_err-place
 returns-in_err-place c =
     let read = c.loop-place.invariant in
-    subst (IsBodyVerdict c.args.sheet.bitmap.now c.args.sheet.size c.args.text.now c.args.is_same) (sym c.from_residual.ensures)
+    subst (IsBodyVerdict c.args.comparison.bitmap.now c.args.comparison.size c.args.text.now c.args.is_same) (sym c.from_residual.ensures)
     (λ rows printed. let left = read.becomes.splits rows printed in c.in_err-place.ensures left.0 left.2)
 
 pub loop-place-preserved : goal.loop-place-preserved
 loop-place-preserved c =
-    read_on c.args.sheet.bitmap.now c.args.sheet.size c.args.text.now c.args.is_same c.loop-place.place c.loop-place.above
+    read_on c.args.comparison.bitmap.now c.args.comparison.size c.args.text.now c.args.is_same c.loop-place.place c.loop-place.above
     c.in_ok-place.place c.step.new.above c.loop-place.invariant c.in_ok-place.ensures.0
 
 -- the text isn't other than the end
@@ -53,8 +53,8 @@ ended text e = (slice_eq-Decides Decides-eqb text end_bytes (bytes_eq text end_b
 
 pub returns-then-place-2 : goal.returns-then-place-2
 returns-then-place-2 c =
-    let picture = c.args.sheet.bitmap.now in
-    let size = c.args.sheet.size in
+    let picture = c.args.comparison.bitmap.now in
+    let size = c.args.comparison.size in
     let place = c.loop-place.place in
     let left : ℕ = page_height size picture.dpi - place.row in
     read_all picture size c.args.text.now c.args.is_same place c.loop-place.above c.has_white_rows.result c.loop-place.invariant
@@ -66,8 +66,8 @@ returns-then-place-2 c =
 
 pub returns-else-place-2 : goal.returns-else-place-2
 returns-else-place-2 c =
-    let picture = c.args.sheet.bitmap.now in
-    let size = c.args.sheet.size in
+    let picture = c.args.comparison.bitmap.now in
+    let size = c.args.comparison.size in
     let place = c.loop-place.place in
     let left : ℕ = page_height size picture.dpi - place.row in
     read_all picture size c.args.text.now c.args.is_same place c.loop-place.above place.is_same c.loop-place.invariant c.if-place.false

@@ -8,7 +8,7 @@ use Rattle.pcl_cert.proofs.reading.body.skip.Goals.{then-count-eq0-via-then-coun
 
 pub returns-then-count-eq0 : goal.returns-then-count-eq0
 returns-then-count-eq0 c = λ rows printed.
-    too_many c.args.sheet.bitmap.now c.args.sheet.size c.args.above.now c.args.place c.args.parameter rows c.requires.inside
+    too_many c.args.comparison.bitmap.now c.args.comparison.size c.args.above.now c.args.place c.args.parameter rows c.requires.inside
     c.requires.parameter c.requires.letter
     (λ some few. elim c.then-count-eq0.branch [
       | then-count-eq0-via-then-count-eq0 w ↦ let none = w.if-count-eq0.true in omega arith
@@ -18,19 +18,19 @@ returns-then-count-eq0 c = λ rows printed.
 
 pub returns : goal.returns
 returns c =
-    let picture = c.args.sheet.bitmap.now in
+    let picture = c.args.comparison.bitmap.now in
     let place = c.args.place in
     let few = c.if-count-height.false in
-    skipped picture c.args.sheet.size c.args.above.now c.fill.new.self place c.args.parameter c.if-place.result c.requires.inside
+    skipped picture c.args.comparison.size c.args.above.now c.fill.new.self place c.args.parameter c.if-place.result c.requires.inside
     c.requires.parameter c.requires.letter (let some = c.if-count-eq0.false in omega arith) (omega (arith, few, c.height.ensures))
     (c.fill.ensures.after (λ y e. e))
     (elim c.if-place.branch [
       | then-place w ↦ both place.is_same w.has_white_rows.result c.if-place.result
-          (white_rows c.args.sheet.size picture.dpi c.args.parameter.number
+          (white_rows c.args.comparison.size picture.dpi c.args.parameter.number
           ≡ take c.args.parameter.number (drop place.row (bitmap_rows picture)))
           w.has_white_rows.ensures w.if-place.true w.result-is
       | else-place w ↦ neither place.is_same c.if-place.result
-          (white_rows c.args.sheet.size picture.dpi c.args.parameter.number
+          (white_rows c.args.comparison.size picture.dpi c.args.parameter.number
           ≡ take c.args.parameter.number (drop place.row (bitmap_rows picture)))
           w.if-place.false w.result-is
     ])

@@ -86,7 +86,8 @@ returns c =
       text_is = front ∙ ap (λ (z : List ℕ). first_bytes ++ z) (c.in_ok-copies.ensures.0
           ∙ ap (λ (z : List ℕ). decimal c.in_ok-copies.copies ++ 120 ∷ z) c.in_ok-code.ensures.0);
     } in
-    let raster = strip_prefix_is Decides-eqb c.in_ok-code.rest.now c.raster_start.result.now (Some c.in_ok-rest.rest) c.in_ok-rest.ensures.cases in (
+    let raster = strip_prefix_is Decides-eqb c.in_ok-code.rest.now c.raster_start.result.now (Some c.in_ok-rest.rest)
+    c.in_ok-rest.ensures.cases in (
       omega arith,
       omega arith,
       begun c.args.dpi text c.in_ok-copies.copies c.in_ok-code.code c.in_ok-code.rest.now c.in_ok-size.size c.in_ok-rest.rest.now read

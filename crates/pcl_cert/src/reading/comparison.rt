@@ -10,14 +10,14 @@ use pcl_bitmap::Bitmap;
 
 /// A page's dots, and the size that a text says, which may be another.
 #[derive(Clone, Copy)]
-pub struct Sheet<'a> {
+pub struct Comparison<'a> {
     /// The dots of the page.
     pub bitmap: &'a Bitmap,
     /// The size that the text says.
     pub size: Size,
 }
 
-impl Sheet<'_> {
+impl Comparison<'_> {
     /// How many rows the text's page has.
     pub fn height(&self) -> u32
         ensures { result ≡ page_height self.now.size self.now.bitmap.now.dpi }

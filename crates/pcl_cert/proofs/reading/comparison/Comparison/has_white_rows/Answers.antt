@@ -2,8 +2,8 @@ use Rattle.std.proofs.Common.{◌≡◌, ◌+◌, ◌-◌, ℕ, suc, List, take,
 use Rattle.std.proofs.lemmas.List.{drop-drop}
 use Rattle.pcl_base.specs.Size.{page_row_bytes}
 use Rattle.pcl_plan.specs.PageText.{bitmap_rows}
-use Rattle.pcl_cert.proofs.SheetRows.{more_rows, one_row}
-use Rattle.pcl_cert.proofs.reading.sheet.Sheet.has_white_rows.Goals as goal
+use Rattle.pcl_cert.proofs.ComparedRows.{more_rows, one_row}
+use Rattle.pcl_cert.proofs.reading.comparison.Comparison.has_white_rows.Goals as goal
 
 pub returns-then-not-has_white_row : goal.returns-then-not-has_white_row
 returns-then-not-has_white_row c =

@@ -4,8 +4,8 @@ use Rattle.std.proofs.lemmas.List.{length-replicate}
 use Rattle.std.proofs.lemmas.Bool.Decides.{nat_tests}
 use Rattle.pcl_base.specs.Size.{page_row_bytes}
 use Rattle.pcl_bitmap.specs.Bitmap.{row_of}
-use Rattle.pcl_cert.proofs.SheetRows.{first_row, past_rows, all_zeros, zeros_all}
-use Rattle.pcl_cert.proofs.reading.sheet.Sheet.has_white_row.Goals as goal
+use Rattle.pcl_cert.proofs.ComparedRows.{first_row, past_rows, all_zeros, zeros_all}
+use Rattle.pcl_cert.proofs.reading.comparison.Comparison.has_white_row.Goals as goal
 
 pub returns-then-y-page_height : goal.returns-then-y-page_height
 returns-then-y-page_height c =
@@ -17,7 +17,8 @@ returns-then-row-row_bytes c =
     let picture = c.args.self.now.bitmap.now in
     let width = page_row_bytes c.args.self.now.size picture.dpi in
     let first = first_row picture c.args.y (omega (arith, c.page_height.ensures)) in
-    let wide : length (row_of picture c.args.y) ≡ width = ap length (sym c.row.ensures.bytes) ∙ c.if-row-row_bytes.true ∙ c.row_bytes.ensures in (
+    let wide : length (row_of picture c.args.y) ≡ width =
+    ap length (sym c.row.ensures.bytes) ∙ c.if-row-row_bytes.true ∙ c.row_bytes.ensures in (
       λ yes.
           let zeros = all_zeros (row_of picture c.args.y) (c.is_blank.ensures.bytes.0 yes) in
           ap (λ (z : List ℕ). z ∷ []) (sym (zeros ∙ ap (λ (n : ℕ). replicate n 0) wide)) ∙ sym first,

@@ -2,8 +2,8 @@ use Rattle.std.proofs.Common.{◌≡◌, ◌∷◌, [], ℕ, List, sym, ap, ◌�
 use Rattle.std.proofs.lemmas.Slice.Eq.{slice_eq-Decides}
 use Rattle.std.proofs.lemmas.Bool.Decides.{Decides-eqb, nat_tests}
 use Rattle.pcl_bitmap.specs.Bitmap.{row_of}
-use Rattle.pcl_cert.proofs.SheetRows.{first_row, past_rows}
-use Rattle.pcl_cert.proofs.reading.sheet.Sheet.has_row.Goals as goal
+use Rattle.pcl_cert.proofs.ComparedRows.{first_row, past_rows}
+use Rattle.pcl_cert.proofs.reading.comparison.Comparison.has_row.Goals as goal
 
 pub returns-then-y-page_height : goal.returns-then-y-page_height
 returns-then-y-page_height c =

@@ -15,7 +15,8 @@ first_row picture y lt =
 
 -- below the last row there is none
 pub past_rows : (picture : Picture) (y : ℕ) → page_height picture.size picture.dpi ≤ y → take 1 (drop y (bitmap_rows picture)) ≡ []
-past_rows picture y le = ap (take 1) (no_rows y (page_height picture.size picture.dpi) (page_row_bytes picture.size picture.dpi) picture.bytes le)
+past_rows picture y le =
+    ap (take 1) (no_rows y (page_height picture.size picture.dpi) (page_row_bytes picture.size picture.dpi) picture.bytes le)
 
 -- ---- white rows
 
