@@ -8,3 +8,14 @@ pub mod ListsSpelled
 pub mod PagesSpelled
 pub mod Written
 pub mod KeptLists
+pub mod Splits
+pub mod ComparedRows
+pub mod Fronts
+pub mod Moves
+pub mod Outside
+pub mod Comparing
+pub mod Steps
+pub mod Decimals
+pub mod Beginnings
+pub mod Painted
+pub mod Verdicts

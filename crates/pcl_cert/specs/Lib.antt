@@ -3,3 +3,5 @@ pub mod Certificates
 pub mod ReadingCertificates
 pub mod PageTables
 pub mod Listing
+pub mod TextVerdicts
+pub mod Reading

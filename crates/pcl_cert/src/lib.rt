@@ -11,6 +11,7 @@ mod page_tables;
 mod reading_certificates;
 mod tables;
 mod writing_certificates;
+mod reading;
 
 pub use fault::CertFault;
 pub use format::Format;
@@ -19,3 +20,4 @@ pub use page_tables::row_tables;
 pub use reading_certificates::read_certificate;
 pub use tables::RowTables;
 pub use writing_certificates::write_certificate;
+pub use reading::{TextVerdict, read_page_text};
