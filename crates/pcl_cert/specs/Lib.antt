@@ -1,0 +1,4 @@
+pub mod Edges
+pub mod EdgePasses
+pub mod EdgeLengths
+pub mod SkipRoomModel

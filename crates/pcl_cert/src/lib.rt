@@ -2,6 +2,14 @@
 //! shorter, whoever made the certificate (docs/CERTIFICATE.md).
 #![tactic(auto)]
 
+mod edges;
+mod edges_costs;
+mod edges_found;
+mod edges_lengths;
+mod edges_skips;
 mod format;
 
+pub use edges::first_bad_number;
+pub use edges_found::BadNumber;
+pub use edges_lengths::{ByFirstNumbers, FirstNumbers, LeastByCoders, RowLengths};
 pub use format::Format;

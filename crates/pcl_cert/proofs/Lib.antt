@@ -1,0 +1,5 @@
+pub mod Values
+pub mod Found
+pub mod RunEnds
+pub mod SkipWindows
+pub mod EdgesByRows
