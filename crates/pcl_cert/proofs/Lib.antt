@@ -3,3 +3,5 @@ pub mod Found
 pub mod RunEnds
 pub mod SkipWindows
 pub mod EdgesByRows
+pub mod Switches
+pub mod Lengths

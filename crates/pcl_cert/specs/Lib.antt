@@ -1,4 +1,3 @@
 pub mod Edges
 pub mod EdgePasses
 pub mod EdgeLengths
-pub mod SkipRoomModel

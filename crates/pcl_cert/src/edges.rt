@@ -12,7 +12,7 @@ ghost use Rattle.pcl_cert.specs.EdgePasses.{At, AreRunEnds, AreEnds, IsGoodStart
 use crate::edges_costs::{is_within, row_cost};
 use crate::edges_found::{BadNumber, first_of};
 use crate::edges_lengths::RowLengths;
-use crate::edges_skips::{SkipRoom, first_bad_skip};
+use crate::edges_skips::first_bad_skip;
 use pcl_base::Method;
 use pcl_bitmap::Bitmap;
 use pcl_page::Page;
@@ -36,12 +36,13 @@ pub fn first_bad_number<L: RowLengths>(
 {
     let places = table.rows() as usize + 1;
     let mut ends = vec![in alloc; 0; places]?;
-    let mut room = SkipRoom::new(alloc, places)?;
+    let mut numbers = vec![in alloc; 0; places]?;
+    let mut queue = vec![in alloc; 0; places]?;
     fill_run_ends(&page.bitmap, &mut ends);
-    let plain = first_bad_in(lengths, page, table, &ends, Method::Plain, &mut room);
-    let runs = first_bad_in(lengths, page, table, &ends, Method::Runs, &mut room);
-    let packed = first_bad_in(lengths, page, table, &ends, Method::Packed, &mut room);
-    let delta = first_bad_in(lengths, page, table, &ends, Method::Delta, &mut room);
+    let plain = first_bad_in(lengths, page, table, &ends, Method::Plain, &mut numbers, &mut queue);
+    let runs = first_bad_in(lengths, page, table, &ends, Method::Runs, &mut numbers, &mut queue);
+    let packed = first_bad_in(lengths, page, table, &ends, Method::Packed, &mut numbers, &mut queue);
+    let delta = first_bad_in(lengths, page, table, &ends, Method::Delta, &mut numbers, &mut queue);
     Ok(first_of(first_of(plain, runs), first_of(packed, delta)))
 }
 
@@ -68,26 +69,27 @@ fn first_bad_in<L: RowLengths>(
     table: &Table,
     ends: &[u32],
     method: Method,
-    room: &mut SkipRoom,
+    numbers: &mut [u32],
+    queue: &mut [usize],
 ) -> Option<BadNumber>
     requires covered { L.covers lengths.now page.now }
     requires rows { length table.now ≡ page_height page.now.size page.now.dpi + 1 }
     requires ends { AreEnds ends.now (page_height page.now.size page.now.dpi) }
-    requires room { room.old ≡ length ends.now }
-    ensures found { FindsBad (IsGoodIn ends.now (page_height page.now.size page.now.dpi) (L.counts lengths.now page.now)
+    requires room { (length numbers.old ≡ length ends.now) × (length queue.old ≡ length ends.now) }
+    ensures { FindsBad (IsGoodIn ends.now (page_height page.now.size page.now.dpi) (L.counts lengths.now page.now)
         (node_number table.now) method) (page_height page.now.size page.now.dpi) result }
-    ensures room { room.new ≡ room.old }
 {
     let outside = first_bad_start(table, ends, method);
     let switch = first_bad_switch(table, method);
     let sent = first_bad_sending(lengths, page, table, method);
-    let skip = first_bad_skip(table, ends, method, room);
+    let skip = first_bad_skip(table, ends, method, numbers, queue);
     first_of(first_of(outside, switch), first_of(sent, skip))
 }
 
 /// The first node outside a sequence whose number is above that of the sequence that is opened, or isn't 0 at an end.
 fn first_bad_start(table: &Table, ends: &[u32], method: Method) -> Option<BadNumber>
-    requires { AreEnds ends.now (length table.now - 1) }
+    requires ends { AreEnds ends.now (length table.now - 1) }
+    requires size { length ends.now ≡ length table.now }
     ensures { FindsBad (At method false (IsGoodStart ends.now (node_number table.now) method)) (length table.now - 1) result }
 {
     for row in 0..ends.len() as u32 {
@@ -136,10 +138,11 @@ fn are_good_switches(table: &Table, row: u32, method: Method) -> bool
     ensures { IsTrue result ↔ AreGoodSwitches (node_number table.now) method row }
 {
     let number = table.number(row, method, true);
-    is_within(number, 1, table.rest(row, Method::Plain))
-        && is_within(number, 2, table.rest(row, Method::Runs))
-        && is_within(number, 2, table.rest(row, Method::Packed))
-        && is_within(number, 2, table.rest(row, Method::Delta))
+    let plain = table.rest(row, Method::Plain);
+    let runs = table.rest(row, Method::Runs);
+    let packed = table.rest(row, Method::Packed);
+    let delta = table.rest(row, Method::Delta);
+    is_within(number, 1, plain) && is_within(number, 2, runs.min(packed).min(delta))
 }
 
 /// The first node inside a sequence that the row that is sent undercuts.

@@ -11,37 +11,6 @@ use crate::edges_found::{BadNumber, first_of};
 use pcl_base::Method;
 use pcl_coders::Window;
 use pcl_plan::Table;
-use std::alloc::{AllocError, Global};
-use std::marker::Model;
-
-/// Room for a window over the numbers of a page.
-#[derive(Drop)]
-pub struct SkipRoom {
-    numbers: Vec<u32>,
-    places: Vec<usize>,
-}
-
-impl Model for SkipRoom {
-    ghost use Rattle.std.specs.Prelude.{ℕ};
-    ghost use Rattle.pcl_cert.specs.SkipRoomModel.{room_view, IsRoom};
-
-    ghost Value = { ℕ };
-
-    ghost view = { room_view };
-
-    ghost invariant = { IsRoom };
-}
-
-impl SkipRoom {
-    /// Room for so many numbers. It fails where memory runs out.
-    pub fn new(alloc: Global, places: usize) -> Result<SkipRoom, AllocError>
-        ensures { IfOk result (λ room. room ≡ places) }
-    {
-        let numbers = vec![in alloc; 0; places]?;
-        let places = vec![in alloc; 0; places]?;
-        Ok(SkipRoom { numbers, places })
-    }
-}
 
 /// The first node inside a sequence that a skip of white rows undercuts. A count of few digits is tried also where
 /// it is spelled with more: that undercuts less. So the rows that a skip of so many digits may lead to are always those
@@ -50,17 +19,18 @@ pub fn first_bad_skip(
     table: &Table,
     ends: &[u32],
     method: Method,
-    room: &mut SkipRoom,
+    numbers: &mut [u32],
+    queue: &mut [usize],
 ) -> Option<BadNumber>
     requires ends { AreEnds ends.now (length table.now - 1) }
-    requires room { room.old ≡ length ends.now }
-    ensures found { FindsBad (At method true (AreGoodSkipsTo ends.now (node_number table.now) method)) (length table.now - 1) result }
-    ensures room { room.new ≡ room.old }
+    requires size { length ends.now ≡ length table.now }
+    requires room { (length numbers.old ≡ length ends.now) × (length queue.old ≡ length ends.now) }
+    ensures { FindsBad (At method true (AreGoodSkipsTo ends.now (node_number table.now) method)) (length table.now - 1) result }
 {
-    let one = first_bad_skip_of(table, ends, method, 1, 9, room);
-    let two = first_bad_skip_of(table, ends, method, 2, 99, room);
-    let three = first_bad_skip_of(table, ends, method, 3, 999, room);
-    let four = first_bad_skip_of(table, ends, method, 4, 9999, room);
+    let one = first_bad_skip_of(table, ends, method, 1, 9, numbers, queue);
+    let two = first_bad_skip_of(table, ends, method, 2, 99, numbers, queue);
+    let three = first_bad_skip_of(table, ends, method, 3, 999, numbers, queue);
+    let four = first_bad_skip_of(table, ends, method, 4, 9999, numbers, queue);
     first_of(first_of(one, two), first_of(three, four))
 }
 
@@ -71,16 +41,17 @@ fn first_bad_skip_of(
     method: Method,
     digits: u32,
     most: u32,
-    room: &mut SkipRoom,
+    numbers: &mut [u32],
+    queue: &mut [usize],
 ) -> Option<BadNumber>
     requires ends { AreEnds ends.now (length table.now - 1) }
+    requires size { length ends.now ≡ length table.now }
     requires most { (0 < most) × (most ≤ 9999) × (digits ≤ 4) }
-    requires room { room.old ≡ length ends.now }
-    ensures found { FindsBad (At method true (AreGoodSkipsOf ends.now (node_number table.now) method digits most)) (length table.now - 1)
+    requires room { (length numbers.old ≡ length ends.now) × (length queue.old ≡ length ends.now) }
+    ensures { FindsBad (At method true (AreGoodSkipsOf ends.now (node_number table.now) method digits most)) (length table.now - 1)
         result }
-    ensures room { room.new ≡ room.old }
 {
-    let mut window = Window::new(&mut room.numbers, &mut room.places);
+    let mut window = Window::new(numbers, queue);
     let mut stop = 0;
     for row in 0..ends.len() as u32 {
         let last = ends[row as usize].min(row + most);

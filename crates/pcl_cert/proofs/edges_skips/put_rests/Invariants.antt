@@ -1,4 +1,4 @@
-use Rattle.std.proofs.Common.{◌≡◌, ◌+◌, ◌-◌, ◌≤◌, ◌++◌}
+use Rattle.std.proofs.Common.{◌≡◌, ◌+◌, ◌-◌, ◌++◌}
 use Rattle.pcl_plan.specs.Table.{node_number}
 use Rattle.pcl_cert.specs.EdgePasses.{rests}
 use Rattle.pcl_cert.proofs.edges_skips.put_rests.Given as goal
