@@ -1,12 +1,12 @@
 -- Good numbers by where the white rows end, and by the rows.
-use Rattle.std.proofs.Common.{◌≡◌, ℕ, ◌+◌, ◌-◌, ◌<◌, ◌≤◌, Bool, true, false, List, length, take, drop, refl, sym, ap, subst, ◌∙◌, inl, inr, arith}
+use Rattle.std.proofs.Common.{◌≡◌, ℕ, ◌-◌, ◌≤◌, Bool, true, false, List, length, drop, refl, sym, subst, inl, inr, arith}
 use Rattle.std.specs.Prelude.{slice_index}
 use Rattle.std.proofs.lemmas.Bool.{cases_lt}
 use Rattle.pcl_base.specs.declared.method.Method.{Method}
 use Rattle.pcl_base.specs.declared.method.Method.TheVariants.{Plain, Runs, Packed, Delta}
 use Rattle.pcl_plan.specs.Nodes.{Node}
 use Rattle.pcl_plan.proofs.Filled.{white_front, skippable_within, white_to_end, ink_left}
-use Rattle.pcl_cert.specs.Edges.{number_at, AreGoodSwitches, AreGoodSkips, IsGoodOutside, IsGoodInside, IsGoodNumber}
+use Rattle.pcl_cert.specs.Edges.{AreGoodSwitches, AreGoodSkips, IsGoodOutside, IsGoodNumber}
 use Rattle.pcl_cert.specs.EdgePasses.{At, Both, AreRunEnds, IsGoodStart, IsGoodSending, AreGoodSkipsTo, IsGoodBy, IsGoodIn}
 
 -- ---- starts

@@ -5,3 +5,4 @@ pub mod SkipWindows
 pub mod EdgesByRows
 pub mod Switches
 pub mod Lengths
+pub mod GoodNumbers

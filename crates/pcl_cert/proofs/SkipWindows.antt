@@ -1,16 +1,15 @@
 -- Skips by windows, and by all counts.
-use Rattle.std.proofs.Common.{◌≡◌, ℕ, ◌+◌, ◌-◌, ◌^◌, ◌<◌, ◌≤◌, Bool, true, false, min, List, [], ◌++◌, length, drop, refl, sym, ap, ◌∙◌, inl, inr, arith}
-use Rattle.std.specs.Prelude.{slice_index, ◌↔◌}
+use Rattle.std.proofs.Common.{◌≡◌, ℕ, ◌+◌, ◌-◌, ◌^◌, ◌<◌, ◌≤◌, Bool, true, false, min, List, [], ◌++◌, length, drop, sym, ap, ◌∙◌, inl, inr, arith}
+use Rattle.std.specs.Prelude.{slice_index}
 use Rattle.std.proofs.lemmas.Bool.{cases_lt}
 use Rattle.pcl_base.specs.declared.method.Method.{Method}
 use Rattle.pcl_coders.specs.Windows.{IsLeastOf}
 use Rattle.pcl_plan.specs.Nodes.{Node}
 use Rattle.pcl_plan.specs.Filling.{rest}
-use Rattle.pcl_plan.specs.Spelling.{digit_count}
 use Rattle.pcl_plan.proofs.Digits.{count_is, count_le}
 use Rattle.pcl_plan.proofs.RightRows.{rest_below, best_end}
-use Rattle.pcl_cert.specs.Edges.{number_at, setting_cost}
-use Rattle.pcl_cert.specs.EdgePasses.{AreEnds, AreGoodSkipsOf, AreGoodSkipsTo, rests, values}
+use Rattle.pcl_cert.specs.Edges.{number_at}
+use Rattle.pcl_cert.specs.EdgePasses.{AreEnds, AreGoodSkipsOf, AreGoodSkipsTo, rests}
 use Rattle.pcl_cert.proofs.Values.{length_values, value_in, values_joined, values_rest, no_values}
 
 -- the last row that a skip of at most so many rows leads to

@@ -1,14 +1,13 @@
 -- Switches of the method.
-use Rattle.std.proofs.Common.{◌≡◌, ℕ, ◌+◌, ◌≤◌, Bool, true, false, min, arith}
+use Rattle.std.proofs.Common.{◌≡◌, ℕ, ◌+◌, ◌≤◌, true, min, arith}
 use Rattle.pcl_base.specs.declared.method.Method.{Method}
 use Rattle.pcl_base.specs.declared.method.Method.TheVariants.{Plain, Runs, Packed, Delta}
-use Rattle.pcl_base.specs.Method.{method_code}
 use Rattle.std.specs.Prelude.{not}
 use Rattle.pcl_plan.specs.Nodes.{Node}
 use Rattle.pcl_plan.specs.Filling.{rest}
 use Rattle.pcl_plan.proofs.RightRows.{rest_below, best_end}
 use Rattle.pcl_plan.proofs.Switching.{switch_cost, switching_is}
-use Rattle.pcl_cert.specs.Edges.{number_at, setting_cost, AreGoodSwitches}
+use Rattle.pcl_cert.specs.Edges.{number_at, AreGoodSwitches}
 
 -- what may come behind a switch: to method 0, and to another
 pub record AreRests (number : Node → ℕ) (row plain others : ℕ) : Type 0 where

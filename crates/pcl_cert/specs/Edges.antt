@@ -66,11 +66,14 @@ AreGoodNumbers rows Counts number = (row : ℕ) (method : Method) (inside : Bool
 abbrev pub IsLeastOfRow : ℕ → List (List ℕ) → ℕ → Method → ℕ → Type 0
 IsLeastOfRow width rows row method bytes = IsLeastLength method (row_above width rows row) (row_at rows row) bytes
 
--- each row is counted with a length in each method, and no whole data for it is shorter
-abbrev pub BoundData : ℕ → List (List ℕ) → (ℕ → Method → ℕ → Type 0) → Type 0
-BoundData width rows Counts = (row : ℕ) (method : Method) → row < length rows
-    → (bytes : ℕ) × Counts row method bytes
-    × ((whole : List ℕ) → IsRowData method (row_above width rows row) (row_at rows row) whole → bytes ≤ length whole)
+-- a given length for each row and each method
+abbrev pub IsGiven : (ℕ → Method → ℕ) → ℕ → Method → ℕ → Type 0
+IsGiven lengths row method bytes = bytes ≡ lengths row method
+
+-- given lengths that no whole data for a row is shorter than
+abbrev pub BoundData : ℕ → List (List ℕ) → (ℕ → Method → ℕ) → Type 0
+BoundData width rows lengths = (row : ℕ) (method : Method) (whole : List ℕ) → row < length rows
+    → IsRowData method (row_above width rows row) (row_at rows row) whole → lengths row method ≤ length whole
 
 -- ---- the first bad number
 

@@ -38,12 +38,32 @@ pub fn first_bad_number<L: RowLengths>(
     let mut ends = vec![in alloc; 0; places]?;
     let mut numbers = vec![in alloc; 0; places]?;
     let mut queue = vec![in alloc; 0; places]?;
-    fill_run_ends(&page.bitmap, &mut ends);
-    let plain = first_bad_in(lengths, page, table, &ends, Method::Plain, &mut numbers, &mut queue);
-    let runs = first_bad_in(lengths, page, table, &ends, Method::Runs, &mut numbers, &mut queue);
-    let packed = first_bad_in(lengths, page, table, &ends, Method::Packed, &mut numbers, &mut queue);
-    let delta = first_bad_in(lengths, page, table, &ends, Method::Delta, &mut numbers, &mut queue);
-    Ok(first_of(first_of(plain, runs), first_of(packed, delta)))
+    let found = first_bad(lengths, page, table, &mut ends, &mut numbers, &mut queue);
+    Ok(found)
+}
+
+/// The same, where the room for the ends of white rows and for a window over numbers is lent.
+fn first_bad<L: RowLengths>(
+    lengths: &L,
+    page: &Page,
+    table: &Table,
+    ends: &mut [u32],
+    numbers: &mut [u32],
+    queue: &mut [usize],
+) -> Option<BadNumber>
+    requires covered { L.covers lengths.now page.now }
+    requires rows { length table.now ≡ page_height page.now.size page.now.dpi + 1 }
+    requires ends { length ends.old ≡ length table.now }
+    requires room { (length numbers.old ≡ length table.now) × (length queue.old ≡ length table.now) }
+    ensures { FindsBad (IsGoodNumber (bitmap_rows page.now.bitmap) (L.counts lengths.now page.now) (node_number table.now))
+        (page_height page.now.size page.now.dpi) result }
+{
+    fill_run_ends(&page.bitmap, ends);
+    let plain = first_bad_in(lengths, page, table, ends, Method::Plain, numbers, queue);
+    let runs = first_bad_in(lengths, page, table, ends, Method::Runs, numbers, queue);
+    let packed = first_bad_in(lengths, page, table, ends, Method::Packed, numbers, queue);
+    let delta = first_bad_in(lengths, page, table, ends, Method::Delta, numbers, queue);
+    first_of(first_of(plain, runs), first_of(packed, delta))
 }
 
 /// For each row of a page and for the end of the rows, where the white rows from there on end.

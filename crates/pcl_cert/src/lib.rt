@@ -5,11 +5,13 @@
 mod edges;
 mod edges_costs;
 mod edges_found;
+mod edges_laws;
 mod edges_lengths;
 mod edges_skips;
 mod format;
 
 pub use edges::first_bad_number;
 pub use edges_found::BadNumber;
+pub use edges_laws::{good_numbers_are_feasible, numbers_by_bounds_are_feasible};
 pub use edges_lengths::{ByFirstNumbers, FirstNumbers, LeastByCoders, RowLengths};
 pub use format::Format;
