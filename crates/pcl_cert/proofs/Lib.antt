@@ -1,6 +1,7 @@
 pub mod Values
 pub mod Found
 pub mod RunEnds
+pub mod StepWindows
 pub mod SkipWindows
 pub mod EdgesByRows
 pub mod Switches

@@ -1,6 +1,5 @@
 -- Skips by windows, and by all counts.
-use Rattle.std.proofs.Common.{◌≡◌, ℕ, ◌+◌, ◌-◌, ◌^◌, ◌<◌, ◌≤◌, Bool, true, false, min, List, [], ◌++◌, length, drop, sym, ap, ◌∙◌, inl, inr, arith}
-use Rattle.std.specs.Prelude.{slice_index}
+use Rattle.std.proofs.Common.{◌≡◌, ℕ, ◌+◌, ◌-◌, ◌^◌, ◌<◌, ◌≤◌, Bool, true, false, List, ap, inl, inr, arith}
 use Rattle.std.proofs.lemmas.Bool.{cases_lt}
 use Rattle.pcl_base.specs.declared.method.Method.{Method}
 use Rattle.pcl_coders.specs.Windows.{IsLeastOf}
@@ -10,11 +9,8 @@ use Rattle.pcl_plan.proofs.Digits.{count_is, count_le}
 use Rattle.pcl_plan.proofs.RightRows.{rest_below, best_end}
 use Rattle.pcl_cert.specs.Edges.{number_at}
 use Rattle.pcl_cert.specs.EdgePasses.{AreEnds, AreGoodSkipsOf, AreGoodSkipsTo, rests}
-use Rattle.pcl_cert.proofs.Values.{length_values, value_in, values_joined, values_rest, no_values}
-
--- the last row that a skip of at most so many rows leads to
-abbrev pub last_of : List ℕ → ℕ → ℕ → ℕ
-last_of ends most row = min (slice_index ends row) (row + most)
+use Rattle.pcl_cert.proofs.Values.{length_values, value_in}
+use Rattle.pcl_cert.proofs.StepWindows.{last_of}
 
 -- no row to skip
 pub none_to_skip : (ends : List ℕ) (number : Node → ℕ) (method : Method) (digits most row : ℕ) → last_of ends most row ≤ row → 0 < most
@@ -55,67 +51,6 @@ window_by_skips ends number method digits most row least is good =
       ap (λ (y : ℕ). rest number y method) there,
       best.1,
     )
-
--- ---- the window of a row
-
--- the window as it stands before a row: the numbers from that row on, as far as a skip from the row before leads
-pub record IsSkipWindow (ends : List ℕ) (number : Node → ℕ) (method : Method) (most : ℕ) (numbers : List ℕ) (row stop : ℕ) : Type 0 where
-  pub order : row ≤ stop
-  pub near : stop ≤ row + most
-  pub within : stop ≤ length ends
-  pub before : row < length ends → stop ≤ slice_index ends row + 1
-  pub numbers_are : numbers ≡ rests number method row (stop - row)
-
-pub window_begins : (ends : List ℕ) (number : Node → ℕ) (method : Method) (most : ℕ) (numbers : List ℕ) → numbers ≡ []
-    → IsSkipWindow ends number method most numbers 0 0
-window_begins ends number method most numbers none = record {
-  order = omega arith;
-  near = omega arith;
-  within = omega arith;
-  before = λ some. omega arith;
-  numbers_are = none ∙ sym (no_values (λ y. rest number y method) 0 (0 - 0) (omega arith));
-}
-
--- where it goes on to
-pub window_next : (ends : List ℕ) (last : ℕ) (number : Node → ℕ) (method : Method) (most : ℕ) (numbers filled taken : List ℕ)
-    (row stop : ℕ) → AreEnds ends last → row ≤ last → 0 < most → IsSkipWindow ends number method most numbers row stop
-    → filled ≡ numbers ++ rests number method stop (last_of ends most row + 1 - stop) → taken ≡ drop 1 filled
-    → (0 < length filled) × (taken ≡ rests number method (row + 1) (last_of ends most row - row))
-    × IsSkipWindow ends number method most taken (row + 1) (last_of ends most row + 1)
-window_next ends last number method most numbers filled taken row stop are le some is put took =
-    let value : ℕ → ℕ = λ y. rest number y method in
-    let end : ℕ = last_of ends most row + 1 in
-    let above = are.above row le in
-    let room : stop ≤ end = omega (arith, is.before (omega (arith, are.size)), is.near) in
-    let start : row + (stop - row) ≡ stop = omega (arith, is.order) in
-    let count : stop - row + (end - stop) ≡ end - row = omega (arith, is.order, room) in
-    let all : filled ≡ rests number method row (end - row) =
-    put ∙ ap (λ (front : List ℕ). front ++ rests number method stop (end - stop)) is.numbers_are
-    ∙ ap (λ (from : ℕ). rests number method row (stop - row) ++ rests number method from (end - stop)) (sym start)
-    ∙ sym (values_joined value row (stop - row) (end - stop)) ∙ ap (rests number method row) count in
-    let less : end - row - 1 ≡ last_of ends most row - row = omega arith in
-    let now : taken ≡ rests number method (row + 1) (last_of ends most row - row) =
-    took ∙ ap (drop 1) all ∙ values_rest value row (end - row) (omega (arith, above)) ∙ ap (rests number method (row + 1)) less in
-    let same : last_of ends most row - row ≡ end - (row + 1) = omega arith in (
-      omega (arith, ap length all, length_values value row (end - row), above),
-      now,
-      record {
-        order = omega (arith, above);
-        near = omega arith;
-        within = omega (arith, are.within row le, are.size);
-        before = λ inside. omega (arith, are.grow row (omega (arith, are.size)));
-        numbers_are = now ∙ ap (rests number method (row + 1)) same;
-      },
-    )
-
--- what is put in before a row
-pub window_put : (ends : List ℕ) (last : ℕ) (number : Node → ℕ) (method : Method) (most : ℕ) (numbers : List ℕ) (row stop : ℕ)
-    → AreEnds ends last → row ≤ last → IsSkipWindow ends number method most numbers row stop
-    → (stop ≤ last_of ends most row + 1) × (last_of ends most row + 1 ≤ length ends)
-window_put ends last number method most numbers row stop are le is = (
-  omega (arith, is.before (omega (arith, are.size)), is.near),
-  omega (arith, are.within row le, are.size),
-)
 
 -- ---- all counts
 

@@ -1,3 +1,5 @@
 pub mod Edges
 pub mod EdgePasses
 pub mod EdgeLengths
+pub mod Places
+pub mod PlacePasses

@@ -6,14 +6,15 @@ use Rattle.pcl_plan.specs.Table.{node_number}
 use Rattle.pcl_cert.specs.EdgePasses.{AreGoodSkipsOf, rests}
 use Rattle.pcl_cert.proofs.Values.{length_values}
 use Rattle.pcl_cert.proofs.Found.{first_at}
-use Rattle.pcl_cert.proofs.SkipWindows.{last_of, IsSkipWindow, window_begins, window_next, window_put, none_to_skip, skips_by_window, window_by_skips}
+use Rattle.pcl_cert.proofs.StepWindows.{last_of, IsStepWindow, window_begins, window_next, window_put}
+use Rattle.pcl_cert.proofs.SkipWindows.{none_to_skip, skips_by_window, window_by_skips}
 use Rattle.pcl_cert.proofs.edges_skips.first_bad_skip_of.Goals as goal
 use Rattle.pcl_cert.proofs.edges_skips.first_bad_skip_of.Goals.{else-last-row-via-then-last-row+else-not-is_within, else-last-row-via-else-last-row}
 
 pub loop-row-init : goal.loop-row-init
 loop-row-init c = record {
   good = λ k lt. absurd (omega arith);
-  window = window_begins c.args.ends.now (node_number c.args.table.now) c.args.method c.args.most c.new-window.result.numbers
+  window = window_begins c.args.ends.now (λ y. rest (node_number c.args.table.now) y c.args.method) c.args.most c.new-window.result.numbers
       c.new-window.ensures.numbers;
   room = omega (arith, c.new-window.ensures.room, c.requires.room);
 }
@@ -22,26 +23,28 @@ pub take-requires : goal.take-requires
 take-requires c =
     let ends = c.args.ends.now in
     let number = node_number c.args.table.now in
+    let value : ℕ → ℕ = λ y. rest number y c.args.method in
     let row = c.loop-row.row in
     let before = c.loop-row.window.numbers in
     let filled = c.put_rests.new.window.numbers in
     let put : filled ≡ before ++ rests number c.args.method c.loop-row.stop (last_of ends c.args.most row + 1 - c.loop-row.stop) =
     c.put_rests.ensures.numbers ∙ ap (λ (n : ℕ). before ++ rests number c.args.method c.loop-row.stop (n + 1 - c.loop-row.stop))
     c.min-last.ensures in
-    (window_next ends (length c.args.table.now - 1) number c.args.method c.args.most before filled (drop 1 filled) row c.loop-row.stop
+    (window_next ends (length c.args.table.now - 1) value c.args.most before filled (drop 1 filled) row c.loop-row.stop
     c.requires.ends (omega (arith, c.loop-row-test.true, c.requires.size)) c.requires.most.0 c.loop-row.invariant.window put refl).0
 
 pub least-requires : goal.least-requires
 least-requires c =
     let ends = c.args.ends.now in
     let number = node_number c.args.table.now in
+    let value : ℕ → ℕ = λ y. rest number y c.args.method in
     let row = c.loop-row.row in
     let before = c.loop-row.window.numbers in
     let filled = c.put_rests.new.window.numbers in
     let put : filled ≡ before ++ rests number c.args.method c.loop-row.stop (last_of ends c.args.most row + 1 - c.loop-row.stop) =
     c.put_rests.ensures.numbers ∙ ap (λ (n : ℕ). before ++ rests number c.args.method c.loop-row.stop (n + 1 - c.loop-row.stop))
     c.min-last.ensures in
-    let next = window_next ends (length c.args.table.now - 1) number c.args.method c.args.most before filled c.take.new.self.numbers row
+    let next = window_next ends (length c.args.table.now - 1) value c.args.most before filled c.take.new.self.numbers row
     c.loop-row.stop
     c.requires.ends (omega (arith, c.loop-row-test.true, c.requires.size)) c.requires.most.0 c.loop-row.invariant.window put
     c.take.ensures.numbers in
@@ -57,6 +60,7 @@ pub returns-then-not-is_within : goal.returns-then-not-is_within
 returns-then-not-is_within c =
     let ends = c.args.ends.now in
     let number = node_number c.args.table.now in
+    let value : ℕ → ℕ = λ y. rest number y c.args.method in
     let row = c.loop-row.row in
     let before = c.loop-row.window.numbers in
     let filled = c.put_rests.new.window.numbers in
@@ -64,7 +68,7 @@ returns-then-not-is_within c =
     c.put_rests.ensures.numbers ∙ ap (λ (n : ℕ). before ++ rests number c.args.method c.loop-row.stop (n + 1 - c.loop-row.stop))
     c.min-last.ensures in
     let le : row ≤ length c.args.table.now - 1 = omega (arith, c.loop-row-test.true, c.requires.size) in
-    let next = window_next ends (length c.args.table.now - 1) number c.args.method c.args.most before filled c.take.new.self.numbers row
+    let next = window_next ends (length c.args.table.now - 1) value c.args.most before filled c.take.new.self.numbers row
     c.loop-row.stop c.requires.ends le c.requires.most.0 c.loop-row.invariant.window put c.take.ensures.numbers in
     let least = subst (λ (numbers : List ℕ). IsLeastOf numbers c.least.result) next.1 c.least.ensures in
     first_at (AreGoodSkipsOf ends number c.args.method c.args.digits c.args.most) (length c.args.table.now - 1) row c.args.method true le
@@ -80,6 +84,7 @@ pub loop-row-preserved : goal.loop-row-preserved
 loop-row-preserved c =
     let ends = c.args.ends.now in
     let number = node_number c.args.table.now in
+    let value : ℕ → ℕ = λ y. rest number y c.args.method in
     let row = c.loop-row.row in
     let before = c.loop-row.window.numbers in
     let filled = c.put_rests.new.window.numbers in
@@ -87,7 +92,7 @@ loop-row-preserved c =
     c.put_rests.ensures.numbers ∙ ap (λ (n : ℕ). before ++ rests number c.args.method c.loop-row.stop (n + 1 - c.loop-row.stop))
     c.min-last.ensures in
     let le : row ≤ length c.args.table.now - 1 = omega (arith, c.loop-row-test.true, c.requires.size) in
-    let next = window_next ends (length c.args.table.now - 1) number c.args.method c.args.most before filled c.take.new.self.numbers row
+    let next = window_next ends (length c.args.table.now - 1) value c.args.most before filled c.take.new.self.numbers row
     c.loop-row.stop c.requires.ends le c.requires.most.0 c.loop-row.invariant.window put c.take.ensures.numbers in
     let here : AreGoodSkipsOf ends number c.args.method c.args.digits c.args.most row =
     elim c.else-last-row.branch [
@@ -101,7 +106,7 @@ loop-row-preserved c =
     ] in
     record {
       good = below_more (AreGoodSkipsOf ends number c.args.method c.args.digits c.args.most) row c.loop-row.invariant.good here;
-      window = subst (λ (n : ℕ). IsSkipWindow ends number c.args.method c.args.most c.take.new.self.numbers (row + 1) (n + 1))
+      window = subst (λ (n : ℕ). IsStepWindow ends value c.args.most c.take.new.self.numbers (row + 1) (n + 1))
           (sym c.min-last.ensures) next.2;
       room = omega (
         arith,
@@ -109,7 +114,7 @@ loop-row-preserved c =
         c.put_rests.ensures.room,
         c.loop-row.invariant.room,
         c.min-last.ensures,
-        (window_put ends (length c.args.table.now - 1) number c.args.method c.args.most before row c.loop-row.stop c.requires.ends le
+        (window_put ends (length c.args.table.now - 1) value c.args.most before row c.loop-row.stop c.requires.ends le
         c.loop-row.invariant.window).0,
       );
     }
