@@ -7,3 +7,4 @@ pub mod EdgesByRows
 pub mod Switches
 pub mod Lengths
 pub mod GoodNumbers
+pub mod PlacesFound

@@ -3,7 +3,7 @@ use Rattle.std.specs.Prelude.{◌≡◌, ℕ, ◌+◌, ◌<◌, ◌≤◌, List,
 use Rattle.pcl_base.specs.declared.method.Method.{Method}
 use Rattle.pcl_rows.specs.Elements.{Element}
 use Rattle.pcl_rows.specs.Rows.{base}
-use Rattle.pcl_coders.specs.RowWalks.{Leads, Ends, cost}
+use Rattle.pcl_coders.specs.RowWalks.{Leads, Ends, cost, IsRowTable}
 
 -- no element that agrees with the row undercuts the number of the place, and it is 0 where no more data is needed
 pub record IsGoodPlace (method : Method) (seed row numbers : List ℕ) (place : ℕ) : Type 0 where
@@ -20,3 +20,8 @@ pub record IsFirstPlace (Good : ℕ → Type 0) (last place : ℕ) : Type 0 wher
 -- that place, or none where it holds of all
 abbrev pub FindsPlace : (ℕ → Type 0) → ℕ → Option ℕ → Type 0
 FindsPlace Good last found = MatchOption found ((place : ℕ) → place ≤ last → Good place) (IsFirstPlace Good last)
+
+-- the first bad number of a row's places, or none where the numbers are a row table
+abbrev pub FindsBadPlace : Method → List ℕ → List ℕ → List ℕ → Option ℕ → Type 0
+FindsBadPlace method seed row numbers found =
+    MatchOption found (IsRowTable method seed row numbers) (IsFirstPlace (IsGoodPlace method seed row numbers) (length row))

@@ -9,9 +9,14 @@ mod edges_laws;
 mod edges_lengths;
 mod edges_skips;
 mod format;
+mod places;
+mod places_fill;
+mod places_found;
+mod places_windows;
 
 pub use edges::first_bad_number;
 pub use edges_found::BadNumber;
 pub use edges_laws::{good_numbers_are_feasible, numbers_by_bounds_are_feasible};
 pub use edges_lengths::{ByFirstNumbers, FirstNumbers, LeastByCoders, RowLengths};
 pub use format::Format;
+pub use places::first_bad_place;
