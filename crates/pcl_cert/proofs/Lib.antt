@@ -8,3 +8,4 @@ pub mod Switches
 pub mod Lengths
 pub mod GoodNumbers
 pub mod PlacesFound
+pub mod PlaceWindows

@@ -1,5 +1,5 @@
 -- Good numbers of the places of a row: none is above an element's bytes and the number where that stops.
-use Rattle.std.specs.Prelude.{◌≡◌, ℕ, ◌+◌, ◌<◌, ◌≤◌, List, slice_index, Option, MatchOption}
+use Rattle.std.specs.Prelude.{◌≡◌, ℕ, ◌+◌, ◌<◌, ◌≤◌, List, length, slice_index, Option, MatchOption}
 use Rattle.pcl_base.specs.declared.method.Method.{Method}
 use Rattle.pcl_rows.specs.Elements.{Element}
 use Rattle.pcl_rows.specs.Rows.{base}

@@ -1,5 +1,4 @@
-use Rattle.std.proofs.Common.{◌≡◌, ℕ, ◌<◌, ◌≤◌, length}
-use Rattle.std.specs.Prelude.{slice_index, MatchOption}
+use Rattle.std.proofs.Common.{◌≤◌, length}
 use Rattle.pcl_cert.specs.PlacePasses.{IsGoodEnd}
 use Rattle.pcl_cert.proofs.PlacesFound.{FindsFrom}
 use Rattle.pcl_coders.proofs.Ends.{AreSameFrom}
