@@ -9,3 +9,5 @@ pub mod Lengths
 pub mod GoodNumbers
 pub mod PlacesFound
 pub mod PlaceWindows
+pub mod PlaceKinds
+pub mod PlaceSteps

@@ -1,6 +1,6 @@
 //! The numbers of a row's places, tested against all elements that agree with the row.
 
-ghost use Rattle.std.specs.Prelude.{◌≡◌, ℕ, ◌+◌, ◌-◌, ◌<◌, ◌≤◌, length};
+ghost use Rattle.std.specs.Prelude.{◌≡◌, ℕ, ◌+◌, ◌-◌, ◌<◌, ◌≤◌, length, replicate};
 ghost use Rattle.pcl_base.specs.declared.method.Method.TheVariants as methods;
 ghost use Rattle.pcl_rows.specs.Rows.{base};
 ghost use Rattle.pcl_coders.specs.Coding.{IsCodable};
@@ -26,13 +26,22 @@ pub fn first_bad_place(method: Method, row: &[u8], seed: &[u8], numbers: &[u16])
     ensures { FindsBadPlace method seed.now row.now numbers.now result }
 {
     let zeros = [0; ROW_LIMIT];
-    let old = match method {
-        Method::Plain | Method::Runs | Method::Packed => &zeros[..row.len()],
-        Method::Delta => seed,
-    };
+    let old = base_row(method, seed, &zeros);
     let end = first_bad_end(old, row, numbers);
     let step = first_bad_step(method, old, row, numbers);
     first_place(end, step)
+}
+
+/// The row before its data comes: zeros, and the seed row in method 3.
+fn base_row<'a>(method: Method, seed: &'a [u8], zeros: &'a [u8]) -> &'a [u8]
+    requires zeros { zeros.now ≡ replicate 600 0 }
+    requires small { length seed.now ≤ 600 }
+    ensures { result.now ≡ base method seed.now }
+{
+    match method {
+        Method::Plain | Method::Runs | Method::Packed => &zeros[..seed.len()],
+        Method::Delta => seed,
+    }
 }
 
 /// The first place from which no more data is needed and whose number isn't 0.
