@@ -1,5 +1,5 @@
 -- Elements of each kind by windows.
-use Rattle.std.proofs.Common.{◌≡◌, ℕ, ◌+◌, ◌-◌, ◌*◌, ◌/◌, ◌<◌, ◌≤◌, min, List, length, get_or, take, drop, replicate, refl, sym, ap, subst, ◌∙◌, inl, inr, arith}
+use Rattle.std.proofs.Common.{◌≡◌, ℕ, ◌+◌, ◌-◌, ◌/◌, ◌<◌, ◌≤◌, List, length, get_or, take, drop, replicate, sym, ap, ◌∙◌, inl, inr, arith}
 use Rattle.std.specs.Prelude.{slice_index}
 use Rattle.std.proofs.lemmas.Bool.{cases_lt}
 use Rattle.std.proofs.lemmas.List.{ext_get_or, get_or-take, get_or-drop, length-drop, length-take-le, take-take, take-replicate}
@@ -150,7 +150,7 @@ start_within old row ends place offset len are some within alike =
     let is = are.starts place (omega arith) (omega arith) in
     let end : ℕ = slice_index ends place in
     elim (cases_lt (place + offset) end) [
-      | inl before ↦ before
+      | inl before ↦ omega arith
       | inr past ↦
           let k : ℕ = end - 1 - place in
           let at : place + k ≡ end - 1 = omega (arith, is.after) in

@@ -1,23 +1,21 @@
 -- All elements at a place, kind by kind.
-use Rattle.std.proofs.Common.{◌≡◌, ℕ, ◌+◌, ◌-◌, ◌<◌, ◌≤◌, List, length, get_or, take, drop, replicate, refl, sym, ap, subst, ◌∙◌, inl, inr, arith}
+use Rattle.std.proofs.Common.{◌≡◌, ℕ, ◌+◌, ◌<◌, ◌≤◌, List, length, get_or, take, drop, replicate, refl, sym, ap, ◌∙◌, inl, inr, arith}
 use Rattle.std.specs.Prelude.{slice_index}
 use Rattle.std.proofs.lemmas.Bool.{cases_lt}
 use Rattle.std.proofs.lemmas.List.{get_or-take, get_or-replicate, length-drop, length-replicate, get_or_past}
 use Rattle.pcl_base.specs.declared.method.Method.{Method}
 use Rattle.pcl_base.specs.declared.method.Method.TheVariants.{Plain, Runs, Packed, Delta}
 use Rattle.pcl_rows.specs.Heads.{offset_of}
-use Rattle.pcl_rows.specs.Elements.{Element, IsElement, given, stop}
-use Rattle.pcl_rows.specs.Rows.{base}
+use Rattle.pcl_rows.specs.Elements.{Element, given, stop}
 use Rattle.pcl_coders.specs.declared.shape.Shape.{Shape}
 use Rattle.pcl_coders.specs.declared.shape.Shape.TheVariants.{SingleByte, Run, LiteralRun, RepeatRun, Replace}
 use Rattle.pcl_coders.specs.Replacement.{replacement_bytes}
-use Rattle.pcl_coders.specs.RowWalks.{Leads, Ends, cost, IsRowTable}
+use Rattle.pcl_coders.specs.RowWalks.{Leads, IsRowTable}
 use Rattle.pcl_coders.specs.Shape.{element_of, shape_stop}
-use Rattle.pcl_coders.proofs.RowWalks.{length-base}
 use Rattle.pcl_coders.proofs.Shapes.{IsRepeat, plain_shape, runs_shape, packed_shape, delta_shape}
 use Rattle.pcl_coders.proofs.Choices.{IsShapeElement, agrees_gives, byte_step, run_step, repeat_step, literal_step, replace_step}
-use Rattle.pcl_cert.specs.Places.{IsGoodPlace, IsFirstPlace, FindsPlace, FindsBadPlace}
-use Rattle.pcl_cert.specs.PlacePasses.{IsGoodEnd, IsGoodByte, AreGoodRuns, AreGoodLiterals, AreGoodReplacements, AreGoodSteps}
+use Rattle.pcl_cert.specs.Places.{IsGoodPlace, FindsPlace, FindsBadPlace}
+use Rattle.pcl_cert.specs.PlacePasses.{IsGoodByte, AreGoodRuns, AreGoodLiterals, AreGoodReplacements, AreGoodSteps}
 use Rattle.std.specs.Prelude.{Option, Some, None}
 
 -- ---- from kinds to elements
