@@ -58,7 +58,9 @@ behind_more numbers sums start least inside before here = λ k lt.
           let count : min (length (drop start numbers) - 1) 8 ≡ min (length numbers - 1 - start) 8 =
           omega (arith, length-drop start numbers) in
           let now : slice_index (set sums (start + 1) least) (start + 1) ≡ least = get_or-set_same sums (start + 1) least 0 inside in
-          subst (IsBehindStart numbers (set sums (start + 1) least)) same
-          (here.0, subst (IsLeastLen (drop start numbers) 1 (min (length numbers - 1 - start) 8) 0 1 here.0) (sym now)
-          (subst (λ (most : ℕ). IsLeastLen (drop start numbers) 1 most 0 1 here.0 least) count here.1))
+          subst (IsBehindStart numbers (set sums (start + 1) least)) same (
+            here.0,
+            subst (IsLeastLen (drop start numbers) 1 (min (length numbers - 1 - start) 8) 0 1 here.0) (sym now)
+                (subst (λ (most : ℕ). IsLeastLen (drop start numbers) 1 most 0 1 here.0 least) count here.1),
+          )
     ]

@@ -46,9 +46,11 @@ ends_begin rows ends last count size =
       size = omega (arith, length-set ends last last, count);
       runs = λ row from within.
           let same : last ≡ row = omega arith in
-          subst (λ (r : ℕ). (r ≤ slice_index (set ends last last) r) × IsWhiteRun rows r (slice_index (set ends last last) r - r)) same
-          (omega (arith, at), (let none : 0 ≡ slice_index (set ends last last) last - last = omega (arith, at) in
-          subst (IsWhiteRun rows last) none (run_end rows last (sym count))));
+          subst (λ (r : ℕ). (r ≤ slice_index (set ends last last) r) × IsWhiteRun rows r (slice_index (set ends last last) r - r)) same (
+            omega (arith, at),
+            (let none : 0 ≡ slice_index (set ends last last) last - last = omega (arith, at) in
+                subst (IsWhiteRun rows last) none (run_end rows last (sym count))),
+          );
     }
 
 -- a row more

@@ -20,3 +20,8 @@ pub use edges_laws::{good_numbers_are_feasible, numbers_by_bounds_are_feasible};
 pub use edges_lengths::{ByFirstNumbers, FirstNumbers, LeastByCoders, RowLengths};
 pub use format::Format;
 pub use places::first_bad_place;
+
+#[cfg(test)]
+mod edges_tests;
+#[cfg(test)]
+mod places_tests;

@@ -1,6 +1,6 @@
 //! The numbers of a row's places, tested against all elements that agree with the row.
 
-ghost use Rattle.std.specs.Prelude.{◌≡◌, ℕ, ◌+◌, ◌-◌, ◌<◌, ◌≤◌, length, replicate};
+ghost use Rattle.std.specs.Prelude.{◌≡◌, ℕ, ◌+◌, ◌-◌, ◌<◌, ◌≤◌, ◌↔◌, length, replicate, slice_index, EachIndex, IsTrue};
 ghost use Rattle.pcl_base.specs.declared.method.Method.TheVariants as methods;
 ghost use Rattle.pcl_rows.specs.Rows.{base};
 ghost use Rattle.pcl_coders.specs.Coding.{IsCodable};
@@ -25,11 +25,21 @@ pub fn first_bad_place(method: Method, row: &[u8], seed: &[u8], numbers: &[u16])
     requires size { length numbers.now ≡ length row.now + 1 }
     ensures { FindsBadPlace method seed.now row.now numbers.now result }
 {
+    if are_zeros(numbers) {
+        return None;
+    }
     let zeros = [0; ROW_LIMIT];
     let old = base_row(method, seed, &zeros);
     let end = first_bad_end(old, row, numbers);
     let step = first_bad_step(method, old, row, numbers);
     first_place(end, step)
+}
+
+/// Whether all numbers are 0, as those of a row that needs no data: no element undercuts these.
+fn are_zeros(numbers: &[u16]) -> bool
+    ensures { IsTrue result ↔ EachIndex numbers.now (λ k. slice_index numbers.now k ≡ 0) }
+{
+    numbers.iter().all(|number| *number == 0)
 }
 
 /// The row before its data comes: zeros, and the seed row in method 3.

@@ -24,8 +24,8 @@ returns c =
     (first_found c.first_bad_skip_of-one.result c.first_bad_skip_of-two.result)
     (first_found c.first_bad_skip_of-three.result c.first_bad_skip_of-four.result) low high in
     let found : c.first_of-3.result
-        ≡ first_found (first_found c.first_bad_skip_of-one.result c.first_bad_skip_of-two.result)
-        (first_found c.first_bad_skip_of-three.result c.first_bad_skip_of-four.result) =
+    ≡ first_found (first_found c.first_bad_skip_of-one.result c.first_bad_skip_of-two.result)
+    (first_found c.first_bad_skip_of-three.result c.first_bad_skip_of-four.result) =
     c.first_of-3.ensures ∙ ap (λ (a : Option BadNumber). first_found a c.first_of-2.result) c.first_of.ensures
     ∙ ap (first_found (first_found c.first_bad_skip_of-one.result c.first_bad_skip_of-two.result)) c.first_of-2.ensures in
     subst (FindsBad (At method true (AreGoodSkipsTo ends number method)) last) (sym found)

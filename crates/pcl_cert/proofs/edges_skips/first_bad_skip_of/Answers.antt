@@ -115,6 +115,6 @@ loop-row-preserved c =
         c.loop-row.invariant.room,
         c.min-last.ensures,
         (window_put ends (length c.args.table.now - 1) value c.args.most before row c.loop-row.stop c.requires.ends le
-        c.loop-row.invariant.window).0,
+            c.loop-row.invariant.window).0,
       );
     }

@@ -3,8 +3,12 @@ use Rattle.pcl_rows.specs.Rows.{base}
 use Rattle.pcl_cert.specs.Places.{FindsPlace, IsGoodPlace}
 use Rattle.pcl_cert.specs.PlacePasses.{IsGoodEnd, AreGoodSteps, first_found_place}
 use Rattle.pcl_cert.proofs.PlacesFound.{And, finds_both, finds_place_too}
-use Rattle.pcl_cert.proofs.PlaceSteps.{finds_table}
+use Rattle.pcl_cert.proofs.PlaceSteps.{table_of_zeros, finds_table}
 use Rattle.pcl_cert.proofs.places.first_bad_place.Goals as goal
+
+pub returns-then-are_zeros : goal.returns-then-are_zeros
+returns-then-are_zeros c =
+    table_of_zeros c.args.method c.args.seed.now c.args.row.now c.args.numbers.now c.requires.size (c.are_zeros.ensures.0 c.if-are_zeros.true)
 
 pub returns : goal.returns
 returns c =

@@ -16,8 +16,8 @@ returns c =
     let last : length numbers - 1 ≡ length row = omega (arith, c.requires.size) in
     let Kept : ℕ → ℕ → ℕ → Type 0 = λ cost most. IsNotUndercut numbers sums ends cost most in
     let to : (cost most : ℕ) (found : Option ℕ)
-        → FindsPlace (IsNotUndercut c.widen.new.wide sums ends cost most) (length c.widen.new.wide - 1) found
-        → FindsPlace (Kept cost most) (length row) found =
+    → FindsPlace (IsNotUndercut c.widen.new.wide sums ends cost most) (length c.widen.new.wide - 1) found
+    → FindsPlace (Kept cost most) (length row) found =
     λ cost most found is.
     subst (λ (n : ℕ). FindsPlace (Kept cost most) n found) last
     (subst (λ (wide : List ℕ). FindsPlace (IsNotUndercut wide sums ends cost most) (length wide - 1) found) c.widen.ensures is) in

@@ -103,6 +103,6 @@ loop-place-preserved c =
         c.loop-place.invariant.room,
         c.min-last.ensures,
         (window_put ends (length c.args.numbers.now - 1) value c.args.most before place c.loop-place.stop c.requires.ends le
-        c.loop-place.invariant.window).0,
+            c.loop-place.invariant.window).0,
       );
     }
