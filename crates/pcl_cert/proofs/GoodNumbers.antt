@@ -95,7 +95,8 @@ feasible_by_sends width rows table Counts few size sends good = record {
       elim (cases_lt (length rows) a.row) [
         | inl past ↦ omega (arith, number_past table a (omega (arith, size)))
         | inr within ↦
-            steps_from width rows Counts (node_number table) a.row few sends a.method a.inside token b (good a.row a.method a.inside within) l
+            steps_from width rows Counts (node_number table) a.row few sends a.method a.inside token b
+            (good a.row a.method a.inside within) l
       ];
   ends = λ a end.
       elim (cases_lt (length rows) a.row) [

@@ -71,7 +71,8 @@ pub steps_packed : (old row numbers : List ℕ) (place : ℕ) → length old ≡
     → AreGoodLiterals numbers place → AreGoodRuns row numbers 128 place → AreGoodSteps Packed old row numbers place
 steps_packed old row numbers place same size le literals runs = λ e next l.
     let wanted : List ℕ = drop place row in
-    let g = agrees_gives Packed (drop place old) wanted e (omega (arith, length-drop place old, length-drop place row)) l.element l.agrees in
+    let sizes : length (drop place old) ≡ length wanted = omega (arith, length-drop place old, length-drop place row) in
+    let g = agrees_gives Packed (drop place old) wanted e sizes l.element l.agrees in
     elim (cases_lt 0 (stop e)) [
       | inr none ↦
           let here : next ≡ place = omega (arith, l.next_is, none) in omega (arith, ap (slice_index numbers) here)

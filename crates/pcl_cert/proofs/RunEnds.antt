@@ -68,7 +68,8 @@ ends_more rows ends row end lt are order run =
                 (omega (arith, at), subst (λ (e : ℕ). IsWhiteRun rows row (e - row)) (sym at) run)
             | inr other ↦
                 let is = are.runs k (omega (arith, other)) within in
-                let stays : slice_index (set ends row end) k ≡ slice_index ends k = get_or-set_other ends row k end 0 (λ e. other (sym e)) in
+                let stays : slice_index (set ends row end) k ≡ slice_index ends k =
+                get_or-set_other ends row k end 0 (λ e. other (sym e)) in
                 (omega (arith, stays, is.0), subst (λ (e : ℕ). IsWhiteRun rows k (e - k)) (sym stays) is.1)
           ];
     }

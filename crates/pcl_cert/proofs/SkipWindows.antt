@@ -45,7 +45,8 @@ window_by_skips ends number method digits most row least is good =
     let best = best_end number (row + (k + 1)) method in
     omega (
       arith,
-      good (k + 1) (elim best.0 as (λ _. Bool) [ true ↦ false | false ↦ true ]) (omega arith) (omega (arith, inside)) (omega (arith, inside)),
+      good (k + 1) (elim best.0 as (λ _. Bool) [ true ↦ false | false ↦ true ]) (omega arith) (omega (arith, inside))
+          (omega (arith, inside)),
       is.among.2,
       at,
       ap (λ (y : ℕ). rest number y method) there,
@@ -81,7 +82,8 @@ pub all_digits : (ends : List ℕ) (last : ℕ) (number : Node → ℕ) (method 
 all_digits ends last number method row are le good = λ count inside some within.
     let few : count ≤ 9999 = omega (arith, are.within row le, are.few) in
     elim (cases_lt count 10) [
-      | inl digit ↦ omega (arith, good.one count inside some (omega arith) within, count_is 0 count (omega arith) (omega arith) (omega arith))
+      | inl digit ↦
+          omega (arith, good.one count inside some (omega arith) within, count_is 0 count (omega arith) (omega arith) (omega arith))
       | inr many ↦
           elim (cases_lt count 100) [
             | inl digits ↦

@@ -14,8 +14,8 @@ pub record AreRests (number : Node → ℕ) (row plain others : ℕ) : Type 0 wh
   pub plain_is : plain ≡ rest number row Plain
   pub others_are : others ≡ min (min (rest number row Runs) (rest number row Packed)) (rest number row Delta)
 
-rest_within : (number : Node → ℕ) (row plain others n : ℕ) (next : Method) → AreRests number row plain others → n ≤ 1 + plain → n ≤ 2 + others
-    → n ≤ switch_cost next + rest number row next
+rest_within : (number : Node → ℕ) (row plain others n : ℕ) (next : Method) → AreRests number row plain others → n ≤ 1 + plain
+    → n ≤ 2 + others → n ≤ switch_cost next + rest number row next
 rest_within number row plain others n Plain are p o = omega (arith, are.plain_is)
 rest_within number row plain others n Runs are p o = omega (arith, are.others_are)
 rest_within number row plain others n Packed are p o = omega (arith, are.others_are)

@@ -58,7 +58,8 @@ AreGoodSkipsOf ends number method digits most row = (count : ℕ) (inside : Bool
 -- skips of all counts
 abbrev pub AreGoodSkipsTo : List ℕ → (Node → ℕ) → Method → ℕ → Type 0
 AreGoodSkipsTo ends number method row = (count : ℕ) (inside : Bool) → 0 < count
-    → row + count ≤ slice_index ends row → number_at number row method true ≤ setting_cost count + number_at number (row + count) method inside
+    → row + count ≤ slice_index ends row
+    → number_at number row method true ≤ setting_cost count + number_at number (row + count) method inside
 
 -- all steps from a node
 abbrev pub IsGoodBy : List ℕ → ℕ → (ℕ → Method → ℕ → Type 0) → (Node → ℕ) → ℕ → Method → Bool → Type 0

@@ -38,7 +38,8 @@ AreGoodSwitches number method row = (next : Method) (inside : Bool)
 -- or white rows are skipped,
 abbrev pub AreGoodSkips : List (List ℕ) → (Node → ℕ) → Method → ℕ → Type 0
 AreGoodSkips rows number method row = (count : ℕ) (inside : Bool) → 0 < count → row + count ≤ length rows
-    → AreWhite (take count (drop row rows)) → number_at number row method true ≤ setting_cost count + number_at number (row + count) method inside
+    → AreWhite (take count (drop row rows))
+    → number_at number row method true ≤ setting_cost count + number_at number (row + count) method inside
 
 -- or the row is sent, by a length that it is counted with
 abbrev pub IsGoodRow : List (List ℕ) → (ℕ → Method → ℕ → Type 0) → (Node → ℕ) → Method → ℕ → Type 0

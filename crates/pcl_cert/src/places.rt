@@ -145,7 +145,8 @@ fn first_bad_literal(numbers: &[u16], sums: &mut [u32], ends: &mut [u32]) -> Opt
 
 /// Method 3: the first place whose number a replacement undercuts. An offset of few bytes is tried also where it is spelled
 /// with more: that undercuts less. So the places where a replacement may start are always those from the place on, up to
-/// a greatest offset or to the first byte that differs.
+/// a greatest offset or to the first byte that differs. One byte spells offsets up to 30, two up to 285, three up to 540,
+/// and four up to all others; a replacement stops at least one place behind its start.
 fn first_bad_replacement(
     old: &[u8],
     row: &[u8],
@@ -157,7 +158,8 @@ fn first_bad_replacement(
     requires same { length old.now ≡ length row.now }
     requires small { length row.now ≤ 600 }
     requires size { length numbers.now ≡ length row.now + 1 }
-    requires room { (length wide.old ≡ length row.now + 1) × (length sums.old ≡ length row.now + 1) × (length ends.old ≡ length row.now + 1) }
+    requires room { (length wide.old ≡ length row.now + 1) × (length sums.old ≡ length row.now + 1)
+        × (length ends.old ≡ length row.now + 1) }
     ensures { FindsPlace (AreGoodReplacements old.now row.now numbers.now) (length row.now) result }
 {
     widen(numbers, wide);

@@ -51,7 +51,10 @@ fn far_stops(rt: HostRuntime) -> Result<(), Fail> {
     runs[300] = 0;
     assert_eq!(rt; first_bad_place(Method::Runs, &full, &white, &runs), None);
     runs[44] = 3;
-    assert_eq!(rt; first_bad_place(Method::Runs, &full, &white, &runs), Some(44));
+    assert_eq!(rt;
+        first_bad_place(Method::Runs, &full, &white, &runs),
+        Some(44)
+    );
     let mut stairs = [0; 300];
     let mut literals = [0; 301];
     for place in 0..300 {
@@ -59,9 +62,15 @@ fn far_stops(rt: HostRuntime) -> Result<(), Fail> {
         stairs[place] = (place % 255 + 1) as u8;
         literals[place] = (left + left.div_ceil(128)) as u16;
     }
-    assert_eq!(rt; first_bad_place(Method::Packed, &stairs, &white, &literals), None);
-    literals[172] += 1;
-    assert_eq!(rt; first_bad_place(Method::Packed, &stairs, &white, &literals), Some(172));
+    assert_eq!(rt;
+        first_bad_place(Method::Packed, &stairs, &white, &literals),
+        None
+    );
+    literals[172] = 130;
+    assert_eq!(rt;
+        first_bad_place(Method::Packed, &stairs, &white, &literals),
+        Some(172)
+    );
     let mut far = [0; 300];
     far[31] = 0xff;
     far[286] = 0xff;
@@ -76,8 +85,14 @@ fn far_stops(rt: HostRuntime) -> Result<(), Fail> {
     }
     assert_eq!(rt; first_bad_place(Method::Delta, &far, &white, &starts), None);
     starts[255] = 4;
-    assert_eq!(rt; first_bad_place(Method::Delta, &far, &white, &starts), Some(255));
+    assert_eq!(rt;
+        first_bad_place(Method::Delta, &far, &white, &starts),
+        Some(255)
+    );
     starts[0] = 7;
-    assert_eq!(rt; first_bad_place(Method::Delta, &far, &white, &starts), Some(0));
+    assert_eq!(rt;
+        first_bad_place(Method::Delta, &far, &white, &starts),
+        Some(0)
+    );
     Ok(())
 }

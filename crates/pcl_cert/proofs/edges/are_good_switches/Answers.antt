@@ -9,7 +9,14 @@ returns-then-is_within c =
     let others : ℕ = c.min-then-is_within.result in
     let are : AreRests number c.args.row c.rest-plain.result others = record {
       plain_is = c.rest-plain.ensures;
-      others_are = omega (arith, c.min-then-is_within.ensures, c.min.ensures, c.rest-runs.ensures, c.rest-packed.ensures, c.rest-delta.ensures);
+      others_are = omega (
+        arith,
+        c.min-then-is_within.ensures,
+        c.min.ensures,
+        c.rest-runs.ensures,
+        c.rest-packed.ensures,
+        c.rest-delta.ensures,
+      );
     } in (
       λ is.
           switches_good number c.args.row c.rest-plain.result others c.args.method are

@@ -8,7 +8,8 @@ use Rattle.pcl_cert.proofs.places.first_bad_place.Goals as goal
 
 pub returns-then-are_zeros : goal.returns-then-are_zeros
 returns-then-are_zeros c =
-    table_of_zeros c.args.method c.args.seed.now c.args.row.now c.args.numbers.now c.requires.size (c.are_zeros.ensures.0 c.if-are_zeros.true)
+    table_of_zeros c.args.method c.args.seed.now c.args.row.now c.args.numbers.now c.requires.size
+    (c.are_zeros.ensures.0 c.if-are_zeros.true)
 
 pub returns : goal.returns
 returns c =

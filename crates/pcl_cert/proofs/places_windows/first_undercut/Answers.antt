@@ -87,7 +87,8 @@ loop-place-preserved c =
     elim c.else-last-place.branch [
       | else-last-place-via-then-last-place+else-not-is_within w ↦
           let least = subst (λ (ns : List ℕ). IsLeastOf ns w.least.result) next.1 w.least.ensures in
-          kept_by_window numbers sums ends c.args.cost c.args.most place w.least.result least (w.is_within.ensures.0 w.if-not-is_within.false)
+          kept_by_window numbers sums ends c.args.cost c.args.most place w.least.result least
+          (w.is_within.ensures.0 w.if-not-is_within.false)
       | else-last-place-via-else-last-place w ↦
           no_step numbers sums ends c.args.cost c.args.most place (omega (arith, c.min-last.ensures, w.if-last-place.false))
           c.requires.most.0
