@@ -19,3 +19,16 @@ pub mod Decimals
 pub mod Beginnings
 pub mod Painted
 pub mod Verdicts
+pub mod Values
+pub mod Found
+pub mod RunEnds
+pub mod StepWindows
+pub mod SkipWindows
+pub mod EdgesByRows
+pub mod Switches
+pub mod Lengths
+pub mod GoodNumbers
+pub mod PlacesFound
+pub mod PlaceWindows
+pub mod PlaceKinds
+pub mod PlaceSteps

@@ -5,3 +5,8 @@ pub mod PageTables
 pub mod Listing
 pub mod TextVerdicts
 pub mod Reading
+pub mod Edges
+pub mod EdgePasses
+pub mod EdgeLengths
+pub mod Places
+pub mod PlacePasses
