@@ -3,10 +3,3 @@ pub mod Certificates
 pub mod ReadingCertificates
 pub mod PageTables
 pub mod Listing
-pub mod TextVerdicts
-pub mod Reading
-pub mod Edges
-pub mod EdgePasses
-pub mod EdgeLengths
-pub mod Places
-pub mod PlacePasses

@@ -1,5 +1,0 @@
-use Rattle.pcl_cert.proofs.GoodNumbers.{numbers_by_bounds}
-use Rattle.pcl_cert.proofs.edges_laws.numbers_by_bounds_are_feasible.Goals as goal
-
-pub returns : goal.returns
-returns c = numbers_by_bounds

@@ -1,6 +1,0 @@
-use Rattle.std.proofs.Common.{ℕ, ◌<◌}
-use Rattle.pcl_cert.specs.PlacePasses.{IsGoodByte}
-use Rattle.pcl_cert.proofs.places.first_bad_byte.Given as goal
-
-abbrev pub invariant-loop-place : goal.invariant-loop-place
-invariant-loop-place l = (k : ℕ) → k < l.place → IsGoodByte l.numbers k

@@ -1,6 +1,0 @@
-use Rattle.std.proofs.Common.{◌≡◌, ℕ, ◌+◌, ◌<◌}
-use Rattle.std.specs.Prelude.{slice_index}
-use Rattle.pcl_cert.proofs.places_fill.add_places.Given as goal
-
-abbrev pub invariant-loop-place : goal.invariant-loop-place
-invariant-loop-place l = (k : ℕ) → k < l.place → slice_index l.sums k ≡ k + slice_index l.numbers k

@@ -1,6 +1,0 @@
-use Rattle.std.proofs.Common.{◌≡◌, ℕ, ◌-◌, ◌<◌, length}
-use Rattle.std.specs.Prelude.{slice_index}
-use Rattle.pcl_cert.proofs.places_fill.fill_ends.Given as goal
-
-abbrev pub invariant-loop-end : goal.invariant-loop-end
-invariant-loop-end l = (k : ℕ) → k < l.end-index → slice_index l.ends k ≡ length l.ends - 1

@@ -1,6 +1,0 @@
-use Rattle.std.proofs.Common.{ℕ, ◌-◌}
-use Rattle.pcl_coders.specs.Choosing.{IsLeastLen}
-use Rattle.pcl_cert.proofs.places_fill.least_behind.Given as goal
-
-abbrev pub invariant-loop-len : goal.invariant-loop-len
-invariant-loop-len l = (best : ℕ) × IsLeastLen l.numbers 1 (l.len - 1) 0 1 best l.least

@@ -1,8 +1,0 @@
-use Rattle.std.proofs.Common.{◌≡◌, ◌<◌, ◌≤◌, ℕ, false}
-use Rattle.pcl_base.specs.Size.{page_width}
-use Rattle.pcl_bitmap.specs.Bitmap.{dot_of_row}
-use Rattle.pcl_cert.proofs.reading.comparison.Comparison.has_clear_pads.Given as goal
-
--- the dots so far are white
-abbrev pub invariant-loop-x : goal.invariant-loop-x
-invariant-loop-x l = (x : ℕ) → page_width l.self.size l.self.bitmap.now.dpi ≤ x → x < l.x → dot_of_row l.row x ≡ false

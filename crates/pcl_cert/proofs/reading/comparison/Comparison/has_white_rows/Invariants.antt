@@ -1,8 +1,0 @@
-use Rattle.std.proofs.Common.{◌≡◌, ◌-◌, take, drop, replicate}
-use Rattle.pcl_base.specs.Size.{page_row_bytes}
-use Rattle.pcl_plan.specs.PageText.{bitmap_rows}
-use Rattle.pcl_cert.proofs.reading.comparison.Comparison.has_white_rows.Given as goal
-
-abbrev pub invariant-loop-row : goal.invariant-loop-row
-invariant-loop-row l = replicate (l.row - l.y) (replicate (page_row_bytes l.self.size l.self.bitmap.now.dpi) 0)
-    ≡ take (l.row - l.y) (drop l.y (bitmap_rows l.self.bitmap.now))

@@ -1,0 +1,151 @@
+-- Rows of a text beside those of a page.
+use Rattle.std.proofs.Common.{◌≡◌, ℕ, ◌-◌, ◌≤◌, Bool, true, false, IsTrue, List, [], ◌∷◌, ◌++◌, length, take, drop, replicate, refl, sym, ap, subst, ◌∙◌, append_assoc, arith}
+use Rattle.std.specs.Prelude.{◌↔◌}
+use Rattle.std.proofs.lemmas.List.{length-append, length-replicate}
+use Rattle.pcl_base.specs.declared.dpi.Dpi.{Dpi}
+use Rattle.pcl_base.specs.declared.size.Size.{Size}
+use Rattle.pcl_base.specs.Size.{page_height, page_row_bytes}
+use Rattle.pcl_bitmap.specs.Bitmap.{Picture}
+use Rattle.pcl_plan.specs.Tokens.{end_bytes}
+use Rattle.pcl_plan.specs.PageText.{bitmap_rows}
+use Rattle.pcl_check.specs.declared.reading.body.Place.{Place}
+use Rattle.pcl_check.specs.Reading.{LeftOver, RestPrints, GivesRows, left_at, body_of, AreRowsAt, Advances, IsOnlyPrinted}
+use Rattle.pcl_check.proofs.Fronts.{white_rows}
+use Rattle.pcl_check.proofs.Outside.{end_only, end_prints}
+
+-- ---- tests that are joined
+
+pub both : (may test outcome : Bool) (P : Type 0) → (IsTrue test ↔ P) → may ≡ true → outcome ≡ test → IsTrue outcome ↔ (IsTrue may × P)
+both may test outcome P says m o = (λ yes. (m, says.0 (sym o ∙ yes)), λ h. o ∙ says.1 h.1)
+
+pub neither : (may outcome : Bool) (P : Type 0) → may ≡ false → outcome ≡ may → IsTrue outcome ↔ (IsTrue may × P)
+neither may outcome P m o = (λ yes. absurd cc, λ h. let yes : may ≡ true = h.0 in absurd cc)
+
+-- ---- rows in two parts
+
+-- a list begins with two others where it begins with the first and goes on with the second
+pub parts_of : (a b all : List (List ℕ)) → a ++ b ≡ take (length (a ++ b)) all
+    → (a ≡ take (length a) all) × (b ≡ take (length b) (drop (length a) all))
+parts_of [] b all e = (refl, e)
+parts_of (row ∷ a) b [] e = absurd cc
+parts_of (row ∷ a) b (first ∷ all) e =
+    let head : row ≡ first = cc in
+    let rest : a ++ b ≡ take (length (a ++ b)) all = cc in
+    let parts = parts_of a b all rest in
+    let front : a ≡ take (length a) all = parts.0 in
+    (cc, parts.1)
+
+pub of_parts : (a b all : List (List ℕ)) → a ≡ take (length a) all → b ≡ take (length b) (drop (length a) all)
+    → a ++ b ≡ take (length (a ++ b)) all
+of_parts [] b all p q = q
+of_parts (row ∷ a) b [] p q = absurd cc
+of_parts (row ∷ a) b (first ∷ all) p q =
+    let head : row ≡ first = cc in
+    let front : a ≡ take (length a) all = cc in
+    let rest : a ++ b ≡ take (length (a ++ b)) all = of_parts a b all front q in
+    cc
+
+-- ---- moves one after the other
+
+joined : (a b c : List (List ℕ)) → (a ++ b) ++ c ≡ a ++ (b ++ c)
+joined a b c = simp append_assoc
+
+pub becomes_trans : (size : Size) (dpi : Dpi) (a : LeftOver) (given : List (List ℕ)) (b : LeftOver) (more : List (List ℕ)) (c : LeftOver)
+    → GivesRows size dpi a given b → GivesRows size dpi b more c → GivesRows size dpi a (given ++ more) c
+becomes_trans size dpi a given b more c first second = record {
+  splits = λ rows p.
+      let one = first.splits rows p in
+      let two = second.splits one.0 one.2 in (
+        two.0,
+        one.1 ∙ ap (λ (z : List (List ℕ)). given ++ z) two.1 ∙ sym (joined given more two.0),
+        two.2,
+      );
+  joins = λ rows p.
+      subst (RestPrints size dpi a) (sym (joined given more rows)) (first.joins (more ++ rows) (second.joins rows p));
+}
+
+pub becomes_same : (size : Size) (dpi : Dpi) (a b : LeftOver) → a ≡ b → GivesRows size dpi a [] b
+becomes_same size dpi a b e =
+    record {
+      splits = λ rows p. (rows, refl, subst (λ (z : LeftOver). RestPrints size dpi z rows) e p);
+      joins = λ rows p. subst (λ (z : LeftOver). RestPrints size dpi z rows) (sym e) p;
+    }
+
+-- a body read to some place, and the comparison so far
+pub record IsBodyReadTo (picture : Picture) (size : Size) (text : List ℕ) (may_be : Bool) (place : Place) (above : List ℕ) : Type 0 where
+  pub given : List (List ℕ)
+  pub becomes : GivesRows size picture.dpi (body_of size picture.dpi text) given (left_at size picture.dpi place above)
+  pub row_is : place.row ≡ length given
+  pub within : place.row ≤ page_height size picture.dpi
+  pub same : IsTrue place.is_same ↔ (IsTrue may_be × AreRowsAt picture 0 given)
+
+pub read_on : (picture : Picture) (size : Size) (text : List ℕ) (may_be : Bool) (place : Place) (above : List ℕ) (next : Place)
+    (below : List ℕ) → IsBodyReadTo picture size text may_be place above → Advances picture size place above next below
+    → IsBodyReadTo picture size text may_be next below
+read_on picture size text may_be place above next below read advances =
+    let all = bitmap_rows picture in
+    let place_is : place.row ≡ length read.given = read.row_is in
+    record {
+      given = read.given ++ advances.given;
+      becomes = becomes_trans size picture.dpi (body_of size picture.dpi text) read.given (left_at size picture.dpi place above)
+          advances.given
+          (left_at size picture.dpi next below) read.becomes advances.becomes;
+      row_is = omega (arith, length-append read.given advances.given, read.row_is, advances.row_is);
+      within = advances.within;
+      same = (
+        λ yes.
+            let now = advances.same.0 yes in
+            let before = read.same.0 now.0 in
+            let later : advances.given ≡ take (length advances.given) (drop (length read.given) all) =
+            subst (λ (y : ℕ). advances.given ≡ take (length advances.given) (drop y all)) place_is now.1 in
+            (before.0, of_parts read.given advances.given all before.1 later),
+        λ h.
+            let parts = parts_of read.given advances.given all h.1 in
+            advances.same.1 (
+              read.same.1 (h.0, parts.0),
+              subst (λ (y : ℕ). advances.given ≡ take (length advances.given) (drop y all)) (sym place_is) parts.1,
+            ),
+      );
+    }
+
+-- at the end of the text the other rows are white
+pub read_all : (picture : Picture) (size : Size) (text : List ℕ) (may_be : Bool) (place : Place) (above : List ℕ) (outcome : Bool)
+    → IsBodyReadTo picture size text may_be place above → place.inside ≡ false → place.text.now ≡ end_bytes
+    → (IsTrue outcome ↔ (IsTrue place.is_same × AreRowsAt picture place.row
+    (white_rows size picture.dpi (page_height size picture.dpi - place.row))))
+    → IsOnlyPrinted picture size text may_be outcome
+read_all picture size text may_be place above outcome read outside ended same =
+    let all = bitmap_rows picture in
+    let white = white_rows size picture.dpi (page_height size picture.dpi - place.row) in
+    let left = left_at size picture.dpi place above in
+    record {
+      rows = read.given ++ white;
+      printed = read.becomes.joins white (end_prints size picture.dpi left outside ended);
+      only = λ other p.
+          let parts = read.becomes.splits other p in
+          parts.1 ∙ ap (λ (z : List (List ℕ)). read.given ++ z) (end_only size picture.dpi left parts.0 outside ended parts.2);
+      same = (
+        λ yes.
+            let now = same.0 yes in
+            let before = read.same.0 now.0 in
+            let later : white ≡ take (length white) (drop (length read.given) all) =
+            subst (λ (y : ℕ). white ≡ take (length white) (drop y all)) read.row_is now.1 in
+            (before.0, of_parts read.given white all before.1 later),
+        λ h.
+            let parts = parts_of read.given white all h.1 in
+            same.1 (
+              read.same.1 (h.0, parts.0),
+              subst (λ (y : ℕ). white ≡ take (length white) (drop y all)) (sym read.row_is) parts.1,
+            ),
+      );
+    }
+
+-- a test of white rows, by their count
+pub white_test : (picture : Picture) (size : Size) (y n count : ℕ) (test : Bool) → n ≡ count
+    → (IsTrue test ↔ (white_rows size picture.dpi n ≡ take n (drop y (bitmap_rows picture))))
+    → IsTrue test ↔ AreRowsAt picture y (white_rows size picture.dpi count)
+white_test picture size y n count test e says =
+    let white = white_rows size picture.dpi in
+    let many : length (white count) ≡ count = length-replicate count (replicate (page_row_bytes size picture.dpi) 0) in
+    let counted = subst (λ (k : ℕ). IsTrue test ↔ (white k ≡ take k (drop y (bitmap_rows picture)))) e says in
+    subst (λ (k : ℕ). IsTrue test ↔ (white count ≡ take k (drop y (bitmap_rows picture)))) (sym many) counted

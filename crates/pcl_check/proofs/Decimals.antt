@@ -1,0 +1,80 @@
+-- Numbers at the front of a text.
+use Rattle.std.proofs.Common.{◌≡◌, ℕ, ◌≤◌, false, List, [], ◌∷◌, ◌++◌, length, take, drop, refl, sym, ap, subst, ◌∙◌, arith}
+use Rattle.std.specs.Prelude.{decimal}
+use Rattle.std.specs.List.{prefix_len}
+use Rattle.std.proofs.lemmas.List.{append-nil}
+use Rattle.pcl_escape.specs.Field.{is_digit, number_of}
+use Rattle.pcl_escape.specs.Pieces.{AreDigits}
+use Rattle.pcl_escape.proofs.Fronts.{StopsAt, front_split}
+use Rattle.pcl_plan.proofs.Numbers.{decimal_spelled}
+use Rattle.pcl_check.specs.declared.reading.parameter.Parameter.{Parameter}
+use Rattle.pcl_check.specs.Reading.{IsParameter}
+use Rattle.pcl_check.proofs.Splits.{one_split, no_split}
+
+no_bytes : (bytes : List ℕ) → length bytes ≡ 0 → bytes ≡ []
+no_bytes [] e = refl
+no_bytes (byte ∷ bytes) e = absurd (omega arith)
+
+-- nothing is behind the digits
+pub all_digits : (text behind : List ℕ) → behind ≡ drop (prefix_len is_digit text) text → length behind ≡ 0 → AreDigits text
+all_digits text behind e none =
+    let front = front_split is_digit text in
+    let no_more : drop (prefix_len is_digit text) text ≡ [] = sym e ∙ no_bytes behind none in
+    let whole : text ≡ take (prefix_len is_digit text) text = front.joined
+    ∙ ap (λ (z : List ℕ). take (prefix_len is_digit text) text ++ z) no_more ∙ append-nil (take (prefix_len is_digit text) text) in
+    subst AreDigits (sym whole) front.pass
+
+-- digits, and the byte behind them
+pub record IsCutAt (text front : List ℕ) (byte : ℕ) (rest : List ℕ) : Type 0 where
+  pub are_digits : AreDigits front
+  pub no_digit : is_digit byte ≡ false
+  pub spelled : text ≡ front ++ byte ∷ rest
+
+pub digits_cut : (text front behind : List ℕ) (byte : ℕ) (rest : List ℕ) → front ≡ take (prefix_len is_digit text) text
+    → behind ≡ drop (prefix_len is_digit text) text → behind ≡ byte ∷ rest → IsCutAt text front byte rest
+digits_cut text front behind byte rest f b e =
+    let split = front_split is_digit text in
+    let back : drop (prefix_len is_digit text) text ≡ byte ∷ rest = sym b ∙ e in
+    let stops : StopsAt is_digit (byte ∷ rest) = subst (StopsAt is_digit) back split.stops in
+    record {
+      are_digits = subst AreDigits (sym f) split.pass;
+      no_digit = stops;
+      spelled = split.joined
+          ∙ ap (λ (z : List ℕ). z ++ drop (prefix_len is_digit text) text) (sym f) ∙ ap (λ (z : List ℕ). front ++ z) back;
+    }
+
+-- ---- decimals
+
+pub decimal_digits : (n : ℕ) → n ≤ 65536 → AreDigits (decimal n)
+decimal_digits n le = (decimal_spelled n (omega arith)).0
+
+pub decimal_number : (n : ℕ) → n ≤ 65536 → number_of (decimal n) ≡ n
+decimal_number n le = (decimal_spelled n (omega arith)).1
+
+pub same_decimal : (m n : ℕ) → m ≤ 65536 → n ≤ 65536 → decimal m ≡ decimal n → m ≡ n
+same_decimal m n a b e = sym (decimal_number m a) ∙ ap number_of e ∙ decimal_number n b
+
+-- decimals with the same byte behind them
+pub same_front : (m n byte : ℕ) (x y : List ℕ) → m ≤ 65536 → n ≤ 65536 → is_digit byte ≡ false
+    → decimal m ++ byte ∷ x ≡ decimal n ++ byte ∷ y → (m ≡ n) × (x ≡ y)
+same_front m n byte x y a b off e =
+    let parts = one_split is_digit (decimal m) (decimal n) byte byte x y (decimal_digits m a) (decimal_digits n b) off off e in
+    (same_decimal m n a b parts.0, parts.2)
+
+pub no_decimal : (text : List ℕ) (n byte : ℕ) (rest : List ℕ) → AreDigits text → is_digit byte ≡ false
+    → text ≡ decimal n ++ byte ∷ rest → ⊥
+no_decimal text n byte rest are off e = no_split is_digit text (decimal n) byte rest are off e
+
+-- a number that is spelled as a decimal is one without leading zeros
+pub record IsDecimal (found : Parameter) (byte n : ℕ) : Type 0 where
+  pub digits : decimal found.number ≡ found.digits.now
+  pub letter : found.letter ≡ byte
+
+pub decimal_found : (text : List ℕ) (found : Parameter) (byte n : ℕ) (rest : List ℕ) → IsParameter text found → is_digit byte ≡ false
+    → n ≤ 65535 → text ≡ decimal n ++ byte ∷ rest → IsDecimal found byte n
+decimal_found text found byte n rest is off le e =
+    let parts = one_split is_digit found.digits.now (decimal n) found.letter byte found.rest.now rest is.are_digits
+    (decimal_digits n (omega arith)) is.no_digit off (sym is.spelled ∙ e) in
+    let number : number_of found.digits.now ≡ n = ap number_of parts.0 ∙ decimal_number n (omega arith) in
+    let same : found.number ≡ n = omega (arith, is.number_is, number) in
+    record { digits = ap decimal same ∙ sym parts.0; letter = parts.1 }

@@ -1,0 +1,85 @@
+-- The first number that is bad by one of two facts.
+use Rattle.std.proofs.Common.{◌≡◌, ℕ, ◌<◌, ◌≤◌, Bool, true, false, refl, ap, arith}
+use Rattle.std.specs.Prelude.{nat_lt, if◌then◌else◌, Option, Some, None}
+use Rattle.std.proofs.lemmas.Bool.{ltb-true, ltb-false}
+use Rattle.pcl_base.specs.declared.method.Method.{Method}
+use Rattle.pcl_base.specs.Method.{method_code}
+use Rattle.pcl_plan.proofs.RightRows.{method_small}
+use Rattle.pcl_check.specs.declared.edges.found.BadNumber.{BadNumber}
+use Rattle.pcl_check.specs.Edges.{inside_code, place_of, IsFirstBad, FindsBad}
+use Rattle.pcl_check.specs.EdgePasses.{found_place, first_found, At, Both}
+
+inside_small : (inside : Bool) → inside_code inside ≤ 1
+inside_small true = omega arith
+inside_small false = omega arith
+
+-- what stands before another number stands in its row or above it
+pub row_before : (row other : ℕ) (method next : Method) (inside is_open : Bool)
+    → place_of row method inside < place_of other next is_open → row ≤ other
+row_before row other method next inside is_open lt = omega (arith, lt, method_small next, inside_small is_open)
+
+-- both facts at once
+chosen : (One Other : ℕ → Method → Bool → Type 0) (last : ℕ) (one other : BadNumber) (t : Bool)
+    → (t ≡ true → found_place other < found_place one) → (t ≡ false → found_place one ≤ found_place other)
+    → IsFirstBad One last one → IsFirstBad Other last other → FindsBad (Both One Other) last (if t then Some other else Some one)
+chosen One Other last one other true less more a b = record {
+  within = b.within;
+  is_bad = λ both. b.is_bad both.1;
+  first = λ row method inside before. (a.first row method inside (omega (arith, before, less refl)), b.first row method inside before);
+}
+chosen One Other last one other false less more a b = record {
+  within = a.within;
+  is_bad = λ both. a.is_bad both.0;
+  first = λ row method inside before. (a.first row method inside before, b.first row method inside (omega (arith, before, more refl)));
+}
+
+pub first_finds : (One Other : ℕ → Method → Bool → Type 0) (last : ℕ) (one other : Option BadNumber) → FindsBad One last one
+    → FindsBad Other last other → FindsBad (Both One Other) last (first_found one other)
+first_finds One Other last None None a b = λ row method inside le. (a row method inside le, b row method inside le)
+first_finds One Other last None (Some bad) a b = record {
+  within = b.within;
+  is_bad = λ both. b.is_bad both.1;
+  first = λ row method inside before. (
+    a row method inside (omega (arith, row_before row bad.row method bad.method inside bad.inside before, b.within)),
+    b.first row method inside before,
+  );
+}
+first_finds One Other last (Some bad) None a b = record {
+  within = a.within;
+  is_bad = λ both. a.is_bad both.0;
+  first = λ row method inside before. (
+    a.first row method inside before,
+    b row method inside (omega (arith, row_before row bad.row method bad.method inside bad.inside before, a.within)),
+  );
+}
+first_finds One Other last (Some one) (Some other) a b =
+    chosen One Other last one other (nat_lt (found_place other) (found_place one)) (ltb-true (found_place other) (found_place one))
+    (ltb-false (found_place other) (found_place one)) a b
+
+-- another fact that says the same
+pub finds_too : (One Other : ℕ → Method → Bool → Type 0) (last : ℕ) (found : Option BadNumber)
+    → ((row : ℕ) (method : Method) (inside : Bool) → row ≤ last → One row method inside → Other row method inside)
+    → ((row : ℕ) (method : Method) (inside : Bool) → row ≤ last → Other row method inside → One row method inside)
+    → FindsBad One last found → FindsBad Other last found
+finds_too One Other last None to back found = λ row method inside le. to row method inside le (found row method inside le)
+finds_too One Other last (Some bad) to back found = record {
+  within = found.within;
+  is_bad = λ other. found.is_bad (back bad.row bad.method bad.inside found.within other);
+  first = λ row method inside before.
+      to row method inside (omega (arith, row_before row bad.row method bad.method inside bad.inside before, found.within))
+      (found.first row method inside before);
+}
+
+-- a fact of rows, asked of the nodes of one method
+pub first_at : (Good : ℕ → Type 0) (last row : ℕ) (method : Method) (inside : Bool) → row ≤ last → (Good row → ⊥)
+    → ((k : ℕ) → k < row → Good k) → IsFirstBad (At method inside Good) last (record { row = row; method = method; inside = inside })
+first_at Good last row method inside within bad before = record {
+  within = within;
+  is_bad = λ good. bad (good refl refl);
+  first = λ k current is_open first same here.
+      before k (omega (arith, first, ap method_code same, ap inside_code here));
+}
+
+pub none_at : (Good : ℕ → Type 0) (last : ℕ) (method : Method) (inside : Bool) → ((k : ℕ) → k ≤ last → Good k)
+    → FindsBad (At method inside Good) last None
+none_at Good last method inside all = λ row current is_open le same here. all row le

@@ -1,0 +1,130 @@
+-- The token at the front of what is left inside a sequence.
+use Rattle.std.proofs.Common.{◌≡◌, ℕ, zero, suc, ◌+◌, ◌-◌, ◌<◌, ◌≤◌, Bool, true, false, List, [], ◌∷◌, ◌++◌, length, take, drop, replicate, refl, sym, ap, subst, ◌∙◌, append_assoc, arith}
+use Rattle.std.specs.Prelude.{not}
+use Rattle.std.specs.List.{flat_map, AllByRecursion}
+use Rattle.std.proofs.lemmas.List.{length-drop}
+use Rattle.pcl_base.specs.declared.dpi.Dpi.{Dpi}
+use Rattle.pcl_base.specs.declared.method.Method.{Method}
+use Rattle.pcl_base.specs.declared.size.Size.{Size}
+use Rattle.pcl_base.specs.Method.{method_code}
+use Rattle.pcl_base.specs.Size.{page_row_bytes}
+use Rattle.pcl_escape.specs.Field.{is_digit, number_of}
+use Rattle.pcl_escape.specs.Pieces.{AreDigits}
+use Rattle.pcl_rows.specs.Rows.{IsRowData}
+use Rattle.pcl_plan.specs.Tokens.{Token, opening, method, skip, send, letter, token_bytes, AreWhite, PrintsRows, end_bytes}
+use Rattle.pcl_plan.specs.PageText.{IsRowOf}
+use Rattle.pcl_plan.proofs.Walking.{white_is_zeros}
+use Rattle.pcl_check.specs.Reading.{LeftOver, RestPrints}
+use Rattle.pcl_check.proofs.Splits.{one_split}
+
+-- a letter as a number: a capital where it ends the sequence
+abbrev pub letter_code : ℕ → Bool → ℕ
+letter_code capital true = capital
+letter_code capital false = capital + 32
+
+pub letter_is : (capital : ℕ) (ends : Bool) → letter capital ends ≡ letter_code capital ends ∷ []
+letter_is capital true = refl
+letter_is capital false = refl
+
+abbrev pub left_over : Bool → Method → List ℕ → ℕ → List ℕ → LeftOver
+left_over inside current above rows text = record { inside = inside; method = current; above = above; rows = rows; text = text }
+
+-- so many white rows of a size
+abbrev pub white_rows : Size → Dpi → ℕ → List (List ℕ)
+white_rows size dpi count = replicate count (replicate (page_row_bytes size dpi) 0)
+
+-- what a number and the byte behind it say, inside a sequence
+pub data Foremost (size : Size) (dpi : Dpi) (current : Method) (above : List ℕ) (left number byte : ℕ) (rest : List ℕ)
+    (rows : List (List ℕ)) : Type 0 where
+  is_method : (next : Method) (ends : Bool) → byte ≡ letter_code 77 ends → number ≡ method_code next
+      → RestPrints size dpi (left_over (not ends) next above left rest) rows
+      → Foremost size dpi current above left number byte rest rows
+  is_skip : (ends : Bool) (others : List (List ℕ)) → byte ≡ letter_code 89 ends → 0 < number → number ≤ left
+      → rows ≡ white_rows size dpi number ++ others
+      → RestPrints size dpi (left_over (not ends) current (replicate (length above) 0) (left - number) rest) others
+      → Foremost size dpi current above left number byte rest rows
+  is_send : (bytes more first : List ℕ) (others : List (List ℕ)) → byte ≡ 87 → number ≡ length bytes → rest ≡ bytes ++ more → 0 < left
+      → rows ≡ first ∷ others → IsRowOf size dpi first → IsRowData current above first bytes
+      → RestPrints size dpi (left_over false current first (left - 1) more) others
+      → Foremost size dpi current above left number byte rest rows
+
+pub regroup : (digits : List ℕ) (byte : ℕ) (bytes tokens end : List ℕ)
+    → ((digits ++ (byte ∷ bytes)) ++ tokens) ++ end ≡ digits ++ byte ∷ (bytes ++ (tokens ++ end))
+regroup digits byte bytes tokens end = simp append_assoc
+
+pub no_digit_77 : (ends : Bool) → is_digit (letter_code 77 ends) ≡ false
+no_digit_77 true = refl
+no_digit_77 false = refl
+
+pub no_digit_89 : (ends : Bool) → is_digit (letter_code 89 ends) ≡ false
+no_digit_89 true = refl
+no_digit_89 false = refl
+
+-- a text that begins with digits and another byte, and with a token: they are the same
+pub same_front : (digits spelled : List ℕ) (byte sent : ℕ) (rest bytes tokens end : List ℕ)
+    → AreDigits digits → AreDigits spelled → is_digit byte ≡ false → is_digit sent ≡ false
+    → digits ++ byte ∷ rest ≡ ((spelled ++ (sent ∷ bytes)) ++ tokens) ++ end
+    → (digits ≡ spelled) × (byte ≡ sent) × (rest ≡ bytes ++ (tokens ++ end))
+same_front digits spelled byte sent rest bytes tokens end p q s t e =
+    one_split is_digit digits spelled byte sent rest (bytes ++ (tokens ++ end)) p q s t (e ∙ regroup spelled sent bytes tokens end)
+
+pub all_drop : (size : Size) (dpi : Dpi) (count : ℕ) (rows : List (List ℕ)) → AllByRecursion (IsRowOf size dpi) rows
+    → AllByRecursion (IsRowOf size dpi) (drop count rows)
+all_drop size dpi zero rows are = are
+all_drop size dpi (suc count) [] are = tt
+all_drop size dpi (suc count) (row ∷ rows) are = all_drop size dpi count rows are.1
+
+-- white rows are zeros
+pub white_front : (size : Size) (dpi : Dpi) (count : ℕ) (rows : List (List ℕ)) → AllByRecursion (IsRowOf size dpi) rows
+    → count ≤ length rows → AreWhite (take count rows) → rows ≡ white_rows size dpi count ++ drop count rows
+white_front size dpi zero rows are le white = refl
+white_front size dpi (suc count) [] are le white = absurd (omega arith)
+white_front size dpi (suc count) (row ∷ rows) are le white =
+    let first : row ≡ replicate (page_row_bytes size dpi) 0 = white_is_zeros row white.0 ∙ ap (λ (n : ℕ). replicate n 0) are.0.0 in
+    let rest = white_front size dpi count rows are.1 (omega arith) white.1 in
+    ap (λ (r : List ℕ). r ∷ rows) first ∙ ap (λ (rs : List (List ℕ)). replicate (page_row_bytes size dpi) 0 ∷ rs) rest
+
+-- what is at the front, by the tokens
+front_by : (size : Size) (dpi : Dpi) (current : Method) (above : List ℕ) (left : ℕ) (digits : List ℕ) (byte : ℕ) (rest : List ℕ)
+    → AreDigits digits → is_digit byte ≡ false → (tokens : List Token) (rows : List (List ℕ))
+    → digits ++ byte ∷ rest ≡ flat_map token_bytes tokens ++ end_bytes → length rows ≡ left
+    → AllByRecursion (IsRowOf size dpi) rows → PrintsRows true current above tokens rows
+    → Foremost size dpi current above left (number_of digits) byte rest rows
+unfolding PrintsRows
+front_by size dpi current above left digits byte rest are off [] rows e n all p = absurd p
+front_by size dpi current above left digits byte rest are off (opening ∷ tokens) rows e n all p = absurd p
+front_by size dpi current above left digits byte rest are off (method spelled next ends ∷ tokens) rows e n all p =
+    let more = flat_map token_bytes tokens in
+    let same = same_front digits spelled byte (letter_code 77 ends) rest [] more end_bytes are p.0.0 off (no_digit_77 ends)
+    (e ∙ ap (λ (l : List ℕ). ((spelled ++ l) ++ more) ++ end_bytes) (letter_is 77 ends)) in
+    is_method next ends same.1 (ap number_of same.0 ∙ p.0.1)
+    (record { count = n; rows_are = all; tokens = tokens; spelled = same.2; prints = p.1 })
+front_by size dpi current above left digits byte rest are off (skip spelled count ends ∷ tokens) rows e n all p =
+    let more = flat_map token_bytes tokens in
+    let same = same_front digits spelled byte (letter_code 89 ends) rest [] more end_bytes are p.0.0 off (no_digit_89 ends)
+    (e ∙ ap (λ (l : List ℕ). ((spelled ++ l) ++ more) ++ end_bytes) (letter_is 89 ends)) in
+    let number : number_of digits ≡ count = ap number_of same.0 ∙ p.0.1 in
+    subst (λ (k : ℕ). Foremost size dpi current above left k byte rest rows) (sym number)
+    (is_skip ends (drop count rows) same.1 p.1 (omega (arith, p.2)) (white_front size dpi count rows all p.2 p.3)
+    (record {
+      count = omega (arith, length-drop count rows, p.2);
+      rows_are = all_drop size dpi count rows all;
+      tokens = tokens;
+      spelled = same.2;
+      prints = p.4;
+    }))
+front_by size dpi current above left digits byte rest are off (send spelled bytes ∷ tokens) [] e n all p = absurd p
+front_by size dpi current above left digits byte rest are off (send spelled bytes ∷ tokens) (first ∷ rows) e n all p =
+    let more = flat_map token_bytes tokens in
+    let same = same_front digits spelled byte 87 rest bytes more end_bytes are p.0.0 off refl e in
+    is_send bytes (more ++ end_bytes) first rows same.1 (ap number_of same.0 ∙ p.0.1) same.2 (omega arith) refl all.0 p.1
+    (record { count = omega arith; rows_are = all.1; tokens = tokens; spelled = refl; prints = p.2 })
+
+-- what is at the front of what is left
+pub front_of : (size : Size) (dpi : Dpi) (left : LeftOver) (digits : List ℕ) (byte : ℕ) (rest : List ℕ) (rows : List (List ℕ))
+    → left.inside ≡ true → AreDigits digits → is_digit byte ≡ false → left.text ≡ digits ++ byte ∷ rest
+    → RestPrints size dpi left rows → Foremost size dpi left.method left.above left.rows (number_of digits) byte rest rows
+front_of size dpi left digits byte rest rows inside are off text printed =
+    front_by size dpi left.method left.above left.rows digits byte rest are off printed.tokens rows (sym text ∙ printed.spelled)
+    printed.count printed.rows_are
+    (subst (λ (i : Bool). PrintsRows i left.method left.above printed.tokens rows) inside printed.prints)

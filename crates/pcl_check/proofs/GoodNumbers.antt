@@ -1,0 +1,209 @@
+-- Good numbers are undercut by no token.
+use Rattle.std.proofs.Common.{◌≡◌, ℕ, zero, suc, ◌+◌, ◌<◌, ◌≤◌, Bool, true, false, List, length, refl, sym, ap, subst, ◌∙◌, inl, inr, arith}
+use Rattle.std.specs.Prelude.{not}
+use Rattle.std.proofs.lemmas.Bool.{cases_lt}
+use Rattle.std.proofs.lemmas.List.{get_or_past}
+use Rattle.pcl_base.specs.declared.method.Method.{Method}
+use Rattle.pcl_base.specs.declared.method.Method.TheVariants.{Plain, Runs, Packed, Delta}
+use Rattle.pcl_base.specs.Method.{method_code}
+use Rattle.pcl_rows.specs.Rows.{IsRowData}
+use Rattle.pcl_coders.specs.Coding.{IsLeastLength}
+use Rattle.pcl_coders.specs.Walks.{IsFeasible}
+use Rattle.pcl_plan.specs.declared.table.RowNumbers.{RowNumbers}
+use Rattle.pcl_plan.specs.Tokens.{Token, opening, method, skip, send, IsSpelled}
+use Rattle.pcl_plan.specs.Nodes.{Node, row_at, row_above, Leads, Ends, cost}
+use Rattle.pcl_plan.specs.Spelling.{least_spelling}
+use Rattle.pcl_plan.specs.Table.{number_in, no_numbers, node_number}
+use Rattle.pcl_plan.proofs.Digits.{count_grows, spelled_long}
+use Rattle.pcl_plan.proofs.InkedRows.{length_small, spelled_cost}
+use Rattle.pcl_plan.proofs.RightRows.{cost_opening, cost_method, cost_skip, cost_send, method_small}
+use Rattle.pcl_plan.proofs.Walking.{node}
+use Rattle.pcl_check.specs.Edges.{number_at, row_cost, IsGoodNumber, AreGoodNumbers, IsLeastOfRow, IsGiven, BoundData}
+
+-- ---- from good numbers
+
+-- what is sent undercuts no number
+abbrev pub AreGoodSends : ℕ → List (List ℕ) → (Node → ℕ) → Type 0
+AreGoodSends width rows number = (row : ℕ) (current : Method) (bytes : List ℕ) → row < length rows
+    → IsRowData current (row_above width rows row) (row_at rows row) bytes
+    → number_at number row current true ≤ row_cost (length bytes) + number_at number (row + 1) current false
+
+steps_from : (width : ℕ) (rows : List (List ℕ)) (Counts : ℕ → Method → ℕ → Type 0) (number : Node → ℕ) (row : ℕ) → length rows ≤ 65535
+    → AreGoodSends width rows number
+    → (current : Method) (is_open : Bool) (token : Token) (b : Node) → IsGoodNumber rows Counts number row current is_open
+    → Leads width rows (node row current is_open) token b
+    → number (node row current is_open) ≤ cost token + number b
+steps_from width rows Counts number row few sends current true opening b good l = let no : true ≡ false = l.0 in absurd cc
+steps_from width rows Counts number row few sends current false opening b good l =
+    omega (arith, good.opens, cost_opening, ap number l.1)
+steps_from width rows Counts number row few sends current false (method digits next ends) b good l =
+    let no : false ≡ true = l.0 in absurd cc
+steps_from width rows Counts number row few sends current true (method digits next ends) b good l =
+    omega (
+      arith,
+      good.switches next (not ends),
+      cost_method digits next ends,
+      spelled_long digits (method_code next) l.1 (omega (arith, method_small next)),
+      ap number l.2,
+    )
+steps_from width rows Counts number row few sends current false (skip digits count ends) b good l =
+    let no : false ≡ true = l.0 in absurd cc
+steps_from width rows Counts number row few sends current true (skip digits count ends) b good l =
+    omega (
+      arith,
+      good.skips count (not ends) l.2 l.3 l.4,
+      cost_skip digits count ends,
+      spelled_long digits count l.1 (omega (arith, l.3, few)),
+      ap number l.5,
+    )
+steps_from width rows Counts number row few sends current false (send digits bytes) b good l =
+    let no : false ≡ true = l.0 in absurd cc
+steps_from width rows Counts number row few sends current true (send digits bytes) b good l =
+    omega (
+      arith,
+      sends row current bytes l.2 l.3,
+      cost_send digits bytes,
+      spelled_long digits (length bytes) l.1 (omega (arith, l.3.fits)),
+      ap number l.4,
+    )
+
+end_from : (rows : List (List ℕ)) (Counts : ℕ → Method → ℕ → Type 0) (number : Node → ℕ) (row : ℕ) (current : Method) (is_open : Bool)
+    → IsGoodNumber rows Counts number row current is_open → Ends rows (node row current is_open) → number (node row current is_open) ≡ 0
+end_from rows Counts number row current true good end = let no : true ≡ false = end.0 in absurd cc
+end_from rows Counts number row current false good end = good.ends end.1
+
+-- behind more rows than a table has, its numbers are 0
+none_in : (current : Method) (is_open : Bool) → number_in no_numbers current is_open ≡ 0
+none_in Plain true = refl
+none_in Runs true = refl
+none_in Packed true = refl
+none_in Delta true = refl
+none_in Plain false = refl
+none_in Runs false = refl
+none_in Packed false = refl
+none_in Delta false = refl
+
+number_past : (table : List RowNumbers) (a : Node) → length table ≤ a.row → node_number table a ≡ 0
+number_past table a past =
+    ap (λ (numbers : RowNumbers). number_in numbers a.method a.inside) (get_or_past table a.row no_numbers past) ∙ none_in a.method a.inside
+
+feasible_by_sends : (width : ℕ) (rows : List (List ℕ)) (table : List RowNumbers) (Counts : ℕ → Method → ℕ → Type 0) → length rows ≤ 65535
+    → length table ≡ length rows + 1 → AreGoodSends width rows (node_number table) → AreGoodNumbers rows Counts (node_number table)
+    → IsFeasible (Leads width rows) (Ends rows) cost (node_number table)
+feasible_by_sends width rows table Counts few size sends good = record {
+  steps = λ a token b l.
+      elim (cases_lt (length rows) a.row) [
+        | inl past ↦ omega (arith, number_past table a (omega (arith, size)))
+        | inr within ↦
+            steps_from width rows Counts (node_number table) a.row few sends a.method a.inside token b
+            (good a.row a.method a.inside within) l
+      ];
+  ends = λ a end.
+      elim (cases_lt (length rows) a.row) [
+        | inl past ↦ number_past table a (omega (arith, size))
+        | inr within ↦ end_from rows Counts (node_number table) a.row a.method a.inside (good a.row a.method a.inside within) end
+      ];
+}
+
+-- ---- lengths
+
+-- shorter data costs no more
+row_cost_grows : (less more : ℕ) → less ≤ more → more ≤ 65535 → row_cost less ≤ row_cost more
+row_cost_grows less more le small = omega (arith, count_grows less more le (omega arith))
+
+-- given lengths that no data is shorter than
+pub numbers_by_bounds : (width : ℕ) (rows : List (List ℕ)) (table : List RowNumbers) (lengths : ℕ → Method → ℕ) → length rows ≤ 65535
+    → length table ≡ length rows + 1 → BoundData width rows lengths → AreGoodNumbers rows (IsGiven lengths) (node_number table)
+    → IsFeasible (Leads width rows) (Ends rows) cost (node_number table)
+numbers_by_bounds width rows table lengths few size bound good =
+    feasible_by_sends width rows table (IsGiven lengths) few size
+    (λ row current bytes inside whole.
+    omega (
+      arith,
+      (good row current true (omega arith)).sends (lengths row current) inside refl,
+      row_cost_grows (lengths row current) (length bytes) (bound row current bytes inside whole) (omega (arith, whole.fits)),
+    ))
+    good
+
+-- least lengths: shorter data would undercut more, so the least data that undercuts is least data
+sends_by_least : (width : ℕ) (rows : List (List ℕ)) (number : Node → ℕ) → AreGoodNumbers rows (IsLeastOfRow width rows) number
+    → (most : ℕ) (row : ℕ) (current : Method) (bytes : List ℕ) → length bytes < most → row < length rows
+    → IsRowData current (row_above width rows row) (row_at rows row) bytes
+    → number_at number row current true ≤ row_cost (length bytes) + number_at number (row + 1) current false
+sends_by_least width rows number good zero row current bytes short inside coded = absurd (omega arith)
+sends_by_least width rows number good (suc most) row current bytes short inside coded =
+    let n : ℕ = number_at number row current true in
+    let rest : ℕ = number_at number (row + 1) current false in
+    elim (cases_lt (row_cost (length bytes) + rest) n) [
+      | inr within ↦ within
+      | inl under ↦
+          let least : IsLeastLength current (row_above width rows row) (row_at rows row) (length bytes) = record {
+            attained = (bytes, coded, refl);
+            shortest = λ other whole.
+                elim (cases_lt (length other) (length bytes)) [
+                  | inr longer ↦ longer
+                  | inl shorter ↦
+                      absurd (omega (
+                        arith,
+                        sends_by_least width rows number good most row current other (omega arith) inside whole,
+                        row_cost_grows (length other) (length bytes) (omega arith) (omega (arith, coded.fits)),
+                      ))
+                ];
+          } in
+          (good row current true (omega arith)).sends (length bytes) inside least
+    ]
+
+pub good_feasible : (width : ℕ) (rows : List (List ℕ)) (table : List RowNumbers) → length rows ≤ 65535
+    → length table ≡ length rows + 1 → AreGoodNumbers rows (IsLeastOfRow width rows) (node_number table)
+    → IsFeasible (Leads width rows) (Ends rows) cost (node_number table)
+good_feasible width rows table few size good =
+    feasible_by_sends width rows table (IsLeastOfRow width rows) few size
+    (λ row current bytes inside whole.
+    sends_by_least width rows (node_number table) good (length bytes + 1) row current bytes (omega arith) inside whole)
+    good
+
+-- ---- to good numbers
+
+-- a sequence that goes on or ends
+ends_or : (inside : Bool) → not (not inside) ≡ inside
+ends_or true = refl
+ends_or false = refl
+
+pub feasible_good : (width : ℕ) (rows : List (List ℕ)) (number : Node → ℕ) → length rows ≤ 65535
+    → IsFeasible (Leads width rows) (Ends rows) cost number → AreGoodNumbers rows (IsLeastOfRow width rows) number
+feasible_good width rows number few is row current false within = record {
+  opens = omega (arith, is.steps (node row current false) opening (node row current true) (refl, refl), cost_opening);
+  ends = λ white. is.ends (node row current false) (refl, white);
+}
+feasible_good width rows number few is row current true within = record {
+  switches = λ next inside.
+      let s = spelled_cost (method_code next) (omega (arith, method_small next)) in
+      omega (
+        arith,
+        is.steps (node row current true) (method (least_spelling (method_code next)) next (not inside)) (node row next inside)
+            (refl, s.0, ap (node row next) (sym (ends_or inside))),
+        cost_method (least_spelling (method_code next)) next (not inside),
+        s.1,
+      );
+  skips = λ count inside some room white.
+      let s = spelled_cost count (omega (arith, room, few)) in
+      omega (
+        arith,
+        is.steps (node row current true) (skip (least_spelling count) count (not inside)) (node (row + count) current inside)
+            (refl, s.0, some, room, white, ap (node (row + count) current) (sym (ends_or inside))),
+        cost_skip (least_spelling count) count (not inside),
+        s.1,
+      );
+  sends = λ bytes inside least.
+      let whole = least.attained in
+      let s = spelled_cost bytes (length_small current (row_above width rows row) (row_at rows row) bytes least) in
+      let spelled : IsSpelled (least_spelling bytes) (length whole.0) = subst (IsSpelled (least_spelling bytes)) (sym whole.2) s.0 in
+      omega (
+        arith,
+        is.steps (node row current true) (send (least_spelling bytes) whole.0) (node (row + 1) current false)
+            (refl, spelled, inside, whole.1, refl),
+        cost_send (least_spelling bytes) whole.0,
+        whole.2,
+        s.1,
+      );
+}

@@ -1,0 +1,294 @@
+-- From what is left before a token to what is left behind it.
+use Rattle.std.proofs.Common.{◌≡◌, ℕ, zero, suc, ◌-◌, ◌/◌, ◌%◌, ◌<◌, ◌≤◌, Bool, true, false, List, [], ◌∷◌, ◌++◌, length, take, drop, replicate, Some, refl, sym, ap, subst, ◌∙◌, arith}
+use Rattle.std.specs.Prelude.{not, slice_index}
+use Rattle.std.specs.List.{flat_map, AllByRecursion}
+use Rattle.std.proofs.lemmas.List.{length-append, length-replicate, take_at, drop_at}
+use Rattle.std.proofs.Math.Nat.{zero-div}
+use Rattle.pcl_base.specs.declared.dpi.Dpi.{Dpi}
+use Rattle.pcl_base.specs.declared.method.Method.{Method}
+use Rattle.pcl_base.specs.declared.method.Method.TheVariants.{Plain, Runs, Packed, Delta}
+use Rattle.pcl_base.specs.declared.size.Size.{Size}
+use Rattle.pcl_base.specs.Method.{method_code, method_with_code}
+use Rattle.pcl_base.specs.Size.{page_row_bytes}
+use Rattle.pcl_bitmap.specs.Bitmap.{bit_of_byte, dot_of_row}
+use Rattle.pcl_escape.specs.Field.{is_digit, number_of}
+use Rattle.pcl_escape.specs.Pieces.{AreDigits}
+use Rattle.pcl_rows.specs.Rows.{IsRowData}
+use Rattle.pcl_rows.proofs.Decoded.{decoded_is}
+use Rattle.pcl_rows.specs.Decoding.{decoded}
+use Rattle.pcl_plan.specs.Tokens.{Token, opening, method, skip, send, token_bytes, IsWhite, AreWhite, PrintsRows, end_bytes}
+use Rattle.pcl_plan.specs.PageText.{IsRowOf}
+use Rattle.pcl_plan.proofs.Walking.{white_is_zeros}
+use Rattle.pcl_check.specs.Reading.{LeftOver, RestPrints, GivesRows}
+use Rattle.pcl_check.proofs.Splits.{no_split}
+use Rattle.pcl_check.proofs.Fronts.{letter_code, letter_is, left_over, white_rows, Foremost, is_method, is_skip, is_send, front_of, regroup, no_digit_77, no_digit_89}
+
+-- ---- letters and methods
+
+pub letters_77_89 : (a b : Bool) → letter_code 77 a ≡ letter_code 89 b → ⊥
+letters_77_89 true true e = omega arith
+letters_77_89 true false e = omega arith
+letters_77_89 false true e = omega arith
+letters_77_89 false false e = omega arith
+
+pub letters_77_87 : (a : Bool) → letter_code 77 a ≡ 87 → ⊥
+letters_77_87 true e = omega arith
+letters_77_87 false e = omega arith
+
+pub letters_89_87 : (a : Bool) → letter_code 89 a ≡ 87 → ⊥
+letters_89_87 true e = omega arith
+letters_89_87 false e = omega arith
+
+pub same_case : (capital : ℕ) (a b : Bool) → letter_code capital a ≡ letter_code capital b → a ≡ b
+same_case capital true true e = refl
+same_case capital true false e = absurd (omega arith)
+same_case capital false true e = absurd (omega arith)
+same_case capital false false e = refl
+
+pub with_code : (m : Method) → method_with_code (method_code m) ≡ Some m
+with_code Plain = refl
+with_code Runs = refl
+with_code Packed = refl
+with_code Delta = refl
+
+pub same_method : (a b : Method) → method_code a ≡ method_code b → a ≡ b
+same_method a b e = let s : Some a ≡ Some b = sym (with_code a) ∙ ap method_with_code e ∙ with_code b in cc
+
+-- ---- white rows
+
+zeros_at : (n i : ℕ) → slice_index (replicate n 0) i ≡ 0
+zeros_at zero i = refl
+zeros_at (suc n) zero = refl
+zeros_at (suc n) (suc i) = zeros_at n i
+
+white_dots : (n x : ℕ) → dot_of_row (replicate n 0) x ≡ false
+white_dots n x = ap (λ (byte : ℕ). bit_of_byte byte (x % 8)) (zeros_at n (x / 8)) ∙ rw zero-div refl
+
+pub white_row : (size : Size) (dpi : Dpi) → IsRowOf size dpi (replicate (page_row_bytes size dpi) 0)
+white_row size dpi = (length-replicate (page_row_bytes size dpi) 0, λ x past. white_dots (page_row_bytes size dpi) x)
+
+zeros_white : (n : ℕ) → IsWhite (replicate n 0)
+zeros_white zero = tt
+zeros_white (suc n) = (refl, zeros_white n)
+
+pub rows_white : (size : Size) (dpi : Dpi) (count : ℕ) → AreWhite (white_rows size dpi count)
+rows_white size dpi zero = tt
+rows_white size dpi (suc count) = (zeros_white (page_row_bytes size dpi), rows_white size dpi count)
+
+pub white_before : (size : Size) (dpi : Dpi) (count : ℕ) (rows : List (List ℕ)) → AllByRecursion (IsRowOf size dpi) rows
+    → AllByRecursion (IsRowOf size dpi) (white_rows size dpi count ++ rows)
+white_before size dpi zero rows are = are
+white_before size dpi (suc count) rows are = (white_row size dpi, white_before size dpi count rows are)
+
+-- white rows of a size are all alike
+pub all_white : (size : Size) (dpi : Dpi) (rows : List (List ℕ)) → AllByRecursion (IsRowOf size dpi) rows → AreWhite rows
+    → rows ≡ white_rows size dpi (length rows)
+all_white size dpi [] are white = refl
+all_white size dpi (row ∷ rows) are white =
+    let first : row ≡ replicate (page_row_bytes size dpi) 0 = white_is_zeros row white.0 ∙ ap (λ (n : ℕ). replicate n 0) are.0.0 in
+    ap (λ (r : List ℕ). r ∷ rows) first
+    ∙ ap (λ (rs : List (List ℕ)). replicate (page_row_bytes size dpi) 0 ∷ rs) (all_white size dpi rows are.1 white.1)
+
+-- ---- a number and the byte behind it at the front
+
+pub record Told (left : LeftOver) (digits : List ℕ) (byte : ℕ) (rest : List ℕ) : Type 0 where
+  pub inside : left.inside ≡ true
+  pub are_digits : AreDigits digits
+  pub no_digit : is_digit byte ≡ false
+  pub text : left.text ≡ digits ++ byte ∷ rest
+
+front_at : (size : Size) (dpi : Dpi) (left : LeftOver) (digits : List ℕ) (byte : ℕ) (rest : List ℕ) (rows : List (List ℕ))
+    → Told left digits byte rest → RestPrints size dpi left rows
+    → Foremost size dpi left.method left.above left.rows (number_of digits) byte rest rows
+front_at size dpi left digits byte rest rows told printed =
+    front_of size dpi left digits byte rest rows told.inside told.are_digits told.no_digit told.text printed
+
+-- a token in front of others
+spelled_by : (text digits : List ℕ) (byte : ℕ) (rest : List ℕ) (sent : ℕ) (bytes tokens end : List ℕ) → text ≡ digits ++ byte ∷ rest
+    → byte ≡ sent → rest ≡ bytes ++ (tokens ++ end) → text ≡ ((digits ++ (sent ∷ bytes)) ++ tokens) ++ end
+spelled_by text digits byte rest sent bytes tokens end e b r =
+    e ∙ ap (λ (c : ℕ). digits ++ c ∷ rest) b ∙ ap (λ (more : List ℕ). digits ++ sent ∷ more) r ∙ sym (regroup digits sent bytes tokens end)
+
+-- ---- a method
+
+pub method_becomes : (size : Size) (dpi : Dpi) (left : LeftOver) (digits : List ℕ) (byte : ℕ) (rest : List ℕ) (next : Method) (ends : Bool)
+    → Told left digits byte rest → byte ≡ letter_code 77 ends → number_of digits ≡ method_code next
+    → GivesRows size dpi left [] (left_over (not ends) next left.above left.rows rest)
+unfolding PrintsRows
+method_becomes size dpi left digits byte rest next ends told b n = record {
+  splits = λ rows printed. elim (front_at size dpi left digits byte rest rows told printed) [
+    | is_method other last c m p ↦ (
+      rows,
+      refl,
+      subst (λ (z : Method). RestPrints size dpi (left_over (not ends) z left.above left.rows rest) rows)
+          (same_method other next (sym m ∙ n))
+          (subst (λ (z : Bool). RestPrints size dpi (left_over (not z) other left.above left.rows rest) rows)
+          (same_case 77 last ends (sym c ∙ b)) p),
+    )
+    | is_skip last others c some few r p ↦ absurd (letters_77_89 ends last (sym b ∙ c))
+    | is_send bytes more first others c m r some f row row_data p ↦ absurd (letters_77_87 ends (sym b ∙ c))
+  ];
+  joins = λ rows printed. record {
+    count = printed.count;
+    rows_are = printed.rows_are;
+    tokens = method digits next ends ∷ printed.tokens;
+    spelled = spelled_by left.text digits byte rest (letter_code 77 ends) [] (flat_map token_bytes printed.tokens) end_bytes told.text b
+        printed.spelled
+        ∙ ap (λ (l : List ℕ). ((digits ++ l) ++ flat_map token_bytes printed.tokens) ++ end_bytes) (sym (letter_is 77 ends));
+    prints = subst (λ (i : Bool). PrintsRows i left.method left.above (method digits next ends ∷ printed.tokens) rows) (sym told.inside)
+        ((told.are_digits, n), printed.prints);
+  };
+}
+
+-- ---- rows that are skipped
+
+pub skip_becomes : (size : Size) (dpi : Dpi) (left : LeftOver) (digits : List ℕ) (byte : ℕ) (rest : List ℕ) (ends : Bool)
+    → Told left digits byte rest → byte ≡ letter_code 89 ends → 0 < number_of digits → number_of digits ≤ left.rows
+    → GivesRows size dpi left (white_rows size dpi (number_of digits))
+    (left_over (not ends) left.method (replicate (length left.above) 0) (left.rows - number_of digits) rest)
+unfolding PrintsRows
+skip_becomes size dpi left digits byte rest ends told b some few = record {
+  splits = λ rows printed. elim (front_at size dpi left digits byte rest rows told printed) [
+    | is_method other last c m p ↦ absurd (letters_77_89 last ends (sym c ∙ b))
+    | is_skip last others c positive within r p ↦ (
+      others,
+      r,
+      subst (λ (z : Bool). RestPrints size dpi
+          (left_over (not z) left.method (replicate (length left.above) 0) (left.rows - number_of digits) rest) others)
+          (same_case 89 last ends (sym c ∙ b)) p,
+    )
+    | is_send bytes more first others c m r positive f row row_data p ↦ absurd (letters_89_87 ends (sym b ∙ c))
+  ];
+  joins = λ rows printed.
+      let count = number_of digits in
+      let white = white_rows size dpi count in
+      let many : length white ≡ count = length-replicate count (replicate (page_row_bytes size dpi) 0) in
+      let all : length (white ++ rows) ≡ left.rows = omega (arith, length-append white rows, many, printed.count) in
+      let behind : PrintsRows (not ends) left.method (replicate (length left.above) 0) printed.tokens (drop count (white ++ rows)) =
+      subst (λ (rs : List (List ℕ)). PrintsRows (not ends) left.method (replicate (length left.above) 0) printed.tokens rs)
+      (sym (drop_at white rows count many)) printed.prints in
+      let are_white : AreWhite (take count (white ++ rows)) =
+      subst AreWhite (sym (take_at white rows count many)) (rows_white size dpi count) in
+      let within : count ≤ length (white ++ rows) = omega (arith, all, few) in
+      record {
+        count = all;
+        rows_are = white_before size dpi count rows printed.rows_are;
+        tokens = skip digits count ends ∷ printed.tokens;
+        spelled = spelled_by left.text digits byte rest (letter_code 89 ends) [] (flat_map token_bytes printed.tokens) end_bytes told.text b
+            printed.spelled
+            ∙ ap (λ (l : List ℕ). ((digits ++ l) ++ flat_map token_bytes printed.tokens) ++ end_bytes) (sym (letter_is 89 ends));
+        prints = subst (λ (i : Bool). PrintsRows i left.method left.above (skip digits count ends ∷ printed.tokens) (white ++ rows))
+            (sym told.inside)
+            ((told.are_digits, refl), some, within, are_white, behind);
+      };
+}
+
+-- ---- a row that is sent
+
+pub send_becomes : (size : Size) (dpi : Dpi) (left : LeftOver) (digits : List ℕ) (byte : ℕ) (rest bytes more first : List ℕ)
+    → Told left digits byte rest → byte ≡ 87 → number_of digits ≡ length bytes → rest ≡ bytes ++ more → 0 < left.rows
+    → IsRowOf size dpi first → IsRowData left.method left.above first bytes
+    → GivesRows size dpi left (first ∷ []) (left_over false left.method first (left.rows - 1) more)
+unfolding PrintsRows
+send_becomes size dpi left digits byte rest bytes more first told b n parts some is_row is_data = record {
+  splits = λ rows printed. elim (front_at size dpi left digits byte rest rows told printed) [
+    | is_method other last c m p ↦ absurd (letters_77_87 last (sym c ∙ b))
+    | is_skip last others c positive within r p ↦ absurd (letters_89_87 last (sym c ∙ b))
+    | is_send sent behind painted others c m r positive f row row_data p ↦
+        let joined : bytes ++ more ≡ sent ++ behind = sym parts ∙ r in
+        let len : length bytes ≡ length sent = sym n ∙ m in
+        let same : sent ≡ bytes = sym (take_at sent behind (length sent) refl) ∙ ap (take (length sent)) (sym joined)
+        ∙ take_at bytes more (length sent) len in
+        let same_rest : behind ≡ more = sym (drop_at sent behind (length sent) refl) ∙ ap (drop (length sent)) (sym joined)
+        ∙ drop_at bytes more (length sent) len in
+        let same_row : painted ≡ first = decoded_is left.method left.above sent painted row_data.decodes
+        ∙ ap (decoded left.method left.above) same ∙ sym (decoded_is left.method left.above bytes first is_data.decodes) in (
+          others,
+          f ∙ ap (λ (z : List ℕ). z ∷ others) same_row,
+          subst (λ (z : List ℕ). RestPrints size dpi (left_over false left.method first (left.rows - 1) z) others) same_rest
+              (subst (λ (z : List ℕ). RestPrints size dpi (left_over false left.method z (left.rows - 1) behind) others) same_row p),
+        )
+  ];
+  joins = λ rows printed. record {
+    count = omega (arith, printed.count);
+    rows_are = (is_row, printed.rows_are);
+    tokens = send digits bytes ∷ printed.tokens;
+    spelled = spelled_by left.text digits byte rest 87 bytes (flat_map token_bytes printed.tokens) end_bytes told.text b
+        (parts ∙ ap (λ (z : List ℕ). bytes ++ z) printed.spelled);
+    prints = subst (λ (i : Bool). PrintsRows i left.method left.above (send digits bytes ∷ printed.tokens) (first ∷ rows))
+        (sym told.inside)
+        ((told.are_digits, n), is_data, printed.prints);
+  };
+}
+
+-- ---- what no token begins
+
+-- a method that there is none of
+pub no_method : (size : Size) (dpi : Dpi) (left : LeftOver) (digits : List ℕ) (byte : ℕ) (rest : List ℕ) (ends : Bool)
+    (rows : List (List ℕ))
+    → Told left digits byte rest → byte ≡ letter_code 77 ends → ((next : Method) → number_of digits ≡ method_code next → ⊥)
+    → RestPrints size dpi left rows → ⊥
+no_method size dpi left digits byte rest ends rows told b none printed = elim (front_at size dpi left digits byte rest rows told printed) [
+  | is_method other last c m p ↦ none other m
+  | is_skip last others c some few r p ↦ letters_77_89 ends last (sym b ∙ c)
+  | is_send bytes more first others c m r some f row row_data p ↦ letters_77_87 ends (sym b ∙ c)
+]
+
+-- no row is skipped, or too many are
+pub no_skip : (size : Size) (dpi : Dpi) (left : LeftOver) (digits : List ℕ) (byte : ℕ) (rest : List ℕ) (ends : Bool) (rows : List (List ℕ))
+    → Told left digits byte rest → byte ≡ letter_code 89 ends → (0 < number_of digits → number_of digits ≤ left.rows → ⊥)
+    → RestPrints size dpi left rows → ⊥
+no_skip size dpi left digits byte rest ends rows told b none printed = elim (front_at size dpi left digits byte rest rows told printed) [
+  | is_method other last c m p ↦ letters_77_89 last ends (sym c ∙ b)
+  | is_skip last others c some few r p ↦ none some few
+  | is_send bytes more first others c m r some f row row_data p ↦ letters_89_87 ends (sym b ∙ c)
+]
+
+-- what is sent isn't there, or paints no row of the size
+pub no_send : (size : Size) (dpi : Dpi) (left : LeftOver) (digits : List ℕ) (byte : ℕ) (rest : List ℕ) (rows : List (List ℕ))
+    → Told left digits byte rest → byte ≡ 87
+    → ((bytes more first : List ℕ) → number_of digits ≡ length bytes → rest ≡ bytes ++ more → 0 < left.rows → IsRowOf size dpi first
+    → IsRowData left.method left.above first bytes → ⊥)
+    → RestPrints size dpi left rows → ⊥
+no_send size dpi left digits byte rest rows told b none printed = elim (front_at size dpi left digits byte rest rows told printed) [
+  | is_method other last c m p ↦ letters_77_87 last (sym c ∙ b)
+  | is_skip last others c some few r p ↦ letters_89_87 last (sym c ∙ b)
+  | is_send bytes more first others c m r some f row row_data p ↦ none bytes more first m r some row row_data
+]
+
+-- no letter of the grammar
+pub no_letter : (size : Size) (dpi : Dpi) (left : LeftOver) (digits : List ℕ) (byte : ℕ) (rest : List ℕ) (rows : List (List ℕ))
+    → Told left digits byte rest → ((ends : Bool) → byte ≡ letter_code 77 ends → ⊥) → ((ends : Bool) → byte ≡ letter_code 89 ends → ⊥)
+    → (byte ≡ 87 → ⊥)
+    → RestPrints size dpi left rows → ⊥
+no_letter size dpi left digits byte rest rows told m y w printed = elim (front_at size dpi left digits byte rest rows told printed) [
+  | is_method other last c n p ↦ m last c
+  | is_skip last others c some few r p ↦ y last c
+  | is_send bytes more first others c n r some f row row_data p ↦ w c
+]
+
+-- only digits are left inside a sequence
+digits_only : (current : Method) (above text : List ℕ) → AreDigits text → (tokens : List Token) (rows : List (List ℕ))
+    → text ≡ flat_map token_bytes tokens ++ end_bytes → PrintsRows true current above tokens rows → ⊥
+unfolding PrintsRows
+digits_only current above text are [] rows e p = p
+digits_only current above text are (opening ∷ tokens) rows e p = p
+digits_only current above text are (method spelled next ends ∷ tokens) rows e p =
+    let more = flat_map token_bytes tokens in
+    no_split is_digit text spelled (letter_code 77 ends) (more ++ end_bytes) are (no_digit_77 ends)
+    (e ∙ ap (λ (l : List ℕ). ((spelled ++ l) ++ more) ++ end_bytes) (letter_is 77 ends)
+    ∙ regroup spelled (letter_code 77 ends) [] more end_bytes)
+digits_only current above text are (skip spelled count ends ∷ tokens) rows e p =
+    let more = flat_map token_bytes tokens in
+    no_split is_digit text spelled (letter_code 89 ends) (more ++ end_bytes) are (no_digit_89 ends)
+    (e ∙ ap (λ (l : List ℕ). ((spelled ++ l) ++ more) ++ end_bytes) (letter_is 89 ends)
+    ∙ regroup spelled (letter_code 89 ends) [] more end_bytes)
+digits_only current above text are (send spelled bytes ∷ tokens) rows e p =
+    let more = flat_map token_bytes tokens in
+    no_split is_digit text spelled 87 (bytes ++ (more ++ end_bytes)) are refl (e ∙ regroup spelled 87 bytes more end_bytes)
+
+pub no_byte : (size : Size) (dpi : Dpi) (left : LeftOver) (rows : List (List ℕ)) → left.inside ≡ true → AreDigits left.text
+    → RestPrints size dpi left rows → ⊥
+no_byte size dpi left rows inside are printed =
+    digits_only left.method left.above left.text are printed.tokens rows printed.spelled
+    (subst (λ (i : Bool). PrintsRows i left.method left.above printed.tokens rows) inside printed.prints)

@@ -1,0 +1,43 @@
+-- The values at some places.
+use Rattle.std.proofs.Common.{◌≡◌, ℕ, zero, suc, ◌+◌, ◌-◌, ◌<◌, List, [], ◌∷◌, ◌++◌, length, drop, refl, ap, ◌∙◌, arith}
+use Rattle.std.specs.Prelude.{slice_index}
+use Rattle.pcl_check.specs.EdgePasses.{values}
+
+pub length_values : (value : ℕ → ℕ) (from count : ℕ) → length (values value from count) ≡ count
+unfolding values
+length_values value from zero = refl
+length_values value from (suc count) = ap suc (length_values value (from + 1) count)
+
+pub value_in : (value : ℕ → ℕ) (from count k : ℕ) → k < count → slice_index (values value from count) k ≡ value (from + k)
+unfolding values
+value_in value from zero k lt = absurd (omega arith)
+value_in value from (suc count) zero lt = ap value (omega arith)
+value_in value from (suc count) (suc k) lt = value_in value (from + 1) count k (omega arith) ∙ ap value (omega arith)
+
+pub values_joined : (value : ℕ → ℕ) (from one other : ℕ) → values value from (one + other)
+    ≡ values value from one ++ values value (from + one) other
+unfolding values
+values_joined value from zero other =
+    let count : 0 + other ≡ other = omega arith in
+    let start : from ≡ from + 0 = omega arith in
+    ap (values value from) count ∙ ap (λ (place : ℕ). values value place other) start
+values_joined value from (suc one) other =
+    let count : suc one + other ≡ suc (one + other) = omega arith in
+    let start : from + 1 + one ≡ from + suc one = omega arith in
+    ap (values value from) count
+    ∙ ap (λ (rest : List ℕ). value from ∷ rest) (values_joined value (from + 1) one other
+    ∙ ap (λ (place : ℕ). values value (from + 1) one ++ values value place other) start)
+
+pub values_rest : (value : ℕ → ℕ) (from count : ℕ) → 0 < count → drop 1 (values value from count) ≡ values value (from + 1) (count - 1)
+unfolding values
+values_rest value from zero some = absurd (omega arith)
+values_rest value from (suc count) some = let same : count ≡ suc count - 1 = omega arith in ap (values value (from + 1)) same
+
+pub no_values : (value : ℕ → ℕ) (from count : ℕ) → count ≡ 0 → values value from count ≡ []
+unfolding values
+no_values value from count none = ap (values value from) none
+
+-- one value more
+pub values_more : (value : ℕ → ℕ) (from count : ℕ) → values value from (count + 1) ≡ values value from count ++ value (from + count) ∷ []
+unfolding values
+values_more value from count = values_joined value from count 1

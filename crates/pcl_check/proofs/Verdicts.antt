@@ -1,0 +1,172 @@
+-- Page texts by their begin and their body.
+use Rattle.std.proofs.Common.{◌≡◌, ℕ, ◌<◌, Bool, true, false, IsTrue, List, ◌++◌, length, take, Some, None, refl, sym, ap, subst, ◌∙◌, append_assoc, arith}
+use Rattle.std.specs.Prelude.{◌↔◌}
+use Rattle.std.specs.List.{flat_map}
+use Rattle.std.proofs.lemmas.List.{take_all, append_cancel_left}
+use Rattle.pcl_base.specs.declared.dpi.Dpi.{Dpi}
+use Rattle.pcl_base.specs.declared.size.Size.{Size}
+use Rattle.pcl_base.specs.declared.size.Size.TheVariants.{Executive, Letter, Legal, A4}
+use Rattle.pcl_base.specs.contracts.size.Size.{the_type}
+use denote.Enum.Bare.{sameb}
+use Rattle.pcl_base.specs.Size.{page_height, page_row_bytes, code_of, size_with_code}
+use Rattle.pcl_bitmap.specs.Bitmap.{Picture}
+use Rattle.pcl_plan.specs.Tokens.{token_bytes, start_bytes, end_bytes}
+use Rattle.pcl_plan.specs.PageText.{IsPageText, bitmap_rows}
+use Rattle.pcl_plan.proofs.RowsFrom.{length_rows}
+use Rattle.pcl_check.specs.declared.reading.start.Start.{Start}
+use Rattle.pcl_check.specs.Reading.{IsStart, RestPrints, body_of, IsBodyVerdict, raster_start}
+use Rattle.pcl_check.specs.TextVerdicts.{IsSomePageText}
+use Rattle.pcl_check.proofs.Beginnings.{start_is, code_small, size_coded, size_read, IsSize}
+
+-- ---- a begin and a body
+
+joined : (a b c : List ℕ) → a ++ (b ++ c) ≡ (a ++ b) ++ c
+joined a b c = simp append_assoc
+
+pub printed_text : (dpi : Dpi) (size : Size) (copies : ℕ) (rows : List (List ℕ)) (text rest : List ℕ) → 0 < copies → copies < 100
+    → text ≡ start_bytes dpi copies size ++ rest → RestPrints size dpi (body_of size dpi rest) rows → IsPageText dpi size copies rows text
+printed_text dpi size copies rows text rest some few e p = record {
+  some_copies = some;
+  few_copies = few;
+  count = p.count;
+  rows_are = p.rows_are;
+  tokens = p.tokens;
+  spelled = e ∙ ap (λ (z : List ℕ). start_bytes dpi copies size ++ z) p.spelled
+      ∙ joined (start_bytes dpi copies size) (flat_map token_bytes p.tokens) end_bytes;
+  prints = p.prints;
+}
+
+-- the body behind the begin of a page text
+pub text_body : (dpi : Dpi) (size : Size) (copies : ℕ) (rows : List (List ℕ)) (text : List ℕ) → IsPageText dpi size copies rows text
+    → (rest : List ℕ) × (text ≡ start_bytes dpi copies size ++ rest) × RestPrints size dpi (body_of size dpi rest) rows
+text_body dpi size copies rows text is = (
+  flat_map token_bytes is.tokens ++ end_bytes,
+  is.spelled ∙ sym (joined (start_bytes dpi copies size) (flat_map token_bytes is.tokens) end_bytes),
+  record { count = is.count; rows_are = is.rows_are; tokens = is.tokens; spelled = refl; prints = is.prints },
+)
+
+-- a text begins in one way
+pub record IsSameStart (copies other : ℕ) (size other_size : Size) (rest behind : List ℕ) : Type 0 where
+  pub copies_is : copies ≡ other
+  pub size_is : size ≡ other_size
+  pub rest_is : rest ≡ behind
+
+pub one_start : (dpi : Dpi) (text : List ℕ) (copies other : ℕ) (size other_size : Size) (rest behind : List ℕ) → copies < 100 → other < 100
+    → text ≡ start_bytes dpi copies size ++ rest → text ≡ start_bytes dpi other other_size ++ behind
+    → IsSameStart copies other size other_size rest behind
+one_start dpi text copies other size other_size rest behind few less e f =
+    let small = code_small size in
+    let read : IsSize text copies (code_of size) (raster_start size dpi ++ rest) =
+    record { few = omega arith; small = omega arith; text_is = e ∙ start_is dpi copies size rest } in
+    let found = size_read dpi text copies (code_of size) (raster_start size dpi ++ rest) other other_size behind read
+    (record { few = less; text_is = f }) in
+    let coded : Some size ≡ Some other_size = sym (size_coded size) ∙ ap size_with_code found.code_is ∙ size_coded other_size in
+    let same : size ≡ other_size = cc in
+    record {
+      copies_is = found.copies_are;
+      size_is = same;
+      rest_is = append_cancel_left (raster_start size dpi) rest behind
+          (found.more_is ∙ ap (λ (z : Size). raster_start z dpi ++ behind) (sym same));
+    }
+
+-- ---- verdicts
+
+pub no_start : (dpi : Dpi) (text : List ℕ) → IsStart dpi text None → IsSomePageText dpi text → ⊥
+no_start dpi text none is =
+    let found = is.3 in
+    let body = text_body dpi is.0 is.1 is.2 text found in none is.1 is.0 body.0 found.some_copies found.few_copies body.1
+
+-- the body of a page text that begins so
+body_at : (dpi : Dpi) (text : List ℕ) (start : Start) (size : Size) (copies : ℕ) (rows : List (List ℕ)) → IsStart dpi text (Some start)
+    → IsPageText dpi size copies rows text
+    → (start.copies ≡ copies) × (start.size ≡ size) × RestPrints start.size dpi (body_of start.size dpi start.rest.now) rows
+body_at dpi text start size copies rows begun is =
+    let body = text_body dpi size copies rows text is in
+    let same = one_start dpi text start.copies copies start.size size start.rest.now body.0 begun.1 is.few_copies begun.2 body.1 in (
+      same.copies_is,
+      same.size_is,
+      subst (λ (z : Size). RestPrints z dpi (body_of z dpi start.rest.now) rows) (sym same.size_is)
+          (subst (λ (z : List ℕ). RestPrints size dpi (body_of size dpi z) rows) (sym same.rest_is) body.2),
+    )
+
+pub no_body : (picture : Picture) (text : List ℕ) (start : Start) (may_be : Bool) → IsStart picture.dpi text (Some start)
+    → IsBodyVerdict picture start.size start.rest.now may_be None → IsSomePageText picture.dpi text → ⊥
+no_body picture text start may_be begun none is =
+    none is.2 (body_at picture.dpi text start is.0 is.1 is.2 begun is.3).2
+
+-- rows of a page's size that begin its rows are all of them
+whole_page : (picture : Picture) (rows : List (List ℕ)) → length rows ≡ page_height picture.size picture.dpi
+    → rows ≡ take (length rows) (bitmap_rows picture) → rows ≡ bitmap_rows picture
+whole_page picture rows n e =
+    let all = bitmap_rows picture in
+    let many : length all ≡ length rows =
+    length_rows (page_height picture.size picture.dpi) (page_row_bytes picture.size picture.dpi) picture.bytes ∙ sym n in
+    e ∙ ap (λ (k : ℕ). take k all) (sym many) ∙ take_all (length all) all (omega arith)
+
+-- whether the begin is that of a page
+abbrev pub MayBe : Picture → ℕ → Start → Bool → Type 0
+MayBe picture copies start may_be = IsTrue may_be ↔ ((start.size ≡ picture.size) × (start.copies ≡ copies))
+
+pub same_page : (picture : Picture) (copies : ℕ) (text : List ℕ) (start : Start) (may_be : Bool) → IsStart picture.dpi text (Some start)
+    → MayBe picture copies start may_be → IsBodyVerdict picture start.size start.rest.now may_be (Some true)
+    → IsPageText picture.dpi picture.size copies (bitmap_rows picture) text
+same_page picture copies text start may_be begun may only =
+    let same = only.same.0 refl in
+    let is = may.0 same.0 in
+    let count : length only.rows ≡ page_height picture.size picture.dpi =
+    only.printed.count ∙ ap (λ (z : Size). page_height z picture.dpi) is.0 in
+    let all = whole_page picture only.rows count same.1 in
+    let printed = printed_text picture.dpi start.size start.copies only.rows text start.rest.now begun.0 begun.1 begun.2 only.printed in
+    subst (λ (z : List (List ℕ)). IsPageText picture.dpi picture.size copies z text) all
+    (subst (λ (z : ℕ). IsPageText picture.dpi picture.size z only.rows text) is.1
+    (subst (λ (z : Size). IsPageText picture.dpi z start.copies only.rows text) is.0 printed))
+
+pub some_page : (picture : Picture) (text : List ℕ) (start : Start) (may_be is_same : Bool) → IsStart picture.dpi text (Some start)
+    → IsBodyVerdict picture start.size start.rest.now may_be (Some is_same) → IsSomePageText picture.dpi text
+some_page picture text start may_be is_same begun only = (
+  start.size,
+  start.copies,
+  only.rows,
+  printed_text picture.dpi start.size start.copies only.rows text start.rest.now begun.0 begun.1 begun.2 only.printed,
+)
+
+pub other_page : (picture : Picture) (copies : ℕ) (text : List ℕ) (start : Start) (may_be : Bool) → IsStart picture.dpi text (Some start)
+    → MayBe picture copies start may_be → IsBodyVerdict picture start.size start.rest.now may_be (Some false)
+    → IsPageText picture.dpi picture.size copies (bitmap_rows picture) text → ⊥
+other_page picture copies text start may_be begun may only is =
+    let all = bitmap_rows picture in
+    let body = body_at picture.dpi text start picture.size copies all begun is in
+    let same : all ≡ only.rows = only.only all body.2 in
+    let front : only.rows ≡ take (length only.rows) all =
+    subst (λ (z : List (List ℕ)). z ≡ take (length z) all) same (sym (take_all (length all) all (omega arith))) in
+    let yes : false ≡ true = only.same.1 (may.1 (body.1, body.0), front) in
+    cc
+
+-- ---- sizes that are compared
+
+pub same_sizes : (a b : Size) → sameb the_type a b ≡ true → a ≡ b
+same_sizes Executive Executive e = refl
+same_sizes Executive Letter e = absurd cc
+same_sizes Executive Legal e = absurd cc
+same_sizes Executive A4 e = absurd cc
+same_sizes Letter Executive e = absurd cc
+same_sizes Letter Letter e = refl
+same_sizes Letter Legal e = absurd cc
+same_sizes Letter A4 e = absurd cc
+same_sizes Legal Executive e = absurd cc
+same_sizes Legal Letter e = absurd cc
+same_sizes Legal Legal e = refl
+same_sizes Legal A4 e = absurd cc
+same_sizes A4 Executive e = absurd cc
+same_sizes A4 Letter e = absurd cc
+same_sizes A4 Legal e = absurd cc
+same_sizes A4 A4 e = refl
+
+size_itself : (a : Size) → sameb the_type a a ≡ true
+size_itself Executive = refl
+size_itself Letter = refl
+size_itself Legal = refl
+size_itself A4 = refl
+
+pub sizes_same : (a b : Size) → a ≡ b → sameb the_type a b ≡ true
+sizes_same a b e = subst (λ (z : Size). sameb the_type a z ≡ true) e (size_itself a)

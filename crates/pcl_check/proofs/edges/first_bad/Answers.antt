@@ -1,0 +1,74 @@
+use Rattle.std.proofs.Common.{◌≡◌, ℕ, Bool, List, length, sym, ap, subst, ◌∙◌, arith}
+use Rattle.std.specs.Prelude.{Option}
+use Rattle.pcl_base.specs.declared.dpi.Dpi.{Dpi}
+use Rattle.pcl_base.specs.declared.size.Size.{Size}
+use Rattle.pcl_base.specs.declared.method.Method.{Method}
+use Rattle.pcl_base.specs.declared.method.Method.TheVariants.{Plain, Runs, Packed, Delta}
+use Rattle.pcl_base.specs.Size.{page_height, page_row_bytes}
+use Rattle.pcl_page.specs.declared.page.Page.{Page}
+use Rattle.pcl_plan.specs.PageText.{bitmap_rows}
+use Rattle.pcl_plan.specs.Table.{node_number}
+use Rattle.pcl_plan.proofs.RowsFrom.{length_rows}
+use Rattle.pcl_check.specs.declared.edges.found.BadNumber.{BadNumber}
+use Rattle.pcl_check.specs.Edges.{FindsBad, IsGoodNumber}
+use Rattle.pcl_check.specs.EdgePasses.{Both, AreRunEnds, AreEnds, IsGoodBy, IsGoodIn, first_found}
+use Rattle.pcl_check.proofs.Lengths.{height_small}
+use Rattle.pcl_check.proofs.RunEnds.{ends_known}
+use Rattle.pcl_check.proofs.Found.{first_finds, finds_too}
+use Rattle.pcl_check.proofs.EdgesByRows.{InMethods, good_of_methods, methods_of_good, good_by_rows, good_by_ends}
+use Rattle.pcl_check.proofs.edges.first_bad.Goals as goal
+
+-- a page has as many rows as it is high
+rows_of_page : (page : Page) → length (bitmap_rows page.bitmap) ≡ page_height page.size page.dpi
+rows_of_page page =
+    let picture = page.bitmap in
+    length_rows (page_height picture.size picture.dpi) (page_row_bytes picture.size picture.dpi) picture.bytes
+    ∙ ap (λ (z : Size). page_height z picture.dpi) page.size_is ∙ ap (λ (d : Dpi). page_height page.size d) page.dpi_is
+
+ends_of_page : (page : Page) (ends : List ℕ) → AreRunEnds (bitmap_rows page.bitmap) ends 0 → AreEnds ends (page_height page.size page.dpi)
+ends_of_page page ends are =
+    ends_known (bitmap_rows page.bitmap) ends (page_height page.size page.dpi) (rows_of_page page) (height_small page.size page.dpi) are
+
+pub first_bad_in-plain-requires-clause-ends : goal.first_bad_in-plain-requires-clause-ends
+first_bad_in-plain-requires-clause-ends g c = ends_of_page c.args.page.now c.fill_run_ends.new.ends c.fill_run_ends.ensures
+
+pub first_bad_in-runs-requires-clause-ends : goal.first_bad_in-runs-requires-clause-ends
+first_bad_in-runs-requires-clause-ends g c = ends_of_page c.args.page.now c.fill_run_ends.new.ends c.fill_run_ends.ensures
+
+pub first_bad_in-packed-requires-clause-ends : goal.first_bad_in-packed-requires-clause-ends
+first_bad_in-packed-requires-clause-ends g c = ends_of_page c.args.page.now c.fill_run_ends.new.ends c.fill_run_ends.ensures
+
+pub first_bad_in-delta-requires-clause-ends : goal.first_bad_in-delta-requires-clause-ends
+first_bad_in-delta-requires-clause-ends g c = ends_of_page c.args.page.now c.fill_run_ends.new.ends c.fill_run_ends.ensures
+
+pub returns : goal.returns
+returns g c =
+    let page = c.args.page.now in
+    let rows = bitmap_rows page.bitmap in
+    let ends = c.fill_run_ends.new.ends in
+    let number = node_number c.args.table.now in
+    let last : ℕ = page_height page.size page.dpi in
+    let count = rows_of_page page in
+    let Counts : ℕ → Method → ℕ → Type 0 = g.L.RowLengths.counts c.args.lengths.now page in
+    let In : Method → ℕ → Method → Bool → Type 0 = IsGoodIn ends last Counts number in
+    let one = first_found c.first_bad_in-plain.result c.first_bad_in-runs.result in
+    let other = first_found c.first_bad_in-packed.result c.first_bad_in-delta.result in
+    let all = first_finds (Both (In Plain) (In Runs)) (Both (In Packed) (In Delta)) last one other
+    (first_finds (In Plain) (In Runs) last c.first_bad_in-plain.result c.first_bad_in-runs.result c.first_bad_in-plain.ensures
+    c.first_bad_in-runs.ensures)
+    (first_finds (In Packed) (In Delta) last c.first_bad_in-packed.result c.first_bad_in-delta.result c.first_bad_in-packed.ensures
+    c.first_bad_in-delta.ensures) in
+    let found : c.first_of-3.result ≡ first_found one other =
+    c.first_of-3.ensures ∙ ap (λ (a : Option BadNumber). first_found a c.first_of-2.result) c.first_of.ensures
+    ∙ ap (first_found one) c.first_of-2.ensures in
+    subst (FindsBad (IsGoodNumber rows Counts number) last) (sym found)
+    (finds_too (InMethods ends last Counts number) (IsGoodNumber rows Counts number) last (first_found one other)
+    (λ row method inside le good.
+    good_by_rows rows ends Counts number row method inside c.fill_run_ends.ensures (omega (arith, count))
+    (subst (λ (n : ℕ). IsGoodBy ends n Counts number row method inside) (sym count)
+    (good_of_methods ends last Counts number row method inside good)))
+    (λ row method inside le good.
+    methods_of_good ends last Counts number row method inside
+    (subst (λ (n : ℕ). IsGoodBy ends n Counts number row method inside) count
+    (good_by_ends rows ends Counts number row method inside c.fill_run_ends.ensures (omega (arith, count)) good)))
+    all)

@@ -1,0 +1,40 @@
+use Rattle.std.proofs.Common.{◌≡◌, ℕ, ◌-◌, true, false, Bool, length, sym, ap, subst, ◌∙◌, arith}
+use Rattle.std.specs.Prelude.{Option}
+use Rattle.pcl_base.specs.declared.method.Method.{Method}
+use Rattle.pcl_base.specs.Size.{page_height}
+use Rattle.pcl_plan.specs.Table.{node_number}
+use Rattle.pcl_check.specs.declared.edges.found.BadNumber.{BadNumber}
+use Rattle.pcl_check.specs.Edges.{FindsBad, AreGoodSwitches}
+use Rattle.pcl_check.specs.EdgePasses.{At, Both, IsGoodStart, IsGoodSending, AreGoodSkipsTo, IsGoodIn, first_found}
+use Rattle.pcl_check.proofs.Found.{first_finds, finds_too}
+use Rattle.pcl_check.proofs.EdgesByRows.{InParts, good_of_parts, parts_of_good}
+use Rattle.pcl_check.proofs.edges.first_bad_in.Goals as goal
+
+pub returns : goal.returns
+returns g c =
+    let page = c.args.page.now in
+    let ends = c.args.ends.now in
+    let number = node_number c.args.table.now in
+    let method = c.args.method in
+    let last : ℕ = page_height page.size page.dpi in
+    let Counts : ℕ → Method → ℕ → Type 0 = g.L.RowLengths.counts c.args.lengths.now page in
+    let rows : length c.args.table.now - 1 ≡ last = omega (arith, c.requires.rows) in
+    let Start : ℕ → Method → Bool → Type 0 = At method false (IsGoodStart ends number method) in
+    let Switches : ℕ → Method → Bool → Type 0 = At method true (AreGoodSwitches number method) in
+    let Sending : ℕ → Method → Bool → Type 0 = At method true (IsGoodSending last Counts number method) in
+    let Skips : ℕ → Method → Bool → Type 0 = At method true (AreGoodSkipsTo ends number method) in
+    let start = subst (λ (n : ℕ). FindsBad Start n c.first_bad_start-outside.result) rows c.first_bad_start-outside.ensures in
+    let switch = subst (λ (n : ℕ). FindsBad Switches n c.first_bad_switch-switch.result) rows c.first_bad_switch-switch.ensures in
+    let skip = subst (λ (n : ℕ). FindsBad Skips n c.first_bad_skip-skip.result) rows c.first_bad_skip-skip.ensures in
+    let one = first_found c.first_bad_start-outside.result c.first_bad_switch-switch.result in
+    let other = first_found c.first_bad_sending-sent.result c.first_bad_skip-skip.result in
+    let all = first_finds (Both Start Switches) (Both Sending Skips) last one other
+    (first_finds Start Switches last c.first_bad_start-outside.result c.first_bad_switch-switch.result start switch)
+    (first_finds Sending Skips last c.first_bad_sending-sent.result c.first_bad_skip-skip.result c.first_bad_sending-sent.ensures skip) in
+    let found : c.first_of-3.result ≡ first_found one other =
+    c.first_of-3.ensures ∙ ap (λ (a : Option BadNumber). first_found a c.first_of-2.result) c.first_of.ensures
+    ∙ ap (first_found one) c.first_of-2.ensures in
+    subst (FindsBad (IsGoodIn ends last Counts number method) last) (sym found)
+    (finds_too (InParts ends last Counts number method) (IsGoodIn ends last Counts number method) last (first_found one other)
+    (λ row current inside le. good_of_parts ends last Counts number method row current inside)
+    (λ row current inside le. parts_of_good ends last Counts number method row current inside) all)

@@ -1,0 +1,7 @@
+use Rattle.std.proofs.Common.{ℕ, ◌<◌}
+use Rattle.pcl_plan.specs.Table.{node_number}
+use Rattle.pcl_check.specs.Edges.{AreGoodSwitches}
+use Rattle.pcl_check.proofs.edges.first_bad_switch.Given as goal
+
+abbrev pub invariant-loop-row : goal.invariant-loop-row
+invariant-loop-row l = (k : ℕ) → k < l.row → AreGoodSwitches (node_number l.table) l.method k

@@ -1,0 +1,13 @@
+use Rattle.std.proofs.Common.{◌≡◌, ℕ, ◌+◌, ◌<◌, length}
+use Rattle.pcl_plan.specs.Filling.{rest}
+use Rattle.pcl_plan.specs.Table.{node_number}
+use Rattle.pcl_check.specs.EdgePasses.{AreGoodSkipsOf}
+use Rattle.pcl_check.proofs.StepWindows.{IsStepWindow}
+use Rattle.pcl_check.proofs.edges.skips.first_bad_skip_of.Given as goal
+
+abbrev pub invariant-loop-row : goal.invariant-loop-row
+invariant-loop-row l = record {
+  good : (k : ℕ) → k < l.row → AreGoodSkipsOf l.ends (node_number l.table) l.method l.digits l.most k;
+  window : IsStepWindow l.ends (λ y. rest (node_number l.table) y l.method) l.most l.window.numbers l.row l.stop;
+  room : l.window.room + l.stop ≡ length l.ends;
+}

@@ -1,0 +1,10 @@
+use Rattle.std.proofs.Common.{◌≡◌, ◌+◌, ◌-◌, ◌++◌}
+use Rattle.pcl_plan.specs.Table.{node_number}
+use Rattle.pcl_check.specs.EdgePasses.{rests}
+use Rattle.pcl_check.proofs.edges.skips.put_rests.Given as goal
+
+abbrev pub invariant-loop-row : goal.invariant-loop-row
+invariant-loop-row l = record {
+  numbers : l.window.numbers ≡ l.initial.window.numbers ++ rests (node_number l.table) l.method l.from (l.row - l.from);
+  room : l.window.room + (l.row - l.from) ≡ l.initial.window.room;
+}

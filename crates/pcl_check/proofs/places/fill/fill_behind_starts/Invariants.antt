@@ -1,0 +1,8 @@
+use Rattle.std.proofs.Common.{ℕ, ◌+◌, ◌-◌, ◌<◌, min, length, drop}
+use Rattle.std.specs.Prelude.{slice_index}
+use Rattle.pcl_coders.specs.Choosing.{IsLeastLen}
+use Rattle.pcl_check.proofs.places.fill.fill_behind_starts.Given as goal
+
+abbrev pub invariant-loop-start : goal.invariant-loop-start
+invariant-loop-start l = (k : ℕ) → k < l.start
+    → (len : ℕ) × IsLeastLen (drop k l.numbers) 1 (min (length l.numbers - 1 - k) 8) 0 1 len (slice_index l.sums (k + 1))

@@ -1,0 +1,69 @@
+use Rattle.std.proofs.Common.{◌≡◌, ◌≤◌, ◌+◌, ◌-◌, ℕ, length, sym, subst, arith}
+use Rattle.std.specs.Prelude.{slice_index}
+use Rattle.pcl_coders.proofs.Ends.{AreSameFrom, same_past, same_before, ends_by, ends_at}
+use Rattle.pcl_coders.specs.RowWalks.{Ends}
+use Rattle.pcl_check.specs.PlacePasses.{IsGoodEnd}
+use Rattle.pcl_check.proofs.PlacesFound.{FindsFrom, found_good, found_bad, found_all}
+use Rattle.pcl_check.proofs.places.first_bad_end.Goals as goal
+use Rattle.pcl_check.proofs.places.first_bad_end.Goals.{else-place-row-via-then-place-row+else-old-place, else-place-row-via-else-place-row}
+
+pub returns-then-old-place : goal.returns-then-old-place
+returns-then-old-place c =
+    let old = c.args.old.now in
+    let row = c.args.row.now in
+    let place : ℕ = c.loop-place.place in
+    found_all (IsGoodEnd old row c.args.numbers.now) place (length row) c.loop-place.found
+    (λ k lt end. absurd (c.if-old-place.true (sym (ends_at old row k (place - 1) end (omega arith))))) c.loop-place.invariant.found
+
+pub loop-place-preserved-then-numbers-place-gt0 : goal.loop-place-preserved-then-numbers-place-gt0
+loop-place-preserved-then-numbers-place-gt0 c =
+    let old = c.args.old.now in
+    let row = c.args.row.now in
+    let numbers = c.args.numbers.now in
+    let place : ℕ = c.loop-place.place - 1 in
+    let within : place ≤ length row = omega (arith, c.loop-place.auto.place, c.requires.size) in
+    let same : AreSameFrom old row place =
+    elim c.else-place-row.branch [
+      | else-place-row-via-then-place-row+else-old-place w ↦
+          same_before old row c.loop-place.place (c.loop-place.invariant.same (omega (arith, w.if-place-row.true))) c.loop-place-test.true
+          w.if-old-place.false
+      | else-place-row-via-else-place-row w ↦
+          let last : length row ≡ place = omega (arith, w.if-place-row.false, within) in
+          subst (AreSameFrom old row) last (same_past old row)
+    ] in
+    let end : Ends old row place = ends_by old row place c.requires.same same.same in
+    record {
+      found = found_bad (IsGoodEnd old row numbers) place (length row) within
+          (λ good. absurd (omega (arith, good end, c.if-numbers-place-gt0.true)));
+      same = λ _. same;
+    }
+
+pub loop-place-preserved : goal.loop-place-preserved
+loop-place-preserved c =
+    let old = c.args.old.now in
+    let row = c.args.row.now in
+    let numbers = c.args.numbers.now in
+    let place : ℕ = c.loop-place.place - 1 in
+    let within : place ≤ length row = omega (arith, c.loop-place.auto.place, c.requires.size) in
+    let after : c.loop-place.place ≡ place + 1 = omega (arith, c.loop-place-test.true) in
+    let same : AreSameFrom old row place =
+    elim c.else-place-row.branch [
+      | else-place-row-via-then-place-row+else-old-place w ↦
+          same_before old row c.loop-place.place (c.loop-place.invariant.same (omega (arith, w.if-place-row.true))) c.loop-place-test.true
+          w.if-old-place.false
+      | else-place-row-via-else-place-row w ↦
+          let last : length row ≡ place = omega (arith, w.if-place-row.false, within) in
+          subst (AreSameFrom old row) last (same_past old row)
+    ] in
+    let none : slice_index numbers place ≡ 0 = omega (arith, c.if-numbers-place-gt0.false) in
+    record {
+      found = found_good (IsGoodEnd old row numbers) place (length row) c.loop-place.found (λ end. none)
+          (subst (λ (from : ℕ). FindsFrom (IsGoodEnd old row numbers) from (length row) c.loop-place.found) after
+          c.loop-place.invariant.found);
+      same = λ _. same;
+    }
+
+pub returns : goal.returns
+returns c =
+    found_all (IsGoodEnd c.args.old.now c.args.row.now c.args.numbers.now) c.loop-place.place (length c.args.row.now) c.loop-place.found
+    (λ k lt. absurd (omega (arith, c.loop-place-test.false))) c.loop-place.invariant.found

@@ -1,0 +1,75 @@
+use Rattle.std.proofs.Common.{◌≡◌, ◌-◌, [], ℕ, List, take, replicate, sym, ap, subst, ◌∙◌, true, false, refl, arith}
+use Rattle.std.proofs.lemmas.List.{take-replicate}
+use Rattle.pcl_plan.proofs.RowsFrom.{row_small}
+use Rattle.pcl_base.specs.declared.method.Method.TheVariants.{Plain}
+use Rattle.pcl_base.specs.Size.{page_height, page_row_bytes}
+use Rattle.std.specs.Prelude.{Bool, not}
+use Rattle.std.specs.Str.{bytes_eq}
+use Rattle.std.proofs.lemmas.Slice.Eq.{slice_eq-Decides}
+use Rattle.std.proofs.lemmas.Bool.Decides.{Decides-eqb}
+use Rattle.pcl_plan.specs.Tokens.{end_bytes}
+use Rattle.pcl_check.specs.Reading.{IsBodyVerdict, body_of, AreRowsAt}
+use Rattle.pcl_check.proofs.Comparing.{both, neither, becomes_same, read_on, read_all, white_test}
+use Rattle.pcl_check.proofs.Fronts.{white_rows}
+use Rattle.pcl_check.proofs.Steps.{becomes_to}
+use Rattle.pcl_check.proofs.reading.body.read_body.Goals as goal
+
+pub loop-place-init : goal.loop-place-init
+loop-place-init c =
+    let size = c.args.comparison.size in
+    let dpi = c.args.comparison.bitmap.now.dpi in
+    let body = body_of size dpi c.args.text.now in
+    let width : ℕ = page_row_bytes size dpi in
+    let small = row_small size dpi in
+    record {
+      given = [];
+      becomes = becomes_to size dpi body [] false false Plain (replicate width 0)
+          (take c.row_bytes.result (replicate 600 0)) (page_height size dpi) (page_height size dpi - 0)
+          c.args.text.now refl (sym (take-replicate c.row_bytes.result 600 0 (omega (arith, small, c.row_bytes.ensures))
+          ∙ ap (λ (n : ℕ). replicate n 0) c.row_bytes.ensures)) (omega arith) (becomes_same size dpi body body refl);
+      row_is = refl;
+      within = omega arith;
+      same = (λ yes. (yes, refl), λ h. h.0);
+    }
+
+pub returns-in_err-place : goal.returns-in_err-place
+returns-in_err-place c =
+    let read = c.loop-place.invariant in
+    subst (IsBodyVerdict c.args.comparison.bitmap.now c.args.comparison.size c.args.text.now c.args.is_same) (sym c.from_residual.ensures)
+    (λ rows printed. let left = read.becomes.splits rows printed in c.in_err-place.ensures left.0 left.2)
+
+pub loop-place-preserved : goal.loop-place-preserved
+loop-place-preserved c =
+    read_on c.args.comparison.bitmap.now c.args.comparison.size c.args.text.now c.args.is_same c.loop-place.place c.loop-place.above
+    c.in_ok-place.place c.step.new.above c.loop-place.invariant c.in_ok-place.ensures.0
+
+-- the text isn't other than the end
+true_of : (b : Bool) → not b ≡ false → b ≡ true
+true_of true e = refl
+true_of false e = sym e
+
+ended : (text : List ℕ) → not (bytes_eq text end_bytes) ≡ false → text ≡ end_bytes
+ended text e = (slice_eq-Decides Decides-eqb text end_bytes (bytes_eq text end_bytes) refl).0 (true_of (bytes_eq text end_bytes) e)
+
+pub returns-then-place-2 : goal.returns-then-place-2
+returns-then-place-2 c =
+    let picture = c.args.comparison.bitmap.now in
+    let size = c.args.comparison.size in
+    let place = c.loop-place.place in
+    let left : ℕ = page_height size picture.dpi - place.row in
+    read_all picture size c.args.text.now c.args.is_same place c.loop-place.above c.has_white_rows.result c.loop-place.invariant
+    c.if-place.false (ended place.text.now (sym c.ne.ensures ∙ c.if-ne.false))
+    (both place.is_same c.has_white_rows.result c.has_white_rows.result (AreRowsAt picture place.row (white_rows size picture.dpi left))
+    (white_test picture size place.row (c.height.result - place.row) left c.has_white_rows.result
+    (ap (λ (n : ℕ). n - place.row) c.height.ensures) c.has_white_rows.ensures)
+    c.if-place-2.true refl)
+
+pub returns-else-place-2 : goal.returns-else-place-2
+returns-else-place-2 c =
+    let picture = c.args.comparison.bitmap.now in
+    let size = c.args.comparison.size in
+    let place = c.loop-place.place in
+    let left : ℕ = page_height size picture.dpi - place.row in
+    read_all picture size c.args.text.now c.args.is_same place c.loop-place.above place.is_same c.loop-place.invariant c.if-place.false
+    (ended place.text.now (sym c.ne.ensures ∙ c.if-ne.false))
+    (neither place.is_same place.is_same (AreRowsAt picture place.row (white_rows size picture.dpi left)) c.if-place-2.false refl)

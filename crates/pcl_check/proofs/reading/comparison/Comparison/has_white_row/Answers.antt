@@ -1,0 +1,40 @@
+use Rattle.std.proofs.Common.{◌≡◌, ◌∷◌, [], ℕ, List, length, replicate, sym, ap, subst, ◌∙◌, arith}
+use Rattle.std.specs.Prelude.{All}
+use Rattle.std.proofs.lemmas.List.{length-replicate}
+use Rattle.std.proofs.lemmas.Bool.Decides.{nat_tests}
+use Rattle.pcl_base.specs.Size.{page_row_bytes}
+use Rattle.pcl_bitmap.specs.Bitmap.{row_of}
+use Rattle.pcl_check.proofs.ComparedRows.{first_row, past_rows, all_zeros, zeros_all}
+use Rattle.pcl_check.proofs.reading.comparison.Comparison.has_white_row.Goals as goal
+
+pub returns-then-y-page_height : goal.returns-then-y-page_height
+returns-then-y-page_height c =
+    let past = past_rows c.args.self.now.bitmap.now c.args.y (omega (arith, c.page_height.ensures)) in
+    (λ yes. absurd cc, λ e. let both = e ∙ past in absurd cc)
+
+pub returns-then-row-row_bytes : goal.returns-then-row-row_bytes
+returns-then-row-row_bytes c =
+    let picture = c.args.self.now.bitmap.now in
+    let width = page_row_bytes c.args.self.now.size picture.dpi in
+    let first = first_row picture c.args.y (omega (arith, c.page_height.ensures)) in
+    let wide : length (row_of picture c.args.y) ≡ width =
+    ap length (sym c.row.ensures.bytes) ∙ c.if-row-row_bytes.true ∙ c.row_bytes.ensures in (
+      λ yes.
+          let zeros = all_zeros (row_of picture c.args.y) (c.is_blank.ensures.bytes.0 yes) in
+          ap (λ (z : List ℕ). z ∷ []) (sym (zeros ∙ ap (λ (n : ℕ). replicate n 0) wide)) ∙ sym first,
+      λ e.
+          let same : replicate width 0 ≡ row_of picture c.args.y = (let both = e ∙ first in cc) in
+          c.is_blank.ensures.bytes.1 (subst (λ (z : List ℕ). All {X = ℕ} (λ byte. byte ≡ 0) z) same (zeros_all width)),
+    )
+
+pub returns-else-row-row_bytes : goal.returns-else-row-row_bytes
+returns-else-row-row_bytes c =
+    let picture = c.args.self.now.bitmap.now in
+    let width = page_row_bytes c.args.self.now.size picture.dpi in
+    let first = first_row picture c.args.y (omega (arith, c.page_height.ensures)) in (
+      λ yes. absurd (grind (arith, nat_tests)),
+      λ e.
+          let same : replicate width 0 ≡ row_of picture c.args.y = (let both = e ∙ first in cc) in
+          let wide = ap length same in
+          absurd (c.if-row-row_bytes.false (ap length c.row.ensures.bytes ∙ sym wide ∙ length-replicate width 0 ∙ sym c.row_bytes.ensures)),
+    )

@@ -1,0 +1,20 @@
+use Rattle.std.proofs.Common.{take, drop, sym, ap, subst, ◌∙◌, MatchOption, ℕ}
+use Rattle.pcl_escape.specs.Pieces.{AreDigits}
+use Rattle.pcl_check.specs.Reading.{IsParameter}
+use Rattle.pcl_check.proofs.Decimals.{all_digits, digits_cut}
+use Rattle.pcl_check.proofs.reading.parameter.read_parameter.Goals as goal
+
+pub returns-in_err-letter : goal.returns-in_err-letter
+returns-in_err-letter c =
+    subst (λ result. MatchOption result (AreDigits c.args.text.now) (λ found. IsParameter c.args.text.now found))
+    (sym c.from_residual.ensures)
+    (all_digits c.args.text.now c.split_at.result.1.now
+    (c.split_at.ensures.back ∙ ap (λ (n : ℕ). drop n c.args.text.now) c.digit_count.ensures.count) c.in_err-letter.ensures.cases)
+
+pub returns : goal.returns
+returns c =
+    let text = c.args.text.now in
+    let cut = digits_cut text c.split_at.result.0.now c.split_at.result.1.now c.in_ok-letter.letter.now c.in_ok-letter.rest.now
+    (c.split_at.ensures.front ∙ ap (λ (n : ℕ). take n text) c.digit_count.ensures.count)
+    (c.split_at.ensures.back ∙ ap (λ (n : ℕ). drop n text) c.digit_count.ensures.count) c.in_ok-letter.ensures.cases.0 in
+    record { are_digits = cut.are_digits; no_digit = cut.no_digit; spelled = cut.spelled; number_is = c.number.ensures }

@@ -1,0 +1,7 @@
+pub mod TextVerdicts
+pub mod Reading
+pub mod Edges
+pub mod EdgePasses
+pub mod EdgeLengths
+pub mod Places
+pub mod PlacePasses
