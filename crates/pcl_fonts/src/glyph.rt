@@ -1,6 +1,6 @@
 //! The characters of fonts.
 
-ghost use Rattle.std.specs.Prelude.{◌≡◌, ◌≤◌, length, true, false, MatchOption};
+ghost use Rattle.std.specs.Prelude.{◌≡◌, ◌≤◌, ◌+◌, ◌*◌, ◌/◌, length, true, false, MatchOption};
 ghost use Rattle.pcl_fonts.specs.Fields.{is_character, character_of, has_fixed_bytes, pattern_bytes};
 ghost use Rattle.pcl_fonts.specs.Table.{character_in};
 
@@ -24,6 +24,7 @@ pub struct Glyph<'a> {
     pub delta: i16,
     /// The rows of the pattern, one after the other, each of whole bytes, the left bit the highest: a part of the job.
     pub rows: &'a [u8],
+    ghost whole: { height * ((width + 7) / 8) ≤ length rows.now },
 }
 
 impl<'a> Glyph<'a> {
