@@ -34,6 +34,7 @@ returns c =
         marked = refl;
         ejected = refl;
         performed = refl;
+        fonts = refl;
         size = c.send.ensures.size;
         resolution = c.send.ensures.dpi;
         dots = λ x y wide high.
