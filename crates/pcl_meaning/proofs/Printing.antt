@@ -231,7 +231,8 @@ start_after size dpi copies t pages n b =
     let y : at.cursor.y ≡ 0 = omega arith in
     let raster : raster_from dpi 0 at ≡ body_raster size dpi 0 (zeros size dpi) =
     one_scale dpi size (dot_at dpi at.cursor.y) t.raster_height b.height (first_dot dpi at.cursor.y y) in
-    ap (λ (r : Raster). Ok (record { settings = at; raster = Some r; fonts = reset_fonts; marks = []; pages = pages; performed = n + 1 })) raster
+    ap (λ (r : Raster). Ok
+    (record { settings = at; raster = Some r; fonts = reset_fonts; marks = []; pages = pages; performed = n + 1 })) raster
     ∙ ap (λ (m : Method). Ok
     (record {
       settings = record at { method = m };
@@ -463,7 +464,7 @@ behind size dpi t m k seed = record (put (below dpi (body_raster size dpi k seed
 
 end_after : (size : Size) (dpi : Dpi) (t : Settings) (m : Method) (k : ℕ) (seed : List ℕ) (marks : List Mark) (pages : List Sheet) (n : ℕ)
     → after dpi EndRasterResetMethod (said_of (deed EndRasterResetMethod (number_value 0) [])) (in_body size dpi t m k seed marks pages n)
-    ≡ Ok (record { settings = behind size dpi t m k seed; raster = None; fonts = reset_fonts; marks = marks; pages = pages; performed = n + 1 })
+    ≡ Ok (record (between (behind size dpi t m k seed) pages (n + 1)) { marks = marks })
 unfolding after outcome
 end_after size dpi t m k seed marks pages n = refl
 

@@ -420,7 +420,8 @@ drawn_keeps dpi ControlFonts command s = record { pages = refl; performed = refl
 drawn_keeps dpi DownloadFont command s = font_keeps command.bytes s
 drawn_keeps dpi DownloadCharacter command s = character_keeps command.bytes s
 drawn_keeps dpi (SelectFont side) command s = record { pages = refl; performed = refl }
-drawn_keeps dpi PrintText command s = codes_keep dpi (is_proportional (font_now s)) (prints s.fonts (font_in_use s.settings)) command.bytes s
+drawn_keeps dpi PrintText command s =
+    codes_keep dpi (is_proportional (font_now s)) (prints s.fonts (font_in_use s.settings)) command.bytes s
 drawn_keeps dpi FillRectangle command s = record { pages = refl; performed = refl }
 drawn_keeps dpi StartRaster command s = record { pages = refl; performed = refl }
 drawn_keeps dpi RasterOffset command s = record { pages = refl; performed = refl }
@@ -782,8 +783,10 @@ end_marked {S} takes dpi s copies old sink later i m few c t =
     let count = length-append s.pages (sheet_of end ∷ []) in
     let shows = subst (λ (sheet : Sheet). Shows dpi t.0 sheet) (sym (sheet_below dpi s.raster s))
     (handed_sheet dpi s copies old old t.0 i refl c t.1) in
-    subst (λ (z : Situation). (page_refusal z ≡ None) × HandsMore takes dpi s z sink later) (sym is)
-    (pages_fit (without_temporary (turned_page defaults end)) (omega (arith, i.ejected, count)), (sheet_of end ∷ [], refl, (t.0, later, shows, t.2, refl)))
+    subst (λ (z : Situation). (page_refusal z ≡ None) × HandsMore takes dpi s z sink later) (sym is) (
+      pages_fit (without_temporary (turned_page defaults end)) (omega (arith, i.ejected, count)),
+      (sheet_of end ∷ [], refl, (t.0, later, shows, t.2, refl)),
+    )
 
 pub end_unmarked : {S : Type 0} (takes : S → Page → S → Type 0) (dpi : Dpi) (s : Situation) (old : Performer) (sink later : S)
     → IsIn dpi s old

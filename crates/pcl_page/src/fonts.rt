@@ -17,7 +17,8 @@ impl<'a> Performer<'a> {
 
     /// Takes the header of a font for the ID that is meant. Without data nothing happens.
     pub fn download_font(&mut self, bytes: &'a [u8]) -> Result<(), CallFault>
-        ensures { (dpi : Dpi) (s : Situation) → IsIn dpi s self.old → Draws dpi (header_refusal bytes.now) (with_font bytes.now s) result self.new }
+        ensures { (dpi : Dpi) (s : Situation) → IsIn dpi s self.old
+            → Draws dpi (header_refusal bytes.now) (with_font bytes.now s) result self.new }
     {
         if bytes.is_empty() {
             return Ok(());

@@ -23,7 +23,8 @@ impl<'a> Performer<'a> {
 
     /// Prints the codes in the font that is selected and in use. Without one a code above that of a space is refused.
     pub fn print_text(&mut self, codes: &[u8], dpi: Dpi) -> Result<(), CallFault>
-        ensures { (s : Situation) → IsIn dpi s self.old → Draws dpi (text_refusal codes.now (font_now s)) (text_printed dpi codes.now s) result self.new }
+        ensures { (s : Situation) → IsIn dpi s self.old
+            → Draws dpi (text_refusal codes.now (font_now s)) (text_printed dpi codes.now s) result self.new }
     {
         match self.font_in_use() {
             Some(font) => self.print_codes(codes, font.proportional, dpi),

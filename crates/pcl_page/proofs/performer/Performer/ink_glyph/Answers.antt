@@ -5,12 +5,8 @@ use Rattle.pcl_base.specs.Dpi.{fineness}
 use Rattle.pcl_bitmap.specs.Bitmap.{dot}
 use Rattle.pcl_bitmap.specs.Dots.{pattern_dot}
 use Rattle.pcl_page.specs.Marks.{dot_at}
+use Rattle.pcl_page.proofs.Painted.{or_is}
 use Rattle.pcl_page.proofs.performer.Performer.ink_glyph.Goals as goal
-
--- black over another ink
-or_is : (covered before : Bool) → (covered || before) ≡ cond covered true before
-or_is true before = refl
-or_is false before = refl
 
 pub returns-clause-drawn : goal.returns-clause-drawn
 returns-clause-drawn c =
@@ -44,7 +40,8 @@ returns-clause-drawn c =
       resolution = c.blit.ensures.dpi;
       dots = λ x y wide high.
           c.blit.ensures.dots x y wide high
-          ∙ ap (λ (z : ℤ). pattern_dot z (to_z w32 (of_z w32 c.above-y.result)) c.fineness-scale.result g.width g.height g.rows.now x y || dot old x y) left
+          ∙ ap (λ (z : ℤ). pattern_dot z (to_z w32 (of_z w32 c.above-y.result)) c.fineness-scale.result g.width g.height
+          g.rows.now x y || dot old x y) left
           ∙ ap (λ (z : ℤ). pattern_dot (pos (dot_at dpi s.cursor.x) +ℤ g.left *ℤ pos (fineness dpi)) z c.fineness-scale.result g.width
           g.height g.rows.now x y || dot old x y) top
           ∙ ap (λ (n : ℕ). pattern_dot (pos (dot_at dpi s.cursor.x) +ℤ g.left *ℤ pos (fineness dpi))
