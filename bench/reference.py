@@ -33,7 +33,12 @@ WITHOUT_EFFECT = {b"%A", b"&lS", b"&lG", b"&lM", b"&lP", b"&aM", b"&sC", b"&d@",
 NAMES = WITHOUT_EFFECT | {
     b"E", b"9", b"=", b"%X", b"&lA", b"&lX", b"&lC", b"&lD", b"&lE", b"&lF", b"&lL", b"&lO", b"&lU", b"&lZ", b"&aP", b"&lH",
     b"&aG", b"&uD", b"&kH", b"&kG", b"&aL", b"*pX", b"*pY", b"&aH", b"&aV", b"&aC", b"&aR", b"&fS", b"*cA", b"*cB", b"*cH",
-    b"*cV", b"*cP", b"*vN", b"*vT", b"*tR", b"*rS", b"*rT", b"*rF", b"*rA", b"*rB", b"*rC", b"*bM", b"*bY", b"*bW"}
+    b"*cV", b"*cP", b"*cD", b"*cE", b"*cF", b")sW", b"(sW", b"(X", b")X", b"&pX", b"*vN", b"*vT", b"*tR", b"*rS", b"*rT", b"*rF", b"*rA", b"*rB", b"*rC", b"*bM", b"*bY", b"*bW"}
+
+# Commands with as many bytes of data behind them as their values say.
+WITH_DATA = {b"*bW", b")sW", b"(sW", b"&pX"}
+
+TEXT = b" "
 
 CONTROL_CODES = {8: "BS", 9: "HT", 10: "LF", 12: "FF", 13: "CR", 14: "SO", 15: "SI"}
 MOST_COMMANDS = 100_000_000
@@ -47,7 +52,7 @@ class Refused(Exception):
         kind, at, name = self.args
         if len(name) == 1 and name[0] in CONTROL_CODES:
             text = CONTROL_CODES[name[0]]
-        elif name == b" ":
+        elif name == TEXT:
             text = "text"
         else:
             text = name.decode("ascii") or "-"
@@ -79,9 +84,7 @@ class Command:
 
 def is_known(name):
     """Whether a name stands in a table."""
-    if len(name) == 2 and name[0] in b"()":
-        return 64 <= name[1] <= 94 and name[1] != ord("X")
-    return name in NAMES
+    return name in NAMES or len(name) == 2 and name[0] in b"()" and 64 <= name[1] <= 94
 
 
 def read(job):
@@ -100,7 +103,11 @@ def read(job):
         elif byte == 8:
             raise Refused("UnsupportedCommand", at, bytes([byte]))
         else:
-            raise Refused("UnsupportedCommand", at, b" ")
+            end = at
+            while end < len(job) and job[end] not in (0, 7, 11, ESC) and job[end] not in CONTROL_CODES:
+                end += 1
+            commands.append(Command(at, TEXT, data=job[at:end]))
+            at = end
     return commands
 
 
@@ -142,7 +149,7 @@ def read_parameters(job, start, prefix, at):
         if not is_known(name):
             raise Refused("UnsupportedCommand", place, name)
         command = Command(place, name, value)
-        if name == b"*bW":
+        if name in WITH_DATA:
             at = read_data(job, command, goes_on, at)
         elif name == b"%X" and value.whole() == -12345:
             at = read_lines(job, at)
@@ -160,7 +167,7 @@ def read_value(job, at):
 
 
 def read_data(job, command, goes_on, at):
-    """Gives a row its data; the place behind them."""
+    """Gives a command its data; the place behind them."""
     count = command.value.whole()
     if count < 0:
         raise Refused("ValueRange", command.at, command.name)
@@ -211,12 +218,56 @@ class Raster:
             self.done = min(self.done, self.height)
 
 
+class Font:
+    """A font: which codes it has, its advance (None where each character has its own), and its characters by code."""
+
+    def __init__(self, kind, pitch, is_fixed):
+        self.kind, self.pitch, self.is_fixed = kind, pitch, is_fixed
+        self.is_permanent, self.characters = False, {}
+
+    def has(self, code):
+        seven = 32 <= code <= 127
+        return (seven, seven or code >= 160, True)[self.kind]
+
+
+class Character:
+    """A character: the place of its pattern at the cursor, its advance in quarter dots, and its set bits."""
+
+    def __init__(self, left, top, delta, bits):
+        self.left, self.top, self.delta, self.bits = left, top, delta, bits
+
+
+def font_of(data):
+    """The font that a header defines; None where the data are no header."""
+    if len(data) < 64:
+        return None
+    size, pitch = int.from_bytes(data[:2], "big"), int.from_bytes(data[16:18], "big")
+    if not 64 <= size <= len(data) or data[2] != 0 or data[3] > 2 or data[12] != 0 or data[13] > 1:
+        return None
+    return Font(data[3], pitch, data[13] == 0)
+
+
+def character_of(data):
+    """The character that data define; None where they are no character."""
+    if len(data) < 16 or tuple(data[:5]) != (4, 0, 14, 1, 0):
+        return None
+    left, top, delta = (int.from_bytes(data[at:at + 2], "big", signed=True) for at in (6, 8, 14))
+    width, height = (int.from_bytes(data[at:at + 2], "big") for at in (10, 12))
+    in_row = -(-width // 8)
+    if len(data) - 16 < in_row * height:
+        return None
+    bits = [(column, row) for row in range(height) for column in range(width)
+            if data[16 + row * in_row + column // 8] & 0x80 >> column % 8]
+    return Character(left, top, delta, bits)
+
+
 class Performer:
     """Performs the commands of a job."""
 
     def __init__(self, dpi):
         self.dpi, self.dot = dpi, 7200 // dpi
         self.pages, self.performed = [], 0
+        self.fonts = {}
         self.begin()
 
     def begin(self):
@@ -227,6 +278,9 @@ class Performer:
         self.rectangle = {"width": 0, "height": 0}
         self.resolution, self.raster_width, self.raster_height, self.method = 75, 0, 0, 0
         self.raster = None
+        self.font_id, self.code = 0, 0
+        self.selected, self.in_use = {"primary": None, "secondary": None}, "primary"
+        self.fonts = {number: font for number, font in self.fonts.items() if font.is_permanent}
         self.set_size("Letter")
 
     def set_size(self, size):
@@ -265,9 +319,8 @@ class Performer:
             return
         if self.raster and name not in (b"*bM", b"*bY", b"*bW"):
             self.end_raster()
-        if name in WITHOUT_EFFECT or name[:1] in (b"(", b")"):
-            return
-        PERFORM[name](self, command)
+        if name in PERFORM:
+            PERFORM[name](self, command)
 
     def end_raster(self):
         raster = self.raster
@@ -305,6 +358,30 @@ class Performer:
         for y in range(top, min(top + count, self.height // self.dot)):
             row = self.rows.get(y, 0)
             self.rows[y] = row | line if is_black else row & ~line
+
+    def print_text(self, command):
+        font = self.fonts.get(self.selected[self.in_use])
+        for code in command.data:
+            if font and font.has(code) and code in font.characters:
+                character = font.characters[code]
+                self.ink_character(character)
+                self.marked = True
+                self.move_to(self.x + (self.hmi if font.is_fixed else 6 * character.delta), self.y)
+            elif code == 32:
+                self.move_to(self.x + self.hmi, self.y)
+            elif not font and code > 32:
+                raise Refused("NoFont", command.at, command.name)
+
+    def ink_character(self, character):
+        """Inks a square of dots for each set bit, where the page has them."""
+        scale = self.dpi // 300
+        for column, row in character.bits:
+            for y in range(scale):
+                for x in range(scale):
+                    at_x = self.x // self.dot + scale * (character.left + column) + x
+                    at_y = self.y // self.dot + scale * (row - character.top) + y
+                    if at_x >= 0 and at_y >= 0:
+                        self.ink(1 << at_x, at_y, 1, True)
 
     def feed(self, command, units):
         limit = min(self.bottom, self.height) if self.skips else self.height
@@ -480,6 +557,45 @@ def side(name, unit):
     return from_zero(lambda p, value: p.rectangle.__setitem__(name, value.times(unit(p))))
 
 
+def font_control(performer, what):
+    fonts, number = performer.fonts, performer.font_id
+    if what == 0:
+        fonts.clear()
+    elif what == 1:
+        performer.fonts = {one: font for one, font in fonts.items() if font.is_permanent}
+    elif what == 2:
+        fonts.pop(number, None)
+    elif number in fonts and what == 3:
+        fonts[number].characters.pop(performer.code, None)
+    elif number in fonts:
+        fonts[number].is_permanent = what == 5
+
+
+def download_font(performer, command):
+    if command.data:
+        font = font_of(command.data)
+        if not font:
+            raise Refused("FontHeader", command.at, command.name)
+        performer.fonts[performer.font_id] = font
+
+
+def download_character(performer, command):
+    if command.data and performer.font_id in performer.fonts:
+        character = character_of(command.data)
+        if not character:
+            raise Refused("CharacterData", command.at, command.name)
+        performer.fonts[performer.font_id].characters[performer.code] = character
+
+
+def select_font(which):
+    """Selects a font by its ID, where it is there."""
+    def perform(performer, value):
+        if value.whole() in performer.fonts:
+            performer.selected[which] = value.whole()
+            performer.hmi = 6 * performer.fonts[value.whole()].pitch
+    return from_zero(perform)
+
+
 def carriage_return(performer, command):
     performer.return_to_margin()
     if performer.termination in (1, 3):
@@ -511,7 +627,12 @@ PERFORM = {
     b"=": lambda p, c: p.feed(c, p.vmi // 2),
     b"\t": lambda p, c: p.tab(),
     b"\n": line_feed, b"\f": form_feed, b"\r": carriage_return,
-    b"\x0e": lambda p, c: None, b"\x0f": lambda p, c: None,
+    b"\x0e": lambda p, c: setattr(p, "in_use", "secondary"), b"\x0f": lambda p, c: setattr(p, "in_use", "primary"),
+    TEXT: Performer.print_text, b"&pX": Performer.print_text,
+    b"*cD": setting("font_id", range(32768)), b"*cE": setting("code", range(256)),
+    b"*cF": taking(range(6), font_control),
+    b")sW": download_font, b"(sW": download_character,
+    b"(X": select_font("primary"), b")X": select_font("secondary"),
     b"&lA": page_size,
     b"&lX": setting("copies", range(1, 100)),
     b"&lC": from_zero(lambda p, value: setattr(p, "vmi", value.times(150))),

@@ -23,7 +23,7 @@ use table::{TableFault, cases_of};
 use thiserror::Error;
 
 /// The tables, each a file of `data/`.
-const TABLES: [&str; 18] = [
+const TABLES: [&str; 19] = [
     "bytes.txt",
     "sequences.txt",
     "cut.txt",
@@ -39,6 +39,7 @@ const TABLES: [&str; 18] = [
     "rasters.txt",
     "rows.txt",
     "rectangles.txt",
+    "fonts.txt",
     "mixtures.txt",
     "written.txt",
     "least.txt",

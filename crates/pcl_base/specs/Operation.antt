@@ -1,12 +1,12 @@
 -- The names that are performed.
-use Rattle.std.specs.Prelude.{ℕ, Bool, true, false, ◌==◌, ◌&&◌, ◌||◌, not, if◌then◌else◌, List, [], ◌∷◌, Option, Some, None, codes}
+use Rattle.std.specs.Prelude.{ℕ, Bool, true, false, ◌==◌, ◌&&◌, ◌||◌, if◌then◌else◌, List, [], ◌∷◌, Option, Some, None, codes}
 use Rattle.pcl_base.specs.declared.name.Name.{Name}
 use Rattle.pcl_base.specs.declared.name.Name.TheVariants.{Empty, One, Two, Three}
 use Rattle.pcl_base.specs.declared.operation.Axis.TheVariants.{Horizontal, Vertical}
 use Rattle.pcl_base.specs.declared.operation.Unit.TheVariants.{PclUnit, Decipoint, Column}
 use Rattle.pcl_base.specs.declared.operation.Side.TheVariants.{Primary, Secondary}
 use Rattle.pcl_base.specs.declared.operation.Operation.{Operation}
-use Rattle.pcl_base.specs.declared.operation.Operation.TheVariants.{Reset, UniversalExit, ClearMargins, HalfLineFeed, HorizontalTab, LineFeed, FormFeed, CarriageReturn, Shift, PageSize, Copies, VerticalMotionIndex, LineSpacing, TopMargin, TextLength, PerforationSkip, OnlyZero, EjectMarked, UnitOfMeasure, HorizontalMotionIndex, LineTermination, LeftMargin, Move, CursorStack, RectangleSize, FillRectangle, RasterResolution, RasterWidth, RasterHeight, RasterPresentation, StartRaster, EndRaster, EndRasterResetMethod, RasterMethod, RasterOffset, RasterRow, NoEffect}
+use Rattle.pcl_base.specs.declared.operation.Operation.TheVariants.{Reset, UniversalExit, ClearMargins, HalfLineFeed, HorizontalTab, LineFeed, FormFeed, CarriageReturn, Shift, PageSize, Copies, VerticalMotionIndex, LineSpacing, TopMargin, TextLength, PerforationSkip, OnlyZero, EjectMarked, UnitOfMeasure, HorizontalMotionIndex, LineTermination, LeftMargin, Move, CursorStack, RectangleSize, FillRectangle, FontId, CharacterCode, ControlFonts, DownloadFont, DownloadCharacter, SelectFont, PrintText, RasterResolution, RasterWidth, RasterHeight, RasterPresentation, StartRaster, EndRaster, EndRasterResetMethod, RasterMethod, RasterOffset, RasterRow, NoEffect}
 
 -- a name from its bytes
 abbrev pub named : List ℕ → Name
@@ -18,6 +18,10 @@ named other = Empty
 -- control codes by their numbers: HT, LF, FF, CR, SO, SI
 abbrev pub control : ℕ → Name
 control code = One code
+
+-- the name of a run of text
+abbrev pub text : Name
+text = One 32
 
 -- each name, with what its command does
 abbrev pub operations : List (Name × Operation)
@@ -32,7 +36,10 @@ operations =
     (control 13, CarriageReturn) ∷
     (control 14, Shift Secondary) ∷
     (control 15, Shift Primary) ∷
+    (text, PrintText) ∷
     (named (codes "%A"), NoEffect) ∷
+    (named (codes "(X"), SelectFont Primary) ∷
+    (named (codes ")X"), SelectFont Secondary) ∷
     (named (codes "&lA"), PageSize) ∷
     (named (codes "&lX"), Copies) ∷
     (named (codes "&lC"), VerticalMotionIndex) ∷
@@ -62,6 +69,7 @@ operations =
     (named (codes "&fS"), CursorStack) ∷
     (named (codes "&sC"), NoEffect) ∷
     (named (codes "&d@"), NoEffect) ∷
+    (named (codes "&pX"), PrintText) ∷
     (named (codes "*pX"), Move Horizontal PclUnit) ∷
     (named (codes "*pY"), Move Vertical PclUnit) ∷
     (named (codes "*cA"), RectangleSize Horizontal PclUnit) ∷
@@ -69,6 +77,11 @@ operations =
     (named (codes "*cH"), RectangleSize Horizontal Decipoint) ∷
     (named (codes "*cV"), RectangleSize Vertical Decipoint) ∷
     (named (codes "*cP"), FillRectangle) ∷
+    (named (codes "*cD"), FontId) ∷
+    (named (codes "*cE"), CharacterCode) ∷
+    (named (codes "*cF"), ControlFonts) ∷
+    (named (codes ")sW"), DownloadFont) ∷
+    (named (codes "(sW"), DownloadCharacter) ∷
     (named (codes "*vN"), OnlyZero) ∷
     (named (codes "*vT"), OnlyZero) ∷
     (named (codes "*tR"), RasterResolution) ∷
@@ -97,9 +110,9 @@ is_name (Two a b) (Two c d) = a == c && b == d
 is_name (Three a b c) (Three d e f) = a == d && (b == e && c == f)
 is_name name other = false
 
--- symbol sets and fonts by characteristics, ESC ( or ESC ) and any ending byte but X: they select nothing
+-- symbol sets and fonts by characteristics, ESC ( or ESC ) and any other ending byte: they select nothing
 abbrev pub operation_by_rule : Name → Option Operation
-operation_by_rule (Two first last) = if (first == 40 || first == 41) && not (last == 88) then Some NoEffect else None
+operation_by_rule (Two first last) = if first == 40 || first == 41 then Some NoEffect else None
 operation_by_rule name = None
 
 -- the operation of a name in a table, or else by the rule
@@ -110,7 +123,10 @@ operation_in (row ∷ rows) name = if is_name name row.0 then Some row.1 else op
 unfoldable pub operation_of : Name → Option Operation
 operation_of name = operation_in operations name
 
--- a command with data behind it
+-- a parameter of a sequence with data behind it
 abbrev pub takes_data : Operation → Bool
 takes_data RasterRow = true
+takes_data DownloadFont = true
+takes_data DownloadCharacter = true
+takes_data PrintText = true
 takes_data other = false

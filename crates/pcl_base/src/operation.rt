@@ -91,10 +91,20 @@ pub enum Operation {
     RectangleSize(Axis, Unit),
     /// Fills the rectangle at the cursor ("Fill Rectangular Area").
     FillRectangle,
-    /// Sets the ID of the font that is meant.
+    /// Sets the ID of the font that is meant ("Font ID").
     FontId,
-    /// Sets the code of the character that is meant.
+    /// Sets the code of the character that is meant ("Character Code").
     CharacterCode,
+    /// Deletes fonts or a character, or makes a font temporary or permanent ("Font Control").
+    ControlFonts,
+    /// Sends a font without its characters, with its data ("Font Header").
+    DownloadFont,
+    /// Sends a character of a font, with its data ("Download Character").
+    DownloadCharacter,
+    /// Selects the font of an ID ("Font Selection by ID").
+    SelectFont(Side),
+    /// Prints a run of text, or the data that follow ("Transparent Print Data").
+    PrintText,
     /// Sets the raster resolution.
     RasterResolution,
     /// Sets the raster width ("Source Raster Width").
@@ -137,9 +147,12 @@ impl Operation {
             Name::One(b'\x0d') => Operation::CarriageReturn,
             Name::One(b'\x0e') => Operation::Shift(Side::Secondary),
             Name::One(b'\x0f') => Operation::Shift(Side::Primary),
+            Name::TEXT => Operation::PrintText,
             Name::Two(b'%', b'X') => Operation::UniversalExit,
             Name::Two(b'%', b'A') => Operation::NoEffect,
-            Name::Two(b'(' | b')', last) if last != b'X' => Operation::NoEffect,
+            Name::Two(b'(', b'X') => Operation::SelectFont(Side::Primary),
+            Name::Two(b')', b'X') => Operation::SelectFont(Side::Secondary),
+            Name::Two(b'(' | b')', _) => Operation::NoEffect,
             Name::Three(b'&', b'l', b'A') => Operation::PageSize,
             Name::Three(b'&', b'l', b'X') => Operation::Copies,
             Name::Three(b'&', b'l', b'C') => Operation::VerticalMotionIndex,
@@ -169,6 +182,7 @@ impl Operation {
             Name::Three(b'&', b'f', b'S') => Operation::CursorStack,
             Name::Three(b'&', b's', b'C') => Operation::NoEffect,
             Name::Three(b'&', b'd', b'@') => Operation::NoEffect,
+            Name::Three(b'&', b'p', b'X') => Operation::PrintText,
             Name::Three(b'*', b'p', b'X') => Operation::Move(Axis::Horizontal, Unit::PclUnit),
             Name::Three(b'*', b'p', b'Y') => Operation::Move(Axis::Vertical, Unit::PclUnit),
             Name::Three(b'*', b'c', b'A') => Operation::RectangleSize(
@@ -188,6 +202,11 @@ impl Operation {
                 Unit::Decipoint,
             ),
             Name::Three(b'*', b'c', b'P') => Operation::FillRectangle,
+            Name::Three(b'*', b'c', b'D') => Operation::FontId,
+            Name::Three(b'*', b'c', b'E') => Operation::CharacterCode,
+            Name::Three(b'*', b'c', b'F') => Operation::ControlFonts,
+            Name::Three(b')', b's', b'W') => Operation::DownloadFont,
+            Name::Three(b'(', b's', b'W') => Operation::DownloadCharacter,
             Name::Three(b'*', b'v', b'N' | b'T') => Operation::OnlyZero,
             Name::Three(b'*', b't', b'R') => Operation::RasterResolution,
             Name::Three(b'*', b'r', b'S') => Operation::RasterWidth,
@@ -207,10 +226,16 @@ impl Operation {
         })
     }
 
-    /// Whether as many bytes of data follow the command as its value says.
+    /// Whether as many bytes of data follow a parameter of a sequence that asks for the operation as its value says.
     pub fn takes_data(self) -> bool
         ensures { result ≡ takes_data self }
     {
-        matches!(self, Operation::RasterRow)
+        matches!(
+            self,
+            Operation::RasterRow
+                | Operation::DownloadFont
+                | Operation::DownloadCharacter
+                | Operation::PrintText
+        )
     }
 }

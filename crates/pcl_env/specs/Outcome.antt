@@ -10,7 +10,7 @@ use Rattle.pcl_base.specs.declared.operation.Axis.TheVariants.{Horizontal, Verti
 use Rattle.pcl_base.specs.declared.operation.Unit.{Unit as Measure}
 use Rattle.pcl_base.specs.declared.operation.Unit.TheVariants.{PclUnit, Decipoint, Column}
 use Rattle.pcl_base.specs.declared.operation.Operation.{Operation}
-use Rattle.pcl_base.specs.declared.operation.Operation.TheVariants.{Reset, UniversalExit, ClearMargins, HalfLineFeed, HorizontalTab, LineFeed, FormFeed, CarriageReturn, Shift, PageSize, Copies, VerticalMotionIndex, LineSpacing, TopMargin, TextLength, PerforationSkip, OnlyZero, EjectMarked, UnitOfMeasure, HorizontalMotionIndex, LineTermination, LeftMargin, Move, CursorStack, MacroId, RectangleSize, FillRectangle, FontId, CharacterCode, RasterResolution, RasterWidth, RasterHeight, RasterPresentation, StartRaster, EndRaster, EndRasterResetMethod, RasterMethod, RasterOffset, RasterRow, NoEffect}
+use Rattle.pcl_base.specs.declared.operation.Operation.TheVariants.{Reset, UniversalExit, ClearMargins, HalfLineFeed, HorizontalTab, LineFeed, FormFeed, CarriageReturn, Shift, PageSize, Copies, VerticalMotionIndex, LineSpacing, TopMargin, TextLength, PerforationSkip, OnlyZero, EjectMarked, UnitOfMeasure, HorizontalMotionIndex, LineTermination, LeftMargin, Move, CursorStack, MacroId, RectangleSize, FillRectangle, FontId, CharacterCode, ControlFonts, DownloadFont, DownloadCharacter, SelectFont, PrintText, RasterResolution, RasterWidth, RasterHeight, RasterPresentation, StartRaster, EndRaster, EndRasterResetMethod, RasterMethod, RasterOffset, RasterRow, NoEffect}
 use Rattle.pcl_base.specs.declared.size.Size.{Size}
 use Rattle.pcl_base.specs.declared.value.Sign.{Sign}
 use Rattle.pcl_base.specs.declared.value.Sign.TheVariants.{Absent, Plus, Minus}
@@ -187,6 +187,11 @@ outcome dpi (RectangleSize axis unit) v m s = counted v (λ n. stays (set_rectan
 outcome dpi FillRectangle v m s = counted v (λ n. stays_if (is_one_of (0 ∷ 1 ∷ 5 ∷ []) n) s)
 outcome dpi FontId v m s = counted v (λ n. stays_if (nat_le n 32767) (record s { font_id = n }))
 outcome dpi CharacterCode v m s = counted v (λ n. stays_if (nat_le n 255) (record s { character_code = n }))
+outcome dpi ControlFonts v m s = counted v (λ n. stays_if (nat_le n 5) s)
+outcome dpi DownloadFont v m s = counted v (λ n. stays s)
+outcome dpi DownloadCharacter v m s = counted v (λ n. stays s)
+outcome dpi (SelectFont side) v m s = counted v (λ n. stays s)
+outcome dpi PrintText v m s = counted v (λ n. stays s)
 outcome dpi RasterResolution v m s = counted v (λ n. stays_if (is_one_of (resolutions dpi) n) (record s { resolution = n }))
 outcome dpi RasterWidth v m s = counted v (λ n. stays (record s { raster_width = none_if_zero n }))
 outcome dpi RasterHeight v m s = counted v (λ n. stays (record s { raster_height = none_if_zero n }))

@@ -85,6 +85,18 @@ staying : IsReading (escape (codes "%-12344X") ++ 12 ∷ []) (said 0 (Two 37 88)
 unfolding outcome start_at sequence_at prefix_at ungrouped_at parameter_at field_at parameter_checks operation_of lines_from named_at
 staying = reading_of (escape (codes "%-12344X") ++ 12 ∷ []) (said 0 (Two 37 88) Minus 123440000 [] ∷ said 9 (One 12) Absent 0 [] ∷ []) refl
 
+-- a run of text goes on up to a byte that is none, and silent bytes are none
+two_runs : IsReading (codes "A " ++ 7 ∷ codes "B") (said 0 (One 32) Absent 0 (codes "A ") ∷ said 3 (One 32) Absent 0 (codes "B") ∷ [])
+unfolding outcome start_at text_at operation_of
+two_runs = reading_of (codes "A " ++ 7 ∷ codes "B") (said 0 (One 32) Absent 0 (codes "A ") ∷ said 3 (One 32) Absent 0 (codes "B") ∷ []) refl
+
+-- a line in lower case is text
+lower_case_line : IsReading (escape (codes "%-12345X@pjl"))
+    (said 0 (Two 37 88) Minus 123450000 [] ∷ said 9 (One 32) Absent 0 (codes "@pjl") ∷ [])
+unfolding outcome start_at sequence_at prefix_at ungrouped_at parameter_at field_at parameter_checks operation_of lines_from text_at
+lower_case_line = reading_of (escape (codes "%-12345X@pjl"))
+    (said 0 (Two 37 88) Minus 123450000 [] ∷ said 9 (One 32) Absent 0 (codes "@pjl") ∷ []) refl
+
 -- ---- first faults
 
 short_row : IsFault (escape (codes "*b5W") ++ 1 ∷ 2 ∷ 3 ∷ 4 ∷ []) (refusal Truncated 0 (Three 42 98 87))
@@ -119,16 +131,6 @@ no_second_move = fault_of (escape (codes "*p0x")) (refusal Truncated 5 (Two 42 1
 backspace : IsFault (8 ∷ []) (refusal UnsupportedCommand 0 (One 8))
 unfolding outcome start_at named_at operation_of
 backspace = fault_of (8 ∷ []) (refusal UnsupportedCommand 0 (One 8)) refl
-
--- text isn't performed
-unknown_text : IsFault (7 ∷ codes "A") (refusal UnsupportedCommand 1 (One 32))
-unfolding outcome start_at text_at operation_of
-unknown_text = fault_of (7 ∷ codes "A") (refusal UnsupportedCommand 1 (One 32)) refl
-
--- nor is a line in lower case skipped
-lower_case_line : IsFault (escape (codes "%-12345X@pjl")) (refusal UnsupportedCommand 9 (One 32))
-unfolding outcome start_at sequence_at prefix_at ungrouped_at parameter_at field_at parameter_checks operation_of lines_from text_at
-lower_case_line = fault_of (escape (codes "%-12345X@pjl")) (refusal UnsupportedCommand 9 (One 32)) refl
 
 -- the second line asks for another language
 other_language : IsFault (escape (codes "%-12345X@PJL") ++ 10 ∷ codes "@PJL ENTER LANGUAGE=XL") (refusal NotPcl 14 (Two 37 88))

@@ -41,6 +41,30 @@ fn reads_a_job(rt: HostRuntime) -> Result<(), Fail> {
     Ok(())
 }
 
+// Runs of text go on as long as text does, and the data of fonts and of transparent text are theirs.
+#[test]
+fn reads_text(rt: HostRuntime) -> Result<(), Fail> {
+    let job = b" A\x00\x7f\xff\x0cB\x1b&p3X\x1bE\x0cC\x1b)s1W\x00\x1b(s0W";
+    let commands = read_job(rt.alloc(), job).ok().ok_or("the job is right")?;
+    let expected: [(usize, Name, &[u8]); 8] = [
+        (0, Name::TEXT, b" A"),
+        (3, Name::TEXT, b"\x7f\xff"),
+        (5, Name::One(12), b""),
+        (6, Name::TEXT, b"B"),
+        (7, Name::Three(b'&', b'p', b'X'), b"\x1bE\x0c"),
+        (15, Name::TEXT, b"C"),
+        (16, Name::Three(b')', b's', b'W'), b"\x00"),
+        (22, Name::Three(b'(', b's', b'W'), b""),
+    ];
+    assert_eq!(rt; commands.len(), expected.len());
+    for (command, (at, name, bytes)) in commands.iter().zip(expected) {
+        assert_eq!(rt; command.at, at);
+        assert_eq!(rt; command.name, name, "at {at}");
+        assert_eq!(rt; command.bytes, bytes, "at {at}");
+    }
+    Ok(())
+}
+
 // The fifth decimal is dropped before the range is tested.
 #[test]
 fn reads_the_greatest_values(rt: HostRuntime) -> Result<(), Fail> {
@@ -61,7 +85,7 @@ fn reads_sequences(rt: HostRuntime) -> Result<(), Fail> {
     let exit = Name::Two(b'%', b'X');
     let reset = Name::One(b'E');
     let clipping = Name::Three(b'&', b'd', b'@');
-    let read: [(&[u8], &[(usize, Name)]); 16] = [
+    let read: [(&[u8], &[(usize, Name)]); 20] = [
         (b"", &[]),
         (b"\x1b(8U", &[(0, Name::Two(b'(', b'U'))]),
         (b"\x1b)-.5@", &[(0, Name::Two(b')', b'@'))]),
@@ -96,6 +120,19 @@ fn reads_sequences(rt: HostRuntime) -> Result<(), Fail> {
         ),
         (b"\x1b%12345X\x1bE", &[(0, exit), (8, reset)]),
         (b"\x1b%-12344X\x1bE", &[(0, exit), (9, reset)]),
+        (
+            b"\x1b%-12345X@pjl x\n",
+            &[(0, exit), (9, Name::TEXT), (15, Name::One(10))],
+        ),
+        (b"\x1b%-12345X @PJL", &[(0, exit), (9, Name::TEXT)]),
+        (
+            b"\x1b%-12345X@PJL ENTER LANGUAGE=PCL\n@PJL x",
+            &[(0, exit), (33, Name::TEXT)],
+        ),
+        (
+            b"\x1b(3X\x1b)X",
+            &[(0, Name::Two(b'(', b'X')), (4, Name::Two(b')', b'X'))],
+        ),
     ];
     for (job, expected) in read {
         let commands = read_job(rt.alloc(), job).ok().ok_or("the job is right")?;
@@ -113,7 +150,7 @@ fn refuses(rt: HostRuntime) {
     let p_x = Name::Three(b'*', b'p', b'X');
     let b_w = Name::Three(b'*', b'b', b'W');
     let exit = Name::Two(b'%', b'X');
-    let refused: [(&[u8], Kind, usize, Name); 45] = [
+    let refused: [(&[u8], Kind, usize, Name); 35] = [
         (b"\x1b*b5WABCD", Kind::Truncated, 0, b_w),
         (b"\x1b*b1w\x80", Kind::BadSequence, 0, b_w),
         (b"\x1b*b-1w", Kind::ValueRange, 0, b_w),
@@ -149,12 +186,6 @@ fn refuses(rt: HostRuntime) {
         (b"\x1b%1\x00", Kind::BadSequence, 0, Name::One(b'%')),
         (b"\x1b(0s", Kind::BadSequence, 0, Name::One(b'(')),
         (b"\x1b(0`", Kind::BadSequence, 0, Name::One(b'(')),
-        (
-            b"\x1b(3X",
-            Kind::UnsupportedCommand,
-            0,
-            Name::Two(b'(', b'X'),
-        ),
         (b"\x1b(70000X", Kind::ValueRange, 0, Name::Two(b'(', b'X')),
         (
             b"\x1b%a0X",
@@ -163,36 +194,6 @@ fn refuses(rt: HostRuntime) {
             Name::Three(b'%', b'a', b'X'),
         ),
         (b"\x1b%-40000X", Kind::ValueRange, 0, exit),
-        (
-            b"\x1b%-12345X@pjl x\n",
-            Kind::UnsupportedCommand,
-            9,
-            Name::TEXT,
-        ),
-        (
-            b"\x1b%-12345X @PJL\n",
-            Kind::UnsupportedCommand,
-            9,
-            Name::TEXT,
-        ),
-        (
-            b"\x1b%-12345X@PJ\n",
-            Kind::UnsupportedCommand,
-            9,
-            Name::TEXT,
-        ),
-        (
-            b"\x1b%12345X@PJL\n",
-            Kind::UnsupportedCommand,
-            8,
-            Name::TEXT,
-        ),
-        (
-            b"\x1b%-12345X@PJL ENTER LANGUAGE=PCL\n@PJL x\n",
-            Kind::UnsupportedCommand,
-            33,
-            Name::TEXT,
-        ),
         (
             b"\x1b%-12345X@PJL ENTER LANGUAGE=HPGL\n",
             Kind::NotPcl,
@@ -225,10 +226,6 @@ fn refuses(rt: HostRuntime) {
             exit,
         ),
         (b"\x08", Kind::UnsupportedCommand, 0, Name::One(8)),
-        (b"A", Kind::UnsupportedCommand, 0, Name::TEXT),
-        (b"\x00A", Kind::UnsupportedCommand, 1, Name::TEXT),
-        (b" \x00A", Kind::UnsupportedCommand, 0, Name::TEXT),
-        (b"\x1bE\xff\x0bA", Kind::UnsupportedCommand, 2, Name::TEXT),
     ];
     for (job, kind, at, name) in refused {
         let fault = JobFault::Refused(Refusal { kind, at, name });

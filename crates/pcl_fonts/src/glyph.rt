@@ -1,8 +1,7 @@
 //! The characters of fonts.
 
-ghost use Rattle.std.specs.Prelude.{◌≡◌, ◌≤◌, length, true, false, MatchOption};
+ghost use Rattle.std.specs.Prelude.{◌≡◌, ◌≤◌, ◌+◌, ◌*◌, ◌/◌, length, true, false, MatchOption};
 ghost use Rattle.pcl_fonts.specs.Fields.{is_character, character_of, has_fixed_bytes, pattern_bytes};
-ghost use Rattle.pcl_fonts.specs.Table.{character_in};
 
 use crate::fields::{signed_word, word};
 
@@ -24,9 +23,12 @@ pub struct Glyph<'a> {
     pub delta: i16,
     /// The rows of the pattern, one after the other, each of whole bytes, the left bit the highest: a part of the job.
     pub rows: &'a [u8],
+    pub ghost whole: { height * ((width + 7) / 8) ≤ length rows.now },
 }
 
 impl<'a> Glyph<'a> {
+    ghost use Rattle.pcl_fonts.specs.Table.{character_in};
+
     /// Reads a character, none where its fixed bytes are others or its rows aren't all there.
     pub fn read(bytes: &'a [u8]) -> Option<Glyph<'a>>
         ensures { MatchOption result (is_character bytes.now ≡ false)

@@ -1,5 +1,5 @@
 -- Whole jobs of page texts are accepted, and mean the pages of the texts.
-use Rattle.std.proofs.Common.{◌≡◌, ℕ, ◌+◌, ◌*◌, ◌<◌, ◌≤◌, Bool, true, false, nat_le, List, [], ◌∷◌, ◌++◌, length, Option, Some, None, refl, sym, ap, subst, ◌∙◌, append_assoc, append-nil, length-append, arith, lit≤}
+use Rattle.std.proofs.Common.{◌≡◌, ℕ, ◌+◌, ◌*◌, ◌<◌, ◌≤◌, Bool, true, false, nat_le, List, [], ◌∷◌, ◌++◌, length, Option, Some, None, refl, sym, ap, subst, ◌∙◌, append_assoc, append-nil, length-append, arith, lit≤, Ok}
 use Rattle.std.specs.List.{flat_map}
 use Rattle.std.proofs.lemmas.Bool.Decides.{nat_tests}
 use Rattle.pcl_base.specs.declared.dpi.Dpi.{Dpi}
@@ -17,6 +17,8 @@ use Rattle.pcl_env.specs.Settings.{Settings, defaults}
 use Rattle.pcl_env.specs.Outcome.{outcome}
 use Rattle.pcl_bitmap.specs.Bitmap.{dot}
 use Rattle.pcl_page.specs.declared.page.Page.{Page}
+use Rattle.pcl_fonts.specs.declared.fonts.FontControl.TheVariants.{Temporary}
+use Rattle.pcl_fonts.specs.History.{control}
 use Rattle.pcl_page.specs.Marks.{Mark, is_black}
 use Rattle.pcl_page.specs.History.{ended, History, Sheet, Situation, at_begin, at_end, after, situation, page_refusal, command_refusal}
 use Rattle.pcl_page.specs.Performing.{Shows, Performance, after_end, after_command, after_all, performance, pages_of, with_operation, then_on}
@@ -31,7 +33,7 @@ use Rattle.pcl_meaning.proofs.Readings.{ReadsAs, reads_joined, reads_none}
 use Rattle.pcl_meaning.proofs.Sequences.{token_deeds, body_deeds, start_deeds, end_deeds, reset, body_read, start_read, end_read, frame_read}
 use Rattle.pcl_meaning.proofs.Following.{said_of, Leads, leads_append, commands_done}
 use Rattle.pcl_meaning.proofs.Dots.{page_dot}
-use Rattle.pcl_meaning.proofs.Printing.{IsBetween, between, pages_fit, text_deeds, text_taken}
+use Rattle.pcl_meaning.proofs.Printing.{IsBetween, reset_fonts, between, pages_fit, text_deeds, text_taken}
 
 -- ---- a page text
 
@@ -83,20 +85,24 @@ text_counted dpi size copies tokens =
 
 -- ---- between two resets
 
-reset_first : (dpi : Dpi) → after dpi Reset (said_of reset) at_begin ≡ Some (between defaults [] 1)
+reset_first : (dpi : Dpi) → after dpi Reset (said_of reset) at_begin ≡ Ok (between defaults [] 1)
 unfolding after outcome
 reset_first dpi = refl
 
+-- behind the second reset, which deletes the temporary fonts too
+abbrev closed : List Sheet → ℕ → Situation
+closed pages n = record (between defaults pages n) { fonts = control Temporary 0 0 ∷ reset_fonts }
+
 reset_last : (dpi : Dpi) (t : Settings) (pages : List Sheet) (n : ℕ)
-    → after dpi Reset (said_of reset) (between t pages n) ≡ Some (between defaults pages (n + 1))
+    → after dpi Reset (said_of reset) (between t pages n) ≡ Ok (closed pages (n + 1))
 unfolding after outcome
 reset_last dpi t pages n = refl
 
 -- the end of the input changes nothing behind a reset
-end_refused : (dpi : Dpi) (pages : List Sheet) (n : ℕ) → length pages ≤ 256 → page_refusal (at_end dpi (between defaults pages n)) ≡ None
-end_refused dpi pages n few = pages_fit (at_end dpi (between defaults pages n)) few
+end_refused : (dpi : Dpi) (pages : List Sheet) (n : ℕ) → length pages ≤ 256 → page_refusal (at_end dpi (closed pages n)) ≡ None
+end_refused dpi pages n few = pages_fit (at_end dpi (closed pages n)) few
 
-ended_there : (dpi : Dpi) (end : ℕ) (history : History) (pages : List Sheet) (n : ℕ) → situation dpi history ≡ between defaults pages n
+ended_there : (dpi : Dpi) (end : ℕ) (history : History) (pages : List Sheet) (n : ℕ) → situation dpi history ≡ closed pages n
     → length pages ≤ 256
     → performance dpi end history [] ≡ record { history = ended ∷ history; refusal = None }
 ended_there dpi end history pages n at few =
@@ -114,7 +120,7 @@ job_accepted dpi text deeds t pages n read leads fits few =
     let end = length (frame_bytes ++ text ++ frame_bytes) in
     let commands = commands_of 0 r.pieces in
     let first = between defaults [] 1 in
-    let last = between defaults pages (n + 1) in
+    let last = closed pages (n + 1) in
     let closes : Leads dpi (reset ∷ []) (between t pages n) last = (last, reset_last dpi t pages n, pages_fit last fits, refl) in
     let whole : Leads dpi all (situation dpi []) last =
     (first, reset_first dpi, pages_fit first (lit≤ tt), leads_append dpi deeds (reset ∷ []) first (between t pages n) last leads closes) in

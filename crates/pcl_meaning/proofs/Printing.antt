@@ -1,5 +1,5 @@
 -- Performing the deeds of a page text prints its page.
-use Rattle.std.proofs.Common.{◌≡◌, ℕ, zero, suc, ◌+◌, ◌-◌, ◌*◌, ◌/◌, ◌<◌, ◌≤◌, Bool, true, false, cond, ◌||◌, ◌&&◌, ◌==◌, nat_le, List, [], ◌∷◌, ◌++◌, length, drop, replicate, Option, Some, None, refl, sym, ap, subst, ◌∙◌, length-append, arith}
+use Rattle.std.proofs.Common.{◌≡◌, ℕ, zero, suc, ◌+◌, ◌-◌, ◌*◌, ◌/◌, ◌<◌, ◌≤◌, Bool, true, false, cond, ◌||◌, ◌&&◌, ◌==◌, nat_le, List, [], ◌∷◌, ◌++◌, length, drop, replicate, Option, Some, None, refl, sym, ap, subst, ◌∙◌, length-append, arith, Ok}
 use Rattle.std.specs.Prelude.{not, nat_lt}
 use Rattle.std.specs.List.{AllByRecursion}
 use Rattle.std.proofs.lemmas.List.{length-replicate}
@@ -25,9 +25,11 @@ use Rattle.pcl_env.specs.declared.effect.Effect.{Effect}
 use Rattle.pcl_env.specs.declared.effect.Effect.TheVariants as page
 use Rattle.pcl_env.specs.Settings.{Settings, put, put_x, put_y, to_first_line, with_size}
 use Rattle.pcl_env.specs.Outcome.{Outcome, stays, stays_if, set_top, before_feed, return_carriage, outcome}
+use Rattle.pcl_fonts.specs.declared.fonts.FontControl.TheVariants.{Temporary}
+use Rattle.pcl_fonts.specs.History.{FontEvent, control}
 use Rattle.pcl_page.specs.Marks.{Mark, is_black, dot_at}
 use Rattle.pcl_page.specs.Raster.{Raster, ends_raster, scale_of, raster_from, bytes_of_width, cleared_past, row_sent, row_mark}
-use Rattle.pcl_page.specs.History.{Sheet, Situation, below, ejects, end_raster, drawn, done_with, taken, after, sheet_of, page_refusal}
+use Rattle.pcl_page.specs.History.{Sheet, Situation, below, ejects, end_raster, drawn_on, done_with, taken, after, sheet_of, page_refusal}
 use Rattle.pcl_rows.specs.Rows.{IsRowData}
 use Rattle.pcl_rows.proofs.Decoded.{decoded_is}
 use Rattle.pcl_plan.specs.Tokens.{Token, opening, method, skip, send, PrintsRows}
@@ -47,9 +49,13 @@ pub record IsBetween (t : Settings) : Type 0 where
   pub method : t.method ≡ Plain
   pub height : t.raster_height ≡ None
 
+-- what a job of page texts does to fonts: the reset at its begin deletes the temporary ones
+abbrev pub reset_fonts : List FontEvent
+reset_fonts = control Temporary 0 0 ∷ []
+
 -- an unmarked page with no raster
 abbrev pub between : Settings → List Sheet → ℕ → Situation
-between t pages n = record { settings = t; raster = None; marks = []; pages = pages; performed = n }
+between t pages n = record { settings = t; raster = None; fonts = reset_fonts; marks = []; pages = pages; performed = n }
 
 -- as many pages as there may be
 pub pages_fit : (s : Situation) → length s.pages ≤ 256 → page_refusal s ≡ None
@@ -63,19 +69,19 @@ prepared_is dpi false t pages n = refl
 -- a command that sets something between texts
 set_between : (dpi : Dpi) (operation : Operation) (value : Value) (t t' : Settings) (effect : Effect) (pages : List Sheet) (n : ℕ)
     → outcome dpi operation value false t ≡ Some (t', effect) → ejects effect false ≡ false
-    → ((s : Situation) → drawn dpi operation (said_of (deed operation value [])) s ≡ s)
-    → after dpi operation (said_of (deed operation value [])) (between t pages n) ≡ Some (between t' pages (n + 1))
+    → ((s : Situation) → drawn_on dpi operation (said_of (deed operation value [])) s ≡ Ok s)
+    → after dpi operation (said_of (deed operation value [])) (between t pages n) ≡ Ok (between t' pages (n + 1))
 unfolding after
 set_between dpi operation value t t' effect pages n o e d =
     let command = said_of (deed operation value []) in
     let at = between t pages (n + 1) in
     ap (λ (z : Situation). taken dpi operation command z) (prepared_is dpi (ends_raster operation) t pages (n + 1))
     ∙ ap (λ (out : Outcome). done_with dpi operation command out at) o
-    ∙ ap (λ (test : Bool). Some
-    (drawn dpi operation command
+    ∙ ap (λ (test : Bool).
+    drawn_on dpi operation command
     (cond test (record at { settings = to_first_line t'; marks = []; pages = pages ++ sheet_of at ∷ [] })
-    (record at { settings = t' })))) e
-    ∙ ap (λ (z : Situation). Some z) (d (between t' pages (n + 1)))
+    (record at { settings = t' }))) e
+    ∙ d (between t' pages (n + 1))
 
 -- ---- what the begin of a text sets
 
@@ -149,6 +155,7 @@ abbrev in_body : Size → Dpi → Settings → Method → ℕ → List ℕ → L
 in_body size dpi t m k seed marks pages n = record {
   settings = record t { method = m };
   raster = Some (body_raster size dpi k seed);
+  fonts = reset_fonts;
   marks = marks;
   pages = pages;
   performed = n;
@@ -217,18 +224,20 @@ one_scale Dpi600 size top height h t =
 
 start_after : (size : Size) (dpi : Dpi) (copies : ℕ) (t : Settings) (pages : List Sheet) (n : ℕ) → IsBetween t
     → after dpi StartRaster (said_of (deed StartRaster (number_value 0) [])) (between (ready dpi size copies t) pages n)
-    ≡ Some (in_body size dpi (ready dpi size copies t) Plain 0 (zeros size dpi) [] pages (n + 1))
+    ≡ Ok (in_body size dpi (ready dpi size copies t) Plain 0 (zeros size dpi) [] pages (n + 1))
 unfolding after outcome
 start_after size dpi copies t pages n b =
     let at = ready dpi size copies t in
     let y : at.cursor.y ≡ 0 = omega arith in
     let raster : raster_from dpi 0 at ≡ body_raster size dpi 0 (zeros size dpi) =
     one_scale dpi size (dot_at dpi at.cursor.y) t.raster_height b.height (first_dot dpi at.cursor.y y) in
-    ap (λ (r : Raster). Some (record { settings = at; raster = Some r; marks = []; pages = pages; performed = n + 1 })) raster
-    ∙ ap (λ (m : Method). Some
+    ap (λ (r : Raster). Ok
+    (record { settings = at; raster = Some r; fonts = reset_fonts; marks = []; pages = pages; performed = n + 1 })) raster
+    ∙ ap (λ (m : Method). Ok
     (record {
       settings = record at { method = m };
       raster = Some (body_raster size dpi 0 (zeros size dpi));
+      fonts = reset_fonts;
       marks = [];
       pages =
           pages;
@@ -302,7 +311,7 @@ start_leads size dpi copies t pages n b some few fits =
 method_after : (size : Size) (dpi : Dpi) (t : Settings) (m next : Method) (k : ℕ) (seed : List ℕ) (marks : List Mark) (pages : List Sheet)
     (n : ℕ)
     → after dpi RasterMethod (said_of (deed RasterMethod (number_value (method_code next)) [])) (in_body size dpi t m k seed marks pages n)
-    ≡ Some (in_body size dpi t next k seed marks pages (n + 1))
+    ≡ Ok (in_body size dpi t next k seed marks pages (n + 1))
 unfolding after outcome
 method_after size dpi t m Plain k seed marks pages n = refl
 method_after size dpi t m Runs k seed marks pages n = refl
@@ -312,10 +321,10 @@ method_after size dpi t m Delta k seed marks pages n = refl
 skip_after : (size : Size) (dpi : Dpi) (t : Settings) (m : Method) (count k : ℕ) (seed : List ℕ) (marks : List Mark) (pages : List Sheet)
     (n : ℕ)
     → after dpi RasterOffset (said_of (deed RasterOffset (number_value count) [])) (in_body size dpi t m k seed marks pages n)
-    ≡ Some (in_body size dpi t m (k + count) (zeros size dpi) marks pages (n + 1))
+    ≡ Ok (in_body size dpi t m (k + count) (zeros size dpi) marks pages (n + 1))
 unfolding after outcome
 skip_after size dpi t m count k seed marks pages n =
-    ap (λ (c : ℕ). Some (in_body size dpi t m (k + c) (zeros size dpi) marks pages (n + 1))) (whole_is count)
+    ap (λ (c : ℕ). Ok (in_body size dpi t m (k + c) (zeros size dpi) marks pages (n + 1))) (whole_is count)
 
 abbrev sent_mark : Size → Dpi → ℕ → List ℕ → List ℕ → Mark
 sent_mark size dpi k seed row = row_mark row (body_raster size dpi k seed)
@@ -324,10 +333,10 @@ row_after : (size : Size) (dpi : Dpi) (t : Settings) (m : Method) (k : ℕ) (see
     (pages : List Sheet) (n : ℕ)
     → row_sent m bytes (body_raster size dpi k seed) ≡ row
     → after dpi RasterRow (said_of (deed RasterRow (number_value (length bytes)) bytes)) (in_body size dpi t m k seed marks pages n)
-    ≡ Some (in_body size dpi t m (k + 1) row (sent_mark size dpi k seed row ∷ marks) pages (n + 1))
+    ≡ Ok (in_body size dpi t m (k + 1) row (sent_mark size dpi k seed row ∷ marks) pages (n + 1))
 unfolding after outcome
 row_after size dpi t m k seed row bytes marks pages n e =
-    ap (λ (r : List ℕ). Some (in_body size dpi t m (k + 1) r (sent_mark size dpi k seed r ∷ marks) pages (n + 1))) e
+    ap (λ (r : List ℕ). Ok (in_body size dpi t m (k + 1) r (sent_mark size dpi k seed r ∷ marks) pages (n + 1))) e
 
 -- the row that is sent is the row that is printed
 sent_is : (size : Size) (dpi : Dpi) (m : Method) (k : ℕ) (seed row bytes : List ℕ) → IsRowData m seed row bytes → IsRowOf size dpi row
@@ -455,14 +464,14 @@ behind size dpi t m k seed = record (put (below dpi (body_raster size dpi k seed
 
 end_after : (size : Size) (dpi : Dpi) (t : Settings) (m : Method) (k : ℕ) (seed : List ℕ) (marks : List Mark) (pages : List Sheet) (n : ℕ)
     → after dpi EndRasterResetMethod (said_of (deed EndRasterResetMethod (number_value 0) [])) (in_body size dpi t m k seed marks pages n)
-    ≡ Some (record { settings = behind size dpi t m k seed; raster = None; marks = marks; pages = pages; performed = n + 1 })
+    ≡ Ok (record (between (behind size dpi t m k seed) pages (n + 1)) { marks = marks })
 unfolding after outcome
 end_after size dpi t m k seed marks pages n = refl
 
 feed_after : (dpi : Dpi) (u : Settings) (marks : List Mark) (pages : List Sheet) (n : ℕ)
     → after dpi FormFeed (said_of (deed FormFeed zero_value []))
-    (record { settings = u; raster = None; marks = marks; pages = pages; performed = n })
-    ≡ Some (between (to_first_line (before_feed u)) (pages ++ record { size = u.size; copies = u.copies; marks = marks } ∷ []) (n + 1))
+    (record { settings = u; raster = None; fonts = reset_fonts; marks = marks; pages = pages; performed = n })
+    ≡ Ok (between (to_first_line (before_feed u)) (pages ++ record { size = u.size; copies = u.copies; marks = marks } ∷ []) (n + 1))
 unfolding after outcome
 feed_after dpi u marks pages n = refl
 
@@ -485,7 +494,7 @@ end_leads : (size : Size) (dpi : Dpi) (t : Settings) (m : Method) (k : ℕ) (see
     (between (ended_at size dpi t m k seed) (pages ++ record { size = t.size; copies = t.copies; marks = marks } ∷ []) (n + 1 + 1))
 end_leads size dpi t m k seed marks pages n none few =
     let u = behind size dpi t m k seed in
-    let middle : Situation = record { settings = u; raster = None; marks = marks; pages = pages; performed = n + 1 } in
+    let middle : Situation = record { settings = u; raster = None; fonts = reset_fonts; marks = marks; pages = pages; performed = n + 1 } in
     let more = pages ++ record { size = t.size; copies = t.copies; marks = marks } ∷ [] in
     let last = between (to_first_line (before_feed u)) more (n + 1 + 1) in
     let sheet : Sheet = record { size = t.size; copies = t.copies; marks = marks } in

@@ -21,7 +21,7 @@ use Rattle.pcl_env.specs.Outcome.{Outcome, outcome}
 use Rattle.pcl_page.specs.declared.page.Page.{Page}
 use Rattle.pcl_page.specs.declared.performer.Performer.{Performer}
 use Rattle.pcl_page.specs.Raster.{ends_raster}
-use Rattle.pcl_page.specs.History.{performed, ended, History, Sheet, Situation, is_marked, ejects, sheet_of, end_raster, turned, drawn, done_with, taken, counted, prepared, is_ignored, situation, at_end, reached, after, page_refusal, command_refusal}
+use Rattle.pcl_page.specs.History.{performed, ended, History, Sheet, Situation, is_marked, ejects, sheet_of, end_raster, turned, drawn, draw_refusal, unless_refused, done_with, taken, counted, prepared, is_ignored, situation, at_end, reached, after, page_refusal, command_refusal}
 use Rattle.pcl_page.specs.Jobs.{AllShow, HasPages, IsPerformed, performance_of}
 use Rattle.pcl_page.specs.Performing.{Shows, IsSamePage, Hands, Performance, then_on, with_operation, after_command, after_all, after_end, performance, pages_of, HandsOver}
 use Rattle.pcl_page.specs.Reflecting.{IsIn, HandsMore, IsTried, result_of, CommandDone, EndDone}
@@ -63,8 +63,8 @@ refused_next dpi end history command commands kind some = ap (from_refusal dpi e
 
 -- the situation behind a command that was performed
 pub situation_next : (dpi : Dpi) (history : History) (command : Said) (operation : Operation) (later : Situation)
-    → after dpi operation command (situation dpi history) ≡ Some later → situation dpi (performed operation command ∷ history) ≡ later
-situation_next dpi history command operation later e = ap (λ (o : Option Situation). reached o (situation dpi history)) e
+    → after dpi operation command (situation dpi history) ≡ Ok later → situation dpi (performed operation command ∷ history) ≡ later
+situation_next dpi history command operation later e = ap (λ (o : Result Situation Kind). reached o (situation dpi history)) e
 
 -- ---- what is performed later only adds pages
 
@@ -83,17 +83,23 @@ adds_turned : (settings : Settings) (effect : Effect) (s : Situation) (test : Bo
 adds_turned settings effect s true e = (sheet_of s ∷ [], rw e refl)
 adds_turned settings effect s false e = ([], rw e (sym (append-nil s.pages)))
 
+adds_on : (dpi : Dpi) (operation : Operation) (command : Said) (s now later : Situation) (why : Option Kind) → Adds s now
+    → unless_refused why (drawn dpi operation command now) ≡ Ok later → Adds s later
+adds_on dpi operation command s now later None t e =
+    let same : drawn dpi operation command now ≡ later = cc in
+    (t.0, ap (λ (z : Situation). z.pages) (sym same) ∙ drawn_pages dpi operation command now ∙ t.1)
+adds_on dpi operation command s now later (Some kind) t e = absurd cc
+
 adds_drawn : (dpi : Dpi) (operation : Operation) (command : Said) (o : Outcome) (s later : Situation)
-    → done_with dpi operation command o s ≡ Some later → Adds s later
+    → done_with dpi operation command o s ≡ Ok later → Adds s later
 adds_drawn dpi operation command None s later e = absurd cc
 adds_drawn dpi operation command (Some done) s later e =
     let now = turned done.0 done.1 s in
-    let t = adds_turned done.0 done.1 s (ejects done.1 (is_marked s)) refl in
-    let same : drawn dpi operation command now ≡ later = cc in
-    (t.0, ap (λ (z : Situation). z.pages) (sym same) ∙ drawn_pages dpi operation command now ∙ t.1)
+    adds_on dpi operation command s now later (draw_refusal operation command now)
+    (adds_turned done.0 done.1 s (ejects done.1 (is_marked s)) refl) e
 
 adds_by : (dpi : Dpi) (operation : Operation) (command : Said) (s later : Situation) (ignored : Bool)
-    → cond ignored (Some (counted s)) (taken dpi operation command (prepared dpi operation (counted s))) ≡ Some later → Adds s later
+    → cond ignored (Ok (counted s)) (taken dpi operation command (prepared dpi operation (counted s))) ≡ Ok later → Adds s later
 adds_by dpi operation command s later true e = let same : counted s ≡ later =
     cc in adds_none s later (ap (λ (z : Situation). z.pages) (sym same))
 adds_by dpi operation command s later false e =
@@ -101,16 +107,16 @@ adds_by dpi operation command s later false e =
     let d = adds_drawn dpi operation command (outcome dpi operation command.value (is_marked before) before.settings) before later e in
     (d.0, d.1 ∙ ap (λ (ps : List Sheet). ps ++ d.0) (prepared_pages dpi (ends_raster operation) (counted s)))
 
-adds_after : (dpi : Dpi) (operation : Operation) (command : Said) (s later : Situation) → after dpi operation command s ≡ Some later
+adds_after : (dpi : Dpi) (operation : Operation) (command : Said) (s later : Situation) → after dpi operation command s ≡ Ok later
     → Adds s later
 unfolding after
 adds_after dpi operation command s later e = adds_by dpi operation command s later (is_ignored operation s) e
 
 -- an event that isn't refused only adds pages; one that is stays where it is
-adds_next : (dpi : Dpi) (operation : Operation) (command : Said) (s : Situation) (o : Option Situation) → after dpi operation command s ≡ o
-    → Adds s (reached o s)
-adds_next dpi operation command s None e = adds_none s s refl
-adds_next dpi operation command s (Some later) e = adds_after dpi operation command s later e
+adds_next : (dpi : Dpi) (operation : Operation) (command : Said) (s : Situation) (o : Result Situation Kind)
+    → after dpi operation command s ≡ o → Adds s (reached o s)
+adds_next dpi operation command s (Err kind) e = adds_none s s refl
+adds_next dpi operation command s (Ok later) e = adds_after dpi operation command s later e
 
 end_adds : (dpi : Dpi) (end : ℕ) (history : History) (kind : Option Kind)
     → Extends dpi (situation dpi history).pages (after_end end history kind)

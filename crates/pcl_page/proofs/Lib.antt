@@ -3,3 +3,4 @@ pub mod Painted
 pub mod Sizes
 pub mod Steps
 pub mod Jobs
+pub mod Printed

@@ -1,8 +1,13 @@
--- What a row inks that was decoded and painted.
-use Rattle.std.proofs.Common.{◌≡◌, ℕ, ◌+◌, ◌*◌, Bool, true, false, ◌||◌, ◌&&◌, List, ◌++◌, length, take, drop, sym, ap, ◌∙◌}
+-- What is inked: black over what was there, and a row that was decoded and painted.
+use Rattle.std.proofs.Common.{◌≡◌, ℕ, ◌+◌, ◌*◌, Bool, true, false, cond, ◌||◌, ◌&&◌, List, ◌++◌, length, take, drop, refl, sym, ap, ◌∙◌}
 use Rattle.std.proofs.lemmas.List.{take_at}
 use Rattle.pcl_bitmap.specs.Dots.{raster_dot}
 use Rattle.pcl_page.specs.Raster.{Raster, row_mark, is_below_height}
+
+-- black over another ink
+pub or_is : (covered before : Bool) → (covered || before) ≡ cond covered true before
+or_is true before = refl
+or_is false before = refl
 
 -- bytes that were written over a whole buffer
 pub written : (new items : List ℕ) (len : ℕ) → length new ≡ len → take len (new ++ drop (length new) items) ≡ new

@@ -7,7 +7,7 @@ use Rattle.pcl_base.specs.declared.operation.Axis.{Axis}
 use Rattle.pcl_base.specs.declared.operation.Axis.TheVariants.{Horizontal, Vertical}
 use Rattle.pcl_base.specs.declared.operation.Unit.{Unit as Measure}
 use Rattle.pcl_base.specs.declared.operation.Operation.{Operation}
-use Rattle.pcl_base.specs.declared.operation.Operation.TheVariants.{Reset, UniversalExit, ClearMargins, HalfLineFeed, HorizontalTab, LineFeed, FormFeed, CarriageReturn, Shift, PageSize, Copies, VerticalMotionIndex, LineSpacing, TopMargin, TextLength, PerforationSkip, OnlyZero, EjectMarked as EjectMarkedPage, UnitOfMeasure, HorizontalMotionIndex, LineTermination, LeftMargin, Move, CursorStack, MacroId, RectangleSize, FillRectangle, FontId, CharacterCode, RasterResolution, RasterWidth, RasterHeight, RasterPresentation, StartRaster, EndRaster, EndRasterResetMethod, RasterMethod, RasterOffset, RasterRow, NoEffect}
+use Rattle.pcl_base.specs.declared.operation.Operation.TheVariants.{Reset, UniversalExit, ClearMargins, HalfLineFeed, HorizontalTab, LineFeed, FormFeed, CarriageReturn, Shift, PageSize, Copies, VerticalMotionIndex, LineSpacing, TopMargin, TextLength, PerforationSkip, OnlyZero, EjectMarked as EjectMarkedPage, UnitOfMeasure, HorizontalMotionIndex, LineTermination, LeftMargin, Move, CursorStack, MacroId, RectangleSize, FillRectangle, FontId, CharacterCode, ControlFonts, DownloadFont, DownloadCharacter, SelectFont, PrintText, RasterResolution, RasterWidth, RasterHeight, RasterPresentation, StartRaster, EndRaster, EndRasterResetMethod, RasterMethod, RasterOffset, RasterRow, NoEffect}
 use Rattle.pcl_base.specs.declared.size.Size.{Size}
 use Rattle.pcl_base.specs.declared.value.Value.{Value}
 use Rattle.pcl_base.specs.Size.{size_with_code, units_wide, units_high}
@@ -159,6 +159,21 @@ keeps dpi FontId v m s =
 keeps dpi CharacterCode v m s =
     counted_keeps v s (λ n. stays_if (nat_le n 255) (record s { character_code = n }))
     (λ n. stays_if_keeps _ s _ refl)
+keeps dpi ControlFonts v m s =
+    counted_keeps v s (λ n. stays_if (nat_le n 5) s)
+    (λ n. stays_if_keeps _ s _ refl)
+keeps dpi DownloadFont v m s =
+    counted_keeps v s (λ n. stays s)
+    (λ n. stay_keeps s _ refl)
+keeps dpi DownloadCharacter v m s =
+    counted_keeps v s (λ n. stays s)
+    (λ n. stay_keeps s _ refl)
+keeps dpi (SelectFont side) v m s =
+    counted_keeps v s (λ n. stays s)
+    (λ n. stay_keeps s _ refl)
+keeps dpi PrintText v m s =
+    counted_keeps v s (λ n. stays s)
+    (λ n. stay_keeps s _ refl)
 keeps dpi RasterResolution v m s =
     counted_keeps v s (λ n. stays_if (is_one_of (resolutions dpi) n) (record s { resolution = n }))
     (λ n. stays_if_keeps _ s _ refl)

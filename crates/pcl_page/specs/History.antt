@@ -1,10 +1,10 @@
 -- What was performed, newest first; all else about a job follows from it.
-use Rattle.std.specs.Prelude.{ℕ, ◌+◌, ◌*◌, ◌==◌, ◌&&◌, is_some, Bool, true, false, nat_le, if◌then◌else◌, length, List, [], ◌∷◌, ◌++◌, Option, Some, None}
+use Rattle.std.specs.Prelude.{ℕ, ◌+◌, ◌*◌, ◌==◌, ◌&&◌, is_some, Bool, true, false, nat_le, if◌then◌else◌, length, List, [], ◌∷◌, ◌++◌, Option, Some, None, Result, Ok, Err}
 use Rattle.pcl_base.specs.declared.dpi.Dpi.{Dpi}
 use Rattle.pcl_base.specs.declared.kind.Kind.{Kind}
 use Rattle.pcl_base.specs.declared.kind.Kind.TheVariants.{UnsupportedCommand, UnsupportedValue, TooManyCommands, TooManyPages}
 use Rattle.pcl_base.specs.declared.operation.Operation.{Operation}
-use Rattle.pcl_base.specs.declared.operation.Operation.TheVariants.{FillRectangle, StartRaster, RasterOffset, RasterRow}
+use Rattle.pcl_base.specs.declared.operation.Operation.TheVariants.{Reset, UniversalExit, FillRectangle, ControlFonts, DownloadFont, DownloadCharacter, SelectFont, PrintText, StartRaster, RasterOffset, RasterRow}
 use Rattle.pcl_base.specs.declared.size.Size.{Size}
 use Rattle.pcl_base.specs.declared.value.Value.{Value}
 use Rattle.pcl_base.specs.Dpi.{units_per_dot}
@@ -17,9 +17,13 @@ use Rattle.pcl_bitmap.specs.Dots.{rectangle_dot}
 use Rattle.pcl_escape.specs.Said.{Said}
 use Rattle.pcl_env.specs.declared.effect.Effect.{Effect}
 use Rattle.pcl_env.specs.declared.effect.Effect.TheVariants.{Stay, Eject, EjectMarked}
-use Rattle.pcl_env.specs.Settings.{Position, Settings, defaults, put, to_first_line}
+use Rattle.pcl_env.specs.Settings.{Position, Settings, defaults, put, to_first_line, font_in_use}
 use Rattle.pcl_env.specs.Outcome.{Outcome, outcome}
+use Rattle.pcl_fonts.specs.declared.fonts.FontControl.TheVariants.{Temporary}
+use Rattle.pcl_fonts.specs.Fields.{Font, Character}
+use Rattle.pcl_fonts.specs.History.{FontEvent, header, character, control, font_after}
 use Rattle.pcl_page.specs.Marks.{Mark, are_marked, dot_at, dots_of}
+use Rattle.pcl_page.specs.Text.{selected_font, control_with, select_by_id, header_refusal, character_refusal, text_refusal, prints, character_mark, is_proportional, behind_character, behind_blank}
 use Rattle.pcl_page.specs.Raster.{Raster, raster_from, skipped, row_sent, with_row, row_mark, is_ignored_in_raster, ends_raster}
 
 -- a command that was performed, as it was said, or the end of the input, which acts as a reset
@@ -37,18 +41,18 @@ pub record Sheet : Type 0 where
   pub copies : ℕ
   pub marks : List Mark
 
--- where a job stands: what is set, the raster that has begun, the marks of the page, the newest first, the pages that were
--- ejected, in order,
--- and how many commands were performed
+-- where a job stands: what is set, the raster that has begun, what became of soft fonts, the newest first, the marks of the
+-- page, the newest first, the pages that were ejected, in order, and how many commands were performed
 pub record Situation : Type 0 where
   pub settings : Settings
   pub raster : Option Raster
+  pub fonts : List FontEvent
   pub marks : List Mark
   pub pages : List Sheet
   pub performed : ℕ
 
 abbrev pub at_begin : Situation
-at_begin = record { settings = defaults; raster = None; marks = []; pages = []; performed = 0 }
+at_begin = record { settings = defaults; raster = None; fonts = []; marks = []; pages = []; performed = 0 }
 
 abbrev pub is_marked : Situation → Bool
 is_marked s = are_marked s.marks
@@ -110,8 +114,58 @@ with_row_in dpi command r s =
     let row = row_sent s.settings.method command.bytes r in
     record s { raster = Some (with_row row r); marks = row_mark row r ∷ s.marks }
 
--- what a command draws, or does to the raster
+-- ---- fonts and text
+
+abbrev pub with_event : FontEvent → Situation → Situation
+with_event event s = record s { fonts = event ∷ s.fonts }
+
+-- a header and a character are for the ID and the code that were set last; no data are none
+abbrev pub with_font : List ℕ → Situation → Situation
+with_font [] s = s
+with_font (byte ∷ bytes) s = with_event (header s.settings.font_id (byte ∷ bytes)) s
+
+abbrev pub with_character : List ℕ → Situation → Situation
+with_character [] s = s
+with_character (byte ∷ bytes) s = with_event (character s.settings.font_id s.settings.character_code (byte ∷ bytes)) s
+
+abbrev pub fonts_controlled : ℕ → Situation → Situation
+fonts_controlled number s = with_event (control (control_with number) s.settings.font_id s.settings.character_code) s
+
+-- a reset deletes the temporary fonts
+abbrev pub without_temporary : Situation → Situation
+without_temporary s = with_event (control Temporary 0 0) s
+
+-- the font that is selected and in use, where it is there
+abbrev pub font_now : Situation → Option Font
+font_now s = selected_font s.fonts (font_in_use s.settings)
+
+-- one code: the character that it prints marks the page at the cursor, which goes on; else a space moves the cursor
+abbrev pub code_printed : Dpi → Bool → Option Character → ℕ → Situation → Situation
+code_printed dpi proportional None code s = record s { settings = behind_blank code s.settings }
+code_printed dpi proportional (Some c) code s =
+    record s { settings = behind_character proportional c s.settings; marks = character_mark dpi c s.settings ∷ s.marks }
+
+-- codes, by the characters that they print
+abbrev pub codes_printed : Dpi → Bool → (ℕ → Option Character) → List ℕ → Situation → Situation
+codes_printed dpi proportional characters [] s = s
+codes_printed dpi proportional characters (code ∷ codes) s =
+    codes_printed dpi proportional characters codes (code_printed dpi proportional (characters code) code s)
+
+abbrev pub text_printed : Dpi → List ℕ → Situation → Situation
+text_printed dpi codes s =
+    codes_printed dpi (is_proportional (font_now s)) (prints s.fonts (font_in_use s.settings)) codes s
+
+-- ---- what a command draws
+
+-- what a command draws, or does to the raster and to fonts
 abbrev pub drawn : Dpi → Operation → Said → Situation → Situation
+drawn dpi Reset command s = without_temporary s
+drawn dpi UniversalExit command s = without_temporary s
+drawn dpi ControlFonts command s = fonts_controlled (whole_of command.value) s
+drawn dpi DownloadFont command s = with_font command.bytes s
+drawn dpi DownloadCharacter command s = with_character command.bytes s
+drawn dpi (SelectFont side) command s = record s { settings = select_by_id side (whole_of command.value) s.fonts s.settings }
+drawn dpi PrintText command s = text_printed dpi command.bytes s
 drawn dpi FillRectangle command s = record s { marks = rectangle_mark dpi command.value s.settings ∷ s.marks }
 drawn dpi StartRaster command s =
     record s { raster = Some (raster_from dpi (if whole_of command.value == 0 then 0 else dot_at dpi s.settings.cursor.x) s.settings) }
@@ -119,14 +173,29 @@ drawn dpi RasterOffset command s = record s { raster = skipped_in (whole_of comm
 drawn dpi RasterRow command s = with_row_in dpi command (raster_for_row dpi s.raster s.settings) s
 drawn dpi other command s = s
 
+-- why a command isn't drawn whose value is taken
+abbrev pub draw_refusal : Operation → Said → Situation → Option Kind
+draw_refusal DownloadFont command s = header_refusal command.bytes
+draw_refusal DownloadCharacter command s = character_refusal command.bytes (font_after s.fonts s.settings.font_id)
+draw_refusal PrintText command s = text_refusal command.bytes (font_now s)
+draw_refusal other command s = None
+
 -- ---- one command
 
--- what becomes of the page is known before anything is drawn
-abbrev pub done_with : Dpi → Operation → Said → Outcome → Situation → Option Situation
-done_with dpi operation command None s = None
-done_with dpi operation command (Some done) s = Some (drawn dpi operation command (turned done.0 done.1 s))
+-- the situation, or why there is none
+abbrev pub unless_refused : Option Kind → Situation → Result Situation Kind
+unless_refused None s = Ok s
+unless_refused (Some kind) s = Err kind
 
-abbrev pub taken : Dpi → Operation → Said → Situation → Option Situation
+abbrev pub drawn_on : Dpi → Operation → Said → Situation → Result Situation Kind
+drawn_on dpi operation command s = unless_refused (draw_refusal operation command s) (drawn dpi operation command s)
+
+-- what becomes of the page is known before anything is drawn
+abbrev pub done_with : Dpi → Operation → Said → Outcome → Situation → Result Situation Kind
+done_with dpi operation command None s = Err UnsupportedValue
+done_with dpi operation command (Some done) s = drawn_on dpi operation command (turned done.0 done.1 s)
+
+abbrev pub taken : Dpi → Operation → Said → Situation → Result Situation Kind
 taken dpi operation command s = done_with dpi operation command (outcome dpi operation command.value (is_marked s) s.settings) s
 
 -- a raster that the command ends is ended first
@@ -139,14 +208,14 @@ is_ignored operation s = is_some s.raster && is_ignored_in_raster operation
 abbrev pub counted : Situation → Situation
 counted s = record s { performed = s.performed + 1 }
 
--- the situation after a command; none where its value isn't taken
-unfoldable pub after : Dpi → Operation → Said → Situation → Option Situation
+-- the situation after a command, or why it is refused, pages aside
+unfoldable pub after : Dpi → Operation → Said → Situation → Result Situation Kind
 after dpi operation command s =
-    if is_ignored operation s then Some (counted s) else taken dpi operation command (prepared dpi operation (counted s))
+    if is_ignored operation s then Ok (counted s) else taken dpi operation command (prepared dpi operation (counted s))
 
 -- the end of the input acts as a reset that counts nothing
 abbrev pub at_end : Dpi → Situation → Situation
-at_end dpi s = turned defaults EjectMarked (end_raster dpi s)
+at_end dpi s = without_temporary (turned defaults EjectMarked (end_raster dpi s))
 
 -- ---- histories
 
@@ -155,10 +224,10 @@ abbrev pub newest : List Situation → Situation
 newest [] = at_begin
 newest (s ∷ older) = s
 
--- an event whose value isn't taken is in no history of a job
-abbrev pub reached : Option Situation → Situation → Situation
-reached None s = s
-reached (Some s') s = s'
+-- an event that is refused is in no history of a job
+abbrev pub reached : Result Situation Kind → Situation → Situation
+reached (Err kind) s = s
+reached (Ok s') s = s'
 
 abbrev pub next : Dpi → Event → Situation → Situation
 next dpi (performed operation command) s = reached (after dpi operation command s) s
@@ -178,13 +247,13 @@ situation dpi history = newest (situations dpi history)
 abbrev pub page_refusal : Situation → Option Kind
 page_refusal s = if nat_le (length s.pages) page_limit then None else Some TooManyPages
 
-abbrev pub value_refusal : Option Situation → Option Kind
-value_refusal None = Some UnsupportedValue
-value_refusal (Some s) = page_refusal s
+abbrev pub refusal_after : Result Situation Kind → Option Kind
+refusal_after (Err kind) = Some kind
+refusal_after (Ok s) = page_refusal s
 
 abbrev pub operation_refusal : Dpi → Option Operation → Said → Situation → Option Kind
 operation_refusal dpi None command s = Some UnsupportedCommand
-operation_refusal dpi (Some operation) command s = value_refusal (after dpi operation command s)
+operation_refusal dpi (Some operation) command s = refusal_after (after dpi operation command s)
 
 -- why a command is refused, the first reason in order
 abbrev pub command_refusal : Dpi → Said → Situation → Option Kind

@@ -1,4 +1,5 @@
 pub mod Marks
+pub mod Text
 pub mod Raster
 pub mod History
 pub mod Performing

@@ -15,7 +15,9 @@ use Rattle.pcl_base.specs.Refusal.{refusal}
 use Rattle.pcl_base.specs.Size.{page_width, page_height}
 use Rattle.pcl_bitmap.specs.Bitmap.{Picture, dot}
 use Rattle.pcl_escape.specs.Said.{Said}
-use Rattle.pcl_env.specs.Settings.{to_first_line}
+use Rattle.pcl_env.specs.Settings.{Settings, to_first_line}
+use Rattle.pcl_fonts.specs.History.{FontEvent}
+use Rattle.pcl_fonts.specs.Table.{Holds, Follows}
 use Rattle.pcl_env.specs.Outcome.{Outcome}
 use Rattle.pcl_page.specs.declared.page.Page.{Page}
 use Rattle.pcl_page.specs.declared.performer.Performer.{Performer}
@@ -38,6 +40,7 @@ pub record IsIn (dpi : Dpi) (s : Situation) (performer : Performer) : Type 0 whe
   pub marked : performer.is_marked ≡ is_marked s
   pub ejected : performer.ejected ≡ length s.pages
   pub performed : performer.performed ≡ s.performed
+  pub fonts : Holds performer.fonts s.fonts
   pub painted : IsPainted dpi s.settings.size s.marks performer.page.bitmap
 
 -- no dot is black
@@ -50,6 +53,7 @@ pub record IsFollowed (old new : Performer) : Type 0 where
   pub raster : new.raster ≡ old.raster
   pub marked : new.is_marked ≡ old.is_marked
   pub ejected : new.ejected ≡ old.ejected
+  pub fonts : new.fonts ≡ old.fonts
   pub performed : new.performed ≡ old.performed
   pub size : new.page.bitmap.size ≡ old.environment.size
   pub resolution : new.page.bitmap.dpi ≡ old.page.bitmap.dpi
@@ -62,6 +66,7 @@ pub record IsEjected (old new : Performer) : Type 0 where
   pub raster : new.raster ≡ old.raster
   pub marked : new.is_marked ≡ false
   pub ejected : new.ejected ≡ old.ejected + 1
+  pub fonts : new.fonts ≡ old.fonts
   pub performed : new.performed ≡ old.performed
   pub size : new.page.bitmap.size ≡ old.page.bitmap.size
   pub resolution : new.page.bitmap.dpi ≡ old.page.bitmap.dpi
@@ -84,6 +89,7 @@ pub record HasRaster (raster : Option Raster) (old new : Performer) : Type 0 whe
   pub raster_is : new.raster ≡ raster
   pub marked : new.is_marked ≡ old.is_marked
   pub ejected : new.ejected ≡ old.ejected
+  pub fonts : new.fonts ≡ old.fonts
   pub performed : new.performed ≡ old.performed
   pub bitmap : new.page.bitmap ≡ old.page.bitmap
 
@@ -93,6 +99,7 @@ pub record IsPrepared (dpi : Dpi) (operation : Operation) (old new : Performer) 
   pub raster : new.raster ≡ (if ends_raster operation then None else old.raster)
   pub marked : new.is_marked ≡ old.is_marked
   pub ejected : new.ejected ≡ old.ejected
+  pub fonts : new.fonts ≡ old.fonts
   pub performed : new.performed ≡ old.performed
   pub bitmap : new.page.bitmap ≡ old.page.bitmap
 
@@ -101,11 +108,39 @@ pub record IsDrawn (mark : Mark) (old new : Performer) : Type 0 where
   pub settings : new.environment ≡ old.environment
   pub marked : new.is_marked ≡ true
   pub ejected : new.ejected ≡ old.ejected
+  pub fonts : new.fonts ≡ old.fonts
   pub performed : new.performed ≡ old.performed
   pub size : new.page.bitmap.size ≡ old.page.bitmap.size
   pub resolution : new.page.bitmap.dpi ≡ old.page.bitmap.dpi
   pub dots : (x y : ℕ) → x < page_width old.page.bitmap.size old.page.bitmap.dpi → y < page_height old.page.bitmap.size old.page.bitmap.dpi
       → dot new.page.bitmap x y ≡ (if mark.covers x y then is_black_ink mark.ink else dot old.page.bitmap x y)
+
+-- something became of fonts, and all else is as before
+pub record HasEvent (event : FontEvent) (old new : Performer) : Type 0 where
+  pub settings : new.environment ≡ old.environment
+  pub raster : new.raster ≡ old.raster
+  pub marked : new.is_marked ≡ old.is_marked
+  pub ejected : new.ejected ≡ old.ejected
+  pub performed : new.performed ≡ old.performed
+  pub follows : Follows old.fonts new.fonts event
+  pub bitmap : new.page.bitmap ≡ old.page.bitmap
+
+-- what is set is this, on a page of the same size, and all else is as before
+pub record HasSettings (settings : Settings) (old new : Performer) : Type 0 where
+  pub settings_are : new.environment ≡ settings
+  pub size : settings.size ≡ old.environment.size
+  pub raster : new.raster ≡ old.raster
+  pub marked : new.is_marked ≡ old.is_marked
+  pub ejected : new.ejected ≡ old.ejected
+  pub performed : new.performed ≡ old.performed
+  pub fonts : new.fonts ≡ old.fonts
+  pub bitmap : new.page.bitmap ≡ old.page.bitmap
+
+-- the situation was reached, or it is refused why, or memory ran out
+abbrev pub Draws : Dpi → Option Kind → Situation → Result (Unit {0}) CallFault → Performer → Type 0
+Draws dpi why s (Ok unit) new = (why ≡ None) × IsIn dpi s new
+Draws dpi why s (Err (Refused kind)) new = why ≡ Some kind
+Draws dpi why s (Err Memory) new = Unit {0}
 
 -- a row was sent to the raster that has begun, or to one that starts at the page's left edge
 pub record IsSent (dpi : Dpi) (bytes : List ℕ) (old new : Performer) : Type 0 where
@@ -140,14 +175,14 @@ abbrev pub IsTried : {S : Type 0} → (S → Page → S → Type 0) → Dpi → 
     → Type 0
 IsTried {S} takes dpi command s (Ok unit) new old_sink new_sink =
     (operation : Operation) × (later : Situation) × (operation_of command.name ≡ Some operation)
-    × (after dpi operation command s ≡ Some later)
+    × (after dpi operation command s ≡ Ok later)
     × (command_refusal dpi command s ≡ None) × IsIn dpi later new × HandsMore takes dpi s later old_sink new_sink
 IsTried {S} takes dpi command s (Err (Refused kind)) new old_sink new_sink =
     (command_refusal dpi command s ≡ Some kind) × (new_sink ≡ old_sink)
 IsTried {S} takes dpi command s (Err Memory) new old_sink new_sink =
     (new_sink ≡ old_sink)
     ⊎ ((operation : Operation) × (later : Situation) × (operation_of command.name ≡ Some operation)
-    × (after dpi operation command s ≡ Some later)
+    × (after dpi operation command s ≡ Ok later)
     × (command_refusal dpi command s ≡ None) × HandsMore takes dpi s later old_sink new_sink)
 
 -- the refusal of a command names it

@@ -1,10 +1,12 @@
 //! Performing a job: its commands become pages of dots, which are handed over one at a time.
 #![tactic(auto)]
 
+mod fonts;
 mod job;
 mod page;
 mod performer;
 mod raster;
+mod text;
 
 pub use job::{one_meaning, perform, read_pages, run};
 pub use page::{Page, PageSink};

@@ -12,15 +12,18 @@ use pcl_base::{
 use pcl_bitmap::{Bitmap, Ink};
 use pcl_env::{Effect, Env};
 use pcl_escape::Command;
+use pcl_fonts::Fonts;
 use std::alloc::{AllocError, Global};
 
 /// How far the performing of a job has come.
 #[derive(Drop)]
-pub struct Performer {
+pub struct Performer<'a> {
     /// What is set, and the cursor.
     pub environment: Env,
     /// The raster that has begun, if one has.
     pub raster: Option<Raster>,
+    /// The soft fonts that are there.
+    pub fonts: Fonts<'a>,
     /// The page that is being painted. Its copies are those of the page before until it is ejected.
     pub page: Page,
     /// Whether something on the page marks it.
@@ -35,7 +38,7 @@ pub struct Performer {
     ghost few_rows: { rows_in raster ≤ 2 ^ 20 * performed },
 }
 
-impl Performer {
+impl<'a> Performer<'a> {
     ghost use Rattle.std.specs.Prelude.{◌≡◌, ◌<◌, ◌==◌, ◌&&◌, is_some, ◌≤◌, ◌+◌, ◌*◌, ◌^◌, if◌then◌else◌, Some, IfOk, OnOk, OnErr};
     ghost use Rattle.pcl_base.specs.Value.{whole_of};
     ghost use Rattle.pcl_page.specs.Marks.{dot_at};
@@ -43,12 +46,12 @@ impl Performer {
     ghost use Rattle.pcl_base.specs.declared.dpi.Dpi.{Dpi};
     ghost use Rattle.pcl_escape.specs.Said.{Said, view};
     ghost use Rattle.pcl_env.specs.Outcome.{outcome};
-    ghost use Rattle.pcl_page.specs.History.{Situation, at_begin, is_marked, drawn, rectangle_mark, skipped_in};
+    ghost use Rattle.pcl_page.specs.History.{Situation, at_begin, is_marked, drawn, draw_refusal, rectangle_mark, skipped_in};
     ghost use Rattle.pcl_page.specs.declared.page.Page.{Page};
-    ghost use Rattle.pcl_page.specs.Reflecting.{IsIn, IsPrepared, HasRaster, Takes, IsFollowed, IsEjected, IsDrawn, IsSent, IsTurned, IsTried, CommandDone, EndDone};
+    ghost use Rattle.pcl_page.specs.Reflecting.{IsIn, IsPrepared, HasRaster, Takes, IsFollowed, IsEjected, IsDrawn, Draws, IsSent, IsTurned, IsTried, CommandDone, EndDone};
 
     /// The begin of a job: a white page, and the defaults.
-    pub fn new(alloc: Global, dpi: Dpi) -> Result<Performer, AllocError>
+    pub fn new(alloc: Global, dpi: Dpi) -> Result<Performer<'a>, AllocError>
         ensures { IfOk result (λ performer. IsIn dpi at_begin performer) }
     {
         let environment = Env::new();
@@ -61,6 +64,7 @@ impl Performer {
         Ok(Performer {
             environment,
             raster: None,
+            fonts: Fonts::new(alloc),
             page,
             is_marked: false,
             ejected: 0,
@@ -72,7 +76,7 @@ impl Performer {
     /// Performs a command, and hands over the page that it ejects.
     pub fn perform_command<S: PageSink>(
         &mut self,
-        command: &Command<'_>,
+        command: &Command<'a>,
         dpi: Dpi,
         sink: &mut S,
     ) -> Result<(), JobFault>
@@ -92,7 +96,7 @@ impl Performer {
     /// Performs a command, or says why it is refused.
     fn try_command<S: PageSink>(
         &mut self,
-        command: &Command<'_>,
+        command: &Command<'a>,
         dpi: Dpi,
         sink: &mut S,
     ) -> Result<(), CallFault>
@@ -198,18 +202,25 @@ impl Performer {
         Ok(())
     }
 
-    /// Draws what a command draws, and does to the raster what it does.
+    /// Draws what a command draws, and does to the raster and to fonts what it does, or says why it is refused.
     fn draw(
         &mut self,
         operation: Operation,
-        command: &Command<'_>,
+        command: &Command<'a>,
         dpi: Dpi,
-    ) -> Result<(), AllocError>
+    ) -> Result<(), CallFault>
         requires few { self.old.performed ≤ 2 ^ 27 }
         requires rows { rows_in self.old.raster + 2 ^ 20 ≤ 2 ^ 20 * self.old.performed }
-        ensures { OnOk result ((s : Situation) → IsIn dpi s self.old → IsIn dpi (drawn dpi operation (view command.now) s) self.new) }
+        ensures { (s : Situation) → IsIn dpi s self.old
+            → Draws dpi (draw_refusal operation (view command.now) s) (drawn dpi operation (view command.now) s) result self.new }
     {
         match operation {
+            Operation::Reset | Operation::UniversalExit => self.delete_temporary_fonts(),
+            Operation::ControlFonts => self.control_fonts(command.value),
+            Operation::DownloadFont => return self.download_font(command.bytes),
+            Operation::DownloadCharacter => return self.download_character(command.bytes),
+            Operation::SelectFont(side) => self.select_font(side, command.value),
+            Operation::PrintText => return self.print_text(command.bytes, dpi),
             Operation::FillRectangle => self.fill_rectangle(command.value, dpi),
             Operation::StartRaster => self.start_raster(command.value, dpi)?,
             Operation::RasterOffset => self.skip_rows(command.value),
@@ -277,7 +288,7 @@ impl Performer {
     /// Does what the end of the input does, `end` bytes from its begin: it acts as a reset. Nothing is
     /// performed behind it.
     pub fn finish<S: PageSink>(mut self, end: usize, sink: &mut S) -> Result<(), JobFault>
-        ensures { (dpi : Dpi) (s : Situation) → IsIn dpi s self → EndDone S.takes dpi end s result sink.old sink.new }
+        ensures { (dpi : Dpi) (s : Situation) → IsIn dpi s self.entry → EndDone S.takes dpi end s result sink.old sink.new }
     {
         if self.is_marked {
             if self.ejected >= PAGE_LIMIT {

@@ -160,7 +160,7 @@ fn command_lines(rt: HostRuntime) -> Result<(), Fail> {
             1,
             0,
             b"",
-            "pclmin: refused: UnsupportedCommand at 0 text\n",
+            "pclmin: refused: NoFont at 0 text\n",
         ),
         ("pclmin pbm", DOT, 2, 0, b"", "--page <N>"),
         ("pclmin pbm --page 0", DOT, 2, 0, b"", "'0'"),
@@ -246,7 +246,7 @@ fn lines_and_statuses(rt: HostRuntime) -> Result<(), Fail> {
         name: Name::Empty,
     };
     let text = Refusal {
-        kind: Kind::UnsupportedCommand,
+        kind: Kind::NoFont,
         at: 0,
         name: Name::TEXT,
     };
@@ -263,7 +263,7 @@ fn lines_and_statuses(rt: HostRuntime) -> Result<(), Fail> {
         ),
         (
             Fault::Refused(text),
-            "pclmin: refused: UnsupportedCommand at 0 text\n",
+            "pclmin: refused: NoFont at 0 text\n",
             1,
         ),
         (Fault::NoSuchPage, "pclmin: no page 2\n", 1),

@@ -52,6 +52,13 @@ impl Env {
             Operation::FillRectangle => stay_if(matches!(value.count(), Some(0 | 1 | 5))),
             Operation::FontId => self.set_font_id(value),
             Operation::CharacterCode => self.set_character_code(value),
+            Operation::ControlFonts => stay_if(matches!(value.count(), Some(0..=5))),
+            Operation::DownloadFont
+            | Operation::DownloadCharacter
+            | Operation::SelectFont(_)
+            | Operation::PrintText
+            | Operation::RasterOffset
+            | Operation::RasterRow => stay_if(value.count().is_some()),
             Operation::RasterResolution => self.set_raster_resolution(value, dpi),
             Operation::RasterWidth => self.set_raster_width(value),
             Operation::RasterHeight => self.set_raster_height(value),
@@ -60,7 +67,6 @@ impl Env {
             Operation::EndRaster | Operation::NoEffect => Ok(Effect::Stay),
             Operation::EndRasterResetMethod => self.reset_raster_method(),
             Operation::RasterMethod => self.set_raster_method(value),
-            Operation::RasterOffset | Operation::RasterRow => stay_if(value.count().is_some()),
         }
     }
 }

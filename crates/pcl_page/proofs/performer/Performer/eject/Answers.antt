@@ -10,6 +10,7 @@ returns-clause-ok g c = (
     marked = refl;
     ejected = refl;
     performed = refl;
+    fonts = refl;
     size = ap (λ (p : Picture). p.size) c.clear.ensures.blank;
     resolution = ap (λ (p : Picture). p.dpi) c.clear.ensures.blank;
     white = λ x y wide high. c.clear.ensures.dots x y;

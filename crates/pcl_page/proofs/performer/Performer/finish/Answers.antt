@@ -1,7 +1,12 @@
-use Rattle.std.proofs.Common.{arith}
-use Rattle.pcl_page.proofs.Steps.{end_marked, end_unmarked}
+use Rattle.std.proofs.Common.{refl, arith}
+use Rattle.pcl_base.specs.declared.kind.Kind.TheVariants.{TooManyPages}
+use Rattle.pcl_page.proofs.Steps.{end_marked, end_unmarked, end_past}
 use Rattle.pcl_page.proofs.performer.Performer.finish.Goals as goal
 use Rattle.pcl_page.proofs.performer.Performer.finish.Goals.{then-self+else-self-ge-PAGE_LIMIT+in_ok-eject, else-self}
+
+pub returns-then-self-ge-PAGE_LIMIT : goal.returns-then-self-ge-PAGE_LIMIT
+returns-then-self-ge-PAGE_LIMIT g c = λ dpi s i.
+    (TooManyPages, end_past dpi s c.args.self i c.if-self.true (omega (arith, c.if-self-ge-PAGE_LIMIT.true)), c.new.ensures, refl)
 
 pub returns : goal.returns
 returns g c = λ dpi s i.

@@ -3,13 +3,9 @@ use Rattle.pcl_base.specs.declared.method.Method.{Method}
 use Rattle.pcl_bitmap.specs.Bitmap.{dot}
 use Rattle.pcl_page.specs.Raster.{Raster, row_sent, with_row, row_mark}
 use Rattle.pcl_page.specs.History.{raster_for_row}
+use Rattle.pcl_page.proofs.Painted.{or_is}
 use Rattle.pcl_page.proofs.performer.Performer.send_row.Goals as goal
 use Rattle.pcl_page.proofs.performer.Performer.send_row.Goals.{in-Some, in-None+in_ok-raster-in-None}
-
--- black over another ink
-or_is : (covered before : Bool) → (covered || before) ≡ cond covered true before
-or_is true before = refl
-or_is false before = refl
 
 pub returns : goal.returns
 returns c =
@@ -34,6 +30,7 @@ returns c =
         marked = refl;
         ejected = refl;
         performed = refl;
+        fonts = refl;
         size = c.send.ensures.size;
         resolution = c.send.ensures.dpi;
         dots = λ x y wide high.

@@ -1,15 +1,15 @@
-use Rattle.std.proofs.Common.{◌<◌, ◌∙◌, refl, sym, inr, arith}
+use Rattle.std.proofs.Common.{◌<◌, ◌∙◌, Ok, Err, refl, sym, arith}
 use Rattle.std.proofs.lemmas.Result.{err_from_is_err_and}
 use Rattle.pcl_escape.specs.Said.{view}
-use Rattle.pcl_page.specs.History.{counted, prepared, drawn}
-use Rattle.pcl_page.proofs.Steps.{counted_in, prepared_in, AtTurn, tried_ignored, tried_refused, gone}
+use Rattle.pcl_page.specs.History.{counted, prepared}
+use Rattle.pcl_page.proofs.Steps.{counted_in, prepared_in, AtTurn, tried_ignored, tried_refused, gone, tried_drawn}
 use Rattle.pcl_page.proofs.performer.Performer.try_command.Goals as goal
 
 pub returns-then-is_ignored : goal.returns-then-is_ignored
 returns-then-is_ignored g c = λ s i.
     tried_ignored g.S.PageSink.takes c.args.dpi c.in-Some.operation (view c.args.command.now) s c.args.self.now _ c.args.sink.now i
     (omega arith) c.args.self.now.few_pages (sym c.in-Some.ensures) (sym c.is_ignored.ensures ∙ c.if-is_ignored.true)
-    (counted_in c.args.dpi s c.args.self.now _ i refl refl refl refl refl refl)
+    (counted_in c.args.dpi s c.args.self.now _ i refl refl refl refl refl refl refl)
 
 pub returns-in_err-turn : goal.returns-in_err-turn
 returns-in_err-turn g c = λ s i.
@@ -17,7 +17,7 @@ returns-in_err-turn g c = λ s i.
     let a : AtTurn c.args.dpi c.in-Some.operation (view c.args.command.now) s c.args.self.now =
     record { is_in = i; few = few; named = sym c.in-Some.ensures; performed = sym c.is_ignored.ensures ∙ c.if-is_ignored.false } in
     let before = prepared_in c.args.dpi c.in-Some.operation (counted s) _ c.prepare.new.self
-    (counted_in c.args.dpi s c.args.self.now _ i refl refl refl refl refl refl) c.prepare.ensures in
+    (counted_in c.args.dpi s c.args.self.now _ i refl refl refl refl refl refl refl) c.prepare.ensures in
     let p = err_from_is_err_and c.from_residual.result c.from_residual.ensures.1 in
     rw (p.1, p.2)
     (tried_refused g.S.PageSink.takes c.args.dpi c.in-Some.operation (view c.args.command.now) s c.args.self.now c.turn.new.self
@@ -30,20 +30,14 @@ returns-in_err-draw g c = λ s i.
     let a : AtTurn c.args.dpi c.in-Some.operation (view c.args.command.now) s c.args.self.now =
     record { is_in = i; few = few; named = sym c.in-Some.ensures; performed = sym c.is_ignored.ensures ∙ c.if-is_ignored.false } in
     let before = prepared_in c.args.dpi c.in-Some.operation (counted s) _ c.prepare.new.self
-    (counted_in c.args.dpi s c.args.self.now _ i refl refl refl refl refl refl) c.prepare.ensures in
+    (counted_in c.args.dpi s c.args.self.now _ i refl refl refl refl refl refl refl) c.prepare.ensures in
     let n = gone g.S.PageSink.takes c.args.dpi c.in-Some.operation (view c.args.command.now) s c.args.self.now c.turn.new.self
     c.args.sink.now c.turn.new.sink a
     (c.in_ok-turn.ensures.turned (prepared c.args.dpi c.in-Some.operation (counted s)) before) in
     let p = err_from_is_err_and c.from_residual-in_err-draw.result c.from_residual-in_err-draw.ensures.1 in
     rw (p.1, p.2)
-    (inr (
-      c.in-Some.operation,
-      drawn c.args.dpi c.in-Some.operation (view c.args.command.now) n.turned_to,
-      a.named,
-      n.after_is,
-      n.accepted,
-      n.handed,
-    ))
+    (tried_drawn g.S.PageSink.takes c.args.dpi c.in-Some.operation (view c.args.command.now) s c.args.self.now c.turn.new.self
+    c.draw.new.self c.args.sink.now c.turn.new.sink a n (Err c.in_err-draw.field-0.0) (c.in_err-draw.ensures n.turned_to n.is_in))
 
 pub returns : goal.returns
 returns g c = λ s i.
@@ -51,15 +45,9 @@ returns g c = λ s i.
     let a : AtTurn c.args.dpi c.in-Some.operation (view c.args.command.now) s c.args.self.now =
     record { is_in = i; few = few; named = sym c.in-Some.ensures; performed = sym c.is_ignored.ensures ∙ c.if-is_ignored.false } in
     let before = prepared_in c.args.dpi c.in-Some.operation (counted s) _ c.prepare.new.self
-    (counted_in c.args.dpi s c.args.self.now _ i refl refl refl refl refl refl) c.prepare.ensures in
+    (counted_in c.args.dpi s c.args.self.now _ i refl refl refl refl refl refl refl) c.prepare.ensures in
     let n = gone g.S.PageSink.takes c.args.dpi c.in-Some.operation (view c.args.command.now) s c.args.self.now c.turn.new.self
     c.args.sink.now c.turn.new.sink a
-    (c.in_ok-turn.ensures.turned (prepared c.args.dpi c.in-Some.operation (counted s)) before) in (
-      c.in-Some.operation,
-      drawn c.args.dpi c.in-Some.operation (view c.args.command.now) n.turned_to,
-      a.named,
-      n.after_is,
-      n.accepted,
-      c.in_ok-draw.ensures n.turned_to n.is_in,
-      n.handed,
-    )
+    (c.in_ok-turn.ensures.turned (prepared c.args.dpi c.in-Some.operation (counted s)) before) in
+    tried_drawn g.S.PageSink.takes c.args.dpi c.in-Some.operation (view c.args.command.now) s c.args.self.now c.turn.new.self
+    c.draw.new.self c.args.sink.now c.turn.new.sink a n (Ok tt) (c.in_ok-draw.ensures n.turned_to n.is_in)

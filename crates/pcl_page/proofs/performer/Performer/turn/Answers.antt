@@ -25,6 +25,7 @@ returns-in_err-follow_size-clause-turned g c = λ s i.
             ejected = refl;
             performed = refl;
             raster = refl;
+            fonts = refl;
             copies_are = c.copies-copies.ensures.value;
             is_ejected = w.in_ok-eject.ensures.ok.0;
             taken = w.in_ok-eject.ensures.ok.1;
@@ -50,6 +51,7 @@ returns-clause-turned g c = λ s i.
             ejected = refl;
             performed = refl;
             raster = refl;
+            fonts = refl;
             copies_are = c.copies-copies.ensures.value;
             is_ejected = w.in_ok-eject.ensures.ok.0;
             taken = w.in_ok-eject.ensures.ok.1;
@@ -66,5 +68,6 @@ returns-clause-turned g c = λ s i.
           i a (sym c.ejects.ensures ∙ w.if-ejects.false) c.args.self.now.few_pages
           (ap (λ (p : Performer). p.page.bitmap) w.self-is) (ap (λ (p : Performer). p.is_marked) w.self-is)
           (ap (λ (p : Performer). p.ejected) w.self-is)
-          (ap (λ (p : Performer). p.performed) w.self-is) (ap (λ (p : Performer). p.raster) w.self-is) c.in_ok-follow_size.ensures w.sink-is
+          (ap (λ (p : Performer). p.performed) w.self-is) (ap (λ (p : Performer). p.raster) w.self-is)
+          (ap (λ (p : Performer). p.fonts) w.self-is) c.in_ok-follow_size.ensures w.sink-is
     ]

@@ -1,0 +1,190 @@
+-- What is drawn, text and fonts: the performer follows the situation.
+use Rattle.std.proofs.Common.{◌≡◌, ℕ, suc, ◌+◌, ◌-◌, Bool, true, false, cond, List, [], ◌∷◌, Option, Some, None, ℤ, pos, negsuc, refl, sym, ap, subst, ◌∙◌}
+use Rattle.std.specs.Prelude.{◌==◌}
+use Rattle.pcl_base.specs.declared.dpi.Dpi.{Dpi}
+use Rattle.pcl_base.specs.declared.operation.Side.{Side}
+use Rattle.pcl_base.specs.declared.operation.Side.TheVariants.{Primary, Secondary}
+use Rattle.pcl_base.specs.declared.kind.Kind.TheVariants.{NoFont}
+use Rattle.pcl_base.specs.declared.value.Value.{Value}
+use Rattle.pcl_escape.specs.Said.{Said}
+use Rattle.pcl_fonts.specs.Fields.{Font, Character}
+use Rattle.pcl_fonts.specs.declared.header.FontInfo.{FontInfo}
+use Rattle.pcl_fonts.specs.History.{FontEvent}
+use Rattle.pcl_fonts.specs.Table.{info_of}
+use Rattle.pcl_env.specs.Settings.{Settings, put_x, advance, font_of, font_in_use}
+use Rattle.pcl_page.specs.declared.performer.Performer.{Performer}
+use Rattle.pcl_page.specs.Text.{prints, character_mark, is_blank, is_proportional, text_refusal, behind_character, behind_blank}
+use Rattle.pcl_page.specs.Raster.{Raster, row_sent, with_row, row_mark}
+use Rattle.pcl_page.specs.History.{Situation, with_event, with_row_in, raster_for_row, rectangle_mark, code_printed, codes_printed}
+use Rattle.pcl_page.specs.Reflecting.{IsIn, IsDrawn, IsSent, HasEvent, HasSettings}
+use Rattle.pcl_page.proofs.Steps.{painted_same, holds_same, drawn_in}
+
+pub event_in : {dpi : Dpi} {event : FontEvent} {s : Situation} {old new : Performer} → IsIn dpi s old → HasEvent event old new
+    → IsIn dpi (with_event event s) new
+event_in {dpi} {event} {s} {old} {new} i h = record {
+  settings = h.settings ∙ i.settings;
+  raster = h.raster ∙ i.raster;
+  marked = h.marked ∙ i.marked;
+  ejected = h.ejected ∙ i.ejected;
+  performed = h.performed ∙ i.performed;
+  fonts = h.follows s.fonts i.fonts;
+  painted = painted_same i.painted h.bitmap refl;
+}
+
+pub settings_in : {dpi : Dpi} {settings : Settings} {s : Situation} {old new : Performer} → IsIn dpi s old → HasSettings settings old new
+    → IsIn dpi (record s { settings = settings }) new
+settings_in {dpi} {settings} {s} {old} {new} i h = record {
+  settings = h.settings_are;
+  raster = h.raster ∙ i.raster;
+  marked = h.marked ∙ i.marked;
+  ejected = h.ejected ∙ i.ejected;
+  performed = h.performed ∙ i.performed;
+  fonts = holds_same i.fonts h.fonts refl;
+  painted = painted_same i.painted h.bitmap (h.size ∙ ap (λ (t : Settings). t.size) i.settings);
+}
+
+-- ---- rectangles and rows
+
+pub rectangle_in : {dpi : Dpi} {s : Situation} {old new : Performer} (value : Value) → IsIn dpi s old
+    → IsDrawn (rectangle_mark dpi value old.environment) old new → new.raster ≡ old.raster
+    → IsIn dpi (record s { marks = rectangle_mark dpi value s.settings ∷ s.marks }) new
+rectangle_in {dpi} {s} {old} {new} value i d r =
+    subst (λ (t : Settings). IsIn dpi (record s { marks = rectangle_mark dpi value t ∷ s.marks }) new) i.settings
+    (drawn_in dpi (rectangle_mark dpi value old.environment) s.raster s old new i d (r ∙ i.raster))
+
+-- the row that goes to a raster, by what is set and the raster
+abbrev row_drawn : List ℕ → Situation → Settings → Raster → Situation
+row_drawn bytes s t r =
+    let row = row_sent t.method bytes r in record s { raster = Some (with_row row r); marks = row_mark row r ∷ s.marks }
+
+pub row_in : {dpi : Dpi} {s : Situation} {old new : Performer} (command : Said) → IsIn dpi s old → IsSent dpi command.bytes old new
+    → IsIn dpi (with_row_in dpi command (raster_for_row dpi s.raster s.settings) s) new
+row_in {dpi} {s} {old} {new} command i m =
+    let bytes = command.bytes in
+    let raster : m.raster ≡ raster_for_row dpi s.raster s.settings =
+    m.raster_is ∙ ap (λ (r : Option Raster). raster_for_row dpi r old.environment) i.raster
+    ∙ ap (λ (t : Settings). raster_for_row dpi s.raster t) i.settings in
+    subst (λ (r : Raster). IsIn dpi (row_drawn bytes s s.settings r) new) raster
+    (subst (λ (t : Settings). IsIn dpi (row_drawn bytes s t m.raster) new) i.settings
+    (drawn_in dpi (row_mark (row_sent old.environment.method bytes m.raster) m.raster)
+    (Some (with_row (row_sent old.environment.method bytes m.raster) m.raster)) s old new i m.drawn m.sent))
+
+-- ---- one code
+
+pub character_printed : {dpi : Dpi} {s : Situation} {old middle new : Performer} (proportional : Bool) (c : Character) (code : ℕ)
+    → IsIn dpi s old → IsDrawn (character_mark dpi c old.environment) old middle → middle.raster ≡ old.raster
+    → HasSettings (behind_character proportional c middle.environment) middle new
+    → IsIn dpi (code_printed dpi proportional (Some c) code s) new
+character_printed {dpi} {s} {old} {middle} {new} proportional c code i d r h =
+    let inked : IsIn dpi (record s { marks = character_mark dpi c s.settings ∷ s.marks }) middle =
+    subst (λ (t : Settings). IsIn dpi (record s { marks = character_mark dpi c t ∷ s.marks }) middle) i.settings
+    (drawn_in dpi (character_mark dpi c old.environment) s.raster s old middle i d (r ∙ i.raster)) in
+    settings_in inked
+    (subst (λ (t : Settings). HasSettings (behind_character proportional c t) middle new) inked.settings h)
+
+pub blank_printed : {dpi : Dpi} {s : Situation} {old new : Performer} (proportional : Bool) (code : ℕ) → IsIn dpi s old
+    → HasSettings (behind_blank code old.environment) old new → IsIn dpi (code_printed dpi proportional None code s) new
+blank_printed {dpi} {s} {old} {new} proportional code i h =
+    settings_in i (subst (λ (t : Settings). HasSettings (behind_blank code t) old new) i.settings h)
+
+-- ---- all codes
+
+-- text moves the cursor and leaves the selections
+move_use : (side : Side) (x : ℕ) (s : Settings) → font_of side (put_x x s) ≡ font_of side s
+move_use Primary x s = refl
+move_use Secondary x s = refl
+
+advance_use : (units : ℤ) (s : Settings) → font_in_use (advance units s) ≡ font_in_use s
+advance_use (pos n) s = move_use s.in_use (s.cursor.x + n) s
+advance_use (negsuc n) s = move_use s.in_use (s.cursor.x - suc n) s
+
+blank_use : (space : Bool) (units : ℤ) (s : Settings) → font_in_use (cond space (advance units s) s) ≡ font_in_use s
+blank_use true units s = advance_use units s
+blank_use false units s = refl
+
+code_use : (dpi : Dpi) (proportional : Bool) (c : Option Character) (code : ℕ) (s : Situation)
+    → font_in_use (code_printed dpi proportional c code s).settings ≡ font_in_use s.settings
+code_use dpi proportional None code s = blank_use (code == 32) (pos s.settings.hmi) s.settings
+code_use dpi proportional (Some c) code s = advance_use _ s.settings
+
+code_fonts : (dpi : Dpi) (proportional : Bool) (c : Option Character) (code : ℕ) (s : Situation)
+    → (code_printed dpi proportional c code s).fonts ≡ s.fonts
+code_fonts dpi proportional None code s = refl
+code_fonts dpi proportional (Some c) code s = refl
+
+-- codes that are printed up to here, of codes that a situation begins with
+pub record IsPrintedTo (dpi : Dpi) (proportional : Bool) (s : Situation) (codes rest : List ℕ) (performer : Performer) : Type 0 where
+  pub now : Situation
+  pub is_in : IsIn dpi now performer
+  pub fonts : now.fonts ≡ s.fonts
+  pub in_use : font_in_use now.settings ≡ font_in_use s.settings
+  pub left : codes_printed dpi proportional (prints s.fonts (font_in_use s.settings)) rest now
+      ≡ codes_printed dpi proportional (prints s.fonts (font_in_use s.settings)) codes s
+
+-- the character of a code is that of the beginning
+pub same_character : {dpi : Dpi} {proportional : Bool} {s : Situation} {codes rest : List ℕ} {performer : Performer}
+    (p : IsPrintedTo dpi proportional s codes rest performer) (code : ℕ) (c : Option Character)
+    → c ≡ prints p.now.fonts (font_in_use p.now.settings) code → c ≡ prints s.fonts (font_in_use s.settings) code
+same_character {dpi} {proportional} {s} {codes} {rest} {performer} p code c e =
+    e ∙ ap (λ (es : List FontEvent). prints es (font_in_use p.now.settings) code) p.fonts
+    ∙ ap (λ (id : Option ℕ). prints s.fonts id code) p.in_use
+
+pub code_done : {dpi : Dpi} {proportional : Bool} {s : Situation} {codes rest : List ℕ} {performer later : Performer} (code : ℕ)
+    (c : Option Character) (p : IsPrintedTo dpi proportional s codes (code ∷ rest) performer)
+    → c ≡ prints p.now.fonts (font_in_use p.now.settings) code → IsIn dpi (code_printed dpi proportional c code p.now) later
+    → IsPrintedTo dpi proportional s codes rest later
+code_done {dpi} {proportional} {s} {codes} {rest} {performer} {later} code c p e i =
+    let characters = prints s.fonts (font_in_use s.settings) in
+    record {
+      now = code_printed dpi proportional c code p.now;
+      is_in = i;
+      fonts = code_fonts dpi proportional c code p.now ∙ p.fonts;
+      in_use = code_use dpi proportional c code p.now ∙ p.in_use;
+      left = ap (λ (o : Option Character). codes_printed dpi proportional characters rest (code_printed dpi proportional o code p.now))
+          (same_character p code c e) ∙ p.left;
+    }
+
+pub all_done : {dpi : Dpi} {proportional : Bool} {s : Situation} {codes rest : List ℕ} {performer : Performer}
+    → IsPrintedTo dpi proportional s codes rest performer → rest ≡ []
+    → IsIn dpi (codes_printed dpi proportional (prints s.fonts (font_in_use s.settings)) codes s) performer
+all_done {dpi} {proportional} {s} {codes} {rest} {performer} p e =
+    let characters = prints s.fonts (font_in_use s.settings) in
+    subst (λ (z : Situation). IsIn dpi z performer)
+    (sym (ap (λ (cs : List ℕ). codes_printed dpi proportional characters cs p.now) e) ∙ p.left) p.is_in
+
+pub none_done : {dpi : Dpi} {proportional : Bool} {s : Situation} {codes : List ℕ} {performer : Performer} → IsIn dpi s performer
+    → IsPrintedTo dpi proportional s codes codes performer
+none_done {dpi} {proportional} {s} {codes} {performer} i = record { now = s; is_in = i; fonts = refl; in_use = refl; left = refl }
+
+-- ---- with a font and without
+
+no_font : (font : Option Font) → None ≡ info_of font → font ≡ None
+no_font None e = refl
+no_font (Some font) e = absurd cc
+
+pub text_refused : (codes : List ℕ) (font : Option Font) → None ≡ info_of font → is_blank codes ≡ false
+    → text_refusal codes font ≡ Some NoFont
+text_refused codes font e blank =
+    ap (text_refusal codes) (no_font font e) ∙ ap (λ (b : Bool). cond b None (Some NoFont)) blank
+
+pub text_blank : (codes : List ℕ) (font : Option Font) → None ≡ info_of font → is_blank codes ≡ true → text_refusal codes font ≡ None
+text_blank codes font e blank =
+    ap (text_refusal codes) (no_font font e) ∙ ap (λ (b : Bool). cond b None (Some NoFont)) blank
+
+pub blank_advance : (font : Option Font) → None ≡ info_of font → is_proportional font ≡ false
+blank_advance font e = ap is_proportional (no_font font e)
+
+pub text_taken : (codes : List ℕ) (font : Option Font) (info : FontInfo) → Some info ≡ info_of font → text_refusal codes font ≡ None
+text_taken codes None info e = absurd cc
+text_taken codes (Some font) info e = refl
+
+pub text_advance : (font : Option Font) (info : FontInfo) → Some info ≡ info_of font → is_proportional font ≡ info.proportional
+text_advance None info e = absurd cc
+text_advance (Some font) info e =
+    let same : info ≡ record { proportional = font.proportional; pitch = font.pitch } = cc in
+    ap (λ (i : FontInfo). i.proportional) (sym same)
+
+pub printed_as : {dpi : Dpi} {one other : Bool} {new : Performer} (characters : ℕ → Option Character) (codes : List ℕ) (s : Situation)
+    → other ≡ one → IsIn dpi (codes_printed dpi one characters codes s) new → IsIn dpi (codes_printed dpi other characters codes s) new
+printed_as {dpi} {one} {other} {new} characters codes s e i =
+    subst (λ (b : Bool). IsIn dpi (codes_printed dpi b characters codes s) new) (sym e) i

@@ -1,0 +1,27 @@
+use Rattle.std.proofs.Common.{refl}
+use Rattle.pcl_escape.specs.Said.{view}
+use Rattle.pcl_page.proofs.Printed.{event_in, settings_in, rectangle_in, row_in}
+use Rattle.pcl_page.proofs.performer.Performer.draw.Goals as goal
+
+pub returns-in-DownloadFont : goal.returns-in-DownloadFont
+returns-in-DownloadFont c = λ s i. rw c.in-DownloadFont.is (c.download_font.ensures c.args.dpi s i)
+
+pub returns-in-DownloadCharacter : goal.returns-in-DownloadCharacter
+returns-in-DownloadCharacter c = λ s i. rw c.in-DownloadCharacter.is (c.download_character.ensures c.args.dpi s i)
+
+pub returns-in-PrintText : goal.returns-in-PrintText
+returns-in-PrintText c = λ s i. rw c.in-PrintText.is (c.print_text.ensures s i)
+
+pub returns-in-ControlFonts : goal.returns-in-ControlFonts
+returns-in-ControlFonts c = λ s i. rw c.in-ControlFonts.is (refl, event_in i (c.control_fonts.ensures c.args.dpi s i))
+
+pub returns-in-SelectFont : goal.returns-in-SelectFont
+returns-in-SelectFont c = λ s i. rw c.in-SelectFont.is (refl, settings_in i (c.select_font.ensures c.args.dpi s i))
+
+pub returns-in-FillRectangle : goal.returns-in-FillRectangle
+returns-in-FillRectangle c = λ s i. rw c.in-FillRectangle.is
+    (refl, rectangle_in c.args.command.now.value i c.fill_rectangle.ensures.drawn c.fill_rectangle.ensures.raster)
+
+pub returns-in_ok-send_row-in-RasterRow : goal.returns-in_ok-send_row-in-RasterRow
+returns-in_ok-send_row-in-RasterRow c = λ s i. rw c.in-RasterRow.is
+    (refl, row_in (view c.args.command.now) i c.in_ok-send_row-in-RasterRow.ensures)

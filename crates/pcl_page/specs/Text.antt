@@ -1,0 +1,96 @@
+-- Text: which characters its codes print, where they lie on the page, and how far the cursor goes.
+use Rattle.std.specs.Prelude.{ℕ, pos, ◌+ℤ◌, ◌-ℤ◌, ◌*ℤ◌, ◌==◌, nat_le, Bool, false, if◌then◌else◌, List, [], ◌∷◌, Option, Some, None}
+use Rattle.std.specs.List.{list_all}
+use Rattle.pcl_base.specs.declared.dpi.Dpi.{Dpi}
+use Rattle.pcl_base.specs.declared.kind.Kind.{Kind}
+use Rattle.pcl_base.specs.declared.kind.Kind.TheVariants.{FontHeader, CharacterData, NoFont}
+use Rattle.pcl_base.specs.declared.operation.Side.{Side}
+use Rattle.pcl_base.specs.Dpi.{fineness}
+use Rattle.pcl_bitmap.specs.declared.ink.Ink.TheVariants.{Black}
+use Rattle.pcl_bitmap.specs.Dots.{pattern_dot}
+use Rattle.pcl_fonts.specs.declared.fonts.FontControl.{FontControl}
+use Rattle.pcl_fonts.specs.declared.fonts.FontControl.TheVariants as fonts
+use Rattle.pcl_fonts.specs.Fields.{Font, Character, has_code, is_header, is_character}
+use Rattle.pcl_fonts.specs.History.{FontEvent, font_after, character_after}
+use Rattle.pcl_env.specs.Settings.{Settings, advance, select}
+use Rattle.pcl_page.specs.Marks.{Mark, dot_at}
+
+-- ---- fonts
+
+-- the font of the ID that is selected, where one is selected and its font is there
+abbrev pub selected_font : List FontEvent → Option ℕ → Option Font
+selected_font events None = None
+selected_font events (Some id) = font_after events id
+
+-- what a font control does by its number, 0 to 5
+abbrev pub control_with : ℕ → FontControl
+control_with number =
+    if number == 0 then fonts.All
+    else (if number == 1 then fonts.Temporary
+    else (if number == 2 then fonts.One
+    else (if number == 3 then fonts.OneCharacter
+    else (if number == 4 then fonts.MakeTemporary else fonts.MakePermanent))))
+
+-- a selection of a font that isn't there does nothing
+abbrev pub select_there : Side → ℕ → Option Font → Settings → Settings
+select_there side id None s = s
+select_there side id (Some font) s = select side id font.pitch s
+
+-- the font of an ID is selected; IDs have 16 bits
+abbrev pub select_by_id : Side → ℕ → List FontEvent → Settings → Settings
+select_by_id side id events s = if nat_le id 65535 then select_there side id (font_after events id) s else s
+
+-- ---- refusals
+
+-- no data are no header, and are not refused
+abbrev pub header_refusal : List ℕ → Option Kind
+header_refusal [] = None
+header_refusal (byte ∷ bytes) = if is_header (byte ∷ bytes) then None else Some FontHeader
+
+-- the same of a character; without a font its data aren't looked at
+abbrev pub character_refusal : List ℕ → Option Font → Option Kind
+character_refusal [] font = None
+character_refusal (byte ∷ bytes) None = None
+character_refusal (byte ∷ bytes) (Some font) = if is_character (byte ∷ bytes) then None else Some CharacterData
+
+-- codes that print nothing in any font but may move the cursor
+abbrev pub is_blank : List ℕ → Bool
+is_blank codes = list_all (λ code. nat_le code 32) codes
+
+-- without a font a code above 32 is refused
+abbrev pub text_refusal : List ℕ → Option Font → Option Kind
+text_refusal codes None = if is_blank codes then None else Some NoFont
+text_refusal codes (Some font) = None
+
+-- ---- codes
+
+-- the character that a code prints in a font: fonts of this type have the code, and the character is there
+abbrev pub prints_in : List FontEvent → ℕ → ℕ → Option Font → Option Character
+prints_in events id code None = None
+prints_in events id code (Some font) = if has_code font.type code then character_after events id code else None
+
+-- the same in the font of the ID that is selected
+abbrev pub prints : List FontEvent → Option ℕ → ℕ → Option Character
+prints events None code = None
+prints events (Some id) code = prints_in events id code (font_after events id)
+
+-- the dots of a character, whose pattern is given at 300 dots per inch, at the cursor
+abbrev pub character_mark : Dpi → Character → Settings → Mark
+character_mark dpi c s = record {
+  covers = pattern_dot (pos (dot_at dpi s.cursor.x) +ℤ c.left *ℤ pos (fineness dpi))
+      (pos (dot_at dpi s.cursor.y) -ℤ c.top *ℤ pos (fineness dpi)) (fineness dpi) c.width c.height c.rows;
+  ink = Black;
+}
+
+-- each character has an advance of its own, in quarter dots at 300 per inch
+abbrev pub is_proportional : Option Font → Bool
+is_proportional None = false
+is_proportional (Some font) = font.proportional
+
+-- the cursor behind a character
+abbrev pub behind_character : Bool → Character → Settings → Settings
+behind_character proportional c s = advance (if proportional then c.delta *ℤ pos 6 else pos s.hmi) s
+
+-- the cursor behind a code that prints no character
+abbrev pub behind_blank : ℕ → Settings → Settings
+behind_blank code s = if code == 32 then advance (pos s.hmi) s else s

@@ -1,0 +1,85 @@
+//! Soft fonts: what commands send, control and select.
+
+ghost use Rattle.std.specs.Prelude.{◌≡◌};
+ghost use Rattle.pcl_base.specs.Value.{whole_of};
+ghost use Rattle.pcl_page.specs.Text.{control_with};
+
+use crate::performer::Performer;
+use pcl_base::{CallFault, Side, Value};
+use pcl_fonts::FontControl;
+
+impl<'a> Performer<'a> {
+    ghost use Rattle.pcl_base.specs.declared.dpi.Dpi.{Dpi};
+    ghost use Rattle.pcl_fonts.specs.History.{control, font_after};
+    ghost use Rattle.pcl_page.specs.Text.{select_by_id, header_refusal, character_refusal};
+    ghost use Rattle.pcl_page.specs.History.{Situation, with_font, with_character, fonts_controlled, without_temporary};
+    ghost use Rattle.pcl_page.specs.Reflecting.{IsIn, HasEvent, HasSettings, Draws};
+
+    /// Takes the header of a font for the ID that is meant. Without data nothing happens.
+    pub fn download_font(&mut self, bytes: &'a [u8]) -> Result<(), CallFault>
+        ensures { (dpi : Dpi) (s : Situation) → IsIn dpi s self.old
+            → Draws dpi (header_refusal bytes.now) (with_font bytes.now s) result self.new }
+    {
+        if bytes.is_empty() {
+            return Ok(());
+        }
+        self.fonts.header(self.environment.font_id(), bytes)
+    }
+
+    /// Takes a character for the ID and the code that are meant. Without data, or without a font of the ID, nothing happens.
+    pub fn download_character(&mut self, bytes: &'a [u8]) -> Result<(), CallFault>
+        ensures { (dpi : Dpi) (s : Situation) → IsIn dpi s self.old
+            → Draws dpi (character_refusal bytes.now (font_after s.fonts s.settings.font_id)) (with_character bytes.now s) result self.new }
+    {
+        if bytes.is_empty() {
+            return Ok(());
+        }
+        let code = self.environment.character_code();
+        self.fonts
+            .character(self.environment.font_id(), code, bytes)
+    }
+
+    /// Does what a font control says to the font and the character that are meant.
+    pub fn control_fonts(&mut self, value: Value)
+        ensures { (dpi : Dpi) (s : Situation) → IsIn dpi s self.old
+            → HasEvent (control (control_with (whole_of value)) s.settings.font_id s.settings.character_code) self.old self.new }
+    {
+        let code = self.environment.character_code();
+        self.fonts
+            .control(self.environment.font_id(), code, control_with(value));
+    }
+
+    /// Deletes the temporary fonts, as a reset does.
+    pub fn delete_temporary_fonts(&mut self)
+        ensures { HasEvent (control FontControl.Temporary 0 0) self.old self.new }
+    {
+        self.fonts.control(0, 0, FontControl::Temporary);
+    }
+
+    /// Selects the font of an ID for a side, where it is there.
+    pub fn select_font(&mut self, side: Side, value: Value)
+        ensures { (dpi : Dpi) (s : Situation) → IsIn dpi s self.old
+            → HasSettings (select_by_id side (whole_of value) s.fonts s.settings) self.old self.new }
+    {
+        let Ok(id) = u16::try_from(value.whole().unsigned_abs()) else {
+            return;
+        };
+        if let Some(font) = self.fonts.font(id) {
+            self.environment.select(side, id, font.pitch);
+        }
+    }
+}
+
+/// What a font control does, by its value of 0 to 5.
+fn control_with(value: Value) -> FontControl
+    ensures { result ≡ control_with (whole_of value) }
+{
+    match value.whole().unsigned_abs() {
+        0 => FontControl::All,
+        1 => FontControl::Temporary,
+        2 => FontControl::One,
+        3 => FontControl::OneCharacter,
+        4 => FontControl::MakeTemporary,
+        _ => FontControl::MakePermanent,
+    }
+}

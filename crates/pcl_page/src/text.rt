@@ -1,0 +1,163 @@
+//! Text, printed in soft fonts.
+
+ghost use Rattle.std.specs.Prelude.{◌≡◌, ◌<◌, ◌≤◌, ◌^◌, pos, negsuc, ◌+ℤ◌, ◌-ℤ◌, ◌*ℤ◌, ◌≤ℤ◌};
+
+use crate::performer::Performer;
+use pcl_base::{CallFault, Dpi, Kind};
+use pcl_fonts::{FontInfo, Glyph};
+
+/// The code of a space.
+const SPACE: u8 = b' ';
+
+/// Units of 1/7200 inch in a quarter of a dot at 300 dots per inch.
+const QUARTER_DOT: i64 = 6;
+
+impl<'a> Performer<'a> {
+    ghost use Rattle.std.specs.Prelude.{ℕ, Some};
+    ghost use Rattle.std.specs.Option.{option_map};
+    ghost use Rattle.pcl_env.specs.Settings.{font_in_use};
+    ghost use Rattle.pcl_fonts.specs.Table.{character_in, info_of};
+    ghost use Rattle.pcl_page.specs.Text.{prints, character_mark, text_refusal, is_proportional, behind_character, behind_blank};
+    ghost use Rattle.pcl_page.specs.History.{Situation, font_now, text_printed, code_printed, codes_printed};
+    ghost use Rattle.pcl_page.specs.Reflecting.{IsIn, IsDrawn, HasSettings, Draws};
+
+    /// Prints the codes in the font that is selected and in use. Without one a code above that of a space is refused.
+    pub fn print_text(&mut self, codes: &[u8], dpi: Dpi) -> Result<(), CallFault>
+        ensures { (s : Situation) → IsIn dpi s self.old
+            → Draws dpi (text_refusal codes.now (font_now s)) (text_printed dpi codes.now s) result self.new }
+    {
+        match self.font_in_use() {
+            Some(font) => self.print_codes(codes, font.proportional, dpi),
+            None if is_blank(codes) => self.print_codes(codes, false, dpi),
+            None => return Err(CallFault::Refused(Kind::NoFont)),
+        }
+        Ok(())
+    }
+
+    /// The font that is selected and in use, if it is there.
+    fn font_in_use(&self) -> Option<FontInfo>
+        ensures { (dpi : Dpi) (s : Situation) → IsIn dpi s self.now → result ≡ info_of (font_now s) }
+    {
+        match self.environment.font_in_use() {
+            Some(id) => self.fonts.font(id),
+            None => None,
+        }
+    }
+
+    /// Prints one code after the other.
+    fn print_codes(&mut self, codes: &[u8], proportional: bool, dpi: Dpi)
+        ensures { (s : Situation) → IsIn dpi s self.old
+            → IsIn dpi (codes_printed dpi proportional (prints s.fonts (font_in_use s.settings)) codes.now s) self.new }
+    {
+        for code in codes {
+            match self.glyph(*code) {
+                Some(glyph) => self.print_glyph(&glyph, proportional, dpi),
+                None => self.pass_blank(*code),
+            }
+        }
+    }
+
+    /// The character that a code prints in the font in use.
+    fn glyph(&self, code: u8) -> Option<Glyph<'a>>
+        ensures { (dpi : Dpi) (s : Situation) → IsIn dpi s self.now
+            → option_map character_in result ≡ prints s.fonts (font_in_use s.settings) code }
+    {
+        match self.environment.font_in_use() {
+            Some(id) => self.fonts.glyph(id, code),
+            None => None,
+        }
+    }
+
+    /// Prints a character at the cursor, and moves on.
+    fn print_glyph(&mut self, glyph: &Glyph<'a>, proportional: bool, dpi: Dpi)
+        ensures { (s : Situation) (code : ℕ) → IsIn dpi s self.old
+            → IsIn dpi (code_printed dpi proportional (Some (character_in glyph.now)) code s) self.new }
+    {
+        self.ink_glyph(glyph, dpi);
+        self.pass_glyph(glyph, proportional);
+    }
+
+    /// Inks a character at the cursor's dot.
+    fn ink_glyph(&mut self, glyph: &Glyph<'a>, dpi: Dpi)
+        ensures drawn { IsDrawn (character_mark dpi (character_in glyph.now) self.old.environment) self.old self.new }
+        ensures raster { self.new.raster ≡ self.old.raster }
+    {
+        let x = right_of(self.environment.x() / dpi.unit(), glyph.left, dpi);
+        let y = above(self.environment.y() / dpi.unit(), glyph.top, dpi);
+        let scale = fineness(dpi);
+        self.page
+            .bitmap
+            .blit(x, y, glyph.width, glyph.height, glyph.rows, scale);
+        self.is_marked = true;
+    }
+
+    /// Moves on behind a character.
+    fn pass_glyph(&mut self, glyph: &Glyph<'a>, proportional: bool)
+        ensures { HasSettings (behind_character proportional (character_in glyph.now) self.old.environment) self.old self.new }
+    {
+        let units = if proportional {
+            i64::from(glyph.delta) * QUARTER_DOT
+        } else {
+            i64::from(self.environment.hmi())
+        };
+        self.environment.advance(units);
+    }
+
+    /// Moves on where the code is a space, since it prints no character.
+    fn pass_blank(&mut self, code: u8)
+        ensures { HasSettings (behind_blank code self.old.environment) self.old self.new }
+    {
+        if code == SPACE {
+            let units = i64::from(self.environment.hmi());
+            self.environment.advance(units);
+        }
+    }
+}
+
+ghost use Rattle.pcl_base.specs.Dpi.{fineness};
+ghost use Rattle.pcl_page.specs.Text.{is_blank};
+
+/// How many dots wide and high a bit of a pattern is, which is one at 300 dots per inch.
+fn fineness(dpi: Dpi) -> u32
+    ensures value { result ≡ fineness dpi }
+    ensures small { (1 ≤ result) × (result ≤ 2) }
+{
+    match dpi {
+        Dpi::Dpi300 => 1,
+        Dpi::Dpi600 => 2,
+    }
+}
+
+/// The dot that lies so many bits of a pattern right of a dot.
+fn right_of(dot: u32, bits: i16, dpi: Dpi) -> i32
+    requires { dot < 2 ^ 30 }
+    ensures { result ≡ pos dot +ℤ bits *ℤ pos (fineness dpi) }
+{
+    dot as i32 + spread(bits, dpi)
+}
+
+/// The dot that lies so many bits of a pattern above a dot.
+fn above(dot: u32, bits: i16, dpi: Dpi) -> i32
+    requires { dot < 2 ^ 30 }
+    ensures { result ≡ pos dot -ℤ bits *ℤ pos (fineness dpi) }
+{
+    dot as i32 - spread(bits, dpi)
+}
+
+/// How many dots so many bits of a pattern are.
+fn spread(bits: i16, dpi: Dpi) -> i32
+    ensures value { result ≡ bits *ℤ pos (fineness dpi) }
+    ensures small { (negsuc 65535 ≤ℤ result) × (result ≤ℤ pos 65535) }
+{
+    match dpi {
+        Dpi::Dpi300 => i32::from(bits),
+        Dpi::Dpi600 => i32::from(bits) * 2,
+    }
+}
+
+/// Whether no code is above that of a space.
+fn is_blank(codes: &[u8]) -> bool
+    ensures { result ≡ is_blank codes.now }
+{
+    codes.iter().all(|code| *code <= SPACE)
+}
