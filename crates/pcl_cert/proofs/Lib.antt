@@ -8,3 +8,6 @@ pub mod ListsSpelled
 pub mod PagesSpelled
 pub mod Written
 pub mod KeptLists
+pub mod FixedParts
+pub mod RowPlaces
+pub mod ProvedLeast

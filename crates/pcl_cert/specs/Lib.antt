@@ -3,3 +3,4 @@ pub mod Certificates
 pub mod ReadingCertificates
 pub mod PageTables
 pub mod Listing
+pub mod Checking

@@ -2,6 +2,7 @@
 //! prints the page is shorter, whoever made the certificate (docs/CERTIFICATE.md).
 #![tactic(auto)]
 
+mod check;
 mod fault;
 mod fields;
 mod format;
@@ -12,6 +13,7 @@ mod reading_certificates;
 mod tables;
 mod writing_certificates;
 
+pub use check::{Verdict, check_page, proved_texts_are_least};
 pub use fault::CertFault;
 pub use format::Format;
 pub use page_proof::PageProof;
@@ -19,3 +21,6 @@ pub use page_tables::row_tables;
 pub use reading_certificates::read_certificate;
 pub use tables::RowTables;
 pub use writing_certificates::write_certificate;
+
+#[cfg(test)]
+mod tests;

@@ -3,8 +3,6 @@
 ghost use Rattle.std.specs.Prelude.{◌≡◌, ◌+◌, ◌<◌, ◌≤◌, replicate, length, IfOk, OnOk};
 ghost use Rattle.pcl_base.specs.Size.{page_height, page_row_bytes};
 ghost use Rattle.pcl_coders.specs.Coding.{IsCodable};
-ghost use Rattle.pcl_plan.specs.Nodes.{row_above};
-ghost use Rattle.pcl_plan.specs.PageText.{bitmap_rows};
 ghost use Rattle.pcl_cert.specs.PageTables.{AreLeastTablesOf};
 ghost use Rattle.pcl_cert.specs.Listing.{AreWhole, HasRowMore, HoldsRowsOf};
 
@@ -12,6 +10,7 @@ use crate::listing::Lists;
 use crate::tables::{Bytes, RowTables};
 use pcl_base::ROW_LIMIT;
 use pcl_bitmap::Bitmap;
+use pcl_check::row_above;
 use pcl_coders::{Delta, Packed, Plain, RowCoder, Runs};
 use pcl_page::Page;
 use std::alloc::{AllocError, Global};
@@ -59,18 +58,4 @@ fn push_list<C: RowCoder>(
     let numbers = &mut numbers[..row.len() + 1];
     coder.places(row, seed, numbers);
     lists.push(numbers)
-}
-
-/// The row above row `y`, zeros above the topmost one.
-fn row_above<'a>(bitmap: &'a Bitmap, y: u32, zeros: &'a [u8]) -> &'a [u8]
-    requires row { y < page_height bitmap.now.size bitmap.now.dpi }
-    requires zeros { zeros.now ≡ replicate 600 0 }
-    ensures row { result.now ≡ row_above (page_row_bytes bitmap.now.size bitmap.now.dpi) (bitmap_rows bitmap.now) y }
-    ensures len { length result.now ≡ page_row_bytes bitmap.now.size bitmap.now.dpi }
-{
-    if y > 0 {
-        bitmap.row(y - 1)
-    } else {
-        &zeros[..bitmap.size().row_bytes(bitmap.dpi())]
-    }
 }

@@ -2,6 +2,5 @@ pub mod TextVerdicts
 pub mod Reading
 pub mod Edges
 pub mod EdgePasses
-pub mod EdgeLengths
 pub mod Places
 pub mod PlacePasses

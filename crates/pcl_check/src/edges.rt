@@ -18,7 +18,7 @@ use crate::costs::{is_within, row_cost};
 pub use found::BadNumber;
 use found::first_of;
 pub use laws::{good_numbers_are_feasible, numbers_by_bounds_are_feasible};
-pub use lengths::{ByFirstNumbers, FirstNumbers, LeastByCoders, RowLengths};
+pub use lengths::{LeastByCoders, RowLengths, row_above};
 use pcl_base::Method;
 use pcl_bitmap::Bitmap;
 use pcl_page::Page;

@@ -1,15 +1,13 @@
 //! The lengths that rows are counted with where the steps of a page are tested.
 
-ghost use Rattle.std.specs.Prelude.{◌≡◌, ℕ, ◌<◌, ◌≤◌, length, slice_index_or};
+ghost use Rattle.std.specs.Prelude.{◌≡◌, ℕ, ◌<◌, ◌≤◌, length, replicate};
 ghost use Rattle.pcl_base.specs.declared.method.Method.{Method as RowMethod};
 ghost use Rattle.pcl_base.specs.Size.{page_height, page_row_bytes};
 ghost use Rattle.pcl_coders.specs.Coding.{IsCodable, IsLeastLength};
 ghost use Rattle.pcl_page.specs.declared.page.Page.{Page as PageModel};
 ghost use Rattle.pcl_plan.specs.Nodes.{row_above};
 ghost use Rattle.pcl_plan.specs.PageText.{bitmap_rows};
-ghost use Rattle.std.specs.Prelude.{replicate};
 ghost use Rattle.pcl_check.specs.Edges.{IsLeastOfRow};
-ghost use Rattle.pcl_check.specs.EdgeLengths.{first_number, no_first_numbers};
 
 use pcl_base::{Method, ROW_LIMIT};
 use pcl_bitmap::Bitmap;
@@ -63,7 +61,7 @@ fn least_length(method: Method, row: &[u8], seed: &[u8]) -> usize
 }
 
 /// The row above row `y`, zeros above the topmost one.
-fn row_above<'a>(bitmap: &'a Bitmap, y: u32, zeros: &'a [u8]) -> &'a [u8]
+pub fn row_above<'a>(bitmap: &'a Bitmap, y: u32, zeros: &'a [u8]) -> &'a [u8]
     requires row { y < page_height bitmap.now.size bitmap.now.dpi }
     requires zeros { zeros.now ≡ replicate 600 0 }
     ensures row { result.now ≡ row_above (page_row_bytes bitmap.now.size bitmap.now.dpi) (bitmap_rows bitmap.now) y }
@@ -73,44 +71,5 @@ fn row_above<'a>(bitmap: &'a Bitmap, y: u32, zeros: &'a [u8]) -> &'a [u8]
         bitmap.row(y - 1)
     } else {
         &zeros[..bitmap.size().row_bytes(bitmap.dpi())]
-    }
-}
-
-/// The first numbers of a row's tables, one for each method.
-#[derive(Clone, Copy, Debug)]
-pub struct FirstNumbers {
-    pub plain: u16,
-    pub runs: u16,
-    pub packed: u16,
-    pub delta: u16,
-}
-
-impl FirstNumbers {
-    /// The number of a method.
-    fn get(&self, method: Method) -> u16
-        ensures { result ≡ first_number self.now method }
-    {
-        match method {
-            Method::Plain => self.plain,
-            Method::Runs => self.runs,
-            Method::Packed => self.packed,
-            Method::Delta => self.delta,
-        }
-    }
-}
-
-/// The first numbers of the row tables of a page, from the topmost row on.
-#[derive(Clone, Copy, Debug)]
-pub struct ByFirstNumbers<'a> {
-    pub rows: &'a [FirstNumbers],
-}
-
-impl RowLengths for ByFirstNumbers<'_> {
-    ghost covers = { λ self page. page_height page.size page.dpi ≤ length self.rows.now };
-
-    ghost counts = { λ self page row method bytes. bytes ≡ first_number (slice_index_or self.rows.now row no_first_numbers) method };
-
-    fn length(&self, _page: &Page, row: u32, method: Method) -> u32 {
-        u32::from(self.rows[row as usize].get(method))
     }
 }

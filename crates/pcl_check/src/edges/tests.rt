@@ -1,6 +1,6 @@
 use crate::{
-    BadNumber, ByFirstNumbers, FirstNumbers, LeastByCoders, RowLengths, first_bad_number,
-    good_numbers_are_feasible, numbers_by_bounds_are_feasible,
+    BadNumber, LeastByCoders, first_bad_number, good_numbers_are_feasible,
+    numbers_by_bounds_are_feasible,
 };
 use pcl_base::{Dpi, Method, Size};
 use pcl_bitmap::{Bitmap, Ink};
@@ -96,38 +96,5 @@ fn great_numbers(rt: HostRuntime) -> Result<(), AllocError> {
         inside: true,
     };
     assert_eq!(rt; found(&rt, rt.alloc(), &page, &table)?, Some(bad));
-    Ok(())
-}
-
-/// Rows that are counted with the first numbers of row tables.
-#[test]
-fn first_numbers(rt: HostRuntime) -> Result<(), AllocError> {
-    let page = dot_page(rt.alloc())?;
-    let table = dot_table(&rt, rt.alloc())?;
-    let white = FirstNumbers {
-        plain: 0,
-        runs: 0,
-        packed: 0,
-        delta: 0,
-    };
-    let mut rows = vec![in rt.alloc(); white; 3300]?;
-    assert!(rt; rows.len() == 3300);
-    rows[0] = FirstNumbers {
-        plain: 1,
-        runs: 2,
-        packed: 2,
-        delta: 2,
-    };
-    rows[1].delta = 2;
-    assert!(rt; rows.len() >= page.size.height(page.dpi) as usize);
-    assert!(rt; table.rows() == page.size.height(page.dpi));
-    let lengths = ByFirstNumbers {
-        rows: rows.as_slice(),
-    };
-    assert_eq!(rt; lengths.length(&page, 0, Method::Delta), 2);
-    assert_eq!(rt;
-        first_bad_number(rt.alloc(), &lengths, &page, &table)?,
-        None
-    );
     Ok(())
 }

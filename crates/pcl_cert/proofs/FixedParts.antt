@@ -1,0 +1,54 @@
+-- The length of the fixed part of a page text.
+use Rattle.std.proofs.Common.{◌≡◌, ℕ, ◌+◌, ◌/◌, ◌%◌, ◌<◌, ◌≤◌, List, [], ◌∷◌, ◌++◌, length, refl, sym, ap, ◌∙◌, arith, lit<}
+use Rattle.std.specs.Prelude.{decimal}
+use Rattle.std.specs.Fmt.{digits}
+use Rattle.std.proofs.lemmas.Fmt.{decimal_digit, decimal_step}
+use Rattle.std.proofs.lemmas.List.{length-append}
+use Rattle.pcl_base.specs.declared.dpi.Dpi.{Dpi}
+use Rattle.pcl_base.specs.declared.dpi.Dpi.TheVariants.{Dpi300, Dpi600}
+use Rattle.pcl_base.specs.declared.size.Size.{Size}
+use Rattle.pcl_base.specs.declared.size.Size.TheVariants.{Executive, Letter, Legal, A4}
+use Rattle.pcl_base.specs.Size.{code_of}
+use Rattle.pcl_plan.specs.Tokens.{start_bytes, end_bytes}
+use Rattle.pcl_plan.specs.LeastTexts.{fixed_bytes}
+use Rattle.pcl_check.specs.Reading.{raster_start}
+use Rattle.pcl_check.proofs.Beginnings.{start_is}
+
+raster_length : (size : Size) (dpi : Dpi) → length (raster_start size dpi) ≡ 26
+unfolding digits
+raster_length Executive Dpi300 = refl
+raster_length Letter Dpi300 = refl
+raster_length Legal Dpi300 = refl
+raster_length A4 Dpi300 = refl
+raster_length Executive Dpi600 = refl
+raster_length Letter Dpi600 = refl
+raster_length Legal Dpi600 = refl
+raster_length A4 Dpi600 = refl
+
+pub one_digit : (n : ℕ) → n < 10 → length (decimal n) ≡ 1
+one_digit n lt = ap length (decimal_digit n lt)
+
+pub two_digits : (n : ℕ) → 10 ≤ n → n < 100 → length (decimal n) ≡ 2
+two_digits n le lt =
+    ap length (decimal_step n le (omega arith)) ∙ length-append (decimal (n / 10)) ((48 + n % 10) ∷ [])
+    ∙ ap (λ (k : ℕ). k + 1) (one_digit (n / 10) (omega arith))
+
+pub fixed_length : (dpi : Dpi) (size : Size) (copies : ℕ) → fixed_bytes dpi size copies
+    ≡ 36 + length (decimal copies) + length (decimal (code_of size))
+fixed_length dpi size copies =
+    let whole = ap length (start_is dpi copies size []) in
+    omega (
+      arith,
+      whole,
+      length-append (start_bytes dpi copies size) [],
+      length-append (decimal copies) (120 ∷ (decimal (code_of size) ++ 97 ∷ (raster_start size dpi ++ []))),
+      length-append (decimal (code_of size)) (97 ∷ (raster_start size dpi ++ [])),
+      length-append (raster_start size dpi) [],
+      raster_length size dpi,
+    )
+
+pub code_few : (size : Size) → code_of size < 100
+code_few Executive = lit< tt
+code_few Letter = lit< tt
+code_few Legal = lit< tt
+code_few A4 = lit< tt

@@ -1,0 +1,138 @@
+-- Good places of a row.
+use Rattle.std.proofs.Common.{◌≡◌, ℕ, ◌+◌, ◌<◌, ◌≤◌, ◌⊎◌, inl, inr, List, Option, Some, None, is_some, true, false, length, refl, sym, ap, subst, ◌∙◌, arith, lit<}
+use Rattle.std.proofs.Math.Nat.{eq-or-lt_of_le}
+use Rattle.std.specs.Borrow.{Bor}
+use Rattle.pcl_base.specs.declared.method.Method.{Method}
+use Rattle.pcl_base.specs.declared.method.Method.TheVariants.{Plain, Runs, Packed, Delta}
+use Rattle.pcl_base.specs.Method.{method_code}
+use Rattle.pcl_cert.specs.declared.check.places.BadPlace.{BadPlace}
+use Rattle.pcl_check.proofs.Moves.{same_method}
+use Rattle.pcl_base.specs.Size.{page_height, page_row_bytes}
+use Rattle.pcl_page.specs.declared.page.Page.{Page}
+use Rattle.pcl_coders.specs.RowWalks.{IsRowTable}
+use Rattle.pcl_plan.specs.PageText.{bitmap_rows}
+use Rattle.pcl_plan.specs.Nodes.{row_at, row_above}
+use Rattle.pcl_cert.specs.RowTables.{list_of}
+use Rattle.pcl_check.specs.Places.{IsGoodPlace, IsFirstPlace, FindsPlace, FindsBadPlace}
+use Rattle.pcl_cert.specs.Checking.{IsGoodIn, Tables, FindsBadBelow, FindsBadIn, IsFirstBadInRow, IsFirstBadIn}
+use Rattle.pcl_cert.specs.PageTables.{table_of}
+
+split_or : (a b : ℕ) → a < b + 1 → (a < b) ⊎ (a ≡ b)
+split_or a b lt = let le : a ≤ b = omega arith in elim (eq-or-lt_of_le le) [ inl e ↦ inr e | inr h ↦ inl h ]
+
+good_places : (method : Method) (seed row numbers : List ℕ) → IsRowTable method seed row numbers → (place : ℕ)
+    → IsGoodPlace method seed row numbers place
+good_places method seed row numbers is place =
+    record { steps = λ e next leads. is.feasible.steps place e next leads; ends = λ ends. is.feasible.ends place ends }
+
+-- what is found of a row's numbers, as those of the page's row
+pub record IsRowOfTables (page : Page) (lists : List (List ℕ)) (row : ℕ) (method : Method) (seed bytes numbers : List ℕ) : Type 0 where
+  pub seed_is : seed ≡ row_above (page_row_bytes page.size page.dpi) (bitmap_rows page.bitmap) row
+  pub bytes_are : bytes ≡ row_at (bitmap_rows page.bitmap) row
+  pub numbers_are : numbers ≡ table_of (page_row_bytes page.size page.dpi + 1) (list_of lists row method)
+  pub width : length bytes ≡ page_row_bytes page.size page.dpi
+
+pub good_in : (page : Page) (lists : List (List ℕ)) (row : ℕ) (method : Method) (seed bytes numbers : List ℕ) (place : ℕ)
+    → IsRowOfTables page lists row method seed bytes numbers → IsGoodPlace method seed bytes numbers place
+    → IsGoodIn page lists row method place
+good_in page lists row method seed bytes numbers place is good =
+    let width = page_row_bytes page.size page.dpi in
+    let rows = bitmap_rows page.bitmap in
+    subst (λ (z : List ℕ). IsGoodPlace method (row_above width rows row) (row_at rows row) z place) is.numbers_are
+    (subst (λ (z : List ℕ). IsGoodPlace method (row_above width rows row) z numbers place) is.bytes_are
+    (subst (λ (z : List ℕ). IsGoodPlace method z bytes numbers place) is.seed_is good))
+
+pub good_of : (page : Page) (lists : List (List ℕ)) (row : ℕ) (method : Method) (seed bytes numbers : List ℕ) (place : ℕ)
+    → IsRowOfTables page lists row method seed bytes numbers → IsGoodIn page lists row method place
+    → IsGoodPlace method seed bytes numbers place
+good_of page lists row method seed bytes numbers place is good =
+    let width = page_row_bytes page.size page.dpi in
+    let rows = bitmap_rows page.bitmap in
+    subst (λ (z : List ℕ). IsGoodPlace method z bytes numbers place) (sym is.seed_is)
+    (subst (λ (z : List ℕ). IsGoodPlace method (row_above width rows row) z numbers place) (sym is.bytes_are)
+    (subst (λ (z : List ℕ). IsGoodPlace method (row_above width rows row) (row_at rows row) z place) (sym is.numbers_are) good))
+
+pub none_bad : (page : Page) (lists : List (List ℕ)) (row : ℕ) (method : Method) (seed bytes numbers : List ℕ)
+    → IsRowOfTables page lists row method seed bytes numbers → IsRowTable method seed bytes numbers
+    → FindsPlace (IsGoodIn page lists row method) (page_row_bytes page.size page.dpi) None
+none_bad page lists row method seed bytes numbers is table = λ place le.
+    good_in page lists row method seed bytes numbers place is (good_places method seed bytes numbers table place)
+
+pub some_bad : (page : Page) (lists : List (List ℕ)) (row : ℕ) (method : Method) (seed bytes numbers : List ℕ) (place : ℕ)
+    → IsRowOfTables page lists row method seed bytes numbers
+    → IsFirstPlace (IsGoodPlace method seed bytes numbers) (length bytes) place
+    → FindsPlace (IsGoodIn page lists row method) (page_row_bytes page.size page.dpi) (Some place)
+some_bad page lists row method seed bytes numbers place is bad = record {
+  within = subst (λ (n : ℕ). place ≤ n) is.width bad.within;
+  is_bad = λ good. bad.is_bad (good_of page lists row method seed bytes numbers place is good);
+  first = λ before lt. good_in page lists row method seed bytes numbers before is (bad.first before lt);
+}
+
+-- ---- the methods of a row
+
+few_codes : (m : Method) → method_code m < 4
+few_codes Plain = lit< tt
+few_codes Runs = lit< tt
+few_codes Packed = lit< tt
+few_codes Delta = lit< tt
+
+pub none_below : (page : Page) (lists : List (List ℕ)) (row : ℕ) (method : Method) → FindsBadBelow page lists row (method_code method) None
+    → FindsPlace (IsGoodIn page lists row method) (page_row_bytes page.size page.dpi) None
+    → FindsBadBelow page lists row (method_code method + 1) None
+none_below page lists row method before none = λ other place below le. elim (split_or (method_code other) (method_code method) below) [
+  | inl lt ↦ before other place lt le
+  | inr e ↦ subst (λ (m : Method). IsGoodIn page lists row m place) (same_method method other (sym e)) (none place le)
+]
+
+pub some_below : (page : Page) (lists : List (List ℕ)) (row : ℕ) (method : Method) (place : ℕ)
+    → FindsBadBelow page lists row (method_code method) None
+    → FindsPlace (IsGoodIn page lists row method) (page_row_bytes page.size page.dpi) (Some place)
+    → IsFirstBadInRow page lists row record { row = row; method = method; place = place }
+some_below page lists row method place before some = record {
+  row_is = refl;
+  place_within = some.within;
+  is_bad = some.is_bad;
+  first = λ other earlier le h. elim h [
+    | inl lt ↦ before other earlier lt le
+    | inr same ↦ subst (λ (m : Method). IsGoodIn page lists row m earlier) (sym same.0) (some.first earlier same.1)
+  ];
+}
+
+-- ---- the rows of a page
+
+pub no_row_bad : (page : Page) (lists : List (List ℕ)) (row : ℕ)
+    → ((r : ℕ) (m : Method) (p : ℕ) → r < row → p ≤ page_row_bytes page.size page.dpi → IsGoodIn page lists r m p)
+    → FindsBadBelow page lists row 4 None → (r : ℕ) (m : Method) (p : ℕ) → r < row + 1 → p ≤ page_row_bytes page.size page.dpi
+    → IsGoodIn page lists r m p
+no_row_bad page lists row above here r m p lt le = elim (split_or r row lt) [
+  | inl below ↦ above r m p below le
+  | inr e ↦ subst (λ (z : ℕ). IsGoodIn page lists z m p) (sym e) (here m p (few_codes m) le)
+]
+
+pub row_bad : (page : Page) (lists : List (List ℕ)) (row : ℕ) (bad : BadPlace) → row < page_height page.size page.dpi
+    → ((r : ℕ) (m : Method) (p : ℕ) → r < row → p ≤ page_row_bytes page.size page.dpi → IsGoodIn page lists r m p)
+    → IsFirstBadInRow page lists row bad → IsFirstBadIn page lists bad
+row_bad page lists row bad lt above here = record {
+  row_within = omega (arith, here.row_is);
+  place_within = here.place_within;
+  is_bad = here.is_bad;
+  first = λ r m p le h. elim h [
+    | inl before ↦ above r m p (omega (arith, before, here.row_is)) le
+    | inr same ↦ subst (λ (z : ℕ). IsGoodIn page lists z m p) (sym (same.0 ∙ here.row_is)) (here.first m p le same.1)
+  ];
+}
+
+pub rows_on : (page : Page) (lists : List (List ℕ)) (row : ℕ) (found : Option BadPlace)
+    → ((r : ℕ) (m : Method) (p : ℕ) → r < row → p ≤ page_row_bytes page.size page.dpi → IsGoodIn page lists r m p)
+    → FindsBadBelow page lists row 4 found → is_some found ≡ false → (r : ℕ) (m : Method) (p : ℕ) → r < row + 1
+    → p ≤ page_row_bytes page.size page.dpi → IsGoodIn page lists r m p
+rows_on page lists row None above here none = no_row_bad page lists row above here
+rows_on page lists row (Some bad) above here none = absurd cc
+
+pub rows_end : (page : Page) (tables : Tables) (lists : Bor (List (List ℕ))) (row : ℕ) (found : Option BadPlace) → tables ≡ Some lists
+    → row < page_height page.size page.dpi
+    → ((r : ℕ) (m : Method) (p : ℕ) → r < row → p ≤ page_row_bytes page.size page.dpi → IsGoodIn page lists.now r m p)
+    → FindsBadBelow page lists.now row 4 found → is_some found ≡ true → FindsBadIn page tables found
+rows_end page tables lists row None e lt above here some = absurd cc
+rows_end page tables lists row (Some bad) e lt above here some =
+    subst (λ (t : Tables). FindsBadIn page t (Some bad)) (sym e) (row_bad page lists.now row bad lt above here)

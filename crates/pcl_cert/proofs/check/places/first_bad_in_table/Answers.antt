@@ -1,0 +1,67 @@
+use Rattle.std.proofs.Common.{◌≡◌, ◌+◌, ◌<◌, ℕ, List, Option, length, sym, ap, subst, ◌∙◌, arith}
+use Rattle.std.proofs.lemmas.List.{length-take-le, length-replicate}
+use Rattle.pcl_base.specs.declared.dpi.Dpi.{Dpi}
+use Rattle.pcl_base.specs.declared.size.Size.{Size}
+use Rattle.pcl_base.specs.declared.method.Method.{Method}
+use Rattle.pcl_base.specs.Size.{page_height, page_row_bytes}
+use Rattle.pcl_bitmap.specs.Bitmap.{row_of}
+use Rattle.pcl_page.specs.declared.page.Page.{Page}
+use Rattle.pcl_plan.specs.PageText.{bitmap_rows}
+use Rattle.pcl_plan.specs.Nodes.{row_above}
+use Rattle.pcl_plan.proofs.RowsFrom.{row_of_bytes, row_small}
+use Rattle.pcl_cert.specs.RowTables.{list_of}
+use Rattle.pcl_check.specs.Places.{FindsPlace}
+use Rattle.pcl_cert.specs.Checking.{IsGoodIn}
+use Rattle.pcl_cert.specs.PageTables.{table_of}
+use Rattle.pcl_cert.proofs.RowPlaces.{IsRowOfTables, none_bad, some_bad}
+use Rattle.pcl_cert.proofs.check.places.first_bad_in_table.Goals as goal
+
+-- a bitmap has its page's size and resolution
+heights : (page : Page) → page_height page.bitmap.size page.bitmap.dpi ≡ page_height page.size page.dpi
+heights page = ap (λ (z : Size). page_height z page.bitmap.dpi) page.size_is ∙ ap (λ (d : Dpi). page_height page.size d) page.dpi_is
+
+widths : (page : Page) → page_row_bytes page.bitmap.size page.bitmap.dpi ≡ page_row_bytes page.size page.dpi
+widths page = ap (λ (z : Size). page_row_bytes z page.bitmap.dpi) page.size_is ∙ ap (λ (d : Dpi). page_row_bytes page.size d) page.dpi_is
+
+of_page : (page : Page) (lists : List (List ℕ)) (row : ℕ) (method : Method) (seed bytes numbers : List ℕ) (count : ℕ)
+    → row < page_height page.size page.dpi
+    → seed ≡ row_above (page_row_bytes page.bitmap.size page.bitmap.dpi) (bitmap_rows page.bitmap) row
+    → bytes ≡ row_of page.bitmap row → length bytes ≡ page_row_bytes page.bitmap.size page.bitmap.dpi
+    → numbers ≡ table_of count (list_of lists row method) → count ≡ length bytes + 1
+    → IsRowOfTables page lists row method seed bytes numbers
+of_page page lists row method seed bytes numbers count lt s b w n e =
+    let wide = widths page in
+    let high = heights page in
+    let height : ℕ = page_height page.bitmap.size page.bitmap.dpi in
+    let width : ℕ = page_row_bytes page.bitmap.size page.bitmap.dpi in
+    record {
+      seed_is = s ∙ ap (λ (k : ℕ). row_above k (bitmap_rows page.bitmap) row) wide;
+      bytes_are = b ∙ sym (row_of_bytes row height width page.bitmap.bytes (omega (arith, high, lt)));
+      numbers_are = n ∙ (let same : count ≡ page_row_bytes page.size page.dpi + 1 = omega (arith, wide, w, e) in
+          ap (λ (k : ℕ). table_of k (list_of lists row method)) same);
+      width = w ∙ wide;
+    }
+
+pub returns-in_err-place : goal.returns-in_err-place
+returns-in_err-place c =
+    let page = c.args.page.now in
+    let is = of_page page c.args.tables.now c.args.row c.args.method c.row_above-seed.result.now c.row-bytes.result.now
+    c.fill_numbers.new.numbers _ c.requires.row c.row_above-seed.ensures.row c.row-bytes.ensures.bytes c.row-bytes.ensures.len
+    c.fill_numbers.ensures
+    (length-take-le _ _ (let small = row_small page.bitmap.size page.bitmap.dpi in
+    omega (arith, c.row-bytes.ensures.len, small, length-replicate {A = ℕ} 601 0))) in
+    subst (FindsPlace (IsGoodIn page c.args.tables.now c.args.row c.args.method) (page_row_bytes page.size page.dpi))
+    (sym c.from_residual.ensures)
+    (none_bad page c.args.tables.now c.args.row c.args.method c.row_above-seed.result.now c.row-bytes.result.now
+    c.fill_numbers.new.numbers is c.in_err-place.ensures)
+
+pub returns : goal.returns
+returns c =
+    let page = c.args.page.now in
+    let is = of_page page c.args.tables.now c.args.row c.args.method c.row_above-seed.result.now c.row-bytes.result.now
+    c.fill_numbers.new.numbers _ c.requires.row c.row_above-seed.ensures.row c.row-bytes.ensures.bytes c.row-bytes.ensures.len
+    c.fill_numbers.ensures
+    (length-take-le _ _ (let small = row_small page.bitmap.size page.bitmap.dpi in
+    omega (arith, c.row-bytes.ensures.len, small, length-replicate {A = ℕ} 601 0))) in
+    some_bad page c.args.tables.now c.args.row c.args.method c.row_above-seed.result.now c.row-bytes.result.now
+    c.fill_numbers.new.numbers c.in_ok-place.place is c.in_ok-place.ensures

@@ -1,0 +1,124 @@
+-- What the checker answers of a text, with a table of numbers and perhaps row tables.
+use Rattle.std.specs.Prelude.{◌≡◌, ℕ, ◌+◌, ◌*◌, ◌<◌, ◌≤◌, ◌⊎◌, Bool, false, List, ◌++◌, length, take, replicate, Option, Some, None, MatchOption}
+use Rattle.std.specs.Borrow.{Bor}
+use Rattle.pcl_base.specs.declared.method.Method.{Method}
+use Rattle.pcl_base.specs.Method.{method_code}
+use Rattle.pcl_base.specs.Size.{page_height, page_row_bytes}
+use Rattle.pcl_page.specs.declared.page.Page.{Page}
+use Rattle.pcl_plan.specs.PageText.{PrintsPage, bitmap_rows}
+use Rattle.pcl_plan.specs.Nodes.{row_at, row_above, start}
+use Rattle.pcl_plan.specs.LeastTexts.{fixed_bytes}
+use Rattle.pcl_plan.specs.Table.{node_number}
+use Rattle.pcl_plan.specs.declared.table.RowNumbers.{RowNumbers}
+use Rattle.pcl_cert.specs.declared.check.Verdict.{Verdict}
+use Rattle.pcl_cert.specs.declared.check.Verdict.TheVariants.{NotGrammar, OtherPage, Rows, Place, Edge, Length, Proved}
+use Rattle.pcl_cert.specs.declared.check.places.BadPlace.{BadPlace}
+use Rattle.pcl_cert.specs.RowTables.{list_of, number_at_place}
+use Rattle.pcl_cert.specs.PageTables.{table_of}
+use Rattle.pcl_check.specs.TextVerdicts.{IsSomePageText}
+use Rattle.pcl_check.specs.Edges.{IsGoodNumber, IsLeastOfRow, IsFirstBad}
+use Rattle.pcl_check.specs.Places.{IsGoodPlace}
+
+-- row tables, where there are any
+abbrev pub Tables : Type 0
+Tables = Option (Bor (List (List ℕ)))
+
+-- the rows of the tables are those of the page
+abbrev pub AreOfPage : Page → List RowNumbers → Tables → Type 0
+AreOfPage page table None = length table ≡ page_height page.size page.dpi + 1
+AreOfPage page table (Some lists) =
+    (length table ≡ page_height page.size page.dpi + 1) × (length lists.now ≡ 4 * page_height page.size page.dpi)
+
+abbrev pub AreTablesOf : Page → Tables → Type 0
+AreTablesOf page None = Unit {0}
+AreTablesOf page (Some lists) = length lists.now ≡ 4 * page_height page.size page.dpi
+
+-- ---- row tables
+
+-- the number of a place of a row is good
+abbrev pub IsGoodIn : Page → List (List ℕ) → ℕ → Method → ℕ → Type 0
+IsGoodIn page lists row method place =
+    let width = page_row_bytes page.size page.dpi in
+    let rows = bitmap_rows page.bitmap in
+    IsGoodPlace method (row_above width rows row) (row_at rows row) (table_of (width + 1) (list_of lists row method)) place
+
+-- a place stands before another in a certificate: row after row, in a row method after method, and then place after place
+abbrev pub IsBefore : ℕ → Method → ℕ → BadPlace → Type 0
+IsBefore row method place bad = (row < bad.row)
+    ⊎ ((row ≡ bad.row) × ((method_code method < method_code bad.method) ⊎ ((method ≡ bad.method) × (place < bad.place))))
+
+-- the first place whose number isn't good
+pub record IsFirstBadIn (page : Page) (lists : List (List ℕ)) (bad : BadPlace) : Type 0 where
+  pub row_within : bad.row < page_height page.size page.dpi
+  pub place_within : bad.place ≤ page_row_bytes page.size page.dpi
+  pub is_bad : IsGoodIn page lists bad.row bad.method bad.place → ⊥
+  pub first : (row : ℕ) (method : Method) (place : ℕ) → place ≤ page_row_bytes page.size page.dpi → IsBefore row method place bad
+      → IsGoodIn page lists row method place
+
+-- all numbers are good
+abbrev pub AreGoodIn : Page → List (List ℕ) → Type 0
+AreGoodIn page lists = (row : ℕ) (method : Method) (place : ℕ) → row < page_height page.size page.dpi
+    → place ≤ page_row_bytes page.size page.dpi → IsGoodIn page lists row method place
+
+abbrev pub ArePlacesGood : Page → Tables → Type 0
+ArePlacesGood page None = Unit {0}
+ArePlacesGood page (Some lists) = AreGoodIn page lists.now
+
+abbrev pub IsFirstBadPlaceOf : Page → Tables → BadPlace → Type 0
+IsFirstBadPlaceOf page None bad = ⊥
+IsFirstBadPlaceOf page (Some lists) bad = IsFirstBadIn page lists.now bad
+
+-- the first bad place, or none where all numbers are good
+abbrev pub FindsBadIn : Page → Tables → Option BadPlace → Type 0
+FindsBadIn page tables found = MatchOption found (ArePlacesGood page tables) (IsFirstBadPlaceOf page tables)
+
+-- the same in a row
+pub record IsFirstBadInRow (page : Page) (lists : List (List ℕ)) (row : ℕ) (bad : BadPlace) : Type 0 where
+  pub row_is : bad.row ≡ row
+  pub place_within : bad.place ≤ page_row_bytes page.size page.dpi
+  pub is_bad : IsGoodIn page lists bad.row bad.method bad.place → ⊥
+  pub first : (method : Method) (place : ℕ) → place ≤ page_row_bytes page.size page.dpi
+      → (method_code method < method_code bad.method) ⊎ ((method ≡ bad.method) × (place < bad.place)) → IsGoodIn page lists row method place
+
+-- the first bad place of a row in the methods whose codes are below one, or none
+abbrev pub FindsBadBelow : Page → List (List ℕ) → ℕ → ℕ → Option BadPlace → Type 0
+FindsBadBelow page lists row code found = MatchOption found
+    ((method : Method) (place : ℕ) → method_code method < code → place ≤ page_row_bytes page.size page.dpi
+    → IsGoodIn page lists row method place)
+    (IsFirstBadInRow page lists row)
+
+-- ---- the numbers of nodes
+
+-- the length that a row is counted with: the least one, or the first number of its row table
+abbrev pub Counted : Page → Tables → ℕ → Method → ℕ → Type 0
+Counted page None row method bytes = IsLeastOfRow (page_row_bytes page.size page.dpi) (bitmap_rows page.bitmap) row method bytes
+Counted page (Some lists) row method bytes = bytes ≡ number_at_place lists.now row method 0
+
+-- the number of a node is good
+abbrev pub IsGoodOf : Page → List RowNumbers → Tables → ℕ → Method → Bool → Type 0
+IsGoodOf page table tables = IsGoodNumber (bitmap_rows page.bitmap) (Counted page tables) (node_number table)
+
+abbrev pub AreEdgesGood : Page → List RowNumbers → Tables → Type 0
+AreEdgesGood page table tables = (row : ℕ) (method : Method) (inside : Bool) → row ≤ page_height page.size page.dpi
+    → IsGoodOf page table tables row method inside
+
+-- ---- verdicts
+
+-- the length of the text is its fixed part and the number of the first node
+abbrev pub IsOfLength : Page → List ℕ → List RowNumbers → Type 0
+IsOfLength page text table = length text ≡ fixed_bytes page.dpi page.size page.copies + node_number table start
+
+-- the first test that fails answers, in this order: the text is a page text, it prints the page, the tables have the page's
+-- rows, the numbers of places are good, those of nodes are, and the text's length is that of the first node
+abbrev pub IsVerdict : Page → List ℕ → List RowNumbers → Tables → Verdict → Type 0
+IsVerdict page text table tables NotGrammar = IsSomePageText page.dpi text → ⊥
+IsVerdict page text table tables OtherPage = IsSomePageText page.dpi text × (PrintsPage page text → ⊥)
+IsVerdict page text table tables Rows = PrintsPage page text × (AreOfPage page table tables → ⊥)
+IsVerdict page text table tables (Place row method place) = PrintsPage page text × AreOfPage page table tables
+    × IsFirstBadPlaceOf page tables record { row = row; method = method; place = place }
+IsVerdict page text table tables (Edge row method inside) = PrintsPage page text × AreOfPage page table tables × ArePlacesGood page tables
+    × IsFirstBad (IsGoodOf page table tables) (page_height page.size page.dpi) record { row = row; method = method; inside = inside }
+IsVerdict page text table tables Length = PrintsPage page text × AreOfPage page table tables × ArePlacesGood page tables
+    × AreEdgesGood page table tables × (IsOfLength page text table → ⊥)
+IsVerdict page text table tables Proved = PrintsPage page text × AreOfPage page table tables × ArePlacesGood page tables
+    × AreEdgesGood page table tables × IsOfLength page text table
