@@ -57,25 +57,33 @@ list_again most numbers rest few is =
     let there : nat_lt (length (text ++ rest)) (2 * count) ≡ false =
     le-ltb _ _ (omega (arith, length-append text rest, text_len numbers)) in
     ap (list_at most) joined
-    ∙ rw (number_again w16 (2 ^ 16) two_bytes count (text ++ rest) (omega (arith, is.short)), short, there,
-    numbers_again numbers rest is.small, is.ends, drop_at text rest (2 * count) (text_len numbers)) refl
+    ∙ rw (
+      number_again w16 (2 ^ 16) two_bytes count (text ++ rest) (omega (arith, is.short)),
+      short,
+      there,
+      numbers_again numbers rest is.small,
+      is.ends,
+      drop_at text rest (2 * count) (text_len numbers),
+    ) refl
 
 pub list_spells : (most : ℕ) → most < 2 ^ 16 → Spells (list_at most) list_bytes (IsList most)
 list_spells most few = record {
   found = λ bytes x are e.
       let found = list_found most bytes x.0 x.1 e in
       let text : list_bytes x.0 ≡ take (2 + 2 * count_of bytes) bytes =
-      ap list_bytes found.numbers_are ∙ list_spelled bytes are found.whole in
-      (record {
-        joined = sym (take-append-drop (2 + 2 * count_of bytes) bytes) ∙ ap (λ (t : List ℕ). t ++ drop (2 + 2 * count_of bytes) bytes) (sym text)
-            ∙ ap (λ (t : List ℕ). list_bytes x.0 ++ t) (sym found.rest_is);
-        rest_are = subst AreBytes (sym found.rest_is) (rest_bytes (2 + 2 * count_of bytes) bytes are);
-      }, record {
-        short = omega (arith, found.few, ap length found.numbers_are, length_numbers (count_of bytes) (drop 2 bytes));
-        small = subst (AllByRecursion (λ k. k < 2 ^ 16)) (sym found.numbers_are)
-            (numbers_small (count_of bytes) (drop 2 bytes) (rest_bytes 2 bytes are));
-        ends = found.ends;
-      });
+      ap list_bytes found.numbers_are ∙ list_spelled bytes are found.whole in (
+        record {
+          joined = sym (take-append-drop (2 + 2 * count_of bytes) bytes) ∙ ap (λ (t : List ℕ). t ++ drop (2 + 2 * count_of bytes) bytes) (sym text)
+              ∙ ap (λ (t : List ℕ). list_bytes x.0 ++ t) (sym found.rest_is);
+          rest_are = subst AreBytes (sym found.rest_is) (rest_bytes (2 + 2 * count_of bytes) bytes are);
+        },
+        record {
+          short = omega (arith, found.few, ap length found.numbers_are, length_numbers (count_of bytes) (drop 2 bytes));
+          small = subst (AllByRecursion (λ k. k < 2 ^ 16)) (sym found.numbers_are)
+              (numbers_small (count_of bytes) (drop 2 bytes) (rest_bytes 2 bytes are));
+          ends = found.ends;
+        },
+      );
   again = λ numbers rest is. list_again most numbers rest few is;
 }
 

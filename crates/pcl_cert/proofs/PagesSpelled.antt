@@ -65,10 +65,13 @@ row_spells = record {
       let b = pairs_spell.found plain.0.1 runs.0 a.0.rest_are runs.1 in
       let c = pairs_spell.found runs.0.1 packed.0 b.0.rest_are packed.1 in
       let d = pairs_spell.found packed.0.1 delta.0 c.0.rest_are delta.1 in
-      let made : RowNumbers × List ℕ = (record {
-        outside = record { plain = plain.0.0.0; runs = runs.0.0.0; packed = packed.0.0.0; delta = delta.0.0.0 };
-        inside = record { plain = plain.0.0.1; runs = runs.0.0.1; packed = packed.0.0.1; delta = delta.0.0.1 };
-      }, delta.0.1) in
+      let made : RowNumbers × List ℕ = (
+        record {
+          outside = record { plain = plain.0.0.0; runs = runs.0.0.0; packed = packed.0.0.0; delta = delta.0.0.0 };
+          inside = record { plain = plain.0.0.1; runs = runs.0.0.1; packed = packed.0.0.1; delta = delta.0.0.1 };
+        },
+        delta.0.1,
+      ) in
       subst (λ (y : RowNumbers × List ℕ). Splits bytes (row_bytes y.0) y.1 × AreSmall y.0) (same_ok made x delta.2)
       (splits_both a.0 (splits_both b.0 (splits_both c.0 d.0)), (a.1.0, a.1.1, b.1.0, b.1.1, c.1.0, c.1.1, d.1.0, d.1.1));
   again = λ n rest fits.

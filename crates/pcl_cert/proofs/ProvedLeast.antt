@@ -22,7 +22,7 @@ use Rattle.pcl_check.specs.Places.{IsGoodPlace}
 use Rattle.pcl_cert.specs.Checking.{Tables, AreOfPage, AreGoodIn, ArePlacesGood, AreEdgesGood, IsVerdict}
 use Rattle.pcl_cert.specs.PageTables.{table_of}
 use Rattle.pcl_check.proofs.GoodNumbers.{good_feasible, numbers_by_bounds}
-use Rattle.pcl_check.proofs.Steps.{heights}
+use Rattle.pcl_check.proofs.Lengths.{height_small}
 
 first_padded : (n : ℕ) (list : List ℕ) → slice_index (table_of (suc n) list) 0 ≡ slice_index list 0
 first_padded n [] = refl
@@ -85,11 +85,11 @@ feasible_of : (page : Page) (text : List ℕ) (table : List RowNumbers) (tables 
     → IsFeasible (Leads (page_row_bytes page.size page.dpi) (bitmap_rows page.bitmap)) (Ends (bitmap_rows page.bitmap)) cost
     (node_number table)
 feasible_of page text table None printed size places good =
-    let high = heights page.size page.dpi in
+    let high = height_small page.size page.dpi in
     good_feasible (page_row_bytes page.size page.dpi) (bitmap_rows page.bitmap) table (omega (arith, printed.count))
     (size ∙ ap (λ (n : ℕ). n + 1) (sym printed.count)) (λ row method inside le. good row method inside (omega (arith, printed.count)))
 feasible_of page text table (Some lists) printed size places good =
-    let high = heights page.size page.dpi in
+    let high = height_small page.size page.dpi in
     numbers_by_bounds (page_row_bytes page.size page.dpi) (bitmap_rows page.bitmap) table
     (λ row method. number_at_place lists.now row method 0) (omega (arith, printed.count))
     (size.0 ∙ ap (λ (n : ℕ). n + 1) (sym printed.count))

@@ -70,10 +70,13 @@ row_at bytes = do
   runs ← pair_at plain.1
   packed ← pair_at runs.1
   delta ← pair_at packed.1
-  Ok (record {
-    outside = record { plain = plain.0.0; runs = runs.0.0; packed = packed.0.0; delta = delta.0.0 };
-    inside = record { plain = plain.0.1; runs = runs.0.1; packed = packed.0.1; delta = delta.0.1 };
-  }, delta.1)
+  Ok (
+    record {
+      outside = record { plain = plain.0.0; runs = runs.0.0; packed = packed.0.0; delta = delta.0.0 };
+      inside = record { plain = plain.0.1; runs = runs.0.1; packed = packed.0.1; delta = delta.0.1 };
+    },
+    delta.1,
+  )
 
 -- the numbers behind so many rows
 unfoldable pub table_at : ℕ → List ℕ → Result (List RowNumbers × List ℕ) CertFault

@@ -10,9 +10,8 @@ ghost use Rattle.pcl_plan.specs.LeastTexts.{fixed_bytes};
 ghost use Rattle.pcl_check.specs.Edges.{FindsBad};
 ghost use Rattle.pcl_cert.specs.Checking.{IsVerdict, AreOfPage, IsGoodOf};
 
-pub use laws::proved_texts_are_least;
-
 use crate::tables::RowTables;
+pub use laws::proved_texts_are_least;
 use lengths::ByRowTables;
 use pcl_base::Method;
 use pcl_check::{BadNumber, LeastByCoders, TextVerdict, first_bad_number, read_page_text};

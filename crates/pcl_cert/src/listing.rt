@@ -34,7 +34,8 @@ impl Lists {
     {
         let numbers = trimmed(numbers);
         self.starts.push(self.bytes.len())?;
-        self.bytes.extend_from_slice(&(numbers.len() as u16).to_be_bytes())?;
+        self.bytes
+            .extend_from_slice(&(numbers.len() as u16).to_be_bytes())?;
         append_numbers(numbers, &mut self.bytes)
     }
 }

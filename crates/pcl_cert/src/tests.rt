@@ -29,12 +29,7 @@ fn dot_certificate(alloc: Global, format: Format) -> Result<Vec<u8>, AllocError>
 }
 
 /// The same with another byte at a place.
-fn changed(
-    alloc: Global,
-    format: Format,
-    place: usize,
-    byte: u8,
-) -> Result<Vec<u8>, AllocError> {
+fn changed(alloc: Global, format: Format, place: usize, byte: u8) -> Result<Vec<u8>, AllocError> {
     let mut bytes = dot_certificate(alloc, format)?;
     if let Some(slot) = bytes.get_mut(place) {
         *slot = byte;
@@ -63,7 +58,11 @@ fn text(alloc: Global, body: &[u8]) -> Result<Vec<u8>, AllocError> {
 }
 
 /// What reading bytes answers, or the verdict on the page and a text with this body.
-fn checked(alloc: Global, bytes: &[u8], body: &[u8]) -> Result<Result<Verdict, CertFault>, AllocError> {
+fn checked(
+    alloc: Global,
+    bytes: &[u8],
+    body: &[u8],
+) -> Result<Result<Verdict, CertFault>, AllocError> {
     let page = dot_page(alloc)?;
     let text = text(alloc, body)?;
     let (_, proofs) = match read_certificate(alloc, bytes, Dpi::Dpi300) {
@@ -115,7 +114,11 @@ fn verdicts(rt: HostRuntime) -> Result<(), AllocError> {
     ];
     for (format, at, byte, wanted) in cases {
         let bytes = changed(rt.alloc(), format, at, byte)?;
-        assert_eq!(rt; checked(rt.alloc(), &bytes, dot)?, wanted, "{format:?} {at} {byte}");
+        assert_eq!(rt;
+            checked(rt.alloc(), &bytes, dot)?,
+            wanted,
+            "{format:?} {at} {byte}"
+        );
     }
     Ok(())
 }

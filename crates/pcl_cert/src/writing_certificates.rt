@@ -48,11 +48,7 @@ fn append_certificate(
 }
 
 /// Appends what is said of a page, or a front of it where memory runs out.
-fn append_proof(
-    proof: &PageProof<'_>,
-    format: Format,
-    out: &mut Vec<u8>,
-) -> Result<(), AllocError>
+fn append_proof(proof: &PageProof<'_>, format: Format, out: &mut Vec<u8>) -> Result<(), AllocError>
     requires { (dpi : Dpi) × IsProof dpi format (proof_in format proof.now) }
     ensures ok { OnOk result (out.new.items ≡ out.old.items ++ proof_bytes (proof_in format proof.now)) }
     ensures front { take (length out.old.items) out.new.items ≡ out.old.items }

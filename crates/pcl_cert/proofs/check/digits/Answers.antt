@@ -1,4 +1,4 @@
-use Rattle.std.proofs.Common.{sym, arith}
+use Rattle.std.proofs.Common.{sym}
 use Rattle.pcl_cert.proofs.FixedParts.{one_digit, two_digits}
 use Rattle.pcl_cert.proofs.check.digits.Goals as goal
 

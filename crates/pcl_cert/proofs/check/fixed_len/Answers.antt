@@ -1,6 +1,6 @@
-use Rattle.std.proofs.Common.{◌≡◌, ℕ, ◌+◌, length, sym, ap, ◌∙◌, arith}
+use Rattle.std.proofs.Common.{ℕ, length, ap, ◌∙◌, arith}
 use Rattle.std.specs.Prelude.{decimal}
-use Rattle.pcl_cert.proofs.FixedParts.{fixed_length, code_few}
+use Rattle.pcl_cert.proofs.FixedParts.{fixed_length}
 use Rattle.pcl_cert.proofs.check.fixed_len.Goals as goal
 
 pub returns : goal.returns

@@ -12,6 +12,6 @@ returns-in_err-append_row-clause-front c =
 pub loop-row-preserved : goal.loop-row-preserved
 loop-row-preserved c =
     rw (c.in_ok-append_row.ensures.ok, c.loop-row.invariant, c.row.ensures) (
-      append_assoc c.args.out.now.items (table_bytes (take c.loop-row.row c.args.table.now)) _
-      ∙ ap (λ text. c.args.out.now.items ++ text)
-      (sym (flat_more row_bytes c.args.table.now c.loop-row.row no_numbers (omega (arith, c.loop-row-test.true, c.rows-row-end.ensures)))))
+    append_assoc c.args.out.now.items (table_bytes (take c.loop-row.row c.args.table.now)) _
+    ∙ ap (λ text. c.args.out.now.items ++ text)
+    (sym (flat_more row_bytes c.args.table.now c.loop-row.row no_numbers (omega (arith, c.loop-row-test.true, c.rows-row-end.ensures)))))

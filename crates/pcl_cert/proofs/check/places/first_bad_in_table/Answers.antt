@@ -46,22 +46,22 @@ pub returns-in_err-place : goal.returns-in_err-place
 returns-in_err-place c =
     let page = c.args.page.now in
     let is = of_page page c.args.tables.now c.args.row c.args.method c.row_above-seed.result.now c.row-bytes.result.now
-    c.fill_numbers.new.numbers _ c.requires.row c.row_above-seed.ensures.row c.row-bytes.ensures.bytes c.row-bytes.ensures.len
-    c.fill_numbers.ensures
+    c.copy_table.new.out _ c.requires.row c.row_above-seed.ensures.row c.row-bytes.ensures.bytes c.row-bytes.ensures.len
+    c.copy_table.ensures
     (length-take-le _ _ (let small = row_small page.bitmap.size page.bitmap.dpi in
     omega (arith, c.row-bytes.ensures.len, small, length-replicate {A = ℕ} 601 0))) in
     subst (FindsPlace (IsGoodIn page c.args.tables.now c.args.row c.args.method) (page_row_bytes page.size page.dpi))
     (sym c.from_residual.ensures)
     (none_bad page c.args.tables.now c.args.row c.args.method c.row_above-seed.result.now c.row-bytes.result.now
-    c.fill_numbers.new.numbers is c.in_err-place.ensures)
+    c.copy_table.new.out is c.in_err-place.ensures)
 
 pub returns : goal.returns
 returns c =
     let page = c.args.page.now in
     let is = of_page page c.args.tables.now c.args.row c.args.method c.row_above-seed.result.now c.row-bytes.result.now
-    c.fill_numbers.new.numbers _ c.requires.row c.row_above-seed.ensures.row c.row-bytes.ensures.bytes c.row-bytes.ensures.len
-    c.fill_numbers.ensures
+    c.copy_table.new.out _ c.requires.row c.row_above-seed.ensures.row c.row-bytes.ensures.bytes c.row-bytes.ensures.len
+    c.copy_table.ensures
     (length-take-le _ _ (let small = row_small page.bitmap.size page.bitmap.dpi in
     omega (arith, c.row-bytes.ensures.len, small, length-replicate {A = ℕ} 601 0))) in
     some_bad page c.args.tables.now c.args.row c.args.method c.row_above-seed.result.now c.row-bytes.result.now
-    c.fill_numbers.new.numbers c.in_ok-place.place is c.in_ok-place.ensures
+    c.copy_table.new.out c.in_ok-place.place is c.in_ok-place.ensures
