@@ -1,0 +1,39 @@
+-- The macros that are there after a history of definitions and macro controls, the newest first.
+use Rattle.std.specs.Prelude.{ℕ, Bool, true, false, nat_eq, if◌then◌else◌, List, [], ◌∷◌, Option, None, Some}
+use Rattle.std.specs.Option.{option_map}
+use Rattle.pcl_macros.specs.declared.table.MacroControl.{MacroControl}
+use Rattle.pcl_macros.specs.declared.table.MacroControl.TheVariants.{All, Temporary, One, MakeTemporary, MakePermanent}
+
+-- a definition that has ended, with its ID and the places from which and before which its commands stand, or a control of
+-- macros with the ID of its time
+pub data MacroEvent : Type 0 where
+  defined : ℕ → ℕ → ℕ → MacroEvent
+  control : MacroControl → ℕ → MacroEvent
+
+-- the commands of a macro, from a place in the list of commands and before another
+pub record MacroBody : Type 0 where
+  pub from : ℕ
+  pub to : ℕ
+  pub permanent : Bool
+
+-- a macro that was made temporary or permanent
+abbrev pub with_permanent : Bool → MacroBody → MacroBody
+with_permanent permanent body = record body { permanent = permanent }
+
+-- a macro that a deletion of temporary macros leaves
+abbrev pub if_permanent : Option MacroBody → Option MacroBody
+if_permanent None = None
+if_permanent (Some body) = if body.permanent then Some body else None
+
+-- the body of an ID: that of the last definition of it which no later deletion reached
+abbrev pub body_after : List MacroEvent → ℕ → Option MacroBody
+body_after [] id = None
+body_after (defined of from to ∷ older) id =
+    if nat_eq of id then Some (record { from = from; to = to; permanent = false }) else body_after older id
+body_after (control All of ∷ older) id = None
+body_after (control Temporary of ∷ older) id = if_permanent (body_after older id)
+body_after (control One of ∷ older) id = if nat_eq of id then None else body_after older id
+body_after (control MakeTemporary of ∷ older) id =
+    if nat_eq of id then option_map (with_permanent false) (body_after older id) else body_after older id
+body_after (control MakePermanent of ∷ older) id =
+    if nat_eq of id then option_map (with_permanent true) (body_after older id) else body_after older id

@@ -1,0 +1,10 @@
+//! Macros: lists of commands that a job keeps under an ID to run them later (docs/LANGUAGE.md, "Macros"; PCL 5 Printer
+//! Language Technical Reference Manual, "Macros").
+#![tactic(auto)]
+
+mod table;
+
+pub use table::{MacroControl, Macros};
+
+#[cfg(test)]
+mod tests;
