@@ -10,6 +10,7 @@ use Rattle.pcl_base.specs.declared.method.Method.{Method}
 use Rattle.pcl_base.specs.declared.method.Method.TheVariants.{Plain, Runs, Packed, Delta}
 use Rattle.pcl_base.specs.Method.{method_code}
 use Rattle.pcl_cert.specs.declared.format.Format.{Format}
+use Rattle.pcl_cert.specs.declared.format.Format.TheVariants.{One, Two}
 use Rattle.pcl_cert.specs.declared.page_proof.PageProof.{PageProof}
 use Rattle.pcl_cert.specs.Certificates.{IsProof, AreProofs, proof_in, proofs_in}
 use Rattle.pcl_cert.specs.RowTables.{count_of, list_from, lists_within, IsListAt}
@@ -88,3 +89,22 @@ pub list_within : (self : List (List ℕ)) (bytes starts : List ℕ) (row : ℕ)
     → 4 * row + 4 ≤ length self → code ≡ method_code method → 4 * row + code < length starts
 list_within self bytes starts row method code view there is =
     omega (arith, ap length view, length-map starts (λ (s : ℕ). list_from (drop s bytes)), there, is, code_small method)
+
+-- ---- proofs of pages in the format that they were read in
+
+proof_of_format : (dpi : Dpi) (format : Format) (proof : PageProof) → IsProof dpi format proof → IsProof dpi format (proof_in format proof)
+proof_of_format dpi One proof is =
+    record { size = is.size; text_len = is.text_len; height = is.height; numbers = is.numbers; lists = refl }
+proof_of_format dpi Two proof is = is
+
+proofs_of_format : (dpi : Dpi) (format : Format) (proofs : List PageProof) → AllByRecursion (IsProof dpi format) proofs
+    → AllByRecursion (IsProof dpi format) (proofs_in format proofs)
+proofs_of_format dpi format [] are = tt
+proofs_of_format dpi format (proof ∷ proofs) are =
+    (proof_of_format dpi format proof are.0, proofs_of_format dpi format proofs are.1)
+
+-- what is read can be written again
+pub can_be_written : (dpi : Dpi) (format : Format) (proofs : List PageProof) → AreProofs dpi format proofs
+    → AreProofs dpi format (proofs_in format proofs)
+can_be_written dpi format proofs are =
+    (omega (arith, are.0, length-map proofs (proof_in format)), proofs_of_format dpi format proofs are.1)
