@@ -8,7 +8,7 @@ use std::alloc::Global;
 use std::marker::Model;
 use std::ops::Range;
 
-/// What a macro control deletes or marks (`ESC&f#X`, docs/LANGUAGE.md, "Macros").
+/// What a macro control deletes or marks (`ESC&f#X`).
 #[derive(Clone, Copy, Debug, PartialEq, Eq)]
 pub enum MacroControl {
     /// Deletes all macros.
