@@ -9,9 +9,8 @@ use Rattle.std.specs.Map.{keys_of, lookup}
 use Rattle.std.specs.Option.{option_map}
 use Rattle.indexmap.specs.IndexMap.{IndexMap, get, WritesThrough}
 use Rattle.pcl_macros.specs.History.{MacroEvent, MacroBody, defined, control, with_permanent, if_permanent}
-use Rattle.pcl_macros.specs.Table.{MacroTable, Follows, Controls, macro_at, macro_in, places_of}
+use Rattle.pcl_macros.specs.Table.{Begun, MacroTable, Follows, Controls, macro_at, macro_in, places_of}
 use Rattle.pcl_macros.specs.declared.table.Body.{Body}
-use Rattle.pcl_macros.specs.declared.table.Definition.{Definition}
 use Rattle.pcl_macros.specs.declared.table.MacroControl.{MacroControl}
 use Rattle.pcl_macros.specs.declared.table.MacroControl.TheVariants.{Temporary, One, MakeTemporary, MakePermanent}
 
@@ -19,10 +18,10 @@ abbrev pub Entries : Type 0
 Entries = List (ℕ × Body)
 
 -- the table of some entries and a definition
-abbrev pub view : Entries → Option Definition → MacroTable
+abbrev pub view : Entries → Option Begun → MacroTable
 view es begun = record { bodies = map (λ e. (e.0, macro_in e.1)) es; begun = begun }
 
-pub macro_view : (es : Entries) (begun : Option Definition) (id : ℕ)
+pub macro_view : (es : Entries) (begun : Option Begun) (id : ℕ)
     → macro_at (view es begun) id ≡ option_map macro_in (lookup (nat_eq id) es)
 macro_view es begun id = lookup-map_values macro_in (nat_eq id) es
 
@@ -42,14 +41,14 @@ through : {A B : Type 0} (f : A → B) (t : Bool) (x y : A) → f (cond t x y) �
 through f true x y = refl
 through f false x y = refl
 
-pub macro_becomes : (es fs : Entries) (begun later : Option Definition) (id : ℕ) (w : Option Body) → Becomes es fs id w → (q : ℕ)
+pub macro_becomes : (es fs : Entries) (begun later : Option Begun) (id : ℕ) (w : Option Body) → Becomes es fs id w → (q : ℕ)
     → macro_at (view fs later) q ≡ cond (nat_eq id q) (option_map macro_in w) (macro_at (view es begun) q)
 macro_becomes es fs begun later id w b q =
     macro_view fs later q ∙ ap (option_map macro_in) (b q) ∙ through (option_map macro_in) (nat_eq id q) w (lookup (nat_eq q) es)
     ∙ ap (cond (nat_eq id q) (option_map macro_in w)) (sym (macro_view es begun q))
 
 -- a macro that is defined
-pub follows_defined : (es fs : Entries) (begun later : Option Definition) (id from to : ℕ)
+pub follows_defined : (es fs : Entries) (begun later : Option Begun) (id from to : ℕ)
     → Becomes es fs id (Some (record { from = from; to = to; is_permanent = false }))
     → Follows (view es begun) (view fs later) (defined id from to)
 follows_defined es fs begun later id from to b history h q =
@@ -57,7 +56,7 @@ follows_defined es fs begun later id from to b history h q =
     ∙ ap (cond (nat_eq id q) (Some (record { from = from; to = to; permanent = false }))) (h q)
 
 -- a macro that is gone
-pub controls_one : (es fs : Entries) (begun : Option Definition) (id : ℕ) → Becomes es fs id None
+pub controls_one : (es fs : Entries) (begun : Option Begun) (id : ℕ) → Becomes es fs id None
     → Controls (view es begun) (view fs begun) (control One id)
 controls_one es fs begun id b = (
   λ history h q. macro_becomes es fs begun begun id None b q ∙ ap (cond (nat_eq id q) None) (h q),
@@ -74,21 +73,21 @@ abbrev marked_at : Bool → ℕ → ℕ → Option MacroBody → Option MacroBod
 marked_at permanent id q body = cond (nat_eq id q) (option_map (with_permanent permanent) body) body
 
 -- a table in which the macro of an ID is marked
-pub controls_marked : (es fs : Entries) (begun : Option Definition) (id : ℕ) (permanent : Bool)
+pub controls_marked : (es fs : Entries) (begun : Option Begun) (id : ℕ) (permanent : Bool)
     → ((q : ℕ) → macro_at (view fs begun) q ≡ marked_at permanent id q (macro_at (view es begun) q))
     → Controls (view es begun) (view fs begun) (control (making permanent) id)
 controls_marked es fs begun id true marks = (λ history h q. marks q ∙ ap (marked_at true id q) (h q), refl)
 controls_marked es fs begun id false marks = (λ history h q. marks q ∙ ap (marked_at false id q) (h q), refl)
 
 -- the macro of an ID under another name
-macro_there : (es : Entries) (begun : Option Definition) (id q : ℕ) (o : Option Body) → lookup (nat_eq id) es ≡ o → nat_eq id q ≡ true
+macro_there : (es : Entries) (begun : Option Begun) (id q : ℕ) (o : Option Body) → lookup (nat_eq id) es ≡ o → nat_eq id q ≡ true
     → macro_at (view es begun) q ≡ option_map macro_in o
 macro_there es begun id q o there is =
     macro_view es begun q
     ∙ ap (option_map macro_in) (subst (λ (i : ℕ). lookup (nat_eq i) es ≡ o) (eqb-true id q is) there)
 
 -- one that is there
-pub controls_mark : (es fs : Entries) (begun : Option Definition) (id : ℕ) (e : Body) (permanent : Bool)
+pub controls_mark : (es fs : Entries) (begun : Option Begun) (id : ℕ) (e : Body) (permanent : Bool)
     → lookup (nat_eq id) es ≡ Some e
     → Becomes es fs id (Some (record { from = e.from; to = e.to; is_permanent = permanent }))
     → Controls (view es begun) (view fs begun) (control (making permanent) id)
@@ -102,7 +101,7 @@ controls_mark es fs begun id e permanent there b =
     by q true is = ap (option_map (with_permanent permanent)) (sym (macro_there es begun id q (Some e) there is))
 
 -- what isn't there is left alone
-pub controls_no_mark : (es : Entries) (begun : Option Definition) (id : ℕ) (permanent : Bool) → lookup (nat_eq id) es ≡ None
+pub controls_no_mark : (es : Entries) (begun : Option Begun) (id : ℕ) (permanent : Bool) → lookup (nat_eq id) es ≡ None
     → Controls (view es begun) (view es begun) (control (making permanent) id)
 controls_no_mark es begun id permanent none = controls_marked es es begun id permanent (λ q. by q (nat_eq id q) refl)
   where
@@ -117,7 +116,7 @@ controls_no_mark es begun id permanent none = controls_marked es es begun id per
 -- ---- macros that are deleted
 
 -- the temporary ones
-pub controls_temporary : (es fs : Entries) (begun : Option Definition) (id : ℕ) → IsDistinct nat_eq (keys_of es)
+pub controls_temporary : (es fs : Entries) (begun : Option Begun) (id : ℕ) → IsDistinct nat_eq (keys_of es)
     → fs ≡ filter (λ (e : ℕ × Body). e.1.is_permanent) es → Controls (view es begun) (view fs begun) (control Temporary id)
 controls_temporary es fs begun id distinct kept = (
   λ history h q. macro_view fs begun q ∙ ap (option_map macro_in) (left q) ∙ macros (lookup (nat_eq q) es)
@@ -141,7 +140,7 @@ becomes_of m n id e f there w = (w.3 (ap is_some there)).0
 
 -- ---- what is looked up
 
-pub places_view : (es : Entries) (begun : Option Definition) (id : ℕ) → places_of (macro_at (view es begun) id)
+pub places_view : (es : Entries) (begun : Option Begun) (id : ℕ) → places_of (macro_at (view es begun) id)
     ≡ option_map (λ (e : Body). record { start = e.from; end = e.to }) (lookup (nat_eq id) es)
 places_view es begun id = ap places_of (macro_view es begun id) ∙ joined (lookup (nat_eq id) es)
   where

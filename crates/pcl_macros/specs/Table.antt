@@ -1,5 +1,6 @@
 -- What contracts see of a table of macros: the body of each ID, and the definition that is open.
 use Rattle.std.specs.Prelude.{◌≡◌, ℕ, Bool, true, false, nat_eq, List, map, ◌∷◌, Option, None, Some, is_some, Result, Ok, Err}
+use Rattle.std.specs.Option.{option_map}
 use Rattle.std.specs.Map.{lookup}
 use Rattle.std.specs.declared.ops.Range.{Range}
 use Rattle.indexmap.specs.IndexMap.{IsUnique}
@@ -11,10 +12,15 @@ use Rattle.pcl_macros.specs.declared.table.Body.{Body}
 use Rattle.pcl_macros.specs.declared.table.Definition.{Definition}
 use Rattle.pcl_macros.specs.declared.table.Macros.TheInside.{Inside}
 
+-- the definition that is open: of an ID, from a place in the list of commands
+pub record Begun : Type 0 where
+  pub id : ℕ
+  pub from : ℕ
+
 -- macros by their IDs, and the definition that is open
 pub record MacroTable : Type 0 where
   pub bodies : List (ℕ × MacroBody)
-  pub begun : Option Definition
+  pub begun : Option Begun
 
 abbrev pub macro_at : MacroTable → ℕ → Option MacroBody
 macro_at table id = lookup (nat_eq id) table.bodies
@@ -37,7 +43,7 @@ Controls old new event = Follows old new event × (new.begun ≡ old.begun)
 -- The end of a definition: the open one is defined and none is open; it is refused exactly where none is. After a fault all
 -- is the same.
 abbrev pub HasEnd : ℕ → Result (Unit {0}) CallFault → MacroTable → MacroTable → Type 0
-HasEnd to (Ok unit) old new = (d : Definition) × (old.begun ≡ Some d) × Follows old new (defined d.id d.from to) × (new.begun ≡ None)
+HasEnd to (Ok unit) old new = (d : Begun) × (old.begun ≡ Some d) × Follows old new (defined d.id d.from to) × (new.begun ≡ None)
 HasEnd to (Err (Refused kind)) old new = (is_begun old ≡ false) × (kind ≡ MacroControl) × (new ≡ old)
 HasEnd to (Err Memory) old new = (is_begun old ≡ true) × (new ≡ old)
 
@@ -51,8 +57,11 @@ places_of (Some body) = Some (record { start = body.from; end = body.to })
 abbrev pub macro_in : Body → MacroBody
 macro_in body = record { from = body.from; to = body.to; permanent = body.is_permanent }
 
+abbrev pub begun_in : Definition → Begun
+begun_in definition = record { id = definition.id; from = definition.from }
+
 abbrev pub table_view : Inside → MacroTable
-table_view a = record { bodies = map (λ e. (e.0, macro_in e.1)) a.bodies.entries; begun = a.begun }
+table_view a = record { bodies = map (λ e. (e.0, macro_in e.1)) a.bodies.entries; begun = option_map begun_in a.begun }
 
 abbrev pub IsMacroMap : Inside → Type 0
 IsMacroMap a = IsUnique nat_eq a.bodies

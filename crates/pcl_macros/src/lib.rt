@@ -1,5 +1,5 @@
-//! Macros: lists of commands that a job keeps under an ID to run them later (docs/LANGUAGE.md, "Macros"; PCL 5 Printer
-//! Language Technical Reference Manual, "Macros").
+//! Macros: lists of commands that a job keeps under an ID, to run them later (PCL 5 Printer Language Technical Reference
+//! Manual, "Macros").
 #![tactic(auto)]
 
 mod table;

@@ -8,7 +8,7 @@ use std::alloc::Global;
 use std::marker::Model;
 use std::ops::Range;
 
-/// What a macro control deletes or marks (`ESC&f#X`, docs/LANGUAGE.md, "Macros").
+/// What a macro control deletes or marks (`ESC&f#X`).
 #[derive(Clone, Copy, Debug, PartialEq, Eq)]
 pub enum MacroControl {
     /// Deletes all macros.
@@ -147,7 +147,8 @@ impl Macros {
 
     /// Makes a macro temporary or permanent.
     fn set_permanent(&mut self, id: u16, is_permanent: bool)
-        ensures { Controls self.old self.new (control (if is_permanent then MacroControl.MakePermanent else MacroControl.MakeTemporary) id) }
+        ensures { Controls self.old self.new
+            (control (if is_permanent then MacroControl.MakePermanent else MacroControl.MakeTemporary) id) }
     {
         if let Some(body) = self.bodies.get_mut(&id) {
             body.is_permanent = is_permanent;

@@ -7,6 +7,7 @@ use std::alloc::Global;
 fn definitions(rt: HostRuntime) {
     let mut macros = Macros::new(rt.alloc());
     for (from, to) in [(3, 5), (7, 7)] {
+        assert!(rt; !macros.is_begun(), "not yet begun at {from}");
         macros.begin(9, from);
         assert!(rt; macros.is_begun(), "begun at {from}");
         assert_eq!(rt; macros.end(to), Ok(()), "ended at {to}");

@@ -1,5 +1,7 @@
 use Rattle.std.proofs.Common.{rules, refl}
 use Rattle.indexmap.proofs.CallerLemmas.{filter-RetainsPairs}
+use Rattle.std.specs.Option.{option_map}
+use Rattle.pcl_macros.specs.Table.{begun_in}
 use Rattle.pcl_macros.proofs.Tables.{controls_as, controls_temporary}
 use Rattle.pcl_macros.specs.History.{control}
 use Rattle.pcl_macros.specs.declared.table.MacroControl.TheVariants.{Temporary}
@@ -8,5 +10,6 @@ use Rattle.pcl_macros.proofs.table.Macros.delete_temporary.Goals as goal
 pub returns : goal.returns
 returns c =
     controls_as (control Temporary 0) c.self.view_is refl
-    (controls_temporary c.self.inside.bodies.entries c.retain.new.self.entries c.self.inside.begun 0 c.self.invariant
+    (controls_temporary c.self.inside.bodies.entries c.retain.new.self.entries (option_map begun_in c.self.inside.begun) 0
+    c.self.invariant
     (filter-RetainsPairs _ _ _ (λ k v b w g call. search rules) _ _ c.retain.ensures.filtered))

@@ -1,6 +1,7 @@
 use Rattle.std.proofs.Common.{sym, ap, ◌∙◌}
+use Rattle.std.specs.Option.{option_map}
+use Rattle.pcl_macros.specs.Table.{begun_in, table_view}
 use Rattle.pcl_macros.specs.History.{control}
-use Rattle.pcl_macros.specs.Table.{table_view}
 use Rattle.pcl_macros.specs.declared.table.Body.{Body}
 use Rattle.pcl_macros.proofs.Tables.{view, making, becomes_of, controls_as, controls_mark, controls_no_mark}
 use Rattle.pcl_macros.proofs.table.Macros.set_permanent.Goals as goal
@@ -9,7 +10,7 @@ use Rattle.pcl_macros.proofs.table.Macros.set_permanent.Goals.{in-Some, in_defau
 pub returns : goal.returns
 returns c =
     let m = c.self.inside.bodies in
-    let begun = c.self.inside.begun in
+    let begun = option_map begun_in c.self.inside.begun in
     let event = control (making c.args.is_permanent) c.args.id in
     elim c.match-get_mut.branch [
       | in-Some w ↦
