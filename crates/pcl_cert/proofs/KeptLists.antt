@@ -31,7 +31,12 @@ use Rattle.pcl_cert.proofs.ListsSpelled.{numbers_again, text_len}
 pub table_length : (n : ℕ) (list : List ℕ) → length (table_of n list) ≡ n
 table_length n list =
     let zero_number : ℕ = 0 in
-    omega (arith, length-take n (list ++ replicate n zero_number), length-append list (replicate n zero_number), length-replicate n zero_number)
+    omega (
+      arith,
+      length-take n (list ++ replicate n zero_number),
+      length-append list (replicate n zero_number),
+      length-replicate n zero_number,
+    )
 
 pub table_number : (n : ℕ) (list : List ℕ) (k : ℕ) → k < n → get_or (table_of n list) k 0 ≡ get_or list k 0
 table_number n list k lt =
@@ -163,7 +168,13 @@ list_more old new numbers list whole few small is bytes_are starts_are =
     let there : drop start (bytes ++ text) ≡ text = drop_at bytes text start refl in
     let stay = lists_stay bytes text old.starts.items whole in
     let text_size : length text ≡ 2 + 2 * length list =
-    omega (arith, length-append (to_be_bytes w16 (length list)) (flat_map (to_be_bytes w16) list), two_bytes.len (length list), text_len list) in
+    omega (
+      arith,
+      length-append (to_be_bytes w16 (length list)) (flat_map (to_be_bytes w16) list),
+      two_bytes.len
+          (length list),
+      text_len list,
+    ) in
     record {
       list = list;
       trimmed = is;
@@ -270,7 +281,8 @@ one_row_more width rows done old new holds wide more =
       least = λ y method lt. subst (λ (lists : List (List ℕ)). IsLeastTable method (row_above width rows y) (row_at rows y)
           (table_of (width + 1) (get_or lists (4 * y + method_code method) []))) (sym all) (elim (cases_lt y done) [
             | inl earlier ↦
-                let kept : get_or (listed old ++ four) (4 * y + method_code method) [] ≡ get_or (listed old) (4 * y + method_code method) [] =
+                let kept : get_or (listed old ++ four) (4 * y + method_code method) [] ≡ get_or (listed old)
+                (4 * y + method_code method) [] =
                 get_or_append_left (listed old) four [] (4 * y + method_code method)
                 (omega (arith, before, earlier, code_below_four method)) in
                 subst (λ (list : List ℕ). IsLeastTable method (row_above width rows y) (row_at rows y) (table_of (width + 1) list))
@@ -284,7 +296,8 @@ one_row_more width rows done old new holds wide more =
                 subst (λ (list : List ℕ). IsLeastTable method (row_above width rows y) (row_at rows y) (table_of (width + 1) list))
                 (sym mine) (subst (λ (z : ℕ). IsLeastTable method (row_above width rows z) (row_at rows z)
                 (table_of (width + 1) (get_or four (method_code method) []))) last
-                (subst (λ (n : ℕ). IsLeastTable method (row_above width rows done) row (table_of (n + 1) (get_or four (method_code method) [])))
+                (subst (λ (n : ℕ). IsLeastTable method (row_above width rows done) row
+                (table_of (n + 1) (get_or four (method_code method) [])))
                 wide (four_least more method)))
           ]);
     }

@@ -75,7 +75,8 @@ end_of_list count =
 abbrev rest_of_list : ℕ × List ℕ → Result (List ℕ × List ℕ) CertFault
 rest_of_list count = if nat_lt (length count.1) (2 * count.0) then Err Short else end_of_list count
 
-found_at : (most : ℕ) (bytes : List ℕ) (count : ℕ) (behind_count numbers rest : List ℕ) → count_of bytes ≡ count → drop 2 bytes ≡ behind_count
+found_at : (most : ℕ) (bytes : List ℕ) (count : ℕ) (behind_count numbers rest : List ℕ) → count_of bytes ≡ count →
+    drop 2 bytes ≡ behind_count
     → 2 ≤ length bytes → 2 * count ≤ length behind_count → numbers_from count behind_count ≡ numbers
     → drop (2 * count) behind_count ≡ rest → count ≤ most → ends_in_zero (numbers_from count behind_count) ≡ false
     → IsFound most bytes numbers rest

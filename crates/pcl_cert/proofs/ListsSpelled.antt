@@ -29,7 +29,13 @@ pub text_len : (numbers : List ℕ) → length (flat_map (to_be_bytes w16) numbe
 text_len [] = refl
 text_len (n ∷ numbers) =
     let text : List ℕ = flat_map (to_be_bytes w16) numbers in
-    omega (arith, ap length (flat_map-cons (to_be_bytes w16) n numbers), length-append (to_be_bytes w16 n) text, two_bytes.len n, text_len numbers)
+    omega (
+      arith,
+      ap length (flat_map-cons (to_be_bytes w16) n numbers),
+      length-append (to_be_bytes w16 n) text,
+      two_bytes.len n,
+      text_len numbers,
+    )
 
 pub numbers_again : (numbers rest : List ℕ) → AllByRecursion (λ k. k < 2 ^ 16) numbers
     → numbers_from (length numbers) (flat_map (to_be_bytes w16) numbers ++ rest) ≡ numbers
@@ -73,7 +79,8 @@ list_spells most few = record {
       let text : list_bytes x.0 ≡ take (2 + 2 * count_of bytes) bytes =
       ap list_bytes found.numbers_are ∙ list_spelled bytes are found.whole in (
         record {
-          joined = sym (take-append-drop (2 + 2 * count_of bytes) bytes) ∙ ap (λ (t : List ℕ). t ++ drop (2 + 2 * count_of bytes) bytes) (sym text)
+          joined = sym (take-append-drop (2 + 2 * count_of bytes) bytes) ∙ ap
+              (λ (t : List ℕ). t ++ drop (2 + 2 * count_of bytes) bytes) (sym text)
               ∙ ap (λ (t : List ℕ). list_bytes x.0 ++ t) (sym found.rest_is);
           rest_are = subst AreBytes (sym found.rest_is) (rest_bytes (2 + 2 * count_of bytes) bytes are);
         },

@@ -167,11 +167,13 @@ proof_spells dpi format = record {
       let b = two.found text_len.0.1 rows.0 a.0.rest_are rows.1 in
       let height : page_height size.0 dpi ≡ rows.0.0 = size_found dpi rows.0.0 size.0 size.1 in
       let c = (table_spells (rows.0.0 + 1)).found rows.0.1 table.0 b.0.rest_are table.1 in
-      let d = (places_spell format rows.0.0 (page_row_bytes size.0 dpi) (row_bytes_small size.0 dpi)).found table.0.1 places.0 c.0.rest_are places.1 in
+      let d = (places_spell format rows.0.0 (page_row_bytes size.0 dpi) (row_bytes_small size.0 dpi)).found table.0.1
+      places.0 c.0.rest_are places.1 in
       let made : PageProof × List ℕ = (record { text_len = text_len.0.0; table = table.0.0; places = places.0.0 }, places.0.1) in
       let rows_are : rows.0.0 ≡ rows_in table.0.0 = omega (arith, c.1.0) in
       subst (λ (y : PageProof × List ℕ). Splits bytes (proof_bytes y.0) y.1 × IsProof dpi format y.0) (same_ok made x places.2) (
-        subst (λ (n : ℕ). Splits bytes (to_be_bytes w32 text_len.0.0 ++ to_be_bytes w16 n ++ table_bytes table.0.0 ++ lists_bytes places.0.0) places.0.1)
+        subst (λ (n : ℕ). Splits bytes (to_be_bytes w32 text_len.0.0 ++ to_be_bytes w16 n ++ table_bytes table.0.0 ++
+            lists_bytes places.0.0) places.0.1)
             rows_are (splits_both a.0 (splits_both b.0 (splits_both c.0 d.0))),
         record {
           size = size.0;

@@ -76,7 +76,8 @@ bound_data page lists text printed good = λ row method whole lt has.
     let are = widths page.size page.dpi rows printed.rows_are in
     let same : length (row_above width rows row) ≡ length (row_at rows row) =
     above_width width rows row are (omega arith) ∙ sym (row_width width rows row are lt) in
-    let bound = first_bounds method (row_above width rows row) (row_at rows row) (table_of (width + 1) (list_of lists row method)) whole same
+    let bound = first_bounds method (row_above width rows row) (row_at rows row)
+    (table_of (width + 1) (list_of lists row method)) whole same
     (good row method (omega (arith, printed.count))) has in
     omega (arith, bound, number_first width (list_of lists row method))
 

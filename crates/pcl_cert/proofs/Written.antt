@@ -21,7 +21,8 @@ pub front_stays : (front text new : List ℕ) → take (length (front ++ text)) 
     → take (length front) new ≡ front
 front_stays front text new e =
     let shorter : length front ≤ length (front ++ text) = omega (arith, length-append front text) in
-    sym (take-take (length front) (length (front ++ text)) new shorter) ∙ ap (take (length front)) e ∙ take_at front text (length front) refl
+    sym (take-take (length front) (length (front ++ text)) new shorter) ∙ ap (take (length front)) e ∙ take_at front
+    text (length front) refl
 
 -- a flat_map of one element more
 pub flat_more : {X : Type 0} (f : X → List ℕ) (xs : List X) (i : ℕ) (d : X) → i < length xs
@@ -39,7 +40,8 @@ proof_at_index dpi format [] i d are lt = absurd (omega arith)
 proof_at_index dpi format (proof ∷ proofs) zero d are lt = are.0
 proof_at_index dpi format (proof ∷ proofs) (suc i) d are lt = proof_at_index dpi format proofs i d are.1 (omega arith)
 
-pub proof_is : (dpi : Dpi) (format : Format) (proofs : List PageProof) (i : ℕ) (d : PageProof) → AreProofs dpi format (proofs_in format proofs)
+pub proof_is : (dpi : Dpi) (format : Format) (proofs : List PageProof) (i : ℕ) (d : PageProof) → AreProofs dpi format
+    (proofs_in format proofs)
     → i < length proofs → IsProof dpi format (proof_in format (get_or proofs i d))
 proof_is dpi format proofs i d are lt = proof_at_index dpi format proofs i d are.1 lt
 

@@ -12,8 +12,10 @@ returns-then-place-from c =
     let start : ℕ = c.index-start.result.now in
     let slice : c.as_slice-bytes.result.now ≡ bytes = c.as_slice-bytes.ensures in
     let within : c.args.place < count_of (drop start bytes) =
-    subst (λ (b : List ℕ). c.args.place < count_of (drop start b)) slice (omega (arith, c.if-place-from.true, c.from.ensures, c.word.ensures)) in
-    let lt = list_within c.args.self.now bytes starts c.args.row c.args.method c.code.result (sym c.self.view_is) c.requires c.code.ensures in
+    subst (λ (b : List ℕ). c.args.place < count_of (drop start b)) slice
+    (omega (arith, c.if-place-from.true, c.from.ensures, c.word.ensures)) in
+    let lt = list_within c.args.self.now bytes starts c.args.row c.args.method c.code.result (sym c.self.view_is)
+    c.requires c.code.ensures in
     rw (← c.self.view_is) (
     c.word-then-place-from.ensures
     ∙ ap (λ (b : List ℕ). from_be_bytes w16 (take 2 (drop (start + 2 + 2 * c.args.place) b))) slice
@@ -28,8 +30,10 @@ returns-else-place-from c =
     let start : ℕ = c.index-start.result.now in
     let slice : c.as_slice-bytes.result.now ≡ bytes = c.as_slice-bytes.ensures in
     let past : count_of (drop start bytes) ≤ c.args.place =
-    subst (λ (b : List ℕ). count_of (drop start b) ≤ c.args.place) slice (omega (arith, c.if-place-from.false, c.from.ensures, c.word.ensures)) in
-    let lt = list_within c.args.self.now bytes starts c.args.row c.args.method c.code.result (sym c.self.view_is) c.requires c.code.ensures in
+    subst (λ (b : List ℕ). count_of (drop start b) ≤ c.args.place) slice
+    (omega (arith, c.if-place-from.false, c.from.ensures, c.word.ensures)) in
+    let lt = list_within c.args.self.now bytes starts c.args.row c.args.method c.code.result (sym c.self.view_is)
+    c.requires c.code.ensures in
     rw (← c.self.view_is) (
     sym (number_past bytes starts k start c.args.place lt c.index-start.ensures past)
     ∙ ap (λ (code : ℕ). get_or (get_or (lists_within bytes starts) (4 * c.args.row + code) []) c.args.place 0) c.code.ensures)

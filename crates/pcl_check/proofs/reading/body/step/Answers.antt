@@ -13,7 +13,8 @@ returns-in_err-text c =
     let none = strip_prefix_is Decides-eqb c.args.place.text.now opening_bytes None c.in_err-text.ensures.cases in
     subst (λ result. IsStep picture c.args.comparison.size c.args.place c.args.above.now result c.args.above.now)
     (sym c.from_residual.ensures)
-    (λ rows printed. no_opening c.args.comparison.size picture.dpi (left_at c.args.comparison.size picture.dpi c.args.place c.args.above.now)
+    (λ rows printed. no_opening c.args.comparison.size picture.dpi
+    (left_at c.args.comparison.size picture.dpi c.args.place c.args.above.now)
     rows
     c.if-not-place.true none (c.requires.goes_on c.if-not-place.true) printed)
 
