@@ -37,6 +37,9 @@ fn spread_at(row: &[u8], scale: usize, index: usize) -> u8
     requires { (1 ≤ scale) × (scale ≤ 8) }
     ensures { (k : ℕ) → k < 8 → bit_of_byte result k ≡ dot_of_row row.now ((8 * index + k) / scale) }
 {
+    if scale == 1 {
+        return byte_at(row, index);
+    }
     let wide = spread_bits(byte_at(row, index / scale), scale);
     ((wide >> (8 * (scale - 1 - index % scale))) & 0xFF) as u8
 }

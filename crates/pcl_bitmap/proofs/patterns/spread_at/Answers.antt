@@ -6,4 +6,4 @@ use Rattle.pcl_bitmap.proofs.patterns.spread_at.Goals as goal
 pub returns : goal.returns
 returns c k small =
     spread_at_bits c.args.row.now c.spread_bits-wide.result c.args.scale c.args.index k (omega arith)
-    (λ j. c.spread_bits-wide.ensures j ∙ ap (λ n. bit_at n (j / c.args.scale)) c.byte_at.ensures) small
+    (λ j. c.spread_bits-wide.ensures j ∙ ap (λ n. bit_at n (j / c.args.scale)) c.byte_at-2.ensures) small
