@@ -18,6 +18,9 @@
 #   Gutenprint   printer-driver-gutenprint      (0, 50): `&a120V` below the top margin 0
 #   hp2xx        hp2xx                          (0, 0) of A4: `&l26A`, `&l0E`, `&a0V`; without them the first line, (0, 187)
 #   barcode      barcode                        rectangles: as decode.py paints them
+#   dvilj        texlive-binaries,              text in soft fonts, and rectangles: as decode.py paints them, and as dvips and
+#                texlive-base                   gs paint the same document: (0, 0) lies on (83, -1) of their sheet, since
+#                                               dvilj counts from an inch less 84 dots, and the two round otherwise
 #
 # PCLMIN names another build of pclmin. Needs Python 3; the packages are installed where they are missing.
 set -euo pipefail
@@ -25,7 +28,7 @@ cd "$(dirname "$0")/.."
 source bench/program.sh
 
 PACKAGES="netpbm imagemagick graphicsmagick efax ghostscript printer-driver-hpijs cups cups-ppdc cups-ipp-utils
-    printer-driver-gutenprint hp2xx barcode"
+    printer-driver-gutenprint hp2xx barcode texlive-binaries texlive-base"
 work=build/client
 bitmaps="$work/dither.pbm $work/strips.pbm"
 all_bitmaps="$work/picture.pbm $work/page.pbm $work/corner.pbm $bitmaps"
@@ -320,8 +323,45 @@ barcode_rows() {
     end "as the job says, by rectangles"
     begin "GNU barcode" barcode "-P"
     barcode -b 1234567 -P -o "$work/job.pcl"
-    refuses "$work/job.pcl" 300 UnsupportedCommand text
-    end "refused at its text"
+    refuses "$work/job.pcl" 300 NoFont text
+    end "refused at its text, which is in a font of the printer"
+}
+
+# Paints each page of the document by dvips and gs, in the same bitmap fonts.
+other_pages() {
+    local page
+    tex -interaction=batchmode -output-directory="$work" bench/document.tex > /dev/null
+    dvips -q -V1 -D 300 -mode cx -t letter -o "$work/document.ps" "$work/document.dvi" > "$work/job.log" 2>&1
+    gs -q -dSAFER -dBATCH -dNOPAUSE -sDEVICE=pbmraw -r300 -sPAPERSIZE=letter -sOutputFile="$work/other-%d" "$work/document.ps"
+    for page in 1 2; do
+        LC_ALL=C sed 2d "$work/other-$page" > "$work/other-$page.pbm" # without its comment
+    done
+}
+
+dvilj_rows() {
+    local program page
+    other_pages
+    for program in dvilj dvilj2p; do
+        begin "$program" texlive-binaries "two pages of TeX; 300, 600"
+        "$program" -q -e"$work/job.pcl" "$work/document.dvi" > "$work/job.log" 2>&1
+        says "$work/job.pcl" 600
+        says "$work/job.pcl" 300
+        for page in 1 2; do
+            "$PCLMIN" pbm --page "$page" < "$work/job.pcl" > "$work/job.preview"
+            python3 bench/beside.py "$work/job.preview" "$work/other-$page.pbm" 83 -1 2 "$work/text-$page.png" \
+                > "$work/job.beside" 2> "$work/job.fault" || wrong="WRONG: page $page: $(cat "$work/job.fault")"
+        done
+        end "as the job says, by soft fonts; no dot is more than 2 dots from one of dvips and ghostscript"
+    done
+    for program in dvilj4 dvilj4l dvilj6; do
+        begin "$program" texlive-binaries "two pages of TeX"
+        if "$program" -q -e"$work/job.pcl" "$work/document.dvi" > "$work/job.log" 2>&1; then
+            says "$work/job.pcl" 600
+            end "as the job says, by soft fonts"
+        else
+            end "sends nothing: it ends by a segmentation fault of its own"
+        fi
+    done
 }
 
 samples() {
@@ -354,5 +394,6 @@ ippevepcl_rows
 gutenprint_rows
 hp2xx_rows
 barcode_rows
+dvilj_rows
 samples
 exit "$status"

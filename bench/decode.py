@@ -1,12 +1,12 @@
 #!/usr/bin/env python3
 """Paints the page of a small job by the rules of docs/LANGUAGE.md, apart from pclmin and slowly.
 
-    python3 bench/decode.py JOB DPI > PAGE
+    python3 bench/decode.py JOB DPI [NUMBER] > PAGE
     python3 bench/decode.py JOB BITMAP > MEANT
 
 Knows what some clients send: resets, exits with their lines, the line spacing, the top margin, moves in PCL units and
-decipoints, rasters of any method and resolution, and rectangles, on one Letter page. Another command is an error. PAGE
-is a raw PBM.
+decipoints, rasters of any method and resolution, rectangles, and text in soft fonts, on Letter pages. Another command is
+an error. PAGE is a raw PBM of page 1, or of another whose number follows as a third word.
 
 Or paints the rows of a raster as pbmtolj means them when it sends the rows of BITMAP: a white row has no data, whatever
 the method, and leaves the seed row as it is. By the rules a row of method 3 without data is the row above once more, and
@@ -21,6 +21,8 @@ import pbm
 
 COMMAND = re.compile(rb"([+-]?)(\d*)(?:\.(\d*))?([@-~])")
 WITHOUT_EFFECT = {"&lO", "&lU", "&lZ", "&lL", "&lX", "&lA", "&lH", "*rF", "&kH", "&lS", "&lP"}
+WITH_DATA = {"*bW", ")sW", "(sW", "&pX"}
+CONTROLS = {0, *range(7, 16), 27}
 PAGE = (57600, 79200)  # Letter, in units of 1/7200 inch
 
 
@@ -28,7 +30,13 @@ def commands(job):
     """Each command as its name, its sign, its value in ten-thousandths, its data, and where it ends."""
     place = 0
     while place < len(job):
-        if job[place] != 0x1B:
+        if job[place] not in CONTROLS:
+            end = place
+            while end < len(job) and job[end] not in CONTROLS:
+                end += 1
+            yield "text", "", 0, job[place:end], end
+            place = end
+        elif job[place] != 0x1B:
             yield chr(job[place]), "", 0, b"", place + 1
             place += 1
         elif 48 <= job[place + 1] <= 126:
@@ -43,7 +51,7 @@ def commands(job):
                 last = letter < b"`"
                 value = int(whole or b"0") * 10000 + int((part + b"0000")[:4])
                 name = group + letter.decode().upper()
-                data = job[place:place + value // 10000] if name == "*bW" else b""
+                data = job[place:place + value // 10000] if name in WITH_DATA else b""
                 place += len(data)
                 yield name, sign.decode(), value, data, place
                 while name == "%X" and job.startswith(b"@PJL", place):
@@ -88,12 +96,31 @@ def decode(method, data, seed):
     return bytes(row)
 
 
+CODES = [range(32, 128), {*range(32, 128), *range(160, 256)}, range(256)]
+
+
+def number(data, place, signed=False):
+    return int.from_bytes(data[place:place + 2], "big", signed=signed)
+
+
+def header(data):
+    return {"type": data[3], "proportional": data[13] == 1, "pitch": number(data, 16), "permanent": False, "characters": {}}
+
+
+def character(data):
+    width, height = number(data, 10), number(data, 12)
+    count = (width + 7) // 8
+    rows = [int.from_bytes(data[16 + count * y:16 + count * (y + 1)], "big") >> (-width % 8) for y in range(height)]
+    return number(data, 6, True), number(data, 8, True), width, number(data, 14, True), rows
+
+
 class Page:
     def __init__(self, dpi):
         self.dpi = dpi
         self.unit = 7200 // dpi
         self.width, self.height = (length // self.unit for length in PAGE)
         self.rows = [0] * self.height
+        self.fonts = {}
         self.reset()
 
     def reset(self):
@@ -102,6 +129,9 @@ class Page:
         self.sizes = {"width": None, "height": None}
         self.rectangle = [0, 0]
         self.raster = None
+        self.font, self.code, self.selected, self.column = 0, 0, {"(": None, ")": None}, 720
+        self.in_use = "("
+        self.fonts = {key: font for key, font in self.fonts.items() if font["permanent"]}
 
     def ink(self, x, y, width, height, bits):
         """Inks the set bits of a row of `width` dots in each of `height` rows, on the page alone."""
@@ -142,6 +172,49 @@ class Page:
         goal = min(max(goal, 0), PAGE[axis])
         self.x, self.y = (goal, self.y) if axis == 0 else (self.x, goal)
 
+    def control(self, what):
+        font = self.fonts.get(self.font)
+        if what == 0:
+            self.fonts = {}
+        elif what == 1:
+            self.fonts = {key: font for key, font in self.fonts.items() if font["permanent"]}
+        elif what == 2:
+            self.fonts.pop(self.font, None)
+        elif font and what == 3:
+            font["characters"].pop(self.code, None)
+        elif font:
+            font["permanent"] = what == 5
+
+    def select(self, side, key):
+        if key in self.fonts:
+            self.selected[side], self.column = key, 6 * self.fonts[key]["pitch"]
+
+    def print(self, codes):
+        font = self.fonts.get(self.selected[self.in_use])
+        for code in codes:
+            if font and code in CODES[font["type"]] and code in font["characters"]:
+                left, top, width, delta, rows = font["characters"][code]
+                self.pattern(self.x // self.unit, self.y // self.unit, left, top, width, rows)
+                self.advance(6 * delta if font["proportional"] else self.column)
+            elif code == 32:
+                self.advance(self.column)
+            elif not font and code > 32:
+                sys.exit("text without a font")
+
+    def pattern(self, x, y, left, top, width, rows):
+        scale = self.dpi // 300
+        for number, bits in enumerate(rows):
+            for column in range(width):
+                dot = x + scale * (left + column)
+                if bits >> (width - 1 - column) & 1 and 0 <= dot < self.width:
+                    for row in range(scale):
+                        place = y + scale * (number - top) + row
+                        if 0 <= place < self.height:
+                            self.ink(dot, place, scale, 1, (1 << scale) - 1)
+
+    def advance(self, amount):
+        self.x = min(max(self.x + amount, 0), PAGE[0])
+
     def fill(self):
         width, height = (-(-length // self.unit) for length in self.rectangle)
         self.ink(self.x // self.unit, self.y // self.unit, width, height, (1 << width) - 1)
@@ -165,6 +238,27 @@ class Page:
             self.move("XY".index(name[2]), sign, value * self.pcl_unit // 10000)
         elif name in ("&aH", "&aV"):
             self.move("HV".index(name[2]), sign, value * 10 // 10000)
+        elif name in ("*cA", "*cB"):
+            self.rectangle["AB".index(name[2])] = value * self.pcl_unit // 10000
+        elif name == "*cD":
+            self.font = whole
+        elif name == "*cE":
+            self.code = whole
+        elif name == "*cF":
+            self.control(whole)
+        elif name == ")sW" and data:
+            self.fonts[self.font] = header(data)
+        elif name == "(sW" and data:
+            if self.font in self.fonts:
+                self.fonts[self.font]["characters"][self.code] = character(data)
+        elif name in ("(X", ")X"):
+            self.select(name[0], whole)
+        elif name in ("\x0e", "\x0f"):
+            self.in_use = ")" if name == "\x0e" else "("
+        elif name in ("text", "&pX"):
+            self.print(data)
+        elif name == "\0" or name == "&aL" and whole == 0:
+            pass
         elif name in ("*cH", "*cV"):
             self.rectangle["HV".index(name[2])] = value * 10 // 10000
         elif name == "*cP" and whole == 0:
@@ -188,11 +282,17 @@ class Page:
             sys.exit("%s isn't known here" % name)
 
 
-def paint(job, dpi):
+def paint(job, dpi, wanted):
     page = Page(dpi)
     for name, sign, value, data, end in commands(job):
         if name == "\f":
-            break
+            page.end()
+            wanted -= 1
+            if wanted == 0:
+                break
+            page.rows = [0] * page.height
+            page.y = page.top + 3 * page.line // 4
+            continue
         page.perform(name, sign, value, data)
         if name in ("E", "%X") and any(page.rows):
             break
@@ -217,9 +317,9 @@ def read(path):
         return source.read()
 
 
-if len(sys.argv) != 3:
+if not 3 <= len(sys.argv) <= 4:
     sys.exit(__doc__)
 if sys.argv[2].isdigit():
-    pbm.write("/dev/stdout", paint(read(sys.argv[1]), int(sys.argv[2])))
+    pbm.write("/dev/stdout", paint(read(sys.argv[1]), int(sys.argv[2]), int((sys.argv + ["1"])[3])))
 else:
     pbm.write("/dev/stdout", meant(read(sys.argv[1]), pbm.read(sys.argv[2])))

@@ -11,6 +11,8 @@ delta-300.pcl   as dense-300, in method 3: each row changes 1 to 8 bytes at each
 scaled-75.pcl   one Letter page of 825 rows of 75 bytes at 75 dots per inch, each dot a square of four by four
 text-64.pcl     64 pages at 300 dots per inch that look like pages of text: lines of short inked spans, each row
                 sent up to its last inked byte, with blank rows sent as rows of no bytes between and below them
+fonts-64.pcl    64 pages of text in six soft fonts, as TeX's dvilj sends it: each character is sent where it comes first,
+                words are runs of its codes with moves between them, and a page has some rules
 
 All bytes follow from one number: state = (1664525 * state + 1013904223) mod 2^32, from 1 on, of which each draw
 takes the highest bits. Each file begins with the state 1.
@@ -125,6 +127,70 @@ def text(pages):
     return head(300) + b"".join(text_page(numbers) for _ in range(pages)) + b"\x1bE"
 
 
+FONTS = 6
+ROMAN = range(97, 123)
+HEADER = bytes((0, 64, 0, 2, 0, 0, 0, 36, 0, 56, 0, 49, 0, 1, 1, 21, 4)).ljust(48, b"\0") + b" " * 16
+
+
+class Soft:
+    """Soft fonts, and what of them was sent."""
+
+    def __init__(self, numbers):
+        self.numbers, self.sent, self.selected = numbers, {}, None
+
+    def select(self, font):
+        if font == self.selected:
+            return b""
+        new = font not in [known for known, _ in self.sent]
+        self.selected = font
+        return (b"\x1b*c%dD\x1b)s64W%s\x1b*c4F" % (font, HEADER) if new else b"") + b"\x1b(%dX" % font
+
+    def character(self, code):
+        """What sends a character, and its advance in dots."""
+        if (self.selected, code) in self.sent:
+            return b"", self.sent[self.selected, code]
+        below = self.numbers.below
+        width, height = 14 + below(24), 20 + below(16)
+        self.sent[self.selected, code] = width + 2
+        numbers = (1, height - below(10), width, height, 4 * (width + 2))
+        rows = b"".join(self.numbers.row((width + 7) // 8) for _ in range(height))
+        data = bytes((4, 0, 14, 1, 0, 0)) + b"".join(number.to_bytes(2, "big") for number in numbers) + rows
+        return b"\x1b*c%dD\x1b*c%dE\x1b(s%dW" % (self.selected, code, len(data)) + data, self.sent[self.selected, code]
+
+    def word(self, font):
+        """What sends a word and prints it, and how wide it is."""
+        text, head, wide = b"", self.select(font), 0
+        for _ in range(2 + self.numbers.below(9)):
+            code = ROMAN[self.numbers.below(len(ROMAN))]
+            definition, advance = self.character(code)
+            head, text, wide = head + definition, text + bytes([code]), wide + advance
+        return head + text, wide
+
+
+def font_page(numbers, fonts):
+    """54 lines of words, 55 rows apart, most of a paragraph in one font, and a rule in one line of ten."""
+    page = b""
+    for line in range(54):
+        y, x, font = 150 + 55 * line, 150, 0
+        page += b"\x1b*p%dY" % y
+        if not numbers.below(10):
+            page += b"\x1b*p%dX\x1b*c1900A\x1b*c%dB\x1b*cP" % (x, 1 + numbers.below(4))
+            continue
+        while x < 2000:
+            if not numbers.below(8):
+                font = numbers.below(FONTS)
+            word, wide = fonts.word(font)
+            page += b"\x1b*p%dX" % x + word
+            x += wide + 12 + numbers.below(6)
+    return page + b"\x0c"
+
+
+def in_fonts(pages):
+    numbers = Numbers()
+    fonts = Soft(numbers)
+    return b"\x1bE\x1b&l0E\x1b&a0L" + b"".join(font_page(numbers, fonts) for _ in range(pages)) + b"\x1bE"
+
+
 def jobs():
     yield "dense-300", dense(300)
     yield "dense-600", dense(600)
@@ -133,6 +199,7 @@ def jobs():
     yield "delta-300", coded(3, delta)
     yield "scaled-75", dense(75)
     yield "text-64", text(64)
+    yield "fonts-64", in_fonts(64)
 
 
 def main(folder):

@@ -5,12 +5,14 @@
 //!
 //! Status 0: the page or the job was written. 1: the job is refused, or has no such page. 2: usage. 3: reading or
 //! writing failed. What a job means is in docs/LANGUAGE.md, and how it is written again in docs/OUTPUT.md. It knows
-//! the commands of raster jobs: of those that only move text it has the top margin, and no line spacing, no columns,
-//! no tabs, no line feeds, and no universal exit; and no rectangles.
+//! the commands of raster jobs, and of jobs of text in soft fonts with black rectangles: of those that only move text
+//! it has the top margin and the width of a column, and no line spacing, no columns, no tabs, no line feeds, and no
+//! universal exit.
 
 mod linear;
 mod plan;
 
+use std::collections::HashMap;
 use std::io::{self, Read, Write};
 use std::process::ExitCode;
 
@@ -22,6 +24,8 @@ const PCL_UNIT: u64 = 24;
 const LINE: u64 = 1200;
 const FIRST_LINE: u64 = 900;
 const TOP_MARGIN: u64 = 3600;
+const QUARTER_DOT: u64 = 6;
+const COLUMN: u64 = 720;
 
 fn main() -> ExitCode {
     let Some((task, dpi)) = arguments() else {
@@ -172,6 +176,71 @@ impl Bitmap {
         }
     }
 
+    /// Inks the set bits of a pattern, each a square of `scale` dots, the first at a dot that may lie off the page.
+    /// What lies off it is left out.
+    fn paint_pattern(&mut self, left: i64, top: i64, scale: usize, glyph: &Glyph) {
+        if glyph.width == 0 || left >= self.width as i64 {
+            return;
+        }
+        let row_bytes = glyph.width.div_ceil(8);
+        let last_bits = 0xFF << (8 * row_bytes - glyph.width);
+        let mut line = Vec::with_capacity(row_bytes * scale);
+        for (number, bytes) in glyph.pattern.chunks_exact(row_bytes).enumerate() {
+            let y = top + (number * scale) as i64;
+            if y + (scale as i64) <= 0 || y >= self.height as i64 {
+                continue;
+            }
+            line.clear();
+            line.extend_from_slice(bytes);
+            line[row_bytes - 1] &= last_bits;
+            if scale > 1 {
+                line = spread_bytes(&line, scale);
+            }
+            if left < 0 {
+                drop_bits(&mut line, left.unsigned_abs() as usize);
+            }
+            for y in y.max(0)..(y + scale as i64).min(self.height as i64) {
+                self.ink_line(left.max(0) as usize, y as usize, &line);
+            }
+        }
+    }
+
+    /// Inks the set bits of a line, the first at a dot of the page.
+    fn ink_line(&mut self, left: usize, y: usize, line: &[u8]) {
+        let row = &mut self.dots[y * self.row_bytes..][..self.row_bytes];
+        or_bits(&mut row[left / 8..], left % 8, line);
+        row[self.row_bytes - 1] &= 0xFF << (8 * self.row_bytes - self.width);
+    }
+
+    /// Makes the dots of a rectangle black or white, what of it lies on the page.
+    fn fill(&mut self, left: usize, top: usize, width: usize, height: usize, is_black: bool) {
+        let right = (left + width).min(self.width);
+        if left >= right {
+            return;
+        }
+        let (first, last) = (left / 8, (right - 1) / 8);
+        for y in top..(top + height).min(self.height) {
+            let row = &mut self.dots[y * self.row_bytes..][..self.row_bytes];
+            for (place, byte) in row.iter_mut().enumerate().take(last + 1).skip(first) {
+                let from = if place == first {
+                    0xFF >> (left % 8)
+                } else {
+                    0xFF
+                };
+                let to = if place == last {
+                    0xFF_u8 << (7 - (right - 1) % 8)
+                } else {
+                    0xFF
+                };
+                *byte = if is_black {
+                    *byte | (from & to)
+                } else {
+                    *byte & !(from & to)
+                };
+            }
+        }
+    }
+
     /// Appends the page as a raster of its rows, by a least body.
     fn rewrite(&self, dpi: u32, copies: u32, text: &mut Vec<u8>) {
         let start = format!(
@@ -218,6 +287,89 @@ fn or_bits(row: &mut [u8], shift: usize, bytes: &[u8]) {
     for (dots, byte) in row.iter_mut().zip(bytes.iter().chain([&0])) {
         *dots |= carried | byte >> shift;
         carried = byte << (8 - shift);
+    }
+}
+
+/// Drops the first bits of a line.
+fn drop_bits(line: &mut Vec<u8>, count: usize) {
+    line.drain(..(count / 8).min(line.len()));
+    let shift = count % 8;
+    if shift > 0 {
+        for place in 0..line.len() {
+            let next = line.get(place + 1).copied().unwrap_or(0);
+            line[place] = line[place] << shift | next >> (8 - shift);
+        }
+    }
+}
+
+// ---- soft fonts
+
+/// A character: a pattern of whole rows, and where it lies about the cursor.
+struct Glyph<'a> {
+    left: i16,
+    top: i16,
+    width: usize,
+    /// In quarter dots.
+    advance: i16,
+    pattern: &'a [u8],
+}
+
+impl<'a> Glyph<'a> {
+    fn read(data: &'a [u8]) -> Option<Glyph<'a>> {
+        let (head, rows) = data.split_at_checked(16)?;
+        if !matches!(head[..5], [4, 0, 14, 1, 0]) {
+            return None;
+        }
+        let signed = |place| i16::from_be_bytes([head[place], head[place + 1]]);
+        let count = |place| usize::from(u16::from_be_bytes([head[place], head[place + 1]]));
+        let (width, height) = (count(10), count(12));
+        Some(Glyph {
+            left: signed(6),
+            top: signed(8),
+            width,
+            advance: signed(14),
+            pattern: rows.get(..width.div_ceil(8) * height)?,
+        })
+    }
+}
+
+struct Font<'a> {
+    kind: u8,
+    is_proportional: bool,
+    is_permanent: bool,
+    /// In quarter dots.
+    pitch: u16,
+    glyphs: Vec<Option<Glyph<'a>>>,
+}
+
+impl<'a> Font<'a> {
+    /// The font of a header, without characters.
+    fn read(data: &[u8]) -> Option<Font<'a>> {
+        let head = data.get(..64)?;
+        let size = usize::from(u16::from_be_bytes([head[0], head[1]]));
+        let is_known = head[2] == 0 && head[3] <= 2 && head[12] == 0 && head[13] <= 1;
+        if !is_known || !(64..=data.len()).contains(&size) {
+            return None;
+        }
+        Some(Font {
+            kind: head[3],
+            is_proportional: head[13] == 1,
+            is_permanent: false,
+            pitch: u16::from_be_bytes([head[16], head[17]]),
+            glyphs: (0..256).map(|_| None).collect(),
+        })
+    }
+
+    /// The character that a code prints.
+    fn glyph(&self, code: u8) -> Option<&Glyph<'a>> {
+        let is_printed = match self.kind {
+            0 => matches!(code, 32..=127),
+            1 => matches!(code, 32..=127 | 160..=255),
+            _ => true,
+        };
+        self.glyphs[usize::from(code)]
+            .as_ref()
+            .filter(|_| is_printed)
     }
 }
 
@@ -361,6 +513,13 @@ struct Settings {
     raster_width: Option<usize>,
     raster_height: Option<usize>,
     method: u32,
+    column: u64,
+    font_id: u32,
+    code: u8,
+    /// The IDs of the primary and the secondary font.
+    selected: [Option<u32>; 2],
+    in_use: usize,
+    rectangle: [u64; 2],
 }
 
 impl Settings {
@@ -374,6 +533,12 @@ impl Settings {
         raster_width: None,
         raster_height: None,
         method: 0,
+        column: COLUMN,
+        font_id: 0,
+        code: 0,
+        selected: [None; 2],
+        in_use: 0,
+        rectangle: [0; 2],
     };
 
     fn to_first_line(&mut self) {
@@ -387,16 +552,24 @@ impl Settings {
         self.to_first_line();
     }
 
+    fn advance(&mut self, amount: i64) {
+        self.x = self
+            .x
+            .saturating_add_signed(amount)
+            .min(self.size.units_wide());
+    }
+
     fn move_to(&mut self, x: u64, y: u64) {
         self.x = x.min(self.size.units_wide());
         self.y = y.min(self.size.units_high());
     }
 }
 
-struct Performer {
+struct Performer<'a> {
     dpi: u32,
     task: Task,
     settings: Settings,
+    fonts: HashMap<u32, Font<'a>>,
     raster: Option<Raster>,
     bitmap: Bitmap,
     is_marked: bool,
@@ -410,6 +583,7 @@ fn perform(job: &[u8], task: Task, dpi: u32) -> Option<Task> {
         dpi,
         task,
         settings: Settings::DEFAULTS,
+        fonts: HashMap::new(),
         raster: None,
         bitmap: Bitmap::new(Size::Letter, dpi),
         is_marked: false,
@@ -427,8 +601,8 @@ fn perform(job: &[u8], task: Task, dpi: u32) -> Option<Task> {
     Some(performer.task)
 }
 
-impl Performer {
-    fn perform(&mut self, command: &Command) -> Option<()> {
+impl<'a> Performer<'a> {
+    fn perform(&mut self, command: &Command<'a>) -> Option<()> {
         if self.performed == COMMAND_LIMIT {
             return None;
         }
@@ -468,9 +642,40 @@ impl Performer {
     }
 
     /// All others.
-    fn perform_page(&mut self, command: &Command) -> Option<()> {
+    fn perform_page(&mut self, command: &Command<'a>) -> Option<()> {
         let value = command.value;
         match &command.name {
+            b"   " | b"&pX" => self.print(command.bytes)?,
+            b"  \x0e" => self.settings.in_use = 1,
+            b"  \x0f" => self.settings.in_use = 0,
+            b"*cD" if value.count()? <= 32767 => self.settings.font_id = value.count()?,
+            b"*cE" => self.settings.code = u8::try_from(value.count()?).ok()?,
+            b"*cF" => self.control_fonts(value.count()?)?,
+            b")sW" if !command.bytes.is_empty() => {
+                self.fonts
+                    .insert(self.settings.font_id, Font::read(command.bytes)?);
+            }
+            b"(sW" if !command.bytes.is_empty() => {
+                if let Some(font) = self.fonts.get_mut(&self.settings.font_id) {
+                    font.glyphs[usize::from(self.settings.code)] =
+                        Some(Glyph::read(command.bytes)?);
+                }
+            }
+            b")sW" | b"(sW" => {}
+            b"( X" => self.select(0, value.count()?),
+            b") X" => self.select(1, value.count()?),
+            b"&kH" => {
+                self.settings.column = u64::try_from(value.whole())
+                    .ok()
+                    .map(|_| value.parts * 60 / 10_000)?
+            }
+            b"&aL" if value.whole() == 0 => {}
+            b"*cA" | b"*cB" => {
+                value.count()?;
+                self.settings.rectangle[usize::from(command.name[2] - b'A')] =
+                    value.parts * PCL_UNIT / 10_000;
+            }
+            b"*cP" if matches!(value.count(), Some(0 | 1 | 5)) => self.fill(value.whole() != 1),
             b"  E" => self.reset()?,
             b"  \x0c" => self.eject()?,
             b"&lA" => {
@@ -502,6 +707,70 @@ impl Performer {
         Some(())
     }
 
+    /// Prints codes in the font that is selected and in use.
+    fn print(&mut self, codes: &[u8]) -> Option<()> {
+        let scale = (self.dpi / 300) as usize;
+        let unit = 7200 / u64::from(self.dpi);
+        let settings = &mut self.settings;
+        let font = settings.selected[settings.in_use].and_then(|id| self.fonts.get(&id));
+        if font.is_none() && codes.iter().any(|&code| code > 32) {
+            return None;
+        }
+        for &code in codes {
+            if let Some((font, glyph)) = font.and_then(|font| Some((font, font.glyph(code)?))) {
+                let left = (settings.x / unit) as i64 + i64::from(glyph.left) * scale as i64;
+                let top = (settings.y / unit) as i64 - i64::from(glyph.top) * scale as i64;
+                self.bitmap.paint_pattern(left, top, scale, glyph);
+                self.is_marked = true;
+                if font.is_proportional {
+                    settings.advance(i64::from(glyph.advance) * QUARTER_DOT as i64);
+                } else {
+                    settings.advance(settings.column as i64);
+                }
+            } else if code == 32 {
+                settings.advance(settings.column as i64);
+            }
+        }
+        Some(())
+    }
+
+    fn control_fonts(&mut self, control: u32) -> Option<()> {
+        let id = self.settings.font_id;
+        match control {
+            0 => self.fonts.clear(),
+            1 => self.fonts.retain(|_, font| font.is_permanent),
+            2 => drop(self.fonts.remove(&id)),
+            3..=5 => {
+                if let Some(font) = self.fonts.get_mut(&id) {
+                    match control {
+                        3 => font.glyphs[usize::from(self.settings.code)] = None,
+                        _ => font.is_permanent = control == 5,
+                    }
+                }
+            }
+            _ => return None,
+        }
+        Some(())
+    }
+
+    /// Selects a font, if it is there, as the primary or the secondary one.
+    fn select(&mut self, which: usize, id: u32) {
+        if let Some(font) = self.fonts.get(&id) {
+            self.settings.selected[which] = Some(id);
+            self.settings.column = u64::from(font.pitch) * QUARTER_DOT;
+        }
+    }
+
+    fn fill(&mut self, is_black: bool) {
+        let (left, top) = (self.dot(self.settings.x), self.dot(self.settings.y));
+        let [width, height] = self
+            .settings
+            .rectangle
+            .map(|units| units.div_ceil(self.unit()) as usize);
+        self.bitmap.fill(left, top, width, height, is_black);
+        self.is_marked = true;
+    }
+
     fn takes_resolution(&self, resolution: u32) -> bool {
         match self.dpi {
             300 => matches!(resolution, 75 | 100 | 150 | 300),
@@ -523,6 +792,7 @@ impl Performer {
         self.end_raster();
         self.eject_marked()?;
         self.settings = Settings::DEFAULTS;
+        self.fonts.retain(|_, font| font.is_permanent);
         if self.bitmap.size != Size::Letter {
             self.bitmap = Bitmap::new(Size::Letter, self.dpi);
         }
@@ -643,11 +913,17 @@ impl Number {
     }
 }
 
-/// A name is the two bytes after ESC and a capital letter; a name of one byte has two blanks before it.
+/// A name is the two bytes after ESC and a capital letter; a name of one byte has two blanks before it, and one of two
+/// bytes a blank between them.
 struct Command<'a> {
     name: [u8; 3],
     value: Number,
     bytes: &'a [u8],
+}
+
+/// Whether a byte outside sequences is printed.
+fn is_text(byte: u8) -> bool {
+    !matches!(byte, 0 | 7..=15 | 27)
 }
 
 struct Reader<'a> {
@@ -669,15 +945,35 @@ impl<'a> Reader<'a> {
         if let Some(group) = self.group {
             return self.parameter(group).map(Some);
         }
-        while let Some(byte) = self.byte() {
+        while let Some(&byte) = self.rest.first() {
+            if is_text(byte) {
+                return Some(Some(self.text()));
+            }
+            self.byte();
             match byte {
                 0 | 7 | 11 => {}
-                12 => return Some(Some(self.bare(byte))),
+                12 | 14 | 15 => return Some(Some(self.bare(byte))),
                 27 => return self.sequence().map(Some),
                 _ => return None,
             }
         }
         Some(None)
+    }
+
+    /// A run of text, named by three blanks.
+    fn text(&mut self) -> Command<'a> {
+        let end = self
+            .rest
+            .iter()
+            .position(|&byte| !is_text(byte))
+            .unwrap_or(self.rest.len());
+        let (bytes, rest) = self.rest.split_at(end);
+        self.rest = rest;
+        Command {
+            name: *b"   ",
+            value: Number::ZERO,
+            bytes,
+        }
     }
 
     /// A command of one byte, which has neither value nor data.
@@ -692,9 +988,12 @@ impl<'a> Reader<'a> {
     fn sequence(&mut self) -> Option<Command<'a>> {
         match self.byte()? {
             code @ 48..=126 => Some(self.bare(code)),
-            b'(' | b')' | b'%' => None,
-            parameterized @ 33..=47 => match self.byte()? {
-                group @ 96..=126 => self.parameter([parameterized, group]),
+            parameterized @ 33..=47 => match *self.rest.first()? {
+                group @ 96..=126 => {
+                    self.byte();
+                    self.parameter([parameterized, group])
+                }
+                _ if matches!(parameterized, b'(' | b')') => self.parameter([parameterized, b' ']),
                 _ => None,
             },
             _ => None,
@@ -705,7 +1004,7 @@ impl<'a> Reader<'a> {
         let value = self.value();
         let letter = self.byte()?;
         let goes_on = (96..=126).contains(&letter);
-        if !goes_on && !(64..=94).contains(&letter) {
+        if (!goes_on || group[1] == b' ') && !(64..=94).contains(&letter) {
             return None;
         }
         let greatest = if value.is_negative {
@@ -723,7 +1022,8 @@ impl<'a> Reader<'a> {
             if goes_on { letter - 32 } else { letter },
         ];
         let mut bytes: &[u8] = &[];
-        if &name == b"*bW" && value.whole() != 0 {
+        let has_data = matches!(&name, b"*bW" | b")sW" | b"(sW" | b"&pX");
+        if has_data && value.whole() != 0 {
             let len = usize::try_from(value.whole()).ok()?;
             if goes_on || self.rest.len() < len {
                 return None;
