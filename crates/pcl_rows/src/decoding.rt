@@ -18,18 +18,23 @@ pub fn decode(method: Method, seed: &[u8], bytes: &[u8], row: &mut [u8])
             row.fill(0);
             put_bytes(row, 0, bytes);
         }
-        Method::Runs | Method::Packed => {
+        Method::Runs => {
             row.fill(0);
-            treat(method, bytes, row);
+            treat(Method::Runs, bytes, row);
+        }
+        Method::Packed => {
+            row.fill(0);
+            treat(Method::Packed, bytes, row);
         }
         Method::Delta => {
             row.copy_from_slice(seed);
-            treat(method, bytes, row);
+            treat(Method::Delta, bytes, row);
         }
     }
 }
 
 /// Treats a row by its data.
+#[inline(always)]
 fn treat(method: Method, bytes: &[u8], row: &mut [u8])
     ensures { RowFrom method bytes.now row.old row.new }
 {
@@ -44,6 +49,7 @@ fn treat(method: Method, bytes: &[u8], row: &mut [u8])
 }
 
 /// The place that lies `offset` bytes further, or the row's end.
+#[inline(always)]
 fn skip(row_bytes: usize, place: usize, offset: u128) -> usize
     requires { place ≤ row_bytes }
     ensures { result ≡ min row_bytes (place + offset) }
@@ -56,6 +62,7 @@ fn skip(row_bytes: usize, place: usize, offset: u128) -> usize
 }
 
 /// Writes each byte as often as `copies` says, from a place of the row on. Answers where they end.
+#[inline(always)]
 fn put(row: &mut [u8], start: usize, copies: usize, bytes: &[u8]) -> usize
     requires { start ≤ length row.old }
     ensures row { row.new ≡ overlaid row.old start (flat_map (λ byte. replicate copies byte) bytes.now) }

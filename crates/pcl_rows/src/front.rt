@@ -23,6 +23,7 @@ pub struct Front<'a> {
 
 impl<'a> Front<'a> {
     /// Reads the first element of row data.
+    #[inline(always)]
     pub fn read(method: Method, bytes: &'a [u8]) -> Front<'a>
         requires { 0 < length bytes.now }
         ensures few { (length result.bytes.now ≤ 128) × (result.copies ≤ 256) × (result.offset < 2 ^ 100) }

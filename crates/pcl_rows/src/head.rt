@@ -21,6 +21,7 @@ pub struct Opening {
 
 impl Opening {
     /// Reads the front of row data, which may end within these bytes.
+    #[inline(always)]
     pub fn read(method: Method, bytes: &[u8]) -> Opening
         requires { 0 < length bytes.now }
         ensures opens { Opens method bytes.now result.len result.offset result.new_count result.copies }
