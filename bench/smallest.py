@@ -65,8 +65,9 @@ def photograph(folder, dpi):
         for y in range(height):
             out.write(bytes(int(128 + 40 * (across[x] + down[y])) for x in range(width)))
     name = os.path.join(folder, "photograph-%d.pbm" % dpi)
+    dithered = subprocess.run(["pamditherbw", "-floyd", "-randomseed=1", grey], stdout=subprocess.PIPE, check=True)
     with open(name, "wb") as out:
-        subprocess.run(["pamditherbw", "-floyd", "-randomseed=1", grey], stdout=out, check=True)
+        subprocess.run(["pamtopnm"], input=dithered.stdout, stdout=out, check=True)
     return name
 
 
