@@ -1,17 +1,19 @@
 #!/usr/bin/env python3
-"""Compares what pclmin writes of a page with what clients send of it, in bytes and in processor time, and prints two tables.
+"""Compares what pclmin writes of a page with what clients send of it, in bytes and in processor time, and prints a table.
 
     python3 bench/smallest.py PCLMIN PLAIN FOLDER
 
-The pages are a page of text as ghostscript paints it, rings over a whole page as a line drawing, and a smooth picture of
-greys dithered by error diffusion, at 300 and at 600 dots per inch. Each client gets the bitmap, or for ghostscript the
+The pages are bitmaps of 7.47 by 10 inches, a page of text as ghostscript paints it, rings as a line drawing, and a smooth
+picture of greys dithered by error diffusion, at 300 and at 600 dots per inch. Each client gets the bitmap, ghostscript as
 PostScript of it; pclmin and the plain program get what `pbmtolj` sends of it plain. A time is the processor's, of the user
-and of the system, the least of 11 runs in turn. It fails where a client's job that pclmin reads is of other dots, or where
-the two programs write different bytes. Needs netpbm, ghostscript and graphicsmagick.
+and of the system, the least of 11 runs in turn. It fails where the two programs write different bytes, and tells whether the
+dots of each job are those of the bitmap, wherever they lie on the page. The moves by registration offsets that ghostscript
+sends are left out of the jobs for that, since pclmin refuses them. Needs netpbm, ghostscript and graphicsmagick.
 """
 
 import math
 import os
+import re
 import subprocess
 import sys
 
@@ -25,24 +27,34 @@ WORDS = "a site on a slow line sends the dots of each page and not its fonts so 
 
 # ---- the pages
 
+def size_at(dpi):
+    return 2240 * dpi // 300, 10 * dpi
+
+
+def without_comments(image, name):
+    """Writes an image as a PBM file as pbm.py reads it."""
+    with open(name, "wb") as out:
+        subprocess.run(["pamtopnm"], input=image, stdout=out, check=True)
+    return name
+
+
 def text_page(folder, dpi):
-    """A page of sixty lines in Times, painted by ghostscript."""
+    """A page of lines in Times, painted by ghostscript."""
     source = os.path.join(folder, "text.ps")
     with open(source, "w") as out:
         out.write("%!PS\n/Times-Roman findfont 11 scalefont setfont\n")
         for line in range(56):
-            words = " ".join(WORDS[(7 * line + 5 * word) % len(WORDS)] for word in range(14))
-            out.write("72 %d moveto (%s) show\n" % (720 - 12 * line, words))
+            words = " ".join(WORDS[(7 * line + 5 * word) % len(WORDS)] for word in range(15))
+            out.write("24 %d moveto (%s) show\n" % (690 - 12 * line, words))
         out.write("showpage\n")
     name = os.path.join(folder, "text-%d.pbm" % dpi)
-    # a page as high as pbmtolj's: its first row stands 37 dots below the edge at 300 dots per inch
-    size = "-g%dx%d" % (8 * dpi, 3262 * dpi // 300)
-    subprocess.run(["gs", "-q", "-dBATCH", "-dNOPAUSE", "-sDEVICE=pbmraw", "-r%d" % dpi, size, "-o", name, source], check=True)
-    return name
+    size = "-g%dx%d" % size_at(dpi)
+    command = ["gs", "-q", "-dBATCH", "-dNOPAUSE", "-sDEVICE=pbmraw", "-r%d" % dpi, size, "-o", "-", source]
+    return without_comments(subprocess.run(command, stdout=subprocess.PIPE, check=True).stdout, name)
 
 
 def drawn(folder, name, dpi, is_inked):
-    width, height = 8 * dpi, 3262 * dpi // 300
+    width, height = size_at(dpi)
     rows = [int("".join("01"[is_inked(x, y)] for x in range(width)), 2) for y in range(height)]
     path = os.path.join(folder, "%s-%d.pbm" % (name, dpi))
     pbm.write(path, (width, height, rows))
@@ -56,7 +68,7 @@ def rings(dpi):
 
 def photograph(folder, dpi):
     """Greys that change smoothly, dithered by netpbm's error diffusion."""
-    width, height = 8 * dpi, 3262 * dpi // 300
+    width, height = size_at(dpi)
     across = [math.sin(9 * x / width) + 0.5 * math.sin(31 * x / width) for x in range(width)]
     down = [math.cos(7 * y / height) + 0.5 * math.sin(23 * y / height) for y in range(height)]
     grey = os.path.join(folder, "grey-%d.pgm" % dpi)
@@ -65,10 +77,8 @@ def photograph(folder, dpi):
         for y in range(height):
             out.write(bytes(int(128 + 40 * (across[x] + down[y])) for x in range(width)))
     name = os.path.join(folder, "photograph-%d.pbm" % dpi)
-    dithered = subprocess.run(["pamditherbw", "-floyd", "-randomseed=1", grey], stdout=subprocess.PIPE, check=True)
-    with open(name, "wb") as out:
-        subprocess.run(["pamtopnm"], input=dithered.stdout, stdout=out, check=True)
-    return name
+    command = ["pamditherbw", "-floyd", "-randomseed=1", grey]
+    return without_comments(subprocess.run(command, stdout=subprocess.PIPE, check=True).stdout, name)
 
 
 # ---- the runs
@@ -83,13 +93,19 @@ def spent(command, source, target):
     return usage.ru_utime + usage.ru_stime
 
 
-def postscript_of(bitmap, dpi):
-    """PostScript that paints a bitmap dot for dot, with the first row where the page's printable area begins."""
+def postscript_of(bitmap):
+    """PostScript that paints a bitmap dot for dot, half an inch from the left and from below."""
+    width, height, rows = pbm.read(bitmap)
+    dots = pbm.packed((width, height, rows))
     path = bitmap + ".ps"
-    with open(path, "wb") as out:
-        made = subprocess.run(["pnmtops", "-noturn", "-dpi=%d" % dpi, "-equalpixels", "-nocenter", "-rle", bitmap],
-                              stdout=out, stderr=subprocess.DEVNULL)
-    return path if made.returncode == 0 else None
+    dpi = height // 10
+    with open(path, "w") as out:
+        out.write("%%!PS\n/line %d string def\n36 36 translate %g %g scale\n" % (len(dots[0]), 72 * width / dpi, 720))
+        out.write("%d %d true [%d 0 0 %d 0 %d]\n" % (width, height, width, -height, height))
+        out.write("{currentfile line readhexstring pop} imagemask\n")
+        out.writelines(row.hex() + "\n" for row in dots)
+        out.write("showpage\n")
+    return path
 
 
 def clients(bitmap, dpi):
@@ -99,12 +115,39 @@ def clients(bitmap, dpi):
     for option in ("None", "RLE"):
         yield ("GraphicsMagick, " + option,
                ["gm", "convert", "-density", "%dx%d" % (dpi, dpi), "-compress", option, bitmap, "pcl:-"], bitmap)
-    source = postscript_of(bitmap, dpi)
-    for device in ("ljet2p", "ljet3", "ljet4", "lj4dith") if source else ():
-        if device != "ljet2p" or dpi == 300:
+    source = postscript_of(bitmap)
+    for device in ("ljet2p", "ljet3", "ljet4"):
+        if device == "ljet4" or dpi == 300:
             yield ("ghostscript, " + device,
-                   ["gs", "-q", "-dBATCH", "-dNOPAUSE", "-sDEVICE=" + device, "-r%d" % dpi, "-o", "-", source], source)
+                   ["gs", "-q", "-dBATCH", "-dNOPAUSE", "-sPAPERSIZE=letter", "-sDEVICE=" + device, "-r%d" % dpi, "-o", "-",
+                    source], source)
 
+
+# ---- the dots
+
+def trimmed(bitmap):
+    """The rows from the first inked one to the last, without the white columns on the right."""
+    _, _, rows = pbm.read(bitmap)
+    inked = [place for place, row in enumerate(rows) if row]
+    rows = rows[inked[0]:inked[-1] + 1]
+    together = 0
+    for row in rows:
+        together |= row
+    right = (together & -together).bit_length() - 1
+    return [row >> right for row in rows]
+
+
+def has_dots(program, job, dpi, wanted):
+    """Whether the dots of a job are those of the bitmap."""
+    with open(job, "rb") as source:
+        moved = re.sub(rb"\x1b&l-?\d+u-?\d+Z", b"", source.read())
+    page = job + ".pbm"
+    with open(page, "wb") as out:
+        subprocess.run([program, "pbm", "--page", "1", "--dpi", str(dpi)], input=moved, stdout=out, check=True)
+    return trimmed(page) == wanted
+
+
+# ---- the table
 
 def row(cells):
     print("| " + " | ".join(str(cell) for cell in cells) + " |", flush=True)
@@ -125,9 +168,12 @@ def compare(programs, bitmap, name, dpi, folder):
     with open(written[0], "rb") as one, open(written[1], "rb") as other:
         if one.read() != other.read():
             sys.exit("%s at %d: the programs write different bytes" % (name, dpi))
+    wanted = trimmed(bitmap)
     least = min(again[0][4])
     for client, _, _, target, seconds in jobs + again:
-        row([name, dpi, client, "{:,}".format(os.path.getsize(target)), "%.3f" % min(seconds), "%.2f" % (least / min(seconds))])
+        dots = "the same" if has_dots(programs[0], target, dpi, wanted) else "others"
+        times = ["%.3f" % min(seconds), "%.2f" % (least / min(seconds))]
+        row([name, dpi, client, "{:,}".format(os.path.getsize(target)), dots] + times)
 
 
 def main(arguments):
@@ -135,8 +181,8 @@ def main(arguments):
         sys.exit(__doc__)
     programs, folder = arguments[:2], arguments[2]
     os.makedirs(folder, exist_ok=True)
-    row(["Page", "dpi", "Written by", "Bytes", "Processor, s", "pclmin's time over it"])
-    row(["---", "---:", "---", "---:", "---:", "---:"])
+    row(["Page", "dpi", "Written by", "Bytes", "Dots", "Processor, s", "pclmin's time over it"])
+    row(["---", "---:", "---", "---:", "---", "---:", "---:"])
     for dpi in (300, 600):
         compare(programs, text_page(folder, dpi), "text", dpi, folder)
         compare(programs, drawn(folder, "drawing", dpi, rings(dpi)), "drawing", dpi, folder)
