@@ -4,3 +4,4 @@ pub mod Image
 pub mod Choice
 pub mod Preview
 pub mod Minimizing
+pub mod Certified
