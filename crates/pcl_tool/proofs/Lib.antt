@@ -1,3 +1,9 @@
 pub mod Writes
 pub mod Choices
 pub mod Texts
+pub mod Framed
+pub mod Checkers
+pub mod JobsChecked
+pub mod LeastTexts
+pub mod SameVerdicts
+pub mod CertifiedJobs

@@ -5,3 +5,7 @@ pub mod Choice
 pub mod Preview
 pub mod Minimizing
 pub mod Certified
+pub mod JobVerdicts
+pub mod PageChecks
+pub mod CheckerSteps
+pub mod LeastJobs
