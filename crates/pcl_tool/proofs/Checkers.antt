@@ -1,6 +1,6 @@
 -- What the checker of pages has found behind the last page.
 use Rattle.std.proofs.Common.{◌≡◌, ℕ, zero, suc, ◌+◌, ◌≤◌, List, [], ◌∷◌, ◌++◌, length, take, drop, refl, sym, ap, subst, ◌∙◌, append_assoc, arith, Ok}
-use Rattle.std.proofs.lemmas.List.{length-drop, length-take-le, take-append-drop}
+use Rattle.std.proofs.lemmas.List.{length-drop, length-take-le, take-append-drop, drop-drop}
 use Rattle.pcl_base.specs.declared.dpi.Dpi.{Dpi}
 use Rattle.pcl_page.specs.declared.page.Page.{Page}
 use Rattle.pcl_page.specs.History.{Sheet}
@@ -19,10 +19,10 @@ use Rattle.pcl_tool.specs.declared.page_checks.Checker.{Checker}
 use Rattle.pcl_tool.specs.Certified.{tables_of, AreProved}
 use Rattle.pcl_tool.specs.JobVerdicts.{AreCompared, IsFramed, IsFirstFailure, IsJobVerdict, text_bytes}
 use Rattle.pcl_tool.specs.PageChecks.{IsFound}
-use Rattle.pcl_tool.specs.CheckerSteps.{FindsNext, TakesNext, BeginsWith, IsBegun, answer}
+use Rattle.pcl_tool.specs.CheckerSteps.{FindsNext, TakesNext, TakesPage, proofs_left, answer}
 
 abbrev pub takes : Checker → Page → Checker → Type 0
-takes old page new = TakesNext old.proofs.now old page new
+takes = TakesPage
 
 -- ---- what is found wrong stays
 
@@ -34,48 +34,71 @@ wrong_stays (job.Certificate fault) proof old new page wrong f = f
 wrong_stays job.PageCount proof old new page wrong f = f
 wrong_stays job.Frame proof old new page wrong f = f
 
--- the next page of some that are left
-step : (proof : PageProof) (later : List PageProof) (old new : Checker) (page : Page) → old.proofs.now ≡ proof ∷ later
-    → takes old page new → TakesNext (proof ∷ later) old page new
-step proof later old new page e t = subst (λ (proofs : List PageProof). TakesNext proofs old page new) e t
+-- the proofs that are left behind the next one
+next_left : (k : ℕ) (all : List PageProof) (proof : PageProof) (later : List PageProof) → drop k all ≡ proof ∷ later
+    → drop (k + 1) all ≡ later
+next_left k all proof later e =
+    sym (drop-drop 1 k all) ∙ ap (drop 1) e
 
-past : (old new : Checker) (page : Page) → old.proofs.now ≡ [] → takes old page new → TakesNext [] old page new
-past old new page e t = subst (λ (proofs : List PageProof). TakesNext proofs old page new) e t
+-- a page that takes a proof
+record IsStep (proof : PageProof) (later : List PageProof) (old new : Checker) (page : Page) : Type 0 where
+  pub left : proofs_left new ≡ later
+  pub taken : new.taken ≡ old.taken + 1
+  pub finds : FindsNext old.found proof old page new
+
+step : (proof : PageProof) (later : List PageProof) (old new : Checker) (page : Page) → proofs_left old ≡ proof ∷ later
+    → takes old page new → IsStep proof later old new page
+step proof later old new page e t =
+    let next = subst (λ (proofs : List PageProof). TakesNext proofs old page new) e t in
+    record {
+      left = ap (λ (k : ℕ). drop k new.proofs.now) next.1 ∙ ap (λ (ps : List PageProof). drop (old.taken + 1) ps) next.0
+          ∙ next_left old.taken old.proofs.now proof later e;
+      taken = next.1;
+      finds = next.2;
+    }
+
+-- a page too many
+past : (old new : Checker) (page : Page) → proofs_left old ≡ [] → takes old page new → (proofs_left new ≡ []) × (new.found ≡ job.PageCount)
+past old new page e t =
+    let next = subst (λ (proofs : List PageProof). TakesNext proofs old page new) e t in (
+      ap (λ (k : ℕ). drop k new.proofs.now) next.1 ∙ ap (λ (ps : List PageProof). drop old.taken ps) next.0 ∙ e,
+      next.2,
+    )
 
 pub stays : (dpi : Dpi) (sheets : List Sheet) (proofs : List PageProof) (found : JobVerdict) (old new : Checker)
-    → (found ≡ job.Proved → ⊥) → old.found ≡ found → old.proofs.now ≡ proofs → length sheets ≡ length proofs
-    → Hands takes dpi sheets old new → (new.proofs.now ≡ []) × (new.found ≡ found)
-stays dpi [] [] found old new wrong f e same h = (ap (λ (c : Checker). c.proofs.now) h ∙ e, ap (λ (c : Checker). c.found) h ∙ f)
+    → (found ≡ job.Proved → ⊥) → old.found ≡ found → proofs_left old ≡ proofs → length sheets ≡ length proofs
+    → Hands takes dpi sheets old new → (proofs_left new ≡ []) × (new.found ≡ found)
+stays dpi [] [] found old new wrong f e same h = (ap proofs_left h ∙ e, ap (λ (c : Checker). c.found) h ∙ f)
 stays dpi [] (proof ∷ proofs) found old new wrong f e same h = absurd (omega arith)
 stays dpi (sheet ∷ sheets) [] found old new wrong f e same h = absurd (omega arith)
 stays dpi (sheet ∷ sheets) (proof ∷ proofs) found old new wrong f e same h =
     let t = step proof proofs old h.1 h.0 e h.3 in
     let next : h.1.found ≡ found =
-    wrong_stays found proof old h.1 h.0 wrong (subst (λ (v : JobVerdict). FindsNext v proof old h.0 h.1) f t.2) in
-    stays dpi sheets proofs found h.1 new wrong next t.0 (omega arith) h.4
+    wrong_stays found proof old h.1 h.0 wrong (subst (λ (v : JobVerdict). FindsNext v proof old h.0 h.1) f t.finds) in
+    stays dpi sheets proofs found h.1 new wrong next t.left (omega arith) h.4
 
 -- ---- a page or a proof too many
 
-short_stays : (dpi : Dpi) (sheets : List Sheet) (old new : Checker) → old.proofs.now ≡ [] → old.found ≡ job.PageCount
-    → Hands takes dpi sheets old new → (new.proofs.now ≡ []) × (new.found ≡ job.PageCount)
-short_stays dpi [] old new e f h = (ap (λ (c : Checker). c.proofs.now) h ∙ e, ap (λ (c : Checker). c.found) h ∙ f)
+short_stays : (dpi : Dpi) (sheets : List Sheet) (old new : Checker) → proofs_left old ≡ [] → old.found ≡ job.PageCount
+    → Hands takes dpi sheets old new → (proofs_left new ≡ []) × (new.found ≡ job.PageCount)
+short_stays dpi [] old new e f h = (ap proofs_left h ∙ e, ap (λ (c : Checker). c.found) h ∙ f)
 short_stays dpi (sheet ∷ sheets) old new e f h =
     let t = past old h.1 h.0 e h.3 in short_stays dpi sheets h.1 new t.0 t.1 h.4
 
 answered : (proofs left : List PageProof) (found given : JobVerdict) → left ≡ proofs → given ≡ found → answer left given ≡ answer proofs found
 answered proofs left found given e f = ap (λ (ps : List PageProof). answer ps given) e ∙ ap (answer proofs) f
 
-pub miscounted : (dpi : Dpi) (sheets : List Sheet) (proofs : List PageProof) (old new : Checker) → old.proofs.now ≡ proofs
-    → (length sheets ≡ length proofs → ⊥) → Hands takes dpi sheets old new → answer new.proofs.now new.found ≡ job.PageCount
+pub miscounted : (dpi : Dpi) (sheets : List Sheet) (proofs : List PageProof) (old new : Checker) → proofs_left old ≡ proofs
+    → (length sheets ≡ length proofs → ⊥) → Hands takes dpi sheets old new → answer (proofs_left new) new.found ≡ job.PageCount
 miscounted dpi [] [] old new e other h = absurd (other refl)
 miscounted dpi [] (proof ∷ proofs) old new e other h =
-    answered (proof ∷ proofs) new.proofs.now new.found new.found (ap (λ (c : Checker). c.proofs.now) h ∙ e) refl
+    answered (proof ∷ proofs) (proofs_left new) new.found new.found (ap proofs_left h ∙ e) refl
 miscounted dpi (sheet ∷ sheets) [] old new e other h =
     let t = past old h.1 h.0 e h.3 in
-    let s = short_stays dpi sheets h.1 new t.0 t.1 h.4 in answered [] new.proofs.now job.PageCount new.found s.0 s.1
+    let s = short_stays dpi sheets h.1 new t.0 t.1 h.4 in answered [] (proofs_left new) job.PageCount new.found s.0 s.1
 miscounted dpi (sheet ∷ sheets) (proof ∷ proofs) old new e other h =
     let t = step proof proofs old h.1 h.0 e h.3 in
-    miscounted dpi sheets proofs h.1 new t.0 (λ same. other (omega (arith, same))) h.4
+    miscounted dpi sheets proofs h.1 new t.left (λ same. other (omega (arith, same))) h.4
 
 -- ---- as many pages as proofs
 
@@ -133,22 +156,22 @@ behind dpi sheet sheets texts text rest proof proofs taken job.Frame p e o = o
 -- what is known of the texts and proofs that are left as long as nothing is wrong
 pub record AreLeft (texts : List ℕ) (proofs : List PageProof) (checker : Checker) : Type 0 where
   pub texts_are : checker.texts.now ≡ texts
-  pub proofs_are : checker.proofs.now ≡ proofs
+  pub proofs_are : proofs_left checker ≡ proofs
   pub as_long : length texts ≡ text_bytes proofs
 
 -- what becomes of pages behind one, by what is found of that one
 abbrev Follows : Dpi → List Sheet → List ℕ → List PageProof → ℕ → Checker → Checker → Type 0
 Follows dpi sheets texts proofs taken old new =
     (old.found ≡ job.Proved) → (old.taken ≡ taken) → AreLeft texts proofs old → length sheets ≡ length proofs
-    → Hands takes dpi sheets old new → (new.proofs.now ≡ []) × IsOutcome dpi sheets texts proofs taken new.found
+    → Hands takes dpi sheets old new → (proofs_left new ≡ []) × IsOutcome dpi sheets texts proofs taken new.found
 
 at_page : (dpi : Dpi) (sheet : Sheet) (sheets : List Sheet) (texts : List ℕ) (proof : PageProof) (proofs : List PageProof) (taken : ℕ)
     (page : Page) (middle new : Checker) (found : JobVerdict) → found ≡ middle.found
     → IsFound page (take proof.text_len texts) proof (taken + 1) found
-    → Shows dpi page sheet → middle.proofs.now ≡ proofs → middle.taken ≡ taken + 1 → middle.texts.now ≡ drop proof.text_len texts
+    → Shows dpi page sheet → proofs_left middle ≡ proofs → middle.taken ≡ taken + 1 → middle.texts.now ≡ drop proof.text_len texts
     → length texts ≡ proof.text_len + text_bytes proofs → length sheets ≡ length proofs → Hands takes dpi sheets middle new
     → ((rest : List ℕ) → Follows dpi sheets rest proofs (taken + 1) middle new)
-    → (new.proofs.now ≡ []) × IsOutcome dpi (sheet ∷ sheets) texts (proof ∷ proofs) taken new.found
+    → (proofs_left new ≡ []) × IsOutcome dpi (sheet ∷ sheets) texts (proof ∷ proofs) taken new.found
 at_page dpi sheet sheets texts proof proofs taken page middle new job.Proved f is shows e n t long same h follows =
     let text = take proof.text_len texts in
     let rest = drop proof.text_len texts in
@@ -204,17 +227,17 @@ empty_texts (byte ∷ texts) e = absurd (omega arith)
 pub outcome : (dpi : Dpi) (sheets : List Sheet) (texts : List ℕ) (proofs : List PageProof) (taken : ℕ) (old new : Checker)
     → Follows dpi sheets texts proofs taken old new
 outcome dpi [] texts [] taken old new = λ f n left same h. (
-  ap (λ (c : Checker). c.proofs.now) h ∙ left.proofs_are,
+  ap proofs_left h ∙ left.proofs_are,
   subst (IsOutcome dpi [] texts [] taken) (sym (ap (λ (c : Checker). c.found) h ∙ f)) (empty_texts texts left.as_long),
 )
 outcome dpi [] texts (proof ∷ proofs) taken old new = λ f n left same h. absurd (omega (arith, same))
 outcome dpi (sheet ∷ sheets) texts [] taken old new = λ f n left same h. absurd (omega (arith, same))
 outcome dpi (sheet ∷ sheets) texts (proof ∷ proofs) taken old new = λ f n left same h.
     let t = step proof proofs old h.1 h.0 left.proofs_are h.3 in
-    let next = subst (λ (v : JobVerdict). FindsNext v proof old h.0 h.1) f t.2 in
+    let next = subst (λ (v : JobVerdict). FindsNext v proof old h.0 h.1) f t.finds in
     let found : IsFound h.0 (take proof.text_len texts) proof (taken + 1) h.1.found =
     subst (λ (ts : List ℕ). IsFound h.0 (take proof.text_len ts) proof (taken + 1) h.1.found) left.texts_are
     (subst (λ (k : ℕ). IsFound h.0 (take proof.text_len old.texts.now) proof (k + 1) h.1.found) n next.1) in
-    at_page dpi sheet sheets texts proof proofs taken h.0 h.1 new h.1.found refl found h.2 t.0 (t.1 ∙ ap (λ (k : ℕ). k + 1) n)
+    at_page dpi sheet sheets texts proof proofs taken h.0 h.1 new h.1.found refl found h.2 t.left (t.taken ∙ ap (λ (k : ℕ). k + 1) n)
     (next.0 ∙ ap (drop proof.text_len) left.texts_are) left.as_long (omega (arith, same)) h.4
     (λ rest. outcome dpi sheets rest proofs (taken + 1) h.1 new)

@@ -2,6 +2,8 @@ pub mod Writes
 pub mod Choices
 pub mod Texts
 pub mod Framed
+pub mod Left
+pub mod SameCheckers
 pub mod Checkers
 pub mod JobsChecked
 pub mod LeastTexts

@@ -19,11 +19,17 @@ FindsNext (job.Certificate fault) proof old page new = new.found ≡ job.Certifi
 FindsNext job.PageCount proof old page new = new.found ≡ job.PageCount
 FindsNext job.Frame proof old page new = new.found ≡ job.Frame
 
--- a page takes the next proof, where one is left
+-- a page by the proofs that are left: it takes the next, where there is one
 abbrev pub TakesNext : List PageProof → Checker → Page → Checker → Type 0
-TakesNext [] old page new = (new.proofs.now ≡ []) × (new.found ≡ job.PageCount)
+TakesNext [] old page new = (new.proofs.now ≡ old.proofs.now) × (new.taken ≡ old.taken) × (new.found ≡ job.PageCount)
 TakesNext (proof ∷ later) old page new =
-    (new.proofs.now ≡ later) × (new.taken ≡ old.taken + 1) × FindsNext old.found proof old page new
+    (new.proofs.now ≡ old.proofs.now) × (new.taken ≡ old.taken + 1) × FindsNext old.found proof old page new
+
+abbrev pub proofs_left : Checker → List PageProof
+proofs_left checker = drop checker.taken checker.proofs.now
+
+abbrev pub TakesPage : Checker → Page → Checker → Type 0
+TakesPage old page new = TakesNext (proofs_left old) old page new
 
 -- what is found before the first page
 abbrev pub BeginsWith : List ℕ → List PageProof → List ℕ → JobVerdict → Type 0

@@ -2,7 +2,7 @@
 
 ghost use Rattle.std.specs.Prelude.{◌≡◌, ℕ, List, Ok};
 ghost use Rattle.pcl_cert.specs.declared.format.Format.{Format};
-ghost use Rattle.pcl_cert.specs.ReadingCertificates.{certificate_at};
+ghost use Rattle.pcl_cert.specs.ReadingCertificates.{Fails, certificate_at};
 ghost use Rattle.pcl_tool.specs.JobVerdicts.{IsChecked};
 
 use crate::page_checks::Checker;
@@ -25,8 +25,23 @@ pub fn check_job(
 {
     match read_certificate(alloc, certificate, dpi) {
         Ok((_, proofs)) => check_pages(alloc, input, output, &proofs, dpi),
-        Err(CertFault::Memory) => Err(Fault::Memory),
-        Err(fault) => {
+        Err(fault) => check_fault(alloc, input, fault, dpi),
+    }
+}
+
+/// What is answered of bytes that are no certificate.
+fn check_fault(
+    alloc: Global,
+    input: &[u8],
+    fault: CertFault,
+    dpi: Dpi,
+) -> Result<JobVerdict, Fault>
+    ensures { (output certificate : List ℕ) → Fails fault (certificate_at dpi certificate)
+        → IsChecked dpi input.now output certificate result }
+{
+    match fault {
+        CertFault::Memory => Err(Fault::Memory),
+        fault => {
             perform(alloc, input, dpi, &mut Unseen)?;
             Ok(JobVerdict::Certificate(fault))
         }

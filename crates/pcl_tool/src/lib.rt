@@ -19,3 +19,4 @@ pub use laws::{certified_jobs_are_proved, proved_jobs_are_least, written_jobs_ar
 pub use minimizing::{INPUT_LIMIT, Output, filter, minimize};
 pub use page_preview::preview;
 pub use reading::read_all;
+pub use writing::write_bytes;

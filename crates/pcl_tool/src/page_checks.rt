@@ -1,6 +1,6 @@
 //! The pages of a job, each checked by what a certificate says of it.
 
-ghost use Rattle.std.specs.Prelude.{◌≡◌, ◌+◌, ◌^◌, ◌<◌, ◌++◌, List, ℕ, length, MatchOption, IfOk, IsTrue, ◌↔◌};
+ghost use Rattle.std.specs.Prelude.{◌≡◌, ◌++◌, List, ℕ, length, drop, MatchOption, IfOk, IsTrue, ◌↔◌};
 ghost use Rattle.pcl_plan.specs.Tokens.{frame_bytes};
 ghost use Rattle.pcl_tool.specs.JobVerdicts.{text_bytes, IsFramed};
 ghost use Rattle.pcl_tool.specs.declared.job_verdict.JobVerdict.TheVariants as job;
@@ -18,20 +18,19 @@ const FRAME: &[u8] = b"\x1bE";
 #[derive(Drop)]
 pub struct Checker<'p, 'c, 't> {
     alloc: Global,
-    /// What is said of the pages to come.
+    /// What is said of each page.
     proofs: &'p [PageProof<'c>],
-    /// The texts of these pages, one behind the other.
+    /// The texts of the pages to come, one behind the other.
     texts: &'t [u8],
     /// How many pages have come of which something is said.
     taken: usize,
     /// What is wrong with the frame, with a page or with the number of pages, or Proved as long as nothing is.
     found: JobVerdict,
-    ghost few: { taken + length proofs.now < 2 ^ 64 },
-    ghost as_long: { found ≡ job.Proved → length texts.now ≡ text_bytes proofs.now },
+    ghost as_long: { found ≡ job.Proved → length texts.now ≡ text_bytes (drop taken proofs.now) },
 }
 
 impl<'p, 'c, 't> Checker<'p, 'c, 't> {
-    ghost use Rattle.std.specs.Prelude.{◌≡◌};
+    ghost use Rattle.std.specs.Prelude.{◌≡◌, drop};
     ghost use Rattle.pcl_tool.specs.CheckerSteps.{IsBegun, answer};
 
     /// Before the first page, with the texts of an output.
@@ -57,23 +56,23 @@ impl<'p, 'c, 't> Checker<'p, 'c, 't> {
 
     /// What is answered behind the last page.
     pub fn verdict(&self) -> JobVerdict
-        ensures { result ≡ answer self.now.proofs.now self.now.found }
+        ensures { result ≡ answer (drop self.now.taken self.now.proofs.now) self.now.found }
     {
-        if self.proofs.is_empty() {
-            self.found
-        } else {
+        if self.taken < self.proofs.len() {
             JobVerdict::PageCount
+        } else {
+            self.found
         }
     }
 }
 
 impl<'p, 'c, 't> PageSink for Checker<'p, 'c, 't> {
-    ghost use Rattle.pcl_tool.specs.CheckerSteps.{TakesNext};
+    ghost use Rattle.pcl_tool.specs.CheckerSteps.{TakesPage};
 
-    ghost takes = { λ old page new. TakesNext old.proofs.now old page new };
+    ghost takes = { TakesPage };
 
     fn page(&mut self, page: &Page) -> Result<(), AllocError> {
-        let Some((proof, later)) = self.proofs.split_first() else {
+        let Some(proof) = self.proofs.get(self.taken) else {
             self.found = JobVerdict::PageCount;
             return Ok(());
         };
@@ -83,7 +82,6 @@ impl<'p, 'c, 't> PageSink for Checker<'p, 'c, 't> {
             self.texts = rest;
         }
         self.taken += 1;
-        self.proofs = later;
         Ok(())
     }
 }

@@ -1,7 +1,8 @@
 //! What the program says of a checked job.
 
-ghost use Rattle.std.specs.Prelude.{◌≡◌, ◌++◌, IfOk, OnOk, decimal};
-ghost use Rattle.pclmin.specs.Verdicts.{fault_text, numbers_text, side_text, verdict_text, job_text, verdict_line_of};
+ghost use Rattle.std.specs.Prelude.{◌≡◌, ◌++◌, IfOk, OnOk};
+ghost use Rattle.pclmin.specs.Checks.{verdict_status_for};
+ghost use Rattle.pclmin.specs.Verdicts.{fault_text, numbers_text, verdict_text, job_text, verdict_line_of};
 
 use itoa::Buffer;
 use pcl_base::Method;
@@ -93,7 +94,9 @@ fn fault_name(fault: CertFault) -> &'static [u8]
 }
 
 /// The status of a run that answered so.
-pub fn verdict_status(verdict: &JobVerdict) -> u8 {
+pub fn verdict_status(verdict: &JobVerdict) -> u8
+    ensures { result ≡ verdict_status_for verdict.now }
+{
     match verdict {
         JobVerdict::Proved => 0,
         _ => 1,

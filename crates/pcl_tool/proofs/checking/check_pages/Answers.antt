@@ -10,4 +10,4 @@ returns c = λ certificate format e.
     let h = c.in_ok-perform.ensures in
     subst (IsJobVerdict c.args.dpi c.args.input.now c.args.output.now certificate) (sym c.verdict.ensures)
     (job_answered c.args.dpi c.args.input.now c.args.output.now certificate format c.args.proofs.now (accepted_pages h) _ _ (has_pages h) e
-    c.new.ensures h.handed.1)
+    c.new-checker.ensures h.handed.1)
