@@ -8,11 +8,12 @@ use Rattle.pcl_tool.specs.Minimizing.{IsFiltered, IsRead, input_limit}
 use Rattle.pcl_tool.specs.Preview.{IsPreview}
 use Rattle.pcl_tool.specs.Transfer.{GivesAtMost}
 use Rattle.pclmin.specs.Messages.{line_of, status_for}
+use Rattle.pclmin.specs.Checks.{IsCheckRun, verdict_status_for}
 use Rattle.pclmin.specs.declared.arguments.Task.{Task}
 use Rattle.pclmin.specs.declared.arguments.Task.TheVariants.{Minimize, Preview}
 use Rattle.pclmin.specs.declared.arguments.Usage.{Usage}
 use Rattle.pclmin.specs.declared.run.Ending.{Ending}
-use Rattle.pclmin.specs.declared.run.Ending.TheVariants.{Done, Failed, NoMemory, Shown}
+use Rattle.pclmin.specs.declared.run.Ending.TheVariants.{Done, Checked, Failed, NoMemory, Shown}
 
 -- the page that is asked for, 0 where none is
 abbrev pub page_of : Task → ℕ
@@ -40,12 +41,18 @@ abbrev pub HasFailed : Fault → ℕ → Ending → Type 0
 HasFailed fault page (Failed line status) = (line.items ≡ line_of fault page) × (status ≡ status_for fault)
 HasFailed fault page NoMemory = Unit {0}
 HasFailed fault page Done = ⊥
+HasFailed fault page (Checked verdict) = ⊥
 HasFailed fault page (Shown error) = ⊥
 
 -- a run that failed, and ended so
 abbrev pub FailsBy : Ending → (given left old new : Option (List ℕ)) → Type 0
 FailsBy ending given left old new =
     (usage : Usage) × (fault : Fault) × HasDone usage given left old new (Err fault) × HasFailed fault (page_of usage.task) ending
+
+-- a check that failed, and ended so: nothing was read of the reader
+abbrev pub FailsCheck : Ending → (given left old new : Option (List ℕ)) → Type 0
+FailsCheck ending given left old new =
+    (dpi : Dpi) × (fault : Fault) × (left ≡ given) × IsCheckRun dpi old new (Err fault) × HasFailed fault 0 ending
 
 -- nothing was read and nothing written
 abbrev pub HasStayed : (given left old new : Option (List ℕ)) → Type 0
@@ -54,13 +61,17 @@ HasStayed given left old new = (left ≡ given) × (new ≡ old)
 -- how a run ends, by what it read and wrote
 abbrev pub HasEnded : (given left old new : Option (List ℕ)) → Ending → Type 0
 HasEnded given left old new Done = (usage : Usage) × HasDone usage given left old new (Ok tt)
-HasEnded given left old new (Failed line status) = FailsBy (Failed line status) given left old new
-HasEnded given left old new NoMemory = FailsBy NoMemory given left old new ⊎ HasStayed given left old new
+HasEnded given left old new (Checked verdict) = (dpi : Dpi) × (left ≡ given) × IsCheckRun dpi old new (Ok verdict)
+HasEnded given left old new (Failed line status) =
+    FailsBy (Failed line status) given left old new ⊎ FailsCheck (Failed line status) given left old new
+HasEnded given left old new NoMemory =
+    FailsBy NoMemory given left old new ⊎ (FailsCheck NoMemory given left old new ⊎ HasStayed given left old new)
 HasEnded given left old new (Shown error) = HasStayed given left old new
 
 -- the status of the program; 3 where memory ran out
 abbrev pub IsStatus : Ending → ℕ → Type 0
 IsStatus Done status = status ≡ 0
+IsStatus (Checked verdict) status = status ≡ verdict_status_for verdict
 IsStatus (Failed line code) status = status ≡ code
 IsStatus NoMemory status = status ≡ 3
 IsStatus (Shown error) status = (status ≡ 0) ⊎ (status ≡ 2)

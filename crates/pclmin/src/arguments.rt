@@ -4,8 +4,9 @@ ghost use Rattle.std.specs.Prelude.{◌≡◌, ◌≢◌, MatchOption};
 ghost use Rattle.pcl_base.specs.Dpi.{dots_per_inch};
 ghost use Rattle.pclmin.specs.Runs.{page_of};
 
+use crate::checks::CheckedFiles;
 use clap::error::ErrorKind;
-use clap::{Arg, Command, Error, value_parser};
+use clap::{Arg, ArgMatches, Command, Error, value_parser};
 use pcl_base::Dpi;
 use std::alloc::{AllocError, Global};
 use std::convert::AsStr;
@@ -40,25 +41,55 @@ impl Usage {
     }
 }
 
+/// What the words of a command line ask for.
+#[derive(Clone, Copy, Debug, PartialEq, Eq)]
+pub enum Request<'w> {
+    /// A run over the job on standard input.
+    Run(Usage),
+    /// The check of a written job.
+    Check(CheckedFiles<'w>),
+}
+
 /// What the words of a command line ask for, or the help, the version or the fault to print.
-pub fn parse_arguments<S: AsStr>(alloc: Global, words: &[S]) -> Result<Usage, Error> {
+pub fn parse_arguments<'w, S: AsStr>(
+    alloc: Global,
+    words: &'w [S],
+) -> Result<Request<'w>, Error> {
     let matches = pclmin(alloc)?.try_get_matches_from(words)?;
-    let (task, dots) = match matches.subcommand() {
-        Some(("min", min)) => (Some(Task::Minimize), min.get_one::<u16>("dpi")),
-        Some(("pbm", pbm)) => (
-            pbm.get_one::<usize>("page")
-                .map(|page| Task::Preview { page }),
-            pbm.get_one::<u16>("dpi"),
-        ),
-        _ => (None, None),
+    let request = match matches.subcommand() {
+        Some(("check", check)) => checked_files(check).map(Request::Check),
+        Some((name, command)) => usage_of(name, command).map(Request::Run),
+        None => None,
     };
-    match (task, dots.and_then(resolution)) {
-        (Some(task), Some(dpi)) => Ok(Usage { task, dpi }),
-        _ => Err(pclmin(alloc)?.error(
+    match request {
+        Some(request) => Ok(request),
+        None => Err(pclmin(alloc)?.error(
             ErrorKind::InvalidValue,
             "the resolution of --dpi is 300 or 600",
         )?),
     }
+}
+
+/// What the words of `min` or `pbm` ask for.
+fn usage_of(name: &str, command: &ArgMatches<'_>) -> Option<Usage> {
+    let task = match name {
+        "min" => Task::Minimize,
+        _ => Task::Preview {
+            page: command.get_one::<usize>("page")?,
+        },
+    };
+    let dpi = resolution(command.get_one::<u16>("dpi")?)?;
+    Some(Usage { task, dpi })
+}
+
+/// What the words of `check` ask for.
+fn checked_files<'w>(check: &ArgMatches<'w>) -> Option<CheckedFiles<'w>> {
+    Some(CheckedFiles {
+        input: check.get_str("IN")?,
+        output: check.get_str("OUT")?,
+        certificate: check.get_str("CERT")?,
+        dpi: resolution(check.get_one::<u16>("dpi")?)?,
+    })
 }
 
 /// The resolution of so many dots per inch.
@@ -78,11 +109,12 @@ fn pclmin<'a>(alloc: Global) -> Result<Command<'a>, AllocError> {
         .version("0.1.0")
         .about("A print filter for HP PCL 5: reads a job, and writes or shows what it prints.")
         .after_help(
-            "Statuses: 0 done, 1 the job is refused or has no such page, 2 usage, 3 reading, writing or memory.",
+            "Statuses: 0 done or proved, 1 the job is refused, has no such page or isn't proved, 2 usage, 3 reading, writing or memory.",
         )
         .subcommand_required(true)
         .arg_required_else_help(true)
         .subcommand(min(alloc)?)?
+        .subcommand(check(alloc)?)?
         .subcommand(pbm(alloc)?)?;
     Ok(command)
 }
@@ -94,6 +126,26 @@ fn min<'a>(alloc: Global) -> Result<Command<'a>, AllocError> {
             "Writes the job on standard input again as a raster job of the same pages to standard output",
         )
         .arg(dpi(alloc))
+}
+
+/// The command that checks a written job.
+fn check<'a>(alloc: Global) -> Result<Command<'a>, AllocError> {
+    Command::new(alloc, "check")
+        .about(
+            "Checks by a certificate that a written job prints the pages of another one, and that none is shorter",
+        )
+        .arg(file(alloc, "IN", "The job as it was"))?
+        .arg(file(alloc, "OUT", "The job that it was written as"))?
+        .arg(file(alloc, "CERT", "The certificate of the written job"))?
+        .arg(dpi(alloc))
+}
+
+/// A file that is asked for.
+fn file<'a>(alloc: Global, name: &'a str, help: &'a str) -> Arg<'a> {
+    Arg::new(alloc, name)
+        .value_name(name)
+        .required(true)
+        .help(help)
 }
 
 /// The command that previews a page.
@@ -110,7 +162,7 @@ fn pbm<'a>(alloc: Global) -> Result<Command<'a>, AllocError> {
         .arg(dpi(alloc))
 }
 
-/// The resolution, which both commands take.
+/// The resolution, which all commands take.
 fn dpi<'a>(alloc: Global) -> Arg<'a> {
     Arg::new(alloc, "dpi")
         .long("dpi")

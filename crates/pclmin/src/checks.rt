@@ -1,7 +1,5 @@
 //! A check: a written job beside its input, by a certificate, each from a file.
 
-ghost use Rattle.std.specs.Prelude.{◌≡◌, ℕ, List};
-ghost use Rattle.pcl_tool.specs.Transfer.{IsWritten};
 ghost use Rattle.pclmin.specs.Checks.{IsCheckRun, IsFileRead};
 
 use crate::verdicts::verdict_line;
@@ -14,7 +12,7 @@ use std::rt::Files;
 
 /// What is checked: the names of the files, and the resolution.
 #[derive(Clone, Copy, Debug, PartialEq, Eq)]
-pub struct Checked<'w> {
+pub struct CheckedFiles<'w> {
     /// The file of the input.
     pub input: &'w str,
     /// The file of the job that it is written as.
@@ -30,7 +28,7 @@ pub struct Checked<'w> {
 pub fn check<F: Files, W: Write>(
     files: &F,
     alloc: Global,
-    asked: Checked<'_>,
+    asked: CheckedFiles<'_>,
     out: &mut W,
 ) -> Result<JobVerdict, Fault>
     ensures { IsCheckRun asked.entry.dpi (W.contents out.old) (W.contents out.new) result }
