@@ -1,3 +1,4 @@
 pub mod Writes
 pub mod Choices
 pub mod Texts
+pub mod Proved

@@ -5,46 +5,52 @@ ghost use Rattle.pcl_base.specs.Dpi.{dots_per_inch};
 ghost use Rattle.pclmin.specs.Runs.{page_of};
 
 use clap::error::ErrorKind;
-use clap::{Arg, Command, Error, value_parser};
+use clap::{Arg, ArgMatches, Command, Error, value_parser};
 use pcl_base::Dpi;
+use pcl_cert::Format;
 use std::alloc::{AllocError, Global};
 use std::convert::AsStr;
 
 /// What a run is asked to do with the job on standard input.
 #[derive(Clone, Copy, Debug, PartialEq, Eq)]
-pub enum Task {
+pub enum Task<'w> {
     /// Write it again as a raster job.
     Minimize,
+    /// The same, and write a certificate of a format to the file of this name.
+    Certify { file: &'w str, format: Format },
     /// Write the image of the page of this number, from 1.
     Preview { page: usize },
 }
 
 /// A run, and the resolution at which it sees the job.
 #[derive(Clone, Copy, Debug, PartialEq, Eq)]
-pub struct Usage {
+pub struct Usage<'w> {
     /// What is asked for.
-    pub task: Task,
+    pub task: Task<'w>,
     /// The resolution.
     pub dpi: Dpi,
 }
 
-impl Usage {
+impl Usage<'_> {
     /// The number of the page that is asked for, 0 where none is.
     pub fn page(self) -> usize
         ensures { result ≡ page_of self.task }
     {
         match self.task {
-            Task::Minimize => 0,
+            Task::Minimize | Task::Certify { .. } => 0,
             Task::Preview { page } => page,
         }
     }
 }
 
 /// What the words of a command line ask for, or the help, the version or the fault to print.
-pub fn parse_arguments<S: AsStr>(alloc: Global, words: &[S]) -> Result<Usage, Error> {
+pub fn parse_arguments<'w, S: AsStr>(
+    alloc: Global,
+    words: &'w [S],
+) -> Result<Usage<'w>, Error> {
     let matches = pclmin(alloc)?.try_get_matches_from(words)?;
     let (task, dots) = match matches.subcommand() {
-        Some(("min", min)) => (Some(Task::Minimize), min.get_one::<u16>("dpi")),
+        Some(("min", min)) => (Some(min_task(min)), min.get_one::<u16>("dpi")),
         Some(("pbm", pbm)) => (
             pbm.get_one::<usize>("page")
                 .map(|page| Task::Preview { page }),
@@ -58,6 +64,18 @@ pub fn parse_arguments<S: AsStr>(alloc: Global, words: &[S]) -> Result<Usage, Er
             ErrorKind::InvalidValue,
             "the resolution of --dpi is 300 or 600",
         )?),
+    }
+}
+
+/// What the words behind `min` ask for.
+fn min_task<'w>(min: &ArgMatches<'w>) -> Task<'w> {
+    let format = match min.get_one::<u16>("format") {
+        Some(2) => Format::Two,
+        _ => Format::One,
+    };
+    match min.get_str("cert") {
+        Some(file) => Task::Certify { file, format },
+        None => Task::Minimize,
     }
 }
 
@@ -89,10 +107,22 @@ fn pclmin<'a>(alloc: Global) -> Result<Command<'a>, AllocError> {
 
 /// The command that writes a job again.
 fn min<'a>(alloc: Global) -> Result<Command<'a>, AllocError> {
+    let cert = Arg::new(alloc, "cert")
+        .long("cert")
+        .value_name("FILE")
+        .help("Also write a certificate of the job to this file, which is made or emptied first");
+    let format = Arg::new(alloc, "format")
+        .long("format")
+        .value_name("N")
+        .value_parser(value_parser!(u16).range(1..=2))
+        .requires_arg("cert")?
+        .help("The format of the certificate, 1 or 2; 1 where none is given");
     Command::new(alloc, "min")
         .about(
             "Writes the job on standard input again as a raster job of the same pages to standard output",
         )
+        .arg(cert)?
+        .arg(format)?
         .arg(dpi(alloc))
 }
 

@@ -17,7 +17,13 @@ fn main(rt: HostRuntime) -> ExitCode {
         return ExitCode::from(USAGE_STATUS);
     };
     let ending = match words.collect::<Vec<String>>(rt.alloc()) {
-        Ok(words) => run(rt.alloc(), &words, &mut rt.reader(), &mut io::writer(&rt)),
+        Ok(words) => run(
+            &rt,
+            rt.alloc(),
+            &words,
+            &mut rt.reader(),
+            &mut io::writer(&rt),
+        ),
         Err(_) => Ending::NoMemory,
     };
     print(&rt, &ending);

@@ -6,10 +6,12 @@ use crate::arguments::{Task, Usage, parse_arguments};
 use crate::messages::{MEMORY_STATUS, fault_line, status_of};
 use clap::Error;
 use clap::error::ErrorKind;
-use pcl_tool::{Fault, INPUT_LIMIT, filter, preview, read_all};
+use pcl_tool::{Fault, INPUT_LIMIT, filter, filter_cert, preview, read_all};
 use std::alloc::Global;
 use std::convert::AsStr;
+use std::fs;
 use std::io::{Read, Write};
+use std::rt::Files;
 
 /// How a run ended, and what is left to be printed.
 #[derive(Drop)]
@@ -39,7 +41,8 @@ impl Ending {
 }
 
 /// Does what the words of a command line ask for, the program's name first, with the job that a reader gives.
-pub fn run<S: AsStr, R: Read, W: Write>(
+pub fn run<F: Files, S: AsStr, R: Read, W: Write>(
+    files: &F,
     alloc: Global,
     words: &[S],
     reader: &mut R,
@@ -48,7 +51,7 @@ pub fn run<S: AsStr, R: Read, W: Write>(
     ensures { HasEnded (R.remaining reader.old) (R.remaining reader.new) (W.contents out.old) (W.contents out.new) result }
 {
     match parse_arguments(alloc, words) {
-        Ok(usage) => match carry_out(alloc, usage, reader, out) {
+        Ok(usage) => match carry_out(files, alloc, usage, reader, out) {
             Ok(()) => Ending::Done,
             Err(fault) => failed(alloc, &fault, usage.page()),
         },
@@ -57,10 +60,11 @@ pub fn run<S: AsStr, R: Read, W: Write>(
     }
 }
 
-/// Does what is asked for with the job that a reader gives.
-fn carry_out<R: Read, W: Write>(
+/// Does what is asked for with the job that a reader gives. The file of a certificate is made before anything is read.
+fn carry_out<F: Files, R: Read, W: Write>(
+    files: &F,
     alloc: Global,
-    usage: Usage,
+    usage: Usage<'_>,
     reader: &mut R,
     out: &mut W,
 ) -> Result<(), Fault>
@@ -68,6 +72,10 @@ fn carry_out<R: Read, W: Write>(
 {
     match usage.task {
         Task::Minimize => filter(alloc, reader, usage.dpi, out),
+        Task::Certify { file, format } => match fs::create(files, file) {
+            Ok(mut cert) => filter_cert(alloc, reader, usage.dpi, format, out, &mut cert),
+            Err(_) => Err(Fault::WriteFault),
+        },
         Task::Preview { page } => {
             let job = read_all(alloc, reader, INPUT_LIMIT)?;
             preview(alloc, &job, page, usage.dpi, out)

@@ -2,7 +2,7 @@ use Rattle.std.proofs.Common.{◌∙◌, List, ℕ, ◌++◌, ap}
 use Rattle.pcl_plan.specs.Tokens.{frame_bytes}
 use Rattle.pcl_page.proofs.Jobs.{accepted_pages, has_pages}
 use Rattle.pcl_tool.proofs.Texts.{job_written}
-use Rattle.pcl_tool.proofs.minimizing.minimize.Goals as goal
+use Rattle.pcl_tool.proofs.minimizing.write_job.Goals as goal
 
 pub returns : goal.returns
 returns c =
