@@ -2,3 +2,4 @@ pub mod Writes
 pub mod Choices
 pub mod Texts
 pub mod Proved
+pub mod Filtered

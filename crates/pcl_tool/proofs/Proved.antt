@@ -10,12 +10,14 @@ use Rattle.pcl_page.specs.Jobs.{HasPages}
 use Rattle.pcl_plan.specs.Tokens.{frame_bytes}
 use Rattle.pcl_plan.specs.PagePlans.{IsPlanOf}
 use Rattle.pcl_plan.specs.Plans.{StepsAndTable}
+use Rattle.pcl_plan.specs.declared.table.RowNumbers.{RowNumbers}
 use Rattle.pcl_writer.specs.Appending.{IsWrittenPage}
 use Rattle.pcl_cert.specs.declared.format.Format.{Format}
 use Rattle.pcl_cert.specs.declared.format.Format.TheVariants.{One, Two}
 use Rattle.pcl_cert.specs.declared.page_proof.PageProof.{PageProof}
 use Rattle.pcl_cert.specs.Certificates.{AreProofs, IsProof, certificate_bytes, proof_in, proofs_in}
-use Rattle.pcl_cert.specs.Checking.{HasLeastLists, AreLeastOf}
+use Rattle.pcl_cert.specs.Checking.{HasLeastLists, AreLeastOf, IsVerdict}
+use Rattle.pcl_cert.specs.declared.check.Verdict.TheVariants.{Proved}
 use Rattle.pcl_cert.proofs.PlansProved.{plan_proved, plan_certified}
 use Rattle.pcl_meaning.specs.Alike.{PrintSheets}
 use Rattle.pcl_meaning.proofs.Jobs.{job_fits}
@@ -34,14 +36,20 @@ least_lists page Two None has = absurd has
 least_lists page Two (Some lists) has = has
 
 -- a text along a plan of its page
-pub plan_proves : (format : Format) (page : Page) (text : List ℕ) (plan : StepsAndTable) (places : Option (List (List ℕ)))
-    → IsPlanOf page plan → IsWrittenPage page text → HasLeastLists page format places
-    → Proves format page text record { text_len = length text; table = plan.table; places = places }
-plan_proves format page text plan places planned written has = record {
-  text_len = refl;
-  can_be_said = plan_certified page text plan format places planned written.0 written.2 has;
-  proved = plan_proved page text plan (tables_of places) planned written.0 written.2 (least_lists page format places has);
-}
+pub plan_proves : (format : Format) (page : Page) (text : List ℕ) (plan : StepsAndTable) (proof : PageProof)
+    → IsPlanOf page plan → IsWrittenPage page text → HasLeastLists page format proof.places → proof.text_len ≡ length text
+    → proof.table ≡ plan.table → Proves format page text proof
+plan_proves format page text plan proof planned written has long same =
+    let is : record { text_len = length text; table = plan.table; places = proof.places } ≡ proof =
+    ap (λ (n : ℕ). record { text_len = n; table = plan.table; places = proof.places }) (sym long)
+    ∙ ap (λ (table : List RowNumbers). record { text_len = proof.text_len; table = table; places = proof.places }) (sym same) in
+    record {
+      text_len = sym long;
+      can_be_said = subst (IsProof page.dpi format) is
+          (plan_certified page text plan format proof.places planned written.0 written.2 has);
+      proved = subst (λ (table : List RowNumbers). IsVerdict page text table (tables_of proof.places) Proved) (sym same)
+          (plan_proved page text plan (tables_of proof.places) planned written.0 written.2 (least_lists page format proof.places has));
+    }
 
 -- ---- all pages
 
@@ -87,7 +95,7 @@ gathered dpi (sheet ∷ sheets) old new h =
 
 -- what a certificate says in its format is said whole
 proof_said : (dpi : Dpi) (format : Format) (proof : PageProof) → IsProof dpi format proof → proof_in format proof ≡ proof
-proof_said dpi One proof is = let none : proof.places ≡ None = is.lists in cc
+proof_said dpi One proof is = ap (λ (places : Option (List (List ℕ))). record proof { places = places }) (sym is.lists)
 proof_said dpi Two proof is = refl
 
 proofs_said : (dpi : Dpi) (format : Format) (proofs : List PageProof) → AllByRecursion (IsProof dpi format) proofs
@@ -123,6 +131,7 @@ pub certified_job : (dpi : Dpi) (format : Format) (job output certificate : List
     → HasPages dpi job pages → old.format ≡ format → old.bytes ≡ frame_bytes → old.proofs ≡ [] → Hands TakesProved dpi pages old new
     → output ≡ new.bytes ++ frame_bytes → certificate ≡ certificate_bytes format (proofs_in format new.proofs)
     → IsCertifiedJobOf dpi format job output certificate
+unfolding job_of_texts
 certified_job dpi format job output certificate pages old new meaning same opened none h closed spelled =
     let g = gathered dpi pages old new h in
     record {

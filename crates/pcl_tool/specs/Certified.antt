@@ -1,11 +1,11 @@
--- Texts of pages that their certificate proves to be least.
-use Rattle.std.specs.Prelude.{◌≡◌, ℕ, List, [], ◌∷◌, ◌++◌, length, Option, None, Some}
+-- Page texts that the checker answers Proved.
+use Rattle.std.specs.Prelude.{◌≡◌, ℕ, List, [], ◌∷◌, ◌++◌, length, Option, Some, None}
 use Rattle.pcl_base.specs.declared.dpi.Dpi.{Dpi}
 use Rattle.pcl_page.specs.declared.page.Page.{Page}
 use Rattle.pcl_page.specs.History.{Sheet}
 use Rattle.pcl_page.specs.Performing.{Shows}
-use Rattle.pcl_cert.specs.declared.page_proof.PageProof.{PageProof}
 use Rattle.pcl_cert.specs.declared.check.Verdict.TheVariants.{Proved}
+use Rattle.pcl_cert.specs.declared.page_proof.PageProof.{PageProof}
 use Rattle.pcl_cert.specs.Checking.{Tables, IsVerdict}
 
 -- the row tables of a proof, as the checker takes them

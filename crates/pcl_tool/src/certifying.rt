@@ -42,11 +42,13 @@ impl PageSink for CertifiedJob {
             table: least.into_table(),
             places,
         };
-        let pushed = self.proofs.push(proof);
-        if pushed.is_err() {
-            self.bytes.truncate(before);
+        match self.proofs.push(proof) {
+            Ok(()) => Ok(()),
+            Err(failed) => {
+                self.bytes.truncate(before);
+                Err(failed.into())
+            }
         }
-        Ok(pushed?)
     }
 }
 

@@ -8,9 +8,7 @@ pub returns : goal.returns
 returns c =
     let h = c.in_ok-perform.ensures in
     let f = c.in_ok-write_frame.ensures in
-    let n = c.in_ok-write_frame-2.ensures in (
-      job_written c.args.dpi c.args.job.now _ _ _ (accepted_pages h) (has_pages h)
-          (f ∙ ap (λ (b : List ℕ). b ++ frame_bytes) c.new.ensures.items) h.handed.1
-          (n ∙ ap (λ (b : List ℕ). b ++ frame_bytes) c.written.view_is),
-      c.new-2.ensures.items,
-    )
+    let n = c.in_ok-write_frame-2.ensures in
+    job_written c.args.dpi c.args.job.now _ _ _ (accepted_pages h) (has_pages h)
+    (f ∙ ap (λ (b : List ℕ). b ++ frame_bytes) c.new.ensures.items) h.handed.1
+    (n ∙ ap (λ (b : List ℕ). b ++ frame_bytes) c.written.view_is)
