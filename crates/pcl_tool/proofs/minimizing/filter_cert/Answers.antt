@@ -1,7 +1,8 @@
-use Rattle.std.proofs.Common.{List, ℕ, subst}
+use Rattle.std.proofs.Common.{List, ℕ, Err, subst}
 use Rattle.std.proofs.lemmas.Result.{err_from_is_err_and}
 use Rattle.pcl_tool.specs.Minimizing.{IsCertifiedJobOf}
 use Rattle.std.specs.Io.KnownBytes.{Appends}
+use Rattle.pcl_tool.specs.Transfer.{IsWritten}
 use Rattle.pcl_tool.proofs.Filtered.{stopped_in_job, filtered_cert}
 use Rattle.pcl_tool.proofs.minimizing.filter_cert.Goals as goal
 
@@ -14,7 +15,8 @@ returns-in_err-write_all g c =
     (record { given = r.0; ended = r.1 })
     (subst (λ (job : List ℕ). IsCertifiedJobOf c.args.dpi c.args.format job c.in_ok-output.output.job.items
     c.in_ok-output.output.certificate.items) c.deref.ensures.value c.in_ok-output.ensures)
-    ?)
+    (subst (λ (job : List ℕ). IsWritten (g.W.Write.contents c.args.out.now) (g.W.Write.contents c.write_all.new.out) job
+    (Err c.in_err-write_all.field-0.0)) c.deref-2.ensures.value c.in_err-write_all.ensures))
 
 pub returns : goal.returns
 returns g c =
@@ -24,5 +26,7 @@ returns g c =
     (record { given = r.0; ended = r.1 })
     (subst (λ (job : List ℕ). IsCertifiedJobOf c.args.dpi c.args.format job c.in_ok-output.output.job.items
     c.in_ok-output.output.certificate.items) c.deref.ensures.value c.in_ok-output.ensures)
-    ?
-    ?
+    (subst (Appends (g.W.Write.contents c.args.out.now) (g.W.Write.contents c.write_all.new.out)) c.deref-2.ensures.value
+    c.in_ok-write_all.ensures)
+    (subst (λ (bytes : List ℕ). IsWritten (g.C.Write.contents c.args.cert.now) (g.C.Write.contents c.write_all-2.new.out) bytes
+    c.write_all-2.result) c.deref-3.ensures.value c.write_all-2.ensures)
