@@ -1,5 +1,5 @@
 -- The page texts that a sink gathers with what proves them.
-use Rattle.std.proofs.Common.{◌≡◌, ℕ, suc, ◌+◌, ◌^◌, ◌<◌, ◌≤◌, List, [], ◌∷◌, ◌++◌, Option, Some, None, length, refl, sym, ap, subst, ◌∙◌, append_assoc, arith}
+use Rattle.std.proofs.Common.{◌≡◌, ℕ, List, [], ◌∷◌, ◌++◌, Option, Some, None, length, refl, sym, ap, subst, ◌∙◌, append_assoc, arith}
 use Rattle.std.specs.List.{AllByRecursion}
 use Rattle.std.proofs.lemmas.List.{append-nil}
 use Rattle.pcl_base.specs.declared.dpi.Dpi.{Dpi}
@@ -23,7 +23,7 @@ use Rattle.pcl_meaning.specs.Alike.{PrintSheets}
 use Rattle.pcl_meaning.proofs.Jobs.{job_fits}
 use Rattle.pcl_tool.specs.Certified.{tables_of, AreProved}
 use Rattle.pcl_tool.specs.Certifying.{SoFar, Proves, TakesProved}
-use Rattle.pcl_tool.specs.Minimizing.{IsJobOf, IsCertificate, IsCertifiedJobOf}
+use Rattle.pcl_tool.specs.Minimizing.{IsCertifiedJobOf}
 use Rattle.pcl_tool.proofs.Texts.{job_of_texts}
 
 -- ---- one page
