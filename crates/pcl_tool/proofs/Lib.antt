@@ -9,3 +9,5 @@ pub mod JobsChecked
 pub mod LeastTexts
 pub mod SameVerdicts
 pub mod CertifiedJobs
+pub mod Proved
+pub mod Filtered

@@ -3,6 +3,8 @@ pub mod Transfer
 pub mod Image
 pub mod Choice
 pub mod Preview
+pub mod Certified
+pub mod Certifying
 pub mod Minimizing
 pub mod Certified
 pub mod JobVerdicts

@@ -2,6 +2,7 @@
 #![tactic(auto)]
 
 mod checking;
+mod certifying;
 mod fault;
 mod image;
 mod job_verdict;
@@ -16,7 +17,7 @@ pub use checking::check_job;
 pub use fault::Fault;
 pub use job_verdict::JobVerdict;
 pub use laws::{certified_jobs_are_proved, proved_jobs_are_least, written_jobs_are_least};
-pub use minimizing::{INPUT_LIMIT, Output, filter, minimize};
+pub use minimizing::{INPUT_LIMIT, Output, filter, filter_cert, minimize};
 pub use page_preview::preview;
 pub use reading::read_all;
 pub use writing::write_bytes;

@@ -8,34 +8,37 @@ use crate::checks::CheckedFiles;
 use clap::error::ErrorKind;
 use clap::{Arg, ArgMatches, Command, Error, value_parser};
 use pcl_base::Dpi;
+use pcl_cert::Format;
 use std::alloc::{AllocError, Global};
 use std::convert::AsStr;
 
 /// What a run is asked to do with the job on standard input.
 #[derive(Clone, Copy, Debug, PartialEq, Eq)]
-pub enum Task {
+pub enum Task<'w> {
     /// Write it again as a raster job.
     Minimize,
+    /// The same, and write a certificate of a format to the file of this name.
+    Certify { file: &'w str, format: Format },
     /// Write the image of the page of this number, from 1.
     Preview { page: usize },
 }
 
 /// A run, and the resolution at which it sees the job.
 #[derive(Clone, Copy, Debug, PartialEq, Eq)]
-pub struct Usage {
+pub struct Usage<'w> {
     /// What is asked for.
-    pub task: Task,
+    pub task: Task<'w>,
     /// The resolution.
     pub dpi: Dpi,
 }
 
-impl Usage {
+impl Usage<'_> {
     /// The number of the page that is asked for, 0 where none is.
     pub fn page(self) -> usize
         ensures { result ≡ page_of self.task }
     {
         match self.task {
-            Task::Minimize => 0,
+            Task::Minimize | Task::Certify { .. } => 0,
             Task::Preview { page } => page,
         }
     }
@@ -45,7 +48,7 @@ impl Usage {
 #[derive(Clone, Copy, Debug, PartialEq, Eq)]
 pub enum Request<'w> {
     /// A run over the job on standard input.
-    Run(Usage),
+    Run(Usage<'w>),
     /// The check of a written job.
     Check(CheckedFiles<'w>),
 }
@@ -71,9 +74,9 @@ pub fn parse_arguments<'w, S: AsStr>(
 }
 
 /// What the words of `min` or `pbm` ask for.
-fn usage_of(name: &str, command: &ArgMatches<'_>) -> Option<Usage> {
+fn usage_of<'w>(name: &str, command: &ArgMatches<'w>) -> Option<Usage<'w>> {
     let task = match name {
-        "min" => Task::Minimize,
+        "min" => min_task(command),
         _ => Task::Preview {
             page: command.get_one::<usize>("page")?,
         },
@@ -90,6 +93,18 @@ fn checked_files<'w>(check: &ArgMatches<'w>) -> Option<CheckedFiles<'w>> {
         certificate: check.get_str("CERT")?,
         dpi: resolution(check.get_one::<u16>("dpi")?)?,
     })
+}
+
+/// What the words behind `min` ask for.
+fn min_task<'w>(min: &ArgMatches<'w>) -> Task<'w> {
+    let format = match min.get_one::<u16>("format") {
+        Some(2) => Format::Two,
+        _ => Format::One,
+    };
+    match min.get_str("cert") {
+        Some(file) => Task::Certify { file, format },
+        None => Task::Minimize,
+    }
 }
 
 /// The resolution of so many dots per inch.
@@ -121,10 +136,22 @@ fn pclmin<'a>(alloc: Global) -> Result<Command<'a>, AllocError> {
 
 /// The command that writes a job again.
 fn min<'a>(alloc: Global) -> Result<Command<'a>, AllocError> {
+    let cert = Arg::new(alloc, "cert")
+        .long("cert")
+        .value_name("FILE")
+        .help("Also write a certificate of the job to this file, which is made or emptied first");
+    let format = Arg::new(alloc, "format")
+        .long("format")
+        .value_name("N")
+        .value_parser(value_parser!(u16).range(1..=2))
+        .requires_arg("cert")?
+        .help("The format of the certificate, 1 or 2; 1 where none is given");
     Command::new(alloc, "min")
         .about(
             "Writes the job on standard input again as a raster job of the same pages to standard output",
         )
+        .arg(cert)?
+        .arg(format)?
         .arg(dpi(alloc))
 }
 

@@ -8,9 +8,10 @@ use crate::messages::{MEMORY_STATUS, fault_line, status_of};
 use crate::verdicts::verdict_status;
 use clap::Error;
 use clap::error::ErrorKind;
-use pcl_tool::{Fault, INPUT_LIMIT, JobVerdict, filter, preview, read_all};
+use pcl_tool::{Fault, INPUT_LIMIT, JobVerdict, filter, filter_cert, preview, read_all};
 use std::alloc::Global;
 use std::convert::AsStr;
+use std::fs;
 use std::io::{Read, Write};
 use std::rt::Files;
 
@@ -55,7 +56,7 @@ pub fn run<F: Files, S: AsStr, R: Read, W: Write>(
     ensures { HasEnded (R.remaining reader.old) (R.remaining reader.new) (W.contents out.old) (W.contents out.new) result }
 {
     match parse_arguments(alloc, words) {
-        Ok(Request::Run(usage)) => match carry_out(alloc, usage, reader, out) {
+        Ok(Request::Run(usage)) => match carry_out(files, alloc, usage, reader, out) {
             Ok(()) => Ending::Done,
             Err(fault) => failed(alloc, &fault, usage.page()),
         },
@@ -68,10 +69,11 @@ pub fn run<F: Files, S: AsStr, R: Read, W: Write>(
     }
 }
 
-/// Does what is asked for with the job that a reader gives.
-fn carry_out<R: Read, W: Write>(
+/// Does what is asked for with the job that a reader gives. The file of a certificate is made before anything is read.
+fn carry_out<F: Files, R: Read, W: Write>(
+    files: &F,
     alloc: Global,
-    usage: Usage,
+    usage: Usage<'_>,
     reader: &mut R,
     out: &mut W,
 ) -> Result<(), Fault>
@@ -79,6 +81,10 @@ fn carry_out<R: Read, W: Write>(
 {
     match usage.task {
         Task::Minimize => filter(alloc, reader, usage.dpi, out),
+        Task::Certify { file, format } => match fs::create(files, file) {
+            Ok(mut cert) => filter_cert(alloc, reader, usage.dpi, format, out, &mut cert),
+            Err(_) => Err(Fault::WriteFault),
+        },
         Task::Preview { page } => {
             let job = read_all(alloc, reader, INPUT_LIMIT)?;
             preview(alloc, &job, page, usage.dpi, out)

@@ -1,8 +1,8 @@
 use super::*;
 use messages::{fault_line, status_of};
-use pcl_base::{Kind, Method, Name, Refusal};
+use pcl_base::{Dpi, Kind, Method, Name, Refusal};
 use pcl_cert::{CertFault, Verdict};
-use pcl_tool::{Fault, JobVerdict};
+use pcl_tool::{Fault, JobVerdict, filter};
 use std::alloc::Global;
 use std::fs;
 use std::io::{ErrorKind, Read, Write};
@@ -84,7 +84,7 @@ fn text_of(alloc: Global, ending: &Ending) -> Result<String, Fail> {
 #[test]
 fn command_lines(rt: HostRuntime) -> Result<(), Fail> {
     let alloc = rt.alloc();
-    let cases: [(&str, &[u8], u8, usize, &[u8], &str); 30] = [
+    let cases: [(&str, &[u8], u8, usize, &[u8], &str); 37] = [
         ("pclmin min", DOT, 0, 48, DOT_AT_300, ""),
         ("pclmin min --dpi 300", DOT, 0, 48, DOT_AT_300, ""),
         ("pclmin min --dpi 600", DOT, 0, 54, DOT_AT_600, ""),
@@ -165,6 +165,41 @@ fn command_lines(rt: HostRuntime) -> Result<(), Fail> {
             b"",
             "pclmin: refused: NoFont at 0 text\n",
         ),
+        (
+            "pclmin min --cert missing/page.cert",
+            DOT,
+            3,
+            0,
+            b"",
+            "pclmin: cannot write\n",
+        ),
+        ("pclmin min --format 1", DOT, 2, 0, b"", "--cert <FILE>"),
+        ("pclmin min --format 2", DOT, 2, 0, b"", "--cert <FILE>"),
+        (
+            "pclmin min --cert page.cert --format 0",
+            DOT,
+            2,
+            0,
+            b"",
+            "'0'",
+        ),
+        (
+            "pclmin min --cert page.cert --format 3",
+            DOT,
+            2,
+            0,
+            b"",
+            "'3'",
+        ),
+        ("pclmin min --cert", DOT, 2, 0, b"", "--cert <FILE>"),
+        (
+            "pclmin pbm --page 1 --cert page.cert",
+            DOT,
+            2,
+            0,
+            b"",
+            "'--cert'",
+        ),
         ("pclmin pbm", DOT, 2, 0, b"", "--page <N>"),
         ("pclmin pbm --page 0", DOT, 2, 0, b"", "'0'"),
         ("pclmin pbm --page 257", DOT, 2, 0, b"", "'257'"),
@@ -202,6 +237,40 @@ fn command_lines(rt: HostRuntime) -> Result<(), Fail> {
         };
         assert!(rt; is_said, "{line}: {text}");
     }
+    Ok(())
+}
+
+// Certificates of the job of a dot: their length and how they begin. The job beside them is the one without a certificate. Of a
+// refused job the file stays empty.
+#[test]
+fn certificates(rt: HostRuntime) -> Result<(), Fail> {
+    let alloc = rt.alloc();
+    let file = "dot.cert";
+    let cases: [(&str, &[u8], u8, usize, &[u8]); 6] = [
+        ("pclmin min --cert dot.cert", DOT, 0, 105_650, b"PCLCERT1"),
+        ("pclmin min --cert=dot.cert --format 1", DOT, 0, 105_650, b"PCLCERT1"),
+        ("pclmin min --format 2 --cert dot.cert", DOT, 0, 132_060, b"PCLCERT2"),
+        ("pclmin min --cert dot.cert --dpi 600", DOT, 0, 211_250, b"PCLCERT1"),
+        ("pclmin min --cert dot.cert", b"", 0, 12, b"PCLCERT1\0\0\0\0"),
+        ("pclmin min --cert dot.cert", b"\x1b", 1, 0, b""),
+    ];
+    for (line, job, status, len, begin) in cases {
+        let mut out = Held {
+            bytes: Vec::new(alloc),
+        };
+        let mut plain = Held {
+            bytes: Vec::new(alloc),
+        };
+        let ending = run(&rt, alloc, &words_of(alloc, line)?, &mut &*job, &mut out);
+        assert_eq!(rt; ending.status(), status, "{line}");
+        let certificate = fs::read(&rt, file)?;
+        assert_eq!(rt; certificate.len(), len, "{line}");
+        assert!(rt; certificate.starts_with(begin), "{line}");
+        let dpi = if line.contains("600") { Dpi::Dpi600 } else { Dpi::Dpi300 };
+        let _ = filter(alloc, &mut &*job, dpi, &mut plain);
+        assert_eq!(rt; out.bytes.as_slice(), plain.bytes.as_slice(), "{line}");
+    }
+    fs::remove_file(&rt, file)?;
     Ok(())
 }
 
