@@ -18,6 +18,7 @@ use Rattle.pcl_meaning.proofs.SamePages.{pages_same}
 use Rattle.pcl_tool.specs.declared.job_verdict.JobVerdict.{JobVerdict}
 use Rattle.pcl_tool.specs.declared.job_verdict.JobVerdict.TheVariants as job
 use Rattle.pcl_tool.specs.Certified.{tables_of, AreProved}
+use Rattle.pcl_tool.specs.Minimizing.{IsCertifiedJobOf}
 use Rattle.pcl_tool.specs.LeastJobs.{IsCertifiedBy}
 use Rattle.pcl_tool.specs.JobVerdicts.{AreCompared, IsFramed, IsFirstFailure, IsJobVerdict, text_bytes}
 use Rattle.pcl_tool.proofs.SameVerdicts.{verdict_again}
@@ -138,3 +139,17 @@ certified_proved one dpi input output certificate (job.Page number verdict) i v 
     absurd (none_fails dpi v.0.pages v.2 v.0.proofs number verdict
     (subst (λ (t : List ℕ). AreProved dpi v.0.pages t v.0.proofs) same p) v.4)
 certified_proved one dpi input output certificate job.Proved i v = refl
+
+pub written_certified : (dpi : Dpi) (format : Format) (input output certificate : List ℕ)
+    → IsCertifiedJobOf dpi format input output certificate → IsCertifiedBy dpi input output certificate
+written_certified dpi format input output certificate w = record {
+  pages = w.written.pages;
+  meaning = w.written.meaning;
+  texts = w.written.texts;
+  spelled = w.written.spelled;
+  format = format;
+  proofs = w.certified.proofs;
+  can_be_said = w.certified.can_be_said;
+  certificate_is = w.certified.spelled;
+  proved = w.certified.proved;
+}

@@ -6,7 +6,6 @@ pub mod Preview
 pub mod Certified
 pub mod Certifying
 pub mod Minimizing
-pub mod Certified
 pub mod JobVerdicts
 pub mod PageChecks
 pub mod CheckerSteps

@@ -2,9 +2,10 @@
 
 ghost use Rattle.std.specs.Prelude.{◌≡◌, ℕ, List};
 ghost use Rattle.pcl_base.specs.declared.dpi.Dpi.{Dpi};
+ghost use Rattle.pcl_cert.specs.declared.format.Format.{Format};
 ghost use Rattle.pcl_tool.specs.declared.job_verdict.JobVerdict.{JobVerdict};
 ghost use Rattle.pcl_tool.specs.declared.job_verdict.JobVerdict.TheVariants as verdicts;
-ghost use Rattle.pcl_tool.specs.Minimizing.{IsJobOf};
+ghost use Rattle.pcl_tool.specs.Minimizing.{IsJobOf, IsCertifiedJobOf};
 ghost use Rattle.pcl_tool.specs.JobVerdicts.{IsJobVerdict};
 ghost use Rattle.pcl_tool.specs.LeastJobs.{IsLeastJobOf, IsCertifiedBy};
 
@@ -24,10 +25,13 @@ pub fn proved_jobs_are_least()
 {}
 
 /// A job text of the input's pages is answered Proved by a certificate of proofs by which each of its page texts is, and no other
-/// verdict is right.
+/// verdict is right. So `check_job` answers Proved on what `minimize` and `filter_cert` write.
 pub fn certified_jobs_are_proved()
-    ensures { (dpi : Dpi) (input output certificate : List ℕ) (verdict : JobVerdict) → IsCertifiedBy dpi input output certificate
-        → IsJobVerdict dpi input output certificate verdict → verdict ≡ verdicts.Proved }
+    ensures certified { (dpi : Dpi) (input output certificate : List ℕ) (verdict : JobVerdict)
+        → IsCertifiedBy dpi input output certificate → IsJobVerdict dpi input output certificate verdict → verdict ≡ verdicts.Proved }
+    ensures written { (dpi : Dpi) (format : Format) (input output certificate : List ℕ) (verdict : JobVerdict)
+        → IsCertifiedJobOf dpi format input output certificate → IsJobVerdict dpi input output certificate verdict
+        → verdict ≡ verdicts.Proved }
 {
     one_meaning();
 }

@@ -1,8 +1,8 @@
 //! Whole runs: a job is read, performed, and shown, over any reader and writer.
 #![tactic(auto)]
 
-mod checking;
 mod certifying;
+mod checking;
 mod fault;
 mod image;
 mod job_verdict;

@@ -59,17 +59,20 @@ pub fn parse_arguments<'w, S: AsStr>(
     words: &'w [S],
 ) -> Result<Request<'w>, Error> {
     let matches = pclmin(alloc)?.try_get_matches_from(words)?;
-    let request = match matches.subcommand() {
-        Some(("check", check)) => checked_files(check).map(Request::Check),
-        Some((name, command)) => usage_of(name, command).map(Request::Run),
-        None => None,
-    };
-    match request {
+    match request_of(&matches) {
         Some(request) => Ok(request),
         None => Err(pclmin(alloc)?.error(
             ErrorKind::InvalidValue,
             "the resolution of --dpi is 300 or 600",
         )?),
+    }
+}
+
+/// What the words of a command ask for, where its resolution is one.
+fn request_of<'w>(matches: &ArgMatches<'w>) -> Option<Request<'w>> {
+    match matches.subcommand()? {
+        ("check", check) => Some(Request::Check(checked_files(check)?)),
+        (name, command) => Some(Request::Run(usage_of(name, command)?)),
     }
 }
 
