@@ -35,7 +35,7 @@ pub struct Usage<'w> {
 impl Usage<'_> {
     /// The number of the page that is asked for, 0 where none is.
     pub fn page(self) -> usize
-        ensures { result ≡ page_of self.task }
+        ensures { result ≡ page_of self.entry.task }
     {
         match self.task {
             Task::Minimize | Task::Certify { .. } => 0,

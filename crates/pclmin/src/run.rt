@@ -77,7 +77,7 @@ fn carry_out<F: Files, R: Read, W: Write>(
     reader: &mut R,
     out: &mut W,
 ) -> Result<(), Fault>
-    ensures { HasDone usage (R.remaining reader.old) (R.remaining reader.new) (W.contents out.old) (W.contents out.new) result }
+    ensures { HasDone usage.entry (R.remaining reader.old) (R.remaining reader.new) (W.contents out.old) (W.contents out.new) result }
 {
     match usage.task {
         Task::Minimize => filter(alloc, reader, usage.dpi, out),
