@@ -4,7 +4,7 @@
 PREFIX ?= /usr/local
 PROGRAM := crates/pclmin/out/pclmin
 
-.PHONY: build test test-memory examples bench install clean
+.PHONY: build test test-memory examples bench bench-certificates install clean
 
 # Proves and builds the program, and previews the sample job into build/sample.pbm.
 build:
@@ -47,6 +47,10 @@ examples:
 # Compares the program's time and memory with a plain Rust program's. Needs rustc and Python 3.
 bench:
 	bench/run.sh
+
+# Compares the time of writing a job with a certificate of each format and without. Needs Python 3.
+bench-certificates:
+	bench/certificates.sh
 
 # Copies the program that `make build` left to $(PREFIX)/bin.
 install:

@@ -83,4 +83,5 @@ def main(arguments):
         compare(programs, folder, name, ["min", "--dpi", str(dpi)])
 
 
-main(sys.argv[1:])
+if __name__ == "__main__":
+    main(sys.argv[1:])

@@ -9,12 +9,14 @@
 #![tactic(auto)]
 
 mod case;
+mod certificates;
 mod check;
 mod notation;
 mod shown;
 mod table;
 
 use case::Case;
+use certificates::Certificates;
 use check::fault_of;
 use std::alloc::Global;
 use std::rt::Files;
@@ -44,6 +46,9 @@ const TABLES: [&str; 19] = [
     "written.txt",
     "least.txt",
 ];
+
+/// The table of certificates that are changed.
+const CERTIFICATES: &str = "certificates.txt";
 
 /// Why the program ends with a status other than 0.
 #[derive(Debug, Drop, Error)]
@@ -76,11 +81,56 @@ fn main(rt: HostRuntime) -> Result<(), RunFault> {
             }
         }
     }
-    if failed > 0 {
-        return Err(RunFault::Fails { failed, count });
+    let (certificates, wrong) = check_certificates(&rt, rt.alloc(), folder)?;
+    if failed > 0 || wrong > 0 {
+        return Err(RunFault::Fails {
+            failed: failed.saturating_add(wrong),
+            count: count.saturating_add(certificates),
+        });
     }
     println!(rt; "{count} cases hold")?;
+    println!(rt; "{certificates} certificates are answered so")?;
     Ok(())
+}
+
+/// How many certificates there are in their table, and how many of them aren't answered as it says: these are printed.
+fn check_certificates(
+    rt: &(impl Files + AllocGlobal + Print),
+    alloc: Global,
+    folder: &str,
+) -> Result<(usize, usize), RunFault> {
+    let text = read_text(rt, alloc, folder, CERTIFICATES)?;
+    let mut certificates = Certificates::new(alloc);
+    let mut line = 0usize;
+    let (mut count, mut wrong) = (0usize, 0usize);
+    for words in text.lines() {
+        line = line.saturating_add(1);
+        let taken = certificates.take_line(alloc, words.trim());
+        let ended = taken.map_err(|fault| RunFault::Table {
+            name: CERTIFICATES,
+            line,
+            fault,
+        })?;
+        if let Some(came) = ended {
+            count = count.saturating_add(1);
+            if let Some(came) = came {
+                wrong = wrong.saturating_add(1);
+                println!(rt; "{CERTIFICATES}: {}\n  {came}", certificates.name)?;
+            }
+        }
+    }
+    Ok((count, wrong))
+}
+
+/// The text of a table of a folder.
+fn read_text(
+    rt: &(impl Files + AllocGlobal),
+    alloc: Global,
+    folder: &str,
+    name: &str,
+) -> Result<String, RunFault> {
+    let path = format!(in alloc; "{folder}/{name}").map_err(io::Error::from)?;
+    Ok(fs::read_to_string(rt, path.as_str())?)
 }
 
 /// The cases of a table of a folder.
@@ -90,8 +140,7 @@ fn read_table(
     folder: &str,
     name: &'static str,
 ) -> Result<Vec<Case>, RunFault> {
-    let path = format!(in alloc; "{folder}/{name}").map_err(io::Error::from)?;
-    let text = fs::read_to_string(rt, path.as_str())?;
+    let text = read_text(rt, alloc, folder, name)?;
     cases_of(alloc, text.as_str()).map_err(|(line, fault)| RunFault::Table { name, line, fault })
 }
 

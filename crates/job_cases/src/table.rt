@@ -213,7 +213,7 @@ fn add_dots(row: &mut Vec<u8>, span: &str) -> Result<(), TableFault> {
     Ok(())
 }
 
-fn number(text: &str) -> Result<usize, TableFault> {
+pub(crate) fn number(text: &str) -> Result<usize, TableFault> {
     text.parse().map_err(|_| TableFault::Number)
 }
 
@@ -221,7 +221,7 @@ fn row_number(text: &str) -> Result<u32, TableFault> {
     text.parse().map_err(|_| TableFault::Number)
 }
 
-fn resolution(text: &str) -> Result<Dpi, TableFault> {
+pub(crate) fn resolution(text: &str) -> Result<Dpi, TableFault> {
     match text {
         "300" => Ok(Dpi::Dpi300),
         "600" => Ok(Dpi::Dpi600),

@@ -11,3 +11,5 @@ pub mod KeptLists
 pub mod FixedParts
 pub mod RowPlaces
 pub mod ProvedLeast
+pub mod SmallNumbers
+pub mod PlansProved

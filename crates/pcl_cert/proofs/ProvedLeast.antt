@@ -28,7 +28,7 @@ first_padded : (n : ℕ) (list : List ℕ) → slice_index (table_of (suc n) lis
 first_padded n [] = refl
 first_padded n (number ∷ list) = refl
 
-number_first : (n : ℕ) (list : List ℕ) → slice_index (table_of (n + 1) list) 0 ≡ slice_index list 0
+pub number_first : (n : ℕ) (list : List ℕ) → slice_index (table_of (n + 1) list) 0 ≡ slice_index list 0
 number_first n list =
     let e : n + 1 ≡ suc n = omega arith in ap (λ (k : ℕ). slice_index (table_of k list) 0) e ∙ first_padded n list
 

@@ -14,7 +14,9 @@ use Rattle.pcl_cert.specs.declared.check.Verdict.{Verdict}
 use Rattle.pcl_cert.specs.declared.check.Verdict.TheVariants.{NotGrammar, OtherPage, Rows, Place, Edge, Length, Proved}
 use Rattle.pcl_cert.specs.declared.check.places.BadPlace.{BadPlace}
 use Rattle.pcl_cert.specs.RowTables.{list_of, number_at_place}
-use Rattle.pcl_cert.specs.PageTables.{table_of}
+use Rattle.pcl_cert.specs.PageTables.{table_of, AreLeastTablesOf}
+use Rattle.pcl_cert.specs.declared.format.Format.{Format}
+use Rattle.pcl_cert.specs.declared.format.Format.TheVariants.{One, Two}
 use Rattle.pcl_check.specs.TextVerdicts.{IsSomePageText}
 use Rattle.pcl_check.specs.Edges.{IsGoodNumber, IsLeastOfRow, IsFirstBad}
 use Rattle.pcl_check.specs.Places.{IsGoodPlace}
@@ -32,6 +34,17 @@ AreOfPage page table (Some lists) =
 abbrev pub AreTablesOf : Page → Tables → Type 0
 AreTablesOf page None = Unit {0}
 AreTablesOf page (Some lists) = length lists.now ≡ 4 * page_height page.size page.dpi
+
+-- row tables of least numbers, where there are any
+abbrev pub AreLeastOf : Page → Tables → Type 0
+AreLeastOf page None = Unit {0}
+AreLeastOf page (Some lists) = AreLeastTablesOf page lists.now
+
+-- the same as they stand in a certificate: in the second format alone
+abbrev pub HasLeastLists : Page → Format → Option (List (List ℕ)) → Type 0
+HasLeastLists page One places = places ≡ None
+HasLeastLists page Two None = ⊥
+HasLeastLists page Two (Some lists) = AreLeastTablesOf page lists
 
 -- ---- row tables
 

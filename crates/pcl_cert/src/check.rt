@@ -11,7 +11,7 @@ ghost use Rattle.pcl_check.specs.Edges.{FindsBad};
 ghost use Rattle.pcl_cert.specs.Checking.{IsVerdict, AreOfPage, IsGoodOf};
 
 use crate::tables::RowTables;
-pub use laws::proved_texts_are_least;
+pub use laws::{plans_are_proved, plans_can_be_certified, proved_texts_are_least};
 use lengths::ByRowTables;
 use pcl_base::Method;
 use pcl_check::{BadNumber, LeastByCoders, TextVerdict, first_bad_number, read_page_text};

@@ -13,7 +13,9 @@ mod reading_certificates;
 mod tables;
 mod writing_certificates;
 
-pub use check::{Verdict, check_page, proved_texts_are_least};
+pub use check::{
+    Verdict, check_page, plans_are_proved, plans_can_be_certified, proved_texts_are_least,
+};
 pub use fault::CertFault;
 pub use format::Format;
 pub use page_proof::PageProof;

@@ -6,3 +6,4 @@ pub mod Dots
 pub mod Pads
 pub mod Printing
 pub mod Jobs
+pub mod SamePages

@@ -1,6 +1,7 @@
 //! Pages, and what takes them.
 
 ghost use Rattle.std.specs.Prelude.{◌≡◌, ◌≤◌, OnOk, OnErr};
+ghost use Rattle.pcl_bitmap.specs.Bitmap.{IsPicture};
 
 use pcl_base::{Dpi, Size};
 use pcl_bitmap::Bitmap;
@@ -20,6 +21,7 @@ pub struct Page {
     ghost copies_in_range: { (1 ≤ copies) × (copies ≤ 99) },
     ghost size_is: { bitmap.size ≡ size },
     ghost dpi_is: { bitmap.dpi ≡ dpi },
+    ghost picture: { IsPicture bitmap },
 }
 
 impl Page {

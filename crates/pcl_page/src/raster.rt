@@ -4,7 +4,7 @@ ghost use Rattle.std.specs.Prelude.{◌≡◌, ◌+◌, ◌*◌, ◌^◌, ◌<�
 ghost use Rattle.pcl_base.specs.Size.{page_width, page_height};
 ghost use Rattle.pcl_base.specs.Dpi.{units_per_dot};
 ghost use Rattle.pcl_rows.specs.Decoding.{decoded};
-ghost use Rattle.pcl_bitmap.specs.Bitmap.{dot};
+ghost use Rattle.pcl_bitmap.specs.Bitmap.{IsPicture, dot};
 ghost use Rattle.pcl_page.specs.Raster.{bytes_of_width, raster_from, skipped, row_sent, with_row, row_mark, is_below_height, cleared_past, is_ignored_in_raster, ends_raster, counted_to};
 
 use pcl_base::{Dpi, Method, Operation};
@@ -95,12 +95,14 @@ impl Raster {
 
     /// Decodes a row over the seed row, and paints it where it lies below the height. It is the seed row then.
     pub fn send(&mut self, method: Method, bytes: &[u8], bitmap: &mut Bitmap)
-        requires { self.old.rows + 1 < 2 ^ 60 }
+        requires few { self.old.rows + 1 < 2 ^ 60 }
+        requires picture { IsPicture bitmap.old }
         ensures raster { self.new ≡ with_row (row_sent method bytes.now self.old) self.old }
         ensures size { bitmap.new.size ≡ bitmap.old.size }
         ensures dpi { bitmap.new.dpi ≡ bitmap.old.dpi }
         ensures dots { (x y : ℕ) → x < page_width bitmap.old.size bitmap.old.dpi → y < page_height bitmap.old.size bitmap.old.dpi
             → dot bitmap.new x y ≡ ((row_mark (row_sent method bytes.now self.old) self.old).covers x y || dot bitmap.old x y) }
+        ensures picture { IsPicture bitmap.new }
     {
         decode_within(self.width, method, &self.seed, bytes, &mut self.row);
         if self.is_below_height() {

@@ -51,6 +51,13 @@ impl Plan {
         &self.table
     }
 
+    /// The same table, where the plan is no longer needed.
+    pub fn into_table(self) -> Table
+        ensures { result ≡ self.table }
+    {
+        self.table
+    }
+
     /// How many bytes the body has: the number of the node where it begins.
     pub fn cost(&self) -> u32
         ensures { result ≡ node_number self.now.table start }

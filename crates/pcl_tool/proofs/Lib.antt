@@ -1,3 +1,13 @@
 pub mod Writes
 pub mod Choices
 pub mod Texts
+pub mod Framed
+pub mod Left
+pub mod SameCheckers
+pub mod Checkers
+pub mod JobsChecked
+pub mod LeastTexts
+pub mod SameVerdicts
+pub mod CertifiedJobs
+pub mod Proved
+pub mod Filtered

@@ -24,22 +24,28 @@ texts_gathered dpi (sheet ∷ sheets) old new h =
       rest.2 ∙ ap (λ (t : List ℕ). t ++ rest.0) h.3.1 ∙ append_assoc old text rest.0,
     )
 
-pub job_written : (dpi : Dpi) (job start body output : List ℕ) (pages : List Sheet) → HasPages dpi job pages → start ≡ frame_bytes
-    → Hands (λ (o : List ℕ) (page : Page) (n : List ℕ). AppendsPage page o n) dpi pages start body → output ≡ body ++ frame_bytes
-    → IsJobOf dpi job output
-job_written dpi job start body output pages meaning opened handed closed =
-    let t = texts_gathered dpi pages start body handed in
-    let spelled : output ≡ frame_bytes ++ t.0 ++ frame_bytes =
-    closed ∙ ap (λ (b : List ℕ). b ++ frame_bytes) (t.2 ∙ ap (λ (s : List ℕ). s ++ t.0) opened)
-    ∙ append_assoc frame_bytes t.0 frame_bytes in
-    let w = written_again dpi job t.0 pages meaning t.1 in
+-- page texts of the job's pages between two resets
+unfoldable pub job_of_texts : (dpi : Dpi) (job start body output texts : List ℕ) (pages : List Sheet) → HasPages dpi job pages → start ≡ frame_bytes
+    → PrintSheets dpi pages texts → body ≡ start ++ texts → output ≡ body ++ frame_bytes → IsJobOf dpi job output
+job_of_texts dpi job start body output texts pages meaning opened print joined closed =
+    let spelled : output ≡ frame_bytes ++ texts ++ frame_bytes =
+    closed ∙ ap (λ (b : List ℕ). b ++ frame_bytes) (joined ∙ ap (λ (s : List ℕ). s ++ texts) opened)
+    ∙ append_assoc frame_bytes texts frame_bytes in
+    let w = written_again dpi job texts pages meaning print in
     record {
       pages = pages;
       meaning = meaning;
-      texts = t.0;
-      print = t.1;
+      texts = texts;
+      print = print;
       spelled = spelled;
       again = w.0;
       accepted = subst (λ (bytes : List ℕ). HasPages dpi bytes w.0) (sym spelled) w.1;
       alike = w.2;
     }
+
+pub job_written : (dpi : Dpi) (job start body output : List ℕ) (pages : List Sheet) → HasPages dpi job pages → start ≡ frame_bytes
+    → Hands (λ (o : List ℕ) (page : Page) (n : List ℕ). AppendsPage page o n) dpi pages start body → output ≡ body ++ frame_bytes
+    → IsJobOf dpi job output
+job_written dpi job start body output pages meaning opened handed closed =
+    let t = texts_gathered dpi pages start body handed in
+    job_of_texts dpi job start body output t.0 pages meaning opened t.1 t.2 closed

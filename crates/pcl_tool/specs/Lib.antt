@@ -3,4 +3,10 @@ pub mod Transfer
 pub mod Image
 pub mod Choice
 pub mod Preview
+pub mod Certified
+pub mod Certifying
 pub mod Minimizing
+pub mod JobVerdicts
+pub mod PageChecks
+pub mod CheckerSteps
+pub mod LeastJobs

@@ -1,15 +1,20 @@
 -- A job written again.
-use Rattle.std.specs.Prelude.{◌≡◌, ℕ, ◌+◌, List, [], ◌++◌, length, Option, Result, Ok, Err}
+use Rattle.std.specs.Prelude.{◌≡◌, ℕ, ◌+◌, List, ◌++◌, length, ◌⊎◌, Option, Result, Ok, Err}
+use Rattle.std.specs.Global.{Vec}
 use Rattle.std.specs.Io.KnownBytes.{Consumes, Appends, IsAtEnd, Keeps}
 use Rattle.pcl_base.specs.declared.dpi.Dpi.{Dpi}
 use Rattle.pcl_page.specs.History.{Sheet}
 use Rattle.pcl_page.specs.Jobs.{HasPages, IsRefusal}
 use Rattle.pcl_plan.specs.Tokens.{frame_bytes}
 use Rattle.pcl_meaning.specs.Alike.{AllAlike, PrintSheets}
+use Rattle.pcl_cert.specs.declared.format.Format.{Format}
+use Rattle.pcl_cert.specs.declared.page_proof.PageProof.{PageProof}
+use Rattle.pcl_cert.specs.Certificates.{AreProofs, certificate_bytes}
 use Rattle.pcl_tool.specs.declared.fault.Fault.{Fault}
 use Rattle.pcl_tool.specs.declared.fault.Fault.TheVariants.{Refused, Memory, ReadFault, TooLong, WriteFault, NoSuchPage}
 use Rattle.pcl_tool.specs.declared.minimizing.Output.{Output}
 use Rattle.pcl_tool.specs.Transfer.{GivesAtMost, AppendsFront}
+use Rattle.pcl_tool.specs.Certified.{AreProved}
 
 -- A job text whose page texts print the pages of a job. It is accepted by the same rules, and its pages are the same.
 pub record IsJobOf (dpi : Dpi) (job output : List ℕ) : Type 0 where
@@ -22,14 +27,36 @@ pub record IsJobOf (dpi : Dpi) (job output : List ℕ) : Type 0 where
   pub accepted : HasPages dpi output again
   pub alike : AllAlike dpi pages again
 
-abbrev pub IsMinimized : Dpi → List ℕ → Result Output Fault → Type 0
-IsMinimized dpi job (Ok output) = IsJobOf dpi job output.job.items × (output.certificate.items ≡ [])
-IsMinimized dpi job (Err (Refused refusal)) = IsRefusal dpi job refusal
-IsMinimized dpi job (Err Memory) = Unit {0}
-IsMinimized dpi job (Err ReadFault) = ⊥
-IsMinimized dpi job (Err TooLong) = ⊥
-IsMinimized dpi job (Err WriteFault) = ⊥
-IsMinimized dpi job (Err NoSuchPage) = ⊥
+-- The certificate of the page texts of some pages: by what it says of each, the checker answers Proved on its text.
+pub record IsCertificate (dpi : Dpi) (format : Format) (pages : List Sheet) (texts certificate : List ℕ) : Type 0 where
+  pub proofs : List PageProof
+  pub can_be_said : AreProofs dpi format proofs
+  pub spelled : certificate ≡ certificate_bytes format proofs
+  pub proved : AreProved dpi pages texts proofs
+
+-- a job text of a job, and its certificate
+pub record IsCertifiedJobOf (dpi : Dpi) (format : Format) (job output certificate : List ℕ) : Type 0 where
+  pub written : IsJobOf dpi job output
+  pub certified : IsCertificate dpi format written.pages written.texts certificate
+
+abbrev pub IsMinimized : Dpi → Format → List ℕ → Result Output Fault → Type 0
+IsMinimized dpi format job (Ok output) = IsCertifiedJobOf dpi format job output.job.items output.certificate.items
+IsMinimized dpi format job (Err (Refused refusal)) = IsRefusal dpi job refusal
+IsMinimized dpi format job (Err Memory) = Unit {0}
+IsMinimized dpi format job (Err ReadFault) = ⊥
+IsMinimized dpi format job (Err TooLong) = ⊥
+IsMinimized dpi format job (Err WriteFault) = ⊥
+IsMinimized dpi format job (Err NoSuchPage) = ⊥
+
+-- the same of the job alone
+abbrev pub IsJobWritten : Dpi → List ℕ → Result (Vec ℕ) Fault → Type 0
+IsJobWritten dpi job (Ok output) = IsJobOf dpi job output.items
+IsJobWritten dpi job (Err (Refused refusal)) = IsRefusal dpi job refusal
+IsJobWritten dpi job (Err Memory) = Unit {0}
+IsJobWritten dpi job (Err ReadFault) = ⊥
+IsJobWritten dpi job (Err TooLong) = ⊥
+IsJobWritten dpi job (Err WriteFault) = ⊥
+IsJobWritten dpi job (Err NoSuchPage) = ⊥
 
 abbrev pub input_limit : ℕ
 input_limit = 2147483647
@@ -52,3 +79,22 @@ IsFiltered dpi given left old new (Err ReadFault) = GivesAtMost given left input
 IsFiltered dpi given left old new (Err TooLong) =
     (bytes : List ℕ) × Consumes given left bytes × (length bytes ≡ input_limit + 1) × Keeps old new
 IsFiltered dpi given left old new (Err NoSuchPage) = ⊥
+
+-- what a reader gave, and what a writer and a second one hold after a filter with a certificate: a front of the job and nothing of
+-- the certificate, or the job and a front of the certificate, where a write fails
+abbrev pub IsFilteredCert : Dpi → Format → (given left old new cert_old cert_new : Option (List ℕ)) → Result (Unit {0}) Fault → Type 0
+IsFilteredCert dpi format given left old new cert_old cert_new (Ok unit) =
+    (job output certificate : List ℕ) × IsRead given left job × IsCertifiedJobOf dpi format job output certificate
+    × Appends old new output × Appends cert_old cert_new certificate
+IsFilteredCert dpi format given left old new cert_old cert_new (Err WriteFault) =
+    (job output certificate : List ℕ) × IsRead given left job × IsCertifiedJobOf dpi format job output certificate
+    × ((AppendsFront old new output × Keeps cert_old cert_new) ⊎ (Appends old new output × AppendsFront cert_old cert_new certificate))
+IsFilteredCert dpi format given left old new cert_old cert_new (Err (Refused refusal)) =
+    (job : List ℕ) × IsRead given left job × IsRefusal dpi job refusal × Keeps old new × Keeps cert_old cert_new
+IsFilteredCert dpi format given left old new cert_old cert_new (Err Memory) =
+    GivesAtMost given left (input_limit + 1) × Keeps old new × Keeps cert_old cert_new
+IsFilteredCert dpi format given left old new cert_old cert_new (Err ReadFault) =
+    GivesAtMost given left input_limit × Keeps old new × Keeps cert_old cert_new
+IsFilteredCert dpi format given left old new cert_old cert_new (Err TooLong) =
+    (bytes : List ℕ) × Consumes given left bytes × (length bytes ≡ input_limit + 1) × Keeps old new × Keeps cert_old cert_new
+IsFilteredCert dpi format given left old new cert_old cert_new (Err NoSuchPage) = ⊥

@@ -1,14 +1,23 @@
 //! Whole runs: a job is read, performed, and shown, over any reader and writer.
 #![tactic(auto)]
 
+mod certifying;
+mod checking;
 mod fault;
 mod image;
+mod job_verdict;
+mod laws;
 mod minimizing;
+mod page_checks;
 mod page_preview;
 mod reading;
 mod writing;
 
+pub use checking::check_job;
 pub use fault::Fault;
-pub use minimizing::{INPUT_LIMIT, Output, filter, minimize};
+pub use job_verdict::JobVerdict;
+pub use laws::{certified_jobs_are_proved, proved_jobs_are_least, written_jobs_are_least};
+pub use minimizing::{INPUT_LIMIT, Output, filter, filter_cert, minimize};
 pub use page_preview::preview;
 pub use reading::read_all;
+pub use writing::write_bytes;

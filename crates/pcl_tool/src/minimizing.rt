@@ -1,11 +1,14 @@
 //! A job written again.
 
-ghost use Rattle.pcl_tool.specs.Minimizing.{IsMinimized, IsFiltered};
+ghost use Rattle.pcl_tool.specs.Transfer.{IsWritten};
+ghost use Rattle.pcl_tool.specs.Minimizing.{IsMinimized, IsJobWritten, IsFiltered, IsFilteredCert};
 
 use crate::Fault;
+use crate::certifying::CertifiedJob;
 use crate::reading::read_all;
 use crate::writing::write_bytes;
 use pcl_base::Dpi;
+use pcl_cert::{Format, write_certificate};
 use pcl_page::{Page, PageSink, perform};
 use pcl_plan::plan;
 use pcl_writer::{write_frame, write_page};
@@ -21,13 +24,34 @@ pub const INPUT_LIMIT: usize = 2_147_483_647;
 pub struct Output {
     /// The job: its page texts between two resets (docs/OUTPUT.md).
     pub job: Vec<u8>,
-    /// The certificate, which is empty as long as there is none.
+    /// The certificate of its page texts (docs/CERTIFICATE.md).
     pub certificate: Vec<u8>,
 }
 
+/// Writes a job again as a raster job of the same pages, with a certificate of this format, by which the checker answers
+/// Proved on each page text. A refusal is the job's.
+pub fn minimize(alloc: Global, job: &[u8], dpi: Dpi, format: Format) -> Result<Output, Fault>
+    ensures { IsMinimized dpi format job.now result }
+{
+    let mut certified = CertifiedJob {
+        format,
+        bytes: Vec::new(alloc),
+        proofs: Vec::new(alloc),
+    };
+    write_frame(&mut certified.bytes)?;
+    perform(alloc, job, dpi, &mut certified)?;
+    write_frame(&mut certified.bytes)?;
+    let mut certificate = Vec::new(alloc);
+    write_certificate(&certified.proofs, format, &mut certificate)?;
+    Ok(Output {
+        job: certified.bytes,
+        certificate,
+    })
+}
+
 /// Writes a job again as a raster job of the same pages. A refusal is the job's.
-pub fn minimize(alloc: Global, job: &[u8], dpi: Dpi) -> Result<Output, Fault>
-    ensures { IsMinimized dpi job.now result }
+fn write_job(alloc: Global, job: &[u8], dpi: Dpi) -> Result<Vec<u8>, Fault>
+    ensures { IsJobWritten dpi job.now result }
 {
     let mut written = Written {
         bytes: Vec::new(alloc),
@@ -35,10 +59,7 @@ pub fn minimize(alloc: Global, job: &[u8], dpi: Dpi) -> Result<Output, Fault>
     write_frame(&mut written.bytes)?;
     perform(alloc, job, dpi, &mut written)?;
     write_frame(&mut written.bytes)?;
-    Ok(Output {
-        job: written.bytes,
-        certificate: Vec::new(alloc),
-    })
+    Ok(written.bytes)
 }
 
 /// Reads a job to its end, writes it again, and flushes. Nothing is written after any fault but of a write,
@@ -52,8 +73,35 @@ pub fn filter<R: Read, W: Write>(
     ensures { IsFiltered dpi (R.remaining reader.old) (R.remaining reader.new) (W.contents out.old) (W.contents out.new) result }
 {
     let job = read_all(alloc, reader, INPUT_LIMIT)?;
-    let output = minimize(alloc, &job, dpi)?;
-    write_bytes(out, &output.job)?;
+    let output = write_job(alloc, &job, dpi)?;
+    write_all(out, &output)
+}
+
+/// The same with a certificate of this format (docs/CERTIFICATE.md), which is written and flushed once the whole job is.
+/// Nothing is written after any fault but of a write; then a front of the job and nothing of the certificate, or the whole job
+/// and a front of the certificate.
+pub fn filter_cert<R: Read, W: Write, C: Write>(
+    alloc: Global,
+    reader: &mut R,
+    dpi: Dpi,
+    format: Format,
+    out: &mut W,
+    cert: &mut C,
+) -> Result<(), Fault>
+    ensures { IsFilteredCert dpi format (R.remaining reader.old) (R.remaining reader.new) (W.contents out.old) (W.contents out.new)
+        (C.contents cert.old) (C.contents cert.new) result }
+{
+    let job = read_all(alloc, reader, INPUT_LIMIT)?;
+    let output = minimize(alloc, &job, dpi, format)?;
+    write_all(out, &output.job)?;
+    write_all(cert, &output.certificate)
+}
+
+/// Writes all of the bytes and flushes. After a fault the writer holds a front of them.
+fn write_all<W: Write>(out: &mut W, bytes: &[u8]) -> Result<(), Fault>
+    ensures { IsWritten (W.contents out.old) (W.contents out.new) bytes.now result }
+{
+    write_bytes(out, bytes)?;
     match out.flush() {
         Ok(()) => Ok(()),
         Err(_) => Err(Fault::WriteFault),

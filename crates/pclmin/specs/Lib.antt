@@ -1,2 +1,4 @@
 pub mod Messages
+pub mod Verdicts
+pub mod Checks
 pub mod Runs

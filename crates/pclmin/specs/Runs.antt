@@ -3,20 +3,23 @@ use Rattle.std.specs.Prelude.{◌≡◌, ℕ, ◌+◌, List, length, ◌⊎◌, 
 use Rattle.std.specs.Io.KnownBytes.{Consumes, Keeps}
 use Rattle.pcl_base.specs.declared.dpi.Dpi.{Dpi}
 use Rattle.pcl_tool.specs.declared.fault.Fault.{Fault}
-use Rattle.pcl_tool.specs.declared.fault.Fault.TheVariants.{Memory, ReadFault, TooLong}
-use Rattle.pcl_tool.specs.Minimizing.{IsFiltered, IsRead, input_limit}
+use Rattle.pcl_tool.specs.declared.fault.Fault.TheVariants.{Memory, ReadFault, TooLong, WriteFault}
+use Rattle.pcl_cert.specs.declared.format.Format.{Format}
+use Rattle.pcl_tool.specs.Minimizing.{IsFiltered, IsFilteredCert, IsRead, input_limit}
 use Rattle.pcl_tool.specs.Preview.{IsPreview}
 use Rattle.pcl_tool.specs.Transfer.{GivesAtMost}
 use Rattle.pclmin.specs.Messages.{line_of, status_for}
+use Rattle.pclmin.specs.Checks.{IsCheckRun, verdict_status_for}
 use Rattle.pclmin.specs.declared.arguments.Task.{Task}
-use Rattle.pclmin.specs.declared.arguments.Task.TheVariants.{Minimize, Preview}
+use Rattle.pclmin.specs.declared.arguments.Task.TheVariants.{Minimize, Certify, Preview}
 use Rattle.pclmin.specs.declared.arguments.Usage.{Usage}
 use Rattle.pclmin.specs.declared.run.Ending.{Ending}
-use Rattle.pclmin.specs.declared.run.Ending.TheVariants.{Done, Failed, NoMemory, Shown}
+use Rattle.pclmin.specs.declared.run.Ending.TheVariants.{Done, Checked, Failed, NoMemory, Shown}
 
 -- the page that is asked for, 0 where none is
 abbrev pub page_of : Task → ℕ
 page_of Minimize = 0
+page_of (Certify file format) = 0
 page_of (Preview page) = page
 
 -- what a reader gave and a writer holds after the preview of a page of the job that it gives
@@ -27,9 +30,21 @@ IsPreviewRun dpi page given left old new (Err TooLong) =
     (bytes : List ℕ) × Consumes given left bytes × (length bytes ≡ input_limit + 1) × Keeps old new
 IsPreviewRun dpi page given left old new shown = (job : List ℕ) × IsRead given left job × IsPreview dpi job page old new shown
 
+-- nothing was read and nothing written
+abbrev pub HasStayed : (given left old new : Option (List ℕ)) → Type 0
+HasStayed given left old new = (left ≡ given) × (new ≡ old)
+
+-- what a reader gave and a writer holds after the job that it gives was written with a certificate to a file, of which nothing is
+-- claimed but by what a writer may say of itself; or the file can't be made, and then nothing was read or written
+abbrev pub IsCertifyRun : Dpi → Format → (given left old new : Option (List ℕ)) → Result (Unit {0}) Fault → Type 0
+IsCertifyRun dpi format given left old new done =
+    ((done ≡ Err WriteFault) × HasStayed given left old new)
+    ⊎ ((held holds : Option (List ℕ)) × IsFilteredCert dpi format given left old new held holds done)
+
 -- what was asked for is done, or failed so
 abbrev pub HasDoneTask : Task → Dpi → (given left old new : Option (List ℕ)) → Result (Unit {0}) Fault → Type 0
 HasDoneTask Minimize dpi given left old new done = IsFiltered dpi given left old new done
+HasDoneTask (Certify file format) dpi given left old new done = IsCertifyRun dpi format given left old new done
 HasDoneTask (Preview page) dpi given left old new done = IsPreviewRun dpi page given left old new done
 
 abbrev pub HasDone : Usage → (given left old new : Option (List ℕ)) → Result (Unit {0}) Fault → Type 0
@@ -40,6 +55,7 @@ abbrev pub HasFailed : Fault → ℕ → Ending → Type 0
 HasFailed fault page (Failed line status) = (line.items ≡ line_of fault page) × (status ≡ status_for fault)
 HasFailed fault page NoMemory = Unit {0}
 HasFailed fault page Done = ⊥
+HasFailed fault page (Checked verdict) = ⊥
 HasFailed fault page (Shown error) = ⊥
 
 -- a run that failed, and ended so
@@ -47,20 +63,25 @@ abbrev pub FailsBy : Ending → (given left old new : Option (List ℕ)) → Typ
 FailsBy ending given left old new =
     (usage : Usage) × (fault : Fault) × HasDone usage given left old new (Err fault) × HasFailed fault (page_of usage.task) ending
 
--- nothing was read and nothing written
-abbrev pub HasStayed : (given left old new : Option (List ℕ)) → Type 0
-HasStayed given left old new = (left ≡ given) × (new ≡ old)
+-- a check that failed, and ended so: nothing was read of the reader
+abbrev pub FailsCheck : Ending → (given left old new : Option (List ℕ)) → Type 0
+FailsCheck ending given left old new =
+    (dpi : Dpi) × (fault : Fault) × (left ≡ given) × IsCheckRun dpi old new (Err fault) × HasFailed fault 0 ending
 
 -- how a run ends, by what it read and wrote
 abbrev pub HasEnded : (given left old new : Option (List ℕ)) → Ending → Type 0
 HasEnded given left old new Done = (usage : Usage) × HasDone usage given left old new (Ok tt)
-HasEnded given left old new (Failed line status) = FailsBy (Failed line status) given left old new
-HasEnded given left old new NoMemory = FailsBy NoMemory given left old new ⊎ HasStayed given left old new
+HasEnded given left old new (Checked verdict) = (dpi : Dpi) × (left ≡ given) × IsCheckRun dpi old new (Ok verdict)
+HasEnded given left old new (Failed line status) =
+    FailsBy (Failed line status) given left old new ⊎ FailsCheck (Failed line status) given left old new
+HasEnded given left old new NoMemory =
+    FailsBy NoMemory given left old new ⊎ (FailsCheck NoMemory given left old new ⊎ HasStayed given left old new)
 HasEnded given left old new (Shown error) = HasStayed given left old new
 
 -- the status of the program; 3 where memory ran out
 abbrev pub IsStatus : Ending → ℕ → Type 0
 IsStatus Done status = status ≡ 0
+IsStatus (Checked verdict) status = status ≡ verdict_status_for verdict
 IsStatus (Failed line code) status = status ≡ code
 IsStatus NoMemory status = status ≡ 3
 IsStatus (Shown error) status = (status ≡ 0) ⊎ (status ≡ 2)

@@ -4,60 +4,109 @@ ghost use Rattle.std.specs.Prelude.{◌≡◌, ◌≢◌, MatchOption};
 ghost use Rattle.pcl_base.specs.Dpi.{dots_per_inch};
 ghost use Rattle.pclmin.specs.Runs.{page_of};
 
+use crate::checks::CheckedFiles;
 use clap::error::ErrorKind;
-use clap::{Arg, Command, Error, value_parser};
+use clap::{Arg, ArgMatches, Command, Error, value_parser};
 use pcl_base::Dpi;
+use pcl_cert::Format;
 use std::alloc::{AllocError, Global};
 use std::convert::AsStr;
 
 /// What a run is asked to do with the job on standard input.
 #[derive(Clone, Copy, Debug, PartialEq, Eq)]
-pub enum Task {
+pub enum Task<'w> {
     /// Write it again as a raster job.
     Minimize,
+    /// The same, and write a certificate of a format to the file of this name.
+    Certify { file: &'w str, format: Format },
     /// Write the image of the page of this number, from 1.
     Preview { page: usize },
 }
 
 /// A run, and the resolution at which it sees the job.
 #[derive(Clone, Copy, Debug, PartialEq, Eq)]
-pub struct Usage {
+pub struct Usage<'w> {
     /// What is asked for.
-    pub task: Task,
+    pub task: Task<'w>,
     /// The resolution.
     pub dpi: Dpi,
 }
 
-impl Usage {
+impl Usage<'_> {
     /// The number of the page that is asked for, 0 where none is.
     pub fn page(self) -> usize
-        ensures { result ≡ page_of self.task }
+        ensures { result ≡ page_of self.entry.task }
     {
         match self.task {
-            Task::Minimize => 0,
+            Task::Minimize | Task::Certify { .. } => 0,
             Task::Preview { page } => page,
         }
     }
 }
 
+/// What the words of a command line ask for.
+#[derive(Clone, Copy, Debug, PartialEq, Eq)]
+pub enum Request<'w> {
+    /// A run over the job on standard input.
+    Run(Usage<'w>),
+    /// The check of a written job.
+    Check(CheckedFiles<'w>),
+}
+
 /// What the words of a command line ask for, or the help, the version or the fault to print.
-pub fn parse_arguments<S: AsStr>(alloc: Global, words: &[S]) -> Result<Usage, Error> {
+pub fn parse_arguments<'w, S: AsStr>(
+    alloc: Global,
+    words: &'w [S],
+) -> Result<Request<'w>, Error> {
     let matches = pclmin(alloc)?.try_get_matches_from(words)?;
-    let (task, dots) = match matches.subcommand() {
-        Some(("min", min)) => (Some(Task::Minimize), min.get_one::<u16>("dpi")),
-        Some(("pbm", pbm)) => (
-            pbm.get_one::<usize>("page")
-                .map(|page| Task::Preview { page }),
-            pbm.get_one::<u16>("dpi"),
-        ),
-        _ => (None, None),
-    };
-    match (task, dots.and_then(resolution)) {
-        (Some(task), Some(dpi)) => Ok(Usage { task, dpi }),
-        _ => Err(pclmin(alloc)?.error(
+    match request_of(&matches) {
+        Some(request) => Ok(request),
+        None => Err(pclmin(alloc)?.error(
             ErrorKind::InvalidValue,
             "the resolution of --dpi is 300 or 600",
         )?),
+    }
+}
+
+/// What the words of a command ask for, where its resolution is one.
+fn request_of<'w>(matches: &ArgMatches<'w>) -> Option<Request<'w>> {
+    match matches.subcommand()? {
+        ("check", check) => Some(Request::Check(checked_files(check)?)),
+        (name, command) => Some(Request::Run(usage_of(name, command)?)),
+    }
+}
+
+/// What the words of `min` or `pbm` ask for.
+fn usage_of<'w>(name: &str, command: &ArgMatches<'w>) -> Option<Usage<'w>> {
+    let task = match name {
+        "min" => min_task(command),
+        _ => Task::Preview {
+            page: command.get_one::<usize>("page")?,
+        },
+    };
+    let dpi = resolution(command.get_one::<u16>("dpi")?)?;
+    Some(Usage { task, dpi })
+}
+
+/// What the words of `check` ask for.
+fn checked_files<'w>(check: &ArgMatches<'w>) -> Option<CheckedFiles<'w>> {
+    Some(CheckedFiles {
+        input: check.get_str("IN")?,
+        output: check.get_str("OUT")?,
+        certificate: check.get_str("CERT")?,
+        dpi: resolution(check.get_one::<u16>("dpi")?)?,
+    })
+}
+
+/// What the words behind `min` ask for.
+fn min_task<'w>(min: &ArgMatches<'w>) -> Task<'w> {
+    let format = match min.get_one::<u16>("format") {
+        Some(2) => Format::Two,
+        _ => Format::One,
+    };
+    match min.get_str("cert") {
+        Some(file) => Task::Certify { file, format },
+        None => Task::Minimize,
     }
 }
 
@@ -78,22 +127,55 @@ fn pclmin<'a>(alloc: Global) -> Result<Command<'a>, AllocError> {
         .version("0.1.0")
         .about("A print filter for HP PCL 5: reads a job, and writes or shows what it prints.")
         .after_help(
-            "Statuses: 0 done, 1 the job is refused or has no such page, 2 usage, 3 reading, writing or memory.",
+            "Statuses: 0 done or proved, 1 the job is refused, has no such page or isn't proved, 2 usage, 3 reading, writing or memory.",
         )
         .subcommand_required(true)
         .arg_required_else_help(true)
         .subcommand(min(alloc)?)?
+        .subcommand(check(alloc)?)?
         .subcommand(pbm(alloc)?)?;
     Ok(command)
 }
 
 /// The command that writes a job again.
 fn min<'a>(alloc: Global) -> Result<Command<'a>, AllocError> {
+    let cert = Arg::new(alloc, "cert")
+        .long("cert")
+        .value_name("FILE")
+        .help("Also write a certificate of the job to this file, which is made or emptied first");
+    let format = Arg::new(alloc, "format")
+        .long("format")
+        .value_name("N")
+        .value_parser(value_parser!(u16).range(1..=2))
+        .requires_arg("cert")?
+        .help("The format of the certificate, 1 or 2; 1 where none is given");
     Command::new(alloc, "min")
         .about(
             "Writes the job on standard input again as a raster job of the same pages to standard output",
         )
+        .arg(cert)?
+        .arg(format)?
         .arg(dpi(alloc))
+}
+
+/// The command that checks a written job.
+fn check<'a>(alloc: Global) -> Result<Command<'a>, AllocError> {
+    Command::new(alloc, "check")
+        .about(
+            "Checks by a certificate that a written job prints the pages of another one, and that none is shorter",
+        )
+        .arg(file(alloc, "IN", "The job as it was"))?
+        .arg(file(alloc, "OUT", "The job that it was written as"))?
+        .arg(file(alloc, "CERT", "The certificate of the written job"))?
+        .arg(dpi(alloc))
+}
+
+/// A file that is asked for.
+fn file<'a>(alloc: Global, name: &'a str, help: &'a str) -> Arg<'a> {
+    Arg::new(alloc, name)
+        .value_name(name)
+        .required(true)
+        .help(help)
 }
 
 /// The command that previews a page.
@@ -110,7 +192,7 @@ fn pbm<'a>(alloc: Global) -> Result<Command<'a>, AllocError> {
         .arg(dpi(alloc))
 }
 
-/// The resolution, which both commands take.
+/// The resolution, which all commands take.
 fn dpi<'a>(alloc: Global) -> Arg<'a> {
     Arg::new(alloc, "dpi")
         .long("dpi")

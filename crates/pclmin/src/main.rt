@@ -2,8 +2,10 @@
 #![tactic(auto)]
 
 mod arguments;
+mod checks;
 mod messages;
 mod run;
+mod verdicts;
 
 use messages::USAGE_STATUS;
 use run::{Ending, run};
@@ -17,7 +19,13 @@ fn main(rt: HostRuntime) -> ExitCode {
         return ExitCode::from(USAGE_STATUS);
     };
     let ending = match words.collect::<Vec<String>>(rt.alloc()) {
-        Ok(words) => run(rt.alloc(), &words, &mut rt.reader(), &mut io::writer(&rt)),
+        Ok(words) => run(
+            &rt,
+            rt.alloc(),
+            &words,
+            &mut rt.reader(),
+            &mut io::writer(&rt),
+        ),
         Err(_) => Ending::NoMemory,
     };
     print(&rt, &ending);
@@ -27,7 +35,7 @@ fn main(rt: HostRuntime) -> ExitCode {
 /// Prints what is left to be printed.
 fn print(rt: &(impl Print + Eprint), ending: &Ending) {
     let _ = match ending {
-        Ending::Done => Ok(()),
+        Ending::Done | Ending::Checked(_) => Ok(()),
         Ending::Failed { line, .. } => match std::str::from_utf8(line) {
             Ok(text) => rt.eprint(text),
             Err(_) => Ok(()),

@@ -2,20 +2,26 @@
 
 ghost use Rattle.pclmin.specs.Runs.{HasDone, HasEnded, HasFailed, IsStatus};
 
-use crate::arguments::{Task, Usage, parse_arguments};
+use crate::arguments::{Request, Task, Usage, parse_arguments};
+use crate::checks::check;
 use crate::messages::{MEMORY_STATUS, fault_line, status_of};
+use crate::verdicts::verdict_status;
 use clap::Error;
 use clap::error::ErrorKind;
-use pcl_tool::{Fault, INPUT_LIMIT, filter, preview, read_all};
+use pcl_tool::{Fault, INPUT_LIMIT, JobVerdict, filter, filter_cert, preview, read_all};
 use std::alloc::Global;
 use std::convert::AsStr;
+use std::fs;
 use std::io::{Read, Write};
+use std::rt::Files;
 
 /// How a run ended, and what is left to be printed.
 #[derive(Drop)]
 pub enum Ending {
     /// What the words ask for is done.
     Done,
+    /// A job was checked, and the line of this answer was written.
+    Checked(JobVerdict),
     /// It failed: the line for standard error, with its line feed, and the status.
     Failed { line: Vec<u8>, status: u8 },
     /// Memory ran out, for the line of a fault too.
@@ -31,6 +37,7 @@ impl Ending {
     {
         match self {
             Ending::Done => 0,
+            Ending::Checked(verdict) => verdict_status(verdict),
             Ending::Failed { status, .. } => *status,
             Ending::NoMemory => MEMORY_STATUS,
             Ending::Shown(error) => error.exit_code() as u8,
@@ -39,7 +46,8 @@ impl Ending {
 }
 
 /// Does what the words of a command line ask for, the program's name first, with the job that a reader gives.
-pub fn run<S: AsStr, R: Read, W: Write>(
+pub fn run<F: Files, S: AsStr, R: Read, W: Write>(
+    files: &F,
     alloc: Global,
     words: &[S],
     reader: &mut R,
@@ -48,26 +56,35 @@ pub fn run<S: AsStr, R: Read, W: Write>(
     ensures { HasEnded (R.remaining reader.old) (R.remaining reader.new) (W.contents out.old) (W.contents out.new) result }
 {
     match parse_arguments(alloc, words) {
-        Ok(usage) => match carry_out(alloc, usage, reader, out) {
+        Ok(Request::Run(usage)) => match carry_out(files, alloc, usage, reader, out) {
             Ok(()) => Ending::Done,
             Err(fault) => failed(alloc, &fault, usage.page()),
+        },
+        Ok(Request::Check(asked)) => match check(files, alloc, asked, out) {
+            Ok(verdict) => Ending::Checked(verdict),
+            Err(fault) => failed(alloc, &fault, 0),
         },
         Err(error) if error.kind() == ErrorKind::OutOfMemory => Ending::NoMemory,
         Err(error) => Ending::Shown(error),
     }
 }
 
-/// Does what is asked for with the job that a reader gives.
-fn carry_out<R: Read, W: Write>(
+/// Does what is asked for with the job that a reader gives. The file of a certificate is made before anything is read.
+fn carry_out<F: Files, R: Read, W: Write>(
+    files: &F,
     alloc: Global,
-    usage: Usage,
+    usage: Usage<'_>,
     reader: &mut R,
     out: &mut W,
 ) -> Result<(), Fault>
-    ensures { HasDone usage (R.remaining reader.old) (R.remaining reader.new) (W.contents out.old) (W.contents out.new) result }
+    ensures { HasDone usage.entry (R.remaining reader.old) (R.remaining reader.new) (W.contents out.old) (W.contents out.new) result }
 {
     match usage.task {
         Task::Minimize => filter(alloc, reader, usage.dpi, out),
+        Task::Certify { file, format } => match fs::create(files, file) {
+            Ok(mut cert) => filter_cert(alloc, reader, usage.dpi, format, out, &mut cert),
+            Err(_) => Err(Fault::WriteFault),
+        },
         Task::Preview { page } => {
             let job = read_all(alloc, reader, INPUT_LIMIT)?;
             preview(alloc, &job, page, usage.dpi, out)

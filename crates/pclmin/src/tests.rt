@@ -1,10 +1,13 @@
 use super::*;
 use messages::{fault_line, status_of};
-use pcl_base::{Kind, Name, Refusal};
-use pcl_tool::Fault;
+use pcl_base::{Dpi, Kind, Method, Name, Refusal};
+use pcl_cert::{CertFault, Verdict};
+use pcl_tool::{Fault, JobVerdict, filter};
 use std::alloc::Global;
+use std::fs;
 use std::io::{ErrorKind, Read, Write};
 use std::test::Fail;
+use verdicts::{verdict_line, verdict_status};
 
 /// A job with the dot (0, 0) of a Letter page.
 const DOT: &[u8] = b"\x1b&l0E\x1b*p0x0Y\x1b*t300R\x1b*r0A\x1b*b1W\x80";
@@ -69,7 +72,7 @@ fn words_of(alloc: Global, line: &str) -> Result<Vec<&str>, Fail> {
 /// What the program prints at its end, help and the version too.
 fn text_of(alloc: Global, ending: &Ending) -> Result<String, Fail> {
     Ok(match ending {
-        Ending::Done => String::new(alloc),
+        Ending::Done | Ending::Checked(_) => String::new(alloc),
         Ending::Failed { line, .. } => String::from_utf8_lossy(alloc, line)?,
         Ending::NoMemory => String::from_str(alloc, "pclmin: out of memory\n")?,
         Ending::Shown(error) => format!(in alloc; "{error}")?,
@@ -81,7 +84,7 @@ fn text_of(alloc: Global, ending: &Ending) -> Result<String, Fail> {
 #[test]
 fn command_lines(rt: HostRuntime) -> Result<(), Fail> {
     let alloc = rt.alloc();
-    let cases: [(&str, &[u8], u8, usize, &[u8], &str); 30] = [
+    let cases: [(&str, &[u8], u8, usize, &[u8], &str); 37] = [
         ("pclmin min", DOT, 0, 48, DOT_AT_300, ""),
         ("pclmin min --dpi 300", DOT, 0, 48, DOT_AT_300, ""),
         ("pclmin min --dpi 600", DOT, 0, 54, DOT_AT_600, ""),
@@ -162,6 +165,41 @@ fn command_lines(rt: HostRuntime) -> Result<(), Fail> {
             b"",
             "pclmin: refused: NoFont at 0 text\n",
         ),
+        (
+            "pclmin min --cert missing/page.cert",
+            DOT,
+            3,
+            0,
+            b"",
+            "pclmin: cannot write\n",
+        ),
+        ("pclmin min --format 1", DOT, 2, 0, b"", "--cert <FILE>"),
+        ("pclmin min --format 2", DOT, 2, 0, b"", "--cert <FILE>"),
+        (
+            "pclmin min --cert page.cert --format 0",
+            DOT,
+            2,
+            0,
+            b"",
+            "'0'",
+        ),
+        (
+            "pclmin min --cert page.cert --format 3",
+            DOT,
+            2,
+            0,
+            b"",
+            "'3'",
+        ),
+        ("pclmin min --cert", DOT, 2, 0, b"", "--cert <FILE>"),
+        (
+            "pclmin pbm --page 1 --cert page.cert",
+            DOT,
+            2,
+            0,
+            b"",
+            "'--cert'",
+        ),
         ("pclmin pbm", DOT, 2, 0, b"", "--page <N>"),
         ("pclmin pbm --page 0", DOT, 2, 0, b"", "'0'"),
         ("pclmin pbm --page 257", DOT, 2, 0, b"", "'257'"),
@@ -187,7 +225,7 @@ fn command_lines(rt: HostRuntime) -> Result<(), Fail> {
         let mut out = Held {
             bytes: Vec::new(alloc),
         };
-        let ending = run(alloc, &words_of(alloc, line)?, &mut &*job, &mut out);
+        let ending = run(&rt, alloc, &words_of(alloc, line)?, &mut &*job, &mut out);
         let text = text_of(alloc, &ending)?;
         assert_eq!(rt; ending.status(), status, "{line}: {text}");
         assert_eq!(rt; out.bytes.len(), len, "{line}");
@@ -202,6 +240,40 @@ fn command_lines(rt: HostRuntime) -> Result<(), Fail> {
     Ok(())
 }
 
+// Certificates of the job of a dot: their length and how they begin. The job beside them is the one without a certificate. Of a
+// refused job the file stays empty.
+#[test]
+fn certificates(rt: HostRuntime) -> Result<(), Fail> {
+    let alloc = rt.alloc();
+    let file = "dot.cert";
+    let cases: [(&str, &[u8], u8, usize, &[u8]); 6] = [
+        ("pclmin min --cert dot.cert", DOT, 0, 105_650, b"PCLCERT1"),
+        ("pclmin min --cert=dot.cert --format 1", DOT, 0, 105_650, b"PCLCERT1"),
+        ("pclmin min --format 2 --cert dot.cert", DOT, 0, 132_060, b"PCLCERT2"),
+        ("pclmin min --cert dot.cert --dpi 600", DOT, 0, 211_250, b"PCLCERT1"),
+        ("pclmin min --cert dot.cert", b"", 0, 12, b"PCLCERT1\0\0\0\0"),
+        ("pclmin min --cert dot.cert", b"\x1b", 1, 0, b""),
+    ];
+    for (line, job, status, len, begin) in cases {
+        let mut out = Held {
+            bytes: Vec::new(alloc),
+        };
+        let mut plain = Held {
+            bytes: Vec::new(alloc),
+        };
+        let ending = run(&rt, alloc, &words_of(alloc, line)?, &mut &*job, &mut out);
+        assert_eq!(rt; ending.status(), status, "{line}");
+        let certificate = fs::read(&rt, file)?;
+        assert_eq!(rt; certificate.len(), len, "{line}");
+        assert!(rt; certificate.starts_with(begin), "{line}");
+        let dpi = if line.contains("600") { Dpi::Dpi600 } else { Dpi::Dpi300 };
+        let _ = filter(alloc, &mut &*job, dpi, &mut plain);
+        assert_eq!(rt; out.bytes.as_slice(), plain.bytes.as_slice(), "{line}");
+    }
+    fs::remove_file(&rt, file)?;
+    Ok(())
+}
+
 // A reader or a writer that fails; of a job that is refused nothing is written, so no write fails.
 #[test]
 fn broken_devices(rt: HostRuntime) -> Result<(), Fail> {
@@ -210,7 +282,7 @@ fn broken_devices(rt: HostRuntime) -> Result<(), Fail> {
         ("pclmin min", 3, "pclmin: cannot read\n"),
         ("pclmin pbm --page 1", 3, "pclmin: cannot read\n"),
     ] {
-        let ending = run(alloc, &words_of(alloc, line)?, &mut Broken, &mut Broken);
+        let ending = run(&rt, alloc, &words_of(alloc, line)?, &mut Broken, &mut Broken);
         assert_eq!(rt; text_of(alloc, &ending)?.as_str(), said);
         assert_eq!(rt; ending.status(), status);
     }
@@ -225,7 +297,7 @@ fn broken_devices(rt: HostRuntime) -> Result<(), Fail> {
             "pclmin: refused: Truncated at 0 -\n",
         ),
     ] {
-        let ending = run(alloc, &words_of(alloc, line)?, &mut &*job, &mut Broken);
+        let ending = run(&rt, alloc, &words_of(alloc, line)?, &mut &*job, &mut Broken);
         assert_eq!(rt; text_of(alloc, &ending)?.as_str(), said);
         assert_eq!(rt; ending.status(), status);
     }
@@ -285,6 +357,85 @@ fn lines_of_pages(rt: HostRuntime) -> Result<(), Fail> {
     for (page, line) in [(1, "pclmin: no page 1\n"), (256, "pclmin: no page 256\n")] {
         let written = fault_line(rt.alloc(), &Fault::NoSuchPage, page)?;
         assert_eq!(rt; written.as_slice(), line.as_bytes());
+    }
+    Ok(())
+}
+
+// Checks of three files: the command line, what the files hold, the status, and what is written and said.
+#[test]
+fn checks(rt: HostRuntime) -> Result<(), Fail> {
+    let alloc = rt.alloc();
+    let none: &[u8] = b"PCLCERT1\0\0\0\0";
+    let frame: &[u8] = b"\x1bE\x1bE";
+    let line = "pclmin check check.in check.out check.cert";
+    let fine = "pclmin check --dpi 600 check.in check.out check.cert";
+    let cases: [(&str, &[u8], &[u8], &[u8], u8, &str, &str); 13] = [
+        (line, b"", frame, none, 0, "proved\n", ""),
+        (fine, b"", frame, none, 0, "proved\n", ""),
+        (line, b"", b"", none, 1, "not proved: frame\n", ""),
+        (line, b"", b"\x1bE\x1bE\x1bE", none, 1, "not proved: frame\n", ""),
+        (line, DOT, frame, none, 1, "not proved: page count\n", ""),
+        (line, b"", frame, b"PCLCERT", 1, "not proved: certificate BadMagic\n", ""),
+        (line, b"", frame, b"PCLCERT2\0\0\0", 1, "not proved: certificate Short\n", ""),
+        (line, b"", frame, b"PCLCERT1\0\0\0\0\0", 1, "not proved: certificate Extra\n", ""),
+        (line, b"A", frame, b"", 1, "", "pclmin: refused: NoFont at 0 text\n"),
+        ("pclmin check check.no check.out check.cert", b"A", frame, none, 3, "", "pclmin: cannot read\n"),
+        ("pclmin check check.in check.no check.cert", b"A", frame, none, 3, "", "pclmin: cannot read\n"),
+        ("pclmin check check.in check.out check.no", b"A", frame, none, 3, "", "pclmin: cannot read\n"),
+        ("pclmin check check.in check.out", b"", frame, none, 2, "", "<CERT>"),
+    ];
+    for (line, input, output, certificate, status, written, said) in cases {
+        fs::write(&rt, "check.in", input)?;
+        fs::write(&rt, "check.out", output)?;
+        fs::write(&rt, "check.cert", certificate)?;
+        let mut out = Held {
+            bytes: Vec::new(alloc),
+        };
+        let ending = run(&rt, alloc, &words_of(alloc, line)?, &mut Broken, &mut out);
+        let text = text_of(alloc, &ending)?;
+        assert_eq!(rt; ending.status(), status, "{line}: {text}");
+        assert_eq!(rt; out.bytes.as_slice(), written.as_bytes(), "{line}");
+        assert!(rt; text.contains(said), "{line}: {text}");
+    }
+    let ending = run(&rt, alloc, &words_of(alloc, line)?, &mut Broken, &mut Broken);
+    assert_eq!(rt; text_of(alloc, &ending)?.as_str(), "pclmin: cannot write\n");
+    for name in ["check.in", "check.out", "check.cert"] {
+        fs::remove_file(&rt, name)?;
+    }
+    Ok(())
+}
+
+// The line of each answer, and its status.
+#[test]
+fn lines_of_verdicts(rt: HostRuntime) -> Result<(), Fail> {
+    let page = |page, verdict| JobVerdict::Page { page, verdict };
+    let edge = |row, method, inside| Verdict::Edge {
+        row,
+        method,
+        inside,
+    };
+    let place = Verdict::Place {
+        row: 1,
+        method: Method::Delta,
+        place: 300,
+    };
+    for (verdict, line, status) in [
+        (JobVerdict::Proved, "proved\n", 0),
+        (JobVerdict::PageCount, "not proved: page count\n", 1),
+        (JobVerdict::Frame, "not proved: frame\n", 1),
+        (JobVerdict::Certificate(CertFault::Rows), "not proved: certificate Rows\n", 1),
+        (JobVerdict::Certificate(CertFault::Places), "not proved: certificate Places\n", 1),
+        (page(1, Verdict::NotGrammar), "not proved: page 1: NotGrammar\n", 1),
+        (page(256, Verdict::OtherPage), "not proved: page 256: OtherPage\n", 1),
+        (page(2, Verdict::Rows), "not proved: page 2: Rows\n", 1),
+        (page(1, Verdict::Length), "not proved: page 1: Length\n", 1),
+        (page(1, edge(0, Method::Delta, true)), "not proved: page 1: Edge row 0 method 3 open\n", 1),
+        (page(1, edge(3300, Method::Plain, false)), "not proved: page 1: Edge row 3300 method 0 closed\n", 1),
+        (page(1, place), "not proved: page 1: Place row 1 method 3 place 300\n", 1),
+    ] {
+        let written = verdict_line(rt.alloc(), &verdict)?;
+        assert_eq!(rt; written.as_slice(), line.as_bytes());
+        assert_eq!(rt; verdict_status(&verdict), status, "{line}");
     }
     Ok(())
 }

@@ -1,3 +1,4 @@
+mod certifying;
 mod devices;
 mod filtering;
 mod laws;

@@ -8,14 +8,14 @@ use std::io::ErrorKind;
 use std::test::Fail;
 
 /// A job of 30 bytes with the dot (0, 0).
-const JOB: &[u8] = b"\x1b&l0E\x1b*p0x0Y\x1b*t300R\x1b*r0A\x1b*b1W\x80";
+pub const JOB: &[u8] = b"\x1b&l0E\x1b*p0x0Y\x1b*t300R\x1b*r0A\x1b*b1W\x80";
 
 /// What it is written as, 48 bytes.
-const WRITTEN: &[u8] =
+pub const WRITTEN: &[u8] =
     b"\x1bE\x1b&l1x2a0E\x1b*p0x0Y\x1b*t300R\x1b*r2400s0A\x1b*b1W\x80\x1b*rC\x0c\x1bE";
 
 /// A writer that takes at most so many bytes a write, and never fails.
-fn taking(alloc: Global, most: usize) -> Held {
+pub fn taking(alloc: Global, most: usize) -> Held {
     Held {
         bytes: Vec::new(alloc),
         most,

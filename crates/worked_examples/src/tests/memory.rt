@@ -3,8 +3,9 @@
 //! answers want of memory where there is none fails its test, also in a run in which nothing fails.
 
 use pcl_base::{Dpi, JobFault, Kind, Name, Refusal};
+use pcl_cert::Format;
 use pcl_page::read_pages;
-use pcl_tool::{Fault, filter, minimize, preview, read_all};
+use pcl_tool::{Fault, Output, filter, minimize, preview, read_all};
 use std::alloc::Global;
 use std::io;
 use std::io::Write;
@@ -66,14 +67,21 @@ fn assert_page_count(rt: &(impl Abort + Print), alloc: Global, job: &[u8], count
     assert_eq!(rt; result, Ok(count));
 }
 
-/// Asserts how many bytes a job has where it is written again.
-fn assert_written(rt: &(impl Abort + Print), alloc: Global, job: &[u8], len: usize) {
-    let mut result = minimize(alloc, job, Dpi::Dpi300).map(|output| output.job.len());
+/// Asserts how many bytes a job and its certificate have where it is written again.
+fn assert_written(
+    rt: &(impl Abort + Print),
+    alloc: Global,
+    job: &[u8],
+    format: Format,
+    lengths: (usize, usize),
+) {
+    let lengths_of = |output: Output| (output.job.len(), output.certificate.len());
+    let mut result = minimize(alloc, job, Dpi::Dpi300, format).map(lengths_of);
     if result == Err(Fault::Memory) {
         say_that_memory_ran_out(rt);
-        result = minimize(alloc, job, Dpi::Dpi300).map(|output| output.job.len());
+        result = minimize(alloc, job, Dpi::Dpi300, format).map(lengths_of);
     }
-    assert_eq!(rt; result, Ok(len));
+    assert_eq!(rt; result, Ok(lengths));
 }
 
 // The whole image is written, or nothing where memory runs out.
@@ -112,12 +120,12 @@ fn for_pages_of_two_sizes(rt: HostRuntime) {
 
 #[test]
 fn for_a_written_job(rt: HostRuntime) {
-    assert_written(&rt, rt.alloc(), JOB, 48);
+    assert_written(&rt, rt.alloc(), JOB, Format::One, (48, 105_650));
 }
 
 #[test]
 fn for_a_written_job_of_two_sizes(rt: HostRuntime) {
-    assert_written(&rt, rt.alloc(), TWO_SIZES, 87);
+    assert_written(&rt, rt.alloc(), TWO_SIZES, Format::Two, (87, 272_378));
 }
 
 // An input that is read.

@@ -1,16 +1,31 @@
-use Rattle.std.proofs.Common.{◌∙◌, List, ℕ, ◌++◌, ap}
+use Rattle.std.proofs.Common.{◌∙◌, List, ℕ, ◌++◌, refl, ap, subst, sym}
 use Rattle.pcl_plan.specs.Tokens.{frame_bytes}
+use Rattle.pcl_cert.specs.declared.page_proof.PageProof.{PageProof}
+use Rattle.pcl_cert.specs.Certificates.{AreProofs, certificate_bytes, proofs_in}
 use Rattle.pcl_page.proofs.Jobs.{accepted_pages, has_pages}
-use Rattle.pcl_tool.proofs.Texts.{job_written}
+use Rattle.pcl_tool.specs.Certifying.{SoFar}
+use Rattle.pcl_tool.proofs.Proved.{can_be_written, certified_job}
 use Rattle.pcl_tool.proofs.minimizing.minimize.Goals as goal
+
+pub write_certificate-requires : goal.write_certificate-requires
+write_certificate-requires c =
+    let h = c.in_ok-perform.ensures in (
+      c.args.dpi,
+      subst (λ (proofs : List PageProof). AreProofs c.args.dpi c.args.format (proofs_in c.args.format proofs))
+          (sym (ap (λ (s : SoFar). s.proofs) c.certified.view_is) ∙ sym c.deref.ensures.value)
+          (can_be_written c.args.dpi c.args.format c.args.job.now (accepted_pages h) _ _ (has_pages h) refl c.new-2.ensures.items
+          h.handed.1),
+    )
 
 pub returns : goal.returns
 returns c =
     let h = c.in_ok-perform.ensures in
     let f = c.in_ok-write_frame.ensures in
-    let n = c.in_ok-write_frame-2.ensures in (
-      job_written c.args.dpi c.args.job.now _ _ _ (accepted_pages h) (has_pages h)
-          (f ∙ ap (λ (b : List ℕ). b ++ frame_bytes) c.new.ensures.items) h.handed.1
-          (n ∙ ap (λ (b : List ℕ). b ++ frame_bytes) c.written.view_is),
-      c.new-2.ensures.items,
-    )
+    let n = c.in_ok-write_frame-2.ensures in
+    certified_job c.args.dpi c.args.format c.args.job.now _ _ (accepted_pages h) _ _ (has_pages h) refl
+    (f ∙ ap (λ (b : List ℕ). b ++ frame_bytes) c.new.ensures.items) c.new-2.ensures.items h.handed.1
+    (n ∙ ap (λ (s : SoFar). s.bytes ++ frame_bytes) c.certified.view_is)
+    (c.in_ok-write_certificate.ensures.ok
+    ∙ ap (λ (b : List ℕ). b ++ certificate_bytes c.args.format (proofs_in c.args.format c.deref.result.now)) c.new-certificate.ensures.items
+    ∙ ap (λ (proofs : List PageProof). certificate_bytes c.args.format (proofs_in c.args.format proofs))
+    (c.deref.ensures.value ∙ ap (λ (s : SoFar). s.proofs) c.certified.view_is))

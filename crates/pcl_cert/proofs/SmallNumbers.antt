@@ -1,0 +1,125 @@
+-- The numbers of a plan are small: each row can be sent as it is.
+use Rattle.std.proofs.Common.{◌≡◌, ℕ, zero, suc, ◌+◌, ◌-◌, ◌*◌, ◌^◌, ◌<◌, ◌≤◌, Bool, true, false, List, [], ◌∷◌, ◌++◌, length, drop, refl, sym, ap, subst, ◌∙◌, arith, lit<}
+use Rattle.std.specs.Prelude.{slice_index_or}
+use Rattle.std.specs.List.{AllByRecursion}
+use Rattle.std.proofs.lemmas.List.{append-nil, drop_all}
+use Rattle.pcl_base.specs.declared.method.Method.{Method}
+use Rattle.pcl_base.specs.declared.method.Method.TheVariants.{Plain, Runs, Packed, Delta}
+use Rattle.pcl_base.specs.Method.{method_code}
+use Rattle.pcl_rows.specs.Rows.{base, RowFrom, IsRowData}
+use Rattle.pcl_rows.specs.Fronts.{overlaid}
+use Rattle.pcl_rows.proofs.Overlays.{overlaid_within}
+use Rattle.pcl_rows.proofs.Readings.{plain_elements, row_of_plain}
+use Rattle.pcl_coders.specs.Coding.{IsCodable}
+use Rattle.pcl_coders.proofs.RowWalks.{length-base}
+use Rattle.pcl_coders.specs.Walks.{IsFeasible}
+use Rattle.pcl_plan.specs.Tokens.{opening, method, send, AreWhite}
+use Rattle.pcl_plan.specs.Nodes.{Node, row_at, row_above, Leads, Ends, cost, AreOfWidth}
+use Rattle.pcl_plan.specs.Spelling.{least_spelling}
+use Rattle.pcl_plan.specs.Table.{node_number, no_numbers}
+use Rattle.pcl_plan.specs.declared.table.RowNumbers.{RowNumbers}
+use Rattle.pcl_plan.proofs.Walking.{node, row_width, above_width}
+use Rattle.pcl_plan.proofs.RightRows.{cost_opening, cost_method, cost_send, method_small}
+use Rattle.pcl_plan.proofs.InkedRows.{spelled_cost, sending_small}
+use Rattle.pcl_cert.specs.Certificates.{AreSmall}
+
+-- ---- plain data
+
+-- a row is whole data for itself
+plain_row : (seed row : List ℕ) → IsCodable seed row → IsRowData Plain seed row row
+plain_row seed row codable =
+    let old : List ℕ = base Plain seed in
+    let same : length old ≡ length row = length-base Plain seed ∙ codable.same_size in
+    let laid : overlaid old 0 row ≡ row =
+    overlaid_within old 0 row (omega (arith, same))
+    ∙ ap (λ (behind : List ℕ). row ++ behind) (drop_all (0 + length row) old (omega (arith, same)))
+    ∙ append-nil row in
+    let elements = plain_elements row in
+    record {
+      whole = (elements.0, elements.1, elements.2, omega (arith, elements.3));
+      decodes = subst (λ (made : List ℕ). RowFrom Plain row old made) laid (row_of_plain row old);
+      fits = omega (arith, codable.small);
+    }
+
+-- ---- numbers of nodes
+
+sent_plain : (width : ℕ) (rows : List (List ℕ)) (number : Node → ℕ) → AreOfWidth width rows → width ≤ 600
+    → IsFeasible (Leads width rows) (Ends rows) cost number → (row : ℕ) → row < length rows
+    → number (node row Plain true) ≤ 65541 + number (node (row + 1) Plain false)
+sent_plain width rows number are narrow feasible row within =
+    let bytes : List ℕ = row_at rows row in
+    let long : length bytes ≡ width = row_width width rows row are within in
+    let codable : IsCodable (row_above width rows row) bytes = record {
+      same_size = above_width width rows row are (omega arith) ∙ sym long;
+      small = omega (arith, long);
+    } in
+    let s = spelled_cost (length bytes) (omega (arith, long)) in
+    omega (
+      arith,
+      feasible.steps (node row Plain true) (send (least_spelling (length bytes)) bytes) (node (row + 1) Plain false)
+          (refl, s.0, within, plain_row (row_above width rows row) bytes codable, refl),
+      cost_send (least_spelling (length bytes)) bytes,
+      s.1,
+      sending_small (length bytes) (omega (arith, long)),
+    )
+
+-- outside a sequence, where so many rows are left
+outside_small : (width : ℕ) (rows : List (List ℕ)) (number : Node → ℕ) → AreOfWidth width rows → width ≤ 600
+    → IsFeasible (Leads width rows) (Ends rows) cost number → (left row : ℕ) (current : Method) → row + left ≡ length rows
+    → number (node row current false) ≤ 65546 * left
+outside_small width rows number are narrow feasible zero row current all =
+    omega (
+      arith,
+      feasible.ends (node row current false)
+          (refl, subst AreWhite (sym (drop_all row rows (omega (arith, all)))) tt),
+    )
+outside_small width rows number are narrow feasible (suc left) row current all =
+    let s = spelled_cost (method_code Plain) (omega (arith, method_small Plain)) in
+    omega (
+      arith,
+      feasible.steps (node row current false) opening (node row current true) (refl, refl),
+      cost_opening,
+      feasible.steps (node row current true) (method (least_spelling 0) Plain false) (node row Plain true) (refl, s.0, refl),
+      cost_method (least_spelling 0) Plain false,
+      sent_plain width rows number are narrow feasible row (omega (arith, all)),
+      outside_small width rows number are narrow feasible left (row + 1) Plain (omega (arith, all)),
+    )
+
+pub number_small : (width : ℕ) (rows : List (List ℕ)) (number : Node → ℕ) → AreOfWidth width rows → width ≤ 600 → length rows ≤ 9999
+    → IsFeasible (Leads width rows) (Ends rows) cost number → (row : ℕ) (current : Method) (is_open : Bool) → row ≤ length rows
+    → number (node row current is_open) ≤ 655394455
+number_small width rows number are narrow few feasible row current false within =
+    omega (arith, outside_small width rows number are narrow feasible (length rows - row) row current (omega arith))
+number_small width rows number are narrow few feasible row current true within =
+    let s = spelled_cost (method_code Plain) (omega (arith, method_small Plain)) in
+    omega (
+      arith,
+      feasible.steps (node row current true) (method (least_spelling 0) Plain true) (node row Plain false) (refl, s.0, refl),
+      cost_method (least_spelling 0) Plain true,
+      outside_small width rows number are narrow feasible (length rows - row) row Plain (omega arith),
+    )
+
+-- ---- numbers of a table
+
+each_small : (table : List RowNumbers) → ((row : ℕ) → row < length table → AreSmall (slice_index_or table row no_numbers))
+    → AllByRecursion AreSmall table
+each_small [] small = tt
+each_small (numbers ∷ table) small = (small 0 (omega arith), each_small table (λ row within. small (suc row) (omega arith)))
+
+pub numbers_small : (width : ℕ) (rows : List (List ℕ)) (table : List RowNumbers) → AreOfWidth width rows → width ≤ 600
+    → length rows ≤ 9999 → length table ≡ length rows + 1
+    → IsFeasible (Leads width rows) (Ends rows) cost (node_number table) → AllByRecursion AreSmall table
+numbers_small width rows table are narrow few size feasible =
+    each_small table (λ row within.
+    let le : row ≤ length rows = omega (arith, size) in
+    let at : (current : Method) (is_open : Bool) → node_number table (node row current is_open) < 2 ^ 32 =
+    λ current is_open. omega (arith, number_small width rows (node_number table) are narrow few feasible row current is_open le) in (
+      at Plain false,
+      at Plain true,
+      at Runs false,
+      at Runs true,
+      at Packed false,
+      at Packed true,
+      at Delta false,
+      at Delta true,
+    ))

@@ -1,0 +1,82 @@
+-- Pages that show one sheet are the same in all that a text prints.
+use Rattle.std.proofs.Common.{◌≡◌, ℕ, ◌+◌, ◌<◌, ◌≤◌, List, [], ◌∷◌, ◌++◌, length, refl, sym, ap, subst, ◌∙◌, arith}
+use Rattle.std.proofs.lemmas.List.{length-append}
+use Rattle.pcl_base.specs.declared.dpi.Dpi.{Dpi}
+use Rattle.pcl_base.specs.declared.size.Size.{Size}
+use Rattle.pcl_base.specs.Size.{page_width, page_height}
+use Rattle.pcl_bitmap.specs.Bitmap.{Picture, dot}
+use Rattle.pcl_bitmap.proofs.Pictures.{same_dots}
+use Rattle.pcl_page.specs.declared.page.Page.{Page}
+use Rattle.pcl_page.specs.History.{Sheet}
+use Rattle.pcl_page.specs.Performing.{Shows}
+use Rattle.pcl_plan.specs.Tokens.{frame_bytes}
+use Rattle.pcl_plan.specs.PageText.{IsPageText, PrintsPage, bitmap_rows}
+use Rattle.pcl_meaning.specs.JobTexts.{PrintInOrder, PrintLeast, IsJobText, IsLeastJobText}
+
+-- two pages with the same contents, whatever the proofs that they keep
+pub record AreSame (page other : Page) : Type 0 where
+  pub size : page.size ≡ other.size
+  pub resolution : page.dpi ≡ other.dpi
+  pub copies : page.copies ≡ other.copies
+  pub bitmap : page.bitmap ≡ other.bitmap
+
+-- the dots of a page's bitmap are within the sheet that it shows
+within_sheet : {n : ℕ} (measure : Size → Dpi → ℕ) (dpi : Dpi) (page : Page) (sheet : Sheet) → Shows dpi page sheet
+    → n < measure page.bitmap.size page.bitmap.dpi → n < measure sheet.size dpi
+within_sheet {n} measure dpi page sheet shows lt =
+    subst (λ (d : Dpi). n < measure sheet.size d) (page.dpi_is ∙ shows.resolution)
+    (subst (λ (z : Size). n < measure z page.bitmap.dpi) (page.size_is ∙ shows.size) lt)
+
+-- bitmaps with the same dots are the same, since bits past the width are clear
+pub pages_same : (dpi : Dpi) (page other : Page) (sheet : Sheet) → Shows dpi page sheet → Shows dpi other sheet → AreSame page other
+pages_same dpi page other sheet one two =
+    let size = one.size ∙ sym two.size in
+    let resolution = one.resolution ∙ sym two.resolution in
+    record {
+      size = size;
+      resolution = resolution;
+      copies = one.copies ∙ sym two.copies;
+      bitmap = same_dots page.bitmap other.bitmap page.picture other.picture (page.size_is ∙ size ∙ sym other.size_is)
+          (page.dpi_is ∙ resolution ∙ sym other.dpi_is)
+          (λ x y wide high.
+          let across = within_sheet page_width dpi page sheet one wide in
+          let down = within_sheet page_height dpi page sheet one high in one.dots x y across down ∙ sym (two.dots x y across down));
+    }
+
+-- what holds of the contents of one page holds of those of the other
+pub moved : (P : Size → Dpi → ℕ → Picture → Type 0) {page other : Page} → AreSame page other → P page.size page.dpi page.copies page.bitmap
+    → P other.size other.dpi other.copies other.bitmap
+moved P {page} {other} same p =
+    subst (λ (b : Picture). P other.size other.dpi other.copies b) same.bitmap
+    (subst (λ (c : ℕ). P other.size other.dpi c page.bitmap) same.copies
+    (subst (λ (d : Dpi). P other.size d page.copies page.bitmap) same.resolution
+    (subst (λ (z : Size). P z page.dpi page.copies page.bitmap) same.size p)))
+
+-- a text that prints the one prints the other
+pub prints_same : {page other : Page} (text : List ℕ) → AreSame page other → PrintsPage page text → PrintsPage other text
+prints_same text same printed = moved (λ size dpi copies bitmap. IsPageText dpi size copies (bitmap_rows bitmap) text) same printed
+
+-- ---- texts in order
+
+pub least_together : (dpi : Dpi) (sheets : List Sheet) (texts others : List ℕ) → PrintLeast dpi sheets texts → PrintInOrder dpi sheets others
+    → length texts ≤ length others
+least_together dpi [] texts others l p = let none : length texts ≡ 0 = ap length l in omega arith
+least_together dpi (sheet ∷ sheets) texts others l p =
+    let rest = least_together dpi sheets l.2 p.2 l.7 p.6 in
+    let first : length l.1 ≤ length p.1 =
+    l.5 p.1 (prints_same p.1 (pages_same dpi p.0 l.0 sheet p.3 l.3) p.4) in
+    let texts_are = ap length l.6 ∙ length-append l.1 l.2 in
+    let others_are = ap length p.5 ∙ length-append p.1 p.2 in omega (arith, texts_are, others_are, rest, first)
+
+pub least_job : (dpi : Dpi) (sheets : List Sheet) (texts job : List ℕ) → PrintLeast dpi sheets texts
+    → job ≡ frame_bytes ++ texts ++ frame_bytes → IsLeastJobText dpi sheets job
+least_job dpi sheets texts job l e = record {
+  texts = texts;
+  print = l;
+  spelled = e;
+  shortest = λ other is.
+      let together = least_together dpi sheets texts is.texts l is.print in
+      let these = ap length e ∙ length-append frame_bytes (texts ++ frame_bytes) in
+      let those = ap length is.spelled ∙ length-append frame_bytes (is.texts ++ frame_bytes) in
+      omega (arith, together, these, those, length-append texts frame_bytes, length-append is.texts frame_bytes);
+}

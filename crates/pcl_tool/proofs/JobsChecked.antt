@@ -1,0 +1,88 @@
+-- What the checker of a job answers behind the last page.
+use Rattle.std.proofs.Common.{◌≡◌, ℕ, zero, suc, ◌+◌, ◌⊎◌, inl, inr, List, [], ◌∷◌, length, drop, refl, sym, ap, subst, ◌∙◌, arith, Ok, Err}
+use Rattle.pcl_base.specs.declared.dpi.Dpi.{Dpi}
+use Rattle.pcl_page.specs.History.{Sheet}
+use Rattle.pcl_page.specs.Performing.{Hands}
+use Rattle.pcl_page.specs.Jobs.{HasPages}
+use Rattle.pcl_cert.specs.declared.fault.CertFault.{CertFault}
+use Rattle.pcl_cert.specs.declared.fault.CertFault.TheVariants.{BadMagic, Short, Extra, Rows, Places, Memory}
+use Rattle.pcl_cert.specs.declared.format.Format.{Format}
+use Rattle.pcl_cert.specs.declared.page_proof.PageProof.{PageProof}
+use Rattle.pcl_cert.specs.ReadingCertificates.{Fails, certificate_at}
+use Rattle.pcl_tool.specs.declared.job_verdict.JobVerdict.{JobVerdict}
+use Rattle.pcl_tool.specs.declared.job_verdict.JobVerdict.TheVariants as job
+use Rattle.pcl_tool.specs.declared.page_checks.Checker.{Checker}
+use Rattle.pcl_tool.specs.JobVerdicts.{AreCompared, IsFramed, IsFirstFailure, IsJobVerdict}
+use Rattle.pcl_tool.specs.CheckerSteps.{BeginsWith, IsBegun, proofs_left, answer}
+use Rattle.pcl_tool.proofs.Checkers.{takes, stays, miscounted, IsOutcome, AreLeft, outcome}
+
+same_or : (a b : ℕ) → (a ≡ b) ⊎ (a ≡ b → ⊥)
+same_or zero zero = inl refl
+same_or zero (suc b) = inr (λ (e : 0 ≡ suc b). absurd (omega arith))
+same_or (suc a) zero = inr (λ (e : suc a ≡ 0). absurd (omega arith))
+same_or (suc a) (suc b) = elim (same_or a b) [
+  | inl e ↦ inl (ap suc e)
+  | inr other ↦ inr (λ (e : suc a ≡ suc b). other (omega arith))
+]
+
+-- what is found of as many pages as there are proofs
+of_outcome : (dpi : Dpi) (input output certificate : List ℕ) (compared : AreCompared dpi input certificate) (texts : List ℕ)
+    → length compared.pages ≡ length compared.proofs → IsFramed output texts compared.proofs → (found : JobVerdict)
+    → IsOutcome dpi compared.pages texts compared.proofs 0 found → IsJobVerdict dpi input output certificate found
+of_outcome dpi input output certificate compared texts same framed job.Proved o = (compared, texts, framed, o)
+of_outcome dpi input output certificate compared texts same framed (job.Page place verdict) o =
+    let number : o.0 ≡ place = omega (arith, o.1) in (
+      compared,
+      same,
+      texts,
+      framed,
+      subst (λ (n : ℕ). IsFirstFailure dpi compared.pages texts compared.proofs n verdict) number o.2,
+    )
+of_outcome dpi input output certificate compared texts same framed (job.Certificate fault) o = absurd o
+of_outcome dpi input output certificate compared texts same framed job.PageCount o = absurd o
+of_outcome dpi input output certificate compared texts same framed job.Frame o = absurd o
+
+-- by what was found before the first page
+of_begin : (dpi : Dpi) (input output certificate : List ℕ) (compared : AreCompared dpi input certificate) (begun new : Checker)
+    (found : JobVerdict) → found ≡ begun.found → proofs_left begun ≡ compared.proofs → begun.taken ≡ 0
+    → BeginsWith output compared.proofs begun.texts.now found → length compared.pages ≡ length compared.proofs
+    → Hands takes dpi compared.pages begun new → (proofs_left new ≡ []) × IsJobVerdict dpi input output certificate new.found
+of_begin dpi input output certificate compared begun new job.Proved f e n b same h =
+    let o = outcome dpi compared.pages begun.texts.now compared.proofs 0 begun new (sym f) n
+    (record { texts_are = refl; proofs_are = e; as_long = b.as_long }) same h in
+    (o.0, of_outcome dpi input output certificate compared begun.texts.now same b new.found o.1)
+of_begin dpi input output certificate compared begun new job.Frame f e n b same h =
+    let wrong : job.Frame ≡ job.Proved → ⊥ = λ (p : job.Frame ≡ job.Proved). cc in
+    let s = stays dpi compared.pages compared.proofs job.Frame begun new wrong (sym f) e same h in
+    (s.0, subst (IsJobVerdict dpi input output certificate) (sym s.1) (compared, same, b))
+of_begin dpi input output certificate compared begun new (job.Page place verdict) f e n b same h = absurd b
+of_begin dpi input output certificate compared begun new (job.Certificate fault) f e n b same h = absurd b
+of_begin dpi input output certificate compared begun new job.PageCount f e n b same h = absurd b
+
+-- the answer of a checker that has taken the pages of an accepted job
+pub job_answered : (dpi : Dpi) (input output certificate : List ℕ) (format : Format) (proofs : List PageProof) (pages : List Sheet)
+    (begun new : Checker) → HasPages dpi input pages → certificate_at dpi certificate ≡ Ok (format, proofs) → IsBegun output proofs begun
+    → Hands takes dpi pages begun new → IsJobVerdict dpi input output certificate (answer (proofs_left new) new.found)
+job_answered dpi input output certificate format proofs pages begun new meaning certified b h =
+    let compared : AreCompared dpi input certificate =
+    record { pages = pages; meaning = meaning; format = format; proofs = proofs; certified = certified } in
+    let left : proofs_left begun ≡ proofs = ap (λ (k : ℕ). drop k begun.proofs.now) b.none_taken ∙ b.proofs_are in
+    elim (same_or (length pages) (length proofs)) [
+      | inl same ↦
+          let o = of_begin dpi input output certificate compared begun new begun.found refl left b.none_taken b.begins same h in
+          subst (λ (left : List PageProof). IsJobVerdict dpi input output certificate (answer left new.found)) (sym o.0) o.1
+      | inr other ↦
+          subst (IsJobVerdict dpi input output certificate) (sym (miscounted dpi pages proofs begun new left other h))
+              (compared, other)
+    ]
+
+-- the answer where the certificate is none
+pub certificate_refused : (dpi : Dpi) (input output certificate : List ℕ) (fault : CertFault) (pages : List Sheet)
+    → (fault ≡ Memory → ⊥) → HasPages dpi input pages → Fails fault (certificate_at dpi certificate)
+    → IsJobVerdict dpi input output certificate (job.Certificate fault)
+certificate_refused dpi input output certificate BadMagic pages other meaning e = (pages, meaning, e)
+certificate_refused dpi input output certificate Short pages other meaning e = (pages, meaning, e)
+certificate_refused dpi input output certificate Extra pages other meaning e = (pages, meaning, e)
+certificate_refused dpi input output certificate Rows pages other meaning e = (pages, meaning, e)
+certificate_refused dpi input output certificate Places pages other meaning e = (pages, meaning, e)
+certificate_refused dpi input output certificate Memory pages other meaning e = absurd (other refl)

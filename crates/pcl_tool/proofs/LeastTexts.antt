@@ -1,0 +1,50 @@
+-- Written page texts are least, and so are those that the checker answers Proved.
+use Rattle.std.proofs.Common.{ℕ, List, [], ◌∷◌, ◌≡◌, sym, subst}
+use Rattle.pcl_base.specs.declared.dpi.Dpi.{Dpi}
+use Rattle.pcl_page.specs.History.{Sheet}
+use Rattle.pcl_cert.specs.declared.page_proof.PageProof.{PageProof}
+use Rattle.pcl_cert.proofs.ProvedLeast.{proved_least}
+use Rattle.pcl_meaning.specs.Alike.{PrintSheets}
+use Rattle.pcl_meaning.specs.JobTexts.{PrintLeast}
+use Rattle.pcl_meaning.proofs.SamePages.{least_job}
+use Rattle.pcl_tool.specs.declared.job_verdict.JobVerdict.TheVariants as job
+use Rattle.pcl_tool.specs.Certified.{tables_of, AreProved}
+use Rattle.pcl_tool.specs.JobVerdicts.{IsJobVerdict}
+use Rattle.pcl_tool.specs.Minimizing.{IsJobOf}
+use Rattle.pcl_tool.specs.LeastJobs.{IsLeastJobOf}
+
+written_texts : (dpi : Dpi) (sheets : List Sheet) (texts : List ℕ) → PrintSheets dpi sheets texts → PrintLeast dpi sheets texts
+written_texts dpi [] texts p = p
+written_texts dpi (sheet ∷ sheets) texts p =
+    (p.0, p.1, p.2, p.3, p.4.0, λ other printed. p.4.2.shortest other printed, p.5, written_texts dpi sheets p.2 p.6)
+
+proved_texts : (dpi : Dpi) (sheets : List Sheet) (texts : List ℕ) (proofs : List PageProof) → AreProved dpi sheets texts proofs
+    → PrintLeast dpi sheets texts
+proved_texts dpi [] texts [] p = p
+proved_texts dpi [] texts (proof ∷ proofs) p = absurd p
+proved_texts dpi (sheet ∷ sheets) texts [] p = absurd p
+proved_texts dpi (sheet ∷ sheets) texts (proof ∷ proofs) p = (
+  p.0,
+  p.1,
+  p.2,
+  p.3,
+  p.6.0,
+  λ other printed. proved_least p.0 p.1 other proof.table (tables_of proof.places) p.6 printed,
+  p.4,
+  proved_texts dpi sheets p.2 proofs p.7,
+)
+
+pub written_least : (dpi : Dpi) (input output : List ℕ) → IsJobOf dpi input output → IsLeastJobOf dpi input output
+written_least dpi input output w = record {
+  pages = w.pages;
+  meaning = w.meaning;
+  is_least = least_job dpi w.pages w.texts output (written_texts dpi w.pages w.texts w.print) w.spelled;
+}
+
+pub proved_least_job : (dpi : Dpi) (input output certificate : List ℕ) → IsJobVerdict dpi input output certificate job.Proved
+    → IsLeastJobOf dpi input output
+proved_least_job dpi input output certificate v = record {
+  pages = v.0.pages;
+  meaning = v.0.meaning;
+  is_least = least_job dpi v.0.pages v.1 output (proved_texts dpi v.0.pages v.1 v.0.proofs v.3) v.2.spelled;
+}

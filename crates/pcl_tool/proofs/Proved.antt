@@ -1,0 +1,148 @@
+-- The page texts that a sink gathers with what proves them.
+use Rattle.std.proofs.Common.{◌≡◌, ℕ, List, [], ◌∷◌, ◌++◌, Option, Some, None, length, refl, sym, ap, subst, ◌∙◌, append_assoc, arith}
+use Rattle.std.specs.List.{AllByRecursion}
+use Rattle.std.proofs.lemmas.List.{append-nil}
+use Rattle.pcl_base.specs.declared.dpi.Dpi.{Dpi}
+use Rattle.pcl_page.specs.declared.page.Page.{Page}
+use Rattle.pcl_page.specs.History.{Sheet}
+use Rattle.pcl_page.specs.Performing.{Hands}
+use Rattle.pcl_page.specs.Jobs.{HasPages}
+use Rattle.pcl_plan.specs.Tokens.{frame_bytes}
+use Rattle.pcl_plan.specs.PagePlans.{IsPlanOf}
+use Rattle.pcl_plan.specs.Plans.{StepsAndTable}
+use Rattle.pcl_plan.specs.declared.table.RowNumbers.{RowNumbers}
+use Rattle.pcl_writer.specs.Appending.{IsWrittenPage}
+use Rattle.pcl_cert.specs.declared.format.Format.{Format}
+use Rattle.pcl_cert.specs.declared.format.Format.TheVariants.{One, Two}
+use Rattle.pcl_cert.specs.declared.page_proof.PageProof.{PageProof}
+use Rattle.pcl_cert.specs.Certificates.{AreProofs, IsProof, certificate_bytes, proof_in, proofs_in}
+use Rattle.pcl_cert.specs.Checking.{HasLeastLists, AreLeastOf, IsVerdict}
+use Rattle.pcl_cert.specs.declared.check.Verdict.TheVariants.{Proved}
+use Rattle.pcl_cert.proofs.PlansProved.{plan_proved, plan_certified}
+use Rattle.pcl_meaning.specs.Alike.{PrintSheets}
+use Rattle.pcl_meaning.proofs.Jobs.{job_fits}
+use Rattle.pcl_tool.specs.Certified.{tables_of, AreProved}
+use Rattle.pcl_tool.specs.Certifying.{SoFar, Proves, TakesProved}
+use Rattle.pcl_tool.specs.Minimizing.{IsCertifiedJobOf}
+use Rattle.pcl_tool.proofs.Texts.{job_of_texts}
+
+-- ---- one page
+
+least_lists : (page : Page) (format : Format) (places : Option (List (List ℕ))) → HasLeastLists page format places
+    → AreLeastOf page (tables_of places)
+least_lists page One None has = tt
+least_lists page One (Some lists) has = absurd (let no : Some lists ≡ None = has in cc)
+least_lists page Two None has = absurd has
+least_lists page Two (Some lists) has = has
+
+-- a text along a plan of its page
+pub plan_proves : (format : Format) (page : Page) (text : List ℕ) (plan : StepsAndTable) (proof : PageProof)
+    → IsPlanOf page plan → IsWrittenPage page text → HasLeastLists page format proof.places → proof.text_len ≡ length text
+    → proof.table ≡ plan.table → Proves format page text proof
+plan_proves format page text plan proof planned written has long same =
+    let is : record { text_len = length text; table = plan.table; places = proof.places } ≡ proof =
+    ap (λ (n : ℕ). record { text_len = n; table = plan.table; places = proof.places }) (sym long)
+    ∙ ap (λ (table : List RowNumbers). record { text_len = proof.text_len; table = table; places = proof.places }) (sym same) in
+    record {
+      text_len = sym long;
+      can_be_said = subst (IsProof page.dpi format) is
+          (plan_certified page text plan format proof.places planned written.0 written.2 has);
+      proved = subst (λ (table : List RowNumbers). IsVerdict page text table (tables_of proof.places) Proved) (sym same)
+          (plan_proved page text plan (tables_of proof.places) planned written.0 written.2 (least_lists page format proof.places has));
+    }
+
+-- ---- all pages
+
+-- page texts of all sheets, and what proves them
+pub record Gathered (dpi : Dpi) (sheets : List Sheet) (old new : SoFar) : Type 0 where
+  pub texts : List ℕ
+  pub bytes : new.bytes ≡ old.bytes ++ texts
+  pub print : PrintSheets dpi sheets texts
+  pub proofs : List PageProof
+  pub behind : new.proofs ≡ old.proofs ++ proofs
+  pub count : length proofs ≡ length sheets
+  pub can_be_said : AllByRecursion (IsProof dpi old.format) proofs
+  pub proved : AreProved dpi sheets texts proofs
+
+pub gathered : (dpi : Dpi) (sheets : List Sheet) (old new : SoFar) → Hands TakesProved dpi sheets old new → Gathered dpi sheets old new
+gathered dpi [] old new h = record {
+  texts = [];
+  bytes = ap (λ (s : SoFar). s.bytes) h ∙ sym (append-nil old.bytes);
+  print = refl;
+  proofs = [];
+  behind = ap (λ (s : SoFar). s.proofs) h ∙ sym (append-nil old.proofs);
+  count = refl;
+  can_be_said = tt;
+  proved = refl;
+}
+gathered dpi (sheet ∷ sheets) old new h =
+    let rest = gathered dpi sheets h.1 new h.4 in
+    let t = h.3 in
+    record {
+      texts = t.text ++ rest.texts;
+      bytes = rest.bytes ∙ ap (λ (b : List ℕ). b ++ rest.texts) t.bytes ∙ append_assoc old.bytes t.text rest.texts;
+      print = (h.0, t.text, rest.texts, h.2, t.written, refl, rest.print);
+      proofs = t.proof ∷ rest.proofs;
+      behind = rest.behind ∙ ap (λ (ps : List PageProof). ps ++ rest.proofs) t.proofs
+          ∙ append_assoc old.proofs (t.proof ∷ []) rest.proofs;
+      count = omega (arith, rest.count);
+      can_be_said = (
+        subst (λ (d : Dpi). IsProof d old.format t.proof) h.2.resolution t.proves.can_be_said,
+        subst (λ (f : Format). AllByRecursion (IsProof dpi f) rest.proofs) t.format rest.can_be_said,
+      );
+      proved = (h.0, t.text, rest.texts, h.2, refl, t.proves.text_len, t.proves.proved, rest.proved);
+    }
+
+-- what a certificate says in its format is said whole
+proof_said : (dpi : Dpi) (format : Format) (proof : PageProof) → IsProof dpi format proof → proof_in format proof ≡ proof
+proof_said dpi One proof is = ap (λ (places : Option (List (List ℕ))). record proof { places = places }) (sym is.lists)
+proof_said dpi Two proof is = refl
+
+proofs_said : (dpi : Dpi) (format : Format) (proofs : List PageProof) → AllByRecursion (IsProof dpi format) proofs
+    → proofs_in format proofs ≡ proofs
+proofs_said dpi format [] are = refl
+proofs_said dpi format (proof ∷ proofs) are =
+    ap (λ (p : PageProof). p ∷ proofs_in format proofs) (proof_said dpi format proof are.0)
+    ∙ ap (λ (ps : List PageProof). proof ∷ ps) (proofs_said dpi format proofs are.1)
+
+-- ---- a whole job
+
+-- all that is said of a job's pages
+all_said : (dpi : Dpi) (pages : List Sheet) (old new : SoFar) → old.proofs ≡ [] → (h : Hands TakesProved dpi pages old new)
+    → proofs_in old.format new.proofs ≡ (gathered dpi pages old new h).proofs
+all_said dpi pages old new none h =
+    let g = gathered dpi pages old new h in
+    ap (proofs_in old.format) (g.behind ∙ ap (λ (ps : List PageProof). ps ++ g.proofs) none)
+    ∙ proofs_said dpi old.format g.proofs g.can_be_said
+
+are_proofs : (dpi : Dpi) (job : List ℕ) (pages : List Sheet) (old new : SoFar) → HasPages dpi job pages
+    → (h : Hands TakesProved dpi pages old new) → AreProofs dpi old.format (gathered dpi pages old new h).proofs
+are_proofs dpi job pages old new meaning h =
+    let g = gathered dpi pages old new h in
+    (omega (arith, g.count, job_fits dpi job pages meaning), g.can_be_said)
+
+pub can_be_written : (dpi : Dpi) (format : Format) (job : List ℕ) (pages : List Sheet) (old new : SoFar) → HasPages dpi job pages
+    → old.format ≡ format → old.proofs ≡ [] → Hands TakesProved dpi pages old new → AreProofs dpi format (proofs_in format new.proofs)
+can_be_written dpi format job pages old new meaning same none h =
+    subst (λ (f : Format). AreProofs dpi f (proofs_in f new.proofs)) same
+    (subst (AreProofs dpi old.format) (sym (all_said dpi pages old new none h)) (are_proofs dpi job pages old new meaning h))
+
+pub certified_job : (dpi : Dpi) (format : Format) (job output certificate : List ℕ) (pages : List Sheet) (old new : SoFar)
+    → HasPages dpi job pages → old.format ≡ format → old.bytes ≡ frame_bytes → old.proofs ≡ [] → Hands TakesProved dpi pages old new
+    → output ≡ new.bytes ++ frame_bytes → certificate ≡ certificate_bytes format (proofs_in format new.proofs)
+    → IsCertifiedJobOf dpi format job output certificate
+unfolding job_of_texts
+certified_job dpi format job output certificate pages old new meaning same opened none h closed spelled =
+    let g = gathered dpi pages old new h in
+    record {
+      written = job_of_texts dpi job old.bytes new.bytes output g.texts pages meaning opened g.print g.bytes closed;
+      certified = record {
+        proofs = g.proofs;
+        can_be_said = subst (λ (f : Format). AreProofs dpi f g.proofs) same (are_proofs dpi job pages old new meaning h);
+        spelled = spelled
+            ∙ ap (λ (f : Format). certificate_bytes f (proofs_in f new.proofs)) (sym same)
+            ∙ ap (certificate_bytes old.format) (all_said dpi pages old new none h)
+            ∙ ap (λ (f : Format). certificate_bytes f g.proofs) same;
+        proved = g.proved;
+      };
+    }

@@ -1,0 +1,41 @@
+use Rattle.std.proofs.Common.{◌≡◌, ◌-◌, length, refl, ap, subst, arith}
+use Rattle.std.proofs.lemmas.List.{length-append}
+use Rattle.pcl_cert.specs.declared.page_proof.PageProof.{PageProof}
+use Rattle.pcl_tool.specs.Certifying.{SoFar, TakesProved}
+use Rattle.pcl_tool.proofs.Proved.{plan_proves}
+use Rattle.pcl_tool.proofs.certifying.CertifiedJobPageSink.page.Goals as goal
+
+pub overflow_cast-proof : goal.overflow_cast-proof
+overflow_cast-proof c =
+    let a = c.in_ok-write_page.ensures.ok in
+    let p = plan_proves c.self.inside.format c.args.page.now a.0 c.in_ok-least.least
+    (record { text_len = length a.0; table = c.in_ok-least.least.table; places = c.in_ok-places.places }) c.in_ok-least.ensures a.2
+    c.in_ok-places.ensures refl refl in
+    omega (arith, p.can_be_said.text_len, ap length a.1, length-append c.self.inside.bytes.items a.0, c.len.ensures, c.len-before.ensures)
+
+pub returns-in-Ok-clause-taken : goal.returns-in-Ok-clause-taken
+returns-in-Ok-clause-taken c =
+    let a = c.in_ok-write_page.ensures.ok in
+    let long : c.len.result - c.len-before.result ≡ length a.0 =
+    omega (arith, ap length a.1, length-append c.self.inside.bytes.items a.0, c.len.ensures, c.len-before.ensures) in
+    let proof : PageProof = record {
+      text_len = c.len.result - c.len-before.result;
+      table = c.into_table.result;
+      places = c.in_ok-places.places;
+    } in
+    let new : SoFar = record {
+      format = c.self.inside.format;
+      bytes = c.write_page.new.out.items;
+      proofs = c.push.new.self.items;
+    } in
+    subst (λ (old : SoFar). TakesProved old c.args.page.now new) c.self.view_is
+    (record {
+      text = a.0;
+      bytes = a.1;
+      written = a.2;
+      proof = proof;
+      proofs = c.in-Ok.ensures.items;
+      proves = plan_proves c.self.inside.format c.args.page.now a.0 c.in_ok-least.least proof c.in_ok-least.ensures a.2
+          c.in_ok-places.ensures long c.into_table.ensures;
+      format = refl;
+    })

@@ -1,0 +1,32 @@
+use Rattle.std.proofs.Common.{List, ℕ, Err, subst}
+use Rattle.std.proofs.lemmas.Result.{err_from_is_err_and}
+use Rattle.pcl_tool.specs.Minimizing.{IsCertifiedJobOf}
+use Rattle.std.specs.Io.KnownBytes.{Appends}
+use Rattle.pcl_tool.specs.Transfer.{IsWritten}
+use Rattle.pcl_tool.proofs.Filtered.{stopped_in_job, filtered_cert}
+use Rattle.pcl_tool.proofs.minimizing.filter_cert.Goals as goal
+
+pub returns-in_err-write_all : goal.returns-in_err-write_all
+returns-in_err-write_all g c =
+    let r = c.in_ok-job.ensures in
+    let p = err_from_is_err_and c.from_residual-in_err-write_all.result c.from_residual-in_err-write_all.ensures.1 in
+    rw (p.1, p.2)
+    (stopped_in_job c.args.dpi c.args.format _ _ _ _ _ c.in_ok-job.job.items _ c.in_ok-output.output.certificate.items _
+    (record { given = r.0; ended = r.1 })
+    (subst (λ (job : List ℕ). IsCertifiedJobOf c.args.dpi c.args.format job c.in_ok-output.output.job.items
+    c.in_ok-output.output.certificate.items) c.deref.ensures.value c.in_ok-output.ensures)
+    (subst (λ (job : List ℕ). IsWritten (g.W.Write.contents c.args.out.now) (g.W.Write.contents c.write_all.new.out) job
+    (Err c.in_err-write_all.field-0.0)) c.deref-2.ensures.value c.in_err-write_all.ensures))
+
+pub returns : goal.returns
+returns g c =
+    let r = c.in_ok-job.ensures in
+    filtered_cert c.args.dpi c.args.format _ _ _ _ _ _ c.in_ok-job.job.items c.in_ok-output.output.job.items
+    c.in_ok-output.output.certificate.items _
+    (record { given = r.0; ended = r.1 })
+    (subst (λ (job : List ℕ). IsCertifiedJobOf c.args.dpi c.args.format job c.in_ok-output.output.job.items
+    c.in_ok-output.output.certificate.items) c.deref.ensures.value c.in_ok-output.ensures)
+    (subst (Appends (g.W.Write.contents c.args.out.now) (g.W.Write.contents c.write_all.new.out)) c.deref-2.ensures.value
+    c.in_ok-write_all.ensures)
+    (subst (λ (bytes : List ℕ). IsWritten (g.C.Write.contents c.args.cert.now) (g.C.Write.contents c.write_all-2.new.out) bytes
+    c.write_all-2.result) c.deref-3.ensures.value c.write_all-2.ensures)

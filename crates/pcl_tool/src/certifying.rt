@@ -1,0 +1,67 @@
+//! A job while it is written with a certificate.
+
+ghost use Rattle.std.specs.Prelude.{IfOk};
+ghost use Rattle.pcl_cert.specs.Checking.{HasLeastLists};
+
+use pcl_cert::{Format, PageProof, RowTables, row_tables};
+use pcl_page::{Page, PageSink};
+use pcl_plan::plan;
+use pcl_writer::write_page;
+use std::alloc::{AllocError, Global};
+use std::marker::Model;
+
+/// The bytes of a job so far, and what the certificate says of its pages.
+#[derive(Drop)]
+pub struct CertifiedJob {
+    pub format: Format,
+    pub bytes: Vec<u8>,
+    pub proofs: Vec<PageProof<'static>>,
+}
+
+impl Model for CertifiedJob {
+    ghost use Rattle.pcl_tool.specs.Certifying.{SoFar, so_far};
+
+    ghost Value = { SoFar };
+
+    ghost view = { so_far };
+}
+
+impl PageSink for CertifiedJob {
+    ghost use Rattle.pcl_tool.specs.Certifying.{TakesProved};
+
+    ghost takes = { TakesProved };
+
+    fn page(&mut self, page: &Page) -> Result<(), AllocError> {
+        let alloc = *self.bytes.allocator();
+        let least = plan(alloc, page)?;
+        let places = places_of(alloc, page, self.format)?;
+        let before = self.bytes.len();
+        write_page(page, &least, &mut self.bytes)?;
+        let proof = PageProof {
+            text_len: (self.bytes.len() - before) as u32,
+            table: least.into_table(),
+            places,
+        };
+        match self.proofs.push(proof) {
+            Ok(()) => Ok(()),
+            Err(failed) => {
+                self.bytes.truncate(before);
+                Err(failed.into())
+            }
+        }
+    }
+}
+
+/// The row tables of a page, where a certificate of this format has any.
+fn places_of(
+    alloc: Global,
+    page: &Page,
+    format: Format,
+) -> Result<Option<RowTables<'static>>, AllocError>
+    ensures { IfOk result (λ places. HasLeastLists page.now format places) }
+{
+    match format {
+        Format::One => Ok(None),
+        Format::Two => Ok(Some(row_tables(alloc, page)?)),
+    }
+}

@@ -1,0 +1,37 @@
+//! What is promised of written and of checked jobs, read aloud. Each law is a call that does nothing.
+
+ghost use Rattle.std.specs.Prelude.{◌≡◌, ℕ, List};
+ghost use Rattle.pcl_base.specs.declared.dpi.Dpi.{Dpi};
+ghost use Rattle.pcl_cert.specs.declared.format.Format.{Format};
+ghost use Rattle.pcl_tool.specs.declared.job_verdict.JobVerdict.{JobVerdict};
+ghost use Rattle.pcl_tool.specs.declared.job_verdict.JobVerdict.TheVariants as verdicts;
+ghost use Rattle.pcl_tool.specs.Minimizing.{IsJobOf, IsCertifiedJobOf};
+ghost use Rattle.pcl_tool.specs.JobVerdicts.{IsJobVerdict};
+ghost use Rattle.pcl_tool.specs.LeastJobs.{IsLeastJobOf, IsCertifiedBy};
+
+use pcl_page::one_meaning;
+
+/// A job that `minimize` and `filter` write is a job text of the input's pages, in order and dot for dot; no page text that
+/// prints one of the pages is shorter than the one that was written, and no job text of the same pages is shorter than the
+/// job.
+pub fn written_jobs_are_least()
+    ensures { (dpi : Dpi) (input output : List ℕ) → IsJobOf dpi input output → IsLeastJobOf dpi input output }
+{}
+
+/// Where `check_job` answers Proved the same holds of the output, whoever made it and the certificate.
+pub fn proved_jobs_are_least()
+    ensures { (dpi : Dpi) (input output certificate : List ℕ) → IsJobVerdict dpi input output certificate verdicts.Proved
+        → IsLeastJobOf dpi input output }
+{}
+
+/// A job text of the input's pages is answered Proved by a certificate of proofs by which each of its page texts is, and no other
+/// verdict is right. So `check_job` answers Proved on what `minimize` and `filter_cert` write.
+pub fn certified_jobs_are_proved()
+    ensures certified { (dpi : Dpi) (input output certificate : List ℕ) (verdict : JobVerdict)
+        → IsCertifiedBy dpi input output certificate → IsJobVerdict dpi input output certificate verdict → verdict ≡ verdicts.Proved }
+    ensures written { (dpi : Dpi) (format : Format) (input output certificate : List ℕ) (verdict : JobVerdict)
+        → IsCertifiedJobOf dpi format input output certificate → IsJobVerdict dpi input output certificate verdict
+        → verdict ≡ verdicts.Proved }
+{
+    one_meaning();
+}

@@ -1,0 +1,47 @@
+-- What the program says of a checked job, and its status.
+use Rattle.std.specs.Prelude.{ℕ, Bool, true, false, List, ◌++◌, codes, decimal}
+use Rattle.pcl_base.specs.declared.method.Method.{Method}
+use Rattle.pcl_base.specs.Method.{method_code}
+use Rattle.pcl_cert.specs.declared.check.Verdict.{Verdict}
+use Rattle.pcl_cert.specs.declared.check.Verdict.TheVariants.{NotGrammar, OtherPage, Rows, Place, Edge, Length, Proved}
+use Rattle.pcl_cert.specs.declared.fault.CertFault.{CertFault}
+use Rattle.pcl_cert.specs.declared.fault.CertFault.TheVariants as faults
+use Rattle.pcl_tool.specs.declared.job_verdict.JobVerdict.{JobVerdict}
+use Rattle.pcl_tool.specs.declared.job_verdict.JobVerdict.TheVariants as job
+
+abbrev pub fault_text : CertFault → List ℕ
+fault_text faults.BadMagic = codes "BadMagic"
+fault_text faults.Short = codes "Short"
+fault_text faults.Extra = codes "Extra"
+fault_text faults.Rows = codes "Rows"
+fault_text faults.Places = codes "Places"
+fault_text faults.Memory = codes "Memory"
+
+-- a row and a method of a table
+abbrev pub numbers_text : ℕ → Method → List ℕ
+numbers_text row method = codes " row " ++ decimal row ++ codes " method " ++ decimal (method_code method)
+
+-- a node inside a sequence is open
+abbrev pub side_text : Bool → List ℕ
+side_text true = codes " open"
+side_text false = codes " closed"
+
+abbrev pub verdict_text : Verdict → List ℕ
+verdict_text NotGrammar = codes "NotGrammar"
+verdict_text OtherPage = codes "OtherPage"
+verdict_text Rows = codes "Rows"
+verdict_text (Place row method place) = codes "Place" ++ numbers_text row method ++ codes " place " ++ decimal place
+verdict_text (Edge row method inside) = codes "Edge" ++ numbers_text row method ++ side_text inside
+verdict_text Length = codes "Length"
+verdict_text Proved = codes "Proved"
+
+abbrev pub job_text : JobVerdict → List ℕ
+job_text (job.Certificate fault) = codes "not proved: certificate " ++ fault_text fault
+job_text job.PageCount = codes "not proved: page count"
+job_text job.Frame = codes "not proved: frame"
+job_text (job.Page page verdict) = codes "not proved: page " ++ decimal page ++ codes ": " ++ verdict_text verdict
+job_text job.Proved = codes "proved"
+
+-- the line on standard output
+abbrev pub verdict_line_of : JobVerdict → List ℕ
+verdict_line_of verdict = job_text verdict ++ codes "\n"

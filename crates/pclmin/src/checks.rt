@@ -1,0 +1,56 @@
+//! A check: a written job beside its input, by a certificate, each from a file.
+
+ghost use Rattle.pclmin.specs.Checks.{IsCheckRun, IsFileRead};
+
+use crate::verdicts::verdict_line;
+use pcl_base::Dpi;
+use pcl_tool::{Fault, INPUT_LIMIT, JobVerdict, check_job, read_all, write_bytes};
+use std::alloc::Global;
+use std::fs;
+use std::io::Write;
+use std::rt::Files;
+
+/// What is checked: the names of the files, and the resolution.
+#[derive(Clone, Copy, Debug, PartialEq, Eq)]
+pub struct CheckedFiles<'w> {
+    /// The file of the input.
+    pub input: &'w str,
+    /// The file of the job that it is written as.
+    pub output: &'w str,
+    /// The file of the certificate.
+    pub certificate: &'w str,
+    /// The resolution.
+    pub dpi: Dpi,
+}
+
+/// Reads the files, the input first, checks the job, and writes the line of the answer. Nothing is written after any fault
+/// but of a write, and then a front of the line.
+pub fn check<F: Files, W: Write>(
+    files: &F,
+    alloc: Global,
+    asked: CheckedFiles<'_>,
+    out: &mut W,
+) -> Result<JobVerdict, Fault>
+    ensures { IsCheckRun asked.entry.dpi (W.contents out.old) (W.contents out.new) result }
+{
+    let input = read_file(files, alloc, asked.input)?;
+    let output = read_file(files, alloc, asked.output)?;
+    let certificate = read_file(files, alloc, asked.certificate)?;
+    let verdict = check_job(alloc, &input, &output, &certificate, asked.dpi)?;
+    let line = verdict_line(alloc, &verdict)?;
+    write_bytes(out, &line)?;
+    match out.flush() {
+        Ok(()) => Ok(verdict),
+        Err(_) => Err(Fault::WriteFault),
+    }
+}
+
+/// The bytes of a file.
+fn read_file<F: Files>(files: &F, alloc: Global, name: &str) -> Result<Vec<u8>, Fault>
+    ensures { IsFileRead result }
+{
+    match fs::open(files, name) {
+        Ok(mut file) => read_all(alloc, &mut file, INPUT_LIMIT),
+        Err(_) => Err(Fault::ReadFault),
+    }
+}
