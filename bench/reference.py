@@ -32,7 +32,7 @@ WITHOUT_EFFECT = {b"%A", b"&lS", b"&lG", b"&lM", b"&lP", b"&aM", b"&sC", b"&d@",
 
 NAMES = WITHOUT_EFFECT | {
     b"E", b"9", b"=", b"%X", b"&lA", b"&lX", b"&lC", b"&lD", b"&lE", b"&lF", b"&lL", b"&lO", b"&lU", b"&lZ", b"&aP", b"&lH",
-    b"&aG", b"&uD", b"&kH", b"&kG", b"&aL", b"*pX", b"*pY", b"&aH", b"&aV", b"&aC", b"&aR", b"&fS", b"*cA", b"*cB", b"*cH",
+    b"&aG", b"&uD", b"&kH", b"&kG", b"&aL", b"*pX", b"*pY", b"&aH", b"&aV", b"&aC", b"&aR", b"&fS", b"&fY", b"&fX", b"*cA", b"*cB", b"*cH",
     b"*cV", b"*cP", b"*cD", b"*cE", b"*cF", b")sW", b"(sW", b"(X", b")X", b"&pX", b"*vN", b"*vT", b"*tR", b"*rS", b"*rT", b"*rF", b"*rA", b"*rB", b"*rC", b"*bM", b"*bY", b"*bW"}
 
 # Commands with as many bytes of data behind them as their values say.
@@ -43,6 +43,7 @@ TEXT = b" "
 CONTROL_CODES = {8: "BS", 9: "HT", 10: "LF", 12: "FF", 13: "CR", 14: "SO", 15: "SI"}
 MOST_COMMANDS = 100_000_000
 MOST_PAGES = 256
+MOST_MACROS = 3
 
 
 class Refused(Exception):
@@ -268,6 +269,9 @@ class Performer:
         self.dpi, self.dot = dpi, 7200 // dpi
         self.pages, self.performed = [], 0
         self.fonts = {}
+        # Macros by ID: their commands, and whether they are permanent. The definition that is open: an ID and its commands.
+        # How many macros run.
+        self.macros, self.definition, self.running = {}, None, 0
         self.begin()
 
     def begin(self):
@@ -281,6 +285,8 @@ class Performer:
         self.font_id, self.code = 0, 0
         self.selected, self.in_use = {"primary": None, "secondary": None}, "primary"
         self.fonts = {number: font for number, font in self.fonts.items() if font.is_permanent}
+        self.macro_id = 0
+        self.macros = {number: macro for number, macro in self.macros.items() if macro[1]}
         self.set_size("Letter")
 
     def set_size(self, size):
@@ -310,7 +316,40 @@ class Performer:
         if self.marked:
             self.eject(command)
 
+    def keep(self, command):
+        """Keeps a command for the definition that is open, unless it ends the definition: then it answers True."""
+        if command.name in (b"E", b"%X"):
+            raise Refused("MacroOpen", command.at, command.name)
+        if command.name == b"&fX":
+            if command.value.whole() == 1:
+                return True
+            if command.value.whole() not in (2, 3):
+                raise Refused("MacroControl", command.at, command.name)
+        self.definition[1].append(command)
+        return False
+
+    def run_macro(self, command):
+        """Runs the macro of the ID, where it is there: a call puts back what was set before."""
+        if self.macro_id not in self.macros:
+            return
+        if self.running == MOST_MACROS:
+            raise Refused("MacroDepth", command.at, command.name)
+        is_call = command.value.whole() == 3
+        saved = {field: getattr(self, field) for field in CALL_RESTORES} if is_call else {}
+        saved = {field: dict(value) if isinstance(value, dict) else value for field, value in saved.items()}
+        self.running += 1
+        for kept in self.macros[self.macro_id][0]:
+            self.perform(kept)
+        self.running -= 1
+        if is_call:
+            if self.raster:
+                self.end_raster()
+            for field, value in saved.items():
+                setattr(self, field, value)
+
     def perform(self, command):
+        if self.definition and not self.keep(command):
+            return
         self.performed += 1
         if self.performed > MOST_COMMANDS:
             raise Refused("TooManyCommands", command.at, command.name)
@@ -571,6 +610,29 @@ def font_control(performer, what):
         fonts[number].is_permanent = what == 5
 
 
+def macro_control(performer, command):
+    what, number, macros = command.value.whole(), performer.macro_id, performer.macros
+    if what not in (0, 1, 2, 3, 6, 7, 8, 9, 10):
+        refuse(command)
+    if what == 0:
+        performer.definition = (number, [])
+    elif what == 1:
+        if not performer.definition:
+            raise Refused("MacroControl", command.at, command.name)
+        macros[performer.definition[0]] = (performer.definition[1], False)
+        performer.definition = None
+    elif what in (2, 3):
+        performer.run_macro(command)
+    elif what == 6:
+        macros.clear()
+    elif what == 7:
+        performer.macros = {one: macro for one, macro in macros.items() if macro[1]}
+    elif what == 8:
+        macros.pop(number, None)
+    elif number in macros:
+        macros[number] = (macros[number][0], what == 10)
+
+
 def download_font(performer, command):
     if command.data:
         font = font_of(command.data)
@@ -621,6 +683,10 @@ def end_raster(performer, command):
 
 ANY_FROM_ZERO = range(65536)
 
+# All that is set, but for the page size, the cursor and its stack.
+CALL_RESTORES = ("copies", "pcl_unit", "hmi", "vmi", "top", "bottom", "left", "skips", "termination", "macro_id", "font_id", "code",
+                 "selected", "in_use", "rectangle", "resolution", "raster_width", "raster_height", "method")
+
 PERFORM = {
     b"E": reset, b"%X": reset,
     b"9": lambda p, c: setattr(p, "left", 0),
@@ -653,6 +719,7 @@ PERFORM = {
     b"&aC": lambda p, c: p.move(c, "x", p.hmi),
     b"&aR": lambda p, c: p.move(c, "y", p.vmi, p.top + 3 * p.vmi // 4),
     b"&fS": taking({0, 1}, cursor_stack),
+    b"&fY": setting("macro_id", range(32768)), b"&fX": macro_control,
     b"*cA": side("width", lambda p: p.pcl_unit), b"*cB": side("height", lambda p: p.pcl_unit),
     b"*cH": side("width", lambda p: 10), b"*cV": side("height", lambda p: 10),
     b"*cP": taking({0, 1, 5}, lambda p, whole: p.fill(whole != 1)),
@@ -673,6 +740,8 @@ def pages_of(job, dpi):
     performer = Performer(dpi)
     for command in read(job):
         performer.perform(command)
+    if performer.definition:
+        raise Refused("MacroOpen", len(job), b"")
     reset(performer, Command(len(job), b""))
     return performer.pages
 

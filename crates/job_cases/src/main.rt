@@ -42,6 +42,7 @@ const TABLES: [&str; 19] = [
     "rows.txt",
     "rectangles.txt",
     "fonts.txt",
+    "macros.txt",
     "mixtures.txt",
     "written.txt",
     "least.txt",

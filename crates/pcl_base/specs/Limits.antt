@@ -20,3 +20,7 @@ row_limit = 600
 -- positions on the cursor stack
 abbrev pub stack_limit : ℕ
 stack_limit = 20
+
+-- macros that run one inside another
+abbrev pub macro_limit : ℕ
+macro_limit = 3

@@ -6,7 +6,7 @@ use Rattle.pcl_base.specs.declared.operation.Axis.TheVariants.{Horizontal, Verti
 use Rattle.pcl_base.specs.declared.operation.Unit.TheVariants.{PclUnit, Decipoint, Column}
 use Rattle.pcl_base.specs.declared.operation.Side.TheVariants.{Primary, Secondary}
 use Rattle.pcl_base.specs.declared.operation.Operation.{Operation}
-use Rattle.pcl_base.specs.declared.operation.Operation.TheVariants.{Reset, UniversalExit, ClearMargins, HalfLineFeed, HorizontalTab, LineFeed, FormFeed, CarriageReturn, Shift, PageSize, Copies, VerticalMotionIndex, LineSpacing, TopMargin, TextLength, PerforationSkip, OnlyZero, EjectMarked, UnitOfMeasure, HorizontalMotionIndex, LineTermination, LeftMargin, Move, CursorStack, RectangleSize, FillRectangle, FontId, CharacterCode, ControlFonts, DownloadFont, DownloadCharacter, SelectFont, PrintText, RasterResolution, RasterWidth, RasterHeight, RasterPresentation, StartRaster, EndRaster, EndRasterResetMethod, RasterMethod, RasterOffset, RasterRow, NoEffect}
+use Rattle.pcl_base.specs.declared.operation.Operation.TheVariants.{Reset, UniversalExit, ClearMargins, HalfLineFeed, HorizontalTab, LineFeed, FormFeed, CarriageReturn, Shift, PageSize, Copies, VerticalMotionIndex, LineSpacing, TopMargin, TextLength, PerforationSkip, OnlyZero, EjectMarked, UnitOfMeasure, HorizontalMotionIndex, LineTermination, LeftMargin, Move, CursorStack, MacroId, ControlMacros, RectangleSize, FillRectangle, FontId, CharacterCode, ControlFonts, DownloadFont, DownloadCharacter, SelectFont, PrintText, RasterResolution, RasterWidth, RasterHeight, RasterPresentation, StartRaster, EndRaster, EndRasterResetMethod, RasterMethod, RasterOffset, RasterRow, NoEffect}
 
 -- a name from its bytes
 abbrev pub named : List ℕ → Name
@@ -67,6 +67,8 @@ operations =
     (named (codes "&kH"), HorizontalMotionIndex) ∷
     (named (codes "&kG"), LineTermination) ∷
     (named (codes "&fS"), CursorStack) ∷
+    (named (codes "&fY"), MacroId) ∷
+    (named (codes "&fX"), ControlMacros) ∷
     (named (codes "&sC"), NoEffect) ∷
     (named (codes "&d@"), NoEffect) ∷
     (named (codes "&pX"), PrintText) ∷

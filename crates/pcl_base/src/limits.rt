@@ -18,5 +18,8 @@ pub const COPIES_LIMIT: u8 = 99;
 /// The most positions that the cursor stack keeps.
 pub const STACK_LIMIT: usize = 20;
 
+/// The most macros that run one inside another.
+pub const MACRO_LIMIT: usize = 3;
+
 /// Units of 1/7200 inch in a dot at 300 dots per inch, and in the default PCL unit.
 pub const DOT_UNITS: u32 = 24;

@@ -85,8 +85,11 @@ pub enum Operation {
     Move(Axis, Unit),
     /// Keeps the cursor on the stack, or takes it back ("Push/Pop Cursor Position").
     CursorStack,
-    /// Sets the ID of the macro that is meant.
+    /// Sets the ID of the macro that is meant ("Macro ID").
     MacroId,
+    /// Begins or ends the definition of a macro, runs a macro, deletes macros or makes one temporary or permanent ("Macro
+    /// Control").
+    ControlMacros,
     /// Sets a size of the rectangle.
     RectangleSize(Axis, Unit),
     /// Fills the rectangle at the cursor ("Fill Rectangular Area").
@@ -180,6 +183,8 @@ impl Operation {
             Name::Three(b'&', b'k', b'H') => Operation::HorizontalMotionIndex,
             Name::Three(b'&', b'k', b'G') => Operation::LineTermination,
             Name::Three(b'&', b'f', b'S') => Operation::CursorStack,
+            Name::Three(b'&', b'f', b'Y') => Operation::MacroId,
+            Name::Three(b'&', b'f', b'X') => Operation::ControlMacros,
             Name::Three(b'&', b's', b'C') => Operation::NoEffect,
             Name::Three(b'&', b'd', b'@') => Operation::NoEffect,
             Name::Three(b'&', b'p', b'X') => Operation::PrintText,

@@ -10,7 +10,7 @@ use Rattle.pcl_base.specs.declared.operation.Axis.TheVariants.{Horizontal, Verti
 use Rattle.pcl_base.specs.declared.operation.Unit.{Unit as Measure}
 use Rattle.pcl_base.specs.declared.operation.Unit.TheVariants.{PclUnit, Decipoint, Column}
 use Rattle.pcl_base.specs.declared.operation.Operation.{Operation}
-use Rattle.pcl_base.specs.declared.operation.Operation.TheVariants.{Reset, UniversalExit, ClearMargins, HalfLineFeed, HorizontalTab, LineFeed, FormFeed, CarriageReturn, Shift, PageSize, Copies, VerticalMotionIndex, LineSpacing, TopMargin, TextLength, PerforationSkip, OnlyZero, EjectMarked, UnitOfMeasure, HorizontalMotionIndex, LineTermination, LeftMargin, Move, CursorStack, MacroId, RectangleSize, FillRectangle, FontId, CharacterCode, ControlFonts, DownloadFont, DownloadCharacter, SelectFont, PrintText, RasterResolution, RasterWidth, RasterHeight, RasterPresentation, StartRaster, EndRaster, EndRasterResetMethod, RasterMethod, RasterOffset, RasterRow, NoEffect}
+use Rattle.pcl_base.specs.declared.operation.Operation.TheVariants.{Reset, UniversalExit, ClearMargins, HalfLineFeed, HorizontalTab, LineFeed, FormFeed, CarriageReturn, Shift, PageSize, Copies, VerticalMotionIndex, LineSpacing, TopMargin, TextLength, PerforationSkip, OnlyZero, EjectMarked, UnitOfMeasure, HorizontalMotionIndex, LineTermination, LeftMargin, Move, CursorStack, MacroId, ControlMacros, RectangleSize, FillRectangle, FontId, CharacterCode, ControlFonts, DownloadFont, DownloadCharacter, SelectFont, PrintText, RasterResolution, RasterWidth, RasterHeight, RasterPresentation, StartRaster, EndRaster, EndRasterResetMethod, RasterMethod, RasterOffset, RasterRow, NoEffect}
 use Rattle.pcl_base.specs.declared.size.Size.{Size}
 use Rattle.pcl_base.specs.declared.value.Sign.{Sign}
 use Rattle.pcl_base.specs.declared.value.Sign.TheVariants.{Absent, Plus, Minus}
@@ -183,6 +183,7 @@ outcome dpi LeftMargin v m s = counted v (λ n. stays (set_left (n * s.hmi) s))
 outcome dpi (Move axis unit) v m s = stays (move_along axis unit v s)
 outcome dpi CursorStack v m s = counted v (λ n. if n == 0 then stays (push s) else stays_if (n == 1) (pop s))
 outcome dpi MacroId v m s = counted v (λ n. stays_if (nat_le n 32767) (record s { macro_id = n }))
+outcome dpi ControlMacros v m s = counted v (λ n. stays_if (nat_le n 3 || nat_le 6 n && nat_le n 10) s)
 outcome dpi (RectangleSize axis unit) v m s = counted v (λ n. stays (set_rectangle axis (scaled_by (unit_of axis unit s) v) s))
 outcome dpi FillRectangle v m s = counted v (λ n. stays_if (is_one_of (0 ∷ 1 ∷ 5 ∷ []) n) s)
 outcome dpi FontId v m s = counted v (λ n. stays_if (nat_le n 32767) (record s { font_id = n }))

@@ -467,6 +467,7 @@ fn greatest_numbers(rt: HostRuntime) {
         (LineTermination, 3, 4),
         (CursorStack, 1, 2),
         (MacroId, 32_767, 32_768),
+        (ControlMacros, 10, 11),
         (FontId, 32_767, 32_768),
         (CharacterCode, 255, 256),
         (RasterResolution, 300, 600),

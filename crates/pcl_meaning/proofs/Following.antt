@@ -1,25 +1,27 @@
 -- How far deeds bring a situation.
-use Rattle.std.proofs.Common.{◌≡◌, ℕ, ◌+◌, ◌≤◌, ◌<◌, Bool, true, false, cond, nat_le, List, [], ◌∷◌, ◌++◌, length, Option, Some, None, Result, Ok, refl, sym, ap, subst, ◌∙◌, arith}
+use Rattle.std.proofs.Common.{◌≡◌, ℕ, ◌+◌, ◌≤◌, ◌<◌, Bool, true, false, cond, nat_le, List, [], ◌∷◌, ◌++◌, length, Option, Some, None, Result, Ok, Err, refl, sym, ap, subst, ◌∙◌, arith}
+use Rattle.std.specs.Prelude.{is_some}
 use Rattle.std.proofs.lemmas.Bool.Decides.{nat_tests}
 use Rattle.pcl_base.specs.declared.dpi.Dpi.{Dpi}
 use Rattle.pcl_base.specs.declared.kind.Kind.{Kind}
-use Rattle.pcl_base.specs.declared.kind.Kind.TheVariants.{TooManyCommands}
+use Rattle.pcl_base.specs.declared.kind.Kind.TheVariants.{UnsupportedCommand, TooManyCommands, TooManyPages}
 use Rattle.pcl_base.specs.declared.name.Name.{Name}
 use Rattle.pcl_base.specs.declared.name.Name.TheVariants.{Empty}
 use Rattle.pcl_base.specs.declared.operation.Operation.{Operation}
-use Rattle.pcl_base.specs.declared.operation.Operation.TheVariants.{Reset, UniversalExit, FillRectangle, ControlFonts, DownloadFont, DownloadCharacter, SelectFont, PrintText, StartRaster, RasterOffset, RasterRow}
+use Rattle.pcl_base.specs.declared.operation.Operation.TheVariants.{Reset, UniversalExit, ControlMacros, FillRectangle, ControlFonts, DownloadFont, DownloadCharacter, SelectFont, PrintText, StartRaster, RasterOffset, RasterRow}
 use Rattle.pcl_base.specs.declared.value.Value.{Value}
-use Rattle.pcl_base.specs.Limits.{command_limit}
+use Rattle.pcl_base.specs.Limits.{command_limit, page_limit}
 use Rattle.pcl_base.specs.Operation.{operation_of}
 use Rattle.pcl_escape.specs.Said.{Said}
 use Rattle.pcl_env.specs.declared.effect.Effect.{Effect}
 use Rattle.pcl_env.specs.Settings.{Settings}
 use Rattle.pcl_env.specs.Outcome.{Outcome, outcome}
 use Rattle.pcl_page.specs.Raster.{ends_raster}
-use Rattle.pcl_page.specs.History.{performed, History, Situation, is_marked, ejects, end_raster, turned, drawn, draw_refusal, unless_refused, done_with, taken, counted, prepared, is_ignored, after, situation, page_refusal, refusal_after, operation_refusal, command_refusal}
-use Rattle.pcl_page.specs.Performing.{performance}
-use Rattle.pcl_page.proofs.Steps.{drawn_keeps}
-use Rattle.pcl_page.proofs.Jobs.{performed_next, situation_next}
+use Rattle.pcl_macros.specs.Table.{Begun}
+use Rattle.pcl_page.specs.Situation.{Sheet, Situation, is_marked, turned, drawn, draw_refusal, unless_refused, done_with, counted, prepared, is_ignored, after, page_refusal, refusal_after, operation_refusal, command_refusal}
+use Rattle.pcl_page.specs.Macros.{Run, keeping_of, managed, and_then, after_at, if_not_refused, counting, defining, after_command, run_from, run_of}
+use Rattle.pcl_page.specs.Performing.{Performance, done, then_on, concluded, and_run, in_order, step}
+use Rattle.pcl_page.proofs.Keeping.{after_adds}
 use Rattle.pcl_meaning.proofs.Deeds.{Deed}
 use Rattle.pcl_meaning.proofs.Readings.{IsSaid, AreSaid}
 
@@ -78,61 +80,73 @@ after_same dpi operation at name value bytes s =
 
 -- ---- deeds one after the other
 
+-- what an operation does to macros, wherever its command stands; a macro control is no deed
+abbrev pub quietly : Operation → Value → Situation → Result Situation Kind
+quietly ControlMacros value s = Err UnsupportedCommand
+quietly operation value s = managed 0 operation value s
+
+abbrev pub does : Dpi → Deed → Situation → Result Situation Kind
+does dpi d s = and_then (after dpi d.operation (said_of d) s) (quietly d.operation d.value)
+
 -- the deeds lead from a situation to another, and none of them is refused
 abbrev pub Leads : Dpi → List Deed → Situation → Situation → Type 0
 Leads dpi [] s later = later ≡ s
 Leads dpi (d ∷ deeds) s later =
-    (next : Situation) × (after dpi d.operation (said_of d) s ≡ Ok next) × (page_refusal next ≡ None) × Leads dpi deeds next later
+    (next : Situation) × (does dpi d s ≡ Ok next) × (page_refusal next ≡ None) × Leads dpi deeds next later
 
 pub leads_append : (dpi : Dpi) (one two : List Deed) (s middle later : Situation) → Leads dpi one s middle → Leads dpi two middle later
     → Leads dpi (one ++ two) s later
 leads_append dpi [] two s middle later a b = subst (λ (z : Situation). Leads dpi two z later) a b
 leads_append dpi (d ∷ one) two s middle later a b = (a.0, a.1, a.2, leads_append dpi one two a.0 middle later a.3 b)
 
--- each deed counts one
-turned_counts : (settings : Settings) (effect : Effect) (s : Situation) (test : Bool) → ejects effect (is_marked s) ≡ test
-    → (turned settings effect s).performed ≡ s.performed
-turned_counts settings effect s true e = rw e refl
-turned_counts settings effect s false e = rw e refl
+-- what a deed does to macros: nothing that can run, and it opens no definition
+record IsQuiet (operation : Operation) (value : Value) (s next : Situation) : Type 0 where
+  anywhere : (place : ℕ) → managed place operation value s ≡ Ok next
+  runs : run_from (Some operation) value next ≡ None
+  begun : next.begun ≡ s.begun
+  performed : next.performed ≡ s.performed
+  pages : next.pages ≡ s.pages
 
-prepared_counts : (dpi : Dpi) (ends : Bool) (s : Situation) → (cond ends (end_raster dpi s) s).performed ≡ s.performed
-prepared_counts dpi true s = refl
-prepared_counts dpi false s = refl
+same_quiet : (operation : Operation) (value : Value) (s now next : Situation) → ◌≡◌ {A = Result Situation Kind} (Ok now) (Ok next)
+    → IsQuiet operation value s now → IsQuiet operation value s next
+same_quiet operation value s now next e q =
+    let same : now ≡ next = cc in subst (λ (z : Situation). IsQuiet operation value s z) same q
 
-on_counts : (dpi : Dpi) (operation : Operation) (command : Said) (s later : Situation) (why : Option Kind)
-    → unless_refused why (drawn dpi operation command s) ≡ Ok later → later.performed ≡ s.performed
-on_counts dpi operation command s later None e =
-    let same : drawn dpi operation command s ≡ later = cc in
-    ap (λ (z : Situation). z.performed) (sym same) ∙ (drawn_keeps dpi operation command s).performed
-on_counts dpi operation command s later (Some kind) e = absurd cc
+quiet : (operation : Operation) (value : Value) (s next : Situation) → quietly operation value s ≡ Ok next
+    → IsQuiet operation value s next
+quiet Reset value s next e =
+    same_quiet Reset value s _ next e (record { anywhere = λ place. refl; runs = refl; begun = refl; performed = refl; pages = refl })
+quiet UniversalExit value s next e =
+    same_quiet UniversalExit value s _ next e
+    (record { anywhere = λ place. refl; runs = refl; begun = refl; performed = refl; pages = refl })
+quiet ControlMacros value s next e = absurd cc
+quiet other value s next e =
+    same_quiet other value s s next e (record { anywhere = λ place. refl; runs = refl; begun = refl; performed = refl; pages = refl })
 
-done_counts : (dpi : Dpi) (operation : Operation) (command : Said) (o : Outcome) (s later : Situation)
-    → done_with dpi operation command o s ≡ Ok later → later.performed ≡ s.performed
-done_counts dpi operation command None s later e = absurd cc
-done_counts dpi operation command (Some done) s later e =
-    let now = turned done.0 done.1 s in
-    on_counts dpi operation command now later (draw_refusal operation command now) e
-    ∙ turned_counts done.0 done.1 s (ejects done.1 (is_marked s)) refl
+-- each deed counts one, and leaves a definition that is open
+record IsDone (dpi : Dpi) (d : Deed) (s next : Situation) : Type 0 where
+  now : Situation
+  drawn_as : after dpi d.operation (said_of d) s ≡ Ok now
+  is_quiet : IsQuiet d.operation d.value now next
+  performed : next.performed ≡ s.performed + 1
+  begun : next.begun ≡ s.begun
 
-after_by : (dpi : Dpi) (operation : Operation) (command : Said) (s later : Situation) (ignored : Bool)
-    → cond ignored (Ok (counted s)) (taken dpi operation command (prepared dpi operation (counted s))) ≡ Ok later
-    → later.performed ≡ s.performed + 1
-after_by dpi operation command s later true e = let same : counted s ≡ later = cc in ap (λ (z : Situation). z.performed) (sym same)
-after_by dpi operation command s later false e =
-    let before = prepared dpi operation (counted s) in
-    done_counts dpi operation command (outcome dpi operation command.value (is_marked before) before.settings) before later e
-    ∙ prepared_counts dpi (ends_raster operation) (counted s)
+done_by : (dpi : Dpi) (d : Deed) (s next : Situation) (o : Result Situation Kind) → after dpi d.operation (said_of d) s ≡ o
+    → and_then o (quietly d.operation d.value) ≡ Ok next → IsDone dpi d s next
+done_by dpi d s next (Err kind) e q = absurd cc
+done_by dpi d s next (Ok now) e q =
+    let is = quiet d.operation d.value now next q in
+    let a = after_adds dpi d.operation (said_of d) s now e in
+    record { now = now; drawn_as = e; is_quiet = is; performed = is.performed ∙ a.performed; begun = is.begun ∙ a.begun }
 
-after_counts : (dpi : Dpi) (operation : Operation) (command : Said) (s later : Situation) → after dpi operation command s ≡ Ok later
-    → later.performed ≡ s.performed + 1
-unfolding after
-after_counts dpi operation command s later e = after_by dpi operation command s later (is_ignored operation s) e
+is_done : (dpi : Dpi) (d : Deed) (s next : Situation) → does dpi d s ≡ Ok next → IsDone dpi d s next
+is_done dpi d s next e = done_by dpi d s next (after dpi d.operation (said_of d) s) refl e
 
 pub leads_counts : (dpi : Dpi) (deeds : List Deed) (s later : Situation) → Leads dpi deeds s later
     → later.performed ≡ s.performed + length deeds
 leads_counts dpi [] s later a = ap (λ (z : Situation). z.performed) a ∙ (let none : s.performed ≡ s.performed + 0 = omega arith in none)
 leads_counts dpi (d ∷ deeds) s later a =
-    let one = after_counts dpi d.operation (said_of d) s a.0 a.1 in
+    let one = (is_done dpi d s a.0 a.1).performed in
     let more = leads_counts dpi deeds a.0 later a.3 in
     omega (arith, one, more)
 
@@ -155,30 +169,43 @@ deed_done dpi command d s next is e =
     ∙ ap (λ (bs : List ℕ). after dpi d.operation (record { at = 0; name = Empty; value = d.value; bytes = bs }) s) is.2
     ∙ e
 
--- what performing commands comes to that are deeds
-pub record ComesTo (dpi : Dpi) (end : ℕ) (commands : List Said) (history : History) (later : Situation) : Type 0 where
-  pub reached : History
-  pub at : situation dpi reached ≡ later
-  pub same : performance dpi end history commands ≡ performance dpi end reached []
+same_pages : (one other : Situation) → one.pages ≡ other.pages → page_refusal one ≡ page_refusal other
+same_pages one other e = ap (λ (ps : List Sheet). cond (nat_le (length ps) page_limit) None (Some TooManyPages)) e
 
-pub commands_done : (dpi : Dpi) (end : ℕ) (commands : List Said) (deeds : List Deed) (history : History) (later : Situation)
-    → AreSaid commands deeds
-    → Leads dpi deeds (situation dpi history) later → (situation dpi history).performed + length deeds ≤ 100000000
-    → ComesTo dpi end commands history later
-commands_done dpi end [] [] history later a l few = record { reached = history; at = sym l; same = refl }
-commands_done dpi end [] (d ∷ deeds) history later a l few = absurd a
-commands_done dpi end (command ∷ commands) [] history later a l few = absurd a
-commands_done dpi end (command ∷ commands) (d ∷ deeds) history later a l few =
-    let s = situation dpi history in
-    let done : after dpi d.operation command s ≡ Ok l.0 = deed_done dpi command d s l.0 a.0 l.1 in
-    let one = after_counts dpi d.operation command s l.0 done in
-    let at : situation dpi (performed d.operation command ∷ history) ≡ l.0 = situation_next dpi history command d.operation l.0 done in
-    let rest = commands_done dpi end commands deeds (performed d.operation command ∷ history) later a.1
-    (subst (λ (z : Situation). Leads dpi deeds z later) (sym at) l.3)
-    (subst (λ (z : Situation). z.performed + length deeds ≤ 100000000) (sym at) (omega (arith, one))) in
-    record {
-      reached = rest.reached;
-      at = rest.at;
-      same = performed_next dpi end history command commands d.operation a.0.0
-          (not_refused dpi command d.operation s l.0 a.0.0 done l.2 (omega arith)) ∙ rest.same;
-    }
+-- outside of a definition a deed's command leads where the deed does, and runs no macro
+command_done : (dpi : Dpi) (place : ℕ) (command : Said) (d : Deed) (s next : Situation) → IsSaid command d → IsDone dpi d s next
+    → page_refusal next ≡ None → s.performed < 100000000 → s.begun ≡ None
+    → (after_command dpi place command s ≡ Ok next) × (run_of command s next ≡ None)
+command_done dpi place command d s next is done fits few none =
+    let drawn : after dpi d.operation command s ≡ Ok done.now = deed_done dpi command d s done.now is done.drawn_as in
+    let free : command_refusal dpi command s ≡ None =
+    not_refused dpi command d.operation s done.now is.0 drawn (sym (same_pages next done.now done.is_quiet.pages) ∙ fits) few in
+    let closed : is_some s.begun ≡ false = ap (λ (b : Option Begun). is_some b) none in (
+      ap (λ (b : Bool). cond b (defining dpi place (keeping_of (operation_of command.name) command.value) command s)
+          (counting dpi place command s)) closed
+          ∙ ap (λ (why : Option Kind). if_not_refused why (after_at dpi place (operation_of command.name) command s)) free
+          ∙ ap (λ (o : Option Operation). after_at dpi place o command s) is.0
+          ∙ ap (λ (r : Result Situation Kind). and_then r (managed place d.operation command.value)) drawn
+          ∙ ap (λ (v : Value). managed place d.operation v done.now) is.1
+          ∙ done.is_quiet.anywhere place,
+      ap (λ (b : Bool). cond b None (run_from (operation_of command.name) command.value next)) closed
+          ∙ ap (λ (o : Option Operation). run_from o command.value next) is.0
+          ∙ ap (λ (v : Value). run_from (Some d.operation) v next) is.1 ∙ done.is_quiet.runs,
+    )
+
+-- performing commands that are deeds leads where the deeds do
+pub commands_done : (dpi : Dpi) (f : Said → Run → Situation → Performance) (place : ℕ) (commands : List Said) (deeds : List Deed)
+    (s later : Situation) → AreSaid commands deeds → Leads dpi deeds s later → s.performed + length deeds ≤ 100000000 → s.begun ≡ None
+    → (in_order (step dpi f) place commands s ≡ done later) × (later.begun ≡ None)
+commands_done dpi f place [] [] s later a l few none =
+    (ap done (sym l), ap (λ (z : Situation). z.begun) l ∙ none)
+commands_done dpi f place [] (d ∷ deeds) s later a l few none = absurd a
+commands_done dpi f place (command ∷ commands) [] s later a l few none = absurd a
+commands_done dpi f place (command ∷ commands) (d ∷ deeds) s later a l few none =
+    let one = is_done dpi d s l.0 l.1 in
+    let is = command_done dpi place command d s l.0 a.0 one l.2 (omega arith) none in
+    let rest = commands_done dpi f (place + 1) commands deeds l.0 later a.1 l.3 (omega (arith, one.performed)) (one.begun ∙ none) in
+    let stepped : step dpi f place command s ≡ done l.0 =
+    ap (λ (r : Result Situation Kind). then_on (concluded command s r) (λ t. and_run (f command) (run_of command s t) t)) is.0
+    ∙ ap (λ (r : Option Run). and_run (f command) r l.0) is.1 in
+    (ap (λ (p : Performance). then_on p (in_order (step dpi f) (place + 1) commands)) stepped ∙ rest.0, rest.1)

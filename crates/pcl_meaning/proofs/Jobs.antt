@@ -1,15 +1,16 @@
 -- Whole jobs of page texts are accepted, and mean the pages of the texts.
 use Rattle.std.proofs.Common.{◌≡◌, ℕ, ◌+◌, ◌*◌, ◌<◌, ◌≤◌, Bool, true, false, nat_le, List, [], ◌∷◌, ◌++◌, length, Option, Some, None, refl, sym, ap, subst, ◌∙◌, append_assoc, append-nil, length-append, arith, lit≤, Ok}
+use Rattle.std.specs.Prelude.{is_some}
 use Rattle.std.specs.List.{flat_map}
 use Rattle.std.proofs.lemmas.Bool.Decides.{nat_tests}
 use Rattle.pcl_base.specs.declared.dpi.Dpi.{Dpi}
 use Rattle.pcl_base.specs.declared.dpi.Dpi.TheVariants.{Dpi300, Dpi600}
 use Rattle.pcl_base.specs.declared.kind.Kind.{Kind}
-use Rattle.pcl_base.specs.declared.kind.Kind.TheVariants.{TooManyPages}
+use Rattle.pcl_base.specs.declared.kind.Kind.TheVariants.{MacroOpen, TooManyPages}
 use Rattle.pcl_base.specs.declared.size.Size.{Size}
 use Rattle.pcl_base.specs.declared.size.Size.TheVariants.{Executive, Letter, Legal, A4}
-use Rattle.pcl_base.specs.declared.operation.Operation.TheVariants.{Reset}
-use Rattle.pcl_base.specs.Operation.{operation_of}
+use Rattle.pcl_base.specs.declared.refusal.Refusal.{Refusal}
+use Rattle.pcl_base.specs.Limits.{macro_limit}
 use Rattle.pcl_base.specs.Size.{page_width, page_height, page_row_bytes}
 use Rattle.pcl_escape.specs.Said.{Said}
 use Rattle.pcl_escape.specs.Pieces.{commands_of}
@@ -19,9 +20,11 @@ use Rattle.pcl_bitmap.specs.Bitmap.{dot}
 use Rattle.pcl_page.specs.declared.page.Page.{Page}
 use Rattle.pcl_fonts.specs.declared.fonts.FontControl.TheVariants.{Temporary}
 use Rattle.pcl_fonts.specs.History.{control}
+use Rattle.pcl_macros.specs.declared.table.MacroControl.TheVariants as macros
+use Rattle.pcl_macros.specs.History.{control as macro_control}
 use Rattle.pcl_page.specs.Marks.{Mark, is_black}
-use Rattle.pcl_page.specs.History.{ended, History, Sheet, Situation, at_begin, at_end, after, situation, page_refusal, command_refusal}
-use Rattle.pcl_page.specs.Performing.{Shows, Performance, after_end, after_command, after_all, performance, pages_of, with_operation, then_on}
+use Rattle.pcl_page.specs.Situation.{Sheet, Situation, at_begin, at_end, after, page_refusal}
+use Rattle.pcl_page.specs.Performing.{Shows, Performance, done, unless, then_on, runs, after_all, end_refusal, ended, after_end, performance, pages_of}
 use Rattle.pcl_page.specs.Jobs.{HasPages, performance_of}
 use Rattle.pcl_plan.specs.Tokens.{Token, opening, method, skip, send, commands_in, command_count, token_bytes, start_bytes, end_bytes, frame_bytes}
 use Rattle.pcl_plan.specs.PageText.{IsPageText, bitmap_rows}
@@ -31,9 +34,9 @@ use Rattle.pcl_meaning.specs.PageTexts.{dot_of_rows, PageTextsMeanTheirPages}
 use Rattle.pcl_meaning.proofs.Deeds.{Deed}
 use Rattle.pcl_meaning.proofs.Readings.{ReadsAs, reads_joined, reads_none}
 use Rattle.pcl_meaning.proofs.Sequences.{token_deeds, body_deeds, start_deeds, end_deeds, reset, body_read, start_read, end_read, frame_read}
-use Rattle.pcl_meaning.proofs.Following.{said_of, Leads, leads_append, commands_done}
+use Rattle.pcl_meaning.proofs.Following.{does, Leads, leads_append, commands_done}
 use Rattle.pcl_meaning.proofs.Dots.{page_dot}
-use Rattle.pcl_meaning.proofs.Printing.{IsBetween, reset_fonts, between, pages_fit, text_deeds, text_taken}
+use Rattle.pcl_meaning.proofs.Printing.{IsBetween, reset_fonts, reset_macros, between, pages_fit, text_deeds, text_taken}
 
 -- ---- a page text
 
@@ -85,16 +88,19 @@ text_counted dpi size copies tokens =
 
 -- ---- between two resets
 
-reset_first : (dpi : Dpi) → after dpi Reset (said_of reset) at_begin ≡ Ok (between defaults [] 1)
+reset_first : (dpi : Dpi) → does dpi reset at_begin ≡ Ok (between defaults [] 1)
 unfolding after outcome
 reset_first dpi = refl
 
--- behind the second reset, which deletes the temporary fonts too
+-- behind the second reset, which deletes the temporary fonts and macros too
 abbrev closed : List Sheet → ℕ → Situation
-closed pages n = record (between defaults pages n) { fonts = control Temporary 0 0 ∷ reset_fonts }
+closed pages n =
+    record (between defaults pages n) {
+      fonts = control Temporary 0 0 ∷ reset_fonts;
+      macros = macro_control macros.Temporary 0 ∷ reset_macros;
+    }
 
-reset_last : (dpi : Dpi) (t : Settings) (pages : List Sheet) (n : ℕ)
-    → after dpi Reset (said_of reset) (between t pages n) ≡ Ok (closed pages (n + 1))
+reset_last : (dpi : Dpi) (t : Settings) (pages : List Sheet) (n : ℕ) → does dpi reset (between t pages n) ≡ Ok (closed pages (n + 1))
 unfolding after outcome
 reset_last dpi t pages n = refl
 
@@ -102,12 +108,9 @@ reset_last dpi t pages n = refl
 end_refused : (dpi : Dpi) (pages : List Sheet) (n : ℕ) → length pages ≤ 256 → page_refusal (at_end dpi (closed pages n)) ≡ None
 end_refused dpi pages n few = pages_fit (at_end dpi (closed pages n)) few
 
-ended_there : (dpi : Dpi) (end : ℕ) (history : History) (pages : List Sheet) (n : ℕ) → situation dpi history ≡ closed pages n
-    → length pages ≤ 256
-    → performance dpi end history [] ≡ record { history = ended ∷ history; refusal = None }
-ended_there dpi end history pages n at few =
-    ap (λ (s : Situation). after_end end history (page_refusal (at_end dpi s))) at
-    ∙ ap (after_end end history) (end_refused dpi pages n few)
+ended_there : (dpi : Dpi) (end : ℕ) (pages : List Sheet) (n : ℕ) → length pages ≤ 256
+    → after_end dpi end (closed pages n) ≡ done (at_end dpi (closed pages n))
+ended_there dpi end pages n few = ap (λ (why : Option Kind). ended dpi end why (closed pages n)) (end_refused dpi pages n few)
 
 -- bytes that are read as deeds that eject these pages
 pub job_accepted : (dpi : Dpi) (text : List ℕ) (deeds : List Deed) (t : Settings) (pages : List Sheet) (n : ℕ)
@@ -122,17 +125,17 @@ job_accepted dpi text deeds t pages n read leads fits few =
     let first = between defaults [] 1 in
     let last = closed pages (n + 1) in
     let closes : Leads dpi (reset ∷ []) (between t pages n) last = (last, reset_last dpi t pages n, pages_fit last fits, refl) in
-    let whole : Leads dpi all (situation dpi []) last =
+    let whole : Leads dpi all at_begin last =
     (first, reset_first dpi, pages_fit first (lit≤ tt), leads_append dpi deeds (reset ∷ []) first (between t pages n) last leads closes) in
-    let count : (situation dpi []).performed + length all ≤ 100000000 = omega (arith, length-append deeds (reset ∷ [])) in
-    let c = commands_done dpi end commands all [] last (r.said 0) whole count in
-    let done : performance_of dpi (frame_bytes ++ text ++ frame_bytes) commands ≡ record { history = ended ∷ c.reached; refusal = None } =
-    c.same ∙ ended_there dpi end c.reached pages (n + 1) c.at fits in
+    let count : at_begin.performed + length all ≤ 100000000 = omega (arith, length-append deeds (reset ∷ [])) in
+    let c = commands_done dpi (runs macro_limit dpi commands) 0 commands all at_begin last (r.said 0) whole count refl in
+    let accepted : performance_of dpi (frame_bytes ++ text ++ frame_bytes) commands ≡ done (at_end dpi last) =
+    ap (λ (p : Performance). then_on p (after_end dpi end)) c.0 ∙ ended_there dpi end pages (n + 1) fits in
     record {
       commands = commands;
       reading = record { pieces = r.pieces; each = r.each []; spelled = r.spelled; said = refl };
-      accepted = ap (λ (p : Performance). p.refusal) done;
-      ejected = sym (ap (pages_of dpi) done ∙ ap (λ (s : Situation). (at_end dpi s).pages) c.at);
+      accepted = ap (λ (p : Performance). p.refusal) accepted;
+      ejected = sym (ap pages_of accepted);
     }
 
 -- ---- a job of one text
@@ -252,41 +255,36 @@ texts_taken dpi (sheet ∷ meant) texts t pages n p b few =
 
 -- ---- the pages of an accepted job
 
-abbrev Fits : Dpi → Performance → Type 0
-Fits dpi done = done.refusal ≡ None → length (pages_of dpi done) ≤ 256
+abbrev Fits : Performance → Type 0
+Fits whole = whole.refusal ≡ None → length (pages_of whole) ≤ 256
 
 -- no more pages than there may be, where none is refused
 fits_of : (s : Situation) (test : Bool) → nat_le (length s.pages) 256 ≡ test → page_refusal s ≡ None → length s.pages ≤ 256
 fits_of s true e n = grind (arith, nat_tests)
 fits_of s false e n = let refused : page_refusal s ≡ Some TooManyPages = rw e refl in absurd cc
 
-end_fits : (dpi : Dpi) (end : ℕ) (history : History) (kind : Option Kind) → kind ≡ page_refusal (at_end dpi (situation dpi history))
-    → Fits dpi (after_end end history kind)
-end_fits dpi end history None e =
-    λ n. fits_of (at_end dpi (situation dpi history)) (nat_le (length (at_end dpi (situation dpi history)).pages) 256) refl (sym e)
-end_fits dpi end history (Some kind) e = λ n. absurd cc
+unrefused : (dpi : Dpi) (s : Situation) (test : Bool) → is_some s.begun ≡ test → end_refusal dpi s ≡ None
+    → page_refusal (at_end dpi s) ≡ None
+unrefused dpi s true e n = let refused : end_refusal dpi s ≡ Some MacroOpen = rw e refl in absurd cc
+unrefused dpi s false e n = let same : end_refusal dpi s ≡ page_refusal (at_end dpi s) = rw e refl in sym same ∙ n
 
--- the performance of commands behind one, by why that one is refused
-abbrev from_refusal : Dpi → ℕ → History → Said → List Said → Option Kind → Performance
-from_refusal dpi end history command commands kind =
-    then_on (then_on (after_command command history kind) (after_all dpi commands))
-    (λ all. after_end end all (page_refusal (at_end dpi (situation dpi all))))
+ended_fits : (dpi : Dpi) (end : ℕ) (s : Situation) (why : Option Kind) → end_refusal dpi s ≡ why → Fits (ended dpi end why s)
+ended_fits dpi end s None e =
+    λ n. fits_of (at_end dpi s) (nat_le (length (at_end dpi s).pages) 256) refl (unrefused dpi s (is_some s.begun) refl e)
+ended_fits dpi end s (Some kind) e = λ n. absurd cc
 
-command_fits : (dpi : Dpi) (end : ℕ) (history : History) (command : Said) (commands : List Said) (kind : Option Kind)
-    → (kind ≡ None → Fits dpi (performance dpi end (with_operation (operation_of command.name) command history) commands))
-    → Fits dpi (from_refusal dpi end history command commands kind)
-command_fits dpi end history command commands None f = f refl
-command_fits dpi end history command commands (Some kind) f = λ n. absurd cc
+-- it is the end of the input that tells
+unless_fits : (dpi : Dpi) (end : ℕ) (why : Option Refusal) (s : Situation) → Fits (unless why s (after_end dpi end))
+unless_fits dpi end None s = ended_fits dpi end s (end_refusal dpi s) refl
+unless_fits dpi end (Some why) s = λ n. absurd cc
 
-performance_fits : (dpi : Dpi) (end : ℕ) (commands : List Said) (history : History) → Fits dpi (performance dpi end history commands)
-performance_fits dpi end [] history = end_fits dpi end history (page_refusal (at_end dpi (situation dpi history))) refl
-performance_fits dpi end (command ∷ commands) history =
-    command_fits dpi end history command commands (command_refusal dpi command (situation dpi history))
-    (λ none. performance_fits dpi end commands (with_operation (operation_of command.name) command history))
+performance_fits : (dpi : Dpi) (end : ℕ) (commands : List Said) → Fits (performance dpi end commands)
+performance_fits dpi end commands =
+    let first = after_all dpi commands 0 commands at_begin in unless_fits dpi end first.refusal first.situation
 
 pub job_fits : (dpi : Dpi) (job : List ℕ) (pages : List Sheet) → HasPages dpi job pages → length pages ≤ 256
 job_fits dpi job pages h =
-    subst (λ (ps : List Sheet). length ps ≤ 256) (sym h.ejected) (performance_fits dpi (length job) h.commands [] h.accepted)
+    subst (λ (ps : List Sheet). length ps ≤ 256) (sym h.ejected) (performance_fits dpi (length job) h.commands h.accepted)
 
 -- ---- a job that is written again
 

@@ -1,5 +1,5 @@
 -- Performing the deeds of a page text prints its page.
-use Rattle.std.proofs.Common.{◌≡◌, ℕ, zero, suc, ◌+◌, ◌-◌, ◌*◌, ◌/◌, ◌<◌, ◌≤◌, Bool, true, false, cond, ◌||◌, ◌&&◌, ◌==◌, nat_le, List, [], ◌∷◌, ◌++◌, length, drop, replicate, Option, Some, None, refl, sym, ap, subst, ◌∙◌, length-append, arith, Ok}
+use Rattle.std.proofs.Common.{◌≡◌, ℕ, zero, suc, ◌+◌, ◌-◌, ◌*◌, ◌/◌, ◌<◌, ◌≤◌, Bool, true, false, cond, ◌||◌, ◌&&◌, ◌==◌, nat_le, List, [], ◌∷◌, ◌++◌, length, drop, replicate, Option, Some, None, Result, refl, sym, ap, subst, ◌∙◌, length-append, arith, Ok}
 use Rattle.std.specs.Prelude.{not, nat_lt}
 use Rattle.std.specs.List.{AllByRecursion}
 use Rattle.std.proofs.lemmas.List.{length-replicate}
@@ -7,6 +7,7 @@ use Rattle.std.proofs.Math.Bool.{or-false}
 use Rattle.std.proofs.lemmas.Bool.Decides.{nat_tests}
 use Rattle.pcl_base.specs.declared.dpi.Dpi.{Dpi}
 use Rattle.pcl_base.specs.declared.dpi.Dpi.TheVariants.{Dpi300, Dpi600}
+use Rattle.pcl_base.specs.declared.kind.Kind.{Kind}
 use Rattle.pcl_base.specs.declared.method.Method.{Method}
 use Rattle.pcl_base.specs.declared.method.Method.TheVariants.{Plain, Runs, Packed, Delta}
 use Rattle.pcl_base.specs.declared.operation.Axis.TheVariants.{Horizontal, Vertical}
@@ -27,9 +28,12 @@ use Rattle.pcl_env.specs.Settings.{Settings, put, put_x, put_y, to_first_line, w
 use Rattle.pcl_env.specs.Outcome.{Outcome, stays, stays_if, set_top, before_feed, return_carriage, outcome}
 use Rattle.pcl_fonts.specs.declared.fonts.FontControl.TheVariants.{Temporary}
 use Rattle.pcl_fonts.specs.History.{FontEvent, control}
+use Rattle.pcl_macros.specs.declared.table.MacroControl.TheVariants as macros
+use Rattle.pcl_macros.specs.History.{MacroEvent, control as macro_control}
+use Rattle.pcl_page.specs.Macros.{and_then}
 use Rattle.pcl_page.specs.Marks.{Mark, is_black, dot_at}
 use Rattle.pcl_page.specs.Raster.{Raster, ends_raster, scale_of, raster_from, bytes_of_width, cleared_past, row_sent, row_mark}
-use Rattle.pcl_page.specs.History.{Sheet, Situation, below, ejects, end_raster, drawn_on, done_with, taken, after, sheet_of, page_refusal}
+use Rattle.pcl_page.specs.Situation.{Sheet, Situation, below, ejects, end_raster, drawn_on, done_with, taken, after, sheet_of, page_refusal}
 use Rattle.pcl_rows.specs.Rows.{IsRowData}
 use Rattle.pcl_rows.proofs.Decoded.{decoded_is}
 use Rattle.pcl_plan.specs.Tokens.{Token, opening, method, skip, send, PrintsRows}
@@ -38,7 +42,7 @@ use Rattle.pcl_meaning.specs.PageTexts.{dot_of_rows}
 use Rattle.pcl_meaning.proofs.Deeds.{Deed, deed}
 use Rattle.pcl_meaning.proofs.Readings.{number_value, whole_is}
 use Rattle.pcl_meaning.proofs.Sequences.{body_deeds, start_deeds, end_deeds}
-use Rattle.pcl_meaning.proofs.Following.{said_of, Leads, leads_append}
+use Rattle.pcl_meaning.proofs.Following.{said_of, quietly, does, Leads, leads_append}
 use Rattle.pcl_meaning.proofs.Dots.{dot_from, first_row, white_from, skipped_dots, row_inks}
 use Rattle.pcl_meaning.proofs.Pads.{cleared_is}
 
@@ -53,9 +57,22 @@ pub record IsBetween (t : Settings) : Type 0 where
 abbrev pub reset_fonts : List FontEvent
 reset_fonts = control Temporary 0 0 ∷ []
 
--- an unmarked page with no raster
+-- and to macros
+abbrev pub reset_macros : List MacroEvent
+reset_macros = macro_control macros.Temporary 0 ∷ []
+
+-- an unmarked page with no raster, and no definition
 abbrev pub between : Settings → List Sheet → ℕ → Situation
-between t pages n = record { settings = t; raster = None; fonts = reset_fonts; marks = []; pages = pages; performed = n }
+between t pages n = record {
+  settings = t;
+  raster = None;
+  fonts = reset_fonts;
+  macros = reset_macros;
+  begun = None;
+  marks = [];
+  pages = pages;
+  performed = n;
+}
 
 -- as many pages as there may be
 pub pages_fit : (s : Situation) → length s.pages ≤ 256 → page_refusal s ≡ None
@@ -67,12 +84,12 @@ prepared_is dpi true t pages n = refl
 prepared_is dpi false t pages n = refl
 
 -- a command that sets something between texts
-set_between : (dpi : Dpi) (operation : Operation) (value : Value) (t t' : Settings) (effect : Effect) (pages : List Sheet) (n : ℕ)
+drawn_between : (dpi : Dpi) (operation : Operation) (value : Value) (t t' : Settings) (effect : Effect) (pages : List Sheet) (n : ℕ)
     → outcome dpi operation value false t ≡ Some (t', effect) → ejects effect false ≡ false
     → ((s : Situation) → drawn_on dpi operation (said_of (deed operation value [])) s ≡ Ok s)
     → after dpi operation (said_of (deed operation value [])) (between t pages n) ≡ Ok (between t' pages (n + 1))
 unfolding after
-set_between dpi operation value t t' effect pages n o e d =
+drawn_between dpi operation value t t' effect pages n o e d =
     let command = said_of (deed operation value []) in
     let at = between t pages (n + 1) in
     ap (λ (z : Situation). taken dpi operation command z) (prepared_is dpi (ends_raster operation) t pages (n + 1))
@@ -82,6 +99,15 @@ set_between dpi operation value t t' effect pages n o e d =
     (cond test (record at { settings = to_first_line t'; marks = []; pages = pages ++ sheet_of at ∷ [] })
     (record at { settings = t' }))) e
     ∙ d (between t' pages (n + 1))
+
+set_between : (dpi : Dpi) (operation : Operation) (value : Value) (t t' : Settings) (effect : Effect) (pages : List Sheet) (n : ℕ)
+    → outcome dpi operation value false t ≡ Some (t', effect) → ejects effect false ≡ false
+    → ((s : Situation) → drawn_on dpi operation (said_of (deed operation value [])) s ≡ Ok s)
+    → ((s : Situation) → quietly operation value s ≡ Ok s)
+    → does dpi (deed operation value []) (between t pages n) ≡ Ok (between t' pages (n + 1))
+set_between dpi operation value t t' effect pages n o e d q =
+    ap (λ (r : Result Situation Kind). and_then r (quietly operation value)) (drawn_between dpi operation value t t' effect pages n o e d)
+    ∙ q (between t' pages (n + 1))
 
 -- ---- what the begin of a text sets
 
@@ -156,6 +182,8 @@ in_body size dpi t m k seed marks pages n = record {
   settings = record t { method = m };
   raster = Some (body_raster size dpi k seed);
   fonts = reset_fonts;
+  macros = reset_macros;
+  begun = None;
   marks = marks;
   pages = pages;
   performed = n;
@@ -223,7 +251,7 @@ one_scale Dpi600 size top height h t =
     }) t
 
 start_after : (size : Size) (dpi : Dpi) (copies : ℕ) (t : Settings) (pages : List Sheet) (n : ℕ) → IsBetween t
-    → after dpi StartRaster (said_of (deed StartRaster (number_value 0) [])) (between (ready dpi size copies t) pages n)
+    → does dpi (deed StartRaster (number_value 0) []) (between (ready dpi size copies t) pages n)
     ≡ Ok (in_body size dpi (ready dpi size copies t) Plain 0 (zeros size dpi) [] pages (n + 1))
 unfolding after outcome
 start_after size dpi copies t pages n b =
@@ -232,12 +260,14 @@ start_after size dpi copies t pages n b =
     let raster : raster_from dpi 0 at ≡ body_raster size dpi 0 (zeros size dpi) =
     one_scale dpi size (dot_at dpi at.cursor.y) t.raster_height b.height (first_dot dpi at.cursor.y y) in
     ap (λ (r : Raster). Ok
-    (record { settings = at; raster = Some r; fonts = reset_fonts; marks = []; pages = pages; performed = n + 1 })) raster
+    (record { settings = at; raster = Some r; fonts = reset_fonts; macros = reset_macros; begun = None; marks = []; pages = pages; performed = n + 1 })) raster
     ∙ ap (λ (m : Method). Ok
     (record {
       settings = record at { method = m };
       raster = Some (body_raster size dpi 0 (zeros size dpi));
       fonts = reset_fonts;
+      macros = reset_macros;
+      begun = None;
       marks = [];
       pages =
           pages;
@@ -260,36 +290,36 @@ start_leads size dpi copies t pages n b some few fits =
       n + 1 + 1 + 1 + 1 + 1 + 1 + 1 + 1,
       (
         between a1 pages (n + 1),
-        set_between dpi Copies (number_value copies) t a1 page.Stay pages n (copies_out dpi copies t some few) refl (λ s. refl),
+        set_between dpi Copies (number_value copies) t a1 page.Stay pages n (copies_out dpi copies t some few) refl (λ s. refl) (λ s. refl),
         ok a1 (n + 1),
         (
           between a2 pages (n + 1 + 1),
           set_between dpi PageSize (number_value (code_of size)) a1 a2 page.EjectMarked pages (n + 1) (size_out dpi size a1) refl
-              (λ s. refl),
+              (λ s. refl) (λ s. refl),
           ok a2 (n + 1 + 1),
           (
             between a3 pages (n + 1 + 1 + 1),
-            set_between dpi TopMargin (number_value 0) a2 a3 page.Stay pages (n + 1 + 1) (top_out dpi a2) refl (λ s. refl),
+            set_between dpi TopMargin (number_value 0) a2 a3 page.Stay pages (n + 1 + 1) (top_out dpi a2) refl (λ s. refl) (λ s. refl),
             ok a3 (n + 1 + 1 + 1),
             (
               between a4 pages (n + 1 + 1 + 1 + 1),
               set_between dpi (Move Horizontal PclUnit) (number_value 0) a3 a4 page.Stay pages (n + 1 + 1 + 1) (across_out dpi a3) refl
-                  (λ s. refl),
+                  (λ s. refl) (λ s. refl),
               ok a4 (n + 1 + 1 + 1 + 1),
               (
                 between a5 pages (n + 1 + 1 + 1 + 1 + 1),
                 set_between dpi (Move Vertical PclUnit) (number_value 0) a4 a5 page.Stay pages (n + 1 + 1 + 1 + 1) (down_out dpi a4 refl)
-                    refl (λ s. refl),
+                    refl (λ s. refl) (λ s. refl),
                 ok a5 (n + 1 + 1 + 1 + 1 + 1),
                 (
                   between a6 pages (n + 1 + 1 + 1 + 1 + 1 + 1),
                   set_between dpi RasterResolution (number_value (dots_per_inch dpi)) a5 a6 page.Stay pages (n + 1 + 1 + 1 + 1 + 1)
-                      (resolution_out dpi a5) refl (λ s. refl),
+                      (resolution_out dpi a5) refl (λ s. refl) (λ s. refl),
                   ok a6 (n + 1 + 1 + 1 + 1 + 1 + 1),
                   (
                     between a7 pages (n + 1 + 1 + 1 + 1 + 1 + 1 + 1),
                     set_between dpi RasterWidth (number_value (page_width size dpi)) a6 a7 page.Stay pages (n + 1 + 1 + 1 + 1 + 1 + 1)
-                        (width_out size dpi a6) refl (λ s. refl),
+                        (width_out size dpi a6) refl (λ s. refl) (λ s. refl),
                     ok a7 (n + 1 + 1 + 1 + 1 + 1 + 1 + 1),
                     (
                       in_body size dpi a7 Plain 0 (zeros size dpi) [] pages (n + 1 + 1 + 1 + 1 + 1 + 1 + 1 + 1),
@@ -310,7 +340,7 @@ start_leads size dpi copies t pages n b some few fits =
 
 method_after : (size : Size) (dpi : Dpi) (t : Settings) (m next : Method) (k : ℕ) (seed : List ℕ) (marks : List Mark) (pages : List Sheet)
     (n : ℕ)
-    → after dpi RasterMethod (said_of (deed RasterMethod (number_value (method_code next)) [])) (in_body size dpi t m k seed marks pages n)
+    → does dpi (deed RasterMethod (number_value (method_code next)) []) (in_body size dpi t m k seed marks pages n)
     ≡ Ok (in_body size dpi t next k seed marks pages (n + 1))
 unfolding after outcome
 method_after size dpi t m Plain k seed marks pages n = refl
@@ -320,7 +350,7 @@ method_after size dpi t m Delta k seed marks pages n = refl
 
 skip_after : (size : Size) (dpi : Dpi) (t : Settings) (m : Method) (count k : ℕ) (seed : List ℕ) (marks : List Mark) (pages : List Sheet)
     (n : ℕ)
-    → after dpi RasterOffset (said_of (deed RasterOffset (number_value count) [])) (in_body size dpi t m k seed marks pages n)
+    → does dpi (deed RasterOffset (number_value count) []) (in_body size dpi t m k seed marks pages n)
     ≡ Ok (in_body size dpi t m (k + count) (zeros size dpi) marks pages (n + 1))
 unfolding after outcome
 skip_after size dpi t m count k seed marks pages n =
@@ -332,7 +362,7 @@ sent_mark size dpi k seed row = row_mark row (body_raster size dpi k seed)
 row_after : (size : Size) (dpi : Dpi) (t : Settings) (m : Method) (k : ℕ) (seed row bytes : List ℕ) (marks : List Mark)
     (pages : List Sheet) (n : ℕ)
     → row_sent m bytes (body_raster size dpi k seed) ≡ row
-    → after dpi RasterRow (said_of (deed RasterRow (number_value (length bytes)) bytes)) (in_body size dpi t m k seed marks pages n)
+    → does dpi (deed RasterRow (number_value (length bytes)) bytes) (in_body size dpi t m k seed marks pages n)
     ≡ Ok (in_body size dpi t m (k + 1) row (sent_mark size dpi k seed row ∷ marks) pages (n + 1))
 unfolding after outcome
 row_after size dpi t m k seed row bytes marks pages n e =
@@ -463,14 +493,14 @@ abbrev behind : Size → Dpi → Settings → Method → ℕ → List ℕ → Se
 behind size dpi t m k seed = record (put (below dpi (body_raster size dpi k seed)) (record t { method = m })) { method = Plain }
 
 end_after : (size : Size) (dpi : Dpi) (t : Settings) (m : Method) (k : ℕ) (seed : List ℕ) (marks : List Mark) (pages : List Sheet) (n : ℕ)
-    → after dpi EndRasterResetMethod (said_of (deed EndRasterResetMethod (number_value 0) [])) (in_body size dpi t m k seed marks pages n)
+    → does dpi (deed EndRasterResetMethod (number_value 0) []) (in_body size dpi t m k seed marks pages n)
     ≡ Ok (record (between (behind size dpi t m k seed) pages (n + 1)) { marks = marks })
 unfolding after outcome
 end_after size dpi t m k seed marks pages n = refl
 
 feed_after : (dpi : Dpi) (u : Settings) (marks : List Mark) (pages : List Sheet) (n : ℕ)
-    → after dpi FormFeed (said_of (deed FormFeed zero_value []))
-    (record { settings = u; raster = None; fonts = reset_fonts; marks = marks; pages = pages; performed = n })
+    → does dpi (deed FormFeed zero_value [])
+    (record { settings = u; raster = None; fonts = reset_fonts; macros = reset_macros; begun = None; marks = marks; pages = pages; performed = n })
     ≡ Ok (between (to_first_line (before_feed u)) (pages ++ record { size = u.size; copies = u.copies; marks = marks } ∷ []) (n + 1))
 unfolding after outcome
 feed_after dpi u marks pages n = refl
@@ -494,7 +524,7 @@ end_leads : (size : Size) (dpi : Dpi) (t : Settings) (m : Method) (k : ℕ) (see
     (between (ended_at size dpi t m k seed) (pages ++ record { size = t.size; copies = t.copies; marks = marks } ∷ []) (n + 1 + 1))
 end_leads size dpi t m k seed marks pages n none few =
     let u = behind size dpi t m k seed in
-    let middle : Situation = record { settings = u; raster = None; fonts = reset_fonts; marks = marks; pages = pages; performed = n + 1 } in
+    let middle : Situation = record { settings = u; raster = None; fonts = reset_fonts; macros = reset_macros; begun = None; marks = marks; pages = pages; performed = n + 1 } in
     let more = pages ++ record { size = t.size; copies = t.copies; marks = marks } ∷ [] in
     let last = between (to_first_line (before_feed u)) more (n + 1 + 1) in
     let sheet : Sheet = record { size = t.size; copies = t.copies; marks = marks } in

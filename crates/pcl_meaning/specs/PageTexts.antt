@@ -6,7 +6,7 @@ use Rattle.pcl_base.specs.Limits.{command_limit}
 use Rattle.pcl_base.specs.Size.{page_width, page_height}
 use Rattle.pcl_bitmap.specs.Bitmap.{dot_of_row}
 use Rattle.pcl_page.specs.Marks.{is_black}
-use Rattle.pcl_page.specs.History.{Sheet}
+use Rattle.pcl_page.specs.Situation.{Sheet}
 use Rattle.pcl_page.specs.Jobs.{HasPages}
 use Rattle.pcl_plan.specs.Tokens.{command_count, frame_bytes}
 use Rattle.pcl_plan.specs.PageText.{IsPageText}

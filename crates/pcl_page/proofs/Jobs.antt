@@ -1,280 +1,221 @@
--- Performing a job, command by command, up to the whole.
-use Rattle.std.proofs.Common.{◌≡◌, ℕ, Bool, true, false, cond, List, [], ◌∷◌, ◌++◌, Option, Some, None, Result, Ok, Err, refl, sym, ap, subst, ◌∙◌, append_assoc, inl, inr}
-use Rattle.std.proofs.lemmas.List.{append-nil}
+-- Performing a job, place by place, up to the whole.
+use Rattle.std.proofs.Common.{◌≡◌, ℕ, ◌+◌, Bool, true, false, cond, List, [], ◌∷◌, ◌++◌, Option, Some, None, Result, Ok, Err, refl, sym, ap, subst, ◌∙◌, append_assoc, append-nil, inr}
+use Rattle.std.specs.Prelude.{is_some}
 use Rattle.pcl_base.specs.declared.dpi.Dpi.{Dpi}
-use Rattle.pcl_base.specs.declared.fault.CallFault.{CallFault}
-use Rattle.pcl_base.specs.declared.fault.CallFault.TheVariants as call
 use Rattle.pcl_base.specs.declared.fault.JobFault.{JobFault}
 use Rattle.pcl_base.specs.declared.fault.JobFault.TheVariants.{Refused, Memory}
 use Rattle.pcl_base.specs.declared.kind.Kind.{Kind}
 use Rattle.pcl_base.specs.declared.name.Name.TheVariants.{Empty}
-use Rattle.pcl_base.specs.declared.operation.Operation.{Operation}
 use Rattle.pcl_base.specs.declared.refusal.Refusal.{Refusal}
-use Rattle.pcl_base.specs.Operation.{operation_of}
+use Rattle.pcl_base.specs.Limits.{macro_limit}
 use Rattle.pcl_base.specs.Refusal.{refusal}
 use Rattle.pcl_bitmap.specs.Bitmap.{Picture, dot}
 use Rattle.pcl_escape.specs.Said.{Said}
-use Rattle.pcl_env.specs.declared.effect.Effect.{Effect}
-use Rattle.pcl_env.specs.declared.effect.Effect.TheVariants.{EjectMarked}
-use Rattle.pcl_env.specs.Settings.{Settings, defaults}
-use Rattle.pcl_env.specs.Outcome.{Outcome, outcome}
+use Rattle.pcl_escape.specs.Pieces.{IsReading}
 use Rattle.pcl_page.specs.declared.page.Page.{Page}
-use Rattle.pcl_page.specs.declared.performer.Performer.{Performer}
-use Rattle.pcl_page.specs.Raster.{ends_raster}
-use Rattle.pcl_page.specs.History.{performed, ended, History, Sheet, Situation, is_marked, ejects, sheet_of, end_raster, turned, drawn, draw_refusal, unless_refused, done_with, taken, counted, prepared, is_ignored, situation, at_end, reached, after, page_refusal, command_refusal}
-use Rattle.pcl_page.specs.Jobs.{AllShow, HasPages, IsPerformed, performance_of}
-use Rattle.pcl_page.specs.Performing.{Shows, IsSamePage, Hands, Performance, then_on, with_operation, after_command, after_all, after_end, performance, pages_of, HandsOver}
-use Rattle.pcl_page.specs.Reflecting.{IsIn, HandsMore, IsTried, result_of, CommandDone, EndDone}
-use Rattle.pcl_page.proofs.Steps.{drawn_pages, prepared_pages}
+use Rattle.pcl_page.specs.declared.interpreter.Interpreter.{Interpreter}
+use Rattle.pcl_page.specs.declared.interpreter.Running.{Running}
+use Rattle.pcl_page.specs.Situation.{Sheet, Situation, at_end}
+use Rattle.pcl_page.specs.Jobs.{AllShow, HasPages, IsPerformed, Delivers, performance_of}
+use Rattle.pcl_page.specs.Performing.{Shows, IsSamePage, Hands, Performance, done, unless, then_on, in_order, step, runs, after_all, end_refusal, ended, after_end, pages_of, HandsOver}
+use Rattle.pcl_page.specs.Unfolding.{IsAt, resumed, begun_among, GoesOn, InterpreterEnds}
+use Rattle.pcl_page.proofs.Keeping.{end_adds}
+use Rattle.pcl_page.proofs.Sinks.{Onward, stays_there, hands_append, hands_further, goes_from, goes_to}
+use Rattle.pcl_page.proofs.Unfolded.{Grows, then_done, then_assoc, then_grows, all_grow}
 
--- ---- sinks
+-- ---- what is still to be performed
 
-pub hands_append : {S : Type 0} (takes : S → Page → S → Type 0) (dpi : Dpi) (front back : List Sheet) (old middle new : S)
-    → Hands takes dpi front old middle → Hands takes dpi back middle new → Hands takes dpi (front ++ back) old new
-hands_append {S} takes dpi [] back old middle new h k = subst (λ (s : S). Hands takes dpi back s new) h k
-hands_append {S} takes dpi (sheet ∷ front) back old middle new h k =
-    (h.0, h.1, h.2, h.3, hands_append takes dpi front back h.1 middle new h.4 k)
+-- the commands from a place on, and then the end
+abbrev pub rest_of_job : Dpi → ℕ → List Said → ℕ → List Said → Situation → Performance
+rest_of_job dpi end all place commands s = then_on (after_all dpi all place commands s) (after_end dpi end)
 
--- the pages from before, and those by which there are more
-hands_further : {S : Type 0} (takes : S → Page → S → Type 0) (dpi : Dpi) (before now : Situation) (old middle new : S)
-    → Hands takes dpi before.pages old middle → HandsMore takes dpi before now middle new → Hands takes dpi now.pages old new
-hands_further {S} takes dpi before now old middle new h k =
-    subst (λ (pages : List Sheet). Hands takes dpi pages old new) (sym k.1) (hands_append takes dpi before.pages k.0 old middle new h k.2)
+ended_grows : (dpi : Dpi) (end : ℕ) (why : Option Kind) → Grows (ended dpi end why)
+ended_grows dpi end None = λ s. end_adds dpi s
+ended_grows dpi end (Some kind) = stays_there
 
--- ---- what a performance has of one command
+end_grows : (dpi : Dpi) (end : ℕ) → Grows (after_end dpi end)
+end_grows dpi end = λ s. ended_grows dpi end (end_refusal dpi s) s
 
--- the performance of commands behind one, by why that one is refused
-abbrev from_refusal : Dpi → ℕ → History → Said → List Said → Option Kind → Performance
-from_refusal dpi end history command commands kind =
-    then_on (then_on (after_command command history kind) (after_all dpi commands))
-    (λ all. after_end end all (page_refusal (at_end dpi (situation dpi all))))
+rest_grows : (dpi : Dpi) (end : ℕ) (all : List Said) (place : ℕ) (commands : List Said) → Grows (rest_of_job dpi end all place commands)
+rest_grows dpi end all place commands = λ s.
+    then_grows (after_all dpi all place commands s) s (after_end dpi end) (all_grow dpi all place commands s) (end_grows dpi end)
 
-pub performed_next : (dpi : Dpi) (end : ℕ) (history : History) (command : Said) (commands : List Said) (operation : Operation)
-    → operation_of command.name ≡ Some operation → command_refusal dpi command (situation dpi history) ≡ None
-    → performance dpi end history (command ∷ commands) ≡ performance dpi end (performed operation command ∷ history) commands
-performed_next dpi end history command commands operation name none =
-    ap (from_refusal dpi end history command commands) none
-    ∙ ap (λ (o : Option Operation). performance dpi end (with_operation o command history) commands) name
+-- the next command, and the rest behind it
+abbrev next_step : Dpi → List Said → ℕ → Said → Situation → Performance
+next_step dpi all place command s = step dpi (runs macro_limit dpi all) place command s
 
-refused_next : (dpi : Dpi) (end : ℕ) (history : History) (command : Said) (commands : List Said) (kind : Kind)
-    → command_refusal dpi command (situation dpi history) ≡ Some kind
-    → performance dpi end history (command ∷ commands) ≡ record { history = history; refusal = Some (refusal kind command.at command.name) }
-refused_next dpi end history command commands kind some = ap (from_refusal dpi end history command commands) some
+rest_next : (dpi : Dpi) (end : ℕ) (all : List Said) (place : ℕ) (command : Said) (commands : List Said) (s : Situation)
+    → rest_of_job dpi end all place (command ∷ commands) s
+    ≡ then_on (next_step dpi all place command s) (rest_of_job dpi end all (place + 1) commands)
+rest_next dpi end all place command commands s =
+    then_assoc (next_step dpi all place command s) (after_all dpi all (place + 1) commands) (after_end dpi end)
 
--- the situation behind a command that was performed
-pub situation_next : (dpi : Dpi) (history : History) (command : Said) (operation : Operation) (later : Situation)
-    → after dpi operation command (situation dpi history) ≡ Ok later → situation dpi (performed operation command ∷ history) ≡ later
-situation_next dpi history command operation later e = ap (λ (o : Result Situation Kind). reached o (situation dpi history)) e
-
--- ---- what is performed later only adds pages
-
-abbrev Extends : Dpi → List Sheet → Performance → Type 0
-Extends dpi pages whole = (more : List Sheet) × (pages_of dpi whole ≡ pages ++ more)
-
--- an event only adds pages
-abbrev Adds : Situation → Situation → Type 0
-Adds s later = (more : List Sheet) × (later.pages ≡ s.pages ++ more)
-
-adds_none : (s later : Situation) → later.pages ≡ s.pages → Adds s later
-adds_none s later e = ([], e ∙ sym (append-nil s.pages))
-
-adds_turned : (settings : Settings) (effect : Effect) (s : Situation) (test : Bool) → ejects effect (is_marked s) ≡ test
-    → Adds s (turned settings effect s)
-adds_turned settings effect s true e = (sheet_of s ∷ [], rw e refl)
-adds_turned settings effect s false e = ([], rw e (sym (append-nil s.pages)))
-
-adds_on : (dpi : Dpi) (operation : Operation) (command : Said) (s now later : Situation) (why : Option Kind) → Adds s now
-    → unless_refused why (drawn dpi operation command now) ≡ Ok later → Adds s later
-adds_on dpi operation command s now later None t e =
-    let same : drawn dpi operation command now ≡ later = cc in
-    (t.0, ap (λ (z : Situation). z.pages) (sym same) ∙ drawn_pages dpi operation command now ∙ t.1)
-adds_on dpi operation command s now later (Some kind) t e = absurd cc
-
-adds_drawn : (dpi : Dpi) (operation : Operation) (command : Said) (o : Outcome) (s later : Situation)
-    → done_with dpi operation command o s ≡ Ok later → Adds s later
-adds_drawn dpi operation command None s later e = absurd cc
-adds_drawn dpi operation command (Some done) s later e =
-    let now = turned done.0 done.1 s in
-    adds_on dpi operation command s now later (draw_refusal operation command now)
-    (adds_turned done.0 done.1 s (ejects done.1 (is_marked s)) refl) e
-
-adds_by : (dpi : Dpi) (operation : Operation) (command : Said) (s later : Situation) (ignored : Bool)
-    → cond ignored (Ok (counted s)) (taken dpi operation command (prepared dpi operation (counted s))) ≡ Ok later → Adds s later
-adds_by dpi operation command s later true e = let same : counted s ≡ later =
-    cc in adds_none s later (ap (λ (z : Situation). z.pages) (sym same))
-adds_by dpi operation command s later false e =
-    let before = prepared dpi operation (counted s) in
-    let d = adds_drawn dpi operation command (outcome dpi operation command.value (is_marked before) before.settings) before later e in
-    (d.0, d.1 ∙ ap (λ (ps : List Sheet). ps ++ d.0) (prepared_pages dpi (ends_raster operation) (counted s)))
-
-adds_after : (dpi : Dpi) (operation : Operation) (command : Said) (s later : Situation) → after dpi operation command s ≡ Ok later
-    → Adds s later
-unfolding after
-adds_after dpi operation command s later e = adds_by dpi operation command s later (is_ignored operation s) e
-
--- an event that isn't refused only adds pages; one that is stays where it is
-adds_next : (dpi : Dpi) (operation : Operation) (command : Said) (s : Situation) (o : Result Situation Kind)
-    → after dpi operation command s ≡ o → Adds s (reached o s)
-adds_next dpi operation command s (Err kind) e = adds_none s s refl
-adds_next dpi operation command s (Ok later) e = adds_after dpi operation command s later e
-
-end_adds : (dpi : Dpi) (end : ℕ) (history : History) (kind : Option Kind)
-    → Extends dpi (situation dpi history).pages (after_end end history kind)
-end_adds dpi end history None =
-    adds_turned defaults EjectMarked (end_raster dpi (situation dpi history)) (is_marked (end_raster dpi (situation dpi history))) refl
-end_adds dpi end history (Some kind) = adds_none (situation dpi history) (situation dpi history) refl
-
-with_adds : (dpi : Dpi) (end : ℕ) (operation : Option Operation) (command : Said) (history : History) (commands : List Said)
-    → Extends dpi (situation dpi (with_operation operation command history)).pages
-    (performance dpi end (with_operation operation command history) commands)
-    → Extends dpi (situation dpi history).pages (performance dpi end (with_operation operation command history) commands)
-with_adds dpi end None command history commands e = e
-with_adds dpi end (Some operation) command history commands e =
-    let a = adds_next dpi operation command (situation dpi history) (after dpi operation command (situation dpi history)) refl in
-    (a.0 ++ e.0, e.1 ∙ ap (λ (ps : List Sheet). ps ++ e.0) a.1 ∙ append_assoc (situation dpi history).pages a.0 e.0)
-
-command_adds : (dpi : Dpi) (end : ℕ) (command : Said) (history : History) (commands : List Said) (kind : Option Kind)
-    → Extends dpi (situation dpi history).pages (performance dpi end (with_operation (operation_of command.name) command history) commands)
-    → Extends dpi (situation dpi history).pages (from_refusal dpi end history command commands kind)
-command_adds dpi end command history commands None e = e
-command_adds dpi end command history commands (Some kind) e = adds_none (situation dpi history) (situation dpi history) refl
-
-pub extends : (dpi : Dpi) (end : ℕ) (history : History) (commands : List Said)
-    → Extends dpi (situation dpi history).pages (performance dpi end history commands)
-extends dpi end history [] = end_adds dpi end history (page_refusal (at_end dpi (situation dpi history)))
-extends dpi end history (command ∷ commands) =
-    command_adds dpi end command history commands (command_refusal dpi command (situation dpi history))
-    (with_adds dpi end (operation_of command.name) command history commands
-    (extends dpi end (with_operation (operation_of command.name) command history) commands))
+-- no macro runs before the command
+pub begun_alone : (dpi : Dpi) (all : List Said) (place : ℕ) (command : Said) (s : Situation) (running : List Running) → running ≡ []
+    → begun_among dpi all place command running s ≡ next_step dpi all place command s
+begun_alone dpi all place command s running e =
+    ap (λ (rs : List Running). begun_among dpi all place command rs s) e ∙ then_done (next_step dpi all place command s)
 
 -- ---- how far the performing has come
 
-pub record IsReached {S : Type 0} (takes : S → Page → S → Type 0) (dpi : Dpi) (end : ℕ) (whole : Performance) (rest : List Said)
-    (performer : Performer) (old now : S) : Type 0 where
-  pub history : History
-  pub is_in : IsIn dpi (situation dpi history) performer
-  pub handed : Hands takes dpi (situation dpi history).pages old now
-  pub same : performance dpi end history rest ≡ whole
+pub record IsReached {S : Type 0} (takes : S → Page → S → Type 0) (dpi : Dpi) (whole : Performance) (rest : Situation → Performance)
+    (interpreter : Interpreter) (old now : S) : Type 0 where
+  pub situation : Situation
+  pub is_at : IsAt dpi situation interpreter
+  pub idle : interpreter.running.items ≡ []
+  pub handed : Hands takes dpi situation.pages old now
+  pub same : rest situation ≡ whole
 
--- what was tried is what was answered
-pub tried_ok : (command : Said) (tried : Result (Unit {0}) CallFault) (done : Unit {0}) → Ok done ≡ result_of command tried → tried ≡ Ok tt
-tried_ok command (Ok unit) done e = refl
-tried_ok command (Err fault) done e = absurd cc
+-- a performance that has ended in a refusal
+then_refused : (why : Option Refusal) (reason : Refusal) (s : Situation) (f : Situation → Performance) → why ≡ Some reason
+    → unless why s f ≡ record { situation = s; refusal = Some reason }
+then_refused why reason s f e = ap (λ (o : Option Refusal). unless o s f) e
 
-pub next_reached : {S : Type 0} (takes : S → Page → S → Type 0) (dpi : Dpi) (end : ℕ) (whole : Performance) (command : Said)
-    (rest : List Said) (performer later : Performer) (old now then : S) (done : Unit {0})
-    → IsReached takes dpi end whole (command ∷ rest) performer old now
-    → ((s : Situation) → IsIn dpi s performer → CommandDone takes dpi command s (Ok done) later now then)
-    → IsReached takes dpi end whole rest later old then
-next_reached {S} takes dpi end whole command rest performer later old now then done r step =
-    let s = situation dpi r.history in
-    let c = step s r.is_in in
-    let t = subst (λ (result : Result (Unit {0}) CallFault). IsTried takes dpi command s result later now then)
-    (tried_ok command c.0 done c.1) c.2 in
-    let history = performed t.0 command ∷ r.history in
-    let at : situation dpi history ≡ t.1 = situation_next dpi r.history command t.0 t.1 t.3 in
+-- it stopped on the way
+stopped_on : {S : Type 0} (takes : S → Page → S → Type 0) (dpi : Dpi) (all : List Said) (whole first : Performance)
+    (f : Situation → Performance) (s : Situation) (last : Interpreter) (old now then : S) (fault : JobFault)
+    → Hands takes dpi s.pages old now → then_on first f ≡ whole → Grows f → GoesOn takes dpi all first s (Err fault) last now then
+    → HandsOver takes dpi whole (Err fault) old then
+stopped_on {S} takes dpi all whole first f s last old now then (Refused why) h e g on =
+    let is : whole ≡ record { situation = first.situation; refusal = Some why } =
+    sym e ∙ then_refused first.refusal why first.situation f on.0 in
+    subst (λ (p : Performance). HandsOver takes dpi p (Err (Refused why)) old then) (sym is)
+    (refl, hands_further takes dpi s first.situation old now then h on.1)
+stopped_on {S} takes dpi all whole first f s last old now then Memory h e g on =
+    let o = then_grows first first.situation f (stays_there first.situation) g in
+    subst (λ (p : Performance). HandsOver takes dpi p (Err Memory) old then) e (
+      s.pages ++ on.0,
+      on.1 ++ o.0,
+      o.1 ∙ ap (λ (ps : List Sheet). ps ++ o.0) on.2
+          ∙ (append_assoc s.pages (on.0 ++ on.1) o.0
+          ∙ ap (λ (ps : List Sheet). s.pages ++ ps) (append_assoc on.0 on.1 o.0)
+          ∙ sym (append_assoc s.pages on.0 (on.1 ++ o.0))),
+      hands_append takes dpi s.pages on.0 old now then h on.3,
+    )
+
+-- the performing of a command stopped
+pub command_stopped : {S : Type 0} (takes : S → Page → S → Type 0) (dpi : Dpi) (end : ℕ) (all : List Said) (whole : Performance)
+    (place : ℕ) (command : Said) (commands : List Said) (first last : Interpreter) (old now then : S) (fault : JobFault)
+    → (r : IsReached takes dpi whole (rest_of_job dpi end all place (command ∷ commands)) first old now)
+    → GoesOn takes dpi all (begun_among dpi all place command first.running.items r.situation) r.situation (Err fault) last now then
+    → HandsOver takes dpi whole (Err fault) old then
+command_stopped {S} takes dpi end all whole place command commands first last old now then fault r on =
+    let s = r.situation in
+    stopped_on takes dpi all whole (next_step dpi all place command s) (rest_of_job dpi end all (place + 1) commands) s last old now then
+    fault r.handed (sym (rest_next dpi end all place command commands s) ∙ r.same) (rest_grows dpi end all (place + 1) commands)
+    (goes_to takes dpi all (begun_among dpi all place command first.running.items s) (next_step dpi all place command s) s (Err fault) last
+    now then (begun_alone dpi all place command s first.running.items r.idle) on)
+
+-- what a command has led to, whose macros are still to be performed
+pub record HasBegun {S : Type 0} (takes : S → Page → S → Type 0) (dpi : Dpi) (end : ℕ) (all : List Said) (whole : Performance) (place : ℕ)
+    (command : Said) (commands : List Said) (middle : Interpreter) (old now then : S) : Type 0 where
+  pub from : Situation
+  pub handed : Hands takes dpi from.pages old now
+  pub same : rest_of_job dpi end all place (command ∷ commands) from ≡ whole
+  pub on : GoesOn takes dpi all (next_step dpi all place command from) from (Ok tt) middle now then
+
+pub has_begun : {S : Type 0} (takes : S → Page → S → Type 0) (dpi : Dpi) (end : ℕ) (all : List Said) (whole : Performance)
+    (place : ℕ) (command : Said) (commands : List Said) (first middle : Interpreter) (old now then : S)
+    → (r : IsReached takes dpi whole (rest_of_job dpi end all place (command ∷ commands)) first old now)
+    → GoesOn takes dpi all (begun_among dpi all place command first.running.items r.situation) r.situation (Ok tt) middle now then
+    → HasBegun takes dpi end all whole place command commands middle old now then
+has_begun {S} takes dpi end all whole place command commands first middle old now then r on = record {
+  from = r.situation;
+  handed = r.handed;
+  same = r.same;
+  on = goes_to takes dpi all (begun_among dpi all place command first.running.items r.situation)
+      (next_step dpi all place command r.situation) r.situation (Ok tt) middle now then
+      (begun_alone dpi all place command r.situation first.running.items r.idle) on;
+}
+
+-- its macros, performed from there
+macros_on : {S : Type 0} (takes : S → Page → S → Type 0) (dpi : Dpi) (end : ℕ) (all : List Said) (whole : Performance)
+    (place : ℕ) (command : Said) (commands : List Said) (middle last : Interpreter) (old now then later : S)
+    (result : Result (Unit {0}) JobFault)
+    → (b : HasBegun takes dpi end all whole place command commands middle old now then)
+    → ((s : Situation) → IsAt dpi s middle
+    → GoesOn takes dpi all (resumed macro_limit dpi all middle.running.items s) s result last then later)
+    → GoesOn takes dpi all (next_step dpi all place command b.from) b.from result last now later
+macros_on {S} takes dpi end all whole place command commands middle last old now then later result b f =
+    let g = b.on in
+    goes_from takes dpi all (next_step dpi all place command b.from) b.from g.0 result last now then later g.2
+    (goes_to takes dpi all (resumed macro_limit dpi all middle.running.items g.0) (next_step dpi all place command b.from) g.0 result last
+    then later g.3 (f g.0 g.1))
+
+pub macros_stopped : {S : Type 0} (takes : S → Page → S → Type 0) (dpi : Dpi) (end : ℕ) (all : List Said) (whole : Performance)
+    (place : ℕ) (command : Said) (commands : List Said) (middle last : Interpreter) (old now then later : S) (fault : JobFault)
+    → (b : HasBegun takes dpi end all whole place command commands middle old now then)
+    → ((s : Situation) → IsAt dpi s middle
+    → GoesOn takes dpi all (resumed macro_limit dpi all middle.running.items s) s (Err fault) last then later)
+    → HandsOver takes dpi whole (Err fault) old later
+macros_stopped {S} takes dpi end all whole place command commands middle last old now then later fault b f =
+    stopped_on takes dpi all whole (next_step dpi all place command b.from) (rest_of_job dpi end all (place + 1) commands) b.from last old
+    now later fault b.handed (sym (rest_next dpi end all place command commands b.from) ∙ b.same)
+    (rest_grows dpi end all (place + 1) commands)
+    (macros_on takes dpi end all whole place command commands middle last old now then later (Err fault) b f)
+
+pub macros_reached : {S : Type 0} (takes : S → Page → S → Type 0) (dpi : Dpi) (end : ℕ) (all : List Said) (whole : Performance)
+    (place : ℕ) (command : Said) (commands : List Said) (middle last : Interpreter) (old now then later : S)
+    → (b : HasBegun takes dpi end all whole place command commands middle old now then)
+    → ((s : Situation) → IsAt dpi s middle
+    → GoesOn takes dpi all (resumed macro_limit dpi all middle.running.items s) s (Ok tt) last then later)
+    → last.running.items ≡ []
+    → IsReached takes dpi whole (rest_of_job dpi end all (place + 1) commands) last old later
+macros_reached {S} takes dpi end all whole place command commands middle last old now then later b f idle =
+    let g = macros_on takes dpi end all whole place command commands middle last old now then later (Ok tt) b f in
+    let all_done : done g.0 ≡ next_step dpi all place command b.from =
+    ap (λ (rs : List Running). resumed macro_limit dpi all rs g.0) (sym idle) ∙ g.3 in
     record {
-      history = history;
-      is_in = subst (λ (z : Situation). IsIn dpi z later) (sym at) t.5;
-      handed = subst (λ (z : Situation). Hands takes dpi z.pages old then) (sym at)
-          (hands_further takes dpi s t.1 old now then r.handed t.6);
-      same = sym (performed_next dpi end r.history command rest t.0 t.2 t.4) ∙ r.same;
+      situation = g.0;
+      is_at = g.1;
+      idle = idle;
+      handed = hands_further takes dpi b.from g.0 old now later b.handed g.2;
+      same = ap (λ (p : Performance). then_on p (rest_of_job dpi end all (place + 1) commands)) all_done
+          ∙ sym (rest_next dpi end all place command commands b.from) ∙ b.same;
     }
 
-refused_reached : {S : Type 0} (takes : S → Page → S → Type 0) (dpi : Dpi) (end : ℕ) (whole : Performance) (command : Said)
-    (rest : List Said) (performer : Performer) (old now then : S) (kind : Kind)
-    → (r : IsReached takes dpi end whole (command ∷ rest) performer old now)
-    → command_refusal dpi command (situation dpi r.history) ≡ Some kind → then ≡ now
-    → HandsOver takes dpi whole (Err (Refused (refusal kind command.at command.name))) old then
-refused_reached {S} takes dpi end whole command rest performer old now then kind r some same =
-    let stops = sym r.same ∙ refused_next dpi end r.history command rest kind some in (
-      ap (λ (p : Performance). p.refusal) stops,
-      subst (λ (p : Performance). Hands takes dpi (pages_of dpi p) old then) (sym stops)
-          (subst (λ (x : S). Hands takes dpi (situation dpi r.history).pages old x) (sym same) r.handed),
-    )
-
--- memory ran out: the sink has a front of the pages
-short_reached : {S : Type 0} (takes : S → Page → S → Type 0) (dpi : Dpi) (end : ℕ) (whole : Performance) (rest : List Said)
-    (history : History) (old then : S)
-    → performance dpi end history rest ≡ whole
-    → Hands takes dpi (situation dpi history).pages old then → HandsOver takes dpi whole (Err Memory) old then
-short_reached {S} takes dpi end whole rest history old then same h =
-    let e = extends dpi end history rest in
-    ((situation dpi history).pages, e.0, ap (λ (p : Performance). pages_of dpi p) (sym same) ∙ e.1, h)
-
-memory_reached : {S : Type 0} (takes : S → Page → S → Type 0) (dpi : Dpi) (end : ℕ) (whole : Performance) (command : Said)
-    (rest : List Said) (performer later : Performer) (old now then : S)
-    → (r : IsReached takes dpi end whole (command ∷ rest) performer old now)
-    → IsTried takes dpi command (situation dpi r.history) (Err call.Memory) later now then
-    → HandsOver takes dpi whole (Err Memory) old then
-memory_reached {S} takes dpi end whole command rest performer later old now then r t =
-    elim t [
-      | inl same ↦ short_reached takes dpi end whole (command ∷ rest) r.history old then r.same
-          (subst (λ (x : S). Hands takes dpi (situation dpi r.history).pages old x) (sym same) r.handed)
-      | inr d ↦
-          let s = situation dpi r.history in
-          let at : situation dpi (performed d.0 command ∷ r.history) ≡ d.1 = situation_next dpi r.history command d.0 d.1 d.3 in
-          short_reached takes dpi end whole rest (performed d.0 command ∷ r.history)
-          old then (sym (performed_next dpi end r.history command rest d.0 d.2 d.4) ∙ r.same)
-          (subst (λ (z : Situation). Hands takes dpi z.pages old then) (sym at) (hands_further takes dpi s d.1 old now then r.handed d.5))
-    ]
-
-fault_by : {S : Type 0} (takes : S → Page → S → Type 0) (dpi : Dpi) (end : ℕ) (whole : Performance) (command : Said) (rest : List Said)
-    (performer later : Performer) (old now then : S) (tried : Result (Unit {0}) CallFault)
-    → (r : IsReached takes dpi end whole (command ∷ rest) performer old now)
-    → IsTried takes dpi command (situation dpi r.history) tried later now then
-    → (fault : JobFault) → Err fault ≡ result_of command tried → HandsOver takes dpi whole (Err fault) old then
-fault_by {S} takes dpi end whole command rest performer later old now then (Ok unit) r t fault e = absurd cc
-fault_by {S} takes dpi end whole command rest performer later old now then (Err (call.Refused kind)) r t fault e =
-    let is : Refused (refusal kind command.at command.name) ≡ fault = cc in
-    subst (λ (f : JobFault). HandsOver takes dpi whole (Err f) old then) is
-    (refused_reached takes dpi end whole command rest performer old now then kind r t.0 t.1)
-fault_by {S} takes dpi end whole command rest performer later old now then (Err call.Memory) r t fault e =
-    let is : Memory ≡ fault = cc in
-    subst (λ (f : JobFault). HandsOver takes dpi whole (Err f) old then) is
-    (memory_reached takes dpi end whole command rest performer later old now then r t)
-
-pub fault_reached : {S : Type 0} (takes : S → Page → S → Type 0) (dpi : Dpi) (end : ℕ) (whole : Performance) (command : Said)
-    (rest : List Said) (performer later : Performer) (old now then : S) (fault : JobFault)
-    → IsReached takes dpi end whole (command ∷ rest) performer old now
-    → ((s : Situation) → IsIn dpi s performer → CommandDone takes dpi command s (Err fault) later now then)
-    → HandsOver takes dpi whole (Err fault) old then
-fault_reached {S} takes dpi end whole command rest performer later old now then fault r step =
-    let c = step (situation dpi r.history) r.is_in in
-    fault_by takes dpi end whole command rest performer later old now then c.0 r c.2 fault c.1
-
-pub end_reached : {S : Type 0} (takes : S → Page → S → Type 0) (dpi : Dpi) (end : ℕ) (whole : Performance) (performer : Performer)
-    (old now then : S) (result : Result (Unit {0}) JobFault)
-    → IsReached takes dpi end whole [] performer old now
-    → ((dpi : Dpi) (s : Situation) → IsIn dpi s performer → EndDone takes dpi end s result now then)
+-- the end of the input
+pub end_reached : {S : Type 0} (takes : S → Page → S → Type 0) (dpi : Dpi) (end : ℕ) (all : List Said) (whole : Performance) (place : ℕ)
+    (interpreter : Interpreter) (old now then : S) (result : Result (Unit {0}) JobFault)
+    → IsReached takes dpi whole (rest_of_job dpi end all place []) interpreter old now
+    → ((dpi : Dpi) (s : Situation) → IsAt dpi s interpreter → InterpreterEnds takes dpi end s result now then)
     → HandsOver takes dpi whole result old then
-end_reached {S} takes dpi end whole performer old now then (Ok done) r step =
-    let s = situation dpi r.history in
-    let d = step dpi s r.is_in in
-    let ends : whole ≡ record { history = ended ∷ r.history; refusal = None } = sym r.same ∙ ap (after_end end r.history) d.0 in (
-      ap (λ (p : Performance). p.refusal) ends,
-      subst (λ (p : Performance). Hands takes dpi (pages_of dpi p) old then) (sym ends)
-          (hands_further takes dpi s (at_end dpi s) old now then r.handed d.1),
-    )
-end_reached {S} takes dpi end whole performer old now then (Err (Refused why)) r step =
-    let s = situation dpi r.history in
-    let d = step dpi s r.is_in in
-    let stops : whole ≡ record { history = r.history; refusal = Some (refusal d.0 end Empty) } =
-    sym r.same ∙ ap (after_end end r.history) d.1 in (
-      ap (λ (p : Performance). p.refusal) stops ∙ ap (λ (f : Refusal). Some f) (sym d.2),
-      subst (λ (p : Performance). Hands takes dpi (pages_of dpi p) old then) (sym stops)
-          (subst (λ (x : S). Hands takes dpi s.pages old x) (sym d.3) r.handed),
-    )
-end_reached {S} takes dpi end whole performer old now then (Err Memory) r step =
-    short_reached takes dpi end whole [] r.history old then r.same
-    (subst (λ (x : S). Hands takes dpi (situation dpi r.history).pages old x) (sym (step dpi (situation dpi r.history) r.is_in)) r.handed)
+end_reached {S} takes dpi end all whole place interpreter old now then (Ok unit) r step =
+    let s = r.situation in
+    let d = step dpi s r.is_at in
+    let ends : whole ≡ done (at_end dpi s) = sym r.same ∙ ap (λ (why : Option Kind). ended dpi end why s) d.0 in
+    subst (λ (p : Performance). HandsOver takes dpi p (Ok unit) old then) (sym ends)
+    (refl, hands_further takes dpi s (at_end dpi s) old now then r.handed d.1)
+end_reached {S} takes dpi end all whole place interpreter old now then (Err (Refused why)) r step =
+    let s = r.situation in
+    let d = step dpi s r.is_at in
+    let stops : whole ≡ record { situation = s; refusal = Some (refusal d.0 end Empty) } =
+    sym r.same ∙ ap (λ (o : Option Kind). ended dpi end o s) d.1 in
+    subst (λ (p : Performance). HandsOver takes dpi p (Err (Refused why)) old then) (sym stops)
+    (ap (λ (f : Refusal). Some f) (sym d.2), subst (λ (x : S). Hands takes dpi s.pages old x) (sym d.3) r.handed)
+end_reached {S} takes dpi end all whole place interpreter old now then (Err Memory) r step =
+    let s = r.situation in
+    let o = end_grows dpi end s in
+    subst (λ (p : Performance). HandsOver takes dpi p (Err Memory) old then) r.same
+    (s.pages, o.0, o.1, subst (λ (x : S). Hands takes dpi s.pages old x) (sym (step dpi s r.is_at)) r.handed)
+
+-- what is performed of a job that is read is delivered
+pub delivered : {S : Type 0} (takes : S → Page → S → Type 0) (dpi : Dpi) (job : List ℕ) (commands : List Said)
+    (result : Result (Unit {0}) JobFault) (old new : S) → IsReading job commands
+    → HandsOver takes dpi (performance_of dpi job commands) result old new → Delivers takes dpi job result old new
+delivered {S} takes dpi job commands (Ok unit) old new reading handed =
+    record { commands = commands; reading = reading; handed = handed }
+delivered {S} takes dpi job commands (Err (Refused why)) old new reading handed =
+    inr (record { commands = commands; reading = reading; handed = handed })
+delivered {S} takes dpi job commands (Err Memory) old new reading handed =
+    inr (record { commands = commands; reading = reading; handed = handed })
 
 -- ---- pages that were kept
 
 -- the pages of an accepted job that was performed
 abbrev pub accepted_pages : {S : Type 0} {takes : S → Page → S → Type 0} {dpi : Dpi} {job : List ℕ} {done : Unit {0}} {old new : S}
     → IsPerformed takes dpi job (Ok done) old new → List Sheet
-accepted_pages {S} {takes} {dpi} {job} {done} {old} {new} p = pages_of dpi (performance_of dpi job p.commands)
+accepted_pages {S} {takes} {dpi} {job} {done} {old} {new} p = pages_of (performance_of dpi job p.commands)
 
 pub has_pages : {S : Type 0} {takes : S → Page → S → Type 0} {dpi : Dpi} {job : List ℕ} {done : Unit {0}} {old new : S}
     → (p : IsPerformed takes dpi job (Ok done) old new) → HasPages dpi job (accepted_pages p)

@@ -1,6 +1,12 @@
 pub mod Pads
 pub mod Painted
 pub mod Sizes
+pub mod Turns
+pub mod Keeping
+pub mod Sinks
 pub mod Steps
+pub mod Unfolded
+pub mod Interpreted
+pub mod Progress
 pub mod Jobs
 pub mod Printed

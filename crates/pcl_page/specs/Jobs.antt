@@ -9,19 +9,19 @@ use Rattle.pcl_escape.specs.Said.{Said}
 use Rattle.pcl_escape.specs.Pieces.{IsReading}
 use Rattle.pcl_escape.specs.Faults.{IsFault}
 use Rattle.pcl_page.specs.declared.page.Page.{Page}
-use Rattle.pcl_page.specs.History.{Sheet}
+use Rattle.pcl_page.specs.Situation.{Sheet}
 use Rattle.pcl_page.specs.Performing.{Shows, Performance, performance, pages_of, HandsOver}
 
 -- what is performed of a job whose reading is these commands
 abbrev pub performance_of : Dpi → List ℕ → List Said → Performance
-performance_of dpi job commands = performance dpi (length job) [] commands
+performance_of dpi job commands = performance dpi (length job) commands
 
 -- the job is accepted, and these are its pages
 pub record HasPages (dpi : Dpi) (job : List ℕ) (pages : List Sheet) : Type 0 where
   pub commands : List Said
   pub reading : IsReading job commands
   pub accepted : (performance_of dpi job commands).refusal ≡ None
-  pub ejected : pages ≡ pages_of dpi (performance_of dpi job commands)
+  pub ejected : pages ≡ pages_of (performance_of dpi job commands)
 
 -- the job is read, and the performing refuses it
 pub record IsStopped (dpi : Dpi) (job : List ℕ) (refusal : Refusal) : Type 0 where

@@ -1,7 +1,9 @@
 pub mod Marks
 pub mod Text
 pub mod Raster
-pub mod History
+pub mod Situation
+pub mod Macros
 pub mod Performing
 pub mod Reflecting
+pub mod Unfolding
 pub mod Jobs

@@ -1,20 +1,21 @@
 -- What performing a job does: how far it comes, what it refuses, and which pages it hands over.
-use Rattle.std.specs.Prelude.{◌≡◌, ℕ, ◌<◌, List, [], ◌∷◌, ◌++◌, Option, Some, None, Result, Ok, Err}
+use Rattle.std.specs.Prelude.{◌≡◌, ℕ, zero, suc, ◌+◌, ◌-◌, ◌<◌, is_some, if◌then◌else◌, List, [], ◌∷◌, ◌++◌, take, drop, Option, Some, None, Result, Ok, Err}
 use Rattle.pcl_base.specs.declared.dpi.Dpi.{Dpi}
 use Rattle.pcl_base.specs.declared.fault.JobFault.{JobFault}
 use Rattle.pcl_base.specs.declared.fault.JobFault.TheVariants.{Refused, Memory}
 use Rattle.pcl_base.specs.declared.kind.Kind.{Kind}
+use Rattle.pcl_base.specs.declared.kind.Kind.TheVariants.{MacroOpen, MacroDepth}
 use Rattle.pcl_base.specs.declared.name.Name.TheVariants.{Empty}
-use Rattle.pcl_base.specs.declared.operation.Operation.{Operation}
 use Rattle.pcl_base.specs.declared.refusal.Refusal.{Refusal}
-use Rattle.pcl_base.specs.Operation.{operation_of}
+use Rattle.pcl_base.specs.Limits.{macro_limit}
 use Rattle.pcl_base.specs.Refusal.{refusal}
 use Rattle.pcl_base.specs.Size.{page_width, page_height}
 use Rattle.pcl_bitmap.specs.Bitmap.{dot}
 use Rattle.pcl_escape.specs.Said.{Said}
 use Rattle.pcl_page.specs.declared.page.Page.{Page}
 use Rattle.pcl_page.specs.Marks.{is_black}
-use Rattle.pcl_page.specs.History.{History, performed, ended, Sheet, situation, at_end, page_refusal, command_refusal}
+use Rattle.pcl_page.specs.Situation.{Sheet, Situation, at_begin, at_end, page_refusal}
+use Rattle.pcl_page.specs.Macros.{Run, after_command, run_of, left}
 
 -- ---- pages handed over
 
@@ -38,55 +39,91 @@ Hands {S} takes dpi [] old new = new ≡ old
 Hands {S} takes dpi (sheet ∷ later) old new =
     (page : Page) × (mid : S) × Shows dpi page sheet × takes old page mid × Hands takes dpi later mid new
 
--- ---- whole jobs
+-- ---- commands in order
 
--- what was performed of a job, and why it stopped there, if it did
+-- where performing has led, and why it stopped there, if it did
 pub record Performance : Type 0 where
-  pub history : History
+  pub situation : Situation
   pub refusal : Option Refusal
 
+abbrev pub done : Situation → Performance
+done s = record { situation = s; refusal = None }
+
+-- the refusal of a command names it
+abbrev pub stopped : Kind → Said → Situation → Performance
+stopped kind command s = record { situation = s; refusal = Some (refusal kind command.at command.name) }
+
 -- what is performed next follows only where nothing was refused
-abbrev pub unless : Option Refusal → History → (History → Performance) → Performance
-unless None history rest = rest history
-unless (Some why) history rest = record { history = history; refusal = Some why }
+abbrev pub unless : Option Refusal → Situation → (Situation → Performance) → Performance
+unless None s next = next s
+unless (Some why) s next = record { situation = s; refusal = Some why }
 
-abbrev pub then_on : Performance → (History → Performance) → Performance
-then_on first rest = unless first.refusal first.history rest
+abbrev pub then_on : Performance → (Situation → Performance) → Performance
+then_on first next = unless first.refusal first.situation next
 
-abbrev pub with_operation : Option Operation → Said → History → History
-with_operation None command history = history
-with_operation (Some operation) command history = performed operation command ∷ history
+-- commands in order, of which the first stands at this place
+abbrev pub in_order : (ℕ → Said → Situation → Performance) → ℕ → List Said → Situation → Performance
+in_order step place [] s = done s
+in_order step place (command ∷ commands) s = then_on (step place command s) (in_order step (place + 1) commands)
 
--- a command, by why it is refused
-abbrev pub after_command : Said → History → Option Kind → Performance
-after_command command history None = record { history = with_operation (operation_of command.name) command history; refusal = None }
-after_command command history (Some kind) = record { history = history; refusal = Some (refusal kind command.at command.name) }
+-- a command by what it led to; a refused one leaves the situation as it was before it
+abbrev pub concluded : Said → Situation → Result Situation Kind → Performance
+concluded command s (Ok later) = done later
+concluded command s (Err kind) = stopped kind command s
 
--- commands in order, up to the first refused one
-abbrev pub after_all : Dpi → List Said → History → Performance
-after_all dpi [] history = record { history = history; refusal = None }
-after_all dpi (command ∷ commands) history =
-    then_on (after_command command history (command_refusal dpi command (situation dpi history))) (after_all dpi commands)
+-- ---- macros
+
+-- what a command does, and then the macro that it runs, if any, by what running a macro does
+abbrev pub and_run : (Run → Situation → Performance) → Option Run → Situation → Performance
+and_run runs None s = done s
+and_run runs (Some run) s = runs run s
+
+abbrev pub step : Dpi → (Said → Run → Situation → Performance) → ℕ → Said → Situation → Performance
+step dpi runs place command s =
+    then_on (concluded command s (after_command dpi place command s)) (λ later. and_run (runs command) (run_of command s later) later)
+
+-- the commands that a macro has left, among all commands of the job
+abbrev pub commands_left : List Said → Run → List Said
+commands_left all run = take (run.end - run.next) (drop run.next all)
+
+-- A macro that a command runs, with so many levels left: its commands in order, each with one level less, and then its end.
+-- Where no level is left the command is refused.
+abbrev pub runs : ℕ → Dpi → List Said → Said → Run → Situation → Performance
+runs zero dpi all command run s = stopped MacroDepth command s
+runs (suc levels) dpi all command run s =
+    then_on (in_order (step dpi (runs levels dpi all)) run.next (commands_left all run) s) (λ later. done (left dpi run.saved later))
+
+-- ---- whole jobs
+
+-- commands of the job from a place on
+abbrev pub after_all : Dpi → List Said → ℕ → List Said → Situation → Performance
+after_all dpi all place commands s = in_order (step dpi (runs macro_limit dpi all)) place commands s
+
+-- the input's end is refused in a definition
+abbrev pub end_refusal : Dpi → Situation → Option Kind
+end_refusal dpi s = if is_some s.begun then Some MacroOpen else page_refusal (at_end dpi s)
 
 -- the end of an input of this length, by why it is refused
-abbrev pub after_end : ℕ → History → Option Kind → Performance
-after_end end history None = record { history = ended ∷ history; refusal = None }
-after_end end history (Some kind) = record { history = history; refusal = Some (refusal kind end Empty) }
+abbrev pub ended : Dpi → ℕ → Option Kind → Situation → Performance
+ended dpi end None s = done (at_end dpi s)
+ended dpi end (Some kind) s = record { situation = s; refusal = Some (refusal kind end Empty) }
 
--- commands after a history, and then the end of the input
-abbrev pub performance : Dpi → ℕ → History → List Said → Performance
-performance dpi end history commands =
-    then_on (after_all dpi commands history) (λ all. after_end end all (page_refusal (at_end dpi (situation dpi all))))
+abbrev pub after_end : Dpi → ℕ → Situation → Performance
+after_end dpi end s = ended dpi end (end_refusal dpi s) s
+
+-- the commands of a job, and then the end of the input
+abbrev pub performance : Dpi → ℕ → List Said → Performance
+performance dpi end commands = then_on (after_all dpi commands 0 commands at_begin) (after_end dpi end)
 
 -- the pages that were ejected
-abbrev pub pages_of : Dpi → Performance → List Sheet
-pages_of dpi done = (situation dpi done.history).pages
+abbrev pub pages_of : Performance → List Sheet
+pages_of performance = performance.situation.pages
 
 -- the pages go to the sink: each of them where the job is accepted, those before the refused command, or the first of these
 -- where memory runs
 -- out
 abbrev pub HandsOver : {S : Type 0} → (S → Page → S → Type 0) → Dpi → Performance → Result (Unit {0}) JobFault → S → S → Type 0
-HandsOver {S} takes dpi done (Ok unit) old new = (done.refusal ≡ None) × Hands takes dpi (pages_of dpi done) old new
-HandsOver {S} takes dpi done (Err (Refused why)) old new = (done.refusal ≡ Some why) × Hands takes dpi (pages_of dpi done) old new
+HandsOver {S} takes dpi done (Ok unit) old new = (done.refusal ≡ None) × Hands takes dpi (pages_of done) old new
+HandsOver {S} takes dpi done (Err (Refused why)) old new = (done.refusal ≡ Some why) × Hands takes dpi (pages_of done) old new
 HandsOver {S} takes dpi done (Err Memory) old new =
-    (front rest : List Sheet) × (pages_of dpi done ≡ front ++ rest) × Hands takes dpi front old new
+    (front rest : List Sheet) × (pages_of done ≡ front ++ rest) × Hands takes dpi front old new

@@ -24,7 +24,7 @@ use Rattle.pcl_page.specs.declared.performer.Performer.{Performer}
 use Rattle.pcl_bitmap.specs.Dots.{is_black_ink}
 use Rattle.pcl_page.specs.Marks.{Mark, is_black}
 use Rattle.pcl_page.specs.Raster.{Raster, row_sent, with_row, row_mark, ends_raster}
-use Rattle.pcl_page.specs.History.{Sheet, Situation, raster_for_row, settings_below, is_marked, turned, at_end, page_refusal, command_refusal, after}
+use Rattle.pcl_page.specs.Situation.{Sheet, Situation, raster_for_row, settings_below, is_marked, turned, at_end, page_refusal, command_refusal, after}
 use Rattle.pcl_page.specs.Performing.{Hands}
 
 -- a bitmap of this size shows marks
@@ -171,11 +171,10 @@ IsTurned {S} takes dpi (Some done) s (Err Memory) new old_sink new_sink =
     ⊎ ((page_refusal (turned done.0 done.1 s) ≡ None) × HandsMore takes dpi s (turned done.0 done.1 s) old_sink new_sink)
 
 -- a command was performed, or it is refused, or memory ran out, before the page was handed over that it ejects or after that
-abbrev pub IsTried : {S : Type 0} → (S → Page → S → Type 0) → Dpi → Said → Situation → Result (Unit {0}) CallFault → Performer → S → S
+abbrev pub IsTried : {S : Type 0} → (S → Page → S → Type 0) → Dpi → Said → Situation → Result Operation CallFault → Performer → S → S
     → Type 0
-IsTried {S} takes dpi command s (Ok unit) new old_sink new_sink =
-    (operation : Operation) × (later : Situation) × (operation_of command.name ≡ Some operation)
-    × (after dpi operation command s ≡ Ok later)
+IsTried {S} takes dpi command s (Ok operation) new old_sink new_sink =
+    (later : Situation) × (operation_of command.name ≡ Some operation) × (after dpi operation command s ≡ Ok later)
     × (command_refusal dpi command s ≡ None) × IsIn dpi later new × HandsMore takes dpi s later old_sink new_sink
 IsTried {S} takes dpi command s (Err (Refused kind)) new old_sink new_sink =
     (command_refusal dpi command s ≡ Some kind) × (new_sink ≡ old_sink)
@@ -184,20 +183,6 @@ IsTried {S} takes dpi command s (Err Memory) new old_sink new_sink =
     ⊎ ((operation : Operation) × (later : Situation) × (operation_of command.name ≡ Some operation)
     × (after dpi operation command s ≡ Ok later)
     × (command_refusal dpi command s ≡ None) × HandsMore takes dpi s later old_sink new_sink)
-
--- the refusal of a command names it
-abbrev pub fault_of : Said → CallFault → JobFault
-fault_of command (Refused kind) = job.Refused (refusal kind command.at command.name)
-fault_of command Memory = job.Memory
-
-abbrev pub result_of : Said → Result (Unit {0}) CallFault → Result (Unit {0}) JobFault
-result_of command (Ok unit) = Ok unit
-result_of command (Err fault) = Err (fault_of command fault)
-
-abbrev pub CommandDone : {S : Type 0} → (S → Page → S → Type 0) → Dpi → Said → Situation → Result (Unit {0}) JobFault → Performer → S → S
-    → Type 0
-CommandDone {S} takes dpi command s result new old_sink new_sink =
-    (tried : Result (Unit {0}) CallFault) × (result ≡ result_of command tried) × IsTried takes dpi command s tried new old_sink new_sink
 
 -- the input's end was performed, or it is refused at the end with the empty name, or memory ran out
 abbrev pub EndDone : {S : Type 0} → (S → Page → S → Type 0) → Dpi → ℕ → Situation → Result (Unit {0}) JobFault → S → S → Type 0

@@ -12,7 +12,7 @@ impl<'a> Performer<'a> {
     ghost use Rattle.pcl_base.specs.declared.dpi.Dpi.{Dpi};
     ghost use Rattle.pcl_fonts.specs.History.{control, font_after};
     ghost use Rattle.pcl_page.specs.Text.{select_by_id, header_refusal, character_refusal};
-    ghost use Rattle.pcl_page.specs.History.{Situation, with_font, with_character, fonts_controlled, without_temporary};
+    ghost use Rattle.pcl_page.specs.Situation.{Situation, with_font, with_character, fonts_controlled, without_temporary};
     ghost use Rattle.pcl_page.specs.Reflecting.{IsIn, HasEvent, HasSettings, Draws};
 
     /// Takes the header of a font for the ID that is meant. Without data nothing happens.

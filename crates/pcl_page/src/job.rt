@@ -2,13 +2,13 @@
 
 ghost use Rattle.pcl_escape.specs.Said.{views};
 ghost use Rattle.pcl_page.specs.Performing.{HandsOver, performance};
-ghost use Rattle.std.specs.Prelude.{◌≡◌, [], ℕ, List};
+ghost use Rattle.std.specs.Prelude.{◌≡◌, ℕ, List};
 ghost use Rattle.pcl_base.specs.declared.dpi.Dpi.{Dpi};
 ghost use Rattle.pcl_base.specs.declared.refusal.Refusal.{Refusal};
-ghost use Rattle.pcl_page.specs.History.{Sheet};
+ghost use Rattle.pcl_page.specs.Situation.{Sheet};
 ghost use Rattle.pcl_page.specs.Jobs.{HasPages, IsRefusal, Delivers, IsPagesOf};
 
-use crate::performer::Performer;
+use crate::interpreter::Interpreter;
 use crate::{Page, PageSink};
 use pcl_base::{Dpi, JobFault};
 use pcl_escape::{Command, one_outcome, read_job};
@@ -26,13 +26,14 @@ pub fn run<'a, S: PageSink>(
     dpi: Dpi,
     sink: &mut S,
 ) -> Result<(), JobFault>
-    ensures { HandsOver S.takes dpi (performance dpi end [] (views commands.now)) result sink.old sink.new }
+    ensures { HandsOver S.takes dpi (performance dpi end (views commands.now)) result sink.old sink.new }
 {
-    let mut performer = Performer::new(alloc, dpi)?;
-    for command in commands {
-        performer.perform_command(command, dpi, sink)?;
+    let mut interpreter = Interpreter::new(alloc, dpi)?;
+    for (place, command) in commands.iter().enumerate() {
+        interpreter.perform_at(command, place, dpi, sink)?;
+        interpreter.run_macros(commands, dpi, sink)?;
     }
-    performer.finish(end, sink)
+    interpreter.finish(end, sink)
 }
 
 /// Reads a job, performs it, and hands its pages to the sink, in order, each once. A refusal is the job's:

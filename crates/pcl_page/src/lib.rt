@@ -2,7 +2,9 @@
 #![tactic(auto)]
 
 mod fonts;
+mod interpreter;
 mod job;
+mod macros;
 mod page;
 mod performer;
 mod raster;

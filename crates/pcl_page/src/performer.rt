@@ -10,7 +10,7 @@ use pcl_base::{
     Value,
 };
 use pcl_bitmap::{Bitmap, Ink};
-use pcl_env::{Effect, Env};
+use pcl_env::{Effect, Env, Saved};
 use pcl_escape::Command;
 use pcl_fonts::Fonts;
 use std::alloc::{AllocError, Global};
@@ -35,6 +35,7 @@ pub struct Performer<'a> {
     /// Where pages and rasters take their memory.
     pub alloc: Global,
     ghost few_pages: { ejected ≤ 256 },
+    ghost few_commands: { performed ≤ 100000000 },
     ghost few_rows: { rows_in raster ≤ 2 ^ 20 * performed },
 }
 
@@ -46,9 +47,10 @@ impl<'a> Performer<'a> {
     ghost use Rattle.pcl_base.specs.declared.dpi.Dpi.{Dpi};
     ghost use Rattle.pcl_escape.specs.Said.{Said, view};
     ghost use Rattle.pcl_env.specs.Outcome.{outcome};
-    ghost use Rattle.pcl_page.specs.History.{Situation, at_begin, is_marked, drawn, draw_refusal, rectangle_mark, skipped_in};
+    ghost use Rattle.pcl_page.specs.Situation.{Situation, at_begin, is_marked, drawn, draw_refusal, rectangle_mark, skipped_in};
+    ghost use Rattle.pcl_page.specs.Macros.{left};
     ghost use Rattle.pcl_page.specs.declared.page.Page.{Page};
-    ghost use Rattle.pcl_page.specs.Reflecting.{IsIn, IsPrepared, HasRaster, Takes, IsFollowed, IsEjected, IsDrawn, Draws, IsSent, IsTurned, IsTried, CommandDone, EndDone};
+    ghost use Rattle.pcl_page.specs.Reflecting.{IsIn, IsPrepared, HasRaster, Takes, IsFollowed, IsEjected, IsDrawn, Draws, IsSent, IsTurned, IsTried, EndDone};
 
     /// The begin of a job: a white page, and the defaults.
     pub fn new(alloc: Global, dpi: Dpi) -> Result<Performer<'a>, AllocError>
@@ -73,33 +75,14 @@ impl<'a> Performer<'a> {
         })
     }
 
-    /// Performs a command, and hands over the page that it ejects.
-    pub fn perform_command<S: PageSink>(
+    /// Performs a command, but for what it does to macros, and hands over the page that it ejects. Gives what the command
+    /// does, or why it is refused.
+    pub fn try_command<S: PageSink>(
         &mut self,
         command: &Command<'a>,
         dpi: Dpi,
         sink: &mut S,
-    ) -> Result<(), JobFault>
-        ensures { (s : Situation) → IsIn dpi s self.old → CommandDone S.takes dpi (view command.now) s result self.new sink.old sink.new }
-    {
-        match self.try_command(command, dpi, sink) {
-            Ok(()) => Ok(()),
-            Err(CallFault::Refused(kind)) => Err(JobFault::Refused(Refusal::new(
-                kind,
-                command.at,
-                command.name,
-            ))),
-            Err(CallFault::Memory) => Err(JobFault::Memory),
-        }
-    }
-
-    /// Performs a command, or says why it is refused.
-    fn try_command<S: PageSink>(
-        &mut self,
-        command: &Command<'a>,
-        dpi: Dpi,
-        sink: &mut S,
-    ) -> Result<(), CallFault>
+    ) -> Result<Operation, CallFault>
         ensures { (s : Situation) → IsIn dpi s self.old → IsTried S.takes dpi (view command.now) s result self.new sink.old sink.new }
     {
         if self.performed >= COMMAND_LIMIT {
@@ -110,12 +93,12 @@ impl<'a> Performer<'a> {
         };
         self.performed += 1;
         if self.is_ignored(operation) {
-            return Ok(());
+            return Ok(operation);
         }
         self.prepare(operation, dpi);
         self.turn(operation, command.value, dpi, sink)?;
         self.draw(operation, command, dpi)?;
-        Ok(())
+        Ok(operation)
     }
 
     /// Whether a raster has begun that ignores the command.
@@ -126,8 +109,7 @@ impl<'a> Performer<'a> {
     }
 
     /// Ends a raster that has begun and that the command ends: the cursor stands below its last row.
-    fn prepare(&mut self, operation: Operation, dpi: Dpi)
-        requires { self.old.performed ≤ 2 ^ 27 }
+    pub fn prepare(&mut self, operation: Operation, dpi: Dpi)
         ensures { IsPrepared dpi operation self.old self.new }
     {
         if !ends_raster(operation) {
@@ -138,6 +120,15 @@ impl<'a> Performer<'a> {
             self.environment.move_to(x, y);
         }
         self.raster = None;
+    }
+
+    /// Does what the end of a macro call does: it ends a raster, and puts back what was set before the call.
+    pub fn end_call(&mut self, saved: Saved, dpi: Dpi)
+        ensures situation { (s : Situation) → IsIn dpi s self.old → IsIn dpi (left dpi (Some saved) s) self.new }
+        ensures counts { self.new.performed ≡ self.old.performed }
+    {
+        self.prepare(Operation::EndRaster, dpi);
+        self.environment.restore(saved);
     }
 
     /// Sets what a command sets, and ejects the page where it says so: the page has the size and the
@@ -209,7 +200,6 @@ impl<'a> Performer<'a> {
         command: &Command<'a>,
         dpi: Dpi,
     ) -> Result<(), CallFault>
-        requires few { self.old.performed ≤ 2 ^ 27 }
         requires rows { rows_in self.old.raster + 2 ^ 20 ≤ 2 ^ 20 * self.old.performed }
         ensures { (s : Situation) → IsIn dpi s self.old
             → Draws dpi (draw_refusal operation (view command.now) s) (drawn dpi operation (view command.now) s) result self.new }
@@ -260,7 +250,6 @@ impl<'a> Performer<'a> {
 
     /// Skips rows of the raster that has begun; outside one it does nothing.
     fn skip_rows(&mut self, value: Value)
-        requires few { self.old.performed ≤ 2 ^ 27 }
         requires rows { rows_in self.old.raster + 2 ^ 20 ≤ 2 ^ 20 * self.old.performed }
         ensures { HasRaster (skipped_in (whole_of value) self.old.raster) self.old self.new }
     {
@@ -271,7 +260,6 @@ impl<'a> Performer<'a> {
 
     /// Sends a row to the raster that has begun, or to one that starts at the page's left edge.
     fn send_row(&mut self, bytes: &[u8], dpi: Dpi) -> Result<(), AllocError>
-        requires few { self.old.performed ≤ 2 ^ 27 }
         requires rows { rows_in self.old.raster + 2 ^ 20 ≤ 2 ^ 20 * self.old.performed }
         ensures { OnOk result (IsSent dpi bytes.now self.old self.new) }
     {
@@ -302,7 +290,7 @@ impl<'a> Performer<'a> {
 }
 
 ghost use Rattle.std.specs.Prelude.{◌≡◌};
-ghost use Rattle.pcl_page.specs.History.{ejects, rectangle_ink};
+ghost use Rattle.pcl_page.specs.Situation.{ejects, rectangle_ink};
 
 /// Whether a page is ejected that is marked or not.
 fn ejects(effect: Effect, is_marked: bool) -> bool

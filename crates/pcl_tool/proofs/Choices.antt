@@ -7,7 +7,7 @@ use Rattle.std.specs.Option.{SomeIff}
 use Rattle.pcl_base.specs.declared.dpi.Dpi.{Dpi}
 use Rattle.pcl_bitmap.specs.Bitmap.{Picture}
 use Rattle.pcl_page.specs.declared.page.Page.{Page}
-use Rattle.pcl_page.specs.History.{Sheet}
+use Rattle.pcl_page.specs.Situation.{Sheet}
 use Rattle.pcl_page.specs.Performing.{Shows, Hands}
 use Rattle.pcl_tool.specs.declared.page_preview.Chosen.{Chosen}
 use Rattle.pcl_page.specs.Jobs.{HasPages}

@@ -48,6 +48,7 @@ impl Env {
             Operation::Move(axis, unit) => self.move_cursor(axis, unit, value),
             Operation::CursorStack => self.cursor_stack(value),
             Operation::MacroId => self.set_macro_id(value),
+            Operation::ControlMacros => stay_if(matches!(value.count(), Some(0..=3 | 6..=10))),
             Operation::RectangleSize(axis, unit) => self.set_rectangle_size(axis, unit, value),
             Operation::FillRectangle => stay_if(matches!(value.count(), Some(0 | 1 | 5))),
             Operation::FontId => self.set_font_id(value),

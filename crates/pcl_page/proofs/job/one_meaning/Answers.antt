@@ -8,7 +8,7 @@ use Rattle.pcl_page.proofs.job.one_meaning.Goals as goal
 
 pub returns-clause-pages : goal.returns-clause-pages
 returns-clause-pages c = λ dpi job pages others p q.
-    p.ejected ∙ ap (λ (commands : List Said). pages_of dpi (performance_of dpi job commands))
+    p.ejected ∙ ap (λ (commands : List Said). pages_of (performance_of dpi job commands))
     (c.one_outcome.ensures.reading job p.commands q.commands p.reading q.reading) ∙ sym q.ejected
 
 same_stop : (dpi : Dpi) (job : List ℕ) (refusal other : Refusal) (p : IsStopped dpi job refusal) (q : IsStopped dpi job other)

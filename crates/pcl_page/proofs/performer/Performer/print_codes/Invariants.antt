@@ -1,5 +1,5 @@
 use Rattle.std.proofs.Common.{drop}
-use Rattle.pcl_page.specs.History.{Situation}
+use Rattle.pcl_page.specs.Situation.{Situation}
 use Rattle.pcl_page.specs.Reflecting.{IsIn}
 use Rattle.pcl_page.proofs.Printed.{IsPrintedTo}
 use Rattle.pcl_page.proofs.performer.Performer.print_codes.Given as goal

@@ -2,7 +2,7 @@ use Rattle.std.proofs.Common.{◌≡◌, ◌∙◌, Bool, Option, Some, refl, sy
 use Rattle.pcl_base.specs.declared.method.Method.{Method}
 use Rattle.pcl_bitmap.specs.Bitmap.{dot}
 use Rattle.pcl_page.specs.Raster.{Raster, row_sent, with_row, row_mark}
-use Rattle.pcl_page.specs.History.{raster_for_row}
+use Rattle.pcl_page.specs.Situation.{raster_for_row}
 use Rattle.pcl_page.proofs.Painted.{or_is}
 use Rattle.pcl_page.proofs.performer.Performer.send_row.Goals as goal
 use Rattle.pcl_page.proofs.performer.Performer.send_row.Goals.{in-Some, in-None+in_ok-raster-in-None}

@@ -1,8 +1,9 @@
-use Rattle.std.proofs.Common.{◌<◌, ◌∙◌, Ok, Err, refl, sym, arith}
+use Rattle.std.proofs.Common.{◌<◌, ◌∙◌, refl, sym, arith}
 use Rattle.std.proofs.lemmas.Result.{err_from_is_err_and}
 use Rattle.pcl_escape.specs.Said.{view}
-use Rattle.pcl_page.specs.History.{counted, prepared}
-use Rattle.pcl_page.proofs.Steps.{counted_in, prepared_in, AtTurn, tried_ignored, tried_refused, gone, tried_drawn}
+use Rattle.pcl_page.specs.Situation.{counted, prepared}
+use Rattle.pcl_page.proofs.Turns.{prepared_in}
+use Rattle.pcl_page.proofs.Steps.{counted_in, AtTurn, tried_ignored, tried_refused, gone, tried_drawn, tried_undrawn}
 use Rattle.pcl_page.proofs.performer.Performer.try_command.Goals as goal
 
 pub returns-then-is_ignored : goal.returns-then-is_ignored
@@ -36,8 +37,8 @@ returns-in_err-draw g c = λ s i.
     (c.in_ok-turn.ensures.turned (prepared c.args.dpi c.in-Some.operation (counted s)) before) in
     let p = err_from_is_err_and c.from_residual-in_err-draw.result c.from_residual-in_err-draw.ensures.1 in
     rw (p.1, p.2)
-    (tried_drawn g.S.PageSink.takes c.args.dpi c.in-Some.operation (view c.args.command.now) s c.args.self.now c.turn.new.self
-    c.draw.new.self c.args.sink.now c.turn.new.sink a n (Err c.in_err-draw.field-0.0) (c.in_err-draw.ensures n.turned_to n.is_in))
+    (tried_undrawn g.S.PageSink.takes c.args.dpi c.in-Some.operation (view c.args.command.now) s c.args.self.now c.turn.new.self
+    c.draw.new.self c.args.sink.now c.turn.new.sink a n c.in_err-draw.field-0.0 (c.in_err-draw.ensures n.turned_to n.is_in))
 
 pub returns : goal.returns
 returns g c = λ s i.
@@ -50,4 +51,4 @@ returns g c = λ s i.
     c.args.sink.now c.turn.new.sink a
     (c.in_ok-turn.ensures.turned (prepared c.args.dpi c.in-Some.operation (counted s)) before) in
     tried_drawn g.S.PageSink.takes c.args.dpi c.in-Some.operation (view c.args.command.now) s c.args.self.now c.turn.new.self
-    c.draw.new.self c.args.sink.now c.turn.new.sink a n (Ok tt) (c.in_ok-draw.ensures n.turned_to n.is_in)
+    c.draw.new.self c.args.sink.now c.turn.new.sink a n (c.in_ok-draw.ensures n.turned_to n.is_in)

@@ -1,4 +1,4 @@
--- What was performed, newest first; all else about a job follows from it.
+-- Where a job stands, and what a command outside of macros makes of that.
 use Rattle.std.specs.Prelude.{ℕ, ◌+◌, ◌*◌, ◌==◌, ◌&&◌, is_some, Bool, true, false, nat_le, if◌then◌else◌, length, List, [], ◌∷◌, ◌++◌, Option, Some, None, Result, Ok, Err}
 use Rattle.pcl_base.specs.declared.dpi.Dpi.{Dpi}
 use Rattle.pcl_base.specs.declared.kind.Kind.{Kind}
@@ -22,18 +22,11 @@ use Rattle.pcl_env.specs.Outcome.{Outcome, outcome}
 use Rattle.pcl_fonts.specs.declared.fonts.FontControl.TheVariants.{Temporary}
 use Rattle.pcl_fonts.specs.Fields.{Font, Character}
 use Rattle.pcl_fonts.specs.History.{FontEvent, header, character, control, font_after}
+use Rattle.pcl_macros.specs.History.{MacroEvent}
+use Rattle.pcl_macros.specs.Table.{Begun}
 use Rattle.pcl_page.specs.Marks.{Mark, are_marked, dot_at, dots_of}
 use Rattle.pcl_page.specs.Text.{selected_font, control_with, select_by_id, header_refusal, character_refusal, text_refusal, prints, character_mark, is_proportional, behind_character, behind_blank}
 use Rattle.pcl_page.specs.Raster.{Raster, raster_from, skipped, row_sent, with_row, row_mark, is_ignored_in_raster, ends_raster}
-
--- a command that was performed, as it was said, or the end of the input, which acts as a reset
-pub data Event : Type 0 where
-  performed : Operation → Said → Event
-  ended : Event
-
--- the newest event first
-abbrev pub History : Type 0
-History = List Event
 
 -- a page as the job means it, where `Page` of the code is one that was painted
 pub record Sheet : Type 0 where
@@ -41,18 +34,30 @@ pub record Sheet : Type 0 where
   pub copies : ℕ
   pub marks : List Mark
 
--- where a job stands: what is set, the raster that has begun, what became of soft fonts, the newest first, the marks of the
--- page, the newest first, the pages that were ejected, in order, and how many commands were performed
+-- where a job stands: what is set, the raster that has begun, what became of soft fonts and of macros, the newest first, the
+-- definition that is open, the marks of the page, the newest first, the pages that were ejected, in order, and how many
+-- commands were performed
 pub record Situation : Type 0 where
   pub settings : Settings
   pub raster : Option Raster
   pub fonts : List FontEvent
+  pub macros : List MacroEvent
+  pub begun : Option Begun
   pub marks : List Mark
   pub pages : List Sheet
   pub performed : ℕ
 
 abbrev pub at_begin : Situation
-at_begin = record { settings = defaults; raster = None; fonts = []; marks = []; pages = []; performed = 0 }
+at_begin = record {
+  settings = defaults;
+  raster = None;
+  fonts = [];
+  macros = [];
+  begun = None;
+  marks = [];
+  pages = [];
+  performed = 0;
+}
 
 abbrev pub is_marked : Situation → Bool
 is_marked s = are_marked s.marks
@@ -208,38 +213,14 @@ is_ignored operation s = is_some s.raster && is_ignored_in_raster operation
 abbrev pub counted : Situation → Situation
 counted s = record s { performed = s.performed + 1 }
 
--- the situation after a command, or why it is refused, pages aside
+-- the situation after a command, or why it is refused, pages and macros aside
 unfoldable pub after : Dpi → Operation → Said → Situation → Result Situation Kind
 after dpi operation command s =
     if is_ignored operation s then Ok (counted s) else taken dpi operation command (prepared dpi operation (counted s))
 
--- the end of the input acts as a reset that counts nothing
+-- the end of the input acts as a reset that counts nothing; no macro runs behind it
 abbrev pub at_end : Dpi → Situation → Situation
 at_end dpi s = without_temporary (turned defaults EjectMarked (end_raster dpi s))
-
--- ---- histories
-
--- the newest of situations
-abbrev pub newest : List Situation → Situation
-newest [] = at_begin
-newest (s ∷ older) = s
-
--- an event that is refused is in no history of a job
-abbrev pub reached : Result Situation Kind → Situation → Situation
-reached (Err kind) s = s
-reached (Ok s') s = s'
-
-abbrev pub next : Dpi → Event → Situation → Situation
-next dpi (performed operation command) s = reached (after dpi operation command s) s
-next dpi ended s = at_end dpi s
-
--- the situation after each front of the history, the newest first
-abbrev pub situations : Dpi → History → List Situation
-situations dpi [] = at_begin ∷ []
-situations dpi (event ∷ history) = next dpi event (newest (situations dpi history)) ∷ situations dpi history
-
-abbrev pub situation : Dpi → History → Situation
-situation dpi history = newest (situations dpi history)
 
 -- ---- refusals
 
@@ -255,7 +236,7 @@ abbrev pub operation_refusal : Dpi → Option Operation → Said → Situation �
 operation_refusal dpi None command s = Some UnsupportedCommand
 operation_refusal dpi (Some operation) command s = refusal_after (after dpi operation command s)
 
--- why a command is refused, the first reason in order
+-- why a command is refused that counts, the first reason in order, but for what it does to macros
 abbrev pub command_refusal : Dpi → Said → Situation → Option Kind
 command_refusal dpi command s =
     if nat_le command_limit s.performed then Some TooManyCommands else operation_refusal dpi (operation_of command.name) command s

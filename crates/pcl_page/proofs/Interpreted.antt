@@ -1,0 +1,472 @@
+-- The interpreter follows the situation, command by command.
+use Rattle.std.proofs.Common.{◌≡◌, ℕ, ◌+◌, ◌<◌, ◌≤◌, Bool, true, false, cond, List, [], ◌∷◌, ◌++◌, length, Option, Some, None, Result, Ok, Err, refl, sym, ap, subst, ◌∙◌, append-nil, length-append, arith, inl, inr}
+use Rattle.std.specs.Prelude.{is_some, ◌⊎◌, ◌&&◌}
+use Rattle.std.specs.Option.{option_map}
+use Rattle.arrayvec.specs.ArrayVec.{ArrayVec}
+use Rattle.pcl_base.specs.declared.dpi.Dpi.{Dpi}
+use Rattle.pcl_base.specs.declared.fault.CallFault.{CallFault}
+use Rattle.pcl_base.specs.declared.fault.CallFault.TheVariants.{Refused, Memory}
+use Rattle.pcl_base.specs.declared.fault.JobFault.{JobFault}
+use Rattle.pcl_base.specs.declared.fault.JobFault.TheVariants as job
+use Rattle.pcl_base.specs.declared.kind.Kind.{Kind}
+use Rattle.pcl_base.specs.declared.kind.Kind.TheVariants.{MacroOpen}
+use Rattle.pcl_base.specs.declared.operation.Operation.{Operation}
+use Rattle.pcl_base.specs.declared.operation.Operation.TheVariants.{Reset, UniversalExit, ControlMacros}
+use Rattle.pcl_base.specs.declared.value.Value.{Value}
+use Rattle.pcl_base.specs.Limits.{macro_limit}
+use Rattle.pcl_base.specs.Operation.{operation_of}
+use Rattle.pcl_base.specs.Value.{is_below_zero}
+use Rattle.pcl_env.specs.declared.effect.Effect.{Effect}
+use Rattle.pcl_env.specs.declared.effect.Effect.TheVariants.{Stay}
+use Rattle.pcl_env.specs.Settings.{Settings, kept}
+use Rattle.pcl_env.specs.Outcome.{Outcome, outcome, stays}
+use Rattle.pcl_escape.specs.Said.{Said}
+use Rattle.pcl_macros.specs.declared.table.MacroControl.{MacroControl}
+use Rattle.pcl_macros.specs.declared.table.MacroControl.TheVariants.{Temporary}
+use Rattle.pcl_macros.specs.History.{MacroEvent, MacroBody, defined, control, body_after}
+use Rattle.pcl_macros.specs.Table.{MacroTable, Begun, Holds, Follows, Controls, HasEnd, macro_at, is_begun}
+use Rattle.pcl_page.specs.declared.page.Page.{Page}
+use Rattle.pcl_page.specs.declared.performer.Performer.{Performer}
+use Rattle.pcl_page.specs.declared.interpreter.Interpreter.{Interpreter}
+use Rattle.pcl_page.specs.declared.interpreter.Running.{Running}
+use Rattle.pcl_page.specs.declared.macros.Action.{Action}
+use Rattle.pcl_page.specs.declared.macros.Action.TheVariants.{Begin, End, Execute, Call, Control}
+use Rattle.pcl_page.specs.declared.macros.Keeping.{Keeping}
+use Rattle.pcl_page.specs.declared.macros.Keeping.TheVariants.{Kept, Ends}
+use Rattle.pcl_page.specs.Raster.{Raster, ends_raster, is_ignored_in_raster}
+use Rattle.pcl_page.specs.Situation.{Sheet, Situation, is_marked, turned, done_with, taken, counted, prepared, is_ignored, after, command_refusal, at_end, page_refusal}
+use Rattle.pcl_page.specs.Macros.{Run, action_of, control_keeping, keeping_of, definition_ended, acted, managed, and_then, after_at, if_not_refused, counting, defining, after_command, run_by, run_from, run_of, run_with, macro_now}
+use Rattle.pcl_page.specs.Performing.{Hands, end_refusal}
+use Rattle.pcl_page.specs.Reflecting.{IsIn, HandsMore, IsTried, EndDone}
+use Rattle.pcl_page.specs.Unfolding.{IsAt, Enters, IsStepped, IsActed, IsEntered, InterpreterEnds}
+use Rattle.pcl_page.proofs.Keeping.{after_adds}
+use Rattle.pcl_page.proofs.Steps.{prepared_pages, stays_pages, no_more}
+use Rattle.pcl_page.proofs.Unfolded.{managed_acts}
+
+-- ---- in a definition and outside
+
+command_outside : (dpi : Dpi) (place : ℕ) (command : Said) (s : Situation) → is_some s.begun ≡ false
+    → after_command dpi place command s ≡ counting dpi place command s
+command_outside dpi place command s e =
+    ap (λ (b : Bool). cond b (defining dpi place (keeping_of (operation_of command.name) command.value) command s)
+    (counting dpi place command s)) e
+
+command_inside : (dpi : Dpi) (place : ℕ) (command : Said) (s : Situation) (keeping : Keeping) → is_some s.begun ≡ true
+    → keeping_of (operation_of command.name) command.value ≡ keeping
+    → after_command dpi place command s ≡ defining dpi place keeping command s
+command_inside dpi place command s keeping e k =
+    ap (λ (b : Bool). cond b (defining dpi place (keeping_of (operation_of command.name) command.value) command s)
+    (counting dpi place command s)) e
+    ∙ ap (λ (kept : Keeping). defining dpi place kept command s) k
+
+abbrev runs_none : Situation → Option Run
+runs_none later = None
+
+run_inside : (command : Said) (s : Situation) → is_some s.begun ≡ true → run_of command s ≡ runs_none
+run_inside command s e =
+    ap (λ (b : Bool). λ (later : Situation). cond b None (run_from (operation_of command.name) command.value later)) e
+
+run_outside : (command : Said) (s : Situation) → is_some s.begun ≡ false
+    → run_of command s ≡ run_from (operation_of command.name) command.value
+run_outside command s e =
+    ap (λ (b : Bool). λ (later : Situation). cond b None (run_from (operation_of command.name) command.value later)) e
+
+-- what ends a definition is its end
+control_ends : (action : Option Action) → control_keeping action ≡ Ends → action ≡ Some End
+control_ends (Some Begin) e = absurd cc
+control_ends (Some End) e = refl
+control_ends (Some Execute) e = absurd cc
+control_ends (Some Call) e = absurd cc
+control_ends (Some (Control what)) e = absurd cc
+control_ends None e = absurd cc
+
+pub ends_is : (operation : Option Operation) (value : Value) → keeping_of operation value ≡ Ends
+    → (operation ≡ Some ControlMacros) × (action_of value ≡ Some End)
+ends_is (Some Reset) value e = absurd cc
+ends_is (Some UniversalExit) value e = absurd cc
+ends_is (Some ControlMacros) value e = (refl, control_ends (action_of value) e)
+ends_is other value e = absurd cc
+
+-- the same outcome and the same macro that runs, said otherwise
+stepped_as : {S : Type 0} (takes : S → Page → S → Type 0) (dpi : Dpi) (outcome other : Result Situation Kind)
+    (run_after run_other : Situation → Option Run) (s : Situation) (result : Result (Unit {0}) CallFault) (old new : Interpreter)
+    (sink later : S) → other ≡ outcome → run_other ≡ run_after → IsStepped takes dpi outcome run_after s result old new sink later
+    → IsStepped takes dpi other run_other s result old new sink later
+stepped_as {S} takes dpi outcome other run_after run_other s result old new sink later o r step =
+    subst (λ (p : Result Situation Kind). IsStepped takes dpi p run_other s result old new sink later) (sym o)
+    (subst (λ (f : Situation → Option Run). IsStepped takes dpi outcome f s result old new sink later) (sym r) step)
+
+pub stepped_outside : {S : Type 0} (takes : S → Page → S → Type 0) (dpi : Dpi) (place : ℕ) (command : Said) (s : Situation)
+    (result : Result (Unit {0}) CallFault) (old new : Interpreter) (sink later : S) → IsAt dpi s old → is_begun old.macros ≡ false
+    → IsStepped takes dpi (counting dpi place command s) (run_from (operation_of command.name) command.value) s result old new sink later
+    → IsStepped takes dpi (after_command dpi place command s) (run_of command s) s result old new sink later
+stepped_outside {S} takes dpi place command s result old new sink later at none step =
+    let begun : is_some s.begun ≡ false = ap (λ (b : Option Begun). is_some b) (sym at.begun) ∙ none in
+    stepped_as takes dpi (counting dpi place command s) (after_command dpi place command s)
+    (run_from (operation_of command.name) command.value) (run_of command s) s result old new sink later
+    (command_outside dpi place command s begun) (run_outside command s begun) step
+
+pub stepped_ending : {S : Type 0} (takes : S → Page → S → Type 0) (dpi : Dpi) (place : ℕ) (command : Said) (s : Situation)
+    (result : Result (Unit {0}) CallFault) (old new : Interpreter) (sink later : S) → IsAt dpi s old → is_begun old.macros ≡ true
+    → keeping_of (operation_of command.name) command.value ≡ Ends
+    → IsStepped takes dpi (counting dpi place command s) (run_from (operation_of command.name) command.value) s result old new sink later
+    → IsStepped takes dpi (after_command dpi place command s) (run_of command s) s result old new sink later
+stepped_ending {S} takes dpi place command s result old new sink later at some ends step =
+    let begun : is_some s.begun ≡ true = ap (λ (b : Option Begun). is_some b) (sym at.begun) ∙ some in
+    let is = ends_is (operation_of command.name) command.value ends in
+    let runs : run_from (operation_of command.name) command.value ≡ runs_none =
+    ap (λ (o : Option Operation). λ (t : Situation). run_from o command.value t) is.0
+    ∙ ap (λ (a : Option Action). λ (t : Situation). run_by a t) is.1 in
+    stepped_as takes dpi (counting dpi place command s) (after_command dpi place command s)
+    (run_from (operation_of command.name) command.value) (run_of command s) s result old new sink later
+    (command_inside dpi place command s Ends begun ends) (run_inside command s begun ∙ sym runs) step
+
+-- a command that is kept
+pub stepped_kept : {S : Type 0} (takes : S → Page → S → Type 0) (dpi : Dpi) (place : ℕ) (command : Said) (s : Situation)
+    (old : Interpreter) (sink : S) → IsAt dpi s old → is_begun old.macros ≡ true
+    → keeping_of (operation_of command.name) command.value ≡ Kept
+    → IsStepped takes dpi (after_command dpi place command s) (run_of command s) s (Ok tt) old old sink sink
+stepped_kept {S} takes dpi place command s old sink at some kept =
+    let begun : is_some s.begun ≡ true = ap (λ (b : Option Begun). is_some b) (sym at.begun) ∙ some in (
+      s,
+      command_inside dpi place command s Kept begun kept,
+      at,
+      subst (λ (f : Situation → Option Run). Enters (f s) old.running.items old.running.items) (sym (run_inside command s begun))
+          (sym (append-nil old.running.items), tt),
+      ([], sym (append-nil s.pages), refl),
+    )
+
+-- one that the definition refuses
+pub stepped_refused : {S : Type 0} (takes : S → Page → S → Type 0) (dpi : Dpi) (place : ℕ) (command : Said) (s : Situation) (kind : Kind)
+    (old new : Interpreter) (sink : S) → IsAt dpi s old → is_begun old.macros ≡ true
+    → keeping_of (operation_of command.name) command.value ≡ Keeping.Refused kind
+    → IsStepped takes dpi (after_command dpi place command s) (run_of command s) s (Err (Refused kind)) old new sink sink
+stepped_refused {S} takes dpi place command s kind old new sink at some refused =
+    let begun : is_some s.begun ≡ true = ap (λ (b : Option Begun). is_some b) (sym at.begun) ∙ some in
+    inl (command_inside dpi place command s (Keeping.Refused kind) begun refused, refl)
+
+-- ---- a command that counts
+
+counting_refused : (dpi : Dpi) (place : ℕ) (command : Said) (s : Situation) (kind : Kind) → command_refusal dpi command s ≡ Some kind
+    → counting dpi place command s ≡ Err kind
+counting_refused dpi place command s kind e =
+    ap (λ (why : Option Kind). if_not_refused why (after_at dpi place (operation_of command.name) command s)) e
+
+counting_is : (dpi : Dpi) (place : ℕ) (command : Said) (operation : Operation) (s now : Situation)
+    → operation_of command.name ≡ Some operation → after dpi operation command s ≡ Ok now → command_refusal dpi command s ≡ None
+    → counting dpi place command s ≡ managed place operation command.value now
+counting_is dpi place command operation s now named done none =
+    ap (λ (why : Option Kind). if_not_refused why (after_at dpi place (operation_of command.name) command s)) none
+    ∙ ap (λ (o : Option Operation). after_at dpi place o command s) named
+    ∙ ap (λ (r : Result Situation Kind). and_then r (managed place operation command.value)) done
+
+-- a macro control lets the page stay
+control_stay : (below taken : Bool) (s : Settings) (done : Settings × Effect) → cond below None (cond taken (stays s) None) ≡ Some done
+    → done.1 ≡ Stay
+control_stay true taken s done e = absurd cc
+control_stay false true s done e =
+    let same : ◌≡◌ {A = Settings × Effect} (s, Stay) done = cc in ap (λ (d : Settings × Effect). d.1) (sym same)
+control_stay false false s done e = absurd cc
+
+control_outcome : (dpi : Dpi) (value : Value) (m : Bool) (s : Settings) (done : Settings × Effect)
+    → outcome dpi ControlMacros value m s ≡ Some done → done.1 ≡ Stay
+unfolding outcome
+control_outcome dpi value m s done e = control_stay (is_below_zero value) _ s done e
+
+control_done : (dpi : Dpi) (command : Said) (o : Outcome) (s later : Situation)
+    → outcome dpi ControlMacros command.value (is_marked s) s.settings ≡ o → done_with dpi ControlMacros command o s ≡ Ok later
+    → later.pages ≡ s.pages
+control_done dpi command None s later is e = absurd cc
+control_done dpi command (Some done) s later is e =
+    let same : turned done.0 done.1 s ≡ later = cc in
+    ap (λ (z : Situation). z.pages) (sym same)
+    ∙ stays_pages done s (control_outcome dpi command.value (is_marked s) s.settings done is)
+
+control_by : (dpi : Dpi) (command : Said) (s later : Situation) (ignored : Bool)
+    → cond ignored (Ok (counted s)) (taken dpi ControlMacros command (prepared dpi ControlMacros (counted s))) ≡ Ok later
+    → later.pages ≡ s.pages
+control_by dpi command s later true e = let same : counted s ≡ later = cc in ap (λ (z : Situation). z.pages) (sym same)
+control_by dpi command s later false e =
+    let before = prepared dpi ControlMacros (counted s) in
+    control_done dpi command (outcome dpi ControlMacros command.value (is_marked before) before.settings) before later refl e
+    ∙ prepared_pages dpi true (counted s)
+
+control_pages : (dpi : Dpi) (command : Said) (s later : Situation) → after dpi ControlMacros command s ≡ Ok later → later.pages ≡ s.pages
+unfolding after
+control_pages dpi command s later e = control_by dpi command s later (is_ignored ControlMacros s) e
+
+-- what is refused for macros ejects nothing
+unmanaged_pages : (dpi : Dpi) (place : ℕ) (operation : Operation) (command : Said) (s now : Situation) (kind : Kind)
+    → after dpi operation command s ≡ Ok now → managed place operation command.value now ≡ Err kind → now.pages ≡ s.pages
+unmanaged_pages dpi place Reset command s now kind e m = absurd cc
+unmanaged_pages dpi place UniversalExit command s now kind e m = absurd cc
+unmanaged_pages dpi place ControlMacros command s now kind e m = control_pages dpi command s now e
+unmanaged_pages dpi place other command s now kind e m = absurd cc
+
+same_sink : {S : Type 0} (takes : S → Page → S → Type 0) (dpi : Dpi) (s now : Situation) (sink later : S) → now.pages ≡ s.pages
+    → HandsMore takes dpi s now sink later → later ≡ sink
+same_sink {S} takes dpi s now sink later e h =
+    subst (λ (more : List Sheet). Hands takes dpi more sink later)
+    (no_more s.pages h.0 (sym e ∙ h.1)) h.2
+
+more_same : {S : Type 0} (takes : S → Page → S → Type 0) (dpi : Dpi) (s now then : Situation) (sink later : S) → then.pages ≡ now.pages
+    → HandsMore takes dpi s now sink later → HandsMore takes dpi s then sink later
+more_same {S} takes dpi s now then sink later e h = (h.0, e ∙ h.1, h.2)
+
+items_same : (old new : Interpreter) → new.running ≡ old.running → new.running.items ≡ old.running.items
+items_same old new e = ap (λ (r : ArrayVec Running). r.items) e
+
+-- the performer performed the command, and nothing was done to macros yet
+pub at_tried : (dpi : Dpi) (operation : Operation) (command : Said) (s now : Situation) (old middle : Interpreter) → IsAt dpi s old
+    → after dpi operation command s ≡ Ok now → IsIn dpi now middle.performer → middle.macros ≡ old.macros → IsAt dpi now middle
+at_tried dpi operation command s now old middle at e i same =
+    let a = after_adds dpi operation command s now e in
+    record {
+      is_in = i;
+      macros = subst (λ (events : List MacroEvent). Holds middle.macros events) (sym a.macros)
+          (subst (λ (t : MacroTable). Holds t s.macros) (sym same) at.macros);
+      begun = ap (λ (t : MacroTable). t.begun) same ∙ at.begun ∙ sym a.begun;
+    }
+
+pub counted_stepped : {S : Type 0} (takes : S → Page → S → Type 0) (dpi : Dpi) (place : ℕ) (command : Said) (operation : Operation)
+    (s : Situation) (old middle new : Interpreter) (sink later : S) (result : Result (Unit {0}) CallFault)
+    → IsAt dpi s old → IsTried takes dpi command s (Ok operation) middle.performer sink later
+    → middle.macros ≡ old.macros → middle.running ≡ old.running
+    → ((t : Situation) → IsAt dpi t middle
+    → IsActed dpi (managed place operation command.value t) (run_from (Some operation) command.value) result middle new)
+    → IsStepped takes dpi (counting dpi place command s) (run_from (operation_of command.name) command.value) s result old new sink later
+counted_stepped {S} takes dpi place command operation s old middle new sink later (Ok unit) at t same run f =
+    let a = f t.0 (at_tried dpi operation command s t.0 old middle at t.2 t.4 same) in
+    let is = counting_is dpi place command operation s t.0 t.1 t.2 t.3 in (
+      a.0,
+      is ∙ a.1,
+      a.2,
+      subst (λ (o : Option Operation). Enters (run_from o command.value a.0) old.running.items new.running.items) (sym t.1)
+          (subst (λ (rs : List Running). Enters (run_from (Some operation) command.value a.0) rs new.running.items) (items_same old middle run) a.3),
+      more_same takes dpi s t.0 a.0 sink later (managed_acts place operation command.value t.0 a.0 a.1).pages t.5,
+    )
+counted_stepped {S} takes dpi place command operation s old middle new sink later (Err (Refused kind)) at t same run f =
+    let is = counting_is dpi place command operation s t.0 t.1 t.2 t.3 in
+    elim (f t.0 (at_tried dpi operation command s t.0 old middle at t.2 t.4 same)) [
+      | inl e ↦ inl (
+          is ∙ e,
+          same_sink takes dpi s t.0 sink later (unmanaged_pages dpi place operation command s t.0 kind t.2 e) t.5,
+        )
+      | inr a ↦ inr (
+          a.0,
+          a.1,
+          is ∙ a.2,
+          ap (λ (o : Option Operation). run_from o command.value a.0) t.1 ∙ a.3,
+          ap (λ (rs : List Running). length rs) (sym (items_same old middle run)) ∙ a.4,
+          a.5,
+          more_same takes dpi s t.0 a.0 sink later (managed_acts place operation command.value t.0 a.0 a.2).pages t.5,
+        )
+    ]
+counted_stepped {S} takes dpi place command operation s old middle new sink later (Err Memory) at t same run f =
+    let is = counting_is dpi place command operation s t.0 t.1 t.2 t.3 in
+    let a = f t.0 (at_tried dpi operation command s t.0 old middle at t.2 t.4 same) in
+    inr (a.0, is ∙ a.1, more_same takes dpi s t.0 a.0 sink later (managed_acts place operation command.value t.0 a.0 a.1).pages t.5)
+
+-- the performer refused it, or memory ran out there
+pub counted_untried : {S : Type 0} (takes : S → Page → S → Type 0) (dpi : Dpi) (place : ℕ) (command : Said) (s : Situation)
+    (old new : Interpreter) (sink later : S) (fault : CallFault) → IsTried takes dpi command s (Err fault) new.performer sink later
+    → IsStepped takes dpi (counting dpi place command s) (run_from (operation_of command.name) command.value) s (Err fault) old new sink later
+counted_untried {S} takes dpi place command s old new sink later (Refused kind) t =
+    inl (counting_refused dpi place command s kind t.0, t.1)
+counted_untried {S} takes dpi place command s old new sink later Memory t =
+    elim t [
+      | inl same ↦ inl same
+      | inr d ↦ short_by (managed place d.0 command.value d.1) d refl
+    ]
+  where
+    short_by : (o : Result Situation Kind) → (d : (operation : Operation) × (now : Situation) × (operation_of command.name ≡ Some operation)
+        × (after dpi operation command s ≡ Ok now) × (command_refusal dpi command s ≡ None) × HandsMore takes dpi s now sink later)
+        → managed place d.0 command.value d.1 ≡ o
+        → IsStepped takes dpi (counting dpi place command s) (run_from (operation_of command.name) command.value) s (Err Memory) old new
+        sink later
+    short_by (Ok now) d m = inr (
+      now,
+      counting_is dpi place command d.0 s d.1 d.2 d.3 d.4 ∙ m,
+      more_same takes dpi s d.1 now sink later (managed_acts place d.0 command.value d.1 now m).pages d.5,
+    )
+    short_by (Err kind) d m = inl (same_sink takes dpi s d.1 sink later (unmanaged_pages dpi place d.0 command s d.1 kind d.3 m) d.5)
+
+-- ---- what is done to macros
+
+-- one event more
+pub event_done : (dpi : Dpi) (event : MacroEvent) (s : Situation) (old new : Interpreter) → IsAt dpi s old
+    → new.performer ≡ old.performer → Controls old.macros new.macros event → IsAt dpi (record s { macros = event ∷ s.macros }) new
+event_done dpi event s old new at same c = record {
+  is_in = subst (λ (p : Performer). IsIn dpi (record s { macros = event ∷ s.macros }) p) (sym same) (in_same at.is_in);
+  macros = c.0 s.macros at.macros;
+  begun = c.1 ∙ at.begun;
+}
+  where
+    in_same : IsIn dpi s old.performer → IsIn dpi (record s { macros = event ∷ s.macros }) old.performer
+    in_same i = record {
+      settings = i.settings;
+      raster = i.raster;
+      marked = i.marked;
+      ejected = i.ejected;
+      performed = i.performed;
+      fonts = i.fonts;
+      painted = i.painted;
+    }
+
+pub control_acted : (dpi : Dpi) (what : MacroControl) (id place : ℕ) (s : Situation) (old new : Interpreter) → IsAt dpi s old
+    → id ≡ old.performer.environment.macro_id → new.performer ≡ old.performer → new.running ≡ old.running
+    → Controls old.macros new.macros (control what id)
+    → IsActed dpi (acted place (Some (Control what)) s) (run_by (Some (Control what))) (Ok tt) old new
+control_acted dpi what id place s old new at i same run c =
+    let id_is : id ≡ s.settings.macro_id = i ∙ ap (λ (t : Settings). t.macro_id) at.is_in.settings in (
+      record s { macros = control what s.settings.macro_id ∷ s.macros },
+      refl,
+      event_done dpi (control what s.settings.macro_id) s old new at same
+          (subst (λ (n : ℕ). Controls old.macros new.macros (control what n)) id_is c),
+      (items_same old new run ∙ sym (append-nil old.running.items), tt),
+    )
+
+pub reset_acted : (dpi : Dpi) (s : Situation) (old new : Interpreter) → IsAt dpi s old
+    → new.performer ≡ old.performer → new.running ≡ old.running → Controls old.macros new.macros (control Temporary 0)
+    → IsActed dpi (Ok (record s { macros = control Temporary 0 ∷ s.macros })) runs_none (Ok tt) old new
+reset_acted dpi s old new at same run c = (
+  record s { macros = control Temporary 0 ∷ s.macros },
+  refl,
+  event_done dpi (control Temporary 0) s old new at same c,
+  (items_same old new run ∙ sym (append-nil old.running.items), tt),
+)
+
+-- nothing is done
+pub none_acted : (dpi : Dpi) (s : Situation) (old : Interpreter) → IsAt dpi s old → IsActed dpi (Ok s) runs_none (Ok tt) old old
+none_acted dpi s old at = (s, refl, at, (sym (append-nil old.running.items), tt))
+
+-- a definition begins
+pub begin_acted : (dpi : Dpi) (id place : ℕ) (s : Situation) (old new : Interpreter) → IsAt dpi s old
+    → id ≡ old.performer.environment.macro_id → new.performer ≡ old.performer → new.running ≡ old.running
+    → new.macros ≡ record old.macros { begun = Some (record { id = id; from = place + 1 }) }
+    → IsActed dpi (acted place (Some Begin) s) (run_by (Some Begin)) (Ok tt) old new
+begin_acted dpi id place s old new at i same run m =
+    let id_is : id ≡ s.settings.macro_id = i ∙ ap (λ (t : Settings). t.macro_id) at.is_in.settings in (
+      record s { begun = Some (record { id = s.settings.macro_id; from = place + 1 }) },
+      refl,
+      record {
+        is_in = subst (λ (p : Performer). IsIn dpi (record s { begun = Some (record { id = s.settings.macro_id; from = place + 1 }) }) p)
+            (sym same) (in_same at.is_in);
+        macros = λ q. ap (λ (t : MacroTable). macro_at t q) m ∙ at.macros q;
+        begun = ap (λ (t : MacroTable). t.begun) m ∙ ap (λ (n : ℕ). Some (record { id = n; from = place + 1 })) id_is;
+      },
+      (items_same old new run ∙ sym (append-nil old.running.items), tt),
+    )
+  where
+    in_same : {b : Option Begun} → IsIn dpi s old.performer → IsIn dpi (record s { begun = b }) old.performer
+    in_same i = record {
+      settings = i.settings;
+      raster = i.raster;
+      marked = i.marked;
+      ejected = i.ejected;
+      performed = i.performed;
+      fonts = i.fonts;
+      painted = i.painted;
+    }
+
+-- a definition ends, or there is none
+ended_is : (place : ℕ) (begun : Option Begun) (s : Situation) (d : Begun) → begun ≡ Some d
+    → definition_ended place begun s ≡ Ok (record s { macros = defined d.id d.from place ∷ s.macros; begun = None })
+ended_is place begun s d e = ap (λ (b : Option Begun). definition_ended place b s) e
+
+begun_some : (begun : Option Begun) → is_some begun ≡ true → (d : Begun) × (begun ≡ Some d)
+begun_some None e = absurd cc
+begun_some (Some d) e = (d, refl)
+
+begun_none : (begun : Option Begun) → is_some begun ≡ false → begun ≡ None
+begun_none None e = refl
+begun_none (Some d) e = absurd cc
+
+pub end_acted : (dpi : Dpi) (place : ℕ) (s : Situation) (old new : Interpreter) (result : Result (Unit {0}) CallFault) → IsAt dpi s old
+    → new.performer ≡ old.performer → new.running ≡ old.running → HasEnd place result old.macros new.macros
+    → IsActed dpi (acted place (Some End) s) (run_by (Some End)) result old new
+end_acted dpi place s old new (Ok unit) at same run h =
+    let d = h.0 in
+    let later = record s { macros = defined d.id d.from place ∷ s.macros; begun = None } in (
+      later,
+      ended_is place s.begun s d (sym at.begun ∙ h.1),
+      record {
+        is_in = subst (λ (p : Performer). IsIn dpi later p) (sym same) (record {
+          settings = at.is_in.settings;
+          raster = at.is_in.raster;
+          marked = at.is_in.marked;
+          ejected = at.is_in.ejected;
+          performed = at.is_in.performed;
+          fonts = at.is_in.fonts;
+          painted = at.is_in.painted;
+        });
+        macros = h.2 s.macros at.macros;
+        begun = h.3;
+      },
+      (items_same old new run ∙ sym (append-nil old.running.items), tt),
+    )
+end_acted dpi place s old new (Err (Refused kind)) at same run h =
+    let none : s.begun ≡ None = begun_none s.begun (ap (λ (b : Option Begun). is_some b) (sym at.begun) ∙ h.0) in
+    inl (ap (λ (b : Option Begun). definition_ended place b s) none ∙ ap (λ (k : Kind). Err k) (sym h.1))
+end_acted dpi place s old new (Err Memory) at same run h =
+    let d = begun_some s.begun (ap (λ (b : Option Begun). is_some b) (sym at.begun) ∙ h.0) in
+    (record s { macros = defined d.0.id d.0.from place ∷ s.macros; begun = None }, ended_is place s.begun s d.0 d.1)
+
+-- a macro begins to run
+pub enter_acted : (dpi : Dpi) (run_after : Situation → Option Run) (run : Option Run) (s : Situation) (old new : Interpreter)
+    (result : Result (Unit {0}) CallFault) → IsAt dpi s old → run ≡ run_after s → IsEntered run result old new
+    → IsActed dpi (Ok s) run_after result old new
+enter_acted dpi run_after run s old new (Ok unit) at e h = (
+  s,
+  refl,
+  record {
+    is_in = subst (λ (p : Performer). IsIn dpi s p) (sym h.1) at.is_in;
+    macros = subst (λ (t : MacroTable). Holds t s.macros) (sym h.2) at.macros;
+    begun = ap (λ (t : MacroTable). t.begun) h.2 ∙ at.begun;
+  },
+  subst (λ (r : Option Run). Enters r old.running.items new.running.items) e h.0,
+)
+enter_acted dpi run_after None s old new (Err fault) at e h = absurd h
+enter_acted dpi run_after (Some run) s old new (Err (Refused kind)) at e h = inr (s, run, refl, sym e, h.0, h.1)
+enter_acted dpi run_after (Some run) s old new (Err Memory) at e h = absurd h
+
+-- the macro that is meant
+macro_found : (dpi : Dpi) (id : ℕ) (s : Situation) (old : Interpreter) → IsAt dpi s old → id ≡ old.performer.environment.macro_id
+    → macro_at old.macros id ≡ macro_now s
+macro_found dpi id s old at i =
+    at.macros id ∙ ap (λ (n : ℕ). body_after s.macros n) (i ∙ ap (λ (t : Settings). t.macro_id) at.is_in.settings)
+
+pub execute_acted : (dpi : Dpi) (id : ℕ) (s : Situation) (old new : Interpreter) (result : Result (Unit {0}) CallFault) → IsAt dpi s old
+    → id ≡ old.performer.environment.macro_id → IsEntered (option_map (run_with None) (macro_at old.macros id)) result old new
+    → IsActed dpi (Ok s) (run_by (Some Execute)) result old new
+execute_acted dpi id s old new result at i h =
+    enter_acted dpi (run_by (Some Execute)) (option_map (run_with None) (macro_at old.macros id)) s old new result at
+    (ap (λ (o : Option MacroBody). option_map (run_with None) o) (macro_found dpi id s old at i)) h
+
+pub call_acted : (dpi : Dpi) (id : ℕ) (saved : Settings) (s : Situation) (old new : Interpreter) (result : Result (Unit {0}) CallFault)
+    → IsAt dpi s old → id ≡ old.performer.environment.macro_id → saved ≡ kept old.performer.environment
+    → IsEntered (option_map (run_with (Some saved)) (macro_at old.macros id)) result old new
+    → IsActed dpi (Ok s) (run_by (Some Call)) result old new
+call_acted dpi id saved s old new result at i k h =
+    let same : saved ≡ kept s.settings = k ∙ ap (λ (t : Settings). kept t) at.is_in.settings in
+    enter_acted dpi (run_by (Some Call)) (option_map (run_with (Some saved)) (macro_at old.macros id)) s old new result at
+    (ap (λ (o : Option MacroBody). option_map (run_with (Some saved)) o) (macro_found dpi id s old at i)
+    ∙ ap (λ (t : Settings). option_map (run_with (Some t)) (macro_now s)) same) h
+
+-- ---- the end
+
+pub ends_outside : {S : Type 0} (takes : S → Page → S → Type 0) (dpi : Dpi) (end : ℕ) (s : Situation) (old : Interpreter)
+    (result : Result (Unit {0}) JobFault) (sink later : S) → IsAt dpi s old → is_begun old.macros ≡ false
+    → EndDone takes dpi end s result sink later → InterpreterEnds takes dpi end s result sink later
+ends_outside {S} takes dpi end s old result sink later at none d =
+    ends_by takes dpi end s result sink later (ap (λ (b : Option Begun). is_some b) (sym at.begun) ∙ none) d
+  where
+    refusal_is : (dpi : Dpi) (s : Situation) → is_some s.begun ≡ false → end_refusal dpi s ≡ page_refusal (at_end dpi s)
+    refusal_is dpi s e = ap (λ (b : Bool). cond b (Some MacroOpen) (page_refusal (at_end dpi s))) e
+
+    ends_by : {S : Type 0} (takes : S → Page → S → Type 0) (dpi : Dpi) (end : ℕ) (s : Situation) (result : Result (Unit {0}) JobFault)
+        (sink later : S) → is_some s.begun ≡ false → EndDone takes dpi end s result sink later
+        → InterpreterEnds takes dpi end s result sink later
+    ends_by takes dpi end s (Ok unit) sink later e d = (refusal_is dpi s e ∙ d.0, d.1)
+    ends_by takes dpi end s (Err (job.Refused why)) sink later e d = (d.0, refusal_is dpi s e ∙ d.1, d.2, d.3)
+    ends_by takes dpi end s (Err job.Memory) sink later e d = d

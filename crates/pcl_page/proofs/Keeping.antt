@@ -1,0 +1,165 @@
+-- What a command leaves alone.
+use Rattle.std.proofs.Common.{◌≡◌, ℕ, ◌+◌, ◌<◌, ◌≤◌, Bool, true, false, cond, nat_le, List, [], ◌∷◌, ◌++◌, length, Option, Some, None, Result, Ok, Err, refl, sym, ap, subst, ◌∙◌, append-nil, length-append, inl, inr, arith}
+use Rattle.std.specs.Prelude.{is_some, ◌&&◌}
+use Rattle.std.proofs.lemmas.Bool.Decides.{nat_tests}
+use Rattle.pcl_base.specs.declared.dpi.Dpi.{Dpi}
+use Rattle.pcl_base.specs.declared.fault.CallFault.{CallFault}
+use Rattle.pcl_base.specs.declared.fault.CallFault.TheVariants.{Refused, Memory}
+use Rattle.pcl_base.specs.declared.kind.Kind.{Kind}
+use Rattle.pcl_base.specs.declared.kind.Kind.TheVariants.{UnsupportedCommand, UnsupportedValue, TooManyCommands, TooManyPages}
+use Rattle.pcl_base.specs.declared.operation.Operation.{Operation}
+use Rattle.pcl_base.specs.declared.operation.Operation.TheVariants.{Reset, UniversalExit, FillRectangle, ControlFonts, DownloadFont, DownloadCharacter, SelectFont, PrintText, StartRaster, RasterOffset, RasterRow}
+use Rattle.pcl_base.specs.Limits.{command_limit, page_limit}
+use Rattle.pcl_base.specs.Operation.{operation_of}
+use Rattle.pcl_base.specs.declared.size.Size.{Size}
+use Rattle.pcl_base.specs.declared.value.Value.{Value}
+use Rattle.pcl_base.specs.Size.{page_width, page_height}
+use Rattle.pcl_bitmap.specs.Bitmap.{Picture, dot}
+use Rattle.pcl_base.specs.Value.{is_below_zero}
+use Rattle.pcl_fonts.specs.Fields.{Character}
+use Rattle.pcl_fonts.specs.History.{FontEvent}
+use Rattle.pcl_fonts.specs.Table.{FontTable, Holds}
+use Rattle.pcl_escape.specs.Said.{Said}
+use Rattle.pcl_env.specs.declared.effect.Effect.{Effect}
+use Rattle.pcl_env.specs.declared.effect.Effect.TheVariants.{Stay, Eject, EjectMarked}
+use Rattle.pcl_env.specs.declared.effect.Unsupported.{Unsupported}
+use Rattle.pcl_env.specs.Settings.{Settings, defaults, to_first_line, font_in_use}
+use Rattle.pcl_env.specs.Outcome.{Outcome, outcome, stays, Answers}
+use Rattle.pcl_page.specs.declared.page.Page.{Page}
+use Rattle.pcl_page.specs.declared.performer.Performer.{Performer}
+use Rattle.pcl_bitmap.specs.Dots.{is_black_ink}
+use Rattle.pcl_page.specs.Marks.{Mark, is_black}
+use Rattle.pcl_page.specs.Text.{is_proportional, prints}
+use Rattle.pcl_page.specs.Raster.{Raster, ends_raster, is_ignored_in_raster}
+use Rattle.pcl_page.specs.Situation.{Sheet, Situation, with_font, with_character, without_temporary, font_now, code_printed, codes_printed, draw_refusal, unless_refused, drawn_on, settings_below, end_raster, is_marked, ejects, sheet_of, turned, drawn, done_with, taken, counted, prepared, is_ignored, after, at_end, page_refusal, refusal_after, operation_refusal, command_refusal}
+use Rattle.pcl_page.specs.Performing.{Shows, Hands}
+use Rattle.pcl_page.specs.Reflecting.{IsPainted, IsIn, IsWhite, IsFollowed, IsEjected, IsHanded, Takes, IsPrepared, IsDrawn, Draws, HandsMore, IsTurned, IsTried}
+use Rattle.pcl_page.proofs.Turns.{prepared_page}
+
+-- neither pages nor counts, nor what is there of macros, change where something is drawn
+pub record KeepsCounts (s other : Situation) : Type 0 where
+  pub pages : other.pages ≡ s.pages
+  pub performed : other.performed ≡ s.performed
+  pub macros : other.macros ≡ s.macros
+  pub begun : other.begun ≡ s.begun
+
+font_keeps : (bytes : List ℕ) (s : Situation) → KeepsCounts s (with_font bytes s)
+font_keeps [] s = record { pages = refl; performed = refl; macros = refl; begun = refl }
+font_keeps (byte ∷ bytes) s = record { pages = refl; performed = refl; macros = refl; begun = refl }
+
+character_keeps : (bytes : List ℕ) (s : Situation) → KeepsCounts s (with_character bytes s)
+character_keeps [] s = record { pages = refl; performed = refl; macros = refl; begun = refl }
+character_keeps (byte ∷ bytes) s = record { pages = refl; performed = refl; macros = refl; begun = refl }
+
+code_keeps : (dpi : Dpi) (proportional : Bool) (c : Option Character) (code : ℕ) (s : Situation)
+    → KeepsCounts s (code_printed dpi proportional c code s)
+code_keeps dpi proportional None code s = record { pages = refl; performed = refl; macros = refl; begun = refl }
+code_keeps dpi proportional (Some c) code s = record { pages = refl; performed = refl; macros = refl; begun = refl }
+
+codes_keep : (dpi : Dpi) (proportional : Bool) (characters : ℕ → Option Character) (codes : List ℕ) (s : Situation)
+    → KeepsCounts s (codes_printed dpi proportional characters codes s)
+codes_keep dpi proportional characters [] s = record { pages = refl; performed = refl; macros = refl; begun = refl }
+codes_keep dpi proportional characters (code ∷ codes) s =
+    let one = code_keeps dpi proportional (characters code) code s in
+    let more = codes_keep dpi proportional characters codes (code_printed dpi proportional (characters code) code s) in
+    record {
+      pages = more.pages ∙ one.pages;
+      performed = more.performed ∙ one.performed;
+      macros = more.macros ∙ one.macros;
+      begun = more.begun ∙ one.begun;
+    }
+
+pub drawn_keeps : (dpi : Dpi) (operation : Operation) (command : Said) (s : Situation) → KeepsCounts s (drawn dpi operation command s)
+drawn_keeps dpi Reset command s = record { pages = refl; performed = refl; macros = refl; begun = refl }
+drawn_keeps dpi UniversalExit command s = record { pages = refl; performed = refl; macros = refl; begun = refl }
+drawn_keeps dpi ControlFonts command s = record { pages = refl; performed = refl; macros = refl; begun = refl }
+drawn_keeps dpi DownloadFont command s = font_keeps command.bytes s
+drawn_keeps dpi DownloadCharacter command s = character_keeps command.bytes s
+drawn_keeps dpi (SelectFont side) command s = record { pages = refl; performed = refl; macros = refl; begun = refl }
+drawn_keeps dpi PrintText command s =
+    codes_keep dpi (is_proportional (font_now s)) (prints s.fonts (font_in_use s.settings)) command.bytes s
+drawn_keeps dpi FillRectangle command s = record { pages = refl; performed = refl; macros = refl; begun = refl }
+drawn_keeps dpi StartRaster command s = record { pages = refl; performed = refl; macros = refl; begun = refl }
+drawn_keeps dpi RasterOffset command s = record { pages = refl; performed = refl; macros = refl; begun = refl }
+drawn_keeps dpi RasterRow command s = record { pages = refl; performed = refl; macros = refl; begun = refl }
+drawn_keeps dpi other command s = record { pages = refl; performed = refl; macros = refl; begun = refl }
+
+-- ---- a command
+
+-- pages are only added, and neither counts nor what is there of macros change
+pub record Adds (s later : Situation) : Type 0 where
+  pub more : List Sheet
+  pub pages : later.pages ≡ s.pages ++ more
+  pub performed : later.performed ≡ s.performed
+  pub macros : later.macros ≡ s.macros
+  pub begun : later.begun ≡ s.begun
+
+adds_none : {s later : Situation} → later ≡ s → Adds s later
+adds_none {s} {later} e = record {
+  more = [];
+  pages = ap (λ (z : Situation). z.pages) e ∙ sym (append-nil s.pages);
+  performed = ap (λ (z : Situation). z.performed) e;
+  macros = ap (λ (z : Situation). z.macros) e;
+  begun = ap (λ (z : Situation). z.begun) e;
+}
+
+adds_turned : (settings : Settings) (effect : Effect) (s : Situation) (test : Bool) → ejects effect (is_marked s) ≡ test
+    → Adds s (turned settings effect s)
+adds_turned settings effect s true e =
+    record { more = sheet_of s ∷ []; pages = rw e refl; performed = rw e refl; macros = rw e refl; begun = rw e refl }
+adds_turned settings effect s false e =
+    record { more = []; pages = rw e (sym (append-nil s.pages)); performed = rw e refl; macros = rw e refl; begun = rw e refl }
+
+adds_on : (dpi : Dpi) (operation : Operation) (command : Said) (s now later : Situation) (why : Option Kind) → Adds s now
+    → unless_refused why (drawn dpi operation command now) ≡ Ok later → Adds s later
+adds_on dpi operation command s now later None t e =
+    let same : drawn dpi operation command now ≡ later = cc in
+    let k = drawn_keeps dpi operation command now in
+    subst (λ (z : Situation). Adds s z) same
+    (record {
+      more = t.more;
+      pages = k.pages ∙ t.pages;
+      performed = k.performed ∙ t.performed;
+      macros = k.macros ∙ t.macros;
+      begun = k.begun ∙ t.begun;
+    })
+adds_on dpi operation command s now later (Some kind) t e = absurd cc
+
+adds_drawn : (dpi : Dpi) (operation : Operation) (command : Said) (o : Outcome) (s later : Situation)
+    → done_with dpi operation command o s ≡ Ok later → Adds s later
+adds_drawn dpi operation command None s later e = absurd cc
+adds_drawn dpi operation command (Some done) s later e =
+    let now = turned done.0 done.1 s in
+    adds_on dpi operation command s now later (draw_refusal operation command now)
+    (adds_turned done.0 done.1 s (ejects done.1 (is_marked s)) refl) e
+
+adds_prepared : (dpi : Dpi) (ends : Bool) (s later : Situation) → Adds (cond ends (end_raster dpi s) s) later → Adds s later
+adds_prepared dpi ends s later a =
+    let k = prepared_page dpi ends s in
+    record {
+      more = a.more;
+      pages = a.pages ∙ ap (λ (ps : List Sheet). ps ++ a.more) k.pages;
+      performed = a.performed ∙ k.performed;
+      macros = a.macros ∙ k.macros;
+      begun = a.begun ∙ k.begun;
+    }
+
+adds_by : (dpi : Dpi) (operation : Operation) (command : Said) (s later : Situation) (ignored : Bool)
+    → cond ignored (Ok (counted s)) (taken dpi operation command (prepared dpi operation (counted s))) ≡ Ok later → Adds (counted s) later
+adds_by dpi operation command s later true e = let same : later ≡ counted s = cc in adds_none same
+adds_by dpi operation command s later false e =
+    let before = prepared dpi operation (counted s) in
+    adds_prepared dpi (ends_raster operation) (counted s) later
+    (adds_drawn dpi operation command (outcome dpi operation command.value (is_marked before) before.settings) before later e)
+
+-- a command that isn't refused counts one, adds pages, and does nothing to macros
+pub after_adds : (dpi : Dpi) (operation : Operation) (command : Said) (s later : Situation) → after dpi operation command s ≡ Ok later
+    → Adds (counted s) later
+unfolding after
+after_adds dpi operation command s later e = adds_by dpi operation command s later (is_ignored operation s) e
+
+-- the end of the input
+pub end_adds : (dpi : Dpi) (s : Situation) → (more : List Sheet) × ((at_end dpi s).pages ≡ s.pages ++ more)
+end_adds dpi s =
+    let a = adds_turned defaults EjectMarked (end_raster dpi s) (ejects EjectMarked (is_marked (end_raster dpi s))) refl in
+    (a.more, a.pages)

@@ -1,0 +1,322 @@
+-- How far commands and macros bring a performance, and how much work they leave.
+use Rattle.std.proofs.Common.{◌≡◌, ℕ, zero, suc, ◌+◌, ◌-◌, ◌*◌, ◌<◌, ◌≤◌, Bool, true, false, cond, List, [], ◌∷◌, ◌++◌, length, take, drop, get_or, drop-cons, Option, Some, None, Result, Ok, Err, refl, sym, ap, subst, ◌∙◌, length-append, suc-mul, arith, inl, inr}
+use Rattle.std.specs.Prelude.{is_some, ◌⊎◌}
+use Rattle.std.proofs.Math.ListN.{drop_of_length-le}
+use Rattle.arrayvec.specs.ArrayVec.{ArrayVec}
+use Rattle.pcl_base.specs.declared.dpi.Dpi.{Dpi}
+use Rattle.pcl_base.specs.declared.fault.CallFault.{CallFault}
+use Rattle.pcl_base.specs.declared.fault.CallFault.TheVariants as call
+use Rattle.pcl_base.specs.declared.fault.JobFault.{JobFault}
+use Rattle.pcl_base.specs.declared.fault.JobFault.TheVariants as job
+use Rattle.pcl_base.specs.declared.kind.Kind.{Kind}
+use Rattle.pcl_base.specs.declared.kind.Kind.TheVariants.{MacroDepth}
+use Rattle.pcl_base.specs.declared.refusal.Refusal.{Refusal}
+use Rattle.pcl_base.specs.Limits.{command_limit, macro_limit}
+use Rattle.pcl_base.specs.Operation.{operation_of}
+use Rattle.pcl_base.specs.Refusal.{refusal}
+use Rattle.pcl_env.specs.Settings.{Settings}
+use Rattle.pcl_macros.specs.Table.{MacroTable, Holds}
+use Rattle.pcl_escape.specs.declared.command.Command.{Command}
+use Rattle.pcl_escape.specs.Said.{Said, view, views}
+use Rattle.pcl_page.specs.declared.page.Page.{Page}
+use Rattle.pcl_page.specs.declared.performer.Performer.{Performer}
+use Rattle.pcl_page.specs.declared.interpreter.Interpreter.{Interpreter}
+use Rattle.pcl_page.specs.declared.interpreter.Running.{Running}
+use Rattle.pcl_page.specs.Situation.{Sheet, Situation}
+use Rattle.pcl_page.specs.Macros.{Run, after_command, run_from, run_of, left}
+use Rattle.pcl_page.specs.Performing.{Hands, Performance, done, stopped, then_on, in_order, step, commands_left, runs}
+use Rattle.pcl_page.specs.Reflecting.{IsIn, HandsMore}
+use Rattle.pcl_page.specs.Unfolding.{IsAt, IsSomewhere, run_in, entered, HasLevel, Enters, rest_of, resumed, begun_among, left_in, work_left, HandsFirst, GoesOn, IsStepped}
+use Rattle.pcl_page.proofs.Sinks.{no_pages, first_of_more, none_of_more, goes_from, goes_to}
+use Rattle.pcl_page.proofs.Unfolded.{then_assoc, then_same, pushed, begun_refused, begun_deep, begun_entered, KeptOrCounts, command_counts, begun_grow, begun_after}
+
+-- ---- a command
+
+pub stepped_on : {S : Type 0} (takes : S → Page → S → Type 0) (dpi : Dpi) (all : List Said) (place : ℕ) (command : Said) (s : Situation)
+    (old new : Interpreter) (sink later : S)
+    → IsStepped takes dpi (after_command dpi place command s) (run_of command s) s (Ok tt) old new sink later
+    → GoesOn takes dpi all (begun_among dpi all place command old.running.items s) s (Ok tt) new sink later
+stepped_on {S} takes dpi all place command s old new sink later t = (
+  t.0,
+  t.2,
+  t.4,
+  ap (λ (rs : List Running). resumed macro_limit dpi all rs t.0) t.3.0
+      ∙ begun_entered dpi all place command old.running.items s t.0 (run_of command s t.0) t.1 refl t.3.1,
+)
+
+-- it ends with the refusal of the command
+stopped_there : {S : Type 0} (takes : S → Page → S → Type 0) (dpi : Dpi) (all : List Said) (whole : Performance) (command : Said)
+    (kind : Kind) (s now : Situation) (why : Refusal) (new : Interpreter) (sink later : S) → whole ≡ stopped kind command now
+    → why ≡ refusal kind command.at command.name → HandsMore takes dpi s now sink later
+    → GoesOn takes dpi all whole s (Err (job.Refused why)) new sink later
+stopped_there {S} takes dpi all whole command kind s now why new sink later e w h =
+    subst (λ (p : Performance). GoesOn takes dpi all p s (Err (job.Refused why)) new sink later) (sym e)
+    (ap (λ (r : Refusal). Some r) (sym w), h)
+
+pub stepped_stops : {S : Type 0} (takes : S → Page → S → Type 0) (dpi : Dpi) (all : List Said) (place : ℕ) (command : Said)
+    (kind : Kind) (s : Situation) (why : Refusal) (old new : Interpreter) (sink later : S)
+    → IsStepped takes dpi (after_command dpi place command s) (run_of command s) s (Err (call.Refused kind)) old new sink later
+    → why ≡ refusal kind command.at command.name
+    → GoesOn takes dpi all (begun_among dpi all place command old.running.items s) s (Err (job.Refused why)) new sink later
+stepped_stops {S} takes dpi all place command kind s why old new sink later t w =
+    elim t [
+      | inl r ↦ stopped_there takes dpi all (begun_among dpi all place command old.running.items s) command kind s s why new sink later
+          (begun_refused dpi all place command old.running.items s kind r.0) w (no_pages takes dpi s s sink later refl r.1)
+      | inr r ↦ stopped_there takes dpi all (begun_among dpi all place command old.running.items s) command kind s r.0 why new sink later
+          (begun_deep dpi all place command old.running.items s r.0 r.1 r.2 r.3 r.4
+          ∙ ap (λ (k : Kind). stopped k command r.0) (sym r.5)) w r.6
+    ]
+
+pub stepped_short : {S : Type 0} (takes : S → Page → S → Type 0) (dpi : Dpi) (all : List Said) (place : ℕ) (command : Said)
+    (s : Situation) (old new : Interpreter) (sink later : S)
+    → IsStepped takes dpi (after_command dpi place command s) (run_of command s) s (Err call.Memory) old new sink later
+    → GoesOn takes dpi all (begun_among dpi all place command old.running.items s) s (Err job.Memory) new sink later
+stepped_short {S} takes dpi all place command s old new sink later t =
+    let whole = (begun_among dpi all place command old.running.items s).situation in
+    elim t [
+      | inl same ↦ none_of_more takes dpi s whole sink later same (begun_grow dpi all place command old.running.items s)
+      | inr d ↦ first_of_more takes dpi s d.0 whole sink later d.2
+          (begun_after dpi all place command old.running.items s d.0 d.1)
+    ]
+
+-- ---- the next command of a macro
+
+drop_views : (i : ℕ) (commands : List Command) → drop i (views commands) ≡ views (drop i commands)
+drop_views zero commands = refl
+drop_views (suc i) [] = refl
+drop_views (suc i) (first ∷ commands) = drop_views i commands
+
+got_there : (commands : List Command) (i : ℕ) (command : Command) → i < length commands → command ≡ get_or commands i command
+    → drop i (views commands) ≡ view command ∷ drop (suc i) (views commands)
+got_there commands i command lt same =
+    drop_views i commands ∙ ap views (drop-cons commands i command lt)
+    ∙ ap (λ (c : Command). view c ∷ views (drop (suc i) commands)) (sym same)
+    ∙ ap (λ (rest : List Said). view command ∷ rest) (sym (drop_views (suc i) commands))
+
+past_end : (commands : List Command) (i : ℕ) → length commands ≤ i → drop i (views commands) ≡ []
+past_end commands i le = drop_views i commands ∙ ap views (drop_of_length-le commands le)
+
+taken_next : (n place end : ℕ) (command : Said) (rest : List Said) → end - place ≡ suc n → end - (place + 1) ≡ n
+    → take (end - place) (command ∷ rest) ≡ command ∷ take (end - (place + 1)) rest
+taken_next n place end command rest e f =
+    ap (λ (m : ℕ). take m (command ∷ rest)) e ∙ ap (λ (m : ℕ). command ∷ take m rest) (sym f)
+
+-- the macro with one command less
+abbrev pub advanced : Running → Running
+advanced newest = record { next = newest.next + 1; end = newest.end; saved = newest.saved }
+
+left_next : (commands : List Command) (newest : Running) (command : Command) → newest.next < length commands → command ≡ get_or commands newest.next command
+    → newest.next < newest.end
+    → commands_left (views commands) (run_in newest) ≡ view command ∷ commands_left (views commands) (run_in (advanced newest))
+left_next commands newest command within got lt =
+    let plus : suc newest.next ≡ newest.next + 1 = omega arith in
+    ap (λ (rest : List Said). take (newest.end - newest.next) rest) (got_there commands newest.next command within got)
+    ∙ ap (λ (n : ℕ). take (newest.end - newest.next) (view command ∷ drop n (views commands))) plus
+    ∙ taken_next (newest.end - (newest.next + 1)) newest.next newest.end (view command) (drop (newest.next + 1) (views commands))
+    (omega arith) refl
+
+rest_next : (levels : ℕ) (dpi : Dpi) (commands : List Command) (newest : Running) (command : Command) (s : Situation)
+    → newest.next < length commands → command ≡ get_or commands newest.next command → newest.next < newest.end
+    → rest_of levels dpi (views commands) (run_in newest) s
+    ≡ then_on (step dpi (runs levels dpi (views commands)) newest.next (view command) s)
+    (rest_of levels dpi (views commands) (run_in (advanced newest)))
+rest_next levels dpi commands newest command s within got lt =
+    let all = views commands in
+    let one = step dpi (runs levels dpi all) in
+    ap (λ (cs : List Said). then_on (in_order one newest.next cs s) (λ later. done (left dpi newest.saved later)))
+    (left_next commands newest command within got lt)
+    ∙ then_assoc (one newest.next (view command) s)
+    (in_order one (newest.next + 1) (commands_left all (run_in (advanced newest)))) (λ later. done (left dpi newest.saved later))
+
+pub next_of_macro : (dpi : Dpi) (commands : List Command) (older : List Running) (newest : Running) (command : Command) (s : Situation)
+    → length older < 3 → newest.next < length commands → command ≡ get_or commands newest.next command → newest.next < newest.end
+    → begun_among dpi (views commands) newest.next (view command) (older ++ advanced newest ∷ []) s
+    ≡ resumed macro_limit dpi (views commands) (older ++ newest ∷ []) s
+next_of_macro dpi commands older newest command s few within got lt =
+    let all = views commands in
+    let k = 2 - length older in
+    let one = step dpi (runs k dpi all) newest.next (view command) s in
+    let levels : macro_limit - length (older ++ advanced newest ∷ []) ≡ k = omega (arith, length-append older (advanced newest ∷ [])) in
+    ap (λ (n : ℕ). then_on (step dpi (runs n dpi all) newest.next (view command) s)
+    (resumed macro_limit dpi all (older ++ advanced newest ∷ []))) levels
+    ∙ then_same one (resumed macro_limit dpi all (older ++ advanced newest ∷ []))
+    (λ t. then_on (rest_of k dpi all (run_in (advanced newest)) t) (resumed macro_limit dpi all older))
+    (λ t. pushed dpi all older (advanced newest) t few)
+    ∙ sym (pushed dpi all older newest s few
+    ∙ ap (λ (p : Performance). then_on p (resumed macro_limit dpi all older)) (rest_next k dpi commands newest command s within got lt)
+    ∙ then_assoc one (rest_of k dpi all (run_in (advanced newest))) (resumed macro_limit dpi all older))
+
+-- the end of a macro
+none_left : (commands : List Command) (newest : Running)
+    → ((length commands ≤ newest.next) ⊎ (newest.end ≤ newest.next)) → commands_left (views commands) (run_in newest) ≡ []
+none_left commands newest e = elim e [
+  | inl past ↦ ap (λ (rest : List Said). take (newest.end - newest.next) rest) (past_end commands newest.next past)
+      ∙ take_none (newest.end - newest.next)
+  | inr le ↦ let zero_left : newest.end - newest.next ≡ 0 = omega arith in
+      ap (λ (n : ℕ). take n (drop newest.next (views commands))) zero_left
+]
+  where
+    take_none : (n : ℕ) → take {A = Said} n [] ≡ []
+    take_none zero = refl
+    take_none (suc n) = refl
+
+pub end_of_macro : (dpi : Dpi) (commands : List Command) (older : List Running) (newest : Running) (s : Situation)
+    → length older < 3 → ((length commands ≤ newest.next) ⊎ (newest.end ≤ newest.next))
+    → resumed macro_limit dpi (views commands) older (left dpi newest.saved s)
+    ≡ resumed macro_limit dpi (views commands) (older ++ newest ∷ []) s
+end_of_macro dpi commands older newest s few e =
+    let all = views commands in
+    sym (pushed dpi all older newest s few
+    ∙ ap (λ (cs : List Said). then_on (then_on (in_order (step dpi (runs (2 - length older) dpi all)) newest.next cs s)
+    (λ later. done (left dpi newest.saved later))) (resumed macro_limit dpi all older)) (none_left commands newest e))
+
+-- the same interpreter but for the macros that run
+pub at_running : (dpi : Dpi) (s : Situation) (old new : Interpreter) → new.performer ≡ old.performer → new.macros ≡ old.macros
+    → IsAt dpi s old → IsAt dpi s new
+at_running dpi s old new p m at = record {
+  is_in = subst (λ (q : Performer). IsIn dpi s q) (sym p) at.is_in;
+  macros = subst (λ (t : MacroTable). Holds t s.macros) (sym m) at.macros;
+  begun = ap (λ (t : MacroTable). t.begun) m ∙ at.begun;
+}
+
+-- the end of a macro leaves the pages
+pub left_pages : (dpi : Dpi) (saved : Option Settings) (s : Situation) → (left dpi saved s).pages ≡ s.pages
+left_pages dpi None s = refl
+left_pages dpi (Some settings) s = refl
+
+-- ---- work
+
+pub left_append : (count : ℕ) (older newer : List Running) → left_in count (older ++ newer) ≡ left_in count older + left_in count newer
+left_append count [] newer = let same : left_in count newer ≡ 0 + left_in count newer = omega arith in same
+left_append count (running ∷ older) newer = let more = left_append count older newer in omega (arith, more)
+
+left_entered : (count : ℕ) (run : Option Run) → left_in count (entered run) ≤ count + 1
+left_entered count None = omega arith
+left_entered count (Some run) = omega arith
+
+-- a command that counts is worth all that its macro may have left
+fewer_left : (performed later count old new : ℕ) → performed < 100000000 → later ≡ performed + 1 → new ≤ old + (count + 1)
+    → (100000001 - later) * (count + 2) + new ≤ (100000001 - performed) * (count + 2) + old
+fewer_left performed later count old new few next more =
+    let n = 100000000 - performed in
+    let one : 100000001 - later ≡ n = omega (arith, next) in
+    let two : 100000001 - performed ≡ suc n = omega arith in
+    rw (one, two) (product n)
+  where
+    product : (n : ℕ) → n * (count + 2) + new ≤ suc n * (count + 2) + old
+    product n = let both = suc-mul n (count + 2) in omega (arith, both, more)
+
+pub stepped_work : (dpi : Dpi) (place count : ℕ) (command : Said) (s later : Situation) (old new : Interpreter) → IsAt dpi s old
+    → after_command dpi place command s ≡ Ok later → IsAt dpi later new
+    → new.running.items ≡ old.running.items ++ entered (run_of command s later)
+    → work_left count new.performer.performed new.running.items ≤ work_left count old.performer.performed old.running.items
+stepped_work dpi place count command s later old new at e there run =
+    let all : left_in count new.running.items ≡ left_in count old.running.items + left_in count (entered (run_of command s later)) =
+    ap (left_in count) run ∙ left_append count old.running.items (entered (run_of command s later)) in
+    elim (command_counts dpi place command s later e) [
+      | inl kept ↦
+          let none : run_of command s later ≡ None =
+          ap (λ (b : Bool). cond b None (run_from (operation_of command.name) command.value later)) kept.1 in
+          let same : new.performer.performed ≡ old.performer.performed =
+          there.is_in.performed ∙ ap (λ (z : Situation). z.performed) kept.0 ∙ sym at.is_in.performed in
+          let running : left_in count new.running.items ≡ left_in count old.running.items =
+          all ∙ ap (λ (r : Option Run). left_in count old.running.items + left_in count (entered r)) none ∙ omega arith in
+          subst (λ (n : ℕ). work_left count n new.running.items ≤ work_left count old.performer.performed old.running.items) (sym same)
+          (omega (arith, running))
+      | inr counts ↦
+          fewer_left old.performer.performed new.performer.performed count (left_in count old.running.items)
+          (left_in count new.running.items) (omega (arith, counts.few, at.is_in.performed))
+          (omega (arith, there.is_in.performed, counts.performed, at.is_in.performed))
+          (omega (arith, all, left_entered count (run_of command s later)))
+    ]
+
+-- one command less, or one macro less
+pub advanced_less : (count performed : ℕ) (older : List Running) (newest : Running) → newest.next < count
+    → work_left count performed (older ++ advanced newest ∷ []) < work_left count performed (older ++ newest ∷ [])
+advanced_less count performed older newest lt =
+    omega (arith, left_append count older (advanced newest ∷ []), left_append count older (newest ∷ []))
+
+pub ended_less : (count performed : ℕ) (older : List Running) (newest : Running)
+    → work_left count performed older < work_left count performed (older ++ newest ∷ [])
+ended_less count performed older newest = omega (arith, left_append count older (newest ∷ []))
+
+-- ---- a macro that runs
+
+-- the next command of the newest macro, on the way to what all have left
+pub command_goes : {S : Type 0} (takes : S → Page → S → Type 0) (dpi : Dpi) (commands : List Command) (older pushed_on : List Running)
+    (newest : Running) (command : Command) (s : Situation) (result : Result (Unit {0}) JobFault) (last : Interpreter) (sink later : S)
+    → length older < 3 → newest.next < length commands → command ≡ get_or commands newest.next command → newest.next < newest.end
+    → pushed_on ≡ older ++ advanced newest ∷ []
+    → GoesOn takes dpi (views commands) (begun_among dpi (views commands) newest.next (view command) pushed_on s) s result last sink later
+    → GoesOn takes dpi (views commands) (resumed macro_limit dpi (views commands) (older ++ newest ∷ []) s) s result last sink later
+command_goes {S} takes dpi commands older pushed_on newest command s result last sink later few within got lt push g =
+    let all = views commands in
+    goes_to takes dpi all (begun_among dpi all newest.next (view command) pushed_on s)
+    (resumed macro_limit dpi all (older ++ newest ∷ []) s) s result last sink later
+    (ap (λ (rs : List Running). begun_among dpi all newest.next (view command) rs s) push
+    ∙ next_of_macro dpi commands older newest command s few within got lt) g
+
+-- the end of the newest macro
+pub end_goes : {S : Type 0} (takes : S → Page → S → Type 0) (dpi : Dpi) (commands : List Command) (old last : Interpreter)
+    (newest : Running) (s : Situation) (sink : S)
+    → length old.running.items < 3 → ((length commands ≤ newest.next) ⊎ (newest.end ≤ newest.next))
+    → IsAt dpi (left dpi newest.saved s) last → last.running ≡ old.running
+    → GoesOn takes dpi (views commands) (resumed macro_limit dpi (views commands) (old.running.items ++ newest ∷ []) s) s (Ok tt) last sink sink
+end_goes {S} takes dpi commands old last newest s sink few e at run =
+    let all = views commands in
+    let then = left dpi newest.saved s in (
+      then,
+      at,
+      no_pages takes dpi s then sink sink (left_pages dpi newest.saved s) refl,
+      ap (λ (r : ArrayVec Running). resumed macro_limit dpi all r.items then) run
+          ∙ end_of_macro dpi commands old.running.items newest s few e,
+    )
+
+-- ---- all macros that run
+
+-- what the macros that run have left leads to the same as what those had left that ran at first
+abbrev pub GoesBack : {S : Type 0} → (S → Page → S → Type 0) → Dpi → List Said → Performance → Situation → Interpreter → S → S → Type 0
+GoesBack {S} takes dpi all whole s new old_sink new_sink =
+    (now : Situation) × IsAt dpi now new × HandsMore takes dpi s now old_sink new_sink
+    × (resumed macro_limit dpi all new.running.items now ≡ whole)
+
+-- the newest macro is taken off, and goes on
+macro_goes : {S : Type 0} (takes : S → Page → S → Type 0) (dpi : Dpi) (all : List Said) (whole : Performance) (s : Situation)
+    (result : Result (Unit {0}) JobFault) (before middle last : Interpreter) (newest : Running) (old then new : S)
+    → (b : GoesBack takes dpi all whole s before old then) → before.running.items ≡ middle.running.items ++ newest ∷ []
+    → middle.performer ≡ before.performer → middle.macros ≡ before.macros
+    → ((now : Situation) → IsAt dpi now middle
+    → GoesOn takes dpi all (resumed macro_limit dpi all (middle.running.items ++ newest ∷ []) now) now result last then new)
+    → GoesOn takes dpi all whole s result last old new
+macro_goes {S} takes dpi all whole s result before middle last newest old then new b off p m f =
+    let now = b.0 in
+    let g = f now (at_running dpi now before middle p m b.1) in
+    goes_from takes dpi all whole s now result last old then new b.2
+    (goes_to takes dpi all (resumed macro_limit dpi all (middle.running.items ++ newest ∷ []) now) whole now result last then new
+    (ap (λ (rs : List Running). resumed macro_limit dpi all rs now) (sym off) ∙ b.3) g)
+
+pub macro_on : {S : Type 0} (takes : S → Page → S → Type 0) (dpi : Dpi) (all : List Said) (whole : Performance) (s : Situation)
+    (before middle last : Interpreter) (newest : Running) (old then new : S)
+    → (b : GoesBack takes dpi all whole s before old then) → before.running.items ≡ middle.running.items ++ newest ∷ []
+    → middle.performer ≡ before.performer → middle.macros ≡ before.macros
+    → ((now : Situation) → IsAt dpi now middle
+    → GoesOn takes dpi all (resumed macro_limit dpi all (middle.running.items ++ newest ∷ []) now) now (Ok tt) last then new)
+    → GoesBack takes dpi all whole s last old new
+macro_on {S} takes dpi all whole s before middle last newest old then new b off p m f =
+    macro_goes takes dpi all whole s (Ok tt) before middle last newest old then new b off p m f
+
+pub macro_fault : {S : Type 0} (takes : S → Page → S → Type 0) (dpi : Dpi) (all : List Said) (whole : Performance) (s : Situation)
+    (fault : JobFault) (before middle last : Interpreter) (newest : Running) (old then new : S)
+    → (b : GoesBack takes dpi all whole s before old then) → before.running.items ≡ middle.running.items ++ newest ∷ []
+    → middle.performer ≡ before.performer → middle.macros ≡ before.macros
+    → ((now : Situation) → IsAt dpi now middle
+    → GoesOn takes dpi all (resumed macro_limit dpi all (middle.running.items ++ newest ∷ []) now) now (Err fault) last then new)
+    → GoesOn takes dpi all whole s (Err fault) last old new
+macro_fault {S} takes dpi all whole s fault before middle last newest old then new b off p m f =
+    macro_goes takes dpi all whole s (Err fault) before middle last newest old then new b off p m f
+
+-- as many macros run as may
+pub enters_few : (run : Option Run) (old new : List Running) → Enters run old new → length old ≤ 3 → length new ≤ 3
+enters_few None old new e few = omega (arith, ap (λ (rs : List Running). length rs) e.0, length-append old [])
+enters_few (Some run) old new e few =
+    omega (arith, ap (λ (rs : List Running). length rs) e.0, length-append old (entered (Some run)), e.1)

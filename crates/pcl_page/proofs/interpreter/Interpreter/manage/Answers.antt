@@ -1,0 +1,19 @@
+use Rattle.std.proofs.Common.{◌≡◌, Option, Some, refl, sym, subst, ◌∙◌, inl, inr}
+use Rattle.pcl_page.specs.declared.macros.Action.{Action}
+use Rattle.pcl_page.specs.Macros.{action_of, acted, run_by}
+use Rattle.pcl_page.specs.Unfolding.{IsActed}
+use Rattle.pcl_page.proofs.Interpreted.{reset_acted}
+use Rattle.pcl_page.proofs.interpreter.Interpreter.manage.Goals as goal
+
+pub returns-in-Some : goal.returns-in-Some
+returns-in-Some c = λ dpi s at. rw c.in-ControlMacros.is
+    (let is : Some c.in-Some.action ≡ action_of c.args.value = sym c.in-Some.is ∙ c.action_of.ensures in
+    subst (λ (a : Option Action). IsActed dpi (acted c.args.place a s) (run_by a) c.act.result c.args.self.now c.act.new.self) is
+    (c.act.ensures dpi s at))
+
+pub returns-in-Reset : goal.returns-in-Reset
+returns-in-Reset c = λ dpi s at.
+    elim c.in-Reset.is [
+      | inl e ↦ rw e (reset_acted dpi s c.args.self.now _ at refl refl c.control.ensures)
+      | inr e ↦ rw e (reset_acted dpi s c.args.self.now _ at refl refl c.control.ensures)
+    ]

@@ -1,0 +1,41 @@
+use Rattle.std.proofs.Common.{◌≡◌, Err, subst}
+use Rattle.pcl_base.specs.declared.fault.CallFault.{CallFault}
+use Rattle.pcl_base.specs.declared.fault.CallFault.TheVariants.{Refused, Memory}
+use Rattle.pcl_escape.specs.Said.{view}
+use Rattle.pcl_page.specs.Macros.{after_command, run_of}
+use Rattle.pcl_page.specs.Unfolding.{IsStepped}
+use Rattle.pcl_page.proofs.Progress.{stepped_on, stepped_stops, stepped_short, stepped_work, enters_few}
+use Rattle.pcl_page.proofs.interpreter.Interpreter.perform_at.Goals as goal
+
+pub returns-in-Ok-clause-done : goal.returns-in-Ok-clause-done
+returns-in-Ok-clause-done g c = λ all s at.
+    stepped_on g.S.PageSink.takes c.args.dpi all c.args.place (view c.args.command.now) s c.args.self.now c.try_command.new.self
+    c.args.sink.now c.try_command.new.sink (c.in-Ok.ensures s at)
+
+pub returns-in-Ok-clause-no_more : goal.returns-in-Ok-clause-no_more
+returns-in-Ok-clause-no_more g c = λ count.
+    let t = c.in-Ok.ensures c.requires.somewhere.0 c.requires.somewhere.1 in
+    stepped_work c.args.dpi c.args.place count (view c.args.command.now) c.requires.somewhere.0 t.0 c.args.self.now c.try_command.new.self
+    c.requires.somewhere.1 t.1 t.2 t.3.0
+
+pub returns-in-Ok-clause-few : goal.returns-in-Ok-clause-few
+returns-in-Ok-clause-few g c =
+    let t = c.in-Ok.ensures c.requires.somewhere.0 c.requires.somewhere.1 in
+    enters_few (run_of (view c.args.command.now) c.requires.somewhere.0 t.0) c.args.self.now.running.items
+    c.try_command.new.self.running.items t.3 c.requires.few
+
+pub returns-in-Err-Refused-clause-done : goal.returns-in-Err-Refused-clause-done
+returns-in-Err-Refused-clause-done g c = λ all s at.
+    stepped_stops g.S.PageSink.takes c.args.dpi all c.args.place (view c.args.command.now) c.in-Err-Refused.kind s c.new.result
+    c.args.self.now c.try_command.new.self c.args.sink.now c.try_command.new.sink
+    (subst (λ (f : CallFault). IsStepped g.S.PageSink.takes c.args.dpi (after_command c.args.dpi c.args.place (view c.args.command.now) s)
+    (run_of (view c.args.command.now) s) s (Err f) c.args.self.now c.try_command.new.self c.args.sink.now c.try_command.new.sink)
+    c.in-Err-Refused.field-0-is (c.in-Err-Refused.ensures s at)) c.new.ensures
+
+pub returns-in-Err-Memory-clause-done : goal.returns-in-Err-Memory-clause-done
+returns-in-Err-Memory-clause-done g c = λ all s at.
+    stepped_short g.S.PageSink.takes c.args.dpi all c.args.place (view c.args.command.now) s c.args.self.now c.try_command.new.self
+    c.args.sink.now c.try_command.new.sink
+    (subst (λ (f : CallFault). IsStepped g.S.PageSink.takes c.args.dpi (after_command c.args.dpi c.args.place (view c.args.command.now) s)
+    (run_of (view c.args.command.now) s) s (Err f) c.args.self.now c.try_command.new.self c.args.sink.now c.try_command.new.sink)
+    c.in-Err-Memory.field-0-is (c.in-Err-Memory.ensures s at))

@@ -1,0 +1,18 @@
+use Rattle.std.proofs.Common.{◌≤◌, length}
+use Rattle.pcl_base.specs.Limits.{macro_limit}
+use Rattle.pcl_escape.specs.Said.{views}
+use Rattle.pcl_page.specs.Situation.{Situation}
+use Rattle.pcl_page.specs.Unfolding.{IsAt, resumed, work_left}
+use Rattle.pcl_page.proofs.Progress.{GoesBack}
+use Rattle.pcl_page.proofs.interpreter.Interpreter.run_macros.Given as goal
+
+-- what the macros that run have left is what is left of those that ran at first
+abbrev pub invariant-loop-macro_run : goal.invariant-loop-macro_run
+invariant-loop-macro_run g l =
+    ((s : Situation) → IsAt l.dpi s l.fn.self
+    → GoesBack g.S.PageSink.takes l.dpi (views l.commands) (resumed macro_limit l.dpi (views l.commands) l.fn.self.running.items s) s l.self
+    l.fn.sink l.sink)
+    × (length l.self.running.items ≤ macro_limit)
+
+abbrev pub decreases-loop-macro_run : goal.decreases-loop-macro_run
+decreases-loop-macro_run g l = work_left (length l.commands) l.self.performer.performed l.self.running.items

@@ -1,0 +1,152 @@
+-- Macros: what an open definition does with a command, what a macro control does, and which macro it runs.
+use Rattle.std.specs.Prelude.{ℕ, ◌+◌, ◌==◌, is_some, Bool, if◌then◌else◌, ◌∷◌, Option, Some, None, Result, Ok, Err}
+use Rattle.std.specs.Option.{option_map}
+use Rattle.pcl_base.specs.declared.dpi.Dpi.{Dpi}
+use Rattle.pcl_base.specs.declared.kind.Kind.{Kind}
+use Rattle.pcl_base.specs.declared.kind.Kind.TheVariants.{UnsupportedCommand, MacroOpen, MacroControl as OutOfPlace}
+use Rattle.pcl_base.specs.declared.operation.Operation.{Operation}
+use Rattle.pcl_base.specs.declared.operation.Operation.TheVariants.{Reset, UniversalExit, ControlMacros}
+use Rattle.pcl_base.specs.declared.value.Value.{Value}
+use Rattle.pcl_base.specs.Operation.{operation_of}
+use Rattle.pcl_base.specs.Value.{count_of}
+use Rattle.pcl_env.specs.Settings.{Settings, kept, restored}
+use Rattle.pcl_escape.specs.Said.{Said}
+use Rattle.pcl_macros.specs.declared.table.MacroControl.TheVariants.{All, Temporary, One, MakeTemporary, MakePermanent}
+use Rattle.pcl_macros.specs.History.{MacroEvent, MacroBody, defined, control, body_after}
+use Rattle.pcl_macros.specs.Table.{Begun}
+use Rattle.pcl_page.specs.declared.macros.Action.{Action}
+use Rattle.pcl_page.specs.declared.macros.Action.TheVariants.{Begin, End, Execute, Call, Control}
+use Rattle.pcl_page.specs.declared.macros.Keeping.{Keeping}
+use Rattle.pcl_page.specs.declared.macros.Keeping.TheVariants.{Kept, Ends, Refused}
+use Rattle.pcl_page.specs.Situation.{Situation, end_raster, after, command_refusal}
+
+-- what a macro control does, by its number
+abbrev pub action_with : ℕ → Option Action
+action_with n =
+    if n == 0 then Some Begin
+    else (if n == 1 then Some End
+    else (if n == 2 then Some Execute
+    else (if n == 3 then Some Call
+    else (if n == 6 then Some (Control All)
+    else (if n == 7 then Some (Control Temporary)
+    else (if n == 8 then Some (Control One)
+    else (if n == 9 then Some (Control MakeTemporary)
+    else (if n == 10 then Some (Control MakePermanent) else None))))))))
+
+-- none where a part of the value is below 0
+abbrev pub action_by : Option ℕ → Option Action
+action_by None = None
+action_by (Some n) = action_with n
+
+abbrev pub action_of : Value → Option Action
+action_of value = action_by (count_of value)
+
+-- ---- in a definition
+
+-- a definition keeps what runs macros, and no other macro control but its own end
+abbrev pub control_keeping : Option Action → Keeping
+control_keeping (Some End) = Ends
+control_keeping (Some Execute) = Kept
+control_keeping (Some Call) = Kept
+control_keeping other = Refused OutOfPlace
+
+-- it keeps all commands but resets and macro controls
+abbrev pub keeping_of : Option Operation → Value → Keeping
+keeping_of (Some Reset) value = Refused MacroOpen
+keeping_of (Some UniversalExit) value = Refused MacroOpen
+keeping_of (Some ControlMacros) value = control_keeping (action_of value)
+keeping_of other value = Kept
+
+-- ---- macro controls
+
+abbrev pub with_macro_event : MacroEvent → Situation → Situation
+with_macro_event event s = record s { macros = event ∷ s.macros }
+
+-- a definition of the macro whose ID is set begins behind this place
+abbrev pub definition_begun : ℕ → Situation → Situation
+definition_begun place s = record s { begun = Some (record { id = s.settings.macro_id; from = place + 1 }) }
+
+-- the definition that is open ends before this place; an end without a begin is refused
+abbrev pub definition_ended : ℕ → Option Begun → Situation → Result Situation Kind
+definition_ended place None s = Err OutOfPlace
+definition_ended place (Some d) s = Ok (record s { macros = defined d.id d.from place ∷ s.macros; begun = None })
+
+-- running a macro is what follows the command
+abbrev pub acted : ℕ → Option Action → Situation → Result Situation Kind
+acted place (Some Begin) s = Ok (definition_begun place s)
+acted place (Some End) s = definition_ended place s.begun s
+acted place (Some (Control what)) s = Ok (with_macro_event (control what s.settings.macro_id) s)
+acted place other s = Ok s
+
+-- what the command at a place does to macros and definitions; a reset deletes the temporary macros
+abbrev pub managed : ℕ → Operation → Value → Situation → Result Situation Kind
+managed place Reset value s = Ok (with_macro_event (control Temporary 0) s)
+managed place UniversalExit value s = Ok (with_macro_event (control Temporary 0) s)
+managed place ControlMacros value s = acted place (action_of value) s
+managed place other value s = Ok s
+
+-- ---- one command
+
+abbrev pub and_then : Result Situation Kind → (Situation → Result Situation Kind) → Result Situation Kind
+and_then (Err kind) next = Err kind
+and_then (Ok s) next = next s
+
+abbrev pub after_at : Dpi → ℕ → Option Operation → Said → Situation → Result Situation Kind
+after_at dpi place None command s = Err UnsupportedCommand
+after_at dpi place (Some operation) command s = and_then (after dpi operation command s) (managed place operation command.value)
+
+abbrev pub if_not_refused : Option Kind → Result Situation Kind → Result Situation Kind
+if_not_refused (Some kind) result = Err kind
+if_not_refused None result = result
+
+-- a command that counts, at this place in the list of commands
+abbrev pub counting : Dpi → ℕ → Said → Situation → Result Situation Kind
+counting dpi place command s =
+    if_not_refused (command_refusal dpi command s) (after_at dpi place (operation_of command.name) command s)
+
+-- a command in a definition: one that is kept changes nothing, and doesn't count
+abbrev pub defining : Dpi → ℕ → Keeping → Said → Situation → Result Situation Kind
+defining dpi place Kept command s = Ok s
+defining dpi place Ends command s = counting dpi place command s
+defining dpi place (Refused kind) command s = Err kind
+
+-- the situation after a command, or why it is refused, but for a macro that it runs
+abbrev pub after_command : Dpi → ℕ → Said → Situation → Result Situation Kind
+after_command dpi place command s =
+    if is_some s.begun then defining dpi place (keeping_of (operation_of command.name) command.value) command s
+    else counting dpi place command s
+
+-- ---- macros that run
+
+-- a macro that runs: the place of its next command, the place behind its last one, and what is set again at its end, where it
+-- was called
+pub record Run : Type 0 where
+  pub next : ℕ
+  pub end : ℕ
+  pub saved : Option Settings
+
+abbrev pub run_with : Option Settings → MacroBody → Run
+run_with saved body = record { next = body.from; end = body.to; saved = saved }
+
+-- the macro whose ID is set, where it is there
+abbrev pub macro_now : Situation → Option MacroBody
+macro_now s = body_after s.macros s.settings.macro_id
+
+-- a call keeps the settings
+abbrev pub run_by : Option Action → Situation → Option Run
+run_by (Some Execute) s = option_map (run_with None) (macro_now s)
+run_by (Some Call) s = option_map (run_with (Some (kept s.settings))) (macro_now s)
+run_by other s = None
+
+abbrev pub run_from : Option Operation → Value → Situation → Option Run
+run_from (Some ControlMacros) value s = run_by (action_of value) s
+run_from other value s = None
+
+-- the macro that a command runs, by the situations before it and after it; one in a definition runs none
+abbrev pub run_of : Said → Situation → Situation → Option Run
+run_of command s later = if is_some s.begun then None else run_from (operation_of command.name) command.value later
+
+-- a call's end ends the raster, and all is set as before the call but the page size, the cursor and its stack
+abbrev pub left : Dpi → Option Settings → Situation → Situation
+left dpi None s = s
+left dpi (Some saved) s = record (end_raster dpi s) { settings = restored saved (end_raster dpi s).settings }

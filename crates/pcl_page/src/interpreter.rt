@@ -1,0 +1,261 @@
+//! Performing commands in their order, and those of macros where these run.
+
+ghost use Rattle.std.specs.Prelude.{◌≡◌};
+
+use crate::PageSink;
+use crate::macros::{Action, Keeping, action_of, keeping_of};
+use crate::performer::Performer;
+use arrayvec::ArrayVec;
+use pcl_base::{
+    CallFault, Dpi, JobFault, Kind, MACRO_LIMIT, Name, Operation, Refusal, Value,
+};
+use pcl_env::Saved;
+use pcl_escape::Command;
+use pcl_macros::{MacroControl, Macros};
+use std::alloc::{AllocError, Global};
+
+/// A macro that runs.
+#[derive(Debug, Default, Drop)]
+pub struct Running {
+    /// The place of its next command in the list of commands.
+    pub next: usize,
+    /// The place behind its last command.
+    pub end: usize,
+    /// What is set again at its end, where it was called.
+    pub saved: Option<Saved>,
+}
+
+/// A job whose commands are performed, one place of their list after the other.
+#[derive(Drop)]
+pub struct Interpreter<'a> {
+    /// What is set, and the page that is painted.
+    pub performer: Performer<'a>,
+    /// The macros that are there, and the definition that is open.
+    pub macros: Macros,
+    /// The macros that run, each started by the one before it.
+    pub running: ArrayVec<Running, MACRO_LIMIT>,
+}
+
+impl<'a> Interpreter<'a> {
+    ghost use Rattle.std.specs.Prelude.{◌≡◌, ◌<◌, ◌≤◌, ◌+◌, ◌++◌, ◌⊎◌, ◌^◌, ℕ, List, [], ◌∷◌, length, true, false, Some, IfOk, OnOk};
+    ghost use Rattle.std.specs.Option.{option_map};
+    ghost use Rattle.pcl_base.specs.declared.dpi.Dpi.{Dpi};
+    ghost use Rattle.pcl_base.specs.Limits.{macro_limit};
+    ghost use Rattle.pcl_base.specs.Operation.{operation_of};
+    ghost use Rattle.pcl_escape.specs.Said.{Said, view, views};
+    ghost use Rattle.pcl_macros.specs.Table.{is_begun, macro_at};
+    ghost use Rattle.pcl_page.specs.Situation.{Situation, at_begin};
+    ghost use Rattle.pcl_page.specs.Macros.{action_of, keeping_of, acted, managed, counting, after_command, run_by, run_from, run_of, run_with, left};
+    ghost use Rattle.pcl_page.specs.Reflecting.{EndDone};
+    ghost use Rattle.pcl_page.specs.Unfolding.{IsAt, IsSomewhere, resumed, begun_among, work_left, GoesOn, IsStepped, IsActed, IsEntered, InterpreterEnds};
+
+    /// The begin of a job.
+    pub fn new(alloc: Global, dpi: Dpi) -> Result<Interpreter<'a>, AllocError>
+        ensures { IfOk result (λ interpreter. IsAt dpi at_begin interpreter × (interpreter.running.items ≡ [])) }
+    {
+        Ok(Interpreter {
+            performer: Performer::new(alloc, dpi)?,
+            macros: Macros::new(alloc),
+            running: ArrayVec::new(),
+        })
+    }
+
+    /// Performs what the macros that run have left.
+    pub fn run_macros<S: PageSink>(
+        &mut self,
+        commands: &[Command<'a>],
+        dpi: Dpi,
+        sink: &mut S,
+    ) -> Result<(), JobFault>
+        requires somewhere { IsSomewhere dpi self.old }
+        requires few { length self.old.running.items ≤ macro_limit }
+        ensures done { (s : Situation) → IsAt dpi s self.old → GoesOn S.takes dpi (views commands.now)
+            (resumed macro_limit dpi (views commands.now) self.old.running.items s) s result self.new sink.old sink.new }
+        ensures idle { OnOk result (self.new.running.items ≡ []) }
+    {
+        while let Some(macro_run) = self.running.pop() {
+            self.go_on(macro_run, commands, dpi, sink)?;
+        }
+        Ok(())
+    }
+
+    /// Performs the next command of a macro that runs, or does what its end does.
+    fn go_on<S: PageSink>(
+        &mut self,
+        newest: Running,
+        commands: &[Command<'a>],
+        dpi: Dpi,
+        sink: &mut S,
+    ) -> Result<(), JobFault>
+        requires level { length self.old.running.items < macro_limit }
+        requires somewhere { IsSomewhere dpi self.old }
+        ensures done { (s : Situation) → IsAt dpi s self.old → GoesOn S.takes dpi (views commands.now)
+            (resumed macro_limit dpi (views commands.now) (self.old.running.items ++ newest ∷ []) s) s result self.new sink.old sink.new }
+        ensures few { OnOk result (length self.new.running.items ≤ macro_limit) }
+        ensures less { OnOk result (work_left (length commands.now) self.new.performer.performed self.new.running.items
+            < work_left (length commands.now) self.old.performer.performed (self.old.running.items ++ newest ∷ [])) }
+    {
+        let place = newest.next;
+        match commands.get(place) {
+            Some(command) if place < newest.end => {
+                self.running.push(Running {
+                    next: place + 1,
+                    end: newest.end,
+                    saved: newest.saved,
+                });
+                self.perform_at(command, place, dpi, sink)
+            }
+            _ => {
+                self.leave(newest.saved, dpi);
+                Ok(())
+            }
+        }
+    }
+
+    /// Does what the end of a macro does: a call's ends the raster and puts back what was set.
+    fn leave(&mut self, saved: Option<Saved>, dpi: Dpi)
+        ensures situation { (s : Situation) → IsAt dpi s self.old → IsAt dpi (left dpi saved s) self.new }
+        ensures rest { (self.new.running ≡ self.old.running) × (self.new.performer.performed ≡ self.old.performer.performed) }
+    {
+        if let Some(saved) = saved {
+            self.performer.end_call(saved, dpi);
+        }
+    }
+
+    /// Performs the command at a place, up to the begin of a macro that it runs.
+    pub fn perform_at<S: PageSink>(
+        &mut self,
+        command: &Command<'a>,
+        place: usize,
+        dpi: Dpi,
+        sink: &mut S,
+    ) -> Result<(), JobFault>
+        requires place { place < 2 ^ 63 }
+        requires somewhere { IsSomewhere dpi self.old }
+        requires few { length self.old.running.items ≤ macro_limit }
+        ensures done { (all : List Said) (s : Situation) → IsAt dpi s self.old → GoesOn S.takes dpi all
+            (begun_among dpi all place (view command.now) self.old.running.items s) s result self.new sink.old sink.new }
+        ensures few { OnOk result (length self.new.running.items ≤ macro_limit) }
+        ensures no_more { (count : ℕ) → OnOk result (work_left count self.new.performer.performed self.new.running.items
+            ≤ work_left count self.old.performer.performed self.old.running.items) }
+    {
+        match self.try_command(command, place, dpi, sink) {
+            Ok(()) => Ok(()),
+            Err(CallFault::Refused(kind)) => Err(JobFault::Refused(Refusal::new(
+                kind,
+                command.at,
+                command.name,
+            ))),
+            Err(CallFault::Memory) => Err(JobFault::Memory),
+        }
+    }
+
+    /// Performs a command, or says why it is refused.
+    fn try_command<S: PageSink>(
+        &mut self,
+        command: &Command<'a>,
+        place: usize,
+        dpi: Dpi,
+        sink: &mut S,
+    ) -> Result<(), CallFault>
+        requires { place < 2 ^ 63 }
+        ensures { (s : Situation) → IsAt dpi s self.old
+            → IsStepped S.takes dpi (after_command dpi place (view command.now) s) (run_of (view command.now) s)
+            s result self.old self.new sink.old sink.new }
+    {
+        if !self.macros.is_begun() {
+            return self.try_counted(command, place, dpi, sink);
+        }
+        match keeping_of(command) {
+            Keeping::Kept => Ok(()),
+            Keeping::Refused(kind) => Err(CallFault::Refused(kind)),
+            Keeping::Ends => self.try_counted(command, place, dpi, sink),
+        }
+    }
+
+    /// Performs a command that counts: while no definition is open, or to end it.
+    fn try_counted<S: PageSink>(
+        &mut self,
+        command: &Command<'a>,
+        place: usize,
+        dpi: Dpi,
+        sink: &mut S,
+    ) -> Result<(), CallFault>
+        requires place { place < 2 ^ 63 }
+        requires begun { (is_begun self.old.macros ≡ false) ⊎ (keeping_of (operation_of command.now.name) command.now.value ≡ Keeping.Ends) }
+        ensures { (s : Situation) → IsAt dpi s self.old
+            → IsStepped S.takes dpi (counting dpi place (view command.now) s)
+            (run_from (operation_of command.now.name) command.now.value) s result self.old self.new sink.old sink.new }
+    {
+        let operation = self.performer.try_command(command, dpi, sink)?;
+        self.manage(operation, command.value, place)
+    }
+
+    /// Does to macros what a command at a place does.
+    fn manage(&mut self, operation: Operation, value: Value, place: usize) -> Result<(), CallFault>
+        requires begun { (is_begun self.old.macros ≡ false) ⊎ (action_of value ≡ Some Action.End) }
+        requires place { place < 2 ^ 63 }
+        ensures { (dpi : Dpi) (s : Situation) → IsAt dpi s self.old
+            → IsActed dpi (managed place operation value s) (run_from (Some operation) value) result self.old self.new }
+    {
+        match operation {
+            Operation::Reset | Operation::UniversalExit => self.macros.control(0, MacroControl::Temporary),
+            Operation::ControlMacros => {
+                if let Some(action) = action_of(value) {
+                    return self.act(action, place);
+                }
+            }
+            _ => {}
+        }
+        Ok(())
+    }
+
+    /// Does what a macro control at a place does. None begins a definition while one is open.
+    fn act(&mut self, action: Action, place: usize) -> Result<(), CallFault>
+        requires begun { (is_begun self.old.macros ≡ false) ⊎ (action ≡ Action.End) }
+        requires place { place < 2 ^ 63 }
+        ensures { (dpi : Dpi) (s : Situation) → IsAt dpi s self.old
+            → IsActed dpi (acted place (Some action) s) (run_by (Some action)) result self.old self.new }
+    {
+        let id = self.performer.environment.macro_id();
+        match action {
+            Action::Begin => self.macros.begin(id, place + 1),
+            Action::End => return self.macros.end(place),
+            Action::Execute => return self.enter(id, None),
+            Action::Call => {
+                let saved = self.performer.environment.save();
+                return self.enter(id, Some(saved));
+            }
+            Action::Control(what) => self.macros.control(id, what),
+        }
+        Ok(())
+    }
+
+    /// Begins to run a macro, if it is there.
+    fn enter(&mut self, id: u16, saved: Option<Saved>) -> Result<(), CallFault>
+        ensures { IsEntered (option_map (run_with saved) (macro_at self.old.macros id)) result self.old self.new }
+    {
+        let Some(body) = self.macros.body(id) else {
+            return Ok(());
+        };
+        let newest = Running {
+            next: body.start,
+            end: body.end,
+            saved,
+        };
+        match self.running.try_push(newest) {
+            Ok(()) => Ok(()),
+            Err(_) => Err(CallFault::Refused(Kind::MacroDepth)),
+        }
+    }
+
+    /// Does what the end of the input does, `end` bytes from its begin. Nothing is performed behind it.
+    pub fn finish<S: PageSink>(self, end: usize, sink: &mut S) -> Result<(), JobFault>
+        ensures { (dpi : Dpi) (s : Situation) → IsAt dpi s self.entry → InterpreterEnds S.takes dpi end s result sink.old sink.new }
+    {
+        if self.macros.is_begun() {
+            return Err(JobFault::Refused(Refusal::new(Kind::MacroOpen, end, Name::Empty)));
+        }
+        self.performer.finish(end, sink)
+    }
+}
