@@ -155,7 +155,7 @@ impl Certificates {
     /// Changes the certificate.
     fn change(&mut self, alloc: Global, word: &str, rest: &str) -> Result<(), TableFault> {
         if word == "cut" {
-            self.cuts = Some(cuts(rest)?);
+            self.cuts = Some(cuts_of(rest)?);
             return Ok(());
         }
         let separator = if word == "remove" { " " } else { ": " };
@@ -221,7 +221,7 @@ fn answer(
 }
 
 /// Lengths, as `8-105649 by 997`, or one.
-fn cuts(text: &str) -> Result<Cuts, TableFault> {
+fn cuts_of(text: &str) -> Result<Cuts, TableFault> {
     let (span, step) = text.split_once(" by ").unwrap_or((text, "1"));
     let (first, last) = span.split_once('-').unwrap_or((span, span));
     Ok(Cuts {

@@ -7,7 +7,7 @@ use Rattle.pcl_base.specs.Size.{page_width, page_height}
 use Rattle.pcl_bitmap.specs.Bitmap.{Picture, dot}
 use Rattle.pcl_bitmap.proofs.Pictures.{same_dots}
 use Rattle.pcl_page.specs.declared.page.Page.{Page}
-use Rattle.pcl_page.specs.History.{Sheet}
+use Rattle.pcl_page.specs.Situation.{Sheet}
 use Rattle.pcl_page.specs.Performing.{Shows}
 use Rattle.pcl_plan.specs.Tokens.{frame_bytes}
 use Rattle.pcl_plan.specs.PageText.{IsPageText, PrintsPage, bitmap_rows}

@@ -2,7 +2,7 @@
 use Rattle.std.specs.Prelude.{◌≡◌, ℕ, ◌≤◌, List, [], ◌∷◌, ◌++◌, length}
 use Rattle.pcl_base.specs.declared.dpi.Dpi.{Dpi}
 use Rattle.pcl_page.specs.declared.page.Page.{Page}
-use Rattle.pcl_page.specs.History.{Sheet}
+use Rattle.pcl_page.specs.Situation.{Sheet}
 use Rattle.pcl_page.specs.Performing.{Shows}
 use Rattle.pcl_plan.specs.Tokens.{frame_bytes}
 use Rattle.pcl_plan.specs.PageText.{PrintsPage}

@@ -1,7 +1,7 @@
 -- Written page texts are least, and so are those that the checker answers Proved.
 use Rattle.std.proofs.Common.{ℕ, List, [], ◌∷◌, ◌≡◌, sym, subst}
 use Rattle.pcl_base.specs.declared.dpi.Dpi.{Dpi}
-use Rattle.pcl_page.specs.History.{Sheet}
+use Rattle.pcl_page.specs.Situation.{Sheet}
 use Rattle.pcl_cert.specs.declared.page_proof.PageProof.{PageProof}
 use Rattle.pcl_cert.proofs.ProvedLeast.{proved_least}
 use Rattle.pcl_meaning.specs.Alike.{PrintSheets}

@@ -2,7 +2,7 @@
 use Rattle.std.specs.Prelude.{◌≡◌, ℕ, List, [], ◌∷◌, ◌++◌, length, Option, Some, None}
 use Rattle.pcl_base.specs.declared.dpi.Dpi.{Dpi}
 use Rattle.pcl_page.specs.declared.page.Page.{Page}
-use Rattle.pcl_page.specs.History.{Sheet}
+use Rattle.pcl_page.specs.Situation.{Sheet}
 use Rattle.pcl_page.specs.Performing.{Shows}
 use Rattle.pcl_cert.specs.declared.check.Verdict.TheVariants.{Proved}
 use Rattle.pcl_cert.specs.declared.page_proof.PageProof.{PageProof}

@@ -3,10 +3,10 @@
 use itoa::Buffer;
 use pcl_tool::Watcher;
 use std::io::IsTerminal;
-use std::time::{Duration, Instant};
+use std::time::Instant;
 
-/// How long a run takes before anything is told of it.
-const PATIENCE: Duration = Duration::from_secs(1);
+/// How many seconds a run takes before anything is told of it.
+const PATIENCE: u64 = 1;
 
 /// Tells on standard error how many pages are done, where it is a terminal and the run takes longer than a second.
 #[derive(Clone, Copy)]
@@ -38,7 +38,7 @@ impl<'a> Progress<'a> {
     fn is_long(&self) -> bool {
         match self.begun {
             Some(begun) => match begun.elapsed(self.rt) {
-                Ok(time) => time > PATIENCE,
+                Ok(time) => time.as_secs() >= PATIENCE,
                 Err(_) => false,
             },
             None => false,
