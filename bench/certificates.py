@@ -45,7 +45,9 @@ def main(arguments):
     if len(arguments) != 2:
         sys.exit(__doc__)
     pclmin, folder = arguments
-    print("| Job | Written | Format 1 | Format 2 | min, s | with 1, s | with 2, s | Ratio, 1 | Ratio, 2 | min, MB | with 1, MB | with 2, MB |")
+    columns = ["Job", "Written", "Format 1", "Format 2", "min, s", "with 1, s", "with 2, s", "Ratio, 1", "Ratio, 2"]
+    columns += ["min, MB", "with 1, MB", "with 2, MB"]
+    print("| " + " | ".join(columns) + " |")
     print("|---|" + "---:|" * 11, flush=True)
     for name, _, dpi in JOBS:
         measure(pclmin, folder, name, dpi)

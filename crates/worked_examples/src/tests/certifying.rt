@@ -46,7 +46,7 @@ fn by_hand(rt: HostRuntime) -> Result<(), Fail> {
         let Ok(none) = minimize(rt.alloc(), b"", Dpi::Dpi300, format) else {
             rt.abort();
         };
-        assert_eq!(rt; none.job.as_slice(), b"\x1bE\x1bE");
+        assert!(rt; none.job.as_slice() == b"\x1bE\x1bE".as_slice());
         assert!(rt; none.certificate.starts_with(format.magic()));
         assert!(rt; none.certificate.ends_with(&[0, 0, 0, 0]));
         assert_eq!(rt; none.certificate.len(), 12);
