@@ -23,7 +23,7 @@ use table::{TableFault, cases_of};
 use thiserror::Error;
 
 /// The tables, each a file of `data/`.
-const TABLES: [&str; 19] = [
+const TABLES: [&str; 20] = [
     "bytes.txt",
     "sequences.txt",
     "cut.txt",
