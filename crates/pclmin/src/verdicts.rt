@@ -15,27 +15,27 @@ pub fn verdict_line(alloc: Global, verdict: &JobVerdict) -> Result<Vec<u8>, Allo
     ensures { IfOk result (λ line. line.items ≡ verdict_line_of verdict.now) }
 {
     let mut line = Vec::new(alloc);
-    append_job(verdict, &mut line)?;
+    append_job(*verdict, &mut line)?;
     line.extend_from_slice(b"\n")?;
     Ok(line)
 }
 
 /// Appends what is said of a job.
-fn append_job(verdict: &JobVerdict, line: &mut Vec<u8>) -> Result<(), AllocError>
-    ensures { OnOk result (line.new.items ≡ line.old.items ++ job_text verdict.now) }
+fn append_job(verdict: JobVerdict, line: &mut Vec<u8>) -> Result<(), AllocError>
+    ensures { OnOk result (line.new.items ≡ line.old.items ++ job_text verdict) }
 {
     match verdict {
         JobVerdict::Certificate(fault) => {
             line.extend_from_slice(b"not proved: certificate ")?;
-            line.extend_from_slice(fault_name(*fault))
+            line.extend_from_slice(fault_name(fault))
         }
         JobVerdict::PageCount => line.extend_from_slice(b"not proved: page count"),
         JobVerdict::Frame => line.extend_from_slice(b"not proved: frame"),
         JobVerdict::Page { page, verdict } => {
             line.extend_from_slice(b"not proved: page ")?;
-            line.extend_from_slice(Buffer::new().format(*page).as_bytes())?;
+            line.extend_from_slice(Buffer::new().format(page).as_bytes())?;
             line.extend_from_slice(b": ")?;
-            append_verdict(*verdict, line)
+            append_verdict(verdict, line)
         }
         JobVerdict::Proved => line.extend_from_slice(b"proved"),
     }
