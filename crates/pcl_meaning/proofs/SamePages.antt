@@ -58,7 +58,8 @@ prints_same text same printed = moved (λ size dpi copies bitmap. IsPageText dpi
 
 -- ---- texts in order
 
-pub least_together : (dpi : Dpi) (sheets : List Sheet) (texts others : List ℕ) → PrintLeast dpi sheets texts → PrintInOrder dpi sheets others
+pub least_together : (dpi : Dpi) (sheets : List Sheet) (texts others : List ℕ) → PrintLeast dpi sheets texts
+    → PrintInOrder dpi sheets others
     → length texts ≤ length others
 least_together dpi [] texts others l p = let none : length texts ≡ 0 = ap length l in omega arith
 least_together dpi (sheet ∷ sheets) texts others l p =

@@ -242,7 +242,8 @@ counted_stepped {S} takes dpi place command operation s old middle new sink late
       is ∙ a.1,
       a.2,
       subst (λ (o : Option Operation). Enters (run_from o command.value a.0) old.running.items new.running.items) (sym t.1)
-          (subst (λ (rs : List Running). Enters (run_from (Some operation) command.value a.0) rs new.running.items) (items_same old middle run) a.3),
+          (subst (λ (rs : List Running). Enters (run_from (Some operation) command.value a.0) rs new.running.items)
+              (items_same old middle run) a.3),
       more_same takes dpi s t.0 a.0 sink later (managed_acts place operation command.value t.0 a.0 a.1).pages t.5,
     )
 counted_stepped {S} takes dpi place command operation s old middle new sink later (Err (Refused kind)) at t same run f =
@@ -270,7 +271,8 @@ counted_stepped {S} takes dpi place command operation s old middle new sink late
 -- the performer refused it, or memory ran out there
 pub counted_untried : {S : Type 0} (takes : S → Page → S → Type 0) (dpi : Dpi) (place : ℕ) (command : Said) (s : Situation)
     (old new : Interpreter) (sink later : S) (fault : CallFault) → IsTried takes dpi command s (Err fault) new.performer sink later
-    → IsStepped takes dpi (counting dpi place command s) (run_from (operation_of command.name) command.value) s (Err fault) old new sink later
+    → IsStepped takes dpi (counting dpi place command s) (run_from (operation_of command.name) command.value) s (Err fault)
+        old new sink later
 counted_untried {S} takes dpi place command s old new sink later (Refused kind) t =
     inl (counting_refused dpi place command s kind t.0, t.1)
 counted_untried {S} takes dpi place command s old new sink later Memory t =

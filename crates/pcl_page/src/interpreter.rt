@@ -182,7 +182,8 @@ impl<'a> Interpreter<'a> {
         sink: &mut S,
     ) -> Result<(), CallFault>
         requires place { place < 2 ^ 63 }
-        requires begun { (is_begun self.old.macros ≡ false) ⊎ (keeping_of (operation_of command.now.name) command.now.value ≡ Keeping.Ends) }
+        requires begun { (is_begun self.old.macros ≡ false)
+            ⊎ (keeping_of (operation_of command.now.name) command.now.value ≡ Keeping.Ends) }
         ensures { (s : Situation) → IsAt dpi s self.old
             → IsStepped S.takes dpi (counting dpi place (view command.now) s)
             (run_from (operation_of command.now.name) command.now.value) s result self.old self.new sink.old sink.new }

@@ -85,7 +85,8 @@ short_stays dpi [] old new e f h = (ap proofs_left h ∙ e, ap (λ (c : Checker)
 short_stays dpi (sheet ∷ sheets) old new e f h =
     let t = past old h.1 h.0 e h.3 in short_stays dpi sheets h.1 new t.0 t.1 h.4
 
-answered : (proofs left : List PageProof) (found given : JobVerdict) → left ≡ proofs → given ≡ found → answer left given ≡ answer proofs found
+answered : (proofs left : List PageProof) (found given : JobVerdict) → left ≡ proofs → given ≡ found
+    → answer left given ≡ answer proofs found
 answered proofs left found given e f = ap (λ (ps : List PageProof). answer ps given) e ∙ ap (answer proofs) f
 
 pub miscounted : (dpi : Dpi) (sheets : List Sheet) (proofs : List PageProof) (old new : Checker) → proofs_left old ≡ proofs
@@ -119,7 +120,8 @@ pub record IsProvedPage (dpi : Dpi) (sheet : Sheet) (text : List ℕ) (proof : P
   pub verdict : IsVerdict page text proof.table (tables_of proof.places) verdicts.Proved
 
 -- behind a page that is proved
-behind : (dpi : Dpi) (sheet : Sheet) (sheets : List Sheet) (texts text rest : List ℕ) (proof : PageProof) (proofs : List PageProof) (taken : ℕ)
+behind : (dpi : Dpi) (sheet : Sheet) (sheets : List Sheet) (texts text rest : List ℕ) (proof : PageProof)
+    (proofs : List PageProof) (taken : ℕ)
     (found : JobVerdict) → IsProvedPage dpi sheet text proof → texts ≡ text ++ rest → IsOutcome dpi sheets rest proofs (taken + 1) found
     → IsOutcome dpi (sheet ∷ sheets) texts (proof ∷ proofs) taken found
 behind dpi sheet sheets texts text rest proof proofs taken job.Proved p e o = (p.page, text, rest, p.shows, e, p.as_long, p.verdict, o)

@@ -23,7 +23,8 @@ framed_is output rest (Some texts) e m = e ∙ ap (λ (r : List ℕ). frame_byte
 pub verdict_anywhere : (page : Page) (text : List ℕ) (table : List RowNumbers) (tables : Option (Bor (List (List ℕ))))
     (places : Option (List (List ℕ))) (verdict : Verdict) → option_copied tables ≡ places → IsVerdict page text table tables verdict
     → IsVerdict page text table (tables_of places) verdict
-verdict_anywhere page text table None places verdict e v = subst (λ (p : Option (List (List ℕ))). IsVerdict page text table (tables_of p) verdict) e v
+verdict_anywhere page text table None places verdict e v =
+    subst (λ (p : Option (List (List ℕ))). IsVerdict page text table (tables_of p) verdict) e v
 verdict_anywhere page text table (Some lists) places NotGrammar e v = v
 verdict_anywhere page text table (Some lists) places OtherPage e v = v
 verdict_anywhere page text table (Some lists) places Rows e v =
@@ -32,5 +33,7 @@ verdict_anywhere page text table (Some lists) places (Place row method place) e 
     subst (λ (p : Option (List (List ℕ))). IsVerdict page text table (tables_of p) (Place row method place)) e v
 verdict_anywhere page text table (Some lists) places (Edge row method inside) e v =
     subst (λ (p : Option (List (List ℕ))). IsVerdict page text table (tables_of p) (Edge row method inside)) e v
-verdict_anywhere page text table (Some lists) places Length e v = subst (λ (p : Option (List (List ℕ))). IsVerdict page text table (tables_of p) Length) e v
-verdict_anywhere page text table (Some lists) places Proved e v = subst (λ (p : Option (List (List ℕ))). IsVerdict page text table (tables_of p) Proved) e v
+verdict_anywhere page text table (Some lists) places Length e v =
+    subst (λ (p : Option (List (List ℕ))). IsVerdict page text table (tables_of p) Length) e v
+verdict_anywhere page text table (Some lists) places Proved e v =
+    subst (λ (p : Option (List (List ℕ))). IsVerdict page text table (tables_of p) Proved) e v

@@ -25,7 +25,8 @@ texts_gathered dpi (sheet ∷ sheets) old new h =
     )
 
 -- page texts of the job's pages between two resets
-unfoldable pub job_of_texts : (dpi : Dpi) (job start body output texts : List ℕ) (pages : List Sheet) → HasPages dpi job pages → start ≡ frame_bytes
+unfoldable pub job_of_texts : (dpi : Dpi) (job start body output texts : List ℕ) (pages : List Sheet) → HasPages dpi job pages
+    → start ≡ frame_bytes
     → PrintSheets dpi pages texts → body ≡ start ++ texts → output ≡ body ++ frame_bytes → IsJobOf dpi job output
 job_of_texts dpi job start body output texts pages meaning opened print joined closed =
     let spelled : output ≡ frame_bytes ++ texts ++ frame_bytes =
