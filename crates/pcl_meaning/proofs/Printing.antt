@@ -260,8 +260,16 @@ start_after size dpi copies t pages n b =
     let raster : raster_from dpi 0 at ≡ body_raster size dpi 0 (zeros size dpi) =
     one_scale dpi size (dot_at dpi at.cursor.y) t.raster_height b.height (first_dot dpi at.cursor.y y) in
     ap (λ (r : Raster). Ok
-    (record { settings = at; raster = Some r; fonts = reset_fonts; macros = reset_macros; begun = None; marks = []; pages = pages;
-        performed = n + 1 })) raster
+    (record {
+      settings = at;
+      raster = Some r;
+      fonts = reset_fonts;
+      macros = reset_macros;
+      begun = None;
+      marks = [];
+      pages = pages;
+      performed = n + 1;
+    })) raster
     ∙ ap (λ (m : Method). Ok
     (record {
       settings = record at { method = m };
@@ -501,8 +509,7 @@ end_after size dpi t m k seed marks pages n = refl
 
 feed_after : (dpi : Dpi) (u : Settings) (marks : List Mark) (pages : List Sheet) (n : ℕ)
     → does dpi (deed FormFeed zero_value [])
-    (record { settings = u; raster = None; fonts = reset_fonts; macros = reset_macros; begun = None; marks = marks;
-        pages = pages; performed = n })
+    (record (between u pages n) { marks = marks })
     ≡ Ok (between (to_first_line (before_feed u)) (pages ++ record { size = u.size; copies = u.copies; marks = marks } ∷ []) (n + 1))
 unfolding after outcome
 feed_after dpi u marks pages n = refl
@@ -526,8 +533,7 @@ end_leads : (size : Size) (dpi : Dpi) (t : Settings) (m : Method) (k : ℕ) (see
     (between (ended_at size dpi t m k seed) (pages ++ record { size = t.size; copies = t.copies; marks = marks } ∷ []) (n + 1 + 1))
 end_leads size dpi t m k seed marks pages n none few =
     let u = behind size dpi t m k seed in
-    let middle : Situation = record { settings = u; raster = None; fonts = reset_fonts; macros = reset_macros; begun = None;
-        marks = marks; pages = pages; performed = n + 1 } in
+    let middle : Situation = record (between u pages (n + 1)) { marks = marks } in
     let more = pages ++ record { size = t.size; copies = t.copies; marks = marks } ∷ [] in
     let last = between (to_first_line (before_feed u)) more (n + 1 + 1) in
     let sheet : Sheet = record { size = t.size; copies = t.copies; marks = marks } in

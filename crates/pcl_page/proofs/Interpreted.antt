@@ -43,107 +43,9 @@ use Rattle.pcl_page.proofs.Keeping.{after_adds}
 use Rattle.pcl_page.proofs.Steps.{prepared_pages, stays_pages, no_more}
 use Rattle.pcl_page.proofs.Unfolded.{managed_acts}
 
--- ---- in a definition and outside
-
-command_outside : (dpi : Dpi) (place : ℕ) (command : Said) (s : Situation) → is_some s.begun ≡ false
-    → after_command dpi place command s ≡ counting dpi place command s
-command_outside dpi place command s e =
-    ap (λ (b : Bool). cond b (defining dpi place (keeping_of (operation_of command.name) command.value) command s)
-    (counting dpi place command s)) e
-
-command_inside : (dpi : Dpi) (place : ℕ) (command : Said) (s : Situation) (keeping : Keeping) → is_some s.begun ≡ true
-    → keeping_of (operation_of command.name) command.value ≡ keeping
-    → after_command dpi place command s ≡ defining dpi place keeping command s
-command_inside dpi place command s keeping e k =
-    ap (λ (b : Bool). cond b (defining dpi place (keeping_of (operation_of command.name) command.value) command s)
-    (counting dpi place command s)) e
-    ∙ ap (λ (kept : Keeping). defining dpi place kept command s) k
-
+-- nothing runs
 abbrev runs_none : Situation → Option Run
 runs_none later = None
-
-run_inside : (command : Said) (s : Situation) → is_some s.begun ≡ true → run_of command s ≡ runs_none
-run_inside command s e =
-    ap (λ (b : Bool). λ (later : Situation). cond b None (run_from (operation_of command.name) command.value later)) e
-
-run_outside : (command : Said) (s : Situation) → is_some s.begun ≡ false
-    → run_of command s ≡ run_from (operation_of command.name) command.value
-run_outside command s e =
-    ap (λ (b : Bool). λ (later : Situation). cond b None (run_from (operation_of command.name) command.value later)) e
-
--- what ends a definition is its end
-control_ends : (action : Option Action) → control_keeping action ≡ Ends → action ≡ Some End
-control_ends (Some Begin) e = absurd cc
-control_ends (Some End) e = refl
-control_ends (Some Execute) e = absurd cc
-control_ends (Some Call) e = absurd cc
-control_ends (Some (Control what)) e = absurd cc
-control_ends None e = absurd cc
-
-pub ends_is : (operation : Option Operation) (value : Value) → keeping_of operation value ≡ Ends
-    → (operation ≡ Some ControlMacros) × (action_of value ≡ Some End)
-ends_is (Some Reset) value e = absurd cc
-ends_is (Some UniversalExit) value e = absurd cc
-ends_is (Some ControlMacros) value e = (refl, control_ends (action_of value) e)
-ends_is other value e = absurd cc
-
--- the same outcome and the same macro that runs, said otherwise
-stepped_as : {S : Type 0} (takes : S → Page → S → Type 0) (dpi : Dpi) (outcome other : Result Situation Kind)
-    (run_after run_other : Situation → Option Run) (s : Situation) (result : Result (Unit {0}) CallFault) (old new : Interpreter)
-    (sink later : S) → other ≡ outcome → run_other ≡ run_after → IsStepped takes dpi outcome run_after s result old new sink later
-    → IsStepped takes dpi other run_other s result old new sink later
-stepped_as {S} takes dpi outcome other run_after run_other s result old new sink later o r step =
-    subst (λ (p : Result Situation Kind). IsStepped takes dpi p run_other s result old new sink later) (sym o)
-    (subst (λ (f : Situation → Option Run). IsStepped takes dpi outcome f s result old new sink later) (sym r) step)
-
-pub stepped_outside : {S : Type 0} (takes : S → Page → S → Type 0) (dpi : Dpi) (place : ℕ) (command : Said) (s : Situation)
-    (result : Result (Unit {0}) CallFault) (old new : Interpreter) (sink later : S) → IsAt dpi s old → is_begun old.macros ≡ false
-    → IsStepped takes dpi (counting dpi place command s) (run_from (operation_of command.name) command.value) s result old new sink later
-    → IsStepped takes dpi (after_command dpi place command s) (run_of command s) s result old new sink later
-stepped_outside {S} takes dpi place command s result old new sink later at none step =
-    let begun : is_some s.begun ≡ false = ap (λ (b : Option Begun). is_some b) (sym at.begun) ∙ none in
-    stepped_as takes dpi (counting dpi place command s) (after_command dpi place command s)
-    (run_from (operation_of command.name) command.value) (run_of command s) s result old new sink later
-    (command_outside dpi place command s begun) (run_outside command s begun) step
-
-pub stepped_ending : {S : Type 0} (takes : S → Page → S → Type 0) (dpi : Dpi) (place : ℕ) (command : Said) (s : Situation)
-    (result : Result (Unit {0}) CallFault) (old new : Interpreter) (sink later : S) → IsAt dpi s old → is_begun old.macros ≡ true
-    → keeping_of (operation_of command.name) command.value ≡ Ends
-    → IsStepped takes dpi (counting dpi place command s) (run_from (operation_of command.name) command.value) s result old new sink later
-    → IsStepped takes dpi (after_command dpi place command s) (run_of command s) s result old new sink later
-stepped_ending {S} takes dpi place command s result old new sink later at some ends step =
-    let begun : is_some s.begun ≡ true = ap (λ (b : Option Begun). is_some b) (sym at.begun) ∙ some in
-    let is = ends_is (operation_of command.name) command.value ends in
-    let runs : run_from (operation_of command.name) command.value ≡ runs_none =
-    ap (λ (o : Option Operation). λ (t : Situation). run_from o command.value t) is.0
-    ∙ ap (λ (a : Option Action). λ (t : Situation). run_by a t) is.1 in
-    stepped_as takes dpi (counting dpi place command s) (after_command dpi place command s)
-    (run_from (operation_of command.name) command.value) (run_of command s) s result old new sink later
-    (command_inside dpi place command s Ends begun ends) (run_inside command s begun ∙ sym runs) step
-
--- a command that is kept
-pub stepped_kept : {S : Type 0} (takes : S → Page → S → Type 0) (dpi : Dpi) (place : ℕ) (command : Said) (s : Situation)
-    (old : Interpreter) (sink : S) → IsAt dpi s old → is_begun old.macros ≡ true
-    → keeping_of (operation_of command.name) command.value ≡ Kept
-    → IsStepped takes dpi (after_command dpi place command s) (run_of command s) s (Ok tt) old old sink sink
-stepped_kept {S} takes dpi place command s old sink at some kept =
-    let begun : is_some s.begun ≡ true = ap (λ (b : Option Begun). is_some b) (sym at.begun) ∙ some in (
-      s,
-      command_inside dpi place command s Kept begun kept,
-      at,
-      subst (λ (f : Situation → Option Run). Enters (f s) old.running.items old.running.items) (sym (run_inside command s begun))
-          (sym (append-nil old.running.items), tt),
-      ([], sym (append-nil s.pages), refl),
-    )
-
--- one that the definition refuses
-pub stepped_refused : {S : Type 0} (takes : S → Page → S → Type 0) (dpi : Dpi) (place : ℕ) (command : Said) (s : Situation) (kind : Kind)
-    (old new : Interpreter) (sink : S) → IsAt dpi s old → is_begun old.macros ≡ true
-    → keeping_of (operation_of command.name) command.value ≡ Keeping.Refused kind
-    → IsStepped takes dpi (after_command dpi place command s) (run_of command s) s (Err (Refused kind)) old new sink sink
-stepped_refused {S} takes dpi place command s kind old new sink at some refused =
-    let begun : is_some s.begun ≡ true = ap (λ (b : Option Begun). is_some b) (sym at.begun) ∙ some in
-    inl (command_inside dpi place command s (Keeping.Refused kind) begun refused, refl)
 
 -- ---- a command that counts
 
@@ -243,25 +145,25 @@ counted_stepped {S} takes dpi place command operation s old middle new sink late
       a.2,
       subst (λ (o : Option Operation). Enters (run_from o command.value a.0) old.running.items new.running.items) (sym t.1)
           (subst (λ (rs : List Running). Enters (run_from (Some operation) command.value a.0) rs new.running.items)
-              (items_same old middle run) a.3),
+          (items_same old middle run) a.3),
       more_same takes dpi s t.0 a.0 sink later (managed_acts place operation command.value t.0 a.0 a.1).pages t.5,
     )
 counted_stepped {S} takes dpi place command operation s old middle new sink later (Err (Refused kind)) at t same run f =
     let is = counting_is dpi place command operation s t.0 t.1 t.2 t.3 in
     elim (f t.0 (at_tried dpi operation command s t.0 old middle at t.2 t.4 same)) [
       | inl e ↦ inl (
-          is ∙ e,
-          same_sink takes dpi s t.0 sink later (unmanaged_pages dpi place operation command s t.0 kind t.2 e) t.5,
-        )
+        is ∙ e,
+        same_sink takes dpi s t.0 sink later (unmanaged_pages dpi place operation command s t.0 kind t.2 e) t.5,
+      )
       | inr a ↦ inr (
-          a.0,
-          a.1,
-          is ∙ a.2,
-          ap (λ (o : Option Operation). run_from o command.value a.0) t.1 ∙ a.3,
-          ap (λ (rs : List Running). length rs) (sym (items_same old middle run)) ∙ a.4,
-          a.5,
-          more_same takes dpi s t.0 a.0 sink later (managed_acts place operation command.value t.0 a.0 a.2).pages t.5,
-        )
+        a.0,
+        a.1,
+        is ∙ a.2,
+        ap (λ (o : Option Operation). run_from o command.value a.0) t.1 ∙ a.3,
+        ap (λ (rs : List Running). length rs) (sym (items_same old middle run)) ∙ a.4,
+        a.5,
+        more_same takes dpi s t.0 a.0 sink later (managed_acts place operation command.value t.0 a.0 a.2).pages t.5,
+      )
     ]
 counted_stepped {S} takes dpi place command operation s old middle new sink later (Err Memory) at t same run f =
     let is = counting_is dpi place command operation s t.0 t.1 t.2 t.3 in
@@ -271,8 +173,8 @@ counted_stepped {S} takes dpi place command operation s old middle new sink late
 -- the performer refused it, or memory ran out there
 pub counted_untried : {S : Type 0} (takes : S → Page → S → Type 0) (dpi : Dpi) (place : ℕ) (command : Said) (s : Situation)
     (old new : Interpreter) (sink later : S) (fault : CallFault) → IsTried takes dpi command s (Err fault) new.performer sink later
-    → IsStepped takes dpi (counting dpi place command s) (run_from (operation_of command.name) command.value) s (Err fault)
-        old new sink later
+    → IsStepped takes dpi (counting dpi place command s) (run_from (operation_of command.name) command.value) s
+    (Err fault) old new sink later
 counted_untried {S} takes dpi place command s old new sink later (Refused kind) t =
     inl (counting_refused dpi place command s kind t.0, t.1)
 counted_untried {S} takes dpi place command s old new sink later Memory t =
@@ -337,10 +239,6 @@ reset_acted dpi s old new at same run c = (
   event_done dpi (control Temporary 0) s old new at same c,
   (items_same old new run ∙ sym (append-nil old.running.items), tt),
 )
-
--- nothing is done
-pub none_acted : (dpi : Dpi) (s : Situation) (old : Interpreter) → IsAt dpi s old → IsActed dpi (Ok s) runs_none (Ok tt) old old
-none_acted dpi s old at = (s, refl, at, (sym (append-nil old.running.items), tt))
 
 -- a definition begins
 pub begin_acted : (dpi : Dpi) (id place : ℕ) (s : Situation) (old new : Interpreter) → IsAt dpi s old

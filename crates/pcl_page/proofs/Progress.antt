@@ -105,8 +105,8 @@ taken_next n place end command rest e f =
 abbrev pub advanced : Running → Running
 advanced newest = record { next = newest.next + 1; end = newest.end; saved = newest.saved }
 
-left_next : (commands : List Command) (newest : Running) (command : Command) → newest.next < length commands
-    → command ≡ get_or commands newest.next command
+left_next : (commands : List Command) (newest : Running) (command : Command)
+    → newest.next < length commands → command ≡ get_or commands newest.next command
     → newest.next < newest.end
     → commands_left (views commands) (run_in newest) ≡ view command ∷ commands_left (views commands) (run_in (advanced newest))
 left_next commands newest command within got lt =
@@ -263,7 +263,7 @@ pub end_goes : {S : Type 0} (takes : S → Page → S → Type 0) (dpi : Dpi) (c
     → length old.running.items < 3 → ((length commands ≤ newest.next) ⊎ (newest.end ≤ newest.next))
     → IsAt dpi (left dpi newest.saved s) last → last.running ≡ old.running
     → GoesOn takes dpi (views commands) (resumed macro_limit dpi (views commands) (old.running.items ++ newest ∷ []) s) s
-        (Ok tt) last sink sink
+    (Ok tt) last sink sink
 end_goes {S} takes dpi commands old last newest s sink few e at run =
     let all = views commands in
     let then = left dpi newest.saved s in (

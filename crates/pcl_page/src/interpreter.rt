@@ -6,9 +6,7 @@ use crate::PageSink;
 use crate::macros::{Action, Keeping, action_of, keeping_of};
 use crate::performer::Performer;
 use arrayvec::ArrayVec;
-use pcl_base::{
-    CallFault, Dpi, JobFault, Kind, MACRO_LIMIT, Name, Operation, Refusal, Value,
-};
+use pcl_base::{CallFault, Dpi, JobFault, Kind, MACRO_LIMIT, Name, Operation, Refusal, Value};
 use pcl_env::Saved;
 use pcl_escape::Command;
 use pcl_macros::{MacroControl, Macros};
@@ -200,7 +198,9 @@ impl<'a> Interpreter<'a> {
             → IsActed dpi (managed place operation value s) (run_from (Some operation) value) result self.old self.new }
     {
         match operation {
-            Operation::Reset | Operation::UniversalExit => self.macros.control(0, MacroControl::Temporary),
+            Operation::Reset | Operation::UniversalExit => self
+                .macros
+                .control(0, MacroControl::Temporary),
             Operation::ControlMacros => {
                 if let Some(action) = action_of(value) {
                     return self.act(action, place);

@@ -11,5 +11,5 @@ returns g c =
     delivered g.S.PageSink.takes c.args.dpi c.args.job.now (views c.in_ok-commands.commands.items) c.run.result c.args.sink.now
     c.run.new.sink c.in_ok-commands.ensures.reading
     (subst (λ (cs : List Command). HandsOver g.S.PageSink.takes c.args.dpi (performance_of c.args.dpi c.args.job.now (views cs))
-        c.run.result
+    c.run.result
     c.args.sink.now c.run.new.sink) c.deref.ensures.value c.run.ensures)

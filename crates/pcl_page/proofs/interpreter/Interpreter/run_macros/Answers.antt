@@ -10,12 +10,12 @@ use Rattle.pcl_page.proofs.interpreter.Interpreter.run_macros.Goals as goal
 pub loop-macro_run-preserved : goal.loop-macro_run-preserved
 loop-macro_run-preserved g c = (
   λ s at.
-    let middle : Interpreter =
-    record { performer = c.loop-macro_run.self.performer; macros = c.loop-macro_run.self.macros; running = c.pop.new.self } in
-    macro_on g.S.PageSink.takes c.args.dpi (views c.args.commands.now)
-    (resumed macro_limit c.args.dpi (views c.args.commands.now) c.args.self.now.running.items s) s c.loop-macro_run.self middle
-    c.go_on.new.self c.in-Some.macro_run c.args.sink.now c.loop-macro_run.sink c.go_on.new.sink (c.loop-macro_run.invariant.0 s at)
-    c.in-Some.ensures.items refl refl (λ now there. c.in_ok-go_on.ensures.done now there),
+      let middle : Interpreter =
+      record { performer = c.loop-macro_run.self.performer; macros = c.loop-macro_run.self.macros; running = c.pop.new.self } in
+      macro_on g.S.PageSink.takes c.args.dpi (views c.args.commands.now)
+      (resumed macro_limit c.args.dpi (views c.args.commands.now) c.args.self.now.running.items s) s c.loop-macro_run.self middle
+      c.go_on.new.self c.in-Some.macro_run c.args.sink.now c.loop-macro_run.sink c.go_on.new.sink (c.loop-macro_run.invariant.0 s at)
+      c.in-Some.ensures.items refl refl (λ now there. c.in_ok-go_on.ensures.done now there),
   c.in_ok-go_on.ensures.few,
 )
 
