@@ -44,10 +44,7 @@ impl Usage<'_> {
 }
 
 /// What the words of a command line ask for, or the help, the version or the fault to print.
-pub fn parse_arguments<'w, S: AsStr>(
-    alloc: Global,
-    words: &'w [S],
-) -> Result<Usage<'w>, Error> {
+pub fn parse_arguments<'w, S: AsStr>(alloc: Global, words: &'w [S]) -> Result<Usage<'w>, Error> {
     let matches = pclmin(alloc)?.try_get_matches_from(words)?;
     let (task, dots) = match matches.subcommand() {
         Some(("min", min)) => (Some(min_task(min)), min.get_one::<u16>("dpi")),
@@ -107,10 +104,9 @@ fn pclmin<'a>(alloc: Global) -> Result<Command<'a>, AllocError> {
 
 /// The command that writes a job again.
 fn min<'a>(alloc: Global) -> Result<Command<'a>, AllocError> {
-    let cert = Arg::new(alloc, "cert")
-        .long("cert")
-        .value_name("FILE")
-        .help("Also write a certificate of the job to this file, which is made or emptied first");
+    let cert = Arg::new(alloc, "cert").long("cert").value_name("FILE").help(
+        "Also write a certificate of the job to this file, which is made or emptied first",
+    );
     let format = Arg::new(alloc, "format")
         .long("format")
         .value_name("N")

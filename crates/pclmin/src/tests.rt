@@ -246,10 +246,34 @@ fn certificates(rt: HostRuntime) -> Result<(), Fail> {
     let file = "dot.cert";
     let cases: [(&str, &[u8], u8, usize, &[u8]); 6] = [
         ("pclmin min --cert dot.cert", DOT, 0, 105_650, b"PCLCERT1"),
-        ("pclmin min --cert=dot.cert --format 1", DOT, 0, 105_650, b"PCLCERT1"),
-        ("pclmin min --format 2 --cert dot.cert", DOT, 0, 132_060, b"PCLCERT2"),
-        ("pclmin min --cert dot.cert --dpi 600", DOT, 0, 211_250, b"PCLCERT1"),
-        ("pclmin min --cert dot.cert", b"", 0, 12, b"PCLCERT1\0\0\0\0"),
+        (
+            "pclmin min --cert=dot.cert --format 1",
+            DOT,
+            0,
+            105_650,
+            b"PCLCERT1",
+        ),
+        (
+            "pclmin min --format 2 --cert dot.cert",
+            DOT,
+            0,
+            132_060,
+            b"PCLCERT2",
+        ),
+        (
+            "pclmin min --cert dot.cert --dpi 600",
+            DOT,
+            0,
+            211_250,
+            b"PCLCERT1",
+        ),
+        (
+            "pclmin min --cert dot.cert",
+            b"",
+            0,
+            12,
+            b"PCLCERT1\0\0\0\0",
+        ),
         ("pclmin min --cert dot.cert", b"\x1b", 1, 0, b""),
     ];
     for (line, job, status, len, begin) in cases {
@@ -264,7 +288,11 @@ fn certificates(rt: HostRuntime) -> Result<(), Fail> {
         let certificate = fs::read(&rt, file)?;
         assert_eq!(rt; certificate.len(), len, "{line}");
         assert!(rt; certificate.starts_with(begin), "{line}");
-        let dpi = if line.contains("600") { Dpi::Dpi600 } else { Dpi::Dpi300 };
+        let dpi = if line.contains("600") {
+            Dpi::Dpi600
+        } else {
+            Dpi::Dpi300
+        };
         let _ = filter(alloc, &mut &*job, dpi, &mut plain);
         assert_eq!(rt; out.bytes.as_slice(), plain.bytes.as_slice(), "{line}");
     }
@@ -280,7 +308,13 @@ fn broken_devices(rt: HostRuntime) -> Result<(), Fail> {
         ("pclmin min", 3, "pclmin: cannot read\n"),
         ("pclmin pbm --page 1", 3, "pclmin: cannot read\n"),
     ] {
-        let ending = run(&rt, alloc, &words_of(alloc, line)?, &mut Broken, &mut Broken);
+        let ending = run(
+            &rt,
+            alloc,
+            &words_of(alloc, line)?,
+            &mut Broken,
+            &mut Broken,
+        );
         assert_eq!(rt; text_of(alloc, &ending)?.as_str(), said);
         assert_eq!(rt; ending.status(), status);
     }
