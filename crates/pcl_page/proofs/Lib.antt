@@ -10,3 +10,4 @@ pub mod Interpreted
 pub mod Progress
 pub mod Jobs
 pub mod Printed
+pub mod Defining

@@ -1,0 +1,15 @@
+use Rattle.std.proofs.Common.{◌≡◌, true}
+use Rattle.pcl_base.specs.Operation.{operation_of}
+use Rattle.pcl_escape.specs.Said.{view}
+use Rattle.pcl_macros.specs.Table.{is_begun}
+use Rattle.pcl_page.specs.declared.macros.Keeping.TheVariants.{Ends}
+use Rattle.pcl_page.specs.Macros.{keeping_of}
+use Rattle.pcl_page.proofs.Defining.{stepped_ending}
+use Rattle.pcl_page.proofs.interpreter.Interpreter.try_command.Goals as goal
+
+pub returns-in-Ends : goal.returns-in-Ends
+returns-in-Ends g c = λ s at.
+    let begun : is_begun c.args.self.now.macros ≡ true = cc in
+    let ends : keeping_of (operation_of c.args.command.now.name) c.args.command.now.value ≡ Ends = cc in
+    stepped_ending g.S.PageSink.takes c.args.dpi c.args.place (view c.args.command.now) s c.try_counted-in-Ends.result c.args.self.now
+    c.try_counted-in-Ends.new.self c.args.sink.now c.try_counted-in-Ends.new.sink at begun ends (c.try_counted-in-Ends.ensures s at)
