@@ -26,7 +26,7 @@ use crate::notation::{bracketed_bytes_of, bytes_of};
 use crate::table::{TableFault, number, resolution};
 use pcl_base::Dpi;
 use pcl_cert::Format;
-use pcl_tool::{Fault, Output, Unwatched, check_job, minimize};
+use pcl_tool::{Fault, Output, check_job, minimize};
 use std::alloc::{AllocError, Global};
 
 /// Lengths to which a certificate is cut.
@@ -213,7 +213,7 @@ fn answer(
     certificate: &[u8],
     dpi: Dpi,
 ) -> Result<String, AllocError> {
-    match check_job(alloc, input, output, certificate, dpi, Unwatched) {
+    match check_job(alloc, input, output, certificate, dpi) {
         Ok(verdict) => format!(in alloc; "{verdict:?}"),
         Err(Fault::Memory) => Err(AllocError),
         Err(_) => String::from_str(alloc, "refused"),

@@ -6,7 +6,6 @@ ghost use Rattle.pcl_cert.specs.ReadingCertificates.{Fails, certificate_at};
 ghost use Rattle.pcl_tool.specs.JobVerdicts.{IsChecked};
 
 use crate::page_checks::Checker;
-use crate::watching::{Watched, Watcher};
 use crate::{Fault, JobVerdict};
 use pcl_base::Dpi;
 use pcl_cert::{CertFault, PageProof, read_certificate};
@@ -14,20 +13,18 @@ use pcl_page::{Page, PageSink, perform};
 use std::alloc::{AllocError, Global};
 
 /// Checks that an output prints the pages of an input, and that no job text that does is shorter, by a certificate,
-/// whoever made these (docs/CERTIFICATE.md); the watcher is told of each page that is done. A refusal is the input's; else it
-/// fails only where memory runs out.
-pub fn check_job<P: Watcher>(
+/// whoever made these (docs/CERTIFICATE.md). A refusal is the input's; else it fails only where memory runs out.
+pub fn check_job(
     alloc: Global,
     input: &[u8],
     output: &[u8],
     certificate: &[u8],
     dpi: Dpi,
-    watcher: P,
 ) -> Result<JobVerdict, Fault>
     ensures { IsChecked dpi input.now output.now certificate.now result }
 {
     match read_certificate(alloc, certificate, dpi) {
-        Ok((_, proofs)) => check_pages(alloc, input, output, &proofs, dpi, watcher),
+        Ok((_, proofs)) => check_pages(alloc, input, output, &proofs, dpi),
         Err(fault) => check_fault(alloc, input, fault, dpi),
     }
 }
@@ -52,24 +49,19 @@ fn check_fault(
 }
 
 /// The same, by what a certificate says of each page.
-fn check_pages<P: Watcher>(
+fn check_pages(
     alloc: Global,
     input: &[u8],
     output: &[u8],
     proofs: &[PageProof<'_>],
     dpi: Dpi,
-    watcher: P,
 ) -> Result<JobVerdict, Fault>
     ensures { (certificate : List ℕ) (format : Format) → certificate_at dpi certificate ≡ Ok (format, proofs.now)
         → IsChecked dpi input.now output.now certificate result }
 {
-    let mut checker = Watched {
-        sink: Checker::new(alloc, output, proofs),
-        watcher,
-        pages: 0,
-    };
+    let mut checker = Checker::new(alloc, output, proofs);
     perform(alloc, input, dpi, &mut checker)?;
-    Ok(checker.sink.verdict())
+    Ok(checker.verdict())
 }
 
 /// Looks at no page.

@@ -6,7 +6,6 @@ ghost use Rattle.pcl_tool.specs.Minimizing.{IsMinimized, IsJobWritten, IsFiltere
 use crate::Fault;
 use crate::certifying::CertifiedJob;
 use crate::reading::read_all;
-use crate::watching::{Unwatched, Watched, Watcher};
 use crate::writing::write_bytes;
 use pcl_base::Dpi;
 use pcl_cert::{Format, write_certificate};
@@ -34,94 +33,66 @@ pub struct Output {
 pub fn minimize(alloc: Global, job: &[u8], dpi: Dpi, format: Format) -> Result<Output, Fault>
     ensures { IsMinimized dpi format job.now result }
 {
-    write_certified(alloc, job, dpi, format, Unwatched)
-}
-
-/// Writes a job again with a certificate of this format, and tells of each page that is done.
-fn write_certified<P: Watcher>(
-    alloc: Global,
-    job: &[u8],
-    dpi: Dpi,
-    format: Format,
-    watcher: P,
-) -> Result<Output, Fault>
-    ensures { IsMinimized dpi format job.now result }
-{
-    let mut certified = Watched {
-        sink: CertifiedJob {
-            format,
-            bytes: Vec::new(alloc),
-            proofs: Vec::new(alloc),
-        },
-        watcher,
-        pages: 0,
+    let mut certified = CertifiedJob {
+        format,
+        bytes: Vec::new(alloc),
+        proofs: Vec::new(alloc),
     };
-    write_frame(&mut certified.sink.bytes)?;
+    write_frame(&mut certified.bytes)?;
     perform(alloc, job, dpi, &mut certified)?;
-    write_frame(&mut certified.sink.bytes)?;
+    write_frame(&mut certified.bytes)?;
     let mut certificate = Vec::new(alloc);
-    write_certificate(&certified.sink.proofs, format, &mut certificate)?;
+    write_certificate(&certified.proofs, format, &mut certificate)?;
     Ok(Output {
-        job: certified.sink.bytes,
+        job: certified.bytes,
         certificate,
     })
 }
 
-/// Writes a job again as a raster job of the same pages, and tells of each page that is done. A refusal is the job's.
-fn write_job<P: Watcher>(
-    alloc: Global,
-    job: &[u8],
-    dpi: Dpi,
-    watcher: P,
-) -> Result<Vec<u8>, Fault>
+/// Writes a job again as a raster job of the same pages. A refusal is the job's.
+fn write_job(alloc: Global, job: &[u8], dpi: Dpi) -> Result<Vec<u8>, Fault>
     ensures { IsJobWritten dpi job.now result }
 {
-    let mut written = Watched {
-        sink: Written {
-            bytes: Vec::new(alloc),
-        },
-        watcher,
-        pages: 0,
+    let mut written = Written {
+        bytes: Vec::new(alloc),
     };
-    write_frame(&mut written.sink.bytes)?;
+    write_frame(&mut written.bytes)?;
     perform(alloc, job, dpi, &mut written)?;
-    write_frame(&mut written.sink.bytes)?;
-    Ok(written.sink.bytes)
+    write_frame(&mut written.bytes)?;
+    Ok(written.bytes)
 }
 
-/// Reads a job to its end, writes it again, and flushes; the watcher is told of each page that is done. Nothing is written
-/// after any fault but of a write, and then a front of the job.
-pub fn filter<R: Read, W: Write, P: Watcher>(
+/// Reads a job to its end, writes it again, and flushes. Nothing is written after any fault but of a write,
+/// and then a front of the job.
+pub fn filter<R: Read, W: Write>(
     alloc: Global,
     reader: &mut R,
     dpi: Dpi,
     out: &mut W,
-    watcher: P,
 ) -> Result<(), Fault>
     ensures { IsFiltered dpi (R.remaining reader.old) (R.remaining reader.new) (W.contents out.old) (W.contents out.new) result }
 {
     let job = read_all(alloc, reader, INPUT_LIMIT)?;
-    let output = write_job(alloc, &job, dpi, watcher)?;
+    let output = write_job(alloc, &job, dpi)?;
     write_all(out, &output)
 }
 
 /// The same with a certificate of this format (docs/CERTIFICATE.md), which is written and flushed once the whole job is.
 /// Nothing is written after any fault but of a write; then a front of the job and nothing of the certificate, or the whole job
 /// and a front of the certificate.
-pub fn filter_cert<R: Read, W: Write, C: Write, P: Watcher>(
+pub fn filter_cert<R: Read, W: Write, C: Write>(
     alloc: Global,
     reader: &mut R,
     dpi: Dpi,
     format: Format,
     out: &mut W,
     cert: &mut C,
-    watcher: P,
 ) -> Result<(), Fault>
     ensures { IsFilteredCert dpi format (R.remaining reader.old) (R.remaining reader.new) (W.contents out.old) (W.contents out.new)
         (C.contents cert.old) (C.contents cert.new) result }
 {
     let job = read_all(alloc, reader, INPUT_LIMIT)?;
-    let output = write_certified(alloc, &job, dpi, format, watcher)?;
+    let output = minimize(alloc, &job, dpi, format)?;
     write_all(out, &output.job)?;
     write_all(cert, &output.certificate)
 }

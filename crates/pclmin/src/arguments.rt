@@ -6,7 +6,7 @@ ghost use Rattle.pclmin.specs.Runs.{page_of};
 
 use crate::checks::CheckedFiles;
 use clap::error::ErrorKind;
-use clap::{Arg, ArgAction, ArgMatches, Command, Error, value_parser};
+use clap::{Arg, ArgMatches, Command, Error, value_parser};
 use pcl_base::Dpi;
 use pcl_cert::Format;
 use std::alloc::{AllocError, Global};
@@ -30,8 +30,6 @@ pub struct Usage<'w> {
     pub task: Task<'w>,
     /// The resolution.
     pub dpi: Dpi,
-    /// Whether nothing is told of how far it has come.
-    pub quiet: bool,
 }
 
 impl Usage<'_> {
@@ -87,8 +85,7 @@ fn usage_of<'w>(name: &str, command: &ArgMatches<'w>) -> Option<Usage<'w>> {
         },
     };
     let dpi = resolution(command.get_one::<u16>("dpi")?)?;
-    let quiet = command.get_flag("quiet");
-    Some(Usage { task, dpi, quiet })
+    Some(Usage { task, dpi })
 }
 
 /// What the words of `check` ask for.
@@ -98,7 +95,6 @@ fn checked_files<'w>(check: &ArgMatches<'w>) -> Option<CheckedFiles<'w>> {
         output: check.get_str("OUT")?,
         certificate: check.get_str("CERT")?,
         dpi: resolution(check.get_one::<u16>("dpi")?)?,
-        quiet: check.get_flag("quiet"),
     })
 }
 
@@ -159,7 +155,6 @@ fn min<'a>(alloc: Global) -> Result<Command<'a>, AllocError> {
         )
         .arg(cert)?
         .arg(format)?
-        .arg(quiet(alloc))?
         .arg(dpi(alloc))
 }
 
@@ -172,7 +167,6 @@ fn check<'a>(alloc: Global) -> Result<Command<'a>, AllocError> {
         .arg(file(alloc, "IN", "The job as it was"))?
         .arg(file(alloc, "OUT", "The job that it was written as"))?
         .arg(file(alloc, "CERT", "The certificate of the written job"))?
-        .arg(quiet(alloc))?
         .arg(dpi(alloc))
 }
 
@@ -196,14 +190,6 @@ fn pbm<'a>(alloc: Global) -> Result<Command<'a>, AllocError> {
         .about("Writes a page of the job on standard input as a PBM image (P4) to standard output")
         .arg(page)?
         .arg(dpi(alloc))
-}
-
-/// Whether nothing is told of how far a run has come.
-fn quiet<'a>(alloc: Global) -> Arg<'a> {
-    Arg::new(alloc, "quiet")
-        .long("quiet")
-        .action(ArgAction::SetTrue)
-        .help("Don't tell on a terminal how many pages are done")
 }
 
 /// The resolution, which all commands take.

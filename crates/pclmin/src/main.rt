@@ -4,12 +4,10 @@
 mod arguments;
 mod checks;
 mod messages;
-mod progress;
 mod run;
 mod verdicts;
 
 use messages::USAGE_STATUS;
-use progress::Progress;
 use run::{Ending, run};
 use std::io;
 use std::process::ExitCode;
@@ -20,7 +18,6 @@ fn main(rt: HostRuntime) -> ExitCode {
         let _ = rt.eprint("pclmin: the arguments aren't text\n");
         return ExitCode::from(USAGE_STATUS);
     };
-    let progress = Progress::new(&rt);
     let ending = match words.collect::<Vec<String>>(rt.alloc()) {
         Ok(words) => run(
             &rt,
@@ -28,11 +25,9 @@ fn main(rt: HostRuntime) -> ExitCode {
             &words,
             &mut rt.reader(),
             &mut io::writer(&rt),
-            progress,
         ),
         Err(_) => Ending::NoMemory,
     };
-    progress.clear();
     print(&rt, &ending);
     ExitCode::from(ending.status())
 }

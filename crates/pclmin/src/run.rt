@@ -8,7 +8,7 @@ use crate::messages::{MEMORY_STATUS, fault_line, status_of};
 use crate::verdicts::verdict_status;
 use clap::Error;
 use clap::error::ErrorKind;
-use pcl_tool::{Fault, INPUT_LIMIT, JobVerdict, Watcher, filter, filter_cert, preview, read_all};
+use pcl_tool::{Fault, INPUT_LIMIT, JobVerdict, filter, filter_cert, preview, read_all};
 use std::alloc::Global;
 use std::convert::AsStr;
 use std::fs;
@@ -45,24 +45,22 @@ impl Ending {
     }
 }
 
-/// Does what the words of a command line ask for, the program's name first, with the job that a reader gives. The watcher is
-/// told of each page that is done.
-pub fn run<F: Files, S: AsStr, R: Read, W: Write, P: Watcher>(
+/// Does what the words of a command line ask for, the program's name first, with the job that a reader gives.
+pub fn run<F: Files, S: AsStr, R: Read, W: Write>(
     files: &F,
     alloc: Global,
     words: &[S],
     reader: &mut R,
     out: &mut W,
-    watcher: P,
 ) -> Ending
     ensures { HasEnded (R.remaining reader.old) (R.remaining reader.new) (W.contents out.old) (W.contents out.new) result }
 {
     match parse_arguments(alloc, words) {
-        Ok(Request::Run(usage)) => match carry_out(files, alloc, usage, reader, out, told_of(usage.quiet, watcher)) {
+        Ok(Request::Run(usage)) => match carry_out(files, alloc, usage, reader, out) {
             Ok(()) => Ending::Done,
             Err(fault) => failed(alloc, &fault, usage.page()),
         },
-        Ok(Request::Check(asked)) => match check(files, alloc, asked, out, told_of(asked.quiet, watcher)) {
+        Ok(Request::Check(asked)) => match check(files, alloc, asked, out) {
             Ok(verdict) => Ending::Checked(verdict),
             Err(fault) => failed(alloc, &fault, 0),
         },
@@ -71,26 +69,20 @@ pub fn run<F: Files, S: AsStr, R: Read, W: Write, P: Watcher>(
     }
 }
 
-/// Who is told of pages that are done: nobody where the run is quiet.
-fn told_of<P: Watcher>(quiet: bool, watcher: P) -> Option<P> {
-    if quiet { None } else { Some(watcher) }
-}
-
 /// Does what is asked for with the job that a reader gives. The file of a certificate is made before anything is read.
-fn carry_out<F: Files, R: Read, W: Write, P: Watcher>(
+fn carry_out<F: Files, R: Read, W: Write>(
     files: &F,
     alloc: Global,
     usage: Usage<'_>,
     reader: &mut R,
     out: &mut W,
-    watcher: P,
 ) -> Result<(), Fault>
     ensures { HasDone usage.entry (R.remaining reader.old) (R.remaining reader.new) (W.contents out.old) (W.contents out.new) result }
 {
     match usage.task {
-        Task::Minimize => filter(alloc, reader, usage.dpi, out, watcher),
+        Task::Minimize => filter(alloc, reader, usage.dpi, out),
         Task::Certify { file, format } => match fs::create(files, file) {
-            Ok(mut cert) => filter_cert(alloc, reader, usage.dpi, format, out, &mut cert, watcher),
+            Ok(mut cert) => filter_cert(alloc, reader, usage.dpi, format, out, &mut cert),
             Err(_) => Err(Fault::WriteFault),
         },
         Task::Preview { page } => {

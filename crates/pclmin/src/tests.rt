@@ -2,7 +2,7 @@ use super::*;
 use messages::{fault_line, status_of};
 use pcl_base::{Dpi, Kind, Method, Name, Refusal};
 use pcl_cert::{CertFault, Verdict};
-use pcl_tool::{Fault, JobVerdict, Unwatched, filter};
+use pcl_tool::{Fault, JobVerdict, filter};
 use std::alloc::Global;
 use std::fs;
 use std::io::{ErrorKind, Read, Write};
@@ -225,7 +225,7 @@ fn command_lines(rt: HostRuntime) -> Result<(), Fail> {
         let mut out = Held {
             bytes: Vec::new(alloc),
         };
-        let ending = run(&rt, alloc, &words_of(alloc, line)?, &mut &*job, &mut out, Unwatched);
+        let ending = run(&rt, alloc, &words_of(alloc, line)?, &mut &*job, &mut out);
         let text = text_of(alloc, &ending)?;
         assert_eq!(rt; ending.status(), status, "{line}: {text}");
         assert_eq!(rt; out.bytes.len(), len, "{line}");
@@ -261,13 +261,13 @@ fn certificates(rt: HostRuntime) -> Result<(), Fail> {
         let mut plain = Held {
             bytes: Vec::new(alloc),
         };
-        let ending = run(&rt, alloc, &words_of(alloc, line)?, &mut &*job, &mut out, Unwatched);
+        let ending = run(&rt, alloc, &words_of(alloc, line)?, &mut &*job, &mut out);
         assert_eq!(rt; ending.status(), status, "{line}");
         let certificate = fs::read(&rt, file)?;
         assert_eq!(rt; certificate.len(), len, "{line}");
         assert!(rt; certificate.starts_with(begin), "{line}");
         let dpi = if line.contains("600") { Dpi::Dpi600 } else { Dpi::Dpi300 };
-        let _ = filter(alloc, &mut &*job, dpi, &mut plain, Unwatched);
+        let _ = filter(alloc, &mut &*job, dpi, &mut plain);
         assert_eq!(rt; out.bytes.as_slice(), plain.bytes.as_slice(), "{line}");
     }
     fs::remove_file(&rt, file)?;
@@ -282,7 +282,7 @@ fn broken_devices(rt: HostRuntime) -> Result<(), Fail> {
         ("pclmin min", 3, "pclmin: cannot read\n"),
         ("pclmin pbm --page 1", 3, "pclmin: cannot read\n"),
     ] {
-        let ending = run(&rt, alloc, &words_of(alloc, line)?, &mut Broken, &mut Broken, Unwatched);
+        let ending = run(&rt, alloc, &words_of(alloc, line)?, &mut Broken, &mut Broken);
         assert_eq!(rt; text_of(alloc, &ending)?.as_str(), said);
         assert_eq!(rt; ending.status(), status);
     }
@@ -297,7 +297,7 @@ fn broken_devices(rt: HostRuntime) -> Result<(), Fail> {
             "pclmin: refused: Truncated at 0 -\n",
         ),
     ] {
-        let ending = run(&rt, alloc, &words_of(alloc, line)?, &mut &*job, &mut Broken, Unwatched);
+        let ending = run(&rt, alloc, &words_of(alloc, line)?, &mut &*job, &mut Broken);
         assert_eq!(rt; text_of(alloc, &ending)?.as_str(), said);
         assert_eq!(rt; ending.status(), status);
     }
@@ -391,13 +391,13 @@ fn checks(rt: HostRuntime) -> Result<(), Fail> {
         let mut out = Held {
             bytes: Vec::new(alloc),
         };
-        let ending = run(&rt, alloc, &words_of(alloc, line)?, &mut Broken, &mut out, Unwatched);
+        let ending = run(&rt, alloc, &words_of(alloc, line)?, &mut Broken, &mut out);
         let text = text_of(alloc, &ending)?;
         assert_eq!(rt; ending.status(), status, "{line}: {text}");
         assert_eq!(rt; out.bytes.as_slice(), written.as_bytes(), "{line}");
         assert!(rt; text.contains(said), "{line}: {text}");
     }
-    let ending = run(&rt, alloc, &words_of(alloc, line)?, &mut Broken, &mut Broken, Unwatched);
+    let ending = run(&rt, alloc, &words_of(alloc, line)?, &mut Broken, &mut Broken);
     assert_eq!(rt; text_of(alloc, &ending)?.as_str(), "pclmin: cannot write\n");
     for name in ["check.in", "check.out", "check.cert"] {
         fs::remove_file(&rt, name)?;

@@ -4,7 +4,7 @@ use super::devices::{Held, Source};
 use super::filtering::{JOB, WRITTEN, taking};
 use pcl_base::Dpi;
 use pcl_cert::Format;
-use pcl_tool::{Fault, Unwatched, filter_cert, minimize};
+use pcl_tool::{Fault, filter_cert, minimize};
 use std::alloc::{AllocError, Global};
 use std::io::{ErrorKind, Read};
 use std::process::Abort;
@@ -30,7 +30,7 @@ fn certificate(alloc: Global, format: Format) -> Result<Vec<u8>, AllocError> {
 
 /// What `filter_cert` answers for the job in the first format.
 fn filtered<R: Read>(alloc: Global, source: &mut R, out: &mut Held, cert: &mut Held) -> Result<(), Fault> {
-    filter_cert(alloc, source, Dpi::Dpi300, Format::One, out, cert, Unwatched)
+    filter_cert(alloc, source, Dpi::Dpi300, Format::One, out, cert)
 }
 
 /// Asserts what a writer holds, and how often it was flushed.

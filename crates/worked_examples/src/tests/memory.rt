@@ -5,7 +5,7 @@
 use pcl_base::{Dpi, JobFault, Kind, Name, Refusal};
 use pcl_cert::Format;
 use pcl_page::read_pages;
-use pcl_tool::{Fault, Output, Unwatched, filter, minimize, preview, read_all};
+use pcl_tool::{Fault, Output, filter, minimize, preview, read_all};
 use std::alloc::Global;
 use std::io;
 use std::io::Write;
@@ -143,11 +143,11 @@ fn for_an_input(rt: HostRuntime) {
 #[test]
 fn for_a_filter(rt: HostRuntime) {
     let mut out = Counted(0);
-    let mut result = filter(rt.alloc(), &mut &*JOB, Dpi::Dpi300, &mut out, Unwatched);
+    let mut result = filter(rt.alloc(), &mut &*JOB, Dpi::Dpi300, &mut out);
     if result == Err(Fault::Memory) {
         say_that_memory_ran_out(&rt);
         assert_eq!(rt; out.0, 0);
-        result = filter(rt.alloc(), &mut &*JOB, Dpi::Dpi300, &mut out, Unwatched);
+        result = filter(rt.alloc(), &mut &*JOB, Dpi::Dpi300, &mut out);
     }
     assert_eq!(rt; result, Ok(()));
     assert_eq!(rt; out.0, 48);

@@ -6,7 +6,7 @@ use Rattle.pcl_tool.proofs.JobsChecked.{job_answered}
 use Rattle.pcl_tool.proofs.checking.check_pages.Goals as goal
 
 pub returns : goal.returns
-returns g c = λ certificate format e.
+returns c = λ certificate format e.
     let h = c.in_ok-perform.ensures in
     subst (IsJobVerdict c.args.dpi c.args.input.now c.args.output.now certificate) (sym c.verdict.ensures)
     (job_answered c.args.dpi c.args.input.now c.args.output.now certificate format c.args.proofs.now (accepted_pages h) _ _ (has_pages h) e

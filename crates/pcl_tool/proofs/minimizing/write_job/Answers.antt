@@ -5,7 +5,7 @@ use Rattle.pcl_tool.proofs.Texts.{job_written}
 use Rattle.pcl_tool.proofs.minimizing.write_job.Goals as goal
 
 pub returns : goal.returns
-returns g c =
+returns c =
     let h = c.in_ok-perform.ensures in
     let f = c.in_ok-write_frame.ensures in
     let n = c.in_ok-write_frame-2.ensures in

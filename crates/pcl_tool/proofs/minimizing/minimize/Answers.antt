@@ -5,10 +5,10 @@ use Rattle.pcl_cert.specs.Certificates.{AreProofs, certificate_bytes, proofs_in}
 use Rattle.pcl_page.proofs.Jobs.{accepted_pages, has_pages}
 use Rattle.pcl_tool.specs.Certifying.{SoFar}
 use Rattle.pcl_tool.proofs.Proved.{can_be_written, certified_job}
-use Rattle.pcl_tool.proofs.minimizing.write_certified.Goals as goal
+use Rattle.pcl_tool.proofs.minimizing.minimize.Goals as goal
 
 pub write_certificate-requires : goal.write_certificate-requires
-write_certificate-requires g c =
+write_certificate-requires c =
     let h = c.in_ok-perform.ensures in (
       c.args.dpi,
       subst (λ (proofs : List PageProof). AreProofs c.args.dpi c.args.format (proofs_in c.args.format proofs))
@@ -18,7 +18,7 @@ write_certificate-requires g c =
     )
 
 pub returns : goal.returns
-returns g c =
+returns c =
     let h = c.in_ok-perform.ensures in
     let f = c.in_ok-write_frame.ensures in
     let n = c.in_ok-write_frame-2.ensures in
