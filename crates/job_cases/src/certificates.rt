@@ -136,7 +136,9 @@ impl Certificates {
     /// What the other job is written as, or the input where there is no other.
     fn write(&self, alloc: Global) -> Result<Output, TableFault> {
         let job = self.other.as_ref().unwrap_or(&self.job);
-        minimize(alloc, job, self.made.unwrap_or(self.dpi), self.format).map_err(|_| TableFault::Unknown)
+        minimize(alloc, job, self.made.unwrap_or(self.dpi), self.format).map_err(
+            |_| TableFault::Unknown,
+        )
     }
 
     /// Begins a case with the certificate as it is made.

@@ -99,7 +99,7 @@ compared_same : OnePages → (dpi : Dpi) (input output certificate : List ℕ) (
 compared_same one dpi input output certificate i compared =
     let read : (i.format, i.proofs) ≡ (compared.format, compared.proofs) =
     let both : Ok (i.format, i.proofs) ≡ Ok (compared.format, compared.proofs) = sym (again dpi input output certificate i)
-        ∙ compared.certified in cc in
+    ∙ compared.certified in cc in
     let proofs : i.proofs ≡ compared.proofs = ap (λ (r : Format × List PageProof). r.1) read in
     subst (λ (ps : List PageProof). AreProved dpi compared.pages i.texts ps) proofs
     (subst (λ (ss : List Sheet). AreProved dpi ss i.texts i.proofs) (one dpi input i.pages compared.pages i.meaning compared.meaning)

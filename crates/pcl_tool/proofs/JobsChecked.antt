@@ -73,7 +73,7 @@ job_answered dpi input output certificate format proofs pages begun new meaning 
           subst (λ (left : List PageProof). IsJobVerdict dpi input output certificate (answer left new.found)) (sym o.0) o.1
       | inr other ↦
           subst (IsJobVerdict dpi input output certificate) (sym (miscounted dpi pages proofs begun new left other h))
-              (compared, other)
+          (compared, other)
     ]
 
 -- the answer where the certificate is none

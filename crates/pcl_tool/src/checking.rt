@@ -30,12 +30,7 @@ pub fn check_job(
 }
 
 /// What is answered of bytes that are no certificate.
-fn check_fault(
-    alloc: Global,
-    input: &[u8],
-    fault: CertFault,
-    dpi: Dpi,
-) -> Result<JobVerdict, Fault>
+fn check_fault(alloc: Global, input: &[u8], fault: CertFault, dpi: Dpi) -> Result<JobVerdict, Fault>
     ensures { (output certificate : List ℕ) → Fails fault (certificate_at dpi certificate)
         → IsChecked dpi input.now output certificate result }
 {

@@ -34,11 +34,7 @@ impl<'p, 'c, 't> Checker<'p, 'c, 't> {
     ghost use Rattle.pcl_tool.specs.CheckerSteps.{IsBegun, answer};
 
     /// Before the first page, with the texts of an output.
-    pub fn new(
-        alloc: Global,
-        output: &'t [u8],
-        proofs: &'p [PageProof<'c>],
-    ) -> Checker<'p, 'c, 't>
+    pub fn new(alloc: Global, output: &'t [u8], proofs: &'p [PageProof<'c>]) -> Checker<'p, 'c, 't>
         ensures { IsBegun output.now proofs.now result }
     {
         let (texts, found) = match texts_of(output, proofs) {

@@ -54,10 +54,7 @@ pub enum Request<'w> {
 }
 
 /// What the words of a command line ask for, or the help, the version or the fault to print.
-pub fn parse_arguments<'w, S: AsStr>(
-    alloc: Global,
-    words: &'w [S],
-) -> Result<Request<'w>, Error> {
+pub fn parse_arguments<'w, S: AsStr>(alloc: Global, words: &'w [S]) -> Result<Request<'w>, Error> {
     let matches = pclmin(alloc)?.try_get_matches_from(words)?;
     match request_of(&matches) {
         Some(request) => Ok(request),
@@ -139,10 +136,9 @@ fn pclmin<'a>(alloc: Global) -> Result<Command<'a>, AllocError> {
 
 /// The command that writes a job again.
 fn min<'a>(alloc: Global) -> Result<Command<'a>, AllocError> {
-    let cert = Arg::new(alloc, "cert")
-        .long("cert")
-        .value_name("FILE")
-        .help("Also write a certificate of the job to this file, which is made or emptied first");
+    let cert = Arg::new(alloc, "cert").long("cert").value_name("FILE").help(
+        "Also write a certificate of the job to this file, which is made or emptied first",
+    );
     let format = Arg::new(alloc, "format")
         .long("format")
         .value_name("N")

@@ -248,10 +248,34 @@ fn certificates(rt: HostRuntime) -> Result<(), Fail> {
     let file = "dot.cert";
     let cases: [(&str, &[u8], u8, usize, &[u8]); 6] = [
         ("pclmin min --cert dot.cert", DOT, 0, 105_650, b"PCLCERT1"),
-        ("pclmin min --cert=dot.cert --format 1", DOT, 0, 105_650, b"PCLCERT1"),
-        ("pclmin min --format 2 --cert dot.cert", DOT, 0, 132_060, b"PCLCERT2"),
-        ("pclmin min --cert dot.cert --dpi 600", DOT, 0, 211_250, b"PCLCERT1"),
-        ("pclmin min --cert dot.cert", b"", 0, 12, b"PCLCERT1\0\0\0\0"),
+        (
+            "pclmin min --cert=dot.cert --format 1",
+            DOT,
+            0,
+            105_650,
+            b"PCLCERT1",
+        ),
+        (
+            "pclmin min --format 2 --cert dot.cert",
+            DOT,
+            0,
+            132_060,
+            b"PCLCERT2",
+        ),
+        (
+            "pclmin min --cert dot.cert --dpi 600",
+            DOT,
+            0,
+            211_250,
+            b"PCLCERT1",
+        ),
+        (
+            "pclmin min --cert dot.cert",
+            b"",
+            0,
+            12,
+            b"PCLCERT1\0\0\0\0",
+        ),
         ("pclmin min --cert dot.cert", b"\x1b", 1, 0, b""),
     ];
     for (line, job, status, len, begin) in cases {
@@ -266,7 +290,11 @@ fn certificates(rt: HostRuntime) -> Result<(), Fail> {
         let certificate = fs::read(&rt, file)?;
         assert_eq!(rt; certificate.len(), len, "{line}");
         assert!(rt; certificate.starts_with(begin), "{line}");
-        let dpi = if line.contains("600") { Dpi::Dpi600 } else { Dpi::Dpi300 };
+        let dpi = if line.contains("600") {
+            Dpi::Dpi600
+        } else {
+            Dpi::Dpi300
+        };
         let _ = filter(alloc, &mut &*job, dpi, &mut plain);
         assert_eq!(rt; out.bytes.as_slice(), plain.bytes.as_slice(), "{line}");
     }
@@ -282,7 +310,13 @@ fn broken_devices(rt: HostRuntime) -> Result<(), Fail> {
         ("pclmin min", 3, "pclmin: cannot read\n"),
         ("pclmin pbm --page 1", 3, "pclmin: cannot read\n"),
     ] {
-        let ending = run(&rt, alloc, &words_of(alloc, line)?, &mut Broken, &mut Broken);
+        let ending = run(
+            &rt,
+            alloc,
+            &words_of(alloc, line)?,
+            &mut Broken,
+            &mut Broken,
+        );
         assert_eq!(rt; text_of(alloc, &ending)?.as_str(), said);
         assert_eq!(rt; ending.status(), status);
     }
@@ -373,16 +407,88 @@ fn checks(rt: HostRuntime) -> Result<(), Fail> {
         (line, b"", frame, none, 0, "proved\n", ""),
         (fine, b"", frame, none, 0, "proved\n", ""),
         (line, b"", b"", none, 1, "not proved: frame\n", ""),
-        (line, b"", b"\x1bE\x1bE\x1bE", none, 1, "not proved: frame\n", ""),
+        (
+            line,
+            b"",
+            b"\x1bE\x1bE\x1bE",
+            none,
+            1,
+            "not proved: frame\n",
+            "",
+        ),
         (line, DOT, frame, none, 1, "not proved: page count\n", ""),
-        (line, b"", frame, b"PCLCERT", 1, "not proved: certificate BadMagic\n", ""),
-        (line, b"", frame, b"PCLCERT2\0\0\0", 1, "not proved: certificate Short\n", ""),
-        (line, b"", frame, b"PCLCERT1\0\0\0\0\0", 1, "not proved: certificate Extra\n", ""),
-        (line, b"A", frame, b"", 1, "", "pclmin: refused: NoFont at 0 text\n"),
-        ("pclmin check check.no check.out check.cert", b"A", frame, none, 3, "", "pclmin: cannot read\n"),
-        ("pclmin check check.in check.no check.cert", b"A", frame, none, 3, "", "pclmin: cannot read\n"),
-        ("pclmin check check.in check.out check.no", b"A", frame, none, 3, "", "pclmin: cannot read\n"),
-        ("pclmin check check.in check.out", b"", frame, none, 2, "", "<CERT>"),
+        (
+            line,
+            b"",
+            frame,
+            b"PCLCERT",
+            1,
+            "not proved: certificate BadMagic\n",
+            "",
+        ),
+        (
+            line,
+            b"",
+            frame,
+            b"PCLCERT2\0\0\0",
+            1,
+            "not proved: certificate Short\n",
+            "",
+        ),
+        (
+            line,
+            b"",
+            frame,
+            b"PCLCERT1\0\0\0\0\0",
+            1,
+            "not proved: certificate Extra\n",
+            "",
+        ),
+        (
+            line,
+            b"A",
+            frame,
+            b"",
+            1,
+            "",
+            "pclmin: refused: NoFont at 0 text\n",
+        ),
+        (
+            "pclmin check check.no check.out check.cert",
+            b"A",
+            frame,
+            none,
+            3,
+            "",
+            "pclmin: cannot read\n",
+        ),
+        (
+            "pclmin check check.in check.no check.cert",
+            b"A",
+            frame,
+            none,
+            3,
+            "",
+            "pclmin: cannot read\n",
+        ),
+        (
+            "pclmin check check.in check.out check.no",
+            b"A",
+            frame,
+            none,
+            3,
+            "",
+            "pclmin: cannot read\n",
+        ),
+        (
+            "pclmin check check.in check.out",
+            b"",
+            frame,
+            none,
+            2,
+            "",
+            "<CERT>",
+        ),
     ];
     for (line, input, output, certificate, status, written, said) in cases {
         fs::write(&rt, "check.in", input)?;
@@ -397,7 +503,13 @@ fn checks(rt: HostRuntime) -> Result<(), Fail> {
         assert_eq!(rt; out.bytes.as_slice(), written.as_bytes(), "{line}");
         assert!(rt; text.contains(said), "{line}: {text}");
     }
-    let ending = run(&rt, alloc, &words_of(alloc, line)?, &mut Broken, &mut Broken);
+    let ending = run(
+        &rt,
+        alloc,
+        &words_of(alloc, line)?,
+        &mut Broken,
+        &mut Broken,
+    );
     assert_eq!(rt; text_of(alloc, &ending)?.as_str(), "pclmin: cannot write\n");
     for name in ["check.in", "check.out", "check.cert"] {
         fs::remove_file(&rt, name)?;
@@ -423,15 +535,43 @@ fn lines_of_verdicts(rt: HostRuntime) -> Result<(), Fail> {
         (JobVerdict::Proved, "proved\n", 0),
         (JobVerdict::PageCount, "not proved: page count\n", 1),
         (JobVerdict::Frame, "not proved: frame\n", 1),
-        (JobVerdict::Certificate(CertFault::Rows), "not proved: certificate Rows\n", 1),
-        (JobVerdict::Certificate(CertFault::Places), "not proved: certificate Places\n", 1),
-        (page(1, Verdict::NotGrammar), "not proved: page 1: NotGrammar\n", 1),
-        (page(256, Verdict::OtherPage), "not proved: page 256: OtherPage\n", 1),
+        (
+            JobVerdict::Certificate(CertFault::Rows),
+            "not proved: certificate Rows\n",
+            1,
+        ),
+        (
+            JobVerdict::Certificate(CertFault::Places),
+            "not proved: certificate Places\n",
+            1,
+        ),
+        (
+            page(1, Verdict::NotGrammar),
+            "not proved: page 1: NotGrammar\n",
+            1,
+        ),
+        (
+            page(256, Verdict::OtherPage),
+            "not proved: page 256: OtherPage\n",
+            1,
+        ),
         (page(2, Verdict::Rows), "not proved: page 2: Rows\n", 1),
         (page(1, Verdict::Length), "not proved: page 1: Length\n", 1),
-        (page(1, edge(0, Method::Delta, true)), "not proved: page 1: Edge row 0 method 3 open\n", 1),
-        (page(1, edge(3300, Method::Plain, false)), "not proved: page 1: Edge row 3300 method 0 closed\n", 1),
-        (page(1, place), "not proved: page 1: Place row 1 method 3 place 300\n", 1),
+        (
+            page(1, edge(0, Method::Delta, true)),
+            "not proved: page 1: Edge row 0 method 3 open\n",
+            1,
+        ),
+        (
+            page(1, edge(3300, Method::Plain, false)),
+            "not proved: page 1: Edge row 3300 method 0 closed\n",
+            1,
+        ),
+        (
+            page(1, place),
+            "not proved: page 1: Place row 1 method 3 place 300\n",
+            1,
+        ),
     ] {
         let written = verdict_line(rt.alloc(), &verdict)?;
         assert_eq!(rt; written.as_slice(), line.as_bytes());

@@ -29,13 +29,22 @@ fn certificate(alloc: Global, format: Format) -> Result<Vec<u8>, AllocError> {
 }
 
 /// What `filter_cert` answers for the job in the first format.
-fn filtered<R: Read>(alloc: Global, source: &mut R, out: &mut Held, cert: &mut Held) -> Result<(), Fault> {
+fn filtered<R: Read>(
+    alloc: Global,
+    source: &mut R,
+    out: &mut Held,
+    cert: &mut Held,
+) -> Result<(), Fault> {
     filter_cert(alloc, source, Dpi::Dpi300, Format::One, out, cert)
 }
 
 /// Asserts what a writer holds, and how often it was flushed.
 fn assert_held(rt: &impl Abort, held: &Held, bytes: &[u8], flushes: usize, case: &str) {
-    assert!(rt; held.bytes.as_slice() == bytes, "{case}: {} bytes", held.bytes.len());
+    assert!(rt;
+        held.bytes.as_slice() == bytes,
+        "{case}: {} bytes",
+        held.bytes.len()
+    );
     assert_eq!(rt; held.flushes, flushes, "{case}");
 }
 
@@ -94,7 +103,11 @@ fn each_write_of_the_job_fails(rt: HostRuntime) -> Result<(), Fail> {
             let mut cert = taking(rt.alloc(), usize::MAX);
             let result = filtered(rt.alloc(), &mut &*JOB, &mut out, &mut cert);
             assert_eq!(rt; result, Err(Fault::WriteFault), "{most} a write, {good}");
-            let (taken, flushes) = if good < writes { (good * most, 0) } else { (48, 1) };
+            let (taken, flushes) = if good < writes {
+                (good * most, 0)
+            } else {
+                (48, 1)
+            };
             assert_held(&rt, &out, &WRITTEN[..taken], flushes, "job");
             assert_held(&rt, &cert, b"", 0, "certificate");
         }
@@ -114,7 +127,11 @@ fn each_write_of_the_certificate_fails(rt: HostRuntime) -> Result<(), Fail> {
             cert.flush_fails = true;
             let result = filtered(rt.alloc(), &mut &*JOB, &mut out, &mut cert);
             assert_eq!(rt; result, Err(Fault::WriteFault), "{most} a write, {good}");
-            let (taken, flushes) = if good < writes { (good * most, 0) } else { (whole.len(), 1) };
+            let (taken, flushes) = if good < writes {
+                (good * most, 0)
+            } else {
+                (whole.len(), 1)
+            };
             assert_held(&rt, &out, WRITTEN, 1, "job");
             assert_held(&rt, &cert, &whole[..taken], flushes, "certificate");
         }
@@ -136,6 +153,12 @@ fn one_byte_a_call(rt: HostRuntime) -> Result<(), Fail> {
     let result = filtered(rt.alloc(), &mut source, &mut out, &mut cert);
     assert_eq!(rt; result, Ok(()));
     assert_held(&rt, &out, WRITTEN, 1, "job");
-    assert_held(&rt, &cert, &certificate(rt.alloc(), Format::One)?, 1, "certificate");
+    assert_held(
+        &rt,
+        &cert,
+        &certificate(rt.alloc(), Format::One)?,
+        1,
+        "certificate",
+    );
     Ok(())
 }

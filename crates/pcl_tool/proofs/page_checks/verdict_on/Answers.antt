@@ -8,7 +8,7 @@ use Rattle.pcl_tool.proofs.page_checks.verdict_on.Goals as goal
 pub returns-in-Proved : goal.returns-in-Proved
 returns-in-Proved c =
     verdict_anywhere c.args.page.now c.args.text.now c.args.proof.now.table c.as_ref.result c.args.proof.now.places Proved
-        c.as_ref.ensures.value
+    c.as_ref.ensures.value
     (subst (λ (v : Verdict). IsVerdict c.args.page.now c.args.text.now c.args.proof.now.table c.as_ref.result v) c.in-Proved.is
     c.in_ok-verdict.ensures)
 
