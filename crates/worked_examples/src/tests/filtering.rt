@@ -15,7 +15,7 @@ pub const WRITTEN: &[u8] =
     b"\x1bE\x1b&l1x2a0E\x1b*p0x0Y\x1b*t300R\x1b*r2400s0A\x1b*b1W\x80\x1b*rC\x0c\x1bE";
 
 /// A writer that takes at most so many bytes a write, and never fails.
-pub fn taking(alloc: Global, most: usize) -> Held {
+pub(super) fn taking(alloc: Global, most: usize) -> Held {
     Held {
         bytes: Vec::new(alloc),
         most,
