@@ -6,8 +6,8 @@
 Each job is made of random commands of every part of docs/LANGUAGE.md, with values at and near their bounds, and every fourth
 one is then changed in some of its bytes, cut, or joined from two. At a resolution that is drawn too, the status, the line on
 standard error and the image of a page have to be those of the model: of one page of the job, and of the page behind its last
-one. Every twentieth job that is accepted is written again, and read by the model the written job has to have the same pages;
-every two hundredth is also written with a certificate of each format, and checked. A job on which the two differ is kept in
+one. Every twentieth job, where it is accepted, is written again, and read by the model the written job has to have the same
+pages; every two hundredth is also written with a certificate of each format, and checked. A job on which the two differ is kept in
 FOLDER (build/fuzz) as NUMBER.pcl, with a line on standard output, and the status is then 1.
 """
 
