@@ -9,9 +9,9 @@ use Rattle.pcl_escape.specs.Exit.{joined}
 use Rattle.pcl_escape.specs.Said.{Said}
 use Rattle.pcl_escape.specs.Scan.{Reads, start_at, parameter_at, commands_said, with_front, after, outcome, outcome_of}
 use Rattle.pcl_escape.specs.Pieces.{Parameter, Piece, silent, control, text, two_character, combined, exit, IsPrefix, IsPiece, ArePieces, IsMiddle, IsEnd, IsReading, parameter_bytes, spelling, bare_command, text_command, exit_command, command_of, parameter_commands, first_place, commands_from, commands_of}
-use Rattle.pcl_escape.specs.Faults.{Fails, unknown_control, unknown_text, lone_escape, no_sequence, unknown_two, no_group, bad_group, in_parameter, in_line, IsUngrouped, FailsParameter, place_behind, IsFault}
+use Rattle.pcl_escape.specs.Faults.{Fails, unknown_control, lone_escape, no_sequence, unknown_two, no_group, bad_group, in_parameter, in_line, IsUngrouped, FailsParameter, place_behind, IsFault}
 use Rattle.pcl_escape.proofs.Steps.{Inside, is_middle, is_end, is_wrong, middle_reads, end_reads, parameter_shorter, parameter_long, parameter_joined, middle_again, end_again, fault_again}
-use Rattle.pcl_escape.proofs.Starts.{piece_reads, silent_again, control_again, text_again, two_again, inside_again, field_apart, exit_again, in_line_again, unknown_control_again, unknown_text_again, lone_escape_again, no_sequence_again, unknown_two_again, no_group_again, bad_group_again, start_step}
+use Rattle.pcl_escape.proofs.Starts.{piece_reads, silent_again, control_again, text_again, two_again, inside_again, field_apart, exit_again, in_line_again, unknown_control_again, lone_escape_again, no_sequence_again, unknown_two_again, no_group_again, bad_group_again, start_step}
 use Rattle.pcl_escape.proofs.Runs.{Last, no_more, first_fault, sequence_bytes, place_from, place_from_more, place_in_sequence, place_prefixed, grouped_any, middle_grouped, place_of, place_further, place_in, with_fronts, no_front, start_shorter}
 
 -- ---- any number of steps that is enough
@@ -249,10 +249,10 @@ piece_again (silent byte) (suc n) at bytes read is h gives = piece_on (silent by
     (silent_again at byte bytes is) h gives
 piece_again (control code) (suc n) at bytes read is h gives = piece_on (control code) n at bytes (Some (bare_command at code)) read
     (omega arith) (control_again at code bytes is.0 is.1 is.2) h gives
-piece_again (text []) (suc n) at bytes read is h gives = absurd is.0
+piece_again (text []) (suc n) at bytes read is h gives = absurd is
 piece_again (text (byte ∷ more)) (suc n) at bytes read is h gives =
     piece_on (text (byte ∷ more)) n at bytes (Some (text_command at (byte ∷ more))) read (omega arith)
-    (text_again at byte more bytes is.0 is.1) h gives
+    (text_again at byte more bytes is) h gives
 piece_again (two_character byte) (suc n) at bytes read is h gives = piece_on (two_character byte) n at bytes
     (Some (bare_command at byte)) read (omega arith) (two_again at byte bytes is.0 is.1) h gives
 piece_again (combined prefix middle end sent) (suc n) at bytes read is h gives =
@@ -283,8 +283,6 @@ fault_found : (n at : ℕ) (bytes : List ℕ) (refusal : Refusal) → Fails at b
     → outcome (suc n) None at bytes ≡ Err refusal
 fault_found n at bytes refusal (unknown_control {code = code} {bytes = rest} c s o) h =
     at_once n at code rest refusal (unknown_control_again at code rest c s o)
-fault_found n at bytes refusal (unknown_text {byte = byte} {bytes = rest} t o) h = at_once n at byte rest refusal
-    (unknown_text_again at byte rest t o)
 fault_found n at bytes refusal lone_escape h = at_once n at 27 [] refusal (lone_escape_again at)
 fault_found n at bytes refusal (no_sequence {byte = byte} {bytes = rest} t p) h = at_once n at 27 (byte ∷ rest) refusal
     (no_sequence_again at byte rest t p)

@@ -18,9 +18,9 @@ use Rattle.pcl_escape.specs.Field.{Spelled, is_digit, field_bytes, field_value, 
 use Rattle.pcl_escape.specs.Checks.{exit_name, is_exit, parameter_checks}
 use Rattle.pcl_escape.specs.Exit.{joined, IsLine, AreOtherLines, names_language, names_pcl, lines_at}
 use Rattle.pcl_escape.specs.Said.{Said}
-use Rattle.pcl_escape.specs.Scan.{Reads, refuse, named_by, named_at, text_by, text_at, leaves, skipped_by, with_lines, ungrouped_at, prefix_at, sequence_at, start_at, parameter_at, commands_said}
+use Rattle.pcl_escape.specs.Scan.{Reads, refuse, named_by, named_at, text_at, leaves, skipped_by, with_lines, ungrouped_at, prefix_at, sequence_at, start_at, parameter_at, commands_said}
 use Rattle.pcl_escape.specs.Pieces.{Parameter, Piece, silent, control, text, two_character, exit, IsField, IsPrefix, IsNamed, IsNoText, IsRun, IsExit, IsPiece, parameter_bytes, spelling, bare_command, text_command, exit_command, commands_from}
-use Rattle.pcl_escape.specs.Faults.{Fails, unknown_control, unknown_text, lone_escape, no_sequence, unknown_two, no_group, bad_group, in_line, IsUngrouped, cut}
+use Rattle.pcl_escape.specs.Faults.{Fails, unknown_control, lone_escape, no_sequence, unknown_two, no_group, bad_group, in_line, IsUngrouped, cut}
 use Rattle.pcl_escape.proofs.Fields.{and_parts}
 use Rattle.pcl_escape.proofs.Fronts.{Pass, StopsAt, front_yes, front_split, front_again}
 use Rattle.pcl_escape.proofs.Lines.{Lines, skipped, foreign, lines_split, lines_again, foreign_again}
@@ -71,18 +71,17 @@ text_stops : (rest : List ℕ) → IsNoText rest → StopsAt is_text rest
 text_stops [] s = tt
 text_stops (byte ∷ rest) s = s
 
--- a run of text, by whether text is performed
-text_named : (at byte : ℕ) (rest : List ℕ) (operation : Option Operation) → operation_of (One 32) ≡ operation → is_text byte ≡ true
-    → Outside at (byte ∷ rest) (text_by operation at (byte ∷ rest))
-text_named at byte rest None o t = wrong (unknown_text t (ap (λ (x : Option Operation). is_some x) o))
-text_named at byte rest (Some operation) o t =
+-- a run of text
+text_run : (at byte : ℕ) (rest : List ℕ) → is_text byte ≡ true → Outside at (byte ∷ rest) (text_at at (byte ∷ rest))
+unfolding text_at
+text_run at byte rest t =
     let f = front_split is_text rest in
     let run = take (prefix_len is_text rest) rest in
     let behind = drop (prefix_len is_text rest) rest in
     let reads : List ℕ × List ℕ → Result Reads Refusal = λ parts. piece_reads (Some (text_command at parts.0)) parts.1 in
     subst₂ (Outside at) (ap (λ (bs : List ℕ). byte ∷ bs) (sym f.joined)) (ap reads (sym (front_yes is_text byte rest t)))
     (whole_piece (text (byte ∷ run)) behind (Some (text_command at (byte ∷ run)))
-    (((t, f.pass), no_text behind f.stops), ap (λ (x : Option Operation). is_some x) o) (omega arith) refl)
+    ((t, f.pass), no_text behind f.stops) (omega arith) refl)
 
 -- ---- universal exits
 
@@ -250,12 +249,12 @@ start_by : (at byte : ℕ) (rest : List ℕ) (quiet escape code : Bool) → is_s
     → Outside at (byte ∷ rest)
     (if quiet then piece_reads None rest else (if
     escape then sequence_at at rest else (if code then named_at at byte rest else text_at at (byte ∷ rest))))
-unfolding named_at text_at
+unfolding named_at
 start_by at byte rest true escape code s e c = whole_piece (silent byte) rest None s (omega arith) refl
 start_by at byte rest false true code s e c = subst (λ (b : ℕ). Outside at (b ∷ rest) (sequence_at at rest)) (sym (eqb-true byte 27 e))
     (sequence_step at rest)
 start_by at byte rest false false true s e c = control_named at byte rest (operation_of (One byte)) refl c s
-start_by at byte rest false false false s e c = text_named at byte rest (operation_of (One 32)) refl (rw (s, c, e) refl)
+start_by at byte rest false false false s e c = text_run at byte rest (rw (s, c, e) refl)
 
 -- a step outside sequences reads what the bytes begin with
 pub start_step : (at byte : ℕ) (rest : List ℕ) → Outside at (byte ∷ rest) (start_at at (byte ∷ rest))
@@ -275,19 +274,6 @@ unknown_again : (at code : ℕ) (rest : List ℕ) (operation : Option Operation)
     → named_by operation at code rest ≡ refuse UnsupportedCommand at (One code)
 unknown_again at code rest None s = refl
 unknown_again at code rest (Some operation) s = absurd cc
-
--- text that is performed gives its run
-run_again : (at : ℕ) (bytes : List ℕ) (operation : Option Operation) → is_some operation ≡ true
-    → text_by operation at bytes ≡ piece_reads (Some (text_command at (take (prefix_len is_text bytes) bytes)))
-    (drop (prefix_len is_text bytes) bytes)
-run_again at bytes None s = absurd cc
-run_again at bytes (Some operation) s = refl
-
--- text that isn't is refused
-unknown_run_again : (at : ℕ) (bytes : List ℕ) (operation : Option Operation) → is_some operation ≡ false
-    → text_by operation at bytes ≡ refuse UnsupportedCommand at (One 32)
-unknown_run_again at bytes None s = refl
-unknown_run_again at bytes (Some operation) s = absurd cc
 
 -- ESC is no control code
 control_apart : (code : ℕ) → is_control code ≡ true → (code == 27) ≡ false
@@ -312,9 +298,11 @@ at_control : (at code : ℕ) (rest : List ℕ) → is_control code ≡ true → 
 unfolding start_at named_at
 at_control at code rest c s = rw (s, control_apart code c, c) refl
 
--- a step at text looks whether text is performed
+-- a step at text reads its run
 at_text : (at byte : ℕ) (rest : List ℕ) → is_text byte ≡ true
-    → start_at at (byte ∷ rest) ≡ text_by (operation_of (One 32)) at (byte ∷ rest)
+    → start_at at (byte ∷ rest)
+    ≡ piece_reads (Some (text_command at (take (prefix_len is_text (byte ∷ rest)) (byte ∷ rest))))
+    (drop (prefix_len is_text (byte ∷ rest)) (byte ∷ rest))
 unfolding start_at text_at
 at_text at byte rest t = let apart = text_apart byte t in rw (apart.0, apart.1, apart.2) refl
 
@@ -335,12 +323,11 @@ pub control_again : (at code : ℕ) (rest : List ℕ) → is_control code ≡ tr
 control_again at code rest c s n = at_control at code rest c s ∙ named_again at code rest (operation_of (One code)) n
 
 -- a step reads a run of text
-pub text_again : (at byte : ℕ) (more rest : List ℕ) → IsRun (byte ∷ more) rest → IsNamed (One 32)
+pub text_again : (at byte : ℕ) (more rest : List ℕ) → IsRun (byte ∷ more) rest
     → start_at at ((byte ∷ more) ++ rest) ≡ piece_reads (Some (text_command at (byte ∷ more))) rest
-text_again at byte more rest is n =
+text_again at byte more rest is =
     let reads : List ℕ × List ℕ → Result Reads Refusal = λ parts. piece_reads (Some (text_command at parts.0)) parts.1 in
     at_text at byte (more ++ rest) is.0.0
-    ∙ run_again at ((byte ∷ more) ++ rest) (operation_of (One 32)) n
     ∙ ap reads (front_again is_text (byte ∷ more) rest is.0 (text_stops rest is.1))
 
 -- a step reads a two-character sequence
@@ -462,11 +449,6 @@ in_line_again at field lines line rest f x e each ends l p =
 pub unknown_control_again : (at code : ℕ) (rest : List ℕ) → is_control code ≡ true → is_silent code ≡ false
     → is_some (operation_of (One code)) ≡ false → start_at at (code ∷ rest) ≡ Err (refusal UnsupportedCommand at (One code))
 unknown_control_again at code rest c s n = at_control at code rest c s ∙ unknown_again at code rest (operation_of (One code)) n
-
--- a step refuses text that isn't performed
-pub unknown_text_again : (at byte : ℕ) (rest : List ℕ) → is_text byte ≡ true → is_some (operation_of (One 32)) ≡ false
-    → start_at at (byte ∷ rest) ≡ Err (refusal UnsupportedCommand at (One 32))
-unknown_text_again at byte rest t n = at_text at byte rest t ∙ unknown_run_again at (byte ∷ rest) (operation_of (One 32)) n
 
 -- a step refuses an ESC with nothing behind it
 pub lone_escape_again : (at : ℕ) → start_at at (27 ∷ []) ≡ Err (refusal Truncated at Empty)

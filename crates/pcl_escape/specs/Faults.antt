@@ -61,8 +61,6 @@ IsUngrouped None (byte ∷ bytes) = is_group byte ≡ false
 pub data Fails : ℕ → List ℕ → Refusal → Type 0 where
   unknown_control : {at code : ℕ} {bytes : List ℕ} → IsTrue (is_control code) → is_silent code ≡ false → IsNone (operation_of (One code))
       → Fails at (code ∷ bytes) (refusal UnsupportedCommand at (One code))
-  unknown_text : {at byte : ℕ} {bytes : List ℕ} → IsTrue (is_text byte) → IsNone (operation_of (One 32))
-      → Fails at (byte ∷ bytes) (refusal UnsupportedCommand at (One 32))
   lone_escape : {at : ℕ} → Fails at (27 ∷ []) (refusal Truncated at Empty)
   no_sequence : {at byte : ℕ} {bytes : List ℕ} → is_two_character byte ≡ false → is_parameterized byte ≡ false
       → Fails at (27 ∷ byte ∷ bytes) (refusal BadSequence at Empty)

@@ -106,7 +106,7 @@ pub record IsExit (field : Spelled) (lines : List (List ℕ)) (behind : List ℕ
 abbrev pub IsPiece : Piece → List ℕ → Type 0
 IsPiece (silent byte) behind = IsTrue (is_silent byte)
 IsPiece (control code) behind = IsTrue (is_control code) × (is_silent code ≡ false) × IsNamed (One code)
-IsPiece (text bytes) behind = IsRun bytes behind × IsNamed (One 32)
+IsPiece (text bytes) behind = IsRun bytes behind
 IsPiece (two_character byte) behind = IsTrue (is_two_character byte) × IsNamed (One byte)
 IsPiece (combined prefix middle end bytes) behind = IsPrefix prefix × AllByRecursion (IsMiddle prefix) middle × IsEnd prefix end bytes
 IsPiece (exit field lines) behind = IsExit field lines behind

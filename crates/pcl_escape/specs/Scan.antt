@@ -43,17 +43,12 @@ named_by (Some operation) at code rest =
 unfoldable pub named_at : ℕ → ℕ → List ℕ → Result Reads Refusal
 named_at at code rest = named_by (operation_of (One code)) at code rest
 
--- a run of text, where text is performed
-abbrev pub text_by : Option Operation → ℕ → List ℕ → Result Reads Refusal
-text_by None at bytes = refuse UnsupportedCommand at (One 32)
-text_by (Some operation) at bytes =
+-- a run of text
+unfoldable pub text_at : ℕ → List ℕ → Result Reads Refusal
+text_at at bytes =
     let len = prefix_len is_text bytes in
     let said : Said = record { at = at; name = One 32; value = zero_value; bytes = take len bytes } in
     Ok record { said = Some said; rest = drop len bytes; inside = None }
-
--- text
-unfoldable pub text_at : ℕ → List ℕ → Result Reads Refusal
-text_at at bytes = text_by (operation_of (One 32)) at bytes
 
 -- a parameter whose checks are done
 abbrev pub checked_at : Prefix → ℕ → ℕ → Value → List ℕ → Result ℕ Kind → Result Reads Refusal

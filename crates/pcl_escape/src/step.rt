@@ -170,9 +170,6 @@ fn read_named<'a>(at: usize, code: u8, rest: &'a [u8]) -> Result<Progress<'a>, R
 fn read_text<'a>(at: usize, bytes: &'a [u8]) -> Result<Progress<'a>, Refusal>
     ensures { Gives result (text_at at bytes.now) }
 {
-    if Operation::with_name(Name::TEXT).is_none() {
-        return refused(Kind::UnsupportedCommand, at, Name::TEXT);
-    }
     let (text, rest) = bytes.split_at(text_len(bytes));
     let command = Command {
         at,
