@@ -32,12 +32,12 @@ enough (suc n) (suc m) None at [] h k = refl
 enough (suc n) (suc m) None at (byte ∷ bytes) h k =
     after_same (start_at at (byte ∷ bytes)) (λ reads. outcome n reads.inside (at + (length (byte ∷ bytes) - length reads.rest)) reads.rest)
     (λ reads. outcome m reads.inside (at + (length (byte ∷ bytes) - length reads.rest)) reads.rest)
-    (λ reads e. let shorter = start_shorter at (byte ∷ bytes) (start_at at (byte ∷ bytes)) reads (start_step at byte bytes) e in
+    (λ reads e. let shorter = start_shorter (start_step) e in
     enough n m reads.inside (at + (length (byte ∷ bytes) - length reads.rest)) reads.rest (omega arith) (omega arith))
 enough (suc n) (suc m) (Some prefix) at bytes h k =
     after_same (parameter_at prefix at bytes) (λ reads. outcome n reads.inside (at + (length bytes - length reads.rest)) reads.rest)
     (λ reads. outcome m reads.inside (at + (length bytes - length reads.rest)) reads.rest)
-    (λ reads e. let shorter = parameter_shorter prefix at bytes reads e in
+    (λ reads e. let shorter = parameter_shorter prefix at bytes e in
     enough n m reads.inside (at + (length bytes - length reads.rest)) reads.rest (omega arith) (omega arith))
 
 -- ---- sequences
@@ -52,17 +52,17 @@ abbrev Gives : ℕ → List ℕ → Result (List Said) Refusal → Type 0
 Gives at bytes read = (n : ℕ) → length bytes < n → outcome n None at bytes ≡ read
 
 -- the steps from a last parameter on
-end_on : (n : ℕ) (prefix : Prefix) (at begin : ℕ) (end : Parameter) (sent behind : List ℕ) (read : Result (List Said) Refusal)
+end_on : {n : ℕ} {prefix : Prefix} (at begin : ℕ) {end : Parameter} {sent : List ℕ} (behind : List ℕ) {read : Result (List Said) Refusal}
     → IsEnd prefix end sent → length ((parameter_bytes end ++ sent) ++ behind) ≤ n
     → Gives (begin + length (parameter_bytes end ++ sent)) behind read → steps_in n prefix at begin
     ((parameter_bytes end ++ sent) ++ behind) ≡ with_front (command_of prefix at end sent ∷ []) read
-end_on n prefix at begin end sent behind read is h gives =
+end_on {n} {prefix} at begin {end} {sent} behind {read} is h gives =
     let long = parameter_long end in
     let l0 = length-append (parameter_bytes end ++ sent) behind in
     let l1 = length-append (parameter_bytes end) sent in
     let fits : length behind < n = omega arith in
     let bytes = (parameter_bytes end ++ sent) ++ behind in
-    let step = ap (parameter_at prefix at) (append_assoc (parameter_bytes end) sent behind) ∙ end_again prefix at end sent behind is in
+    let step = ap (parameter_at prefix at) (append_assoc (parameter_bytes end) sent behind) ∙ end_again is in
     ap (λ (r : Result Reads Refusal). after r (λ reads. outcome n reads.inside (begin + (length bytes - length reads.rest)) reads.rest))
     step
     ∙ ap (λ (k : ℕ). with_front (command_of prefix at end sent ∷ []) (outcome n None k behind))
@@ -70,15 +70,15 @@ end_on n prefix at begin end sent behind read is h gives =
     ∙ ap (with_front (command_of prefix at end sent ∷ [])) (gives n fits)
 
 -- the steps from a middle parameter on: one step, and the steps behind it
-middle_on : (n : ℕ) (prefix : Prefix) (at begin : ℕ) (parameter : Parameter) (rest : List ℕ) → IsMiddle prefix parameter
+middle_on : (n : ℕ) {prefix : Prefix} (at begin : ℕ) {parameter : Parameter} (rest : List ℕ) → IsMiddle prefix parameter
     → steps_in (suc n) prefix at begin (parameter_bytes parameter ++ rest)
     ≡ with_front (command_of prefix at parameter [] ∷ [])
     (steps_in n prefix (begin + length (parameter_bytes parameter)) (begin + length (parameter_bytes parameter)) rest)
 unfolding outcome
-middle_on n prefix at begin parameter rest is =
+middle_on n {prefix} at begin {parameter} rest is =
     let bytes = parameter_bytes parameter ++ rest in
     ap (λ (r : Result Reads Refusal). after r (λ reads. outcome (suc n) reads.inside
-    (begin + (length bytes - length reads.rest)) reads.rest)) (middle_again prefix at parameter rest is)
+    (begin + (length bytes - length reads.rest)) reads.rest)) (middle_again is)
     ∙ ap (λ (k : ℕ). with_front (command_of prefix at parameter [] ∷ []) (outcome (suc n) (Some prefix) k rest))
     (place_of begin (parameter_bytes parameter) rest)
 
@@ -111,7 +111,7 @@ whole_again : (middle : List Parameter) (n : ℕ) (prefix : Prefix) (at begin : 
     → length (sequence_bytes middle end sent ++ behind) ≤ n → Gives (begin + length (sequence_bytes middle end sent)) behind read
     → steps_in n prefix at begin (sequence_bytes middle end sent ++ behind) ≡ with_front
     (parameter_commands prefix at begin middle end sent) read
-whole_again [] n prefix at begin end sent behind read each is h gives = end_on n prefix at begin end sent behind read is h gives
+whole_again [] n prefix at begin end sent behind read each is h gives = end_on at begin behind is h gives
 whole_again (parameter ∷ middle) zero prefix at begin end sent behind read each is h gives =
     absurd (too_long parameter middle (parameter_bytes end ++ sent) behind h)
 whole_again (parameter ∷ middle) (suc n) prefix at begin end sent behind read each is h gives =
@@ -126,30 +126,30 @@ whole_again (parameter ∷ middle) (suc n) prefix at begin end sent behind read 
     ∙ sym (place_further begin (parameter_bytes parameter) (sequence_bytes middle end sent)) in
     let fits = shorter_rest parameter rest n (subst (λ (bs : List ℕ). length bs ≤ suc n) all h) in
     ap (steps_in (suc n) prefix at begin) all
-    ∙ middle_on n prefix at begin parameter rest each.0
+    ∙ middle_on n at begin rest each.0
     ∙ ap (with_front (command_of prefix at parameter [] ∷ []))
     (whole_again middle n prefix next next end sent behind read each.1 is fits (subst (λ (k : ℕ). Gives k behind read) place gives))
     ∙ with_fronts (command_of prefix at parameter [] ∷ []) (parameter_commands prefix next next middle end sent) read
 
 -- the steps up to the fault of a parameter
-broken_again : (middle : List Parameter) (n : ℕ) (prefix : Prefix) (at begin : ℕ) (bytes : List ℕ) (refusal : Refusal)
+broken_again : (middle : List Parameter) (n : ℕ) {prefix : Prefix} (at begin : ℕ) {bytes : List ℕ} {refusal : Refusal}
     → AllByRecursion (IsMiddle prefix) middle → FailsParameter prefix (place_from at begin middle) bytes refusal
     → length (flat_map parameter_bytes middle ++ bytes) ≤ n → steps_in n prefix at begin (flat_map parameter_bytes middle ++ bytes)
     ≡ Err refusal
-broken_again [] n prefix at begin bytes refusal each f h =
+broken_again [] n {prefix} at begin {bytes} {refusal} each f h =
     ap (λ (r : Result Reads Refusal). after r (λ reads. outcome n reads.inside (begin + (length bytes - length reads.rest)) reads.rest))
-    (fault_again prefix at bytes refusal f)
-broken_again (parameter ∷ middle) zero prefix at begin bytes refusal each f h = absurd (too_long_front parameter middle bytes h)
-broken_again (parameter ∷ middle) (suc n) prefix at begin bytes refusal each f h =
+    (fault_again f)
+broken_again (parameter ∷ middle) zero {prefix} at begin {bytes} {refusal} each f h = absurd (too_long_front parameter middle bytes h)
+broken_again (parameter ∷ middle) (suc n) {prefix} at begin {bytes} {refusal} each f h =
     let next = begin + length (parameter_bytes parameter) in
     let rest = flat_map parameter_bytes middle ++ bytes in
     let all : flat_map parameter_bytes (parameter ∷ middle) ++ bytes ≡ parameter_bytes parameter ++ rest =
     append_assoc (parameter_bytes parameter) (flat_map parameter_bytes middle) bytes in
     let fits = shorter_rest parameter rest n (subst (λ (bs : List ℕ). length bs ≤ suc n) all h) in
     ap (steps_in (suc n) prefix at begin) all
-    ∙ middle_on n prefix at begin parameter rest each.0
+    ∙ middle_on n at begin rest each.0
     ∙ ap (with_front (command_of prefix at parameter [] ∷ []))
-    (broken_again middle n prefix next next bytes refusal each.1
+    (broken_again middle n next next each.1
     (subst (λ (k : ℕ). FailsParameter prefix k bytes refusal) (sym (place_from_more begin parameter middle)) f) fits)
 
 -- the steps from ESC on are those from the first parameter on, whose command has the place of ESC
@@ -160,11 +160,11 @@ unfolding outcome
 first_on n prefix at bytes read is apart inside e =
     let all = 27 ∷ (prefix_bytes prefix ++ bytes) in
     ap (λ (r : Result Reads Refusal). after r (λ reads. outcome n reads.inside (at + (length all - length reads.rest)) reads.rest))
-    (inside_again prefix at bytes read is apart inside e ∙ sym e)
+    (inside_again is apart inside e ∙ sym e)
     ∙ after_same (parameter_at prefix at bytes) (λ reads. outcome n reads.inside (at + (length all - length reads.rest)) reads.rest)
     (λ reads. outcome n reads.inside (first_place at prefix + (length bytes - length reads.rest)) reads.rest)
     (λ reads e. ap (λ (k : ℕ). outcome n reads.inside k reads.rest)
-    (place_in at prefix bytes (length reads.rest) (parameter_shorter prefix at bytes reads e)))
+    (place_in at prefix bytes (parameter_shorter prefix at bytes e)))
 
 -- what holds where there is no group character holds where there may be one
 ungrouped_front : (group : Option ℕ) (bytes : List ℕ) → IsUngrouped None bytes → IsUngrouped group bytes
@@ -172,11 +172,11 @@ ungrouped_front None bytes n = n
 ungrouped_front (Some group) bytes n = tt
 
 -- a sequence begins with a middle parameter or its last one
-whole_on : (n : ℕ) (prefix : Prefix) (at : ℕ) (middle : List Parameter) (end : Parameter) (sent behind : List ℕ) → IsPrefix prefix
+whole_on : (n : ℕ) {prefix : Prefix} (at : ℕ) (middle : List Parameter) {end : Parameter} {sent : List ℕ} (behind : List ℕ) → IsPrefix prefix
     → AllByRecursion (IsMiddle prefix) middle → IsEnd prefix end sent
     → outcome (suc n) None at (27 ∷ (prefix_bytes prefix ++ (sequence_bytes middle end sent ++ behind)))
     ≡ steps_in n prefix at (first_place at prefix) (sequence_bytes middle end sent ++ behind)
-whole_on n prefix at [] end sent behind is each last =
+whole_on n {prefix} at [] {end} {sent} behind is each last =
     let bytes : (parameter_bytes end ++ sent) ++ behind ≡ parameter_bytes end ++ (sent ++ behind) =
     append_assoc (parameter_bytes end) sent behind in
     let front : field_bytes end.field ++ end.letter ∷ (sent ++ behind) ≡ (parameter_bytes end ++ sent) ++ behind =
@@ -186,34 +186,34 @@ whole_on n prefix at [] end sent behind is each last =
     first_on n prefix at ((parameter_bytes end ++ sent) ++ behind) (end_reads prefix at end sent behind) is
     (subst (IsUngrouped prefix.group) front apart)
     (subst (λ (bs : List ℕ). Inside prefix at bs (end_reads prefix at end sent behind)) (sym bytes) (is_end end sent behind last))
-    (ap (parameter_at prefix at) bytes ∙ end_again prefix at end sent behind last)
-whole_on n prefix at (parameter ∷ middle) end sent behind is each last =
+    (ap (parameter_at prefix at) bytes ∙ end_again last)
+whole_on n {prefix} at (parameter ∷ middle) {end} {sent} behind is each last =
     let rest = sequence_bytes middle end sent ++ behind in
     let bytes : sequence_bytes (parameter ∷ middle) end sent ++ behind ≡ parameter_bytes parameter ++ rest =
     ap (λ (bs : List ℕ). bs ++ behind)
     (append_assoc (parameter_bytes parameter) (flat_map parameter_bytes middle) (parameter_bytes end ++ sent))
     ∙ append_assoc (parameter_bytes parameter) (sequence_bytes middle end sent) behind in
     first_on n prefix at (sequence_bytes (parameter ∷ middle) end sent ++ behind) (middle_reads prefix at parameter rest) is
-    (grouped_any prefix.group (sequence_bytes (parameter ∷ middle) end sent ++ behind) (middle_grouped prefix parameter each.0))
+    (grouped_any prefix.group (sequence_bytes (parameter ∷ middle) end sent ++ behind) (middle_grouped each.0))
     (subst (λ (bs : List ℕ). Inside prefix at bs (middle_reads prefix at parameter rest)) (sym bytes) (is_middle parameter rest each.0))
-    (ap (parameter_at prefix at) bytes ∙ middle_again prefix at parameter rest each.0)
+    (ap (parameter_at prefix at) bytes ∙ middle_again each.0)
 
 -- so does one in which a parameter fails, or it begins with that
-broken_on : (n : ℕ) (prefix : Prefix) (at : ℕ) (middle : List Parameter) (bytes : List ℕ) (refusal : Refusal) → IsPrefix prefix
+broken_on : (n : ℕ) {prefix : Prefix} (at : ℕ) (middle : List Parameter) {bytes : List ℕ} {refusal : Refusal} → IsPrefix prefix
     → IsUngrouped prefix.group bytes → AllByRecursion (IsMiddle prefix) middle
     → FailsParameter prefix (place_behind at prefix middle) bytes refusal
     → outcome (suc n) None at (27 ∷ (prefix_bytes prefix ++ (flat_map parameter_bytes middle ++ bytes)))
     ≡ steps_in n prefix at (first_place at prefix) (flat_map parameter_bytes middle ++ bytes)
-broken_on n prefix at [] bytes refusal is apart each f = first_on n prefix at bytes (Err refusal) is apart (is_wrong f)
-    (fault_again prefix at bytes refusal f)
-broken_on n prefix at (parameter ∷ middle) bytes refusal is apart each f =
+broken_on n {prefix} at [] {bytes} {refusal} is apart each f = first_on n prefix at bytes (Err refusal) is apart (is_wrong f)
+    (fault_again f)
+broken_on n {prefix} at (parameter ∷ middle) {bytes} {refusal} is apart each f =
     let rest = flat_map parameter_bytes middle ++ bytes in
     let all : flat_map parameter_bytes (parameter ∷ middle) ++ bytes ≡ parameter_bytes parameter ++ rest =
     append_assoc (parameter_bytes parameter) (flat_map parameter_bytes middle) bytes in
     first_on n prefix at (flat_map parameter_bytes (parameter ∷ middle) ++ bytes) (middle_reads prefix at parameter rest) is
-    (grouped_any prefix.group (flat_map parameter_bytes (parameter ∷ middle) ++ bytes) (middle_grouped prefix parameter each.0))
+    (grouped_any prefix.group (flat_map parameter_bytes (parameter ∷ middle) ++ bytes) (middle_grouped each.0))
     (subst (λ (bs : List ℕ). Inside prefix at bs (middle_reads prefix at parameter rest)) (sym all) (is_middle parameter rest each.0))
-    (ap (parameter_at prefix at) all ∙ middle_again prefix at parameter rest each.0)
+    (ap (parameter_at prefix at) all ∙ middle_again each.0)
 
 -- ---- pieces
 
@@ -226,11 +226,11 @@ start_on n at [] h = absurd (omega arith)
 start_on n at (byte ∷ bytes) h = refl
 
 -- the steps from a piece on that one step reads
-piece_on : (piece : Piece) (n at : ℕ) (rest : List ℕ) (said : Option Said) (read : Result (List Said) Refusal)
+piece_on : (piece : Piece) {n : ℕ} (at : ℕ) {rest : List ℕ} {said : Option Said} {read : Result (List Said) Refusal}
     → 0 < length (spelling piece) → start_at at (spelling piece ++ rest) ≡ piece_reads said rest
     → length (spelling piece ++ rest) < suc n → Gives (at + length (spelling piece)) rest read
     → outcome (suc n) None at (spelling piece ++ rest) ≡ with_front (commands_said said) read
-piece_on piece n at rest said read long e h gives =
+piece_on piece {n} at {rest} {said} {read} long e h gives =
     let l = length-append (spelling piece) rest in
     let some : 0 < length (spelling piece ++ rest) = omega arith in
     let fits : length rest < n = omega arith in
@@ -241,21 +241,20 @@ piece_on piece n at rest said read long e h gives =
     ∙ ap (with_front (commands_said said)) (gives n fits)
 
 -- the steps from any piece on
-piece_again : (piece : Piece) (n at : ℕ) (bytes : List ℕ) (read : Result (List Said) Refusal) → IsPiece piece bytes
+piece_again : (piece : Piece) (n at : ℕ) (bytes : List ℕ) {read : Result (List Said) Refusal} → IsPiece piece bytes
     → length (spelling piece ++ bytes) < n → Gives (at + length (spelling piece)) bytes read
     → outcome n None at (spelling piece ++ bytes) ≡ with_front (commands_from at piece) read
-piece_again piece zero at bytes read is h gives = absurd (omega arith)
-piece_again (silent byte) (suc n) at bytes read is h gives = piece_on (silent byte) n at bytes None read (omega arith)
-    (silent_again at byte bytes is) h gives
-piece_again (control code) (suc n) at bytes read is h gives = piece_on (control code) n at bytes (Some (bare_command at code)) read
-    (omega arith) (control_again at code bytes is.0 is.1 is.2) h gives
-piece_again (text []) (suc n) at bytes read is h gives = absurd is
-piece_again (text (byte ∷ more)) (suc n) at bytes read is h gives =
-    piece_on (text (byte ∷ more)) n at bytes (Some (text_command at (byte ∷ more))) read (omega arith)
-    (text_again at byte more bytes is) h gives
-piece_again (two_character byte) (suc n) at bytes read is h gives = piece_on (two_character byte) n at bytes
-    (Some (bare_command at byte)) read (omega arith) (two_again at byte bytes is.0 is.1) h gives
-piece_again (combined prefix middle end sent) (suc n) at bytes read is h gives =
+piece_again piece zero at bytes {read} is h gives = absurd (omega arith)
+piece_again (silent byte) (suc n) at bytes {read} is h gives = piece_on (silent byte) at (omega arith)
+    (silent_again at byte is) h gives
+piece_again (control code) (suc n) at bytes {read} is h gives = piece_on (control code) at
+    (omega arith) (control_again is.0 is.1 is.2) h gives
+piece_again (text []) (suc n) at bytes {read} is h gives = absurd is
+piece_again (text (byte ∷ more)) (suc n) at bytes {read} is h gives =
+    piece_on (text (byte ∷ more)) at (omega arith)
+    (text_again is) h gives
+piece_again (two_character byte) (suc n) at bytes {read} is h gives = piece_on (two_character byte) at (omega arith) (two_again at byte bytes is.0 is.1) h gives
+piece_again (combined prefix middle end sent) (suc n) at bytes {read} is h gives =
     let place : at + length (spelling (combined prefix middle end sent)) ≡ first_place at prefix + length
     (sequence_bytes middle end sent) = sym (place_prefixed at prefix (sequence_bytes middle end sent)) in
     let joined : spelling (combined prefix middle end sent) ++ bytes
@@ -264,42 +263,41 @@ piece_again (combined prefix middle end sent) (suc n) at bytes read is h gives =
     let fits : length (sequence_bytes middle end sent ++ bytes) ≤ n = let l = ap length joined in let m =
     length-append (prefix_bytes prefix) (sequence_bytes middle end sent ++ bytes) in omega arith in
     ap (outcome (suc n) None at) joined
-    ∙ whole_on n prefix at middle end sent bytes is.0 is.1 is.2
+    ∙ whole_on n at middle bytes is.0 is.1 is.2
     ∙ whole_again middle n prefix at (first_place at prefix) end sent bytes read is.1 is.2 fits
     (subst (λ (k : ℕ). Gives k bytes read) place gives)
-piece_again (exit field lines) (suc n) at bytes read is h gives = piece_on (exit field lines) n at bytes
-    (Some (exit_command at field)) read (omega arith) (exit_again at field lines bytes is) h gives
+piece_again (exit field lines) (suc n) at bytes {read} is h gives = piece_on (exit field lines) at (omega arith) (exit_again is) h gives
 
 -- a first step that fails ends the reading
-at_once : (n at byte : ℕ) (rest : List ℕ) (refusal : Refusal) → start_at at (byte ∷ rest) ≡ Err refusal
+at_once : (n at byte : ℕ) (rest : List ℕ) {refusal : Refusal} → start_at at (byte ∷ rest) ≡ Err refusal
     → outcome (suc n) None at (byte ∷ rest) ≡ Err refusal
 unfolding outcome
-at_once n at byte rest refusal e =
+at_once n at byte rest {refusal} e =
     ap (λ (r : Result Reads Refusal). after r (λ reads. outcome n reads.inside
     (at + (length (byte ∷ rest) - length reads.rest)) reads.rest)) e
 
 -- the fault at a place outside sequences is found
-fault_found : (n at : ℕ) (bytes : List ℕ) (refusal : Refusal) → Fails at bytes refusal → length bytes < suc n
+fault_found : {n at : ℕ} {bytes : List ℕ} {refusal : Refusal} → Fails at bytes refusal → length bytes < suc n
     → outcome (suc n) None at bytes ≡ Err refusal
-fault_found n at bytes refusal (unknown_control {code = code} {bytes = rest} c s o) h =
-    at_once n at code rest refusal (unknown_control_again at code rest c s o)
-fault_found n at bytes refusal lone_escape h = at_once n at 27 [] refusal (lone_escape_again at)
-fault_found n at bytes refusal (no_sequence {byte = byte} {bytes = rest} t p) h = at_once n at 27 (byte ∷ rest) refusal
-    (no_sequence_again at byte rest t p)
-fault_found n at bytes refusal (unknown_two {byte = byte} {bytes = rest} t o) h = at_once n at 27 (byte ∷ rest) refusal
-    (unknown_two_again at byte rest t o)
-fault_found n at bytes refusal (no_group {byte = byte} p u) h = at_once n at 27 (byte ∷ []) refusal (no_group_again at byte p)
-fault_found n at bytes refusal (bad_group {byte = byte} {group = group} {bytes = rest} p u g) h =
-    at_once n at 27 (byte ∷ group ∷ rest) refusal (bad_group_again at byte group rest p u g)
-fault_found n at bytes refusal (in_parameter {bytes = rest} prefix middle is apart each f) h =
+fault_found {n} {at} {bytes} {refusal} (unknown_control {code = code} {bytes = rest} c s o) h =
+    at_once n at code rest (unknown_control_again rest c s o)
+fault_found {n} {at} {bytes} {refusal} lone_escape h = at_once n at 27 [] (lone_escape_again)
+fault_found {n} {at} {bytes} {refusal} (no_sequence {byte = byte} {bytes = rest} t p) h = at_once n at 27 (byte ∷ rest)
+    (no_sequence_again byte rest t p)
+fault_found {n} {at} {bytes} {refusal} (unknown_two {byte = byte} {bytes = rest} t o) h = at_once n at 27 (byte ∷ rest)
+    (unknown_two_again rest t o)
+fault_found {n} {at} {bytes} {refusal} (no_group {byte = byte} p u) h = at_once n at 27 (byte ∷ []) (no_group_again p)
+fault_found {n} {at} {bytes} {refusal} (bad_group {byte = byte} {group = group} {bytes = rest} p u g) h =
+    at_once n at 27 (byte ∷ group ∷ rest) (bad_group_again group rest p u g)
+fault_found {n} {at} {bytes} {refusal} (in_parameter {bytes = rest} prefix middle is apart each f) h =
     let fits : length (flat_map parameter_bytes middle ++ rest) ≤ n = let m = length-append (prefix_bytes prefix)
     (flat_map parameter_bytes middle ++ rest) in omega arith in
-    broken_on n prefix at middle rest refusal is apart each f
-    ∙ broken_again middle n prefix at (first_place at prefix) rest refusal each
+    broken_on n at middle is apart each f
+    ∙ broken_again middle n at (first_place at prefix) each
     (subst (λ (k : ℕ). FailsParameter prefix k rest refusal) (sym (place_in_sequence at prefix middle)) f) fits
-fault_found n at bytes refusal (in_line {bytes = rest} field lines line f x e each ends l p) h =
-    at_once n at 27 (37 ∷ (field_bytes field ++ 88 ∷ (joined lines ++ (line ++ rest)))) refusal
-    (in_line_again at field lines line rest f x e each ends l p)
+fault_found {n} {at} {bytes} {refusal} (in_line {bytes = rest} field lines line f x e each ends l p) h =
+    at_once n at 27 (37 ∷ (field_bytes field ++ 88 ∷ (joined lines ++ (line ++ rest))))
+    (in_line_again at field lines f x e each ends l p)
 
 -- what stands behind the last piece is read so
 last_again : (n at : ℕ) (behind : List ℕ) (last : Result (List Said) Refusal) → Last at behind last → length behind < n
@@ -307,16 +305,16 @@ last_again : (n at : ℕ) (behind : List ℕ) (last : Result (List Said) Refusal
 unfolding outcome
 last_again zero at behind last ends h = absurd (omega arith)
 last_again (suc n) at behind last no_more h = refl
-last_again (suc n) at behind last (first_fault {refusal = refusal} f) h = fault_found n at behind refusal f h
+last_again (suc n) at behind last (first_fault {refusal = refusal} f) h = fault_found f h
 
 -- pieces and what is behind them are read so
-pieces_again : (pieces : List Piece) (n at : ℕ) (behind : List ℕ) (last : Result (List Said) Refusal) → ArePieces pieces behind
+pieces_again : (pieces : List Piece) {n : ℕ} (at : ℕ) {behind : List ℕ} {last : Result (List Said) Refusal} → ArePieces pieces behind
     → Last (at + length (flat_map spelling pieces)) behind last
     → length (flat_map spelling pieces ++ behind) < n → outcome n None at (flat_map spelling pieces ++ behind)
     ≡ with_front (commands_of at pieces) last
-pieces_again [] n at behind last each ends h = last_again n at behind last (subst (λ (k : ℕ). Last k behind last) (add-zero at) ends) h
+pieces_again [] {n} at {behind} {last} each ends h = last_again n at behind last (subst (λ (k : ℕ). Last k behind last) (add-zero at) ends) h
     ∙ sym (no_front last)
-pieces_again (piece ∷ pieces) n at behind last each ends h =
+pieces_again (piece ∷ pieces) {n} at {behind} {last} each ends h =
     let next = at + length (spelling piece) in
     let rest = flat_map spelling pieces ++ behind in
     let all : flat_map spelling (piece ∷ pieces) ++ behind ≡ spelling piece ++ rest =
@@ -324,26 +322,26 @@ pieces_again (piece ∷ pieces) n at behind last each ends h =
     let more : Last (next + length (flat_map spelling pieces)) behind last = subst (λ (k : ℕ). Last k behind last)
     (sym (place_further at (spelling piece) (flat_map spelling pieces))) ends in
     ap (outcome n None at) all
-    ∙ piece_again piece n at rest (with_front (commands_of next pieces) last) each.0 (subst (λ (bs : List ℕ). length bs < n) all h)
-    (λ m fits. pieces_again pieces m next behind last each.1 more fits)
+    ∙ piece_again piece n at rest each.0 (subst (λ (bs : List ℕ). length bs < n) all h)
+    (λ m fits. pieces_again pieces next each.1 more fits)
     ∙ with_fronts (commands_from at piece) (commands_of next pieces) last
 
 -- ---- whole jobs
 
 -- a reading of the job is what is read
-pub reading_again : (job : List ℕ) (commands : List Said) → IsReading job commands → outcome_of job ≡ Ok commands
-reading_again job commands r =
+pub reading_again : {job : List ℕ} {commands : List Said} → IsReading job commands → outcome_of job ≡ Ok commands
+reading_again {job} {commands} r =
     let all : flat_map spelling r.pieces ++ [] ≡ job = append-nil (flat_map spelling r.pieces) ∙ sym r.spelled in
     let said : commands_of 0 r.pieces ++ [] ≡ commands = append-nil (commands_of 0 r.pieces) ∙ sym r.said in
     ap (outcome (suc (length job)) None 0) (sym all)
-    ∙ pieces_again r.pieces (suc (length job)) 0 [] (Ok []) r.each no_more
+    ∙ pieces_again r.pieces 0 r.each no_more
     (subst (λ (bs : List ℕ). length bs < suc (length job)) (sym all) (omega arith))
     ∙ ap (λ (cs : List Said). Ok cs) said
 
 -- a first fault of the job is what is found
-pub fault_found_of : (job : List ℕ) (fault : Refusal) → IsFault job fault → outcome_of job ≡ Err fault
-fault_found_of job fault f =
+pub fault_found_of : {job : List ℕ} {fault : Refusal} → IsFault job fault → outcome_of job ≡ Err fault
+fault_found_of {job} {fault} f =
     ap (outcome (suc (length job)) None 0) f.spelled
-    ∙ pieces_again f.front (suc (length job)) 0 f.behind (Err fault) f.each
+    ∙ pieces_again f.front 0 f.each
     (first_fault (subst (λ (k : ℕ). Fails k f.behind fault) (sym (zero-add (length (flat_map spelling f.front)))) f.fails))
     (subst (λ (bs : List ℕ). length bs < suc (length job)) f.spelled (omega arith))

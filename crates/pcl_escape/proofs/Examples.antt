@@ -41,61 +41,59 @@ point_alone = refl
 -- no byte, no command
 nothing : IsReading [] []
 unfolding outcome
-nothing = reading_of [] [] refl
+nothing = reading_of refl
 
 -- a silent byte, and a form feed
 silent_and_feed : IsReading (7 ∷ 12 ∷ []) (record { at = 1; name = One 12; value = zero_value; bytes = [] } ∷ [])
 unfolding outcome start_at named_at operation_of
-silent_and_feed = reading_of (7 ∷ 12 ∷ []) (record { at = 1; name = One 12; value = zero_value; bytes = [] } ∷ []) refl
+silent_and_feed = reading_of refl
 
 -- the first parameter of a sequence stands at ESC, the second right behind the first one's letter
 two_moves : IsReading (escape (codes "*p0x0Y")) (said 0 (Three 42 112 88) Absent 0 [] ∷ said 5 (Three 42 112 89) Absent 0 [] ∷ [])
 unfolding outcome start_at sequence_at prefix_at parameter_at field_at parameter_checks operation_of
-two_moves = reading_of (escape (codes "*p0x0Y")) (said 0 (Three 42 112 88) Absent 0 [] ∷ said 5 (Three 42 112 89) Absent 0 [] ∷ []) refl
+two_moves = reading_of refl
 
 -- two bytes of data, the first of which would begin a sequence
 row_of_escape : IsReading (escape (codes "*b2W") ++ 27 ∷ 12 ∷ []) (said 0 (Three 42 98 87) Absent 20000 (27 ∷ 12 ∷ []) ∷ [])
 unfolding outcome start_at sequence_at prefix_at parameter_at field_at parameter_checks operation_of
-row_of_escape = reading_of (escape (codes "*b2W") ++ 27 ∷ 12 ∷ []) (said 0 (Three 42 98 87) Absent 20000 (27 ∷ 12 ∷ []) ∷ []) refl
+row_of_escape = reading_of refl
 
 -- a sequence without a group character: its name has two bytes
 symbol_set : IsReading (escape (codes "(8U")) (said 0 (Two 40 85) Absent 80000 [] ∷ [])
 unfolding outcome start_at sequence_at prefix_at ungrouped_at parameter_at field_at parameter_checks operation_of lines_from
-symbol_set = reading_of (escape (codes "(8U")) (said 0 (Two 40 85) Absent 80000 [] ∷ []) refl
+symbol_set = reading_of refl
 
 -- the letter 96 is an upper-case 64
 clipping : IsReading (escape (codes "&d`0@")) (said 0 (Three 38 100 64) Absent 0 [] ∷ said 4 (Three 38 100 64) Absent 0 [] ∷ [])
 unfolding outcome start_at sequence_at prefix_at ungrouped_at parameter_at field_at parameter_checks operation_of lines_from
-clipping = reading_of (escape (codes "&d`0@")) (said 0 (Three 38 100 64) Absent 0 [] ∷ said 4 (Three 38 100 64) Absent 0 [] ∷ []) refl
+clipping = reading_of refl
 
 -- behind a universal exit a line is skipped up to its LF, and then one that asks for PCL; what is behind that is read
 leaving : IsReading (escape (codes "%-12345X@PJL x") ++ 10 ∷ (codes "@PJL Enter Language=P C L" ++ 13 ∷ 10 ∷ 12 ∷ []))
     (said 0 (Two 37 88) Minus 123450000 [] ∷ said 43 (One 12) Absent 0 [] ∷ [])
 unfolding outcome start_at sequence_at prefix_at ungrouped_at parameter_at field_at parameter_checks operation_of lines_from named_at
-leaving = reading_of (escape (codes "%-12345X@PJL x") ++ 10 ∷ (codes "@PJL Enter Language=P C L" ++ 13 ∷ 10 ∷ 12 ∷ []))
-    (said 0 (Two 37 88) Minus 123450000 [] ∷ said 43 (One 12) Absent 0 [] ∷ []) refl
+leaving = reading_of refl
 
 -- a line without LF goes to the end, whatever it holds
 last_line : IsReading (escape (codes "%-12345X@PJL") ++ 27 ∷ 7 ∷ []) (said 0 (Two 37 88) Minus 123450000 [] ∷ [])
 unfolding outcome start_at sequence_at prefix_at ungrouped_at parameter_at field_at parameter_checks operation_of lines_from
-last_line = reading_of (escape (codes "%-12345X@PJL") ++ 27 ∷ 7 ∷ []) (said 0 (Two 37 88) Minus 123450000 [] ∷ []) refl
+last_line = reading_of refl
 
 -- another value of that name skips nothing
 staying : IsReading (escape (codes "%-12344X") ++ 12 ∷ []) (said 0 (Two 37 88) Minus 123440000 [] ∷ said 9 (One 12) Absent 0 [] ∷ [])
 unfolding outcome start_at sequence_at prefix_at ungrouped_at parameter_at field_at parameter_checks operation_of lines_from named_at
-staying = reading_of (escape (codes "%-12344X") ++ 12 ∷ []) (said 0 (Two 37 88) Minus 123440000 [] ∷ said 9 (One 12) Absent 0 [] ∷ []) refl
+staying = reading_of refl
 
 -- a run of text goes on up to a byte that is none, and silent bytes are none
 two_runs : IsReading (codes "A " ++ 7 ∷ codes "B") (said 0 (One 32) Absent 0 (codes "A ") ∷ said 3 (One 32) Absent 0 (codes "B") ∷ [])
 unfolding outcome start_at text_at operation_of
-two_runs = reading_of (codes "A " ++ 7 ∷ codes "B") (said 0 (One 32) Absent 0 (codes "A ") ∷ said 3 (One 32) Absent 0 (codes "B") ∷ []) refl
+two_runs = reading_of refl
 
 -- a line in lower case is text
 lower_case_line : IsReading (escape (codes "%-12345X@pjl"))
     (said 0 (Two 37 88) Minus 123450000 [] ∷ said 9 (One 32) Absent 0 (codes "@pjl") ∷ [])
 unfolding outcome start_at sequence_at prefix_at ungrouped_at parameter_at field_at parameter_checks operation_of lines_from text_at
-lower_case_line = reading_of (escape (codes "%-12345X@pjl"))
-    (said 0 (Two 37 88) Minus 123450000 [] ∷ said 9 (One 32) Absent 0 (codes "@pjl") ∷ []) refl
+lower_case_line = reading_of refl
 
 -- ---- first faults
 

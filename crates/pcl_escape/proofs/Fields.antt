@@ -68,16 +68,16 @@ record IsSignFront (bytes : List ℕ) (parts : Sign × List ℕ) : Type 0 where
   stops : is_absent parts.0 ≡ true → NoSign parts.1
 
 -- the sign that is read, by the tests of the byte
-sign_by : (byte : ℕ) (bytes : List ℕ) (plus minus : Bool) → eqb byte 43 ≡ plus → eqb byte 45 ≡ minus
+sign_by : {byte : ℕ} {bytes : List ℕ} (plus minus : Bool) → eqb byte 43 ≡ plus → eqb byte 45 ≡ minus
     → IsSignFront (byte ∷ bytes) (sign_at (byte ∷ bytes))
-sign_by byte bytes true minus p m = rw p (record { joined = ap (λ (b : ℕ). b ∷ bytes) (eqb-true byte 43 p); stops = λ e. absurd cc })
-sign_by byte bytes false true p m = rw (p, m) (record { joined = ap (λ (b : ℕ). b ∷ bytes) (eqb-true byte 45 m); stops = λ e. absurd cc })
-sign_by byte bytes false false p m = rw (p, m) (record { joined = refl; stops = λ e. rw (p, m) refl })
+sign_by {byte} {bytes} true minus p m = rw p (record { joined = ap (λ (b : ℕ). b ∷ bytes) (eqb-true byte 43 p); stops = λ e. absurd cc })
+sign_by {byte} {bytes} false true p m = rw (p, m) (record { joined = ap (λ (b : ℕ). b ∷ bytes) (eqb-true byte 45 m); stops = λ e. absurd cc })
+sign_by {byte} {bytes} false false p m = rw (p, m) (record { joined = refl; stops = λ e. rw (p, m) refl })
 
 -- the sign that is read is the one at the front
 sign_split : (bytes : List ℕ) → IsSignFront bytes (sign_at bytes)
 sign_split [] = record { joined = refl; stops = λ e. tt }
-sign_split (byte ∷ bytes) = sign_by byte bytes (eqb byte 43) (eqb byte 45) refl refl
+sign_split (byte ∷ bytes) = sign_by (eqb byte 43) (eqb byte 45) refl refl
 
 -- a sign is read as it is spelled
 sign_again : (sign : Sign) (more : List ℕ) → (is_absent sign ≡ true → NoSign more) → sign_at (sign_bytes sign ++ more) ≡ (sign, more)
@@ -106,9 +106,9 @@ record IsFractionFront (bytes : List ℕ) (parts : Option (List ℕ) × List ℕ
   same : is_none parts.0 ≡ true → parts.1 ≡ bytes
 
 -- the fraction that is read, by the test of the byte
-fraction_by : (byte : ℕ) (bytes : List ℕ) (point : Bool) → eqb byte 46 ≡ point
+fraction_by : {byte : ℕ} {bytes : List ℕ} (point : Bool) → eqb byte 46 ≡ point
     → IsFractionFront (byte ∷ bytes) (fraction_at (byte ∷ bytes))
-fraction_by byte bytes true p =
+fraction_by {byte} {bytes} true p =
     let d = front_split is_digit bytes in
     rw p (record {
       joined = ap (λ (b : ℕ). b ∷ bytes) (eqb-true byte 46 p) ∙ ap (λ (bs : List ℕ). 46 ∷ bs) d.joined;
@@ -117,12 +117,12 @@ fraction_by byte bytes true p =
       no_digit = λ n. d.stops;
       same = λ e. absurd cc;
     })
-fraction_by byte bytes false p = rw p (record { joined = refl; digits = tt; no_point = λ e. p; no_digit = λ n. n; same = λ e. refl })
+fraction_by {byte} {bytes} false p = rw p (record { joined = refl; digits = tt; no_point = λ e. p; no_digit = λ n. n; same = λ e. refl })
 
 -- the fraction that is read is the one at the front
 fraction_split : (bytes : List ℕ) → IsFractionFront bytes (fraction_at bytes)
 fraction_split [] = record { joined = refl; digits = tt; no_point = λ e. tt; no_digit = λ n. n; same = λ e. refl }
-fraction_split (byte ∷ bytes) = fraction_by byte bytes (eqb byte 46) refl
+fraction_split (byte ∷ bytes) = fraction_by (eqb byte 46) refl
 
 -- a fraction is read as it is spelled
 fraction_again : (fraction : Option (List ℕ)) (rest : List ℕ) → IfSome fraction AreDigits → (is_none fraction ≡ true → NoPoint rest)
@@ -163,9 +163,9 @@ empty_is [] e = refl
 empty_is (byte ∷ bytes) e = absurd cc
 
 -- the field that is read is the one at the front
-pub field_split : (bytes : List ℕ) → IsFieldFront bytes (field_at bytes)
+pub field_split : {bytes : List ℕ} → IsFieldFront bytes (field_at bytes)
 unfolding field_at
-field_split bytes =
+field_split {bytes} =
     let sign = sign_at bytes in
     let whole = digits_at sign.1 in
     let fraction = fraction_at whole.1 in
@@ -193,9 +193,9 @@ record Stops (field : Spelled) (rest : List ℕ) : Type 0 where
   no_sign : is_bare field ≡ true → NoSign rest
 
 -- the three from the one test
-stops_parts : (field : Spelled) (rest : List ℕ) → FieldStops field rest → Stops field rest
-stops_parts field [] s = record { no_digit = tt; no_point = λ e. tt; no_sign = λ e. tt }
-stops_parts field (byte ∷ rest) s =
+stops_parts : {field : Spelled} (rest : List ℕ) → FieldStops field rest → Stops field rest
+stops_parts {field} [] s = record { no_digit = tt; no_point = λ e. tt; no_sign = λ e. tt }
+stops_parts {field} (byte ∷ rest) s =
     let p = or_parts (is_digit byte) (eqb byte 46 && is_none field.fraction) (is_sign byte && is_bare field) s in
     record {
       no_digit = p.0;
@@ -221,11 +221,11 @@ no_sign_behind [] (Some digits) rest d n = refl
 no_sign_behind (digit ∷ whole) fraction rest d n = digit_no_sign digit d.0
 
 -- a field is read as it is spelled, where it stops
-pub field_again : (field : Spelled) (rest : List ℕ) → IsField field → FieldStops field rest
+pub field_again : {field : Spelled} {rest : List ℕ} → IsField field → FieldStops field rest
     → field_at (field_bytes field ++ rest) ≡ (field, rest)
 unfolding field_at
-field_again field rest f s =
-    let p = stops_parts field rest s in
+field_again {field} {rest} f s =
+    let p = stops_parts rest s in
     let behind = fraction_bytes field.fraction ++ rest in
     let parts : field_bytes field ++ rest ≡ sign_bytes field.sign ++ (field.whole ++ behind) = simp append_assoc in
     let sign = sign_again field.sign (field.whole ++ behind)

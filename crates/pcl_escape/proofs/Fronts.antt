@@ -22,20 +22,20 @@ pub record IsFront (test : ℕ → Bool) (bytes : List ℕ) (parts : List ℕ ×
   pub stops : StopsAt test parts.1
 
 -- a byte that passes is taken
-pub front_yes : (test : ℕ → Bool) (byte : ℕ) (bytes : List ℕ) → test byte ≡ true
+pub front_yes : (test : ℕ → Bool) {byte : ℕ} (bytes : List ℕ) → test byte ≡ true
     → front_at test (byte ∷ bytes) ≡ (byte ∷ (front_at test bytes).0, (front_at test bytes).1)
-front_yes test byte bytes e = rw (e, one-add) refl
+front_yes test {byte} bytes e = rw (e, one-add) refl
 
 -- at another byte the front ends
-pub front_no : (test : ℕ → Bool) (byte : ℕ) (bytes : List ℕ) → test byte ≡ false → front_at test (byte ∷ bytes) ≡ ([], byte ∷ bytes)
-front_no test byte bytes e = rw e refl
+pub front_no : (test : ℕ → Bool) {byte : ℕ} {bytes : List ℕ} → test byte ≡ false → front_at test (byte ∷ bytes) ≡ ([], byte ∷ bytes)
+front_no test {byte} {bytes} e = rw e refl
 
 -- the front, by the test of the first byte
 front_by : (test : ℕ → Bool) (byte : ℕ) (bytes : List ℕ) (passes : Bool) → test byte ≡ passes → IsFront test bytes (front_at test bytes)
     → IsFront test (byte ∷ bytes) (front_at test (byte ∷ bytes))
 front_by test byte bytes true e h =
-    rw (front_yes test byte bytes e) (record { joined = ap (λ bs. byte ∷ bs) h.joined; pass = (e, h.pass); stops = h.stops })
-front_by test byte bytes false e h = rw (front_no test byte bytes e) (record { joined = refl; pass = tt; stops = e })
+    rw (front_yes test bytes e) (record { joined = ap (λ bs. byte ∷ bs) h.joined; pass = (e, h.pass); stops = h.stops })
+front_by test byte bytes false e h = rw (front_no test e) (record { joined = refl; pass = tt; stops = e })
 
 -- the front that is taken has all bytes that pass
 pub front_split : (test : ℕ → Bool) (bytes : List ℕ) → IsFront test bytes (front_at test bytes)
@@ -46,6 +46,6 @@ front_split test (byte ∷ bytes) = front_by test byte bytes (test byte) refl (f
 pub front_again : (test : ℕ → Bool) (front rest : List ℕ) → Pass test front → StopsAt test rest
     → front_at test (front ++ rest) ≡ (front, rest)
 front_again test [] [] p n = refl
-front_again test [] (byte ∷ rest) p n = front_no test byte rest n
+front_again test [] (byte ∷ rest) p n = front_no test n
 front_again test (first ∷ front) rest p n =
-    front_yes test first (front ++ rest) p.0 ∙ ap (λ (q : List ℕ × List ℕ). (first ∷ q.0, q.1)) (front_again test front rest p.1 n)
+    front_yes test (front ++ rest) p.0 ∙ ap (λ (q : List ℕ × List ℕ). (first ∷ q.0, q.1)) (front_again test front rest p.1 n)

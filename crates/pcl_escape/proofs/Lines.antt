@@ -81,10 +81,10 @@ whole_again [] none = refl
 whole_again (byte ∷ line) none = rw none.0 (ap (λ (n : ℕ). suc n) (whole_again line none.1))
 
 -- a line is found as it ends
-found_again : (line behind : List ℕ) → Ends line behind → line_len (line ++ behind) ≡ length line
-found_again line behind (inl (text, same, none)) = subst (λ (bs : List ℕ). line_len (bs ++ behind) ≡ length bs) (sym same)
+found_again : {line behind : List ℕ} → Ends line behind → line_len (line ++ behind) ≡ length line
+found_again {line} {behind} (inl (text, same, none)) = subst (λ (bs : List ℕ). line_len (bs ++ behind) ≡ length bs) (sym same)
     (fed_again text behind none)
-found_again line behind (inr (same, none)) = subst (λ (bs : List ℕ). line_len (line ++ bs) ≡ length line) (sym same)
+found_again {line} {behind} (inr (same, none)) = subst (λ (bs : List ℕ). line_len (line ++ bs) ≡ length line) (sym same)
     (whole_again line none)
 
 -- ---- one step
@@ -100,13 +100,13 @@ line_step more place bytes line len behind = by_tests (is_job_line bytes) (names
     (lines_from more (place + len) behind)
 
 -- the step at a line
-at_line : (line behind : List ℕ) (more place : ℕ) → IsLine line behind
+at_line : {line behind : List ℕ} (more place : ℕ) → IsLine line behind
     → lines_from (suc more) place (line ++ behind) ≡ by_tests true (names_language line) (names_pcl line) place (line ++ behind) behind
     (lines_from more (place + length line) behind)
 unfolding lines_from
-at_line line behind more place is =
+at_line {line} {behind} more place is =
     let bytes = line ++ behind in
-    ap (λ (len : ℕ). line_step more place bytes (take len bytes) len (drop len bytes)) (found_again line behind is.1)
+    ap (λ (len : ℕ). line_step more place bytes (take len bytes) len (drop len bytes)) (found_again is.1)
     ∙ ap (λ (front : List ℕ). line_step more place bytes front (length line) (drop (length line) bytes))
     (take_at line behind (length line) refl)
     ∙ ap (λ (back : List ℕ). line_step more place bytes line (length line) back) (drop_at line behind (length line) refl)
@@ -114,10 +114,10 @@ at_line line behind more place is =
     (lines_from more (place + length line) behind)) (word_before (codes "@PJL") line behind is.0)
 
 -- any number of steps that is enough
-next_same : (job language pcl : Bool) (place : ℕ) (bytes behind : List ℕ) (a b : Result (List ℕ) ℕ) → (job ≡ true → a ≡ b)
+next_same : (job language pcl : Bool) (place : ℕ) (bytes behind : List ℕ) {a b : Result (List ℕ) ℕ} → (job ≡ true → a ≡ b)
     → by_tests job language pcl place bytes behind a ≡ by_tests job language pcl place bytes behind b
-next_same true language pcl place bytes behind a b h = ap (by_tests true language pcl place bytes behind) (h refl)
-next_same false language pcl place bytes behind a b h = refl
+next_same true language pcl place bytes behind {a} {b} h = ap (by_tests true language pcl place bytes behind) (h refl)
+next_same false language pcl place bytes behind {a} {b} h = refl
 
 -- the bytes behind a line are fewer
 behind_shorter : (bytes : List ℕ) → is_job_line bytes ≡ true → length (drop (line_len bytes) bytes) < length bytes
@@ -135,8 +135,7 @@ lines_enough (suc n) zero place bytes h k = absurd (omega arith)
 lines_enough (suc n) (suc m) place bytes h k =
     let line = take (line_len bytes) bytes in
     let behind = drop (line_len bytes) bytes in
-    next_same (is_job_line bytes) (names_language line) (names_pcl line) place bytes behind (lines_from n (place + line_len bytes) behind)
-    (lines_from m (place + line_len bytes) behind)
+    next_same (is_job_line bytes) (names_language line) (names_pcl line) place bytes behind
     (λ e. let shorter = behind_shorter bytes e in lines_enough n m (place + line_len bytes) behind (omega arith) (omega arith))
 
 -- behind a line that asks for no language, the next ones come
@@ -165,68 +164,68 @@ last_joined (first ∷ lines) line rest =
     ∙ sym (append_assoc first (joined lines) (line ++ rest))
 
 -- one more line that asks for no language
-more_lines : (line : List ℕ) (all : List (List ℕ)) (rest : List ℕ) → IsLine line (joined all ++ rest) → names_language line ≡ false
+more_lines : {line : List ℕ} {all : List (List ℕ)} {rest : List ℕ} → IsLine line (joined all ++ rest) → names_language line ≡ false
     → AreLines all rest → AreLines (line ∷ all) rest
-more_lines line all rest is none (to_other_bytes lines each e) = to_other_bytes (line ∷ lines) (is, none, each) e
-more_lines line all rest is none (to_pcl lines last each ends l p) =
+more_lines {line} {all} {rest} is none (to_other_bytes lines each e) = to_other_bytes (line ∷ lines) (is, none, each) e
+more_lines {line} {all} {rest} is none (to_pcl lines last each ends l p) =
     to_pcl (line ∷ lines) last (subst (IsLine line) (last_joined lines last rest) is, none, each) ends l p
 
 -- a line in front
-line_first : (place : ℕ) (line behind : List ℕ) (read : Result (List ℕ) ℕ) → IsLine line behind → names_language line ≡ false
+line_first : {place : ℕ} {line behind : List ℕ} {read : Result (List ℕ) ℕ} → IsLine line behind → names_language line ≡ false
     → Lines (place + length line) behind read → Lines place (line ++ behind) read
-line_first place line behind read is none (skipped lines rest each) =
+line_first {place} {line} {behind} {read} is none (skipped lines rest each) =
     subst (λ (bs : List ℕ). Lines place bs (Ok rest)) (append_assoc line (joined lines) rest)
-    (skipped (line ∷ lines) rest (more_lines line lines rest is none each))
-line_first place line behind read is none (foreign lines last rest each ends l p) =
+    (skipped (line ∷ lines) rest (more_lines is none each))
+line_first {place} {line} {behind} {read} is none (foreign lines last rest each ends l p) =
     let further : place + length (line ++ joined lines) ≡ (place + length line) + length (joined lines) = let e =
     length-append line (joined lines) in omega arith in
     subst₂ (λ (bs : List ℕ) (k : ℕ). Lines place bs (Err k)) (append_assoc line (joined lines) (last ++ rest)) further
     (foreign (line ∷ lines) last rest (is, none, each) ends l p)
 
 -- a step, by the outcomes of its tests
-split_by : (place : ℕ) (line behind : List ℕ) (language pcl : Bool) (next : Result (List ℕ) ℕ) → IsLine line behind
+split_by : {place : ℕ} {line behind : List ℕ} (language pcl : Bool) {next : Result (List ℕ) ℕ} → IsLine line behind
     → names_language line ≡ language → names_pcl line ≡ pcl → Lines (place + length line) behind next
     → Lines place (line ++ behind) (by_tests true language pcl place (line ++ behind) behind next)
-split_by place line behind false pcl next is l p h = line_first place line behind next is l h
-split_by place line behind true true next is l p h = subst (λ (bs : List ℕ). Lines place (bs ++ behind) (Ok behind)) (append-nil line)
+split_by {place} {line} {behind} false pcl {next} is l p h = line_first is l h
+split_by {place} {line} {behind} true true {next} is l p h = subst (λ (bs : List ℕ). Lines place (bs ++ behind) (Ok behind)) (append-nil line)
     (skipped (line ∷ []) behind (to_pcl [] line tt is l p))
-split_by place line behind true false next is l p h = subst (λ (k : ℕ). Lines place (line ++ behind) (Err k)) (add-zero place)
+split_by {place} {line} {behind} true false {next} is l p h = subst (λ (k : ℕ). Lines place (line ++ behind) (Err k)) (add-zero place)
     (foreign [] line behind tt is l p)
 
-job_by : (n place : ℕ) (bytes : List ℕ) (job : Bool) → is_job_line bytes ≡ job
+job_by : (n : ℕ) {place : ℕ} {bytes : List ℕ} (job : Bool) → is_job_line bytes ≡ job
     → (job ≡ true → Lines (place + line_len bytes) (drop (line_len bytes) bytes)
     (lines_from n (place + line_len bytes) (drop (line_len bytes) bytes)))
     → Lines place bytes (lines_from (suc n) place bytes)
 unfolding lines_from
-job_by n place bytes false e h = rw e (skipped [] bytes (to_other_bytes [] tt e))
-job_by n place bytes true e h =
+job_by n {place} {bytes} false e h = rw e (skipped [] bytes (to_other_bytes [] tt e))
+job_by n {place} {bytes} true e h =
     let line = take (line_len bytes) bytes in
     let behind = drop (line_len bytes) bytes in
     let whole : line ++ behind ≡ bytes = take-append-drop (line_len bytes) bytes in
     let long : length line ≡ line_len bytes = length-take-le (line_len bytes) bytes (line_within bytes) in
     let is = line_is bytes e in
     subst (λ (bs : List ℕ). Lines place bs (lines_from (suc n) place bs)) whole
-    (subst (Lines place (line ++ behind)) (sym (at_line line behind n place is))
-    (split_by place line behind (names_language line) (names_pcl line) (lines_from n (place + length line) behind) is refl refl
+    (subst (Lines place (line ++ behind)) (sym (at_line n place is))
+    (split_by (names_language line) (names_pcl line) is refl refl
     (subst (λ (k : ℕ). Lines (place + k) behind (lines_from n (place + k) behind)) (sym long) (h refl))))
 
 -- what the steps give says what the bytes are
-pub lines_split : (n place : ℕ) (bytes : List ℕ) → length bytes < n → Lines place bytes (lines_from n place bytes)
-lines_split zero place bytes h = absurd (omega arith)
-lines_split (suc n) place bytes h =
-    job_by n place bytes (is_job_line bytes) refl
-    (λ e. let shorter = behind_shorter bytes e in lines_split n (place + line_len bytes) (drop (line_len bytes) bytes) (omega arith))
+pub lines_split : (n : ℕ) {place : ℕ} {bytes : List ℕ} → length bytes < n → Lines place bytes (lines_from n place bytes)
+lines_split zero {place} {bytes} h = absurd (omega arith)
+lines_split (suc n) {place} {bytes} h =
+    job_by n (is_job_line bytes) refl
+    (λ e. let shorter = behind_shorter bytes e in lines_split n (omega arith))
 
 -- ---- from the lines to the steps
 
 -- behind lines that ask for no language, the steps go on
-others_again : (lines : List (List ℕ)) (n place : ℕ) (behind : List ℕ) (read : Result (List ℕ) ℕ) → AreOtherLines lines behind
+others_again : (lines : List (List ℕ)) (n place : ℕ) (behind : List ℕ) {read : Result (List ℕ) ℕ} → AreOtherLines lines behind
     → length (joined lines ++ behind) < n
     → ((m : ℕ) → length behind < m → lines_from m (place + length (joined lines)) behind ≡ read)
     → lines_from n place (joined lines ++ behind) ≡ read
-others_again [] n place behind read each h gives = ap (λ (k : ℕ). lines_from n k behind) (sym (add-zero place)) ∙ gives n h
-others_again (line ∷ lines) zero place behind read each h gives = absurd (omega arith)
-others_again (line ∷ lines) (suc n) place behind read each h gives =
+others_again [] n place behind {read} each h gives = ap (λ (k : ℕ). lines_from n k behind) (sym (add-zero place)) ∙ gives n h
+others_again (line ∷ lines) zero place behind {read} each h gives = absurd (omega arith)
+others_again (line ∷ lines) (suc n) place behind {read} each h gives =
     let all : (line ++ joined lines) ++ behind ≡ line ++ (joined lines ++ behind) = append_assoc line (joined lines) behind in
     let parts = length-append line (joined lines ++ behind) in
     let whole = ap length all in
@@ -234,48 +233,48 @@ others_again (line ∷ lines) (suc n) place behind read each h gives =
     let further : (place + length line) + length (joined lines) ≡ place + length (line ++ joined lines) = let e =
     length-append line (joined lines) in omega arith in
     ap (lines_from (suc n) place) all
-    ∙ at_line line (joined lines ++ behind) n place each.0
+    ∙ at_line n place each.0
     ∙ ap (λ (language : Bool). by_tests true language (names_pcl line) place (line ++ (joined lines ++ behind)) (joined lines ++ behind)
     (lines_from n (place + length line) (joined lines ++ behind))) each.1
-    ∙ others_again lines n (place + length line) behind read each.2 (omega arith)
+    ∙ others_again lines n (place + length line) behind each.2 (omega arith)
     (λ m fits. ap (λ (k : ℕ). lines_from m k behind) further ∙ gives m fits)
 
 -- at other bytes the steps end
-other_bytes : (m place : ℕ) (behind : List ℕ) → length behind < m → is_job_line behind ≡ false → lines_from m place behind ≡ Ok behind
+other_bytes : (m place : ℕ) {behind : List ℕ} → length behind < m → is_job_line behind ≡ false → lines_from m place behind ≡ Ok behind
 unfolding lines_from
-other_bytes zero place behind h e = absurd (omega arith)
-other_bytes (suc m) place behind h e = rw e refl
+other_bytes zero place {behind} h e = absurd (omega arith)
+other_bytes (suc m) place {behind} h e = rw e refl
 
 -- so do they at a line that asks for a language
-asking_line : (m place : ℕ) (line behind : List ℕ) (pcl : Bool) → length (line ++ behind) < m → IsLine line behind
+asking_line : (m place : ℕ) {line behind : List ℕ} {pcl : Bool} → length (line ++ behind) < m → IsLine line behind
     → names_language line ≡ true → names_pcl line ≡ pcl → lines_from m place (line ++ behind) ≡ (if pcl then Ok behind else Err place)
-asking_line zero place line behind pcl h is l p = absurd (omega arith)
-asking_line (suc m) place line behind pcl h is l p = at_line line behind m place is ∙ rw (l, p) refl
+asking_line zero place {line} {behind} {pcl} h is l p = absurd (omega arith)
+asking_line (suc m) place {line} {behind} {pcl} h is l p = at_line m place is ∙ rw (l, p) refl
 
 -- lines are skipped
-pub lines_again : (all : List (List ℕ)) (place : ℕ) (rest : List ℕ) → AreLines all rest → lines_at place (joined all ++ rest) ≡ Ok rest
-lines_again all place rest (to_other_bytes lines each e) =
-    others_again lines (suc (length (joined lines ++ rest))) place rest (Ok rest) each (omega arith)
-    (λ m fits. other_bytes m (place + length (joined lines)) rest fits e)
-lines_again all place rest (to_pcl lines line each ends l p) =
+pub lines_again : {all : List (List ℕ)} (place : ℕ) {rest : List ℕ} → AreLines all rest → lines_at place (joined all ++ rest) ≡ Ok rest
+lines_again {all} place {rest} (to_other_bytes lines each e) =
+    others_again lines (suc (length (joined lines ++ rest))) place rest each (omega arith)
+    (λ m fits. other_bytes m (place + length (joined lines)) fits e)
+lines_again {all} place {rest} (to_pcl lines line each ends l p) =
     let all_bytes : joined (lines ++ line ∷ []) ++ rest ≡ joined lines ++ (line ++ rest) = last_joined lines line rest in
     ap (lines_at place) all_bytes
-    ∙ others_again lines (suc (length (joined lines ++ (line ++ rest)))) place (line ++ rest) (Ok rest) each (omega arith)
-    (λ m fits. asking_line m (place + length (joined lines)) line rest true fits ends l p)
+    ∙ others_again lines (suc (length (joined lines ++ (line ++ rest)))) place (line ++ rest) each (omega arith)
+    (λ m fits. asking_line m (place + length (joined lines)) fits ends l p)
 
 -- a line that asks for another language is found
-pub foreign_again : (lines : List (List ℕ)) (place : ℕ) (line rest : List ℕ) → AreOtherLines lines (line ++ rest) → IsLine line rest
+pub foreign_again : (lines : List (List ℕ)) (place : ℕ) {line rest : List ℕ} → AreOtherLines lines (line ++ rest) → IsLine line rest
     → IsTrue (names_language line) → names_pcl line ≡ false
     → lines_at place (joined lines ++ (line ++ rest)) ≡ Err (place + length (joined lines))
-foreign_again lines place line rest each ends l p =
-    others_again lines (suc (length (joined lines ++ (line ++ rest)))) place (line ++ rest) (Err (place + length (joined lines))) each
-    (omega arith) (λ m fits. asking_line m (place + length (joined lines)) line rest false fits ends l p)
+foreign_again lines place {line} {rest} each ends l p =
+    others_again lines (suc (length (joined lines ++ (line ++ rest)))) place (line ++ rest) each
+    (omega arith) (λ m fits. asking_line m (place + length (joined lines)) fits ends l p)
 
 -- ---- the code's step
 
 -- other bytes than a line of the job language
-pub at_other_bytes : (place : ℕ) (bytes : List ℕ) → false ≡ is_job_line bytes → lines_at place bytes ≡ Ok bytes
-at_other_bytes place bytes e = other_bytes (suc (length bytes)) place bytes (omega arith) (sym e)
+pub at_other_bytes : (place : ℕ) {bytes : List ℕ} → false ≡ is_job_line bytes → lines_at place bytes ≡ Ok bytes
+at_other_bytes place {bytes} e = other_bytes (suc (length bytes)) place (omega arith) (sym e)
 
 -- the line at the front, cut off
 pub record IsCut (bytes line behind : List ℕ) : Type 0 where
@@ -284,9 +283,9 @@ pub record IsCut (bytes line behind : List ℕ) : Type 0 where
   pub behind_is : behind ≡ drop (line_len bytes) bytes
 
 -- a line that asks for no language is skipped
-pub at_other_line : (place : ℕ) (bytes line behind : List ℕ) → IsCut bytes line behind → false ≡ names_language line
+pub at_other_line : (place : ℕ) {bytes line behind : List ℕ} → IsCut bytes line behind → false ≡ names_language line
     → lines_at place bytes ≡ lines_at (place + (length bytes - length behind)) behind
-at_other_line place bytes line behind cut l =
+at_other_line place {bytes} {line} {behind} cut l =
     let none : names_language (take (line_len bytes) bytes) ≡ false = ap names_language (sym cut.line_is) ∙ sym l in
     let within = line_within bytes in
     let long : length behind ≡ length bytes - line_len bytes = ap length cut.behind_is ∙ length-drop (line_len bytes) bytes in
@@ -296,15 +295,15 @@ at_other_line place bytes line behind cut l =
     (sym cut.behind_is) refl
 
 -- one that asks for a language ends the skipping
-pub at_asking_line : (place : ℕ) (bytes line behind : List ℕ) (pcl : Bool) → IsCut bytes line behind → true ≡ names_language line
+pub at_asking_line : (place : ℕ) {bytes line behind : List ℕ} {pcl : Bool} → IsCut bytes line behind → true ≡ names_language line
     → pcl ≡ names_pcl line → lines_at place bytes ≡ (if pcl then Ok behind else Err place)
 unfolding lines_from
-at_asking_line place bytes line behind pcl cut l p =
+at_asking_line place {bytes} {line} {behind} {pcl} cut l p =
     let asks : names_language (take (line_len bytes) bytes) ≡ true = ap names_language (sym cut.line_is) ∙ sym l in
     let says : names_pcl (take (line_len bytes) bytes) ≡ pcl = ap names_pcl (sym cut.line_is) ∙ sym p in
     rw (sym cut.job, asks, says, cut.behind_is) refl
 
 -- a place behind two parts, counted from the end
-pub place_later : (place all rest behind : ℕ) → rest ≤ all → behind ≤ rest
+pub place_later : (place : ℕ) {all rest behind : ℕ} → rest ≤ all → behind ≤ rest
     → (place + (all - rest)) + (rest - behind) ≡ place + (all - behind)
-place_later place all rest behind h k = omega arith
+place_later place {all} {rest} {behind} h k = omega arith

@@ -27,12 +27,12 @@ goes_on_inside None bytes e = absurd cc
 goes_on_inside (Some prefix) bytes e = tt
 
 -- a step takes a byte
-pub step_shorter : (inside : Option Prefix) (at : ℕ) (bytes : List ℕ) (reads : Reads) → GoesOn inside bytes
+pub step_shorter : (inside : Option Prefix) (at : ℕ) (bytes : List ℕ) {reads : Reads} → GoesOn inside bytes
     → step_at inside at bytes ≡ Ok reads → length reads.rest < length bytes
-step_shorter None at [] reads goes e = absurd goes
-step_shorter None at (byte ∷ bytes) reads goes e = start_shorter at (byte ∷ bytes) (start_at at (byte ∷ bytes)) reads
-    (start_step at byte bytes) e
-step_shorter (Some prefix) at bytes reads goes e = parameter_shorter prefix at bytes reads e
+step_shorter None at [] {reads} goes e = absurd goes
+step_shorter None at (byte ∷ bytes) {reads} goes e = start_shorter
+    (start_step) e
+step_shorter (Some prefix) at bytes {reads} goes e = parameter_shorter prefix at bytes e
 
 -- the first step, and then the others
 first_step : (n : ℕ) (inside : Option Prefix) (at : ℕ) (bytes : List ℕ) → GoesOn inside bytes
@@ -52,7 +52,7 @@ pub one_more : (front : List Said) (total : ℕ) (inside : Option Prefix) (rest 
     → GoesOn inside rest → step_at inside (total - length rest) rest ≡ Ok reads
     → so_far (front ++ commands_said reads.said) total reads.inside reads.rest ≡ so_far front total inside rest
 one_more front total inside rest reads h goes e =
-    let shorter = step_shorter inside (total - length rest) rest reads goes e in
+    let shorter = step_shorter inside (total - length rest) rest goes e in
     let place : (total - length rest) + (length rest - length reads.rest) ≡ total - length reads.rest = omega arith in
     let steps : outcome (suc (length reads.rest)) reads.inside (total - length reads.rest) reads.rest
     ≡ outcome (length rest) reads.inside (total - length reads.rest) reads.rest =
@@ -68,9 +68,9 @@ one_more front total inside rest reads h goes e =
     ∙ ap (with_front front) (sym next)
 
 -- a fault of a step is the job's
-pub stops_at : (front : List Said) (total : ℕ) (inside : Option Prefix) (rest : List ℕ) (fault : Refusal) → GoesOn inside rest
+pub stops_at : (front : List Said) (total : ℕ) (inside : Option Prefix) (rest : List ℕ) {fault : Refusal} → GoesOn inside rest
     → step_at inside (total - length rest) rest ≡ Err fault → so_far front total inside rest ≡ Err fault
-stops_at front total inside rest fault goes e =
+stops_at front total inside rest {fault} goes e =
     ap (with_front front) (first_step (length rest) inside (total - length rest) rest goes
     ∙ ap (λ (r : Result Reads Refusal). after r (λ reads. outcome (length rest) reads.inside
     ((total - length rest) + (length rest - length reads.rest)) reads.rest)) e)

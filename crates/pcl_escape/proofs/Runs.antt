@@ -79,10 +79,10 @@ pub place_further : (at : ℕ) (front more : List ℕ) → (at + length front) +
 place_further at front more = let e = length-append front more in omega arith
 
 -- a piece in front of a reading
-piece_first : (piece : Piece) (at : ℕ) (bytes : List ℕ) (read : Result (List Said) Refusal) → IsPiece piece bytes
+piece_first : (piece : Piece) {at : ℕ} {bytes : List ℕ} {read : Result (List Said) Refusal} → IsPiece piece bytes
     → Reading (at + length (spelling piece)) bytes read
     → Reading at (spelling piece ++ bytes) (with_front (commands_from at piece) read)
-piece_first piece at bytes read is (reading pieces behind last each ends) =
+piece_first piece {at} {bytes} {read} is (reading pieces behind last each ends) =
     let more : Last (at + length (flat_map spelling (piece ∷ pieces))) behind last =
     subst (λ (n : ℕ). Last n behind last) (place_further at (spelling piece) (flat_map spelling pieces)) ends in
     subst₂ (Reading at) (append_assoc (spelling piece) (flat_map spelling pieces) behind)
@@ -90,10 +90,10 @@ piece_first piece at bytes read is (reading pieces behind last each ends) =
     (reading (piece ∷ pieces) behind last (is, each) more)
 
 -- a last parameter in front of a reading
-end_first : (prefix : Prefix) (at begin : ℕ) (end : Parameter) (bytes behind : List ℕ) (read : Result (List Said) Refusal)
+end_first : {prefix : Prefix} {at begin : ℕ} {end : Parameter} {bytes behind : List ℕ} {read : Result (List Said) Refusal}
     → IsEnd prefix end bytes → Reading (begin + length (parameter_bytes end ++ bytes)) behind read
     → Rest prefix at begin (parameter_bytes end ++ (bytes ++ behind)) (with_front (command_of prefix at end bytes ∷ []) read)
-end_first prefix at begin end bytes behind read is r =
+end_first {prefix} {at} {begin} {end} {bytes} {behind} {read} is r =
     subst (λ (bs : List ℕ). Rest prefix at begin bs (with_front (command_of prefix at end bytes ∷ []) read))
     (append_assoc (parameter_bytes end) bytes behind) (whole [] end bytes behind read tt is r)
 
@@ -106,11 +106,11 @@ place_from_more begin parameter (next ∷ middle) = place_further begin (paramet
     (flat_map parameter_bytes (next ∷ middle))
 
 -- a middle parameter in front of the rest of its sequence
-middle_first : (prefix : Prefix) (at begin : ℕ) (parameter : Parameter) (bytes : List ℕ) (read : Result (List Said) Refusal)
+middle_first : {prefix : Prefix} {at begin : ℕ} {parameter : Parameter} {bytes : List ℕ} {read : Result (List Said) Refusal}
     → IsMiddle prefix parameter
     → Rest prefix (begin + length (parameter_bytes parameter)) (begin + length (parameter_bytes parameter)) bytes read
     → Rest prefix at begin (parameter_bytes parameter ++ bytes) (with_front (command_of prefix at parameter [] ∷ []) read)
-middle_first prefix at begin parameter bytes read is (whole middle end sent behind more each last r) =
+middle_first {prefix} {at} {begin} {parameter} {bytes} {read} is (whole middle end sent behind more each last r) =
     let next = begin + length (parameter_bytes parameter) in
     let joined : sequence_bytes (parameter ∷ middle) end sent ≡ parameter_bytes parameter ++ sequence_bytes middle end sent =
     append_assoc (parameter_bytes parameter) (flat_map parameter_bytes middle) (parameter_bytes end ++ sent) in
@@ -121,7 +121,7 @@ middle_first prefix at begin parameter bytes read is (whole middle end sent behi
     (ap (λ (bs : List ℕ). bs ++ behind) joined ∙ append_assoc (parameter_bytes parameter) (sequence_bytes middle end sent) behind)
     (sym (with_fronts (command_of prefix at parameter [] ∷ []) (parameter_commands prefix next next middle end sent) more))
     (whole (parameter ∷ middle) end sent behind more (is, each) last (subst (λ (n : ℕ). Reading n behind more) place r))
-middle_first prefix at begin parameter bytes read is (broken middle behind refusal each f) =
+middle_first {prefix} {at} {begin} {parameter} {bytes} {read} is (broken middle behind refusal each f) =
     subst (λ (bs : List ℕ). Rest prefix at begin bs (Err refusal))
     (append_assoc (parameter_bytes parameter) (flat_map parameter_bytes middle) behind)
     (broken (parameter ∷ middle) behind refusal (is, each)
@@ -144,78 +144,78 @@ grouped_any None bytes g = absurd cc
 grouped_any (Some group) bytes g = tt
 
 -- a middle parameter stands behind a group character
-pub middle_grouped : (prefix : Prefix) (parameter : Parameter) → IsMiddle prefix parameter → is_some prefix.group ≡ true
-middle_grouped prefix parameter m = (and_parts (is_some prefix.group) (goes_on parameter.letter) m.letter).0
+pub middle_grouped : {prefix : Prefix} {parameter : Parameter} → IsMiddle prefix parameter → is_some prefix.group ≡ true
+middle_grouped {prefix} {parameter} m = (and_parts (is_some prefix.group) (goes_on parameter.letter) m.letter).0
 
 -- the same of the bytes behind middle parameters
 ungrouped_behind : (prefix : Prefix) (middle : List Parameter) (bytes : List ℕ) → AllByRecursion (IsMiddle prefix) middle
     → IsUngrouped prefix.group (flat_map parameter_bytes middle ++ bytes) → IsUngrouped prefix.group bytes
 ungrouped_behind prefix [] bytes each n = n
-ungrouped_behind prefix (parameter ∷ middle) bytes each n = grouped_any prefix.group bytes (middle_grouped prefix parameter each.0)
+ungrouped_behind prefix (parameter ∷ middle) bytes each n = grouped_any prefix.group bytes (middle_grouped each.0)
 
 -- what fails at once is a reading without pieces
-failing : (at : ℕ) (bytes : List ℕ) (refusal : Refusal) → Fails at bytes refusal → Reading at bytes (Err refusal)
-failing at bytes refusal f = reading [] bytes (Err refusal) tt
+failing : {at : ℕ} {bytes : List ℕ} {refusal : Refusal} → Fails at bytes refusal → Reading at bytes (Err refusal)
+failing {at} {bytes} {refusal} f = reading [] bytes (Err refusal) tt
     (first_fault (subst (λ (n : ℕ). Fails n bytes refusal) (let e : at ≡ at + 0 = omega arith in e) f))
 
 -- ESC and a prefix in front of their parameters
-sequence_first : (prefix : Prefix) (at : ℕ) (bytes : List ℕ) (read : Result (List Said) Refusal) → IsPrefix prefix
+sequence_first : {prefix : Prefix} {at : ℕ} {bytes : List ℕ} {read : Result (List Said) Refusal} → IsPrefix prefix
     → IsUngrouped prefix.group bytes → Rest prefix at (first_place at prefix) bytes read
     → Reading at (27 ∷ (prefix_bytes prefix ++ bytes)) read
-sequence_first prefix at bytes read is n (whole middle end sent behind more each last r) =
+sequence_first {prefix} {at} {bytes} {read} is n (whole middle end sent behind more each last r) =
     let place : first_place at prefix + length (sequence_bytes middle end sent) ≡ at + length
     (spelling (combined prefix middle end sent)) = place_prefixed at prefix (sequence_bytes middle end sent) in
     let joined : spelling (combined prefix middle end sent) ++ behind
     ≡ 27 ∷ (prefix_bytes prefix ++ (sequence_bytes middle end sent ++ behind)) =
     ap (λ (bs : List ℕ). 27 ∷ bs) (append_assoc (prefix_bytes prefix) (sequence_bytes middle end sent) behind) in
     subst (λ (bs : List ℕ). Reading at bs (with_front (parameter_commands prefix at (first_place at prefix) middle end sent) more)) joined
-    (piece_first (combined prefix middle end sent) at behind more (is, each, last) (subst (λ (n : ℕ). Reading n behind more) place r))
-sequence_first prefix at bytes read is n (broken middle behind refusal each f) =
-    failing at (27 ∷ (prefix_bytes prefix ++ (flat_map parameter_bytes middle ++ behind))) refusal
+    (piece_first (combined prefix middle end sent) (is, each, last) (subst (λ (n : ℕ). Reading n behind more) place r))
+sequence_first {prefix} {at} {bytes} {read} is n (broken middle behind refusal each f) =
+    failing
     (in_parameter prefix middle is (ungrouped_behind prefix middle behind each n) each
     (subst (λ (n : ℕ). FailsParameter prefix n behind refusal) (place_in_sequence at prefix middle) f))
 
 -- ---- each step goes on
 
 -- each step outside a sequence takes a byte
-pub start_shorter : (at : ℕ) (bytes : List ℕ) (read : Result Reads Refusal) (reads : Reads) → Outside at bytes read → read ≡ Ok reads
+pub start_shorter : {at : ℕ} {bytes : List ℕ} {read : Result Reads Refusal} {reads : Reads} → Outside at bytes read → read ≡ Ok reads
     → length reads.rest < length bytes
-start_shorter at bytes read reads (whole_piece piece rest said is long gives) e =
+start_shorter {at} {bytes} {read} {reads} (whole_piece piece rest said is long gives) e =
     let same : rest ≡ reads.rest = cc in
     let joined = length-append (spelling piece) rest in
     rw (← same) (omega arith)
-start_shorter at bytes read reads (sequence prefix more same is n inside) e =
-    let shorter = inside_shorter prefix at more read reads inside e in
+start_shorter {at} {bytes} {read} {reads} (sequence prefix more same is n inside) e =
+    let shorter = inside_shorter inside e in
     let joined = length-append (prefix_bytes prefix) more in
     omega arith
-start_shorter at bytes read reads (wrong f) e = absurd cc
+start_shorter {at} {bytes} {read} {reads} (wrong f) e = absurd cc
 
 -- one step inside a sequence, and what the bytes behind it are, say what all the bytes are
-rest_after : (prefix : Prefix) (at begin : ℕ) (bytes : List ℕ) (read : Result Reads Refusal) (go_on : Reads → Result (List Said) Refusal)
+rest_after : {prefix : Prefix} {at begin : ℕ} {bytes : List ℕ} {read : Result Reads Refusal} {go_on : Reads → Result (List Said) Refusal}
     → Inside prefix at bytes read
     → ((reads : Reads) → read ≡ Ok reads → IsRead reads.inside (begin + (length bytes - length reads.rest)) reads.rest (go_on reads))
     → Rest prefix at begin bytes (after read go_on)
-rest_after prefix at begin bytes read go_on (is_middle parameter rest is) next =
+rest_after {prefix} {at} {begin} {bytes} {read} {go_on} (is_middle parameter rest is) next =
     let reads : Reads = record { said = Some (command_of prefix at parameter []); rest = rest; inside = Some prefix } in
     let more : Rest prefix (begin + length (parameter_bytes parameter)) (begin + length (parameter_bytes parameter)) rest (go_on reads) =
     subst (λ (n : ℕ). Rest prefix n n rest (go_on reads)) (place_of begin (parameter_bytes parameter) rest)
-    (next reads refl (middle_grouped prefix parameter is)) in
-    middle_first prefix at begin parameter rest (go_on reads) is more
-rest_after prefix at begin bytes read go_on (is_end parameter sent rest is) next =
+    (next reads refl (middle_grouped is)) in
+    middle_first is more
+rest_after {prefix} {at} {begin} {bytes} {read} {go_on} (is_end parameter sent rest is) next =
     let reads : Reads = record { said = Some (command_of prefix at parameter sent); rest = rest; inside = None } in
     let joined : parameter_bytes parameter ++ (sent ++ rest) ≡ (parameter_bytes parameter ++ sent) ++ rest =
     sym (append_assoc (parameter_bytes parameter) sent rest) in
     let place : begin + (length (parameter_bytes parameter ++ (sent ++ rest)) - length rest)
     ≡ begin + length (parameter_bytes parameter ++ sent) =
     ap (λ (bs : List ℕ). begin + (length bs - length rest)) joined ∙ place_of begin (parameter_bytes parameter ++ sent) rest in
-    end_first prefix at begin parameter sent rest (go_on reads) is
+    end_first is
     (subst (λ (n : ℕ). Reading n rest (go_on reads)) place (next reads refl))
-rest_after prefix at begin bytes read go_on (is_wrong {fault = refusal} f) next = broken [] bytes refusal tt f
+rest_after {prefix} {at} {begin} {bytes} {read} {go_on} (is_wrong {fault = refusal} f) next = broken [] bytes refusal tt f
 
 -- a place behind a sequence's step, counted from ESC and from the first parameter
-pub place_in : (at : ℕ) (prefix : Prefix) (more : List ℕ) (rest : ℕ) → rest < length more
+pub place_in : (at : ℕ) (prefix : Prefix) (more : List ℕ) {rest : ℕ} → rest < length more
     → at + (length (27 ∷ (prefix_bytes prefix ++ more)) - rest) ≡ first_place at prefix + (length more - rest)
-place_in at prefix more rest h = let e = length-append (prefix_bytes prefix) more in omega arith
+place_in at prefix more {rest} h = let e = length-append (prefix_bytes prefix) more in omega arith
 
 -- bytes at a place are also those at an equal place
 moved : (inside : Option Prefix) (n m : ℕ) (bytes : List ℕ) (read : Result (List Said) Refusal) → n ≡ m → IsRead inside n bytes read
@@ -223,22 +223,22 @@ moved : (inside : Option Prefix) (n m : ℕ) (bytes : List ℕ) (read : Result (
 moved inside n m bytes read e is = subst (λ (k : ℕ). IsRead inside k bytes read) e is
 
 -- one step outside sequences, and what the bytes behind it are, say so too
-reading_after : (at : ℕ) (bytes : List ℕ) (read : Result Reads Refusal) (go_on : Reads → Result (List Said) Refusal)
+reading_after : {at : ℕ} {bytes : List ℕ} {read : Result Reads Refusal} {go_on : Reads → Result (List Said) Refusal}
     → Outside at bytes read
     → ((reads : Reads) → read ≡ Ok reads → IsRead reads.inside (at + (length bytes - length reads.rest)) reads.rest (go_on reads))
     → Reading at bytes (after read go_on)
-reading_after at bytes read go_on (whole_piece piece rest said is long gives) next =
+reading_after {at} {bytes} {read} {go_on} (whole_piece piece rest said is long gives) next =
     let reads : Reads = record { said = said; rest = rest; inside = None } in
     subst (λ (front : List Said). Reading at (spelling piece ++ rest) (with_front front (go_on reads))) gives
-    (piece_first piece at rest (go_on reads) is (subst (λ (n : ℕ). Reading n rest (go_on reads)) (place_of at (spelling piece) rest)
+    (piece_first piece is (subst (λ (n : ℕ). Reading n rest (go_on reads)) (place_of at (spelling piece) rest)
     (next reads refl)))
-reading_after at bytes read go_on (sequence prefix more same is n inside) next =
-    sequence_first prefix at more (after same go_on) is n
-    (rest_after prefix at (first_place at prefix) more same go_on inside
+reading_after {at} {bytes} {read} {go_on} (sequence prefix more same is n inside) next =
+    sequence_first is n
+    (rest_after inside
     (λ reads e. moved reads.inside (at + (length bytes - length reads.rest)) (first_place at prefix + (length more - length reads.rest))
     reads.rest (go_on reads)
-    (place_in at prefix more (length reads.rest) (inside_shorter prefix at more same reads inside e)) (next reads e)))
-reading_after at bytes read go_on (wrong {fault = refusal} f) next = failing at bytes refusal f
+    (place_in at prefix more (inside_shorter inside e)) (next reads e)))
+reading_after {at} {bytes} {read} {go_on} (wrong {fault = refusal} f) next = failing f
 
 -- all steps together say what the bytes are
 pub is_read : (n : ℕ) (inside : Option Prefix) (at : ℕ) (bytes : List ℕ) → length bytes < n
@@ -247,23 +247,21 @@ unfolding outcome
 is_read zero inside at bytes h = absurd (omega arith)
 is_read (suc n) None at [] h = reading [] [] (Ok []) tt no_more
 is_read (suc n) None at (byte ∷ bytes) h =
-    reading_after at (byte ∷ bytes) (start_at at (byte ∷ bytes))
-    (λ reads. outcome n reads.inside (at + (length (byte ∷ bytes) - length reads.rest)) reads.rest) (start_step at byte bytes)
-    (λ reads e. let shorter = start_shorter at (byte ∷ bytes) (start_at at (byte ∷ bytes)) reads (start_step at byte bytes) e in
+    reading_after (start_step)
+    (λ reads e. let shorter = start_shorter (start_step) e in
     is_read n reads.inside (at + (length (byte ∷ bytes) - length reads.rest)) reads.rest (omega arith))
 is_read (suc n) (Some prefix) at bytes h = λ g.
-    rest_after prefix at at bytes (parameter_at prefix at bytes)
-    (λ reads. outcome n reads.inside (at + (length bytes - length reads.rest)) reads.rest) (grouped_step prefix at bytes g)
-    (λ reads e. let shorter = inside_shorter prefix at bytes (parameter_at prefix at bytes) reads (grouped_step prefix at bytes g) e in
+    rest_after (grouped_step g)
+    (λ reads e. let shorter = inside_shorter (grouped_step g) e in
     is_read n reads.inside (at + (length bytes - length reads.rest)) reads.rest (omega arith))
 
 -- ---- what a whole job is
 
 -- the commands that were read are those of the pieces, and nothing is behind these
-pieces_read : (pieces : List Piece) (behind : List ℕ) (last : Result (List Said) Refusal) (commands : List Said) → ArePieces pieces behind
+pieces_read : (pieces : List Piece) {behind : List ℕ} {last : Result (List Said) Refusal} {commands : List Said} → ArePieces pieces behind
     → Last (0 + length (flat_map spelling pieces)) behind last
     → with_front (commands_of 0 pieces) last ≡ Ok commands → IsReading (flat_map spelling pieces ++ behind) commands
-pieces_read pieces behind last commands each no_more e =
+pieces_read pieces {behind} {last} {commands} each no_more e =
     let same : commands_of 0 pieces ++ [] ≡ commands = cc in
     record {
       pieces = pieces;
@@ -272,14 +270,14 @@ pieces_read pieces behind last commands each no_more e =
       said = sym same
           ∙ append-nil (commands_of 0 pieces);
     }
-pieces_read pieces behind last commands each (first_fault f) e = absurd cc
+pieces_read pieces {behind} {last} {commands} each (first_fault f) e = absurd cc
 
 -- the fault that was found is the one behind the pieces
-pieces_broken : (pieces : List Piece) (behind : List ℕ) (last : Result (List Said) Refusal) (fault : Refusal) → ArePieces pieces behind
+pieces_broken : (pieces : List Piece) {behind : List ℕ} {last : Result (List Said) Refusal} {fault : Refusal} → ArePieces pieces behind
     → Last (0 + length (flat_map spelling pieces)) behind last
     → with_front (commands_of 0 pieces) last ≡ Err fault → IsFault (flat_map spelling pieces ++ behind) fault
-pieces_broken pieces behind last fault each no_more e = absurd cc
-pieces_broken pieces behind last fault each (first_fault {refusal = refusal} f) e =
+pieces_broken pieces {behind} {last} {fault} each no_more e = absurd cc
+pieces_broken pieces {behind} {last} {fault} each (first_fault {refusal = refusal} f) e =
     let same : refusal ≡ fault = cc in
     record {
       front = pieces;
@@ -291,27 +289,27 @@ pieces_broken pieces behind last fault each (first_fault {refusal = refusal} f) 
     }
 
 -- what a reading without fault says of the job
-all_read : (job : List ℕ) (read : Result (List Said) Refusal) (commands : List Said) → Reading 0 job read → read ≡ Ok commands
+all_read : {job : List ℕ} {read : Result (List Said) Refusal} {commands : List Said} → Reading 0 job read → read ≡ Ok commands
     → IsReading job commands
-all_read job read commands (reading pieces behind last each ends) e = pieces_read pieces behind last commands each ends e
+all_read {job} {read} {commands} (reading pieces behind last each ends) e = pieces_read pieces each ends e
 
 -- what a reading with a fault says of the job
-broken_off : (job : List ℕ) (read : Result (List Said) Refusal) (fault : Refusal) → Reading 0 job read → read ≡ Err fault
+broken_off : {job : List ℕ} {read : Result (List Said) Refusal} {fault : Refusal} → Reading 0 job read → read ≡ Err fault
     → IsFault job fault
-broken_off job read fault (reading pieces behind last each ends) e = pieces_broken pieces behind last fault each ends e
+broken_off {job} {read} {fault} (reading pieces behind last each ends) e = pieces_broken pieces each ends e
 
 -- the commands that are read are those of a reading
-pub reading_of : (job : List ℕ) (commands : List Said) → outcome_of job ≡ Ok commands → IsReading job commands
-reading_of job commands e = all_read job (outcome_of job) commands (is_read (suc (length job)) None 0 job (omega arith)) e
+pub reading_of : {job : List ℕ} {commands : List Said} → outcome_of job ≡ Ok commands → IsReading job commands
+reading_of {job} {commands} e = all_read (is_read (suc (length job)) None 0 job (omega arith)) e
 
 -- the fault that is found is the first one
 pub fault_of : (job : List ℕ) (fault : Refusal) → outcome_of job ≡ Err fault → IsFault job fault
-fault_of job fault e = broken_off job (outcome_of job) fault (is_read (suc (length job)) None 0 job (omega arith)) e
+fault_of job fault e = broken_off (is_read (suc (length job)) None 0 job (omega arith)) e
 
 -- what a function that yields the outcome returned
 pub reading_of_scan : (job : List ℕ) (result : Result (Vec Command) JobFault) → Yields result (outcome_of job)
     → IfOk result (λ commands. IsReading job (views commands.items))
-reading_of_scan job (Ok commands) y = reading_of job (views commands.items) y
+reading_of_scan job (Ok commands) y = reading_of y
 reading_of_scan job (Err fault) y = tt
 
 -- the same for a fault

@@ -31,29 +31,29 @@ longer_front (suc n) (first ∷ said) byte h = ap (λ (bs : List ℕ). first ∷
 
 -- ---- one byte more of the line
 
-pub blank_step : (front line : List ℕ) (byte : ℕ) → front ≡ take 22 (squeezed line) → true ≡ is_blank byte
+pub blank_step : {front : List ℕ} (line : List ℕ) (byte : ℕ) → front ≡ take 22 (squeezed line) → true ≡ is_blank byte
     → front ≡ take 22 (squeezed (line ++ byte ∷ []))
-blank_step front line byte so_far e = so_far ∙ ap (take 22) (sym (squeezed_more line byte ∙ rw (sym e) (append-nil (squeezed line))))
+blank_step {front} line byte so_far e = so_far ∙ ap (take 22) (sym (squeezed_more line byte ∙ rw (sym e) (append-nil (squeezed line))))
 
 -- a byte that says something, in upper case
 squeezed_other : (line : List ℕ) (byte : ℕ) → false ≡ is_blank byte
     → squeezed (line ++ byte ∷ []) ≡ squeezed line ++ to_ascii_uppercase byte ∷ []
 squeezed_other line byte e = squeezed_more line byte ∙ rw (sym e) refl
 
-pub full_step : (front line : List ℕ) (byte : ℕ) → front ≡ take 22 (squeezed line) → false ≡ is_blank byte → true ≡ (length front == 22)
+pub full_step : {front : List ℕ} (line : List ℕ) (byte : ℕ) → front ≡ take 22 (squeezed line) → false ≡ is_blank byte → true ≡ (length front == 22)
     → front ≡ take 22 (squeezed (line ++ byte ∷ []))
-full_step front line byte so_far e full =
+full_step {front} line byte so_far e full =
     let long : length (take 22 (squeezed line)) ≡ 22 = ap length (sym so_far) ∙ eqb-true (length front) 22 (sym full) in
     so_far ∙ full_front 22 (squeezed line) (to_ascii_uppercase byte) long ∙ ap (take 22) (sym (squeezed_other line byte e))
 
 -- a front that isn't full has room
-has_room : (n m : ℕ) → false ≡ (n == m) → n ≤ m → n < m
-has_room n m e h = grind (arith, nat_tests)
+has_room : {n m : ℕ} → false ≡ (n == m) → n ≤ m → n < m
+has_room {n} {m} e h = grind (arith, nat_tests)
 
-pub push_step : (front line : List ℕ) (byte : ℕ) → front ≡ take 22 (squeezed line) → false ≡ is_blank byte → false ≡ (length front == 22)
+pub push_step : {front : List ℕ} (line : List ℕ) (byte : ℕ) → front ≡ take 22 (squeezed line) → false ≡ is_blank byte → false ≡ (length front == 22)
     → length front ≤ 22 → front ++ to_ascii_uppercase byte ∷ [] ≡ take 22 (squeezed (line ++ byte ∷ []))
-push_step front line byte so_far e other within =
-    let room = has_room (length front) 22 other within in
+push_step {front} line byte so_far e other within =
+    let room = has_room other within in
     let short : length (take 22 (squeezed line)) < 22 = let same = ap length so_far in omega arith in
     ap (λ (bs : List ℕ). bs ++ to_ascii_uppercase byte ∷ []) so_far ∙ longer_front 22 (squeezed line) (to_ascii_uppercase byte) short
     ∙ ap (take 22) (sym (squeezed_other line byte e))
@@ -84,12 +84,12 @@ pub front_names_pcl : (line : List ℕ) → bytes_eq (take 22 (squeezed line)) (
 front_names_pcl line = front_is (codes "@PJLENTERLANGUAGE=PCL") 22 (squeezed line) (omega arith)
 
 -- the same of a slice that holds the front
-pub slice_names_language : (b : Bool) (slice front line : List ℕ) → b ≡ starts_with nat_eq slice (codes "@PJLENTERLANGUAGE=")
+pub slice_names_language : {b : Bool} {slice front : List ℕ} (line : List ℕ) → b ≡ starts_with nat_eq slice (codes "@PJLENTERLANGUAGE=")
     → slice ≡ front → front ≡ take 22 (squeezed line) → b ≡ names_language line
-slice_names_language b slice front line e s f = e ∙ ap (λ (bs : List ℕ). starts_with nat_eq bs (codes "@PJLENTERLANGUAGE=")) (s ∙ f)
+slice_names_language {b} {slice} {front} line e s f = e ∙ ap (λ (bs : List ℕ). starts_with nat_eq bs (codes "@PJLENTERLANGUAGE=")) (s ∙ f)
     ∙ front_names_language line
 
-pub slice_names_pcl : (b : Bool) (slice front line : List ℕ) → b ≡ bytes_eq slice (codes "@PJLENTERLANGUAGE=PCL") → slice ≡ front
+pub slice_names_pcl : {b : Bool} {slice front : List ℕ} (line : List ℕ) → b ≡ bytes_eq slice (codes "@PJLENTERLANGUAGE=PCL") → slice ≡ front
     → front ≡ take 22 (squeezed line) → b ≡ names_pcl line
-slice_names_pcl b slice front line e s f = e ∙ ap (λ (bs : List ℕ). bytes_eq bs (codes "@PJLENTERLANGUAGE=PCL")) (s ∙ f)
+slice_names_pcl {b} {slice} {front} line e s f = e ∙ ap (λ (bs : List ℕ). bytes_eq bs (codes "@PJLENTERLANGUAGE=PCL")) (s ∙ f)
     ∙ front_names_pcl line

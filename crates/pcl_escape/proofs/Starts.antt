@@ -44,19 +44,19 @@ pub data Outside (at : ℕ) : List ℕ → Result Reads Refusal → Type 0 where
 -- ---- names
 
 -- a control code, by whether its name is performed
-control_named : (at code : ℕ) (rest : List ℕ) (operation : Option Operation) → operation_of (One code) ≡ operation
+control_named : {at code : ℕ} {rest : List ℕ} (operation : Option Operation) → operation_of (One code) ≡ operation
     → IsTrue (is_control code) → is_silent code ≡ false
     → Outside at (code ∷ rest) (named_by operation at code rest)
-control_named at code rest None o c s = wrong (unknown_control c s (ap (λ (x : Option Operation). is_some x) o))
-control_named at code rest (Some operation) o c s =
+control_named {at} {code} {rest} None o c s = wrong (unknown_control c s (ap (λ (x : Option Operation). is_some x) o))
+control_named {at} {code} {rest} (Some operation) o c s =
     whole_piece (control code) rest (Some (bare_command at code)) (c, s, ap (λ (x : Option Operation). is_some x) o) (omega arith) refl
 
 -- a two-character sequence, by whether its name is performed
-two_named : (at byte : ℕ) (rest : List ℕ) (operation : Option Operation) → operation_of (One byte) ≡ operation
+two_named : {at byte : ℕ} {rest : List ℕ} (operation : Option Operation) → operation_of (One byte) ≡ operation
     → IsTrue (is_two_character byte)
     → Outside at (27 ∷ byte ∷ rest) (named_by operation at byte rest)
-two_named at byte rest None o t = wrong (unknown_two t (ap (λ (x : Option Operation). is_some x) o))
-two_named at byte rest (Some operation) o t =
+two_named {at} {byte} {rest} None o t = wrong (unknown_two t (ap (λ (x : Option Operation). is_some x) o))
+two_named {at} {byte} {rest} (Some operation) o t =
     whole_piece (two_character byte) rest (Some (bare_command at byte)) (t, ap (λ (x : Option Operation). is_some x) o) (omega arith) refl
 
 -- ---- text
@@ -72,14 +72,14 @@ text_stops [] s = tt
 text_stops (byte ∷ rest) s = s
 
 -- a run of text
-text_run : (at byte : ℕ) (rest : List ℕ) → is_text byte ≡ true → Outside at (byte ∷ rest) (text_at at (byte ∷ rest))
+text_run : {at byte : ℕ} {rest : List ℕ} → is_text byte ≡ true → Outside at (byte ∷ rest) (text_at at (byte ∷ rest))
 unfolding text_at
-text_run at byte rest t =
+text_run {at} {byte} {rest} t =
     let f = front_split is_text rest in
     let run = take (prefix_len is_text rest) rest in
     let behind = drop (prefix_len is_text rest) rest in
     let reads : List ℕ × List ℕ → Result Reads Refusal = λ parts. piece_reads (Some (text_command at parts.0)) parts.1 in
-    subst₂ (Outside at) (ap (λ (bs : List ℕ). byte ∷ bs) (sym f.joined)) (ap reads (sym (front_yes is_text byte rest t)))
+    subst₂ (Outside at) (ap (λ (bs : List ℕ). byte ∷ bs) (sym f.joined)) (ap reads (sym (front_yes is_text rest t)))
     (whole_piece (text (byte ∷ run)) behind (Some (text_command at (byte ∷ run)))
     ((t, f.pass), no_text behind f.stops) (omega arith) refl)
 
@@ -110,16 +110,16 @@ exit_place at field bytes =
     omega arith
 
 -- an exit without data and the lines behind it
-exit_lines : (at : ℕ) (field : Spelled) (bytes : List ℕ) (read : Result (List ℕ) ℕ) → IsField field
+exit_lines : {at : ℕ} (field : Spelled) {bytes : List ℕ} {read : Result (List ℕ) ℕ} → IsField field
     → is_exit exit_name (field_value field) ≡ true → parameter_checks exit_name 88 (field_value field) 0 ≡ Ok 0
     → Lines (at + 3 + length (field_bytes field)) bytes read → Outside at (27 ∷ 37 ∷ (parameter_bytes (exit_parameter field) ++ bytes))
     (skipped_by (Some (exit_command at field)) read)
-exit_lines at field bytes read f x e (skipped lines rest each) =
+exit_lines {at} field {bytes} {read} f x e (skipped lines rest each) =
     subst (λ (bs : List ℕ). Outside at (27 ∷ 37 ∷ bs) (piece_reads (Some (exit_command at field)) rest))
     (exit_joined field (joined lines) rest)
     (whole_piece (exit field lines) rest (Some (exit_command at field)) (record { field_is = f; leaves = x; checks = e; lines_are = each })
     (omega arith) refl)
-exit_lines at field bytes read f x e (foreign lines line rest each ends l p) =
+exit_lines {at} field {bytes} {read} f x e (foreign lines line rest each ends l p) =
     subst (λ (bs : List ℕ). Outside at (27 ∷ 37 ∷ bs)
     (refuse NotPcl (at + 3 + length (field_bytes field) + length (joined lines)) exit_name))
     (sym (parameter_joined field 88 (joined lines ++ (line ++ rest))))
@@ -132,25 +132,25 @@ exit_reads : (at : ℕ) (field : Spelled) (bytes : List ℕ) → is_exit exit_na
 exit_reads at field bytes x = rw (x, exit_place at field bytes) refl
 
 -- a last parameter of this name has no data
-exit_at : (at : ℕ) (field : Spelled) (sent rest : List ℕ) → IsLast percent (exit_parameter field) sent
+exit_at : {at : ℕ} {field : Spelled} {sent : List ℕ} (rest : List ℕ) → IsLast percent (exit_parameter field) sent
     → is_exit exit_name (field_value field) ≡ true → sent ≡ []
     → Outside at (27 ∷ 37 ∷ (parameter_bytes (exit_parameter field) ++ (sent ++ rest)))
     (with_lines (at + 2) (length (parameter_bytes (exit_parameter field) ++ (sent ++ rest)))
     (end_reads percent at (exit_parameter field) sent rest))
-exit_at at field sent rest is x none =
+exit_at {at} {field} {sent} rest is x none =
     let checks : parameter_checks exit_name 88 (field_value field) 0 ≡ Ok 0 =
     subst (λ (bs : List ℕ). parameter_checks exit_name 88 (field_value field) (length bs) ≡ Ok (length bs)) none is.checks in
     subst (λ (bs : List ℕ). Outside at (27 ∷ 37 ∷ (parameter_bytes (exit_parameter field) ++ (bs ++ rest)))
     (with_lines (at + 2) (length (parameter_bytes (exit_parameter field) ++ (bs ++ rest)))
     (end_reads percent at (exit_parameter field) bs rest))) (sym none)
     (subst (Outside at (27 ∷ 37 ∷ (parameter_bytes (exit_parameter field) ++ rest))) (sym (exit_reads at field rest x))
-    (exit_lines at field rest (lines_at (at + 3 + length (field_bytes field)) rest) is.field x checks
-    (lines_split (suc (length rest)) (at + 3 + length (field_bytes field)) rest (omega arith))))
+    (exit_lines field is.field x checks
+    (lines_split (suc (length rest)) (omega arith))))
 
 -- an exit's name is spelled with % and X
-exit_spelled : (byte letter : ℕ) (value : Value) → is_last letter ≡ true
+exit_spelled : {byte letter : ℕ} (value : Value) → is_last letter ≡ true
     → is_exit (parameter_name (record { parameterized = byte; group = None }) letter) value ≡ true → (37 ≡ byte) × (88 ≡ letter)
-exit_spelled byte letter value l x =
+exit_spelled {byte} {letter} value l x =
     let stops : goes_on letter ≡ false = last_stops letter l in
     let named : ((37 == byte && 88 == letter) && is_exit exit_name value) ≡ true = rw stops at x in
     let both = and_parts (37 == byte) (88 == letter) (and_parts (37 == byte && 88 == letter) (is_exit exit_name value) named).0 in
@@ -165,34 +165,34 @@ LeavesAt at field sent rest byte letter =
     → Outside at (27 ∷ byte ∷ (parameter_bytes parameter ++ (sent ++ rest)))
     (with_lines (at + 2) (length (parameter_bytes parameter ++ (sent ++ rest))) (end_reads prefix at parameter sent rest))
 
-leave_step : (at : ℕ) (field : Spelled) (sent rest : List ℕ) (byte letter : ℕ) → LeavesAt at field sent rest byte letter
-leave_step at field sent rest byte letter is x =
-    let spelled = exit_spelled byte letter (field_value field) is.letter x in
-    let here : LeavesAt at field sent rest 37 88 = λ last leaving. exit_at at field sent rest last leaving
-    (no_bytes sent (exit_takes_none 88 (field_value field) (length sent) (length sent) last.checks)) in
+leave_step : {at : ℕ} {field : Spelled} {sent : List ℕ} (rest : List ℕ) {byte letter : ℕ} → LeavesAt at field sent rest byte letter
+leave_step {at} {field} {sent} rest {byte} {letter} is x =
+    let spelled = exit_spelled (field_value field) is.letter x in
+    let here : LeavesAt at field sent rest 37 88 = λ last leaving. exit_at rest last leaving
+    (no_bytes sent (exit_takes_none 88 (field_value field) (length sent) last.checks)) in
     subst₂ (LeavesAt at field sent rest) spelled.0 spelled.1 here is x
 
 -- ---- sequences without a group character
 
 -- what was found there
-ungrouped_found : (at byte : ℕ) (bytes : List ℕ) (read : Result Reads Refusal) → is_ungrouped byte ≡ true → IsUngrouped None bytes
+ungrouped_found : {at byte : ℕ} {bytes : List ℕ} {read : Result Reads Refusal} → is_ungrouped byte ≡ true → IsUngrouped None bytes
     → Found (record { parameterized = byte; group = None }) at bytes read
     → Outside at (27 ∷ byte ∷ bytes) (with_lines (at + 2) (length bytes) read)
-ungrouped_found at byte bytes read u n (is_inside (is_middle parameter rest m)) = absurd (let never = m.letter in cc)
-ungrouped_found at byte bytes read u n (is_inside (is_end parameter sent rest e)) =
+ungrouped_found {at} {byte} {bytes} {read} u n (is_inside (is_middle parameter rest m)) = absurd (let never = m.letter in cc)
+ungrouped_found {at} {byte} {bytes} {read} u n (is_inside (is_end parameter sent rest e)) =
     let prefix : Prefix = record { parameterized = byte; group = None } in
     rw e.stays (sequence prefix bytes (end_reads prefix at parameter sent rest) u n (is_end parameter sent rest e))
-ungrouped_found at byte bytes read u n (is_inside (is_wrong f)) = sequence (record { parameterized = byte; group = None }) bytes read u n
+ungrouped_found {at} {byte} {bytes} {read} u n (is_inside (is_wrong f)) = sequence (record { parameterized = byte; group = None }) bytes read u n
     (is_wrong f)
-ungrouped_found at byte bytes read u n (is_leave parameter sent rest is x) = leave_step at parameter.field sent rest byte parameter.letter
+ungrouped_found {at} {byte} {bytes} {read} u n (is_leave parameter sent rest is x) = leave_step rest
     is x
 
-ungrouped_step : (at byte : ℕ) (bytes : List ℕ) → is_ungrouped byte ≡ true → IsUngrouped None bytes
+ungrouped_step : {at byte : ℕ} {bytes : List ℕ} → is_ungrouped byte ≡ true → IsUngrouped None bytes
     → Outside at (27 ∷ byte ∷ bytes) (ungrouped_at at byte bytes)
 unfolding ungrouped_at
-ungrouped_step at byte bytes u n =
+ungrouped_step {at} {byte} {bytes} u n =
     let prefix : Prefix = record { parameterized = byte; group = None } in
-    ungrouped_found at byte bytes (parameter_at prefix at bytes) u n (parameter_step prefix at bytes)
+    ungrouped_found u n (parameter_step)
 
 -- ---- sequences
 
@@ -201,79 +201,79 @@ ungrouped_is : (byte : ℕ) → is_ungrouped byte ≡ true → is_parameterized 
 ungrouped_is byte u = grind (arith, nat_tests)
 
 -- by whether the third byte is a group character, or may be missing
-group_by : (at byte group : ℕ) (rest : List ℕ) (is may : Bool) → is_group group ≡ is → is_ungrouped byte ≡ may
+group_by : {at byte group : ℕ} {rest : List ℕ} (is may : Bool) → is_group group ≡ is → is_ungrouped byte ≡ may
     → IsTrue (is_parameterized byte)
     → Outside at (27 ∷ byte ∷ group ∷ rest)
     (if is then parameter_at (record { parameterized = byte; group = Some group }) at rest else (if may then ungrouped_at at byte
     (group ∷ rest) else refuse BadSequence at (One byte)))
-group_by at byte group rest true may g u p =
+group_by {at} {byte} {group} {rest} true may g u p =
     let prefix : Prefix = record { parameterized = byte; group = Some group } in
-    sequence prefix rest (parameter_at prefix at rest) (p, g) tt (grouped_step prefix at rest refl)
-group_by at byte group rest false true g u p = ungrouped_step at byte (group ∷ rest) u g
-group_by at byte group rest false false g u p = wrong (bad_group p u g)
+    sequence prefix rest (parameter_at prefix at rest) (p, g) tt (grouped_step refl)
+group_by {at} {byte} {group} {rest} false true g u p = ungrouped_step u g
+group_by {at} {byte} {group} {rest} false false g u p = wrong (bad_group p u g)
 
 -- nothing behind the second byte
-none_behind_second : (at byte : ℕ) (may : Bool) → is_ungrouped byte ≡ may → IsTrue (is_parameterized byte)
+none_behind_second : {at byte : ℕ} (may : Bool) → is_ungrouped byte ≡ may → IsTrue (is_parameterized byte)
     → Outside at (27 ∷ byte ∷ []) (refuse Truncated at (One byte))
-none_behind_second at byte true u p =
+none_behind_second {at} {byte} true u p =
     let prefix : Prefix = record { parameterized = byte; group = None } in
     let nothing : Spelled = record { sign = Absent; whole = []; fraction = None } in
     sequence prefix [] (refuse Truncated at (One byte)) u tt (is_wrong (cut nothing (tt, tt)))
-none_behind_second at byte false u p = wrong (no_group p u)
+none_behind_second {at} {byte} false u p = wrong (no_group p u)
 
 -- by whether there is a third byte
-prefix_step : (at byte : ℕ) (rest : List ℕ) → IsTrue (is_parameterized byte) → Outside at (27 ∷ byte ∷ rest) (prefix_at at byte rest)
+prefix_step : {at byte : ℕ} (rest : List ℕ) → IsTrue (is_parameterized byte) → Outside at (27 ∷ byte ∷ rest) (prefix_at at byte rest)
 unfolding prefix_at
-prefix_step at byte [] p = none_behind_second at byte (is_ungrouped byte) refl p
-prefix_step at byte (group ∷ rest) p = group_by at byte group rest (is_group group) (is_ungrouped byte) refl refl p
+prefix_step {at} {byte} [] p = none_behind_second (is_ungrouped byte) refl p
+prefix_step {at} {byte} (group ∷ rest) p = group_by (is_group group) (is_ungrouped byte) refl refl p
 
 -- a sequence, by what its second byte is
-sequence_by : (at byte : ℕ) (rest : List ℕ) (two parameterized : Bool) → is_two_character byte ≡ two
+sequence_by : {at byte : ℕ} {rest : List ℕ} (two parameterized : Bool) → is_two_character byte ≡ two
     → is_parameterized byte ≡ parameterized
     → Outside at (27 ∷ byte ∷ rest)
     (if two then named_at at byte rest else (if parameterized then prefix_at at byte rest else refuse BadSequence at Empty))
 unfolding named_at
-sequence_by at byte rest true parameterized t p = two_named at byte rest (operation_of (One byte)) refl t
-sequence_by at byte rest false true t p = prefix_step at byte rest p
-sequence_by at byte rest false false t p = wrong (no_sequence t p)
+sequence_by {at} {byte} {rest} true parameterized t p = two_named (operation_of (One byte)) refl t
+sequence_by {at} {byte} {rest} false true t p = prefix_step rest p
+sequence_by {at} {byte} {rest} false false t p = wrong (no_sequence t p)
 
 -- a sequence, by whether it has a second byte
-sequence_step : (at : ℕ) (rest : List ℕ) → Outside at (27 ∷ rest) (sequence_at at rest)
+sequence_step : {at : ℕ} (rest : List ℕ) → Outside at (27 ∷ rest) (sequence_at at rest)
 unfolding sequence_at
-sequence_step at [] = wrong lone_escape
-sequence_step at (byte ∷ rest) = sequence_by at byte rest (is_two_character byte) (is_parameterized byte) refl refl
+sequence_step {at} [] = wrong lone_escape
+sequence_step {at} (byte ∷ rest) = sequence_by (is_two_character byte) (is_parameterized byte) refl refl
 
 -- bytes outside sequences, by what their first one is
-start_by : (at byte : ℕ) (rest : List ℕ) (quiet escape code : Bool) → is_silent byte ≡ quiet → (byte == 27) ≡ escape
+start_by : {at byte : ℕ} {rest : List ℕ} (quiet escape code : Bool) → is_silent byte ≡ quiet → (byte == 27) ≡ escape
     → is_control byte ≡ code
     → Outside at (byte ∷ rest)
     (if quiet then piece_reads None rest else (if
     escape then sequence_at at rest else (if code then named_at at byte rest else text_at at (byte ∷ rest))))
 unfolding named_at
-start_by at byte rest true escape code s e c = whole_piece (silent byte) rest None s (omega arith) refl
-start_by at byte rest false true code s e c = subst (λ (b : ℕ). Outside at (b ∷ rest) (sequence_at at rest)) (sym (eqb-true byte 27 e))
-    (sequence_step at rest)
-start_by at byte rest false false true s e c = control_named at byte rest (operation_of (One byte)) refl c s
-start_by at byte rest false false false s e c = text_run at byte rest (rw (s, c, e) refl)
+start_by {at} {byte} {rest} true escape code s e c = whole_piece (silent byte) rest None s (omega arith) refl
+start_by {at} {byte} {rest} false true code s e c = subst (λ (b : ℕ). Outside at (b ∷ rest) (sequence_at at rest)) (sym (eqb-true byte 27 e))
+    (sequence_step rest)
+start_by {at} {byte} {rest} false false true s e c = control_named (operation_of (One byte)) refl c s
+start_by {at} {byte} {rest} false false false s e c = text_run (rw (s, c, e) refl)
 
 -- a step outside sequences reads what the bytes begin with
-pub start_step : (at byte : ℕ) (rest : List ℕ) → Outside at (byte ∷ rest) (start_at at (byte ∷ rest))
+pub start_step : {at byte : ℕ} {rest : List ℕ} → Outside at (byte ∷ rest) (start_at at (byte ∷ rest))
 unfolding start_at
-start_step at byte rest = start_by at byte rest (is_silent byte) (byte == 27) (is_control byte) refl refl refl
+start_step {at} {byte} {rest} = start_by (is_silent byte) (byte == 27) (is_control byte) refl refl refl
 
 -- ---- from the parts to the step
 
 -- a name that is performed gives its command
-named_again : (at code : ℕ) (rest : List ℕ) (operation : Option Operation) → is_some operation ≡ true
+named_again : {at code : ℕ} {rest : List ℕ} (operation : Option Operation) → is_some operation ≡ true
     → named_by operation at code rest ≡ piece_reads (Some (bare_command at code)) rest
-named_again at code rest None s = absurd cc
-named_again at code rest (Some operation) s = refl
+named_again {at} {code} {rest} None s = absurd cc
+named_again {at} {code} {rest} (Some operation) s = refl
 
 -- a name that isn't performed is refused
-unknown_again : (at code : ℕ) (rest : List ℕ) (operation : Option Operation) → is_some operation ≡ false
+unknown_again : {at code : ℕ} (rest : List ℕ) (operation : Option Operation) → is_some operation ≡ false
     → named_by operation at code rest ≡ refuse UnsupportedCommand at (One code)
-unknown_again at code rest None s = refl
-unknown_again at code rest (Some operation) s = absurd cc
+unknown_again {at} {code} rest None s = refl
+unknown_again {at} {code} rest (Some operation) s = absurd cc
 
 -- ESC is no control code
 control_apart : (code : ℕ) → is_control code ≡ true → (code == 27) ≡ false
@@ -288,9 +288,9 @@ parameterized_apart : (byte : ℕ) → is_parameterized byte ≡ true → is_two
 parameterized_apart byte p = grind (arith, nat_tests)
 
 -- a step reads a silent byte
-pub silent_again : (at byte : ℕ) (rest : List ℕ) → is_silent byte ≡ true → start_at at (byte ∷ rest) ≡ piece_reads None rest
+pub silent_again : (at byte : ℕ) {rest : List ℕ} → is_silent byte ≡ true → start_at at (byte ∷ rest) ≡ piece_reads None rest
 unfolding start_at
-silent_again at byte rest s = rw s refl
+silent_again at byte {rest} s = rw s refl
 
 -- a step at a control code looks at its name
 at_control : (at code : ℕ) (rest : List ℕ) → is_control code ≡ true → is_silent code ≡ false
@@ -299,12 +299,12 @@ unfolding start_at named_at
 at_control at code rest c s = rw (s, control_apart code c, c) refl
 
 -- a step at text reads its run
-at_text : (at byte : ℕ) (rest : List ℕ) → is_text byte ≡ true
+at_text : {at : ℕ} (byte : ℕ) (rest : List ℕ) → is_text byte ≡ true
     → start_at at (byte ∷ rest)
     ≡ piece_reads (Some (text_command at (take (prefix_len is_text (byte ∷ rest)) (byte ∷ rest))))
     (drop (prefix_len is_text (byte ∷ rest)) (byte ∷ rest))
 unfolding start_at text_at
-at_text at byte rest t = let apart = text_apart byte t in rw (apart.0, apart.1, apart.2) refl
+at_text {at} byte rest t = let apart = text_apart byte t in rw (apart.0, apart.1, apart.2) refl
 
 -- a step at a two-character sequence looks at its name
 at_two : (at byte : ℕ) (rest : List ℕ) → is_two_character byte ≡ true
@@ -318,22 +318,22 @@ unfolding start_at sequence_at
 at_prefix at byte rest p = rw (parameterized_apart byte p, p) refl
 
 -- a step reads a control code
-pub control_again : (at code : ℕ) (rest : List ℕ) → is_control code ≡ true → is_silent code ≡ false → IsNamed (One code)
+pub control_again : {at code : ℕ} {rest : List ℕ} → is_control code ≡ true → is_silent code ≡ false → IsNamed (One code)
     → start_at at (code ∷ rest) ≡ piece_reads (Some (bare_command at code)) rest
-control_again at code rest c s n = at_control at code rest c s ∙ named_again at code rest (operation_of (One code)) n
+control_again {at} {code} {rest} c s n = at_control at code rest c s ∙ named_again (operation_of (One code)) n
 
 -- a step reads a run of text
-pub text_again : (at byte : ℕ) (more rest : List ℕ) → IsRun (byte ∷ more) rest
+pub text_again : {at byte : ℕ} {more rest : List ℕ} → IsRun (byte ∷ more) rest
     → start_at at ((byte ∷ more) ++ rest) ≡ piece_reads (Some (text_command at (byte ∷ more))) rest
-text_again at byte more rest is =
+text_again {at} {byte} {more} {rest} is =
     let reads : List ℕ × List ℕ → Result Reads Refusal = λ parts. piece_reads (Some (text_command at parts.0)) parts.1 in
-    at_text at byte (more ++ rest) is.0.0
+    at_text byte (more ++ rest) is.0.0
     ∙ ap reads (front_again is_text (byte ∷ more) rest is.0 (text_stops rest is.1))
 
 -- a step reads a two-character sequence
 pub two_again : (at byte : ℕ) (rest : List ℕ) → is_two_character byte ≡ true → IsNamed (One byte)
     → start_at at (27 ∷ byte ∷ rest) ≡ piece_reads (Some (bare_command at byte)) rest
-two_again at byte rest t n = at_two at byte rest t ∙ named_again at byte rest (operation_of (One byte)) n
+two_again at byte rest t n = at_two at byte rest t ∙ named_again (operation_of (One byte)) n
 
 -- ---- the first parameter of a sequence
 
@@ -389,25 +389,25 @@ no_lines : (begin len : ℕ) (read : Result Reads Refusal) → Stays read → wi
 no_lines begin len (Ok reads) s = rw s refl
 no_lines begin len (Err fault) s = refl
 
-first_stays : (grouped : Bool) (begin len : ℕ) (read : Result Reads Refusal) → Stays read
+first_stays : (grouped : Bool) (begin len : ℕ) {read : Result Reads Refusal} → Stays read
     → (if grouped then read else with_lines begin len read) ≡ read
-first_stays true begin len read s = refl
-first_stays false begin len read s = no_lines begin len read s
+first_stays true begin len {read} s = refl
+first_stays false begin len {read} s = no_lines begin len read s
 
 -- what stands inside a sequence is no universal exit
-inside_stays : (prefix : Prefix) (at : ℕ) (bytes : List ℕ) (read : Result Reads Refusal) → Inside prefix at bytes read → Stays read
-inside_stays prefix at bytes read (is_middle parameter rest m) = middle_stays prefix parameter m
-inside_stays prefix at bytes read (is_end parameter sent rest e) = e.stays
-inside_stays prefix at bytes read (is_wrong f) = tt
+inside_stays : {prefix : Prefix} {at : ℕ} {bytes : List ℕ} {read : Result Reads Refusal} → Inside prefix at bytes read → Stays read
+inside_stays {prefix} {at} {bytes} {read} (is_middle parameter rest m) = middle_stays m
+inside_stays {prefix} {at} {bytes} {read} (is_end parameter sent rest e) = e.stays
+inside_stays {prefix} {at} {bytes} {read} (is_wrong f) = tt
 
 -- a step reads the first parameter as it would inside
-pub inside_again : (prefix : Prefix) (at : ℕ) (bytes : List ℕ) (read : Result Reads Refusal) → IsPrefix prefix
+pub inside_again : {prefix : Prefix} {at : ℕ} {bytes : List ℕ} {read : Result Reads Refusal} → IsPrefix prefix
     → IsUngrouped prefix.group bytes → Inside prefix at bytes read → parameter_at prefix at bytes ≡ read
     → start_at at (27 ∷ (prefix_bytes prefix ++ bytes)) ≡ read
-inside_again prefix at bytes read p n inside e =
+inside_again {prefix} {at} {bytes} {read} p n inside e =
     first_again prefix at bytes p n
     ∙ ap (λ (r : Result Reads Refusal). if is_some prefix.group then r else with_lines (at + 2) (length bytes) r) e
-    ∙ first_stays (is_some prefix.group) (at + 2) (length bytes) read (inside_stays prefix at bytes read inside)
+    ∙ first_stays (is_some prefix.group) (at + 2) (length bytes) (inside_stays inside)
 
 -- ---- universal exits
 
@@ -425,54 +425,54 @@ exit_first at field bytes f x e =
     (last_again percent at (exit_parameter field) [] bytes last)
     ∙ exit_reads at field bytes x
 
-pub exit_again : (at : ℕ) (field : Spelled) (lines : List (List ℕ)) (rest : List ℕ) → IsExit field lines rest
+pub exit_again : {at : ℕ} {field : Spelled} {lines : List (List ℕ)} {rest : List ℕ} → IsExit field lines rest
     → start_at at (spelling (exit field lines) ++ rest) ≡ piece_reads (Some (exit_command at field)) rest
-exit_again at field lines rest is =
+exit_again {at} {field} {lines} {rest} is =
     ap (λ (bs : List ℕ). start_at at (27 ∷ 37 ∷ bs)) (exit_joined field (joined lines) rest)
     ∙ exit_first at field (joined lines ++ rest) is.field_is is.leaves is.checks
-    ∙ ap (skipped_by (Some (exit_command at field))) (lines_again lines (at + 3 + length (field_bytes field)) rest is.lines_are)
+    ∙ ap (skipped_by (Some (exit_command at field))) (lines_again (at + 3 + length (field_bytes field)) is.lines_are)
 
 -- a step finds a line that asks for another language
-pub in_line_again : (at : ℕ) (field : Spelled) (lines : List (List ℕ)) (line rest : List ℕ) → IsField field
+pub in_line_again : (at : ℕ) (field : Spelled) (lines : List (List ℕ)) {line rest : List ℕ} → IsField field
     → is_exit exit_name (field_value field) ≡ true → parameter_checks exit_name 88 (field_value field) 0 ≡ Ok 0
     → AreOtherLines lines (line ++ rest) → IsLine line rest → IsTrue (names_language line) → names_pcl line ≡ false
     → start_at at (27 ∷ 37 ∷ (field_bytes field ++ 88 ∷ (joined lines ++ (line ++ rest))))
     ≡ Err (refusal NotPcl (at + 3 + length (field_bytes field) + length (joined lines)) exit_name)
-in_line_again at field lines line rest f x e each ends l p =
+in_line_again at field lines {line} {rest} f x e each ends l p =
     ap (λ (bs : List ℕ). start_at at (27 ∷ 37 ∷ bs)) (sym (parameter_joined field 88 (joined lines ++ (line ++ rest))))
     ∙ exit_first at field (joined lines ++ (line ++ rest)) f x e
-    ∙ ap (skipped_by (Some (exit_command at field))) (foreign_again lines (at + 3 + length (field_bytes field)) line rest each ends l p)
+    ∙ ap (skipped_by (Some (exit_command at field))) (foreign_again lines (at + 3 + length (field_bytes field)) each ends l p)
 
 -- ---- faults
 
 -- a step refuses a control code that isn't performed
-pub unknown_control_again : (at code : ℕ) (rest : List ℕ) → is_control code ≡ true → is_silent code ≡ false
+pub unknown_control_again : {at code : ℕ} (rest : List ℕ) → is_control code ≡ true → is_silent code ≡ false
     → is_some (operation_of (One code)) ≡ false → start_at at (code ∷ rest) ≡ Err (refusal UnsupportedCommand at (One code))
-unknown_control_again at code rest c s n = at_control at code rest c s ∙ unknown_again at code rest (operation_of (One code)) n
+unknown_control_again {at} {code} rest c s n = at_control at code rest c s ∙ unknown_again rest (operation_of (One code)) n
 
 -- a step refuses an ESC with nothing behind it
-pub lone_escape_again : (at : ℕ) → start_at at (27 ∷ []) ≡ Err (refusal Truncated at Empty)
+pub lone_escape_again : {at : ℕ} → start_at at (27 ∷ []) ≡ Err (refusal Truncated at Empty)
 unfolding start_at sequence_at
-lone_escape_again at = refl
+lone_escape_again {at} = refl
 
 -- a step refuses an ESC with no second byte of a sequence behind it
-pub no_sequence_again : (at byte : ℕ) (rest : List ℕ) → is_two_character byte ≡ false → is_parameterized byte ≡ false
+pub no_sequence_again : {at : ℕ} (byte : ℕ) (rest : List ℕ) → is_two_character byte ≡ false → is_parameterized byte ≡ false
     → start_at at (27 ∷ byte ∷ rest) ≡ Err (refusal BadSequence at Empty)
 unfolding start_at sequence_at
-no_sequence_again at byte rest t p = rw (t, p) refl
+no_sequence_again {at} byte rest t p = rw (t, p) refl
 
 -- a step refuses a two-character sequence that isn't performed
-pub unknown_two_again : (at byte : ℕ) (rest : List ℕ) → is_two_character byte ≡ true → is_some (operation_of (One byte)) ≡ false
+pub unknown_two_again : {at byte : ℕ} (rest : List ℕ) → is_two_character byte ≡ true → is_some (operation_of (One byte)) ≡ false
     → start_at at (27 ∷ byte ∷ rest) ≡ Err (refusal UnsupportedCommand at (One byte))
-unknown_two_again at byte rest t n = at_two at byte rest t ∙ unknown_again at byte rest (operation_of (One byte)) n
+unknown_two_again {at} {byte} rest t n = at_two at byte rest t ∙ unknown_again rest (operation_of (One byte)) n
 
 -- a step refuses a sequence that ends before its group character
-pub no_group_again : (at byte : ℕ) → is_parameterized byte ≡ true → start_at at (27 ∷ byte ∷ []) ≡ Err (refusal Truncated at (One byte))
+pub no_group_again : {at byte : ℕ} → is_parameterized byte ≡ true → start_at at (27 ∷ byte ∷ []) ≡ Err (refusal Truncated at (One byte))
 unfolding prefix_at
-no_group_again at byte p = at_prefix at byte [] p
+no_group_again {at} {byte} p = at_prefix at byte [] p
 
 -- a step refuses a sequence with another byte in place of the group character
-pub bad_group_again : (at byte group : ℕ) (rest : List ℕ) → is_parameterized byte ≡ true → is_ungrouped byte ≡ false
+pub bad_group_again : {at byte : ℕ} (group : ℕ) (rest : List ℕ) → is_parameterized byte ≡ true → is_ungrouped byte ≡ false
     → is_group group ≡ false → start_at at (27 ∷ byte ∷ group ∷ rest) ≡ Err (refusal BadSequence at (One byte))
 unfolding prefix_at
-bad_group_again at byte group rest p u g = at_prefix at byte (group ∷ rest) p ∙ rw (g, u) refl
+bad_group_again {at} {byte} group rest p u g = at_prefix at byte (group ∷ rest) p ∙ rw (g, u) refl

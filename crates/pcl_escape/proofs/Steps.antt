@@ -82,7 +82,7 @@ pub parameter_joined : (field : Spelled) (letter : ℕ) (rest : List ℕ)
 parameter_joined field letter rest = append_assoc (field_bytes field) (letter ∷ []) rest
 
 -- where the reading goes on behind a parameter, by whether its letter is the last one
-checked_on : (prefix : Prefix) (at : ℕ) (letter : ℕ) (value : Value) (rest : List ℕ) (len : ℕ) (on : Bool) → goes_on letter ≡ on
+checked_on : (prefix : Prefix) {at : ℕ} (letter : ℕ) {value : Value} (rest : List ℕ) (len : ℕ) {on : Bool} → goes_on letter ≡ on
     → checked_at prefix at letter value rest (Ok len)
     ≡ Ok record {
       said = Some record { at = at; name = parameter_name prefix letter; value = value; bytes = take len rest };
@@ -90,7 +90,7 @@ checked_on : (prefix : Prefix) (at : ℕ) (letter : ℕ) (value : Value) (rest :
           drop len rest;
       inside = if on then Some prefix else None;
     }
-checked_on prefix at letter value rest len on g =
+checked_on prefix {at} letter {value} rest len {on} g =
     ap (λ (b : Bool). Ok record {
       said = Some record {
         at = at;
@@ -104,79 +104,79 @@ checked_on prefix at letter value rest len on g =
     }) g
 
 -- a letter behind which the sequence goes on, with the checks passed, makes a middle parameter
-middle_step : (prefix : Prefix) (at : ℕ) (field : Spelled) (letter : ℕ) (rest : List ℕ) (len : ℕ) → IsField field
+middle_step : {prefix : Prefix} {at : ℕ} (field : Spelled) (letter : ℕ) (rest : List ℕ) {len : ℕ} → IsField field
     → IsTrue (is_letter prefix letter) → goes_on letter ≡ true
     → parameter_checks (parameter_name prefix letter) letter (field_value field) (length rest) ≡ Ok len
     → Found prefix at (field_bytes field ++ letter ∷ rest) (checked_at prefix at letter (field_value field) rest (Ok len))
-middle_step prefix at field letter rest len f l g e =
-    let nothing = none_behind (parameter_name prefix letter) letter (field_value field) (length rest) len g e in
-    let again = (checks_take (parameter_name prefix letter) letter (field_value field) (length rest) len e).again 0 (omega arith) in
+middle_step {prefix} {at} field letter rest {len} f l g e =
+    let nothing = none_behind (parameter_name prefix letter) letter (field_value field) (length rest) g e in
+    let again = (checks_take (parameter_name prefix letter) letter (field_value field) e).again 0 (omega arith) in
     let passes : parameter_checks (parameter_name prefix letter) letter (field_value field) 0 ≡ Ok 0 = rw nothing at again in
     let reads : checked_at prefix at letter (field_value field) rest (Ok len) ≡ middle_reads
     prefix at (record { field = field; letter = letter }) rest =
     ap (λ (n : ℕ). checked_at prefix at letter (field_value field) rest (Ok n)) nothing
-    ∙ checked_on prefix at letter (field_value field) rest 0 true g in
+    ∙ checked_on prefix letter rest 0 g in
     let on = middle_letter (is_last letter) (is_some prefix.group) (goes_on letter) l (on_not_last letter g) in
     subst₂ (Found prefix at) (parameter_joined field letter rest) (sym reads)
     (is_inside (is_middle (record { field = field; letter = letter }) rest (record { field = f; letter = on; checks = passes })))
 
 -- a last parameter, by whether it is a universal exit
-end_by : (prefix : Prefix) (at : ℕ) (parameter : Parameter) (bytes rest : List ℕ) (leave : Bool) → IsLast prefix parameter bytes
+end_by : {prefix : Prefix} {at : ℕ} {parameter : Parameter} {bytes rest : List ℕ} (leave : Bool) → IsLast prefix parameter bytes
     → is_leaving prefix parameter ≡ leave
     → Found prefix at (parameter_bytes parameter ++ (bytes ++ rest)) (end_reads prefix at parameter bytes rest)
-end_by prefix at parameter bytes rest true is l = is_leave parameter bytes rest is l
-end_by prefix at parameter bytes rest false is l =
+end_by {prefix} {at} {parameter} {bytes} {rest} true is l = is_leave parameter bytes rest is l
+end_by {prefix} {at} {parameter} {bytes} {rest} false is l =
     is_inside (is_end parameter bytes rest (record { field = is.field; letter = is.letter; checks = is.checks; stays = l }))
 
 -- any other letter makes a last parameter, with its data
-end_step : (prefix : Prefix) (at : ℕ) (field : Spelled) (letter : ℕ) (rest : List ℕ) (len : ℕ) → IsField field
+end_step : {prefix : Prefix} {at : ℕ} (field : Spelled) (letter : ℕ) (rest : List ℕ) {len : ℕ} → IsField field
     → IsTrue (is_letter prefix letter) → goes_on letter ≡ false
     → parameter_checks (parameter_name prefix letter) letter (field_value field) (length rest) ≡ Ok len
     → Found prefix at (field_bytes field ++ letter ∷ rest) (checked_at prefix at letter (field_value field) rest (Ok len))
-end_step prefix at field letter rest len f l g e =
+end_step {prefix} {at} field letter rest {len} f l g e =
     let parameter : Parameter = record { field = field; letter = letter } in
-    let taken = checks_take (parameter_name prefix letter) letter (field_value field) (length rest) len e in
+    let taken = checks_take (parameter_name prefix letter) letter (field_value field) e in
     let long : length (take len rest) ≡ len = length-take-le len rest taken.fits in
     let passes : parameter_checks (parameter_name prefix letter) letter (field_value field) (length (take len rest))
     ≡ Ok (length (take len rest)) = rw long (taken.again len (omega arith)) in
     let joined : parameter_bytes parameter ++ (take len rest ++ drop len rest) ≡ field_bytes field ++ letter ∷ rest =
     ap (λ (bs : List ℕ). parameter_bytes parameter ++ bs) (take-append-drop len rest) ∙ parameter_joined field letter rest in
     let last = last_letter (is_last letter) (is_some prefix.group) (goes_on letter) l g in
-    subst₂ (Found prefix at) joined (sym (checked_on prefix at letter (field_value field) rest len false g))
-    (end_by prefix at parameter (take len rest) (drop len rest) (is_leaving prefix parameter)
+    subst₂ (Found prefix at) joined (sym (checked_on prefix letter rest len g))
+    (end_by (is_leaving prefix parameter)
     (record { field = f; letter = last; checks = passes }) refl)
 
 -- the same two, and a failing check
-checked_step : (prefix : Prefix) (at : ℕ) (field : Spelled) (letter : ℕ) (rest : List ℕ) (on : Bool) (checks : Result ℕ Kind)
+checked_step : {prefix : Prefix} {at : ℕ} (field : Spelled) (letter : ℕ) (rest : List ℕ) (on : Bool) (checks : Result ℕ Kind)
     → IsField field → IsTrue (is_letter prefix letter) → goes_on letter ≡ on
     → parameter_checks (parameter_name prefix letter) letter (field_value field) (length rest) ≡ checks
     → Found prefix at (field_bytes field ++ letter ∷ rest) (checked_at prefix at letter (field_value field) rest checks)
-checked_step prefix at field letter rest true (Ok len) f l g e = middle_step prefix at field letter rest len f l g e
-checked_step prefix at field letter rest false (Ok len) f l g e = end_step prefix at field letter rest len f l g e
-checked_step prefix at field letter rest on (Err kind) f l g e = is_inside (is_wrong (check field letter rest kind f l e))
+checked_step {prefix} {at} field letter rest true (Ok len) f l g e = middle_step field letter rest f l g e
+checked_step {prefix} {at} field letter rest false (Ok len) f l g e = end_step field letter rest f l g e
+checked_step {prefix} {at} field letter rest on (Err kind) f l g e = is_inside (is_wrong (check field letter rest kind f l e))
 
 -- behind a field that stops stands a letter, or a byte that is none
-letter_step : (prefix : Prefix) (at : ℕ) (field : Spelled) (byte : ℕ) (rest : List ℕ) (letter : Bool) → IsField field
+letter_step : {prefix : Prefix} {at : ℕ} (field : Spelled) (byte : ℕ) (rest : List ℕ) (letter : Bool) → IsField field
     → extends field byte ≡ false → is_letter prefix byte ≡ letter
     → Found prefix at (field_bytes field ++ byte ∷ rest) (letter_at prefix at field (byte ∷ rest))
-letter_step prefix at field byte rest true f s l =
-    rw l (checked_step prefix at field byte rest (goes_on byte)
+letter_step {prefix} {at} field byte rest true f s l =
+    rw l (checked_step field byte rest (goes_on byte)
     (parameter_checks (parameter_name prefix byte) byte (field_value field) (length rest)) f l refl refl)
-letter_step prefix at field byte rest false f s l = rw l (is_inside (is_wrong (no_letter field byte rest f s l)))
+letter_step {prefix} {at} field byte rest false f s l = rw l (is_inside (is_wrong (no_letter field byte rest f s l)))
 
 -- behind a field that stops stands a byte, or nothing
-behind_field : (prefix : Prefix) (at : ℕ) (field : Spelled) (rest : List ℕ) → IsField field → FieldStops field rest
+behind_field : {prefix : Prefix} {at : ℕ} (field : Spelled) (rest : List ℕ) → IsField field → FieldStops field rest
     → Found prefix at (field_bytes field ++ rest) (letter_at prefix at field rest)
-behind_field prefix at field [] f s = rw append-nil (is_inside (is_wrong (cut field f)))
-behind_field prefix at field (byte ∷ rest) f s = letter_step prefix at field byte rest (is_letter prefix byte) f s refl
+behind_field {prefix} {at} field [] f s = rw append-nil (is_inside (is_wrong (cut field f)))
+behind_field {prefix} {at} field (byte ∷ rest) f s = letter_step field byte rest (is_letter prefix byte) f s refl
 
 -- a step reads what the bytes of a parameter begin with
-pub parameter_step : (prefix : Prefix) (at : ℕ) (bytes : List ℕ) → Found prefix at bytes (parameter_at prefix at bytes)
+pub parameter_step : {prefix : Prefix} {at : ℕ} {bytes : List ℕ} → Found prefix at bytes (parameter_at prefix at bytes)
 unfolding parameter_at
-parameter_step prefix at bytes =
-    let split = field_split bytes in
+parameter_step {prefix} {at} {bytes} =
+    let split = field_split in
     subst (λ (bs : List ℕ). Found prefix at bs (letter_at prefix at (field_at bytes).0 (field_at bytes).1)) (sym split.joined)
-    (behind_field prefix at (field_at bytes).0 (field_at bytes).1 split.field split.stops)
+    (behind_field (field_at bytes).0 (field_at bytes).1 split.field split.stops)
 
 -- ---- sequences with a group character
 
@@ -187,23 +187,23 @@ grouped_stays parameterized None letter value g = absurd cc
 grouped_stays parameterized (Some group) letter value g = refl
 
 -- so they hold none
-inside_found : (prefix : Prefix) (at : ℕ) (bytes : List ℕ) (read : Result Reads Refusal) → is_some prefix.group ≡ true
+inside_found : {prefix : Prefix} {at : ℕ} {bytes : List ℕ} {read : Result Reads Refusal} → is_some prefix.group ≡ true
     → Found prefix at bytes read → Inside prefix at bytes read
-inside_found prefix at bytes read g (is_inside inside) = inside
-inside_found prefix at bytes read g (is_leave parameter sent rest is l) =
+inside_found {prefix} {at} {bytes} {read} g (is_inside inside) = inside
+inside_found {prefix} {at} {bytes} {read} g (is_leave parameter sent rest is l) =
     let stays = grouped_stays prefix.parameterized prefix.group
     (if goes_on parameter.letter then parameter.letter - 32 else parameter.letter) (field_value parameter.field) g in absurd cc
 
 -- a middle parameter is none
-pub middle_stays : (prefix : Prefix) (parameter : Parameter) → IsMiddle prefix parameter → is_leaving prefix parameter ≡ false
-middle_stays prefix parameter m =
+pub middle_stays : {prefix : Prefix} {parameter : Parameter} → IsMiddle prefix parameter → is_leaving prefix parameter ≡ false
+middle_stays {prefix} {parameter} m =
     grouped_stays prefix.parameterized prefix.group (if goes_on parameter.letter then parameter.letter - 32 else parameter.letter)
     (field_value parameter.field)
     (and_parts (is_some prefix.group) (goes_on parameter.letter) m.letter).0
 
-pub grouped_step : (prefix : Prefix) (at : ℕ) (bytes : List ℕ) → is_some prefix.group ≡ true
+pub grouped_step : {prefix : Prefix} {at : ℕ} {bytes : List ℕ} → is_some prefix.group ≡ true
     → Inside prefix at bytes (parameter_at prefix at bytes)
-grouped_step prefix at bytes g = inside_found prefix at bytes (parameter_at prefix at bytes) g (parameter_step prefix at bytes)
+grouped_step {prefix} {at} {bytes} g = inside_found g (parameter_step)
 
 -- ---- each step goes on
 
@@ -220,25 +220,25 @@ rest_shorter parameter sent rest =
     omega arith
 
 -- each step inside a sequence takes a byte
-pub inside_shorter : (prefix : Prefix) (at : ℕ) (bytes : List ℕ) (read : Result Reads Refusal) (reads : Reads)
+pub inside_shorter : {prefix : Prefix} {at : ℕ} {bytes : List ℕ} {read : Result Reads Refusal} {reads : Reads}
     → Inside prefix at bytes read → read ≡ Ok reads → length reads.rest < length bytes
-inside_shorter prefix at bytes read reads (is_middle parameter rest is) e = let same : rest ≡ reads.rest = cc in
+inside_shorter {prefix} {at} {bytes} {read} {reads} (is_middle parameter rest is) e = let same : rest ≡ reads.rest = cc in
     rw (← same) (rest_shorter parameter [] rest)
-inside_shorter prefix at bytes read reads (is_end parameter sent rest is) e = let same : rest ≡ reads.rest = cc in
+inside_shorter {prefix} {at} {bytes} {read} {reads} (is_end parameter sent rest is) e = let same : rest ≡ reads.rest = cc in
     rw (← same) (rest_shorter parameter sent rest)
-inside_shorter prefix at bytes read reads (is_wrong f) e = absurd cc
+inside_shorter {prefix} {at} {bytes} {read} {reads} (is_wrong f) e = absurd cc
 
 -- each parameter does
-found_shorter : (prefix : Prefix) (at : ℕ) (bytes : List ℕ) (read : Result Reads Refusal) (reads : Reads) → Found prefix at bytes read
+found_shorter : {prefix : Prefix} {at : ℕ} {bytes : List ℕ} {read : Result Reads Refusal} {reads : Reads} → Found prefix at bytes read
     → read ≡ Ok reads → length reads.rest < length bytes
-found_shorter prefix at bytes read reads (is_inside inside) e = inside_shorter prefix at bytes read reads inside e
-found_shorter prefix at bytes read reads (is_leave parameter sent rest is l) e = let same : rest ≡ reads.rest = cc in
+found_shorter {prefix} {at} {bytes} {read} {reads} (is_inside inside) e = inside_shorter inside e
+found_shorter {prefix} {at} {bytes} {read} {reads} (is_leave parameter sent rest is l) e = let same : rest ≡ reads.rest = cc in
     rw (← same) (rest_shorter parameter sent rest)
 
-pub parameter_shorter : (prefix : Prefix) (at : ℕ) (bytes : List ℕ) (reads : Reads) → parameter_at prefix at bytes ≡ Ok reads
+pub parameter_shorter : (prefix : Prefix) (at : ℕ) (bytes : List ℕ) {reads : Reads} → parameter_at prefix at bytes ≡ Ok reads
     → length reads.rest < length bytes
-parameter_shorter prefix at bytes reads e = found_shorter prefix at bytes (parameter_at prefix at bytes) reads
-    (parameter_step prefix at bytes) e
+parameter_shorter prefix at bytes {reads} e = found_shorter
+    (parameter_step) e
 
 -- ---- from the parts to the step
 
@@ -251,7 +251,7 @@ letter_ends byte point bare l = grind (arith, nat_tests)
 field_behind : (prefix : Prefix) (at : ℕ) (field : Spelled) (rest : List ℕ) → IsField field → FieldStops field rest
     → parameter_at prefix at (field_bytes field ++ rest) ≡ letter_at prefix at field rest
 unfolding parameter_at
-field_behind prefix at field rest f s = ap (λ (p : Spelled × List ℕ). letter_at prefix at p.0 p.1) (field_again field rest f s)
+field_behind prefix at field rest f s = ap (λ (p : Spelled × List ℕ). letter_at prefix at p.0 p.1) (field_again f s)
 
 -- a step reads a field and its letter, and then come the checks
 checks_behind : (prefix : Prefix) (at : ℕ) (field : Spelled) (letter : ℕ) (rest : List ℕ) → IsField field
@@ -263,13 +263,13 @@ checks_behind prefix at field letter rest f l =
     field_behind prefix at field (letter ∷ rest) f (letter_ends letter (is_none field.fraction) (is_bare field) any) ∙ rw l refl
 
 -- a step reads a middle parameter
-pub middle_again : (prefix : Prefix) (at : ℕ) (parameter : Parameter) (rest : List ℕ) → IsMiddle prefix parameter
+pub middle_again : {prefix : Prefix} {at : ℕ} {parameter : Parameter} {rest : List ℕ} → IsMiddle prefix parameter
     → parameter_at prefix at (parameter_bytes parameter ++ rest) ≡ middle_reads prefix at parameter rest
-middle_again prefix at parameter rest m =
+middle_again {prefix} {at} {parameter} {rest} m =
     let letter = parameter.letter in
     let l : IsTrue (is_letter prefix letter) = or_right (is_last letter) (may_go_on prefix letter) m.letter in
     let on : goes_on letter ≡ true = (and_parts (is_some prefix.group) (goes_on letter) m.letter).1 in
-    let again = (checks_take (parameter_name prefix letter) letter (field_value parameter.field) 0 0 m.checks).again (length rest)
+    let again = (checks_take (parameter_name prefix letter) letter (field_value parameter.field) m.checks).again (length rest)
     (omega arith) in
     ap (parameter_at prefix at) (parameter_joined parameter.field letter rest) ∙ checks_behind prefix at parameter.field letter rest
     m.field l ∙ rw (again, on) refl
@@ -280,23 +280,22 @@ pub last_again : (prefix : Prefix) (at : ℕ) (parameter : Parameter) (bytes res
 last_again prefix at parameter bytes rest m =
     let letter = parameter.letter in
     let l : IsTrue (is_letter prefix letter) = or_left (is_last letter) (may_go_on prefix letter) m.letter in
-    let again = (checks_take (parameter_name prefix letter) letter (field_value parameter.field) (length bytes)
-    (length bytes) m.checks).again (length (bytes ++ rest)) (omega (arith, length-append bytes rest)) in
+    let again = (checks_take (parameter_name prefix letter) letter (field_value parameter.field) m.checks).again (length (bytes ++ rest)) (omega (arith, length-append bytes rest)) in
     let stops : goes_on letter ≡ false = last_stops letter m.letter in
     let front : take (length bytes) (bytes ++ rest) ≡ bytes = take_at bytes rest (length bytes) refl in
     let behind : drop (length bytes) (bytes ++ rest) ≡ rest = drop_at bytes rest (length bytes) refl in
     ap (parameter_at prefix at) (parameter_joined parameter.field letter (bytes ++ rest))
     ∙ checks_behind prefix at parameter.field letter (bytes ++ rest) m.field l ∙ rw (again, stops, front, behind) refl
 
-pub end_again : (prefix : Prefix) (at : ℕ) (parameter : Parameter) (bytes rest : List ℕ) → IsEnd prefix parameter bytes
+pub end_again : {prefix : Prefix} {at : ℕ} {parameter : Parameter} {bytes rest : List ℕ} → IsEnd prefix parameter bytes
     → parameter_at prefix at (parameter_bytes parameter ++ (bytes ++ rest)) ≡ end_reads prefix at parameter bytes rest
-end_again prefix at parameter bytes rest m = last_again prefix at parameter bytes rest
+end_again {prefix} {at} {parameter} {bytes} {rest} m = last_again prefix at parameter bytes rest
     (record { field = m.field; letter = m.letter; checks = m.checks })
 
 -- a step finds the fault of a parameter
-pub fault_again : (prefix : Prefix) (at : ℕ) (bytes : List ℕ) (fault : Refusal) → FailsParameter prefix at bytes fault
+pub fault_again : {prefix : Prefix} {at : ℕ} {bytes : List ℕ} {fault : Refusal} → FailsParameter prefix at bytes fault
     → parameter_at prefix at bytes ≡ Err fault
-fault_again prefix at bytes fault (cut field f) = ap (parameter_at prefix at) (sym (append-nil (field_bytes field)))
+fault_again {prefix} {at} {bytes} {fault} (cut field f) = ap (parameter_at prefix at) (sym (append-nil (field_bytes field)))
     ∙ field_behind prefix at field [] f tt
-fault_again prefix at bytes fault (no_letter field byte rest f s l) = field_behind prefix at field (byte ∷ rest) f s ∙ rw l refl
-fault_again prefix at bytes fault (check field letter rest kind f l e) = checks_behind prefix at field letter rest f l ∙ rw e refl
+fault_again {prefix} {at} {bytes} {fault} (no_letter field byte rest f s l) = field_behind prefix at field (byte ∷ rest) f s ∙ rw l refl
+fault_again {prefix} {at} {bytes} {fault} (check field letter rest kind f l e) = checks_behind prefix at field letter rest f l ∙ rw e refl

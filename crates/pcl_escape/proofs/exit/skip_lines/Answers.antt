@@ -13,12 +13,11 @@ returns-then-eq c =
       line_is = c.split_at.ensures.front ∙ ap (λ n. take n rest) c.line_len.ensures.count;
       behind_is = c.split_at.ensures.back ∙ ap (λ n. drop n rest) c.line_len.ensures.count;
     } in
-    let asks = slice_names_language true c.as_slice.result.now c.squeezed_front-front.result.items line c.if-starts_with.ensures.value
+    let asks = slice_names_language line c.if-starts_with.ensures.value
     c.as_slice.ensures.value c.squeezed_front-front.ensures in
-    let says = slice_names_pcl true c.as_slice-then-starts_with.result.now c.squeezed_front-front.result.items line c.if-eq.ensures
+    let says = slice_names_pcl line c.if-eq.ensures
     c.as_slice-then-starts_with.ensures.value c.squeezed_front-front.ensures in
-    sym c.loop-line.invariant.same ∙ at_asking_line (c.args.place + (length c.args.bytes.now - length rest)) rest line
-    c.split_at.result.1.now true cut asks says
+    sym c.loop-line.invariant.same ∙ at_asking_line (c.args.place + (length c.args.bytes.now - length rest)) cut asks says
 
 pub returns-else-eq : goal.returns-else-eq
 returns-else-eq c =
@@ -29,12 +28,11 @@ returns-else-eq c =
       line_is = c.split_at.ensures.front ∙ ap (λ n. take n rest) c.line_len.ensures.count;
       behind_is = c.split_at.ensures.back ∙ ap (λ n. drop n rest) c.line_len.ensures.count;
     } in
-    let asks = slice_names_language true c.as_slice.result.now c.squeezed_front-front.result.items line c.if-starts_with.ensures.value
+    let asks = slice_names_language line c.if-starts_with.ensures.value
     c.as_slice.ensures.value c.squeezed_front-front.ensures in
-    let says = slice_names_pcl false c.as_slice-then-starts_with.result.now c.squeezed_front-front.result.items line c.if-eq.ensures
+    let says = slice_names_pcl line c.if-eq.ensures
     c.as_slice-then-starts_with.ensures.value c.squeezed_front-front.ensures in
-    sym c.loop-line.invariant.same ∙ at_asking_line (c.args.place + (length c.args.bytes.now - length rest)) rest line
-    c.split_at.result.1.now false cut asks says
+    sym c.loop-line.invariant.same ∙ at_asking_line (c.args.place + (length c.args.bytes.now - length rest)) cut asks says
 
 pub loop-line-preserved : goal.loop-line-preserved
 loop-line-preserved c =
@@ -46,18 +44,17 @@ loop-line-preserved c =
       line_is = c.split_at.ensures.front ∙ ap (λ n. take n rest) c.line_len.ensures.count;
       behind_is = c.split_at.ensures.back ∙ ap (λ n. drop n rest) c.line_len.ensures.count;
     } in
-    let other = slice_names_language false c.as_slice.result.now c.squeezed_front-front.result.items line c.if-starts_with.ensures.value
+    let other = slice_names_language line c.if-starts_with.ensures.value
     c.as_slice.ensures.value c.squeezed_front-front.ensures in
     let within : length rest ≤ length c.args.bytes.now = c.loop-line.invariant.within in
     let fewer : length behind ≤ length rest = omega arith in
     record {
       within = omega arith;
       same = ap (λ k. lines_at k behind)
-          (sym (place_later c.args.place (length c.args.bytes.now) (length rest) (length behind) within fewer))
-          ∙ sym (at_other_line (c.args.place + (length c.args.bytes.now - length rest)) rest line behind cut other)
+          (sym (place_later c.args.place within fewer))
+          ∙ sym (at_other_line (c.args.place + (length c.args.bytes.now - length rest)) cut other)
           ∙ c.loop-line.invariant.same;
     }
 
 pub returns : goal.returns
-returns c = sym c.loop-line.invariant.same ∙ at_other_bytes (c.args.place + (length c.args.bytes.now - length c.loop-line.rest.now))
-    c.loop-line.rest.now c.loop-line-test.ensures.value
+returns c = sym c.loop-line.invariant.same ∙ at_other_bytes (c.args.place + (length c.args.bytes.now - length c.loop-line.rest.now)) c.loop-line-test.ensures.value

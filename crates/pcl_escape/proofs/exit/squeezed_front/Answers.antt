@@ -16,13 +16,13 @@ loop-byte-preserved c =
     let step : c.if-not-is_blank.front.items ≡ take 22 (squeezed (take i line ++ byte ∷ [])) = elim c.if-not-is_blank.branch [
       | then-not-is_blank+then-not-is_full w ↦ ap (λ front. front.items) w.front-is ∙ w.push.ensures.items
           ∙ ap (λ b. c.loop-byte.front.items ++ b ∷ []) w.to_ascii_uppercase.ensures.value
-          ∙ push_step c.loop-byte.front.items (take i line) byte so_far w.if-not-is_blank.ensures w.if-not-is_full.ensures.value
+          ∙ push_step (take i line) byte so_far w.if-not-is_blank.ensures w.if-not-is_full.ensures.value
           w.is_full.ensures.fits
       | else-not-is_blank w ↦ elim w.else-not-is_blank.branch [
         | else-not-is_blank-via-then-not-is_blank+else-not-is_full w' ↦ ap (λ front. front.items) w.front-is
-            ∙ full_step c.loop-byte.front.items (take i line) byte so_far w'.if-not-is_blank.ensures w'.if-not-is_full.ensures.value
+            ∙ full_step (take i line) byte so_far w'.if-not-is_blank.ensures w'.if-not-is_full.ensures.value
         | else-not-is_blank-via-else-not-is_blank w' ↦ ap (λ front. front.items) w.front-is
-            ∙ blank_step c.loop-byte.front.items (take i line) byte so_far w'.if-not-is_blank.ensures
+            ∙ blank_step (take i line) byte so_far w'.if-not-is_blank.ensures
       ]
     ] in
     step ∙ ap (λ (bs : List ℕ). take 22 (squeezed bs)) (sym one_more)

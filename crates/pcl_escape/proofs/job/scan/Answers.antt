@@ -17,20 +17,18 @@ pub returns-in-Err : goal.returns-in-Err
 returns-in-Err c =
     let goes = more_to_read (goal.at.returns-in-Err c).After-read_step in
     sym c.loop-inside.invariant.same ∙ stops_at (views c.loop-inside.commands.items)
-    (length c.args.job.now) c.loop-inside.inside c.loop-inside.rest.now c.in-Err.refusal goes c.in-Err.ensures
+    (length c.args.job.now) c.loop-inside.inside c.loop-inside.rest.now goes c.in-Err.ensures
 
 pub loop-inside-smaller : goal.loop-inside-smaller
 loop-inside-smaller c =
     let goes = more_to_read (goal.at.loop-inside-smaller c).After-read_step in
-    step_shorter c.loop-inside.inside (length c.args.job.now - length c.loop-inside.rest.now) c.loop-inside.rest.now
-    (step_view c.in-Ok.step) goes c.in-Ok.ensures
+    step_shorter c.loop-inside.inside (length c.args.job.now - length c.loop-inside.rest.now) c.loop-inside.rest.now goes c.in-Ok.ensures
 
 pub loop-inside-preserved : goal.loop-inside-preserved
 loop-inside-preserved c =
     let goes = more_to_read (goal.at.loop-inside-preserved c).After-read_step in
     let total = length c.args.job.now in
-    let shorter = step_shorter c.loop-inside.inside (total - length c.loop-inside.rest.now) c.loop-inside.rest.now
-    (step_view c.in-Ok.step) goes c.in-Ok.ensures in
+    let shorter = step_shorter c.loop-inside.inside (total - length c.loop-inside.rest.now) c.loop-inside.rest.now goes c.in-Ok.ensures in
     let within = c.loop-inside.invariant.within in
     record {
       within = omega arith;

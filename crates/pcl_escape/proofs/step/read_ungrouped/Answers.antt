@@ -5,8 +5,8 @@ use Rattle.pcl_escape.proofs.step.read_ungrouped.Goals as goal
 
 pub overflow_sub-place : goal.overflow_sub-place
 overflow_sub-place c =
-    let shorter = parameter_shorter _ c.args.at c.args.bytes.now (step_view c.in_ok-step.step) c.in_ok-step.ensures in omega arith
+    let shorter = parameter_shorter _ c.args.at c.args.bytes.now c.in_ok-step.ensures in omega arith
 
 pub skip_lines-requires : goal.skip_lines-requires
 skip_lines-requires c =
-    let shorter = parameter_shorter _ c.args.at c.args.bytes.now (step_view c.in_ok-step.step) c.in_ok-step.ensures in omega arith
+    let shorter = parameter_shorter _ c.args.at c.args.bytes.now c.in_ok-step.ensures in omega arith
