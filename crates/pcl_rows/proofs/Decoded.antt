@@ -20,22 +20,22 @@ given_once [] = refl
 given_once (byte ∷ new) = ap (λ (bs : List ℕ). byte ∷ bs) (given_once new)
 
 -- so many bytes at the front of data
-literal_at : (offset count : ℕ) (new more : List ℕ) → length new ≡ count
+literal_at : {offset count : ℕ} {new more : List ℕ} → length new ≡ count
     → literal offset count (new ++ more) ≡ record { offset = offset; given = new; rest = more }
-literal_at offset count new more e =
+literal_at {offset} {count} {new} {more} e =
     ap (λ (given : List ℕ). record { offset = offset; given = given; rest = drop count (new ++ more) }) (take_at new more count e)
     ∙ ap (λ (rest : List ℕ). record { offset = offset; given = new; rest = rest }) (drop_at new more count e)
 
 -- an offset that goes on
-further_at : (full offset count last : ℕ) (behind : List ℕ) → last < 255
+further_at : (full offset count : ℕ) {last : ℕ} (behind : List ℕ) → last < 255
     → further offset count (replicate full 255 ++ last ∷ behind) ≡ literal (offset + 255 * full + last) count behind
-further_at zero offset count last behind lt =
+further_at zero offset count {last} behind lt =
     let other : (last == 255) ≡ false = grind (arith, nat_tests) in
     let place : offset + last ≡ offset + 255 * zero + last = omega arith in
     rw other (ap (λ (n : ℕ). literal n count behind) place)
-further_at (suc full) offset count last behind lt =
+further_at (suc full) offset count {last} behind lt =
     let place : (offset + 255) + 255 * full + last ≡ offset + 255 * suc full + last = omega arith in
-    further_at full (offset + 255) count last behind lt ∙ ap (λ (n : ℕ). literal n count behind) place
+    further_at full (offset + 255) count behind lt ∙ ap (λ (n : ℕ). literal n count behind) place
 
 -- what the front of data is, where it begins with a byte
 pub record Begins (method : Method) (bytes : List ℕ) (front : Front) : Type 0 where
@@ -65,7 +65,7 @@ whole_front (Literal control) new more r n =
       rest = new ++ more;
       split = refl;
       front_is = rw low
-          (literal_at 0 (control + 1) new more n ∙ ap (λ (g : List ℕ). record { offset = 0; given = g; rest = more })
+          (literal_at n ∙ ap (λ (g : List ℕ). record { offset = 0; given = g; rest = more })
           (sym (given_once new)));
     }
 whole_front Skipped [] more r n = record { byte = 128; rest = more; split = refl; front_is = refl }
@@ -91,7 +91,7 @@ whole_front (Near count offset) new more r n =
       rest = new ++ more;
       split = refl;
       front_is = rw (low, high, near)
-          (literal_at offset (count + 1) new more n
+          (literal_at n
           ∙ ap (λ (g : List ℕ). record { offset = offset; given = g; rest = more }) (sym (given_once new)));
     }
 whole_front (Far count full last) new more r n =
@@ -103,7 +103,7 @@ whole_front (Far count full last) new more r n =
       split = ap (λ (bs : List ℕ). (32 * count + 31) ∷ bs)
           (append_assoc (replicate full 255 ++ last ∷ []) new more ∙ append_assoc (replicate full 255) (last ∷ []) (new ++ more));
       front_is =
-          rw (low, high) (further_at full 31 (count + 1) last (new ++ more) r.1 ∙ literal_at (31 + 255 * full + last) (count + 1) new more n
+          rw (low, high) (further_at full 31 (count + 1) (new ++ more) r.1 ∙ literal_at n
           ∙ ap (λ (g : List ℕ). record { offset = 31 + 255 * full + last; given = g; rest = more }) (sym (given_once new)));
     }
 
@@ -114,8 +114,8 @@ abbrev last_of : Front → List ℕ → List ℕ
 last_of front old = take front.offset old ++ (front.given ++ drop (front.offset + length front.given) old)
 
 -- a front that gives nothing leaves the row as it is
-last_none : (front : Front) (old : List ℕ) → front.given ≡ [] → last_of front old ≡ old
-last_none front old e =
+last_none : (front : Front) {old : List ℕ} → front.given ≡ [] → last_of front old ≡ old
+last_none front {old} e =
     ap (λ (g : List ℕ). take front.offset old ++ (g ++ drop (front.offset + length g) old)) e
     ∙ rw add-zero (take-append-drop front.offset old)
 
@@ -132,19 +132,19 @@ pub record EndsAs (head : Head) (byte : ℕ) (rest : List ℕ) (front : Front) :
   pub same : (old : List ℕ) → last_of front old ≡ after_element head (drop (length (head_bytes head)) (byte ∷ rest)) (λ more. more) old
 
 -- a front that gives nothing, of an element whose new bytes are all missing
-ends_none : (head : Head) (byte : ℕ) (rest : List ℕ) (front : Front) → front.rest ≡ [] → front.given ≡ []
+ends_none : {head : Head} {byte : ℕ} {rest : List ℕ} {front : Front} → front.rest ≡ [] → front.given ≡ []
     → drop (length (head_bytes head)) (byte ∷ rest) ≡ []
     → EndsAs head byte rest front
-ends_none head byte rest front n g d = record {
+ends_none {head} {byte} {rest} {front} n g d = record {
   no_more = n;
-  same = λ old. last_none front old g ∙ sym (after_none head (drop (length (head_bytes head)) (byte ∷ rest)) old d);
+  same = λ old. last_none front g ∙ sym (after_none head (drop (length (head_bytes head)) (byte ∷ rest)) old d);
 }
 
 -- a front that gives new bytes once, behind the head's offset
-ends_once : (head : Head) (byte : ℕ) (rest new : List ℕ) (front : Front) → copies_of head ≡ 1
+ends_once : {head : Head} {byte : ℕ} {rest new : List ℕ} {front : Front} → copies_of head ≡ 1
     → front ≡ record { offset = offset_of head; given = new; rest = [] }
     → drop (length (head_bytes head)) (byte ∷ rest) ≡ new → EndsAs head byte rest front
-ends_once head byte rest new front one f d = record {
+ends_once {head} {byte} {rest} {new} {front} one f d = record {
   no_more = ap (λ (x : Front). x.rest) f;
   same = λ old.
       let once : given_by head (drop (length (head_bytes head)) (byte ∷ rest)) ≡ new =
@@ -153,9 +153,9 @@ ends_once head byte rest new front one f d = record {
       (sym once);
 }
 
-literal_short : (offset count : ℕ) (bytes : List ℕ) → length bytes ≤ count
+literal_short : {offset count : ℕ} {bytes : List ℕ} → length bytes ≤ count
     → literal offset count bytes ≡ record { offset = offset; given = bytes; rest = [] }
-literal_short offset count bytes le =
+literal_short {offset} {count} {bytes} le =
     ap (λ (given : List ℕ). record { offset = offset; given = given; rest = drop count bytes }) (take_all count bytes le)
     ∙ ap (λ (rest : List ℕ). record { offset = offset; given = bytes; rest = rest }) (drop_all count bytes le)
 
@@ -170,10 +170,10 @@ pub data FarCut (offset full last count : ℕ) (rest : List ℕ) : Type 0 where
   gives_some : further offset count rest ≡ record { offset = offset + 255 * full + last; given = drop (full + 1) rest; rest = [] }
       → FarCut offset full last count rest
 
-far_cut : (full offset last count : ℕ) (rest missing padding : List ℕ) → last < 255 → length padding ≡ count → 0 < length missing
+far_cut : (full offset : ℕ) {last : ℕ} (count : ℕ) (rest missing padding : List ℕ) → last < 255 → length padding ≡ count → 0 < length missing
     → rest ++ missing ≡ (replicate full 255 ++ last ∷ []) ++ padding → FarCut offset full last count rest
-far_cut full offset last count [] missing padding lt n some e = gives_none refl refl (drop-nil (full + 1))
-far_cut zero offset last count (byte ∷ rest) missing padding lt n some e =
+far_cut full offset {last} count [] missing padding lt n some e = gives_none refl refl (drop-nil (full + 1))
+far_cut zero offset {last} count (byte ∷ rest) missing padding lt n some e =
     let b : byte ≡ last = cc in
     let r : rest ++ missing ≡ padding = cc in
     let fewer = short rest missing padding r some in
@@ -181,13 +181,13 @@ far_cut zero offset last count (byte ∷ rest) missing padding lt n some e =
     let place : offset + byte ≡ offset + 255 * zero + last = omega arith in
     gives_some
     (rw other
-    (literal_short (offset + byte) count rest (omega arith) ∙ ap (λ (o : ℕ). record { offset = o; given = rest; rest = [] }) place))
-far_cut (suc full) offset last count (byte ∷ rest) missing padding lt n some e =
+    (literal_short (omega arith) ∙ ap (λ (o : ℕ). record { offset = o; given = rest; rest = [] }) place))
+far_cut (suc full) offset {last} count (byte ∷ rest) missing padding lt n some e =
     let b : byte ≡ 255 = cc in
     let r : rest ++ missing ≡ (replicate full 255 ++ last ∷ []) ++ padding = cc in
     let full_byte : (byte == 255) ≡ true = grind (arith, nat_tests) in
     let place : (offset + 255) + 255 * full + last ≡ offset + 255 * suc full + last = omega arith in
-    elim (far_cut full (offset + 255) last count rest missing padding lt n some r) [
+    elim (far_cut full (offset + 255) count rest missing padding lt n some r) [
       | gives_none x y z ↦ gives_none (rw full_byte x) (rw full_byte y)
           (let next : suc full + 1 ≡ suc (full + 1) = omega arith in ap (λ (n : ℕ). drop n (byte ∷ rest)) next ∙ z)
       | gives_some x ↦ gives_some (rw full_byte (x ∙ ap (λ (o : ℕ). record { offset = o; given = drop (full + 1) rest; rest = [] }) place
@@ -198,7 +198,7 @@ far_cut (suc full) offset last count (byte ∷ rest) missing padding lt n some e
 cut_front : (head : Head) (padding : List ℕ) (byte : ℕ) (rest missing : List ℕ) → IsCut head padding byte rest missing
     → EndsAs head byte rest (front_of (method_of head) byte rest)
 cut_front Itself padding byte rest missing c = absurd (omega (arith, c.complete, c.lacks, ap length c.joined, length-append rest missing))
-cut_front (Count count) padding byte [] missing c = ends_none (Count count) byte [] _ refl refl refl
+cut_front (Count count) padding byte [] missing c = ends_none refl refl refl
 cut_front (Count count) padding byte (next ∷ rest) missing c =
     absurd (omega (arith, c.complete, c.lacks, ap length c.joined, length-append rest missing))
 cut_front (Literal control) padding byte rest missing c =
@@ -208,8 +208,8 @@ cut_front (Literal control) padding byte rest missing c =
     let fewer = short rest missing padding r c.lacks in
     let in_range = c.in_range in
     let low : nat_lt byte 128 ≡ true = grind (arith, nat_tests) in
-    rw low (ends_once (Literal control) byte rest rest (literal 0 (byte + 1) rest) refl
-    (literal_short 0 (byte + 1) rest (omega (arith, c.complete))) refl)
+    rw low (ends_once refl
+    (literal_short (omega (arith, c.complete))) refl)
 cut_front Skipped padding byte rest missing c = absurd (omega (arith, c.complete, c.lacks, ap length c.joined, length-append rest missing))
 cut_front (Repeat control) padding byte [] missing c =
     let e = c.joined in
@@ -217,7 +217,7 @@ cut_front (Repeat control) padding byte [] missing c =
     let in_range = c.in_range in
     let high : nat_lt byte 128 ≡ false = grind (arith, nat_tests) in
     let other : (byte == 128) ≡ false = grind (arith, nat_tests) in
-    rw (high, other) (ends_none (Repeat control) byte [] (repeated (257 - byte) []) refl refl refl)
+    rw (high, other) (ends_none refl refl refl)
 cut_front (Repeat control) padding byte (next ∷ rest) missing c =
     absurd (omega (arith, c.complete, c.lacks, ap length c.joined, length-append rest missing))
 cut_front (Near count offset) padding byte rest missing c =
@@ -229,8 +229,8 @@ cut_front (Near count offset) padding byte rest missing c =
     let low : byte % 32 ≡ offset = omega arith in
     let high : byte / 32 ≡ count = omega arith in
     let near : (byte % 32 == 31) ≡ false = grind (arith, nat_tests) in
-    rw near (ends_once (Near count offset) byte rest rest (literal (byte % 32) (byte / 32 + 1) rest) refl
-    (ap (λ (o : ℕ). literal o (byte / 32 + 1) rest) low ∙ literal_short offset (byte / 32 + 1) rest (omega (arith, c.complete))) refl)
+    rw near (ends_once refl
+    (ap (λ (o : ℕ). literal o (byte / 32 + 1) rest) low ∙ literal_short (omega (arith, c.complete))) refl)
 cut_front (Far count full last) padding byte rest missing c =
     let e = c.joined in
     let b : byte ≡ 32 * count + 31 = cc in
@@ -242,9 +242,9 @@ cut_front (Far count full last) padding byte rest missing c =
     let long : length (replicate full 255 ++ last ∷ []) ≡ full + 1 =
     omega (arith, length-append (replicate full 255) (last ∷ []), length-replicate {A = ℕ} full 255) in
     let behind : drop (length (head_bytes (Far count full last))) (byte ∷ rest) ≡ drop (full + 1) rest = ap (λ (n : ℕ). drop n rest) long in
-    rw far (elim (far_cut full 31 last (byte / 32 + 1) rest missing padding in_range.1 (omega (arith, c.complete)) c.lacks r) [
-      | gives_none x y z ↦ ends_none (Far count full last) byte rest (further 31 (byte / 32 + 1) rest) x y (behind ∙ z)
-      | gives_some x ↦ ends_once (Far count full last) byte rest (drop (full + 1) rest) (further 31 (byte / 32 + 1) rest) refl x behind
+    rw far (elim (far_cut full 31 (byte / 32 + 1) rest missing padding in_range.1 (omega (arith, c.complete)) c.lacks r) [
+      | gives_none x y z ↦ ends_none x y (behind ∙ z)
+      | gives_some x ↦ ends_once refl x behind
     ])
 
 -- ---- whole data
@@ -254,55 +254,55 @@ unfolding treated_by
 treated_none zero method old = refl
 treated_none (suc n) method old = refl
 
-treated_step : (n : ℕ) (method : Method) (byte : ℕ) (rest old : List ℕ) (front : Front) → front_of method byte rest ≡ front
+treated_step : (n : ℕ) (method : Method) (byte : ℕ) (rest old : List ℕ) {front : Front} → front_of method byte rest ≡ front
     → treated_by (suc n) method (byte ∷ rest) old ≡ take front.offset old
     ++ (front.given ++ treated_by n method front.rest (drop (front.offset + length front.given) old))
 unfolding treated_by
-treated_step n method byte rest old front e =
+treated_step n method byte rest old {front} e =
     ap (λ (f : Front). take f.offset old ++ (f.given ++ treated_by n method f.rest (drop (f.offset + length f.given) old))) e
 
-treated_cut : (n : ℕ) (method : Method) (cut : Element) (shown missing old : List ℕ) → IsElement method cut
+treated_cut : (n : ℕ) {method : Method} {cut : Element} (shown missing old : List ℕ) → IsElement method cut
     → shown ++ missing ≡ element_bytes cut → 0 < length missing → length shown ≤ n
     → treated_by n method shown old ≡ after_element cut.head (drop (length (head_bytes cut.head)) shown) (λ more. more) old
-treated_cut n method cut [] missing old is e some fits =
+treated_cut n {method} {cut} [] missing old is e some fits =
     treated_none n method old
     ∙ sym (after_none cut.head (drop (length (head_bytes cut.head)) []) old (drop-nil (length (head_bytes cut.head))))
-treated_cut zero method cut (byte ∷ rest) missing old is e some fits = absurd (omega arith)
-treated_cut (suc n) method cut (byte ∷ rest) missing old is e some fits =
+treated_cut zero {method} {cut} (byte ∷ rest) missing old is e some fits = absurd (omega arith)
+treated_cut (suc n) {method} {cut} (byte ∷ rest) missing old is e some fits =
     let c : IsCut cut.head cut.bytes byte rest missing =
     record { in_range = is.head_is.in_range; complete = is.complete; joined = e; lacks = some } in
     let front = front_of (method_of cut.head) byte rest in
     let ends = cut_front cut.head cut.bytes byte rest missing c in
-    treated_step n method byte rest old front (ap (λ (m : Method). front_of m byte rest) (sym is.head_is.method_is))
+    treated_step n method byte rest old (ap (λ (m : Method). front_of m byte rest) (sym is.head_is.method_is))
     ∙ ap (λ (bytes : List ℕ). take front.offset old
     ++ (front.given ++ treated_by n method bytes (drop (front.offset + length front.given) old))) ends.no_more
     ∙ ap (λ (bs : List ℕ). take front.offset old ++ (front.given ++ bs))
     (treated_none n method (drop (front.offset + length front.given) old))
     ∙ ends.same old
 
-treated_first : (n : ℕ) (method : Method) (byte : ℕ) (rest old : List ℕ) (front : Front) → front_of method byte rest ≡ front → 0 < n
+treated_first : (n : ℕ) (method : Method) (byte : ℕ) (rest old : List ℕ) {front : Front} → front_of method byte rest ≡ front → 0 < n
     → treated_by n method (byte ∷ rest) old ≡ take front.offset old
     ++ (front.given ++ treated_by (n - 1) method front.rest (drop (front.offset + length front.given) old))
-treated_first zero method byte rest old front e some = absurd (omega arith)
-treated_first (suc n) method byte rest old front e some =
-    treated_step n method byte rest old front e
+treated_first zero method byte rest old {front} e some = absurd (omega arith)
+treated_first (suc n) method byte rest old {front} e some =
+    treated_step n method byte rest old e
     ∙ (let less : n ≡ suc n - 1 = omega arith in
     ap (λ (k : ℕ). take front.offset old ++ (front.given ++ treated_by k method front.rest (drop (front.offset + length front.given) old)))
     less)
 
 -- behind an element are fewer bytes
-behind_shorter : (e : Element) (more bytes : List ℕ) (method : Method) → IsElement method e → bytes ≡ element_bytes e ++ more
+behind_shorter : {e : Element} (more : List ℕ) {bytes : List ℕ} {method : Method} → IsElement method e → bytes ≡ element_bytes e ++ more
     → length more < length bytes
-behind_shorter e more bytes method is joined =
+behind_shorter {e} more {bytes} {method} is joined =
     omega (arith, ap length joined, length-append (element_bytes e) more, spelling_has_byte method e is)
 
-treated_is : (whole : List Element) (n : ℕ) (method : Method) (bytes : List ℕ) (cut : Element) (shown old : List ℕ)
+treated_is : (whole : List Element) {n : ℕ} {method : Method} {bytes : List ℕ} {cut : Element} {shown : List ℕ} (old : List ℕ)
     → IsCutIntoElements method bytes whole cut shown → length bytes ≤ n
     → treated_by n method bytes old ≡ treated whole cut shown old
-treated_is [] n method bytes cut shown old r fits =
+treated_is [] {n} {method} {bytes} {cut} {shown} old r fits =
     ap (λ (bs : List ℕ). treated_by n method bs old) r.joined
-    ∙ treated_cut n method cut shown r.lacking.0 old r.element r.lacking.1 r.lacking.2 (omega (arith, ap length r.joined))
-treated_is (e ∷ es) n method bytes cut shown old r fits =
+    ∙ treated_cut n shown r.lacking.0 old r.element r.lacking.1 r.lacking.2 (omega (arith, ap length r.joined))
+treated_is (e ∷ es) {n} {method} {bytes} {cut} {shown} old r fits =
     let more = flat_map element_bytes es ++ shown in
     let is = r.elements.0 in
     let front : Front = record { offset = offset_of e.head; given = given_by e.head e.bytes; rest = more } in
@@ -311,12 +311,12 @@ treated_is (e ∷ es) n method bytes cut shown old r fits =
     let split : bytes ≡ w.byte ∷ w.rest = joined ∙ w.split in
     let rest : IsCutIntoElements method more es cut shown =
     record { elements = r.elements.1; joined = refl; element = r.element; lacking = r.lacking } in
-    let shorter = behind_shorter e more bytes method is joined in
+    let shorter = behind_shorter more is joined in
     ap (λ (bs : List ℕ). treated_by n method bs old) split
-    ∙ treated_first n method w.byte w.rest old front
+    ∙ treated_first n method w.byte w.rest old
     (ap (λ (m : Method). front_of m w.byte w.rest) (sym is.head_is.method_is) ∙ w.front_is) (omega (arith, fits, ap length split))
     ∙ ap (λ (bs : List ℕ). take (offset_of e.head) old ++ (given_by e.head e.bytes ++ bs))
-    (treated_is es (n - 1) method more cut shown (drop (offset_of e.head + length (given_by e.head e.bytes)) old) rest
+    (treated_is es (drop (offset_of e.head + length (given_by e.head e.bytes)) old) rest
     (omega (arith, fits, shorter)))
 
 -- the row that Decodes holds of is the one that is computed
@@ -324,4 +324,4 @@ pub decoded_is : (method : Method) (seed bytes row : List ℕ) → Decodes metho
 unfolding decoded
 decoded_is method seed bytes row d =
     d.4 ∙ ap (take (length (base method seed)))
-    (sym (treated_is d.0 (length bytes) method bytes d.1 d.2 (base method seed) d.3 (omega arith)))
+    (sym (treated_is d.0 (base method seed) d.3 (omega arith)))

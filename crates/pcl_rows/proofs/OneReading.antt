@@ -11,9 +11,9 @@ use Rattle.pcl_rows.proofs.Spellings.{same_elements, cut_is_not_whole, same_head
 use Rattle.pcl_rows.proofs.Readings.{after_none}
 
 -- bytes that hold the whole head of a cut element
-with_head : (d : Element) (shown missing : List ℕ) → shown ++ missing ≡ element_bytes d → length (head_bytes d.head) ≤ length shown
+with_head : (d : Element) {shown : List ℕ} (missing : List ℕ) → shown ++ missing ≡ element_bytes d → length (head_bytes d.head) ≤ length shown
     → (tail : List ℕ) × (shown ≡ head_bytes d.head ++ tail)
-with_head d shown missing lacking long =
+with_head d {shown} missing lacking long =
     let n : ℕ = length (head_bytes d.head) in
     let front : take n shown ≡ head_bytes d.head =
     sym (take-append-le n shown missing long) ∙ ap (take n) lacking ∙ take_at (head_bytes d.head) d.bytes n refl in
@@ -24,25 +24,25 @@ abbrev cut_gives : Element → List ℕ → List ℕ → List ℕ
 cut_gives d shown old = after_element d.head (drop (length (head_bytes d.head)) shown) (λ rest. rest) old
 
 -- where the bytes hold the whole head of one of two
-one_head : (method : Method) (d e : Element) (shown missing missing' old : List ℕ) → IsElement method d → IsElement method e
+one_head : {method : Method} {d e : Element} (shown missing missing' old : List ℕ) → IsElement method d → IsElement method e
     → shown ++ missing ≡ element_bytes d → shown ++ missing' ≡ element_bytes e → length (head_bytes d.head) ≤ length shown
     → cut_gives d shown old ≡ cut_gives e shown old
-one_head method d e shown missing missing' old p q m m' long =
-    let t = with_head d shown missing m long in
+one_head {method} {d} {e} shown missing missing' old p q m m' long =
+    let t = with_head d missing m long in
     let same : head_bytes d.head ++ (t.0 ++ missing') ≡ head_bytes e.head ++ e.bytes =
     sym (append_assoc (head_bytes d.head) t.0 missing') ∙ ap (λ (b : List ℕ). b ++ missing') (sym t.1) ∙ m' in
-    let heads = (same_heads method d.head e.head (t.0 ++ missing') e.bytes p.head_is q.head_is same).0 in
+    let heads = (same_heads p.head_is q.head_is same).0 in
     ap (λ (h : Head). after_element h (drop (length (head_bytes h)) shown) (λ rest. rest) old) heads
 
 -- what a cut element gives doesn't depend on the bytes that it lacks
-cuts_agree : (method : Method) (d e : Element) (shown missing missing' old : List ℕ) → IsElement method d → IsElement method e
+cuts_agree : {method : Method} {d e : Element} (shown missing missing' old : List ℕ) → IsElement method d → IsElement method e
     → shown ++ missing ≡ element_bytes d → shown ++ missing' ≡ element_bytes e → cut_gives d shown old ≡ cut_gives e shown old
-cuts_agree method d e shown missing missing' old p q m m' =
+cuts_agree {method} {d} {e} shown missing missing' old p q m m' =
     elim (cases_lt (length shown) (length (head_bytes d.head))) [
-      | inr long ↦ one_head method d e shown missing missing' old p q m m' long
+      | inr long ↦ one_head shown missing missing' old p q m m' long
       | inl short ↦
           elim (cases_lt (length shown) (length (head_bytes e.head))) [
-            | inr long' ↦ sym (one_head method e d shown missing' missing old q p m' m long')
+            | inr long' ↦ sym (one_head shown missing' missing old q p m' m long')
             | inl short' ↦
                 after_none d.head (drop (length (head_bytes d.head)) shown) old (drop_all (length (head_bytes d.head)) shown (omega arith))
                 ∙ sym (after_none e.head (drop (length (head_bytes e.head)) shown) old
@@ -51,36 +51,36 @@ cuts_agree method d e shown missing missing' old p q m m' =
     ]
 
 -- bytes of one element at least, and bytes of a cut one alone
-one_is_longer : (method : Method) (e cut : Element) (es : List Element) (shown missing rest : List ℕ) → IsElement method e
+one_is_longer : {method : Method} {e cut : Element} (es : List Element) {shown : List ℕ} (missing rest : List ℕ) → IsElement method e
     → IsElement method cut → shown ++ missing ≡ element_bytes cut → 0 < length missing → shown ≡ flat_map element_bytes (e ∷ es) ++ rest → ⊥
-one_is_longer method e cut es shown missing rest p q m some same =
-    cut_is_not_whole method cut e shown missing (flat_map element_bytes es ++ rest) q p m some
+one_is_longer {method} {e} {cut} es {shown} missing rest p q m some same =
+    cut_is_not_whole missing (flat_map element_bytes es ++ rest) q p m some
     (same ∙ append_assoc (element_bytes e) (flat_map element_bytes es) rest)
 
 -- two readings treat a row alike
-readings_agree : (method : Method) (bytes : List ℕ) (whole whole' : List Element) (cut cut' : Element) (shown shown' old : List ℕ)
+readings_agree : (method : Method) (bytes : List ℕ) (whole whole' : List Element) {cut cut' : Element} {shown shown' : List ℕ} (old : List ℕ)
     → IsCutIntoElements method bytes whole cut shown → IsCutIntoElements method bytes whole' cut' shown'
     → treated whole cut shown old ≡ treated whole' cut' shown' old
-readings_agree method bytes [] [] cut cut' shown shown' old r r' =
+readings_agree method bytes [] [] {cut} {cut'} {shown} {shown'} old r r' =
     let same : shown ≡ shown' = sym r.joined ∙ r'.joined in
-    cuts_agree method cut cut' shown r.lacking.0 r'.lacking.0 old r.element r'.element r.lacking.1
+    cuts_agree shown r.lacking.0 r'.lacking.0 old r.element r'.element r.lacking.1
     (ap (λ (b : List ℕ). b ++ r'.lacking.0) same ∙ r'.lacking.1)
     ∙ ap (λ (b : List ℕ). cut_gives cut' b old) same
-readings_agree method bytes [] (e ∷ es) cut cut' shown shown' old r r' =
-    absurd (one_is_longer method e cut es shown r.lacking.0 shown' r'.elements.0 r.element r.lacking.1 r.lacking.2
+readings_agree method bytes [] (e ∷ es) {cut} {cut'} {shown} {shown'} old r r' =
+    absurd (one_is_longer es r.lacking.0 shown' r'.elements.0 r.element r.lacking.1 r.lacking.2
     (sym r.joined ∙ r'.joined))
-readings_agree method bytes (d ∷ ds) [] cut cut' shown shown' old r r' =
-    absurd (one_is_longer method d cut' ds shown' r'.lacking.0 shown r.elements.0 r'.element r'.lacking.1 r'.lacking.2
+readings_agree method bytes (d ∷ ds) [] {cut} {cut'} {shown} {shown'} old r r' =
+    absurd (one_is_longer ds r'.lacking.0 shown r.elements.0 r'.element r'.lacking.1 r'.lacking.2
     (sym r'.joined ∙ r.joined))
-readings_agree method bytes (d ∷ ds) (e ∷ es) cut cut' shown shown' old r r' =
+readings_agree method bytes (d ∷ ds) (e ∷ es) {cut} {cut'} {shown} {shown'} old r r' =
     let same =
-    same_elements method d e (flat_map element_bytes ds ++ shown) (flat_map element_bytes es ++ shown') r.elements.0 r'.elements.0
+    same_elements r.elements.0 r'.elements.0
     (sym (append_assoc (element_bytes d) (flat_map element_bytes ds) shown) ∙ sym r.joined ∙ r'.joined
     ∙ append_assoc (element_bytes e) (flat_map element_bytes es) shown') in
     let rest : List ℕ = flat_map element_bytes ds ++ shown in
     let behind : List ℕ = drop (stop d) old in
     readings_step d e (treated ds cut shown) (treated es cut' shown') old same.0
-    (readings_agree method rest ds es cut cut' shown shown' behind
+    (readings_agree method rest ds es behind
     (record { elements = r.elements.1; joined = refl; element = r.element; lacking = r.lacking })
     (record { elements = r'.elements.1; joined = same.1; element = r'.element; lacking = r'.lacking }))
   where
@@ -92,4 +92,4 @@ readings_agree method bytes (d ∷ ds) (e ∷ es) cut cut' shown shown' old r r'
 
 pub one_row : (method : Method) (bytes old row other : List ℕ) → RowFrom method bytes old row → RowFrom method bytes old other → row ≡ other
 one_row method bytes old row other f g =
-    f.4 ∙ ap (take (length old)) (readings_agree method bytes f.0 g.0 f.1 g.1 f.2 g.2 old f.3 g.3) ∙ sym g.4
+    f.4 ∙ ap (take (length old)) (readings_agree method bytes f.0 g.0 old f.3 g.3) ∙ sym g.4

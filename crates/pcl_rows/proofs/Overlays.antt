@@ -19,15 +19,15 @@ overlaid_within old place new fits = take_all _ _
     ))
 
 -- where they don't
-pub overlaid_past : (old : List ℕ) (place : ℕ) (new : List ℕ) → place ≤ length old → length old ≤ place + length new
+pub overlaid_past : (old : List ℕ) {place : ℕ} (new : List ℕ) → place ≤ length old → length old ≤ place + length new
     → overlaid old place new ≡ take (length old) (take place old ++ new)
-overlaid_past old place new within past =
+overlaid_past old {place} new within past =
     rw (← append_assoc)
     (take-append-le (length old) (take place old ++ new) (drop (place + length new) old)
     (omega (arith, length-append (take place old) new, length-take place old)))
 
-pub length-overlaid : (old : List ℕ) (place : ℕ) (new : List ℕ) → place ≤ length old → length (overlaid old place new) ≡ length old
-length-overlaid old place new within =
+pub length-overlaid : (old : List ℕ) {place : ℕ} (new : List ℕ) → place ≤ length old → length (overlaid old place new) ≡ length old
+length-overlaid old {place} new within =
     omega (
       arith,
       length-take (length old) (take place old ++ (new ++ drop (place + length new) old)),
@@ -41,9 +41,9 @@ pub overlaid-nil : (old : List ℕ) (place : ℕ) → place ≤ length old → o
 overlaid-nil old place within = overlaid_within old place [] (omega arith) ∙ (rw add-zero (take-append-drop place old))
 
 -- copies that are cut at the end of the list
-pub overlaid_copies : (old : List ℕ) (place copies fitting byte : ℕ) → place ≤ length old → fitting ≡ min copies (length old - place)
+pub overlaid_copies : (old : List ℕ) {place : ℕ} (copies : ℕ) {fitting : ℕ} (byte : ℕ) → place ≤ length old → fitting ≡ min copies (length old - place)
     → overlaid old place (replicate copies byte) ≡ take place old ++ (replicate fitting byte ++ drop (place + fitting) old)
-overlaid_copies old place copies fitting byte within e =
+overlaid_copies old {place} copies {fitting} byte within e =
     elim (cases_lt (length old) (place + copies)) [
       | inl past ↦
           let more : ℕ = copies - fitting in
@@ -58,7 +58,7 @@ overlaid_copies old place copies fitting byte within e =
             length-replicate fitting byte,
           ) in
           let none : drop (place + fitting) old ≡ [] = drop_all (place + fitting) old (omega arith) in
-          overlaid_past old place (replicate copies byte) within (omega (arith, length-replicate copies byte))
+          overlaid_past old (replicate copies byte) within (omega (arith, length-replicate copies byte))
           ∙ ap (λ (bs : List ℕ). take (length old) (take place old ++ bs)) parts
           ∙ ap (take (length old)) (sym (append_assoc (take place old) (replicate fitting byte) (replicate more byte)))
           ∙ take_at (take place old ++ replicate fitting byte) (replicate more byte) (length old) size
@@ -74,17 +74,17 @@ once_each : (bytes : List ℕ) → flat_map (λ byte. replicate 1 byte) bytes �
 once_each [] = refl
 once_each (byte ∷ bytes) = ap (λ (rest : List ℕ). byte ∷ rest) (once_each bytes)
 
-pub copied_once : (copies : ℕ) (bytes : List ℕ) → copies ≡ 1 → flat_map (λ byte. replicate copies byte) bytes ≡ bytes
-copied_once copies bytes once = ap (λ (k : ℕ). flat_map (λ byte. replicate k byte) bytes) once ∙ once_each bytes
+pub copied_once : {copies : ℕ} (bytes : List ℕ) → copies ≡ 1 → flat_map (λ byte. replicate copies byte) bytes ≡ bytes
+copied_once {copies} bytes once = ap (λ (k : ℕ). flat_map (λ byte. replicate k byte) bytes) once ∙ once_each bytes
 
 -- what lies behind the new bytes
-pub drop-overlaid : (old : List ℕ) (place : ℕ) (new : List ℕ) → place ≤ length old
+pub drop-overlaid : (old : List ℕ) {place : ℕ} (new : List ℕ) → place ≤ length old
     → drop (min (length old) (place + length new)) (overlaid old place new) ≡ drop (place + length new) old
-drop-overlaid old place new within =
+drop-overlaid old {place} new within =
     elim (cases_lt (length old) (place + length new)) [
       | inl past ↦
           let end : min (length old) (place + length new) ≡ length old = omega arith in
-          rw end (drop_all (length old) (overlaid old place new) (omega (arith, length-overlaid old place new within))
+          rw end (drop_all (length old) (overlaid old place new) (omega (arith, length-overlaid old new within))
           ∙ sym (drop_all (place + length new) old (omega arith)))
       | inr fits ↦
           let end : min (length old) (place + length new) ≡ place + length new = omega arith in
@@ -96,14 +96,14 @@ drop-overlaid old place new within =
     ]
 
 -- what stands before it, followed by anything and cut at the length
-pub take-overlaid : (old : List ℕ) (place : ℕ) (new rest : List ℕ) → place ≤ length old
+pub take-overlaid : (old : List ℕ) {place : ℕ} (new rest : List ℕ) → place ≤ length old
     → take (length old) (take (min (length old) (place + length new)) (overlaid old place new) ++ rest)
     ≡ take (length old) (take place old ++ (new ++ rest))
-take-overlaid old place new rest within =
+take-overlaid old {place} new rest within =
     elim (cases_lt (length old) (place + length new)) [
       | inl past ↦
           let end : min (length old) (place + length new) ≡ length old = omega arith in
-          let laid = overlaid_past old place new within (omega arith) in
+          let laid = overlaid_past old new within (omega arith) in
           let size : length (take (length old) (take place old ++ new)) ≡ length old =
           omega (arith, length-take (length old) (take place old ++ new), length-append (take place old) new, length-take place old) in
           rw (end, laid)
@@ -125,18 +125,18 @@ take-overlaid old place new rest within =
     ]
 
 -- one list after another
-pub overlaid-overlaid : (old : List ℕ) (place : ℕ) (first second : List ℕ) → place ≤ length old
+pub overlaid-overlaid : (old : List ℕ) {place : ℕ} (first second : List ℕ) → place ≤ length old
     → overlaid (overlaid old place first) (min (length old) (place + length first)) second ≡ overlaid old place (first ++ second)
-overlaid-overlaid old place first second within =
+overlaid-overlaid old {place} first second within =
     let middle : List ℕ = overlaid old place first in
     let end : ℕ = min (length old) (place + length first) in
     let rest : drop (end + length second) middle ≡ drop (place + length (first ++ second)) old =
     sym (drop-drop (length second) end middle)
-    ∙ ap (drop (length second)) (drop-overlaid old place first within)
+    ∙ ap (drop (length second)) (drop-overlaid old first within)
     ∙ drop-drop (length second) (place + length first) old
     ∙ ap (λ (n : ℕ). drop n old) (omega (arith, length-append first second)) in
-    ap (λ (n : ℕ). take n (take end middle ++ (second ++ drop (end + length second) middle))) (length-overlaid old place first within)
-    ∙ take-overlaid old place first (second ++ drop (end + length second) middle) within
+    ap (λ (n : ℕ). take n (take end middle ++ (second ++ drop (end + length second) middle))) (length-overlaid old first within)
+    ∙ take-overlaid old first (second ++ drop (end + length second) middle) within
     ∙ ap (λ (bs : List ℕ). take (length old) (take place old ++ bs)) (sym (append_assoc first second (drop (end + length second) middle)))
     ∙ ap (λ (bs : List ℕ). take (length old) (take place old ++ (first ++ second ++ bs))) rest
 
@@ -144,32 +144,32 @@ overlaid-overlaid old place first second within =
 abbrev pub copied : ℕ → ℕ → List ℕ → List ℕ
 copied copies count bytes = flat_map (λ byte. replicate copies byte) (take count bytes)
 
-copied_more : (copies i : ℕ) (bytes : List ℕ) → i < length bytes
+copied_more : (copies : ℕ) {i : ℕ} (bytes : List ℕ) → i < length bytes
     → copied copies (i + 1) bytes ≡ copied copies i bytes ++ replicate copies (get_or bytes i 0)
-copied_more copies i bytes within =
+copied_more copies {i} bytes within =
     ap (flat_map (λ byte. replicate copies byte)) (take_more bytes i 0 within)
     ∙ flat_map-append (λ byte. replicate copies byte) (take i bytes) (get_or bytes i 0 ∷ [])
     ∙ ap (λ (bs : List ℕ). copied copies i bytes ++ bs) (append-nil (replicate copies (get_or bytes i 0)))
 
 -- one more byte
-pub put_more : (old row : List ℕ) (start place copies i : ℕ) (bytes new : List ℕ) (end : ℕ) → start ≤ length old → i < length bytes
+pub put_more : (old : List ℕ) {row : List ℕ} {start place : ℕ} (copies : ℕ) {i : ℕ} (bytes : List ℕ) {new : List ℕ} {end : ℕ} → start ≤ length old → i < length bytes
     → row ≡ overlaid old start (copied copies i bytes) → place ≡ min (length old) (start + length (copied copies i bytes))
     → new ≡ overlaid row place (replicate copies (get_or bytes i 0)) → end ≡ min (length row) (place + copies)
     → (new ≡ overlaid old start (copied copies (i + 1) bytes)) × (end ≡ min (length old) (start + length (copied copies (i + 1) bytes)))
-put_more old row start place copies i bytes new end within more row-is place-is new-is end-is =
+put_more old {row} {start} {place} copies {i} bytes {new} {end} within more row-is place-is new-is end-is =
     let before : List ℕ = copied copies i bytes in
     let last : List ℕ = replicate copies (get_or bytes i 0) in
-    let grown = copied_more copies i bytes more in
+    let grown = copied_more copies bytes more in
     let same : new ≡ overlaid (overlaid old start before) (min (length old) (start + length before)) last =
     new-is ∙ ap (λ (r : List ℕ). overlaid r place last) row-is
     ∙ ap (λ (p : ℕ). overlaid (overlaid old start before) p last) place-is in (
-      same ∙ overlaid-overlaid old start before last within ∙ ap (overlaid old start) (sym grown),
+      same ∙ overlaid-overlaid old before last within ∙ ap (overlaid old start) (sym grown),
       omega (
         arith,
         end-is,
         place-is,
         ap length row-is,
-        length-overlaid old start before within,
+        length-overlaid old before within,
         ap length grown,
         length-append before last,
         length-replicate copies (get_or bytes i 0),

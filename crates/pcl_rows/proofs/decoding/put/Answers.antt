@@ -5,18 +5,17 @@ use Rattle.pcl_rows.proofs.decoding.put.Goals as goal
 
 pub loop-byte-preserved : goal.loop-byte-preserved
 loop-byte-preserved c =
-    let step = put_more c.args.row.now c.loop-byte.row c.args.start c.loop-byte.place c.args.copies c.loop-byte.byte-index c.args.bytes.now
-    c.put_copies-place.new.row c.put_copies-place.result c.requires c.loop-byte-test.true c.loop-byte.invariant.row
+    let step = put_more c.args.row.now c.args.copies c.args.bytes.now c.requires c.loop-byte-test.true c.loop-byte.invariant.row
     c.loop-byte.invariant.place c.put_copies-place.ensures.row c.put_copies-place.ensures.end in
     record { row = step.0; place = step.1 }
 
 pub returns-then-copies-eq1-clause-row : goal.returns-then-copies-eq1-clause-row
 returns-then-copies-eq1-clause-row c =
     c.put_bytes.ensures.row ∙ ap (overlaid c.args.row.now c.args.start)
-    (sym (copied_once c.args.copies c.args.bytes.now c.if-copies-eq1.true))
+    (sym (copied_once c.args.bytes.now c.if-copies-eq1.true))
 
 pub returns-then-copies-eq1-clause-end : goal.returns-then-copies-eq1-clause-end
 returns-then-copies-eq1-clause-end c =
     c.put_bytes.ensures.end
     ∙ ap (λ (bs : List ℕ). min (length c.args.row.now) (c.args.start + length bs))
-    (sym (copied_once c.args.copies c.args.bytes.now c.if-copies-eq1.true))
+    (sym (copied_once c.args.bytes.now c.if-copies-eq1.true))

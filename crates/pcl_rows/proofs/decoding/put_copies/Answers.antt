@@ -14,4 +14,4 @@ returns-clause-row c =
     let part : c.args.place + n - c.args.place ≡ n = omega arith in
     rw (filled, part)
     (ap (λ (bs : List ℕ). take c.args.place row ++ (replicate n c.args.byte ++ bs)) (drop-drop n c.args.place row)
-    ∙ sym (overlaid_copies row c.args.place c.args.copies n c.args.byte c.requires c.min.ensures))
+    ∙ sym (overlaid_copies row c.args.copies c.args.byte c.requires c.min.ensures))

@@ -12,9 +12,7 @@ loop-rest-preserved c =
     let front = c.read-front.result in
     record {
       within = omega (arith, c.put-place.ensures.end, c.put-place.auto.row);
-      treated = treated_more c.args.method c.args.bytes.now c.args.row.now c.loop-rest.rest.now c.loop-rest.row c.loop-rest.place
-          c.skip-place.result
-          front.offset front.copies front.bytes.now front.rest.now front.is_whole c.put-place.new.row c.put-place.result
+      treated = treated_more c.loop-rest.row
           c.loop-rest.auto.row c.loop-rest.invariant.within c.skip-place.ensures c.read-front.ensures.front c.put-place.ensures.row
           c.put-place.ensures.end c.loop-rest.invariant.treated;
     }
@@ -24,13 +22,13 @@ loop-rest-smaller c =
     let front = c.read-front.result in
     let some : 0 < length c.loop-rest.rest.now =
     omega (arith, eqb-false (length c.loop-rest.rest.now) 0 (sym c.is_empty.ensures ∙ c.loop-rest-test.true)) in
-    rest_shorter c.args.method c.loop-rest.rest.now front.offset front.copies front.bytes.now front.rest.now front.is_whole some
+    rest_shorter some
     c.read-front.ensures.front
 
 pub returns : goal.returns
 returns c =
     let none : c.loop-rest.rest.now ≡ [] =
     nil_from_length c.loop-rest.rest.now (eqb-true (length c.loop-rest.rest.now) 0 (sym c.is_empty.ensures ∙ c.loop-rest-test.false)) in
-    treated_all c.args.method c.args.bytes.now c.args.row.now c.loop-rest.row c.loop-rest.place c.loop-rest.auto.row
+    treated_all c.loop-rest.place c.loop-rest.auto.row
     (subst (λ (rest : List ℕ). IsTreatedTo c.args.method c.args.bytes.now c.args.row.now rest c.loop-rest.row c.loop-rest.place) none
     c.loop-rest.invariant.treated)

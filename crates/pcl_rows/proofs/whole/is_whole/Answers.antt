@@ -12,8 +12,7 @@ loop-rest-preserved c =
     let front : IsFront c.args.method c.loop-rest.rest.now f.offset f.copies f.bytes.now f.rest.now true =
     subst (IsFront c.args.method c.loop-rest.rest.now f.offset f.copies f.bytes.now f.rest.now) c.if-not-front.false
     c.read-front.ensures.front in
-    whole_more c.args.method c.args.bytes.now c.loop-rest.rest.now c.args.row_bytes c.loop-rest.room f.offset f.copies _ f.bytes.now
-    f.rest.now front refl c.if-room-stop.false c.loop-rest.invariant
+    whole_more front refl c.if-room-stop.false c.loop-rest.invariant
 
 pub returns-then-not-front : goal.returns-then-not-front
 returns-then-not-front c =
@@ -23,10 +22,10 @@ returns-then-not-front c =
     let never : IsWhole c.args.method rest c.loop-rest.room → ⊥ =
     elim c.then-not-front.branch [
       | then-not-front-via-then-not-front w ↦
-          λ h. whole_cut c.args.method rest c.loop-rest.room f.offset f.copies f.bytes.now f.rest.now some
+          λ h. whole_cut some
           (subst (IsFront c.args.method rest f.offset f.copies f.bytes.now f.rest.now) w.if-not-front.true c.read-front.ensures.front) h
       | then-not-front-via-else-not-front+then-room-stop w ↦
-          λ h. whole_past c.args.method rest c.loop-rest.room f.offset f.copies _ f.bytes.now f.rest.now
+          λ h. whole_past _
           (subst (IsFront c.args.method rest f.offset f.copies f.bytes.now f.rest.now) w.if-not-front.false c.read-front.ensures.front)
           refl w.if-room-stop.true h
     ] in

@@ -10,8 +10,7 @@ returns-clause-front c =
       head_is = opens.head_is;
       offset_is = opens.offset_is;
       copies_is = opens.copies_is;
-      parts = front_read c.args.bytes.now opens.head c.saturating_sub-room.result c.min-count.result c.read-opening.result.new_count
-          c.split_at.result.1.now c.split_at-2.result.0.now c.split_at-2.result.1.now c.requires opens.begins
+      parts = front_read c.args.bytes.now opens.head c.requires opens.begins
           (omega (arith, opens.len_is)) (omega (arith, opens.count_is)) opens.count_is
           c.split_at.ensures.back c.split_at-2.ensures.front c.split_at-2.ensures.back;
     }
