@@ -25,10 +25,10 @@ spread_at_bits row wide s index m some bits small =
     let turned : 8 * (index / s) * s ≡ 8 * (index / s * s) = omega arith in
     let rest : 8 * index + m - 8 * (index / s) * s ≡ 8 * (index % s) + m = omega arith in
     let place : (8 * index + m) / s ≡ 8 * (index / s) + (8 * (index % s) + m) / s =
-    quotient_moved s (8 * (index / s)) (8 * index + m) some (omega arith) ∙ ap (λ n. 8 * (index / s) + n / s) rest in
+    quotient_moved (8 * (index / s)) some (omega arith) ∙ ap (λ n. 8 * (index / s) + n / s) rest in
     let inside : (8 * (index % s) + m) / s < 8 = div_below (8 * (index % s) + m) s 8 some (omega arith) in
     part_bits wide (get_or row j 0) s part some short bits m small
-    ∙ sym (dot_at row ((8 * index + m) / s) j ((8 * part + m) / s) inside place)
+    ∙ sym (dot_at row j inside place)
 
 -- eight dots of a spread row, which two of its bytes hold
 pub window_bits :
@@ -41,11 +41,11 @@ window_bits row p q s start k fits first second small =
     elim (cases_lt k (8 - start % 8)) [
       | inl low ↦
           let place : 8 * (start / 8) + (8 + k - (8 - start % 8)) ≡ start + k = omega arith in
-          bit_of_byte-first p q (8 - start % 8) k fits low (omega arith)
+          bit_of_byte-first p fits low (omega arith)
           ∙ first (8 + k - (8 - start % 8)) (omega arith) ∙ ap (λ n. dot_of_row row (n / s)) place
       | inr high ↦
           let place : 8 * (start / 8 + 1) + (k - (8 - start % 8)) ≡ start + k = omega arith in
-          bit_of_byte-second p q (8 - start % 8) k high small
+          bit_of_byte-second p q high small
           ∙ second (k - (8 - start % 8)) (omega arith) ∙ ap (λ n. dot_of_row row (n / s)) place
     ]
 
@@ -59,7 +59,7 @@ dots_more now i v k f within bits above reach =
       | inl same ↦
           let here : k ≡ 8 * i + k % 8 = omega arith in
           let small : k % 8 < 8 = omega arith in
-          dot_at (set now i v) k i (k % 8) small here
+          dot_at (set now i v) i small here
           ∙ ap (λ n. bit_of_byte n (k % 8)) (get_or-set_same now i v 0 within)
           ∙ bits (k % 8) small ∙ ap f (sym here)
       | inr other ↦
@@ -81,11 +81,11 @@ run_or_at source r x w i px py p d wide within bits =
     let from : ℕ = 8 * (i * r) + x in
     let k : ℕ = 8 * (py * r) + px in
     let before : k < from → (run_dot from (from + w) source k || d) ≡ (if in_run from (from + w) k then p || d else d) = λ early.
-    ap (λ t. t || d) (run_dot-before from (from + w) source k early)
-    ∙ ap (λ t. if t then p || d else d) (sym (in_run-before from (from + w) k early)) in
+    ap (λ t. t || d) (run_dot-before (from + w) source early)
+    ∙ ap (λ t. if t then p || d else d) (sym (in_run-before (from + w) early)) in
     let past : from + w ≤ k → (run_dot from (from + w) source k || d) ≡ (if in_run from (from + w) k then p || d else d) = λ late.
-    ap (λ t. t || d) (run_dot-past from (from + w) source k late)
-    ∙ ap (λ t. if t then p || d else d) (sym (in_run-past from (from + w) k late)) in
+    ap (λ t. t || d) (run_dot-past from source late)
+    ∙ ap (λ t. if t then p || d else d) (sym (in_run-past from late)) in
     elim (cases_order py i) [
       | inl level ↦
           let same : py * r ≡ i * r = ap (λ n. n * r) level in
@@ -115,19 +115,19 @@ no_rows x y w px py =
     ]
 
 -- the bytes that were written to the front of a list
-pub seen_dots : (dots new : List ℕ) (n k : ℕ) → length new ≡ n → k < 8 * n → dot_of_row (take n (new ++ drop n dots)) k ≡ dot_of_row new k
-seen_dots dots new n k long h =
-    take_dots n (new ++ drop n dots) k h
+pub seen_dots : (dots new : List ℕ) {n k : ℕ} → length new ≡ n → k < 8 * n → dot_of_row (take n (new ++ drop n dots)) k ≡ dot_of_row new k
+seen_dots dots new {n} {k} long h =
+    take_dots n (new ++ drop n dots) h
     ∙ ap (λ b. bit_of_byte b (k % 8)) (get_or_append_left new (drop n dots) 0 (k / 8) (omega arith))
 
 -- how the code cuts an edge: at `start` on the page, `skip` dots before the page
-pub dots_past-in : (edge : ℤ) (start skip p : ℕ) → start ≤ p
+pub dots_past-in : (edge : ℤ) {start : ℕ} (skip : ℕ) {p : ℕ} → start ≤ p
     → dots_past edge p ≡ (if nat_le start p then Some (p + skip - start) else None) → dots_past edge p ≡ Some (p + skip - start)
-dots_past-in edge start skip p h e = e ∙ ap (λ t. if t then Some (p + skip - start) else None) (le-leb start p h)
+dots_past-in edge {start} skip {p} h e = e ∙ ap (λ t. if t then Some (p + skip - start) else None) (le-leb start p h)
 
-pub dots_past-out : (edge : ℤ) (start skip p : ℕ) → p < start
+pub dots_past-out : (edge : ℤ) {start : ℕ} (skip : ℕ) {p : ℕ} → p < start
     → dots_past edge p ≡ (if nat_le start p then Some (p + skip - start) else None) → dots_past edge p ≡ None
-dots_past-out edge start skip p h e = e ∙ ap (λ t. if t then Some (p + skip - start) else None) (lt-leb start p h)
+dots_past-out edge {start} skip {p} h e = e ∙ ap (λ t. if t then Some (p + skip - start) else None) (lt-leb start p h)
 
 no_row : (s w h : ℕ) (rows : List ℕ) (across : Option ℕ) → pattern_bit s w h rows across None ≡ false
 no_row s w h rows None = refl
@@ -158,7 +158,7 @@ same_end :
     (p start skip s n limit w : ℕ) → 1 ≤ s → start ≤ p → p < limit → w ≡ min (n * s - skip) (limit - start)
     → nat_lt p (start + w) ≡ nat_lt ((p + skip - start) / s) n
 same_end p start skip s n limit w some since within e =
-    same_test p (start + w) ((p + skip - start) / s) n
+    same_test
     (λ inside. div_below (p + skip - start) s n some (omega arith))
     (λ in_row. elim (cases_lt (p + skip - start) (n * s)) [
       | inl inside ↦ omega arith
@@ -180,11 +180,11 @@ seen_pattern x y left top skip_x skip_y wide high w h s n width height px py row
     elim (cases_lt px left) [
       | inl before ↦
           ap (λ t. if t then p || d else d) (left_of left top w h px py before)
-          ∙ ap (λ t. t || d) (sym (pattern_dot-left x y s width height rows px py (dots_past-out x left skip_x px before e_x)))
+          ∙ ap (λ t. t || d) (sym (pattern_dot-left x y s width height rows px py (dots_past-out x skip_x before e_x)))
       | inr right ↦ elim (cases_lt py top) [
         | inl above ↦
             ap (λ t. if t then p || d else d) (above_of left top w h px py above)
-            ∙ ap (λ t. t || d) (sym (pattern_dot-above x y s width height rows px py (dots_past-out y top skip_y py above e_y)))
+            ∙ ap (λ t. t || d) (sym (pattern_dot-above x y s width height rows px py (dots_past-out y skip_y above e_y)))
         | inr below ↦
             let across : ℕ = px + skip_x - left in
             let down : ℕ = py + skip_y - top in
@@ -204,8 +204,8 @@ seen_pattern x y left top skip_x skip_y wide high w h s n width height px py row
             ∙ ap (λ t. if true && t && true && nat_lt py (top + h) then bit across down || d else d) inside_x
             ∙ ap (λ t. if true && nat_lt (across / s) width && true && t then bit across down || d else d) inside_y
             ∙ both_tests (nat_lt (across / s) width) (nat_lt (down / s) height) (bit across down) d
-            ∙ ap (λ t. pattern_bit s width height rows t (Some down) || d) (sym (dots_past-in x left skip_x px right e_x))
-            ∙ ap (λ t. pattern_bit s width height rows (dots_past x px) t || d) (sym (dots_past-in y top skip_y py below e_y))
+            ∙ ap (λ t. pattern_bit s width height rows t (Some down) || d) (sym (dots_past-in x skip_x right e_x))
+            ∙ ap (λ t. pattern_bit s width height rows (dots_past x px) t || d) (sym (dots_past-in y skip_y below e_y))
       ]
     ]
 
@@ -225,6 +225,6 @@ pub pattern_off :
     → px < wide → py < high → pattern_dot x y s w h rows px py ≡ false
 pattern_off x y left top skip_x skip_y wide high s w h px py rows off e_x e_y within on_page =
     elim off [
-      | inl right ↦ pattern_dot-left x y s w h rows px py (dots_past-out x left skip_x px (omega arith) e_x)
-      | inr below ↦ pattern_dot-above x y s w h rows px py (dots_past-out y top skip_y py (omega arith) e_y)
+      | inl right ↦ pattern_dot-left x y s w h rows px py (dots_past-out x skip_x (omega arith) e_x)
+      | inr below ↦ pattern_dot-above x y s w h rows px py (dots_past-out y skip_y (omega arith) e_y)
     ]

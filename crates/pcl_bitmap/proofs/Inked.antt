@@ -17,15 +17,15 @@ use Rattle.pcl_bitmap.proofs.Pictures.{picture_of, wide_rows}
 pub in_run-in : (from end k : ℕ) → from ≤ k → k < end → in_run from end k ≡ true
 in_run-in from end k p q = rw (le-leb from k p, lt-ltb k end q) refl
 
-pub in_run-before : (from end k : ℕ) → k < from → in_run from end k ≡ false
-in_run-before from end k h = and_left (nat_le from k) (nat_lt k end) (lt-leb from k h)
+pub in_run-before : {from : ℕ} (end : ℕ) {k : ℕ} → k < from → in_run from end k ≡ false
+in_run-before {from} end {k} h = and_left (nat_le from k) (nat_lt k end) (lt-leb from k h)
 
-pub in_run-past : (from end k : ℕ) → end ≤ k → in_run from end k ≡ false
-in_run-past from end k h = and_right (nat_le from k) (nat_lt k end) (le-ltb k end h)
+pub in_run-past : (from : ℕ) {end k : ℕ} → end ≤ k → in_run from end k ≡ false
+in_run-past from {end} {k} h = and_right (nat_le from k) (nat_lt k end) (le-ltb k end h)
 
 -- two tests that agree
-pub same_least : (a k b m : ℕ) → (a ≤ k → b ≤ m) → (b ≤ m → a ≤ k) → nat_le a k ≡ nat_le b m
-same_least a k b m f g =
+pub same_least : {a k b m : ℕ} → (a ≤ k → b ≤ m) → (b ≤ m → a ≤ k) → nat_le a k ≡ nat_le b m
+same_least {a} {k} {b} {m} f g =
     elim (cases_lt k a) [
       | inl h ↦
           let less : m < b = elim (cases_lt m b) [ inl less ↦ less | inr least ↦ absurd (let no : a ≤ k = g least in omega arith) ] in
@@ -34,12 +34,12 @@ same_least a k b m f g =
     ]
 
 -- one bit that is turned
-turned_is_one : (u : ℕ) → u < 2 → nat_eq (1 - u) 1 ≡ (if nat_eq u 1 then false else true)
-turned_is_one u h = grind (arith, nat_tests)
+turned_is_one : {u : ℕ} → u < 2 → nat_eq (1 - u) 1 ≡ (if nat_eq u 1 then false else true)
+turned_is_one {u} h = grind (arith, nat_tests)
 
-bit_of_byte-not : (n k : ℕ) → n < 256 → k < 8 → bit_of_byte (255 - n) k ≡ (if bit_of_byte n k then false else true)
-bit_of_byte-not n k h small =
-    ap (λ u. nat_eq u 1) (bit_at_not w8 n (7 - k) h (omega arith)) ∙ turned_is_one (bit_at n (7 - k)) (bit_at-lt n (7 - k))
+bit_of_byte-not : {n k : ℕ} → n < 256 → k < 8 → bit_of_byte (255 - n) k ≡ (if bit_of_byte n k then false else true)
+bit_of_byte-not {n} {k} h small =
+    ap (λ u. nat_eq u 1) (bit_at_not w8 n (7 - k) h (omega arith)) ∙ turned_is_one (bit_at-lt n (7 - k))
 
 and_true : (t : Bool) → (t && true) ≡ t
 and_true true = refl
@@ -53,11 +53,11 @@ pub mask_bit :
 mask_bit a b from end k byte small upper lower =
     bit_of_byte-and a (255 - b) k
     ∙ ap (λ t. t && bit_of_byte (255 - b) k) upper
-    ∙ ap (λ t. nat_lt k end && t) (bit_of_byte-not b k byte small ∙ ap (λ t. if t then false else true) lower)
+    ∙ ap (λ t. nat_lt k end && t) (bit_of_byte-not byte small ∙ ap (λ t. if t then false else true) lower)
     ∙ (elim (cases_lt k from) [
       | inl early ↦
           ap (λ t. nat_lt k end && (if t then false else true)) (lt-ltb k from early)
-          ∙ and_right (nat_lt k end) false refl ∙ sym (in_run-before from end k early)
+          ∙ and_right (nat_lt k end) false refl ∙ sym (in_run-before end early)
       | inr late ↦
           ap (λ t. nat_lt k end && (if t then false else true)) (le-ltb k from late)
           ∙ and_true (nat_lt k end) ∙ ap (λ t. t && nat_lt k end) (sym (le-leb from k late))
@@ -75,8 +75,8 @@ and_is_white true false = refl
 and_is_white false true = refl
 and_is_white false false = refl
 
-pub black_bit : (byte m k : ℕ) (t : Bool) → bit_of_byte m k ≡ t → bit_of_byte (bit_or byte m) k ≡ (if t then true else bit_of_byte byte k)
-black_bit byte m k t h =
+pub black_bit : (byte m k : ℕ) {t : Bool} → bit_of_byte m k ≡ t → bit_of_byte (bit_or byte m) k ≡ (if t then true else bit_of_byte byte k)
+black_bit byte m k {t} h =
     bit_of_byte-or byte m k ∙ or_is_black (bit_of_byte byte k) (bit_of_byte m k) ∙ ap (λ u. if u then true else bit_of_byte byte k) h
 
 pub white_bit :
@@ -84,7 +84,7 @@ pub white_bit :
     → bit_of_byte (bit_and byte (255 - m)) k ≡ (if t then false else bit_of_byte byte k)
 white_bit byte m k t in_byte small h =
     bit_of_byte-and byte (255 - m) k
-    ∙ ap (λ u. bit_of_byte byte k && u) (bit_of_byte-not m k in_byte small)
+    ∙ ap (λ u. bit_of_byte byte k && u) (bit_of_byte-not in_byte small)
     ∙ and_is_white (bit_of_byte byte k) (bit_of_byte m k) ∙ ap (λ u. if u then false else bit_of_byte byte k) h
 
 -- a run and the run behind it
@@ -96,10 +96,10 @@ pub runs_joined :
 runs_joined from m end k b d0 d1 d2 p q e1 e2 =
     elim (cases_lt k m) [
       | inl early ↦
-          e2 ∙ ap (λ t. if t then b else d1) (in_run-before m end k early) ∙ e1
-          ∙ ap (λ t. if nat_le from k && t then b else d0) (same_test k m k end (λ h. omega arith) (λ h. early))
+          e2 ∙ ap (λ t. if t then b else d1) (in_run-before end early) ∙ e1
+          ∙ ap (λ t. if nat_le from k && t then b else d0) (same_test (λ h. omega arith) (λ h. early))
       | inr late ↦
-          e2 ∙ ap (λ t. if in_run m end k then b else t) (e1 ∙ ap (λ t. if t then b else d0) (in_run-past from m k late))
+          e2 ∙ ap (λ t. if in_run m end k then b else t) (e1 ∙ ap (λ t. if t then b else d0) (in_run-past from late))
           ∙ ap (λ t. if t && nat_lt k end then b else d0) (le-leb m k late ∙ sym (le-leb from k (omega arith)))
     ]
 
@@ -111,13 +111,13 @@ pub run_in_row :
 run_in_row r x w i px py wide within level =
     let same : py * r ≡ i * r = ap (λ n. n * r) level in
     ap (λ t. t && nat_lt (8 * (py * r) + px) (8 * (i * r) + x + w))
-    (same_least (8 * (i * r) + x) (8 * (py * r) + px) x px (λ h. omega arith) (λ h. omega arith))
+    (same_least (λ h. omega arith) (λ h. omega arith))
     ∙ ap (λ t. nat_le x px && t)
-    (same_test (8 * (py * r) + px) (8 * (i * r) + x + w) px (x + w) (λ h. omega arith) (λ h. omega arith))
+    (same_test (λ h. omega arith) (λ h. omega arith))
 
-level_row : (a s t : Bool) → s ≡ true → t ≡ true → (a && s && t) ≡ a
-level_row true s t p q = rw (p, q) refl
-level_row false s t p q = refl
+level_row : (a : Bool) {s t : Bool} → s ≡ true → t ≡ true → (a && s && t) ≡ a
+level_row true {s} {t} p q = rw (p, q) refl
+level_row false {s} {t} p q = refl
 
 -- the rows of a rectangle up to row i, and then row i
 pub row_added :
@@ -134,35 +134,35 @@ row_added r x y w i px py g d0 d1 d2 wide within start e1 e2 =
           and_right (here && nat_le y py) (nat_lt py (y + (i - y))) (le-ltb py (y + (i - y)) (omega arith)) in
           e2 ∙ ap (λ t. if t then g d1 else d1) (run_in_row r x w i px py wide within level)
           ∙ ap (λ t. if here then g t else t) (e1 ∙ ap (λ t. if t then g d0 else d0) before)
-          ∙ ap (λ t. if t then g d0 else d0) (sym (level_row here (nat_le y py) (nat_lt py (y + (i + 1 - y)))
+          ∙ ap (λ t. if t then g d0 else d0) (sym (level_row here
           (le-leb y py (omega arith)) (lt-ltb py (y + (i + 1 - y)) (omega arith))))
       | inr (inl above) ↦
           e2
           ∙ ap (λ t. if t then g d1 else d1)
-          (in_run-before (8 * (i * r) + x) (8 * (i * r) + x + w) (8 * (py * r) + px) (omega (arith, rows_apart py i r above)))
+          (in_run-before (8 * (i * r) + x + w) (omega (arith, rows_apart py i r above)))
           ∙ e1
           ∙ ap (λ t. if here && nat_le y py && t then g d0 else d0)
-          (same_test py (y + (i - y)) py (y + (i + 1 - y)) (λ h. omega arith) (λ h. omega arith))
+          (same_test (λ h. omega arith) (λ h. omega arith))
       | inr (inr below) ↦
           e2
           ∙ ap (λ t. if t then g d1 else d1)
-          (in_run-past (8 * (i * r) + x) (8 * (i * r) + x + w) (8 * (py * r) + px) (omega (arith, rows_apart i py r below)))
+          (in_run-past (8 * (i * r) + x) (omega (arith, rows_apart i py r below)))
           ∙ e1
           ∙ ap (λ t. if here && nat_le y py && t then g d0 else d0)
-          (same_test py (y + (i - y)) py (y + (i + 1 - y)) (λ h. omega arith) (λ h. omega arith))
+          (same_test (λ h. omega arith) (λ h. omega arith))
     ]
 
 -- an empty run has no bit, so two of them agree
 no_run : (a k : ℕ) → in_run a a k ≡ false
 no_run a k =
     elim (cases_lt k a) [
-      | inl before ↦ in_run-before a a k before
-      | inr past ↦ in_run-past a a k past
+      | inl before ↦ in_run-before a before
+      | inr past ↦ in_run-past a past
     ]
 
 -- a run between places where a byte begins, or an empty one, is that of the bytes
-pub whole_run : (a b k : ℕ) → ((a ≡ b → ⊥) → (8 * (a / 8) ≡ a) × (8 * (b / 8) ≡ b)) → in_run (8 * (a / 8)) (8 * (b / 8)) k ≡ in_run a b k
-whole_run a b k h =
+pub whole_run : {a b : ℕ} (k : ℕ) → ((a ≡ b → ⊥) → (8 * (a / 8) ≡ a) × (8 * (b / 8) ≡ b)) → in_run (8 * (a / 8)) (8 * (b / 8)) k ≡ in_run a b k
+whole_run {a} {b} k h =
     elim (cases_eq a b) [
       | inl same ↦
           ap (λ n. in_run (8 * (a / 8)) (8 * (n / 8)) k) (sym same) ∙ no_run (8 * (a / 8)) k
@@ -170,8 +170,8 @@ whole_run a b k h =
       | inr apart ↦ ap (λ n. in_run n (8 * (b / 8)) k) (h apart).0 ∙ ap (λ n. in_run a n k) (h apart).1
     ]
 
-pub right_of : (x y w h px py : ℕ) → x + w ≤ px → rectangle_dot x y w h px py ≡ false
-right_of x y w h px py off = rw (le-ltb px (x + w) off) (and_left _ _ (and_left _ _ (and_right (nat_le x px) false refl)))
+pub right_of : (x y w h : ℕ) {px : ℕ} (py : ℕ) → x + w ≤ px → rectangle_dot x y w h px py ≡ false
+right_of x y w h {px} py off = rw (le-ltb px (x + w) off) (and_left _ _ (and_left _ _ (and_right (nat_le x px) false refl)))
 
 -- a rectangle that is cut at the page's edges has the same dots on the page
 clipped :
@@ -180,9 +180,9 @@ clipped :
     → rectangle_dot x y w h px py ≡ rectangle_dot x y wide high px py
 clipped width height x y w h wide high px py start top e_w e_h within on_page =
     ap (λ t. nat_le x px && t && nat_le y py && nat_lt py (y + h))
-    (same_test px (x + w) px (x + wide) (λ p. omega arith) (λ p. omega arith))
+    (same_test (λ p. omega arith) (λ p. omega arith))
     ∙ ap (λ t. nat_le x px && nat_lt px (x + wide) && nat_le y py && t)
-    (same_test py (y + h) py (y + high) (λ p. omega arith) (λ p. omega arith))
+    (same_test (λ p. omega arith) (λ p. omega arith))
 
 -- the bytes of a page before and after each dot of a rectangle takes the ink for its place
 pub record IsFilled (size : Size) (dpi : Dpi) (old new : List ℕ) (x y w h : ℕ) (ink : ℕ → ℕ → Bool → Bool) : Type 0 where
@@ -225,10 +225,10 @@ filled_picture size dpi old new x y w h ink p f =
           let before : Bool = dot_of_row old (8 * (py * r) + px) in
           elim (cases_lt px (8 * page_row_bytes size dpi)) [
             | inl room ↦
-                dot_in_page new r px py room ∙ f.bits px py room
-                ∙ ap (λ t. if t then ink px py before else before) (right_of x y w h px py (omega arith))
-                ∙ sym (dot_in_page old r px py room) ∙ p.clear_pads px py off
-            | inr past ↦ dot_past_row (drop (py * r) new) r px past
+                dot_in_page new r py room ∙ f.bits px py room
+                ∙ ap (λ t. if t then ink px py before else before) (right_of x y w h py (omega arith))
+                ∙ sym (dot_in_page old r py room) ∙ p.clear_pads px py off
+            | inr past ↦ dot_past_row (drop (py * r) new) r past
           ];
     }
 
@@ -240,8 +240,8 @@ pub filled_dots :
 filled_dots size dpi old new x y w h ink f px py within =
     let r : ℕ = page_row_bytes size dpi in
     let room : px < 8 * page_row_bytes size dpi = omega (arith, wide_rows size dpi) in
-    dot_in_page new r px py room ∙ f.bits px py room
-    ∙ ap (λ t. if rectangle_dot x y w h px py then ink px py t else t) (sym (dot_in_page old r px py room))
+    dot_in_page new r py room ∙ f.bits px py room
+    ∙ ap (λ t. if rectangle_dot x y w h px py then ink px py t else t) (sym (dot_in_page old r py room))
 
 -- a rectangle of one ink
 pub one_ink :

@@ -12,9 +12,9 @@ pub record IsFirstSet (mask count : ℕ) : Type 0 where
   pub clear : (k : ℕ) → k < count → bit_at mask k ≡ 0
   pub set : count < 32 → bit_at mask count ≡ 1
 
-pub first_set_is : (mask count : ℕ) → mask < 2 ^ 64 → count ≡ min (trailing_zeros w64 mask) 32 → IsFirstSet mask count
+pub first_set_is : {mask count : ℕ} → mask < 2 ^ 64 → count ≡ min (trailing_zeros w64 mask) 32 → IsFirstSet mask count
 unfolding lib.Count.count_trailing_zeros
-first_set_is mask count fits is =
+first_set_is {mask} {count} fits is =
     elim (cases_lt 0 mask) [
       | inl some ↦
           let h = bit_at-trailing_zeros w64 mask some fits in
@@ -49,23 +49,23 @@ pub mask_bit : (test : ℕ → ℕ → Bool) (a b : List ℕ) (k : ℕ) → leng
 mask_bit test a b k size size' within =
     bit_mask_l (zip2 test a b) k ∙ ap (λ (t : Bool). cond t 1 0) (get_or-zip2 test a b k 0 0 false (omega arith) (omega arith))
 
-differ_not : (x y : ℕ) (d : Bool) → differ x y ≡ d → cond {A = ℕ} d 1 0 ≡ 0 → x ≡ y
-differ_not x y false e clear = eqb-true x y (not_is_false (eqb x y) e)
-differ_not x y true e clear = absurd cc
+differ_not : {x y : ℕ} (d : Bool) → differ x y ≡ d → cond {A = ℕ} d 1 0 ≡ 0 → x ≡ y
+differ_not {x} {y} false e clear = eqb-true x y (not_is_false (eqb x y) e)
+differ_not {x} {y} true e clear = absurd cc
 
 differ_so : (x y : ℕ) (d : Bool) → differ x y ≡ d → cond {A = ℕ} d 1 0 ≡ 1 → x ≢ y
 differ_so x y true e set = eqb-false x y (not_is_true (eqb x y) e)
 differ_so x y false e set = absurd cc
 
 -- what a mask's first bit says of the lanes
-pub lanes_same : (a b : List ℕ) (k : ℕ) → length a ≡ 32 → length b ≡ 32 → k < 32 → bit_at (mask_l (zip2 differ a b)) k ≡ 0
+pub lanes_same : (a b : List ℕ) {k : ℕ} → length a ≡ 32 → length b ≡ 32 → k < 32 → bit_at (mask_l (zip2 differ a b)) k ≡ 0
     → get_or a k 0 ≡ get_or b k 0
-lanes_same a b k size size' within clear = differ_not (get_or a k 0) (get_or b k 0) (differ (get_or a k 0) (get_or b k 0)) refl
+lanes_same a b {k} size size' within clear = differ_not (differ (get_or a k 0) (get_or b k 0)) refl
     (sym (mask_bit differ a b k size size' within) ∙ clear)
 
-pub lanes_differ : (a b : List ℕ) (k : ℕ) → length a ≡ 32 → length b ≡ 32 → k < 32 → bit_at (mask_l (zip2 differ a b)) k ≡ 1
+pub lanes_differ : (a b : List ℕ) {k : ℕ} → length a ≡ 32 → length b ≡ 32 → k < 32 → bit_at (mask_l (zip2 differ a b)) k ≡ 1
     → get_or a k 0 ≢ get_or b k 0
-lanes_differ a b k size size' within set = differ_so (get_or a k 0) (get_or b k 0) (differ (get_or a k 0) (get_or b k 0)) refl
+lanes_differ a b {k} size size' within set = differ_so (get_or a k 0) (get_or b k 0) (differ (get_or a k 0) (get_or b k 0)) refl
     (sym (mask_bit differ a b k size size' within) ∙ set)
 
 -- the mask as the code computes it
@@ -82,9 +82,9 @@ pub record AreSameTo (a b : List ℕ) (place : ℕ) : Type 0 where
   pub within : place ≤ length a
   pub same : (k : ℕ) → k < place → get_or a k 0 ≡ get_or b k 0
 
-pub same_more : (a b : List ℕ) (place count : ℕ) → AreSameTo a b place → place + count ≤ length a
+pub same_more : {a b : List ℕ} {place count : ℕ} → AreSameTo a b place → place + count ≤ length a
     → ((k : ℕ) → k < count → get_or a (place + k) 0 ≡ get_or b (place + k) 0) → AreSameTo a b (place + count)
-same_more a b place count to fits more = record {
+same_more {a} {b} {place} {count} to fits more = record {
   within = fits;
   same = λ k below.
       elim (cases_lt k place) [
@@ -97,7 +97,7 @@ same_more a b place count to fits more = record {
 pub same_one : (a b : List ℕ) (place : ℕ) → AreSameTo a b place → place < length a → get_or a place 0 ≡ get_or b place 0
     → AreSameTo a b (place + 1)
 same_one a b place to fits here =
-    same_more a b place 1 to (omega arith)
+    same_more to (omega arith)
     (λ k below. let at : place ≡ place + k = omega arith in subst (λ (n : ℕ). get_or a n 0 ≡ get_or b n 0) at here)
 
 -- a byte stands again and again from one place up to another
@@ -140,9 +140,9 @@ pub record AreZerosFrom (row : List ℕ) (len : ℕ) : Type 0 where
 pub zeros_past : (row : List ℕ) → AreZerosFrom row (length row)
 zeros_past row = record { within = omega arith; zeros = λ k past. get_or_past row k 0 past }
 
-pub zeros_more : (row : List ℕ) (len count : ℕ) → AreZerosFrom row len → count ≤ len
+pub zeros_more : {row : List ℕ} {len count : ℕ} → AreZerosFrom row len → count ≤ len
     → ((k : ℕ) → k < count → get_or row (len - count + k) 0 ≡ 0) → AreZerosFrom row (len - count)
-zeros_more row len count from fits more = record {
+zeros_more {row} {len} {count} from fits more = record {
   within = omega (arith, from.within);
   zeros = λ k low.
       elim (cases_lt k len) [
@@ -154,5 +154,5 @@ zeros_more row len count from fits more = record {
 
 pub zeros_one : (row : List ℕ) (len : ℕ) → AreZerosFrom row len → 0 < len → get_or row (len - 1) 0 ≡ 0 → AreZerosFrom row (len - 1)
 zeros_one row len from some here =
-    zeros_more row len 1 from (omega arith)
+    zeros_more from (omega arith)
     (λ k below. let at : len - 1 ≡ len - 1 + k = omega arith in subst (λ (n : ℕ). get_or row n 0 ≡ 0) at here)

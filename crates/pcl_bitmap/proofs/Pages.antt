@@ -11,15 +11,15 @@ use Rattle.pcl_bitmap.specs.Bitmap.{bit_of_byte, dot_of_row}
 use Rattle.pcl_bitmap.proofs.Bytes.{bit_of_byte-zero, dot_at}
 
 -- a dot of a row is a bit of the page's bytes
-pub dot_in_page : (bs : List ℕ) (r x y : ℕ) → x < 8 * r → dot_of_row (take r (drop (y * r) bs)) x ≡ dot_of_row bs (8 * (y * r) + x)
-dot_in_page bs r x y h =
+pub dot_in_page : (bs : List ℕ) (r : ℕ) {x : ℕ} (y : ℕ) → x < 8 * r → dot_of_row (take r (drop (y * r) bs)) x ≡ dot_of_row bs (8 * (y * r) + x)
+dot_in_page bs r {x} y h =
     let within : x / 8 < r = omega arith in
     ap (λ n. bit_of_byte n (x % 8)) (get_or-take r (drop (y * r) bs) (x / 8) 0 within ∙ get_or-drop (y * r) bs (x / 8) 0)
-    ∙ sym (dot_at bs (8 * (y * r) + x) (y * r + x / 8) (x % 8) (omega arith) (omega arith))
+    ∙ sym (dot_at bs (y * r + x / 8) (omega arith) (omega arith))
 
 -- past its bytes a row is white
-pub dot_past_row : (zs : List ℕ) (r x : ℕ) → 8 * r ≤ x → dot_of_row (take r zs) x ≡ false
-dot_past_row zs r x h =
+pub dot_past_row : (zs : List ℕ) (r : ℕ) {x : ℕ} → 8 * r ≤ x → dot_of_row (take r zs) x ≡ false
+dot_past_row zs r {x} h =
     ap (λ n. bit_of_byte n (x % 8)) (get_or_past (take r zs) (x / 8) 0 (omega (arith, length-take r zs))) ∙ bit_of_byte-zero (x % 8)
 
 zero_after_take : (r : ℕ) (bs : List ℕ) → ((i : ℕ) → get_or bs i 0 ≡ 0) → (i : ℕ) → get_or (take r bs) i 0 ≡ 0
@@ -46,15 +46,15 @@ dot_of_zeros n r x y =
 pub rows_apart : (a b r : ℕ) → a < b → a * r + r ≤ b * r
 rows_apart a b r h = row_fits a r b r h (omega arith)
 
-same_small : (u v : ℕ) → u < 2 → v < 2 → nat_eq u 1 ≡ nat_eq v 1 → u ≡ v
-same_small u v p q h = grind (arith, nat_tests)
+same_small : {u v : ℕ} → u < 2 → v < 2 → nat_eq u 1 ≡ nat_eq v 1 → u ≡ v
+same_small {u} {v} p q h = grind (arith, nat_tests)
 
 same_bits : (a b k : ℕ) → bit_of_byte a k ≡ bit_of_byte b k → bit_at a (7 - k) ≡ bit_at b (7 - k)
-same_bits a b k h = same_small (bit_at a (7 - k)) (bit_at b (7 - k)) (bit_at-lt a (7 - k)) (bit_at-lt b (7 - k)) h
+same_bits a b k h = same_small (bit_at-lt a (7 - k)) (bit_at-lt b (7 - k)) h
 
 -- bytes with the same bits are equal
-pub same_byte : (a b : ℕ) → a < 256 → b < 256 → ((k : ℕ) → k < 8 → bit_of_byte a k ≡ bit_of_byte b k) → a ≡ b
-same_byte a b p q h =
+pub same_byte : {a b : ℕ} → a < 256 → b < 256 → ((k : ℕ) → k < 8 → bit_of_byte a k ≡ bit_of_byte b k) → a ≡ b
+same_byte {a} {b} p q h =
     same_from_bits_below 8 a b p q (λ i small.
     let place : 7 - (7 - i) ≡ i = omega arith in
     ap (λ e. bit_at a e) (sym place) ∙ same_bits a b (7 - i) (h (7 - i) (omega arith)) ∙ ap (λ e. bit_at b e) place)
@@ -82,12 +82,12 @@ same_pages r w h a b la lb fa fb pa pb same =
     let place : i ≡ y * r + j = sym (div-add-mod' i r) in
     let short : j < r = mod_below i r some in
     let on_page : y < h = div_below i r h some (omega arith) in
-    same_byte (get_or a i 0) (get_or b i 0) (All-get_or (λ n. n < 256) a i 0 within fa) (All-get_or (λ n. n < 256) b i 0 (omega arith) fb)
+    same_byte (All-get_or (λ n. n < 256) a i 0 within fa) (All-get_or (λ n. n < 256) b i 0 (omega arith) fb)
     (λ k small.
     let x : ℕ = 8 * j + k in
     let spot : 8 * (y * r) + x ≡ 8 * i + k = omega arith in
-    let in_a = sym (dot_at a (8 * (y * r) + x) i k small spot) ∙ sym (dot_in_page a r x y (omega arith)) in
-    let in_b = dot_in_page b r x y (omega arith) ∙ dot_at b (8 * (y * r) + x) i k small spot in
+    let in_a = sym (dot_at a i small spot) ∙ sym (dot_in_page a r y (omega arith)) in
+    let in_b = dot_in_page b r y (omega arith) ∙ dot_at b i small spot in
     in_a
     ∙ (elim (cases_lt x w) [
       | inl seen ↦ same x y seen on_page
@@ -103,8 +103,8 @@ pub zeros_from_white :
     → All (λ n. n ≡ 0) zs
 zeros_from_white zs w bytes pads white =
     All-from_get_or (λ n. n ≡ 0) zs 0 (λ i within.
-    same_byte (get_or zs i 0) 0 (All-get_or (λ n. n < 256) zs i 0 within bytes) (lit< tt) (λ k small.
-    sym (dot_at zs (8 * i + k) i k small refl)
+    same_byte (All-get_or (λ n. n < 256) zs i 0 within bytes) (lit< tt) (λ k small.
+    sym (dot_at zs i small refl)
     ∙ (elim (cases_lt (8 * i + k) w) [ inl seen ↦ white (8 * i + k) seen | inr pad ↦ pads (8 * i + k) pad ])
     ∙ sym (bit_of_byte-zero k)))
 

@@ -10,8 +10,8 @@ use Rattle.pcl_bitmap.proofs.Pages.{same_pages, dot_of_zeros}
 abbrev pub picture_of : Size → Dpi → List ℕ → Picture
 picture_of size dpi bytes = record { size = size; dpi = dpi; bytes = bytes }
 
-same_bytes_same_picture : (p q : Picture) → p.size ≡ q.size → p.dpi ≡ q.dpi → p.bytes ≡ q.bytes → p ≡ q
-same_bytes_same_picture p q s d b =
+same_bytes_same_picture : {p q : Picture} → p.size ≡ q.size → p.dpi ≡ q.dpi → p.bytes ≡ q.bytes → p ≡ q
+same_bytes_same_picture {p} {q} s d b =
     ap (λ (t : Size). picture_of t p.dpi p.bytes) s
     ∙ ap (λ (t : Dpi). picture_of q.size t p.bytes) d
     ∙ ap (λ (t : List ℕ). picture_of q.size q.dpi t) b
@@ -33,12 +33,12 @@ pub same_dots :
     → p ≡ q
 same_dots p q is_p is_q s d same =
     let turned : q ≡ picture_of p.size p.dpi q.bytes =
-    same_bytes_same_picture q (picture_of p.size p.dpi q.bytes) (sym s) (sym d) refl in
+    same_bytes_same_picture (sym s) (sym d) refl in
     let is_turned : IsPicture (picture_of p.size p.dpi q.bytes) =
     let P : Picture → Type 0 = λ t. IsPicture t in subst P turned is_q in
     let same_turned = λ (x : ℕ) (y : ℕ) (in_row : x < page_width p.size p.dpi) (on_page : y < page_height p.size p.dpi).
     same x y in_row on_page ∙ ap (λ (t : Picture). dot t x y) turned in
-    same_bytes_same_picture p q s d (same_dots_same_bytes p.size p.dpi p.bytes q.bytes is_p is_turned same_turned)
+    same_bytes_same_picture s d (same_dots_same_bytes p.size p.dpi p.bytes q.bytes is_p is_turned same_turned)
 
 -- eight dots to a byte are room for the width
 pub wide_rows : (size : Size) (dpi : Dpi) → page_width size dpi ≤ 8 * page_row_bytes size dpi

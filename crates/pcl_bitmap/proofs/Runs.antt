@@ -22,12 +22,12 @@ and_swap true false false = refl
 and_swap false b c = refl
 
 -- a run has no bit from its end on, nor before its start
-pub run_dot-past : (from end : ℕ) (row : List ℕ) (k : ℕ) → end ≤ k → run_dot from end row k ≡ false
-run_dot-past from end row k h =
+pub run_dot-past : (from : ℕ) {end : ℕ} (row : List ℕ) {k : ℕ} → end ≤ k → run_dot from end row k ≡ false
+run_dot-past from {end} row {k} h =
     and_left (nat_le from k && nat_lt k end) (dot_of_row row (k - from)) (and_right (nat_le from k) (nat_lt k end) (le-ltb k end h))
 
-pub run_dot-before : (from end : ℕ) (row : List ℕ) (k : ℕ) → k < from → run_dot from end row k ≡ false
-run_dot-before from end row k h =
+pub run_dot-before : {from : ℕ} (end : ℕ) (row : List ℕ) {k : ℕ} → k < from → run_dot from end row k ≡ false
+run_dot-before {from} end row {k} h =
     and_left (nat_le from k && nat_lt k end) (dot_of_row row (k - from)) (and_left (nat_le from k) (nat_lt k end) (lt-leb from k h))
 
 -- a run's bit on one side of two ends
@@ -35,8 +35,8 @@ run_dot-end : (from a b : ℕ) (row : List ℕ) (k : ℕ) → nat_lt k a ≡ nat
 run_dot-end from a b row k e = ap (λ t. nat_le from k && t && dot_of_row row (k - from)) e
 
 -- two tests that agree
-pub same_test : (k a m b : ℕ) → (k < a → m < b) → (m < b → k < a) → nat_lt k a ≡ nat_lt m b
-same_test k a m b f g =
+pub same_test : {k a m b : ℕ} → (k < a → m < b) → (m < b → k < a) → nat_lt k a ≡ nat_lt m b
+same_test {k} {a} {m} {b} f g =
     elim (cases_lt k a) [
       | inl h ↦ lt-ltb k a h ∙ sym (lt-ltb m b (f h))
       | inr h ↦
@@ -45,9 +45,9 @@ same_test k a m b f g =
     ]
 
 -- a run that goes up to a byte past its end is whole
-pub run_dot-whole : (from end i : ℕ) (row : List ℕ) (k : ℕ) → end ≤ 8 * i → run_dot from (min end (8 * i)) row k ≡ run_dot from end row k
-run_dot-whole from end i row k h =
-    run_dot-end from (min end (8 * i)) end row k (same_test k (min end (8 * i)) k end (λ p. omega arith) (λ p. omega arith))
+pub run_dot-whole : (from : ℕ) {end : ℕ} (i : ℕ) (row : List ℕ) (k : ℕ) → end ≤ 8 * i → run_dot from (min end (8 * i)) row k ≡ run_dot from end row k
+run_dot-whole from {end} i row k h =
+    run_dot-end from (min end (8 * i)) end row k (same_test (λ p. omega arith) (λ p. omega arith))
 
 -- the byte that is added to byte i has the run's bits there
 pub added_bits :
@@ -82,19 +82,19 @@ run_more old now row from end i m within bits above k =
           let small : k % 8 < 8 = omega arith in
           let added : bit_of_byte m (k % 8) ≡ run_dot from end row k = bits (k % 8) small ∙ ap (λ n. run_dot from end row n) (sym here) in
           let kept : bit_of_byte (get_or now i 0) (k % 8) ≡ dot_of_row old k =
-          sym (dot_at now k i (k % 8) small here) ∙ above k
-          ∙ ap (λ t. t || dot_of_row old k) (run_dot-past from (min end (8 * i)) row k (omega arith)) in
-          dot_at (set now i m') k i (k % 8) small here
+          sym (dot_at now i small here) ∙ above k
+          ∙ ap (λ t. t || dot_of_row old k) (run_dot-past from row (omega arith)) in
+          dot_at (set now i m') i small here
           ∙ ap (λ n. bit_of_byte n (k % 8)) (get_or-set_same now i m' 0 within)
           ∙ bit_of_byte-or (get_or now i 0) m (k % 8)
           ∙ ap (λ t. t || bit_of_byte m (k % 8)) kept ∙ ap (λ t. dot_of_row old k || t) added
           ∙ or_comm (dot_of_row old k) (run_dot from end row k)
-          ∙ ap (λ t. t || dot_of_row old k) (run_dot-end from end stop row k (same_test k end k stop (λ p. omega arith) (λ p. omega arith)))
+          ∙ ap (λ t. t || dot_of_row old k) (run_dot-end from end stop row k (same_test (λ p. omega arith) (λ p. omega arith)))
       | inr other ↦
           ap (λ n. bit_of_byte n (k % 8)) (get_or-set_other now i (k / 8) m' 0 other)
           ∙ above k
           ∙ ap (λ t. t || dot_of_row old k)
-          (run_dot-end from (min end (8 * i)) stop row k (same_test k (min end (8 * i)) k stop (λ p. omega arith) (λ p. omega arith)))
+          (run_dot-end from (min end (8 * i)) stop row k (same_test (λ p. omega arith) (λ p. omega arith)))
     ]
 
 -- a run of whole bytes: the bits of its bytes
@@ -106,14 +106,14 @@ pub whole_bits :
 whole_bits row at i within k small =
     let place : 8 * (at + i) + k - 8 * at ≡ 8 * i + k = omega arith in
     rw (le-leb (8 * at) (8 * (at + i) + k) (omega arith), lt-ltb (8 * (at + i) + k) (8 * (at + length row)) (omega arith), place)
-    (sym (dot_at row (8 * i + k) i k small refl))
+    (sym (dot_at row i small refl))
 
 -- the first bytes of a row have its first bits, and the bytes after them the others
-pub take_dots : (w : ℕ) (row : List ℕ) (x : ℕ) → x < 8 * w → dot_of_row (take w row) x ≡ dot_of_row row x
-take_dots w row x h = ap (λ n. bit_of_byte n (x % 8)) (get_or-take w row (x / 8) 0 (omega arith))
+pub take_dots : (w : ℕ) (row : List ℕ) {x : ℕ} → x < 8 * w → dot_of_row (take w row) x ≡ dot_of_row row x
+take_dots w row {x} h = ap (λ n. bit_of_byte n (x % 8)) (get_or-take w row (x / 8) 0 (omega arith))
 
-drop_dots : (w : ℕ) (row : List ℕ) (x y : ℕ) → y ≡ 8 * w + x → dot_of_row (drop w row) x ≡ dot_of_row row y
-drop_dots w row x y e =
+drop_dots : (w : ℕ) (row : List ℕ) (x : ℕ) {y : ℕ} → y ≡ 8 * w + x → dot_of_row (drop w row) x ≡ dot_of_row row y
+drop_dots w row x {y} e =
     let byte : w + x / 8 ≡ y / 8 = omega arith in
     let bit : x % 8 ≡ y % 8 = omega arith in
     ap (λ n. bit_of_byte n (x % 8)) (get_or-drop w row (x / 8) 0) ∙ rw (byte, bit)
@@ -126,18 +126,18 @@ pub run_dot-split :
 run_dot-split from end w row k h =
     elim (cases_lt k (from + 8 * w)) [
       | inl early ↦
-          ap (λ t. t || run_dot from (from + 8 * w) (take w row) k) (run_dot-before (from + 8 * w) end (drop w row) k early)
-          ∙ run_dot-end from (from + 8 * w) end (take w row) k (same_test k (from + 8 * w) k end (λ p. omega arith) (λ p. early))
+          ap (λ t. t || run_dot from (from + 8 * w) (take w row) k) (run_dot-before end (drop w row) early)
+          ∙ run_dot-end from (from + 8 * w) end (take w row) k (same_test (λ p. omega arith) (λ p. early))
           ∙ (elim (cases_lt k from) [
-            | inl before ↦ run_dot-before from end (take w row) k before ∙ sym (run_dot-before from end row k before)
-            | inr since ↦ ap (λ t. nat_le from k && nat_lt k end && t) (take_dots w row (k - from) (omega arith))
+            | inl before ↦ run_dot-before end (take w row) before ∙ sym (run_dot-before end row before)
+            | inr since ↦ ap (λ t. nat_le from k && nat_lt k end && t) (take_dots w row (omega arith))
           ])
       | inr late ↦
-          ap (λ t. run_dot (from + 8 * w) end (drop w row) k || t) (run_dot-past from (from + 8 * w) (take w row) k late)
+          ap (λ t. run_dot (from + 8 * w) end (drop w row) k || t) (run_dot-past from (take w row) late)
           ∙ or_comm (run_dot (from + 8 * w) end (drop w row) k) false
           ∙ ap (λ t. t && nat_lt k end && dot_of_row (drop w row) (k - (from + 8 * w)))
           (le-leb (from + 8 * w) k late ∙ sym (le-leb from k (omega arith)))
-          ∙ ap (λ t. nat_le from k && nat_lt k end && t) (drop_dots w row (k - (from + 8 * w)) (k - from) (omega arith))
+          ∙ ap (λ t. nat_le from k && nat_lt k end && t) (drop_dots w row (k - (from + 8 * w)) (omega arith))
     ]
 
 or_assoc : (a b c : Bool) → (a || (b || c)) ≡ (a || b || c)

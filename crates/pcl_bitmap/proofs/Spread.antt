@@ -14,8 +14,8 @@ use Rattle.pcl_bitmap.proofs.Pages.{rows_apart}
 use Rattle.pcl_bitmap.proofs.Inked.{in_run-in, in_run-before, in_run-past, right_of}
 
 -- bit j of a number with s ones that was shifted to place m
-square_bit : (s m j : ℕ) → 1 ≤ s → s ≤ 8 → s + m ≤ 64 → m ≤ j → bit_at (255 / 2 ^ (8 - s) * 2 ^ m % 2 ^ 64) j ≡ bit_at (2 ^ s - 1) (j - m)
-square_bit s m j some few fits h =
+square_bit : {s m j : ℕ} → 1 ≤ s → s ≤ 8 → s + m ≤ 64 → m ≤ j → bit_at (255 / 2 ^ (8 - s) * 2 ^ m % 2 ^ 64) j ≡ bit_at (2 ^ s - 1) (j - m)
+square_bit {s} {m} {j} some few fits h =
     let back : 8 - (8 - s) ≡ s = omega arith in
     let ones : 255 / 2 ^ (8 - s) ≡ 2 ^ s - 1 = ones_shr 8 (8 - s) (omega arith) ∙ ap (λ n. 2 ^ n - 1) back in
     let small : 2 ^ s - 1 < 2 ^ s = omega (arith, pow_pos s) in
@@ -24,8 +24,8 @@ square_bit s m j some few fits h =
     ∙ ap (λ n. bit_at n j) (sym (add-zero ((2 ^ s - 1) * 2 ^ m)))
     ∙ bit_at_cat_high (2 ^ s - 1) m 0 j (pow_pos m) h
 
-square_below : (s m j : ℕ) → 1 ≤ s → s ≤ 8 → s + m ≤ 64 → j < m → bit_at (255 / 2 ^ (8 - s) * 2 ^ m % 2 ^ 64) j ≡ 0
-square_below s m j some few fits h =
+square_below : {s m j : ℕ} → 1 ≤ s → s ≤ 8 → s + m ≤ 64 → j < m → bit_at (255 / 2 ^ (8 - s) * 2 ^ m % 2 ^ 64) j ≡ 0
+square_below {s} {m} {j} some few fits h =
     let back : 8 - (8 - s) ≡ s = omega arith in
     let ones : 255 / 2 ^ (8 - s) ≡ 2 ^ s - 1 = ones_shr 8 (8 - s) (omega arith) ∙ ap (λ n. 2 ^ n - 1) back in
     let small : 2 ^ s - 1 < 2 ^ s = omega (arith, pow_pos s) in
@@ -77,7 +77,7 @@ spread_set wide byte s i j some few small is_set above =
     ∙ (elim (cases_lt j (s * i)) [
       | inl less ↦
           let low : j / s < i = quotient_below s i j some (omega arith) in
-          ap (λ n. max (bit_at wide j) n) (square_below s (s * i) j some few fits less)
+          ap (λ n. max (bit_at wide j) n) (square_below some few fits less)
           ∙ (let same : max (bit_at wide j) 0 ≡ bit_at wide j = omega arith in same)
           ∙ above ∙ ap (λ t. if t then bit_at byte (j / s) else 0) (lt-ltb (j / s) i low ∙ sym (lt-ltb (j / s) (i + 1) (omega arith)))
       | inr from ↦
@@ -85,7 +85,7 @@ spread_set wide byte s i j some few small is_set above =
           let none : bit_at wide j ≡ 0 = above ∙ ap (λ t. if t then bit_at byte (j / s) else 0) (le-ltb (j / s) i least) in
           ap (λ n. max n (bit_at square j)) none
           ∙ (let same : max 0 (bit_at square j) ≡ bit_at square j = omega arith in same)
-          ∙ square_bit s (s * i) j some few fits from
+          ∙ square_bit some few fits from
           ∙ (elim (cases_lt j (s * i + s)) [
             | inl inside ↦
                 let low : j / s < i + 1 = quotient_below s (i + 1) j some (omega (arith, product_more s i)) in
@@ -99,16 +99,16 @@ spread_set wide byte s i j some few small is_set above =
           ])
     ])
 
-pub spread_all : (byte s j : ℕ) → byte < 256 → spread_bit byte s 8 j ≡ bit_at byte (j / s)
-spread_all byte s j fits =
+pub spread_all : {byte : ℕ} (s j : ℕ) → byte < 256 → spread_bit byte s 8 j ≡ bit_at byte (j / s)
+spread_all {byte} s j fits =
     elim (cases_lt (j / s) 8) [
       | inl inside ↦ ap (λ t. if t then bit_at byte (j / s) else 0) (lt-ltb (j / s) 8 inside)
       | inr past ↦ ap (λ t. if t then bit_at byte (j / s) else 0) (le-ltb (j / s) 8 past) ∙ sym (bit_at_above byte 8 (j / s) fits past)
     ]
 
 -- counted from the other end
-mirror : (s q : ℕ) → 1 ≤ s → q < 8 * s → (8 * s - 1 - q) / s ≡ 7 - q / s
-mirror s q some h =
+mirror : {s q : ℕ} → 1 ≤ s → q < 8 * s → (8 * s - 1 - q) / s ≡ 7 - q / s
+mirror {s} {q} some h =
     let u : ℕ = q / s in
     let v : ℕ = q % s in
     let whole : q / s * s + q % s ≡ q = div-add-mod' q s in
@@ -127,10 +127,10 @@ pub part_bits :
 part_bits wide byte s part some within bits m small =
     let e : ℕ = 8 * (s - 1 - part) in
     let place : e + (7 - m) ≡ 8 * s - 1 - (8 * part + m) = omega arith in
-    bit_of_byte-low (wide / 2 ^ e) m small
+    bit_of_byte-low (wide / 2 ^ e) small
     ∙ ap (λ n. nat_eq (n % 2) 1) (shr-shr wide e (7 - m))
     ∙ ap (λ n. nat_eq n 1)
-    (bits (e + (7 - m)) ∙ ap (λ n. bit_at byte (n / s)) place ∙ ap (λ n. bit_at byte n) (mirror s (8 * part + m) some (omega arith)))
+    (bits (e + (7 - m)) ∙ ap (λ n. bit_at byte (n / s)) place ∙ ap (λ n. bit_at byte n) (mirror some (omega arith)))
 
 -- one byte more of a run whose bits are given by their places
 pub bytes_more :
@@ -145,7 +145,7 @@ bytes_more old now at i v k f within bits above =
           let here : k ≡ 8 * (at + i) + k % 8 = omega arith in
           let small : k % 8 < 8 = omega arith in
           let place : 8 * i + k % 8 ≡ k - 8 * at = omega arith in
-          dot_at (set now (at + i) v) k (at + i) (k % 8) small here
+          dot_at (set now (at + i) v) (at + i) small here
           ∙ ap (λ n. bit_of_byte n (k % 8)) (get_or-set_same now (at + i) v 0 within)
           ∙ bits (k % 8) small ∙ ap f place
           ∙ sym (ap (λ t. if t then f (k - 8 * at) else dot_of_row old k)
@@ -154,11 +154,11 @@ bytes_more old now at i v k f within bits above =
           ap (λ n. bit_of_byte n (k % 8)) (get_or-set_other now (at + i) (k / 8) v 0 other)
           ∙ above
           ∙ ap (λ t. if nat_le (8 * at) k && t then f (k - 8 * at) else dot_of_row old k)
-          (same_test k (8 * (at + i)) k (8 * (at + (i + 1))) (λ p. omega arith) (λ p. omega arith))
+          (same_test (λ p. omega arith) (λ p. omega arith))
     ]
 
-pub quotient_moved : (s b k : ℕ) → 1 ≤ s → b * s ≤ k → k / s ≡ b + (k - b * s) / s
-quotient_moved s b k some h =
+pub quotient_moved : {s : ℕ} (b : ℕ) {k : ℕ} → 1 ≤ s → b * s ≤ k → k / s ≡ b + (k - b * s) / s
+quotient_moved {s} b {k} some h =
     let m : ℕ = k - b * s in
     let whole : (k - b * s) / s * s + (k - b * s) % s ≡ k - b * s = div-add-mod' m s in
     let short : (k - b * s) % s < s = mod_below m s some in
@@ -179,7 +179,7 @@ spread_more row now new s i k some above added within =
       | inl before ↦
           added
           ∙ ap (λ t. if t then bit_of_byte (get_or row i 0) ((k - 8 * (s * i)) / s) else dot_of_row now k)
-          (in_run-before (8 * (s * i)) (8 * (s * i + s)) k before)
+          (in_run-before (8 * (s * i + s)) before)
           ∙ above before
       | inr since ↦
           let next : s * (i + 1) ≡ s * i + s = omega arith in
@@ -187,11 +187,11 @@ spread_more row now new s i k some above added within =
           let m : ℕ = (k - 8 * (s * i)) / s in
           let small : (k - 8 * (s * i)) / s < 8 = div_below (k - 8 * (s * i)) s 8 some (omega arith) in
           let place : k / s ≡ 8 * i + (k - 8 * (s * i)) / s =
-          quotient_moved s (8 * i) k some (omega arith) ∙ ap (λ n. 8 * i + (k - n) / s) turned in
+          quotient_moved (8 * i) some (omega arith) ∙ ap (λ n. 8 * i + (k - n) / s) turned in
           added
           ∙ ap (λ t. if t then bit_of_byte (get_or row i 0) ((k - 8 * (s * i)) / s) else dot_of_row now k)
           (in_run-in (8 * (s * i)) (8 * (s * i + s)) k since (omega arith))
-          ∙ sym (dot_at row (k / s) i m small place)
+          ∙ sym (dot_at row i small place)
     ]
 
 tested_or : (t s d : Bool) → ((t && s) || d) ≡ (if t then s || d else d)
@@ -215,12 +215,12 @@ run_or source r x w i px py d wide within =
           ap (λ n. (in_run from (from + w) k && dot_of_row source n) || d) place ∙ tested_or (in_run from (from + w) k) s d
       | inr (inl above) ↦
           let early : k < from = omega (arith, rows_apart py i r above) in
-          ap (λ t. t || d) (run_dot-before from (from + w) source k early)
-          ∙ ap (λ t. if t then s || d else d) (sym (in_run-before from (from + w) k early))
+          ap (λ t. t || d) (run_dot-before (from + w) source early)
+          ∙ ap (λ t. if t then s || d else d) (sym (in_run-before (from + w) early))
       | inr (inr below) ↦
           let late : from + w ≤ k = omega (arith, rows_apart i py r below) in
-          ap (λ t. t || d) (run_dot-past from (from + w) source k late)
-          ∙ ap (λ t. if t then s || d else d) (sym (in_run-past from (from + w) k late))
+          ap (λ t. t || d) (run_dot-past from source late)
+          ∙ ap (λ t. if t then s || d else d) (sym (in_run-past from late))
     ]
 
 left_of : (x y w h px py : ℕ) → px < x → rectangle_dot x y w h px py ≡ false
@@ -238,8 +238,8 @@ same_source x y w h px py p q d same =
       | inr since ↦ elim (cases_lt px (x + w)) [
         | inl inside ↦ ap (λ t. if rectangle_dot x y w h px py then t || d else d) (same (omega arith))
         | inr past ↦
-            ap (λ t. if t then p || d else d) (right_of x y w h px py past)
-            ∙ ap (λ t. if t then q || d else d) (sym (right_of x y w h px py past))
+            ap (λ t. if t then p || d else d) (right_of x y w h py past)
+            ∙ ap (λ t. if t then q || d else d) (sym (right_of x y w h py past))
       ]
     ]
 
@@ -249,11 +249,11 @@ both_tests true false p d = refl
 both_tests false true p d = refl
 both_tests false false p d = refl
 
-raster-left : (x0 y0 scale width : ℕ) (row : List ℕ) (x y : ℕ) → x < x0 → raster_dot x0 y0 scale width row x y ≡ false
-raster-left x0 y0 scale width row x y h = rw (lt-leb x0 x h)
+raster-left : {x0 : ℕ} (y0 scale width : ℕ) (row : List ℕ) {x : ℕ} (y : ℕ) → x < x0 → raster_dot x0 y0 scale width row x y ≡ false
+raster-left {x0} y0 scale width row {x} y h = rw (lt-leb x0 x h)
 
-raster-above : (x0 y0 scale width : ℕ) (row : List ℕ) (x y : ℕ) → y < y0 → raster_dot x0 y0 scale width row x y ≡ false
-raster-above x0 y0 scale width row x y h =
+raster-above : (x0 : ℕ) {y0 : ℕ} (scale width : ℕ) (row : List ℕ) (x : ℕ) {y : ℕ} → y < y0 → raster_dot x0 y0 scale width row x y ≡ false
+raster-above x0 {y0} scale width row x {y} h =
     and_left _ _ (and_left _ _ (and_left _ _ (and_right (nat_le x0 x) (nat_le y0 y) (lt-leb y0 y h))))
 
 above_of : (x y w h px py : ℕ) → py < y → rectangle_dot x y w h px py ≡ false
@@ -268,14 +268,14 @@ squares_dot wide high x y w h s width px py row d some start top e_w e_h within 
     let p : Bool = dot_of_row row ((px - x) / s) in
     elim (cases_lt px x) [
       | inl left ↦
-          ap (λ t. if t then p || d else d) (left_of x y w h px py left) ∙ ap (λ t. t || d) (sym (raster-left x y s width row px py left))
+          ap (λ t. if t then p || d else d) (left_of x y w h px py left) ∙ ap (λ t. t || d) (sym (raster-left y s width row py left))
       | inr right ↦ elim (cases_lt py y) [
         | inl above ↦
             ap (λ t. if t then p || d else d) (above_of x y w h px py above)
-            ∙ ap (λ t. t || d) (sym (raster-above x y s width row px py above))
+            ∙ ap (λ t. t || d) (sym (raster-above x s width row px above))
         | inr below ↦
             let across : nat_lt px (x + w) ≡ nat_lt ((px - x) / s) width =
-            same_test px (x + w) ((px - x) / s) width
+            same_test
             (λ in_run. div_below (px - x) s width some (omega arith))
             (λ in_row. elim (cases_lt (px - x) (width * s)) [
               | inl inside ↦ omega arith
@@ -301,24 +301,24 @@ squares_dot wide high x y w h s width px py row d some start top e_w e_h within 
     ]
 
 -- what is said of n bytes, w dots of which are needed: they spread to w dots, and to less than a byte's squares more
-pub spread_count : (s w n : ℕ) → 1 ≤ s → n ≡ div_ceil w (8 * s) → (w ≤ 8 * (s * n)) × (8 * (s * n) < w + 8 * s)
-spread_count s w n some e =
+pub spread_count : {s w n : ℕ} → 1 ≤ s → n ≡ div_ceil w (8 * s) → (w ≤ 8 * (s * n)) × (8 * (s * n) < w + 8 * s)
+spread_count {s} {w} {n} some e =
     let both = div_ceil_times w (8 * s) (omega arith) in
     let product : n * (8 * s) ≡ div_ceil w (8 * s) * (8 * s) = ap (λ m. m * (8 * s)) e in
     (omega (arith, both.0), omega (arith, both.1))
 
 -- they are bytes of the row where its squares reach so far
-spread_within : (s w n len : ℕ) → 1 ≤ s → n ≡ div_ceil w (8 * s) → w ≤ 8 * (s * len) → n ≤ len
-spread_within s w n len some e reach =
+spread_within : {s w n : ℕ} (len : ℕ) → 1 ≤ s → n ≡ div_ceil w (8 * s) → w ≤ 8 * (s * len) → n ≤ len
+spread_within {s} {w} {n} len some e reach =
     elim (cases_lt len n) [
       | inl past ↦ absurd (let more : s * (len + 1) ≤ s * n = mul-le s (len + 1) s n (omega arith) (omega arith) in
-          omega (arith, (spread_count s w n some e).1))
+          omega (arith, (spread_count some e).1))
       | inr within ↦ within
     ]
 
-pub spread_room : (s w n : ℕ) (row : List ℕ) → 1 ≤ s → s ≤ 8 → w ≤ 4800 → n ≡ div_ceil w (8 * s) → s * length (take n row) ≤ 608
-spread_room s w n row some few narrow e =
-    omega (arith, mul-le s (length (take n row)) s n (omega arith) (omega (arith, length-take n row)), (spread_count s w n some e).1)
+pub spread_room : {s w n : ℕ} (row : List ℕ) → 1 ≤ s → s ≤ 8 → w ≤ 4800 → n ≡ div_ceil w (8 * s) → s * length (take n row) ≤ 608
+spread_room {s} {w} {n} row some few narrow e =
+    omega (arith, mul-le s (length (take n row)) s n (omega arith) (omega (arith, length-take n row)), (spread_count some e).1)
 
 -- each of the w dots is one of the spread row
 pub spread_dots :
@@ -327,7 +327,7 @@ pub spread_dots :
     → (k < 8 * (s * length (take n row)) → dot_of_row spread k ≡ dot_of_row (take n row) (k / s))
     → dot_of_row spread k ≡ dot_of_row row (k / s)
 spread_dots row spread s w n k some e reach within bits =
-    let long : length (take n row) ≡ n = length-take-le n row (spread_within s w n (length row) some e reach) in
+    let long : length (take n row) ≡ n = length-take-le n row (spread_within (length row) some e reach) in
     let product : s * length (take n row) ≡ s * n = ap (λ m. s * m) long in
-    bits (omega (arith, (spread_count s w n some e).0))
-    ∙ take_dots n row (k / s) (div_below k s (8 * n) some (omega (arith, (spread_count s w n some e).0)))
+    bits (omega (arith, (spread_count some e).0))
+    ∙ take_dots n row (div_below k s (8 * n) some (omega (arith, (spread_count some e).0)))

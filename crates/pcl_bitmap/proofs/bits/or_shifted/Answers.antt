@@ -10,7 +10,7 @@ pub returns-clause-bits : goal.returns-clause-bits
 returns-clause-bits c =
     let past : c.args.end ≤ 8 * c.loop-i.i = grind (arith, common_steps) in
     λ k. c.loop-i.invariant.so_far k
-    ∙ ap (λ t. t || dot_of_row c.args.target.now k) (run_dot-whole c.args.from c.args.end c.loop-i.i c.args.source.now k past)
+    ∙ ap (λ t. t || dot_of_row c.args.target.now k) (run_dot-whole c.args.from c.loop-i.i c.args.source.now k past)
 
 pub loop-i-preserved : goal.loop-i-preserved
 loop-i-preserved c =

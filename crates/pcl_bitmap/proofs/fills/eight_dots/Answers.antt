@@ -4,4 +4,4 @@ use Rattle.pcl_bitmap.proofs.Bytes.{bit_of_byte-all}
 use Rattle.pcl_bitmap.proofs.fills.eight_dots.Goals as goal
 
 pub returns-in-Black : goal.returns-in-Black
-returns-in-Black c k small = bit_of_byte-all k small ∙ ap is_black_ink (sym c.in-Black.is)
+returns-in-Black c k small = bit_of_byte-all small ∙ ap is_black_ink (sym c.in-Black.is)

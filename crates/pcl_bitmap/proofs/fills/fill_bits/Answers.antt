@@ -15,7 +15,7 @@ returns-clause-bits c k =
     let before = dot_of_row c.args.target.now k in
     let first = dot_of_row c.fill_in_byte.new.target k in
     let between = dot_of_row c.fill_bytes.new.target k in
-    let middle = whole_run head tail k (λ apart. (omega arith, omega arith)) in
+    let middle = whole_run k (λ apart. (omega arith, omega arith)) in
     runs_joined from tail end k black before between (dot_of_row c.fill_in_byte-2.new.target k) (omega arith) (omega arith)
     (runs_joined from head tail k black before first between (omega arith) (omega arith) (c.fill_in_byte.ensures k)
     (c.fill_bytes.ensures k ∙ ap (λ t. if t then black else first) middle))

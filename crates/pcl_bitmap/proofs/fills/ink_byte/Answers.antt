@@ -9,7 +9,7 @@ pub returns-in-Black : goal.returns-in-Black
 returns-in-Black c k small =
     let a = c.leading_ones.result in
     let b = c.leading_ones-2.result in
-    black_bit c.args.byte (bit_and a (255 - b)) k (in_run c.args.from c.args.end k)
+    black_bit c.args.byte (bit_and a (255 - b)) k
     (mask_bit a b c.args.from c.args.end k c.leading_ones-2.type_inv small
     (c.leading_ones.ensures k small) (c.leading_ones-2.ensures k small))
     ∙ ap (λ t. if in_run c.args.from c.args.end k then is_black_ink t else bit_of_byte c.args.byte k) (sym c.in-Black.is)

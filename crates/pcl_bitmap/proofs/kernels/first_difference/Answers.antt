@@ -7,7 +7,7 @@ returns-then-same-lt32 c =
     let a = c.args.a.now in
     let b = c.args.b.now in
     let count = c.same_lanes-same.result in
-    let to = same_more a b c.loop-place.place count c.loop-place.invariant (omega (arith, c.same_lanes-same.ensures.within))
+    let to = same_more c.loop-place.invariant (omega (arith, c.same_lanes-same.ensures.within))
     c.same_lanes-same.ensures.same in
     record { within = to.within; same = to.same; differs = λ inside. c.same_lanes-same.ensures.differs c.if-same-lt32.true }
 
@@ -16,7 +16,7 @@ loop-place-preserved c =
     let all : c.same_lanes-same.result ≡ 32 = omega (arith, c.same_lanes-same.ensures.within, c.if-same-lt32.false) in
     let count = c.same_lanes-same.result in
     subst (λ (n : ℕ). AreSameTo c.args.a.now c.args.b.now (c.loop-place.place + n)) all
-    (same_more c.args.a.now c.args.b.now c.loop-place.place count c.loop-place.invariant (omega (arith, c.same_lanes-same.ensures.within))
+    (same_more c.loop-place.invariant (omega (arith, c.same_lanes-same.ensures.within))
     c.same_lanes-same.ensures.same)
 
 pub returns-then-a-ge32 : goal.returns-then-a-ge32
@@ -27,5 +27,5 @@ returns-then-a-ge32 c =
     let count = c.same_lanes-count.result in
     let front : AreSameTo a b last =
     record { within = omega arith; same = λ k below. c.loop-place.invariant.same k (omega (arith, c.loop-place-test.false)) } in
-    let to = same_more a b last count front (omega (arith, c.same_lanes-count.ensures.within)) c.same_lanes-count.ensures.same in
+    let to = same_more front (omega (arith, c.same_lanes-count.ensures.within)) c.same_lanes-count.ensures.same in
     record { within = to.within; same = to.same; differs = λ inside. c.same_lanes-count.ensures.differs (omega arith) }

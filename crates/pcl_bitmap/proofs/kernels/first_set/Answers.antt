@@ -2,7 +2,7 @@ use Rattle.pcl_bitmap.proofs.KernelLanes.{first_set_is}
 use Rattle.pcl_bitmap.proofs.kernels.first_set.Goals as goal
 
 pub returns-clause-clear : goal.returns-clause-clear
-returns-clause-clear c = (first_set_is c.args.mask c.min.result c.ranges.mask.fits c.min.ensures).clear
+returns-clause-clear c = (first_set_is c.ranges.mask.fits c.min.ensures).clear
 
 pub returns-clause-set : goal.returns-clause-set
-returns-clause-set c = (first_set_is c.args.mask c.min.result c.ranges.mask.fits c.min.ensures).set
+returns-clause-set c = (first_set_is c.ranges.mask.fits c.min.ensures).set

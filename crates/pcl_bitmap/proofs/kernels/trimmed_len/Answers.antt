@@ -4,5 +4,5 @@ use Rattle.pcl_bitmap.proofs.kernels.trimmed_len.Goals as goal
 
 pub loop-len-preserved : goal.loop-len-preserved
 loop-len-preserved c =
-    zeros_more c.args.row.now c.loop-len.len 32 c.loop-len.invariant (omega (arith, c.loop-len-test.true)) (λ k below.
+    zeros_more c.loop-len.invariant (omega (arith, c.loop-len-test.true)) (λ k below.
     c.lanes_of.ensures.same k (omega (arith, c.if-lanes_of-eq32.true)))

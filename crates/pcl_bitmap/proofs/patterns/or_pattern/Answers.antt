@@ -38,7 +38,7 @@ loop-row-preserved c = record {
       let long : length c.write_dots.new.target ≡ count = omega (arith, length-take count c.loop-row.dots) in
       let fits : length (take count c.loop-row.dots) ≡ count = omega (arith, length-take count c.loop-row.dots) in
       let reach : m < 8 * length (take count c.loop-row.dots) = omega arith in
-      seen_dots c.loop-row.dots c.write_dots.new.target count m long (omega arith)
+      seen_dots c.loop-row.dots c.write_dots.new.target long (omega arith)
       ∙ c.write_dots.ensures m reach
       ∙ ap (λ (t : List ℕ). dot_of_row t ((a.window.x + m) / a.window.scale))
       (take_rest a.rows.now ((row - a.area.y + a.window.y) / a.window.scale * a.window.row_bytes))

@@ -7,7 +7,7 @@ use Rattle.pcl_bitmap.proofs.squares.paint_squares.Goals as goal
 
 pub spread_row-requires-clause-room : goal.spread_row-requires-clause-room
 spread_row-requires-clause-room c =
-    spread_room c.args.scale c.args.area.width c.div_ceil-count.result c.args.row.now (omega arith) (omega arith) (omega arith)
+    spread_room c.args.row.now (omega arith) (omega arith) (omega arith)
     c.div_ceil-count.ensures
 
 pub returns-then-scale-eq1-clause-dots : goal.returns-then-scale-eq1-clause-dots

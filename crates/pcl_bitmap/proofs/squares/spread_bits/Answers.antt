@@ -24,4 +24,4 @@ loop-i-preserved c j =
 pub returns : goal.returns
 returns c j =
     let all : c.loop-i.i ≡ 8 = omega arith in
-    c.loop-i.invariant j ∙ ap (λ n. spread_bit c.args.byte c.args.scale n j) all ∙ spread_all c.args.byte c.args.scale j (omega arith)
+    c.loop-i.invariant j ∙ ap (λ n. spread_bit c.args.byte c.args.scale n j) all ∙ spread_all c.args.scale j (omega arith)
