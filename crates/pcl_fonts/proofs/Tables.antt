@@ -77,9 +77,9 @@ character_becomes es fs id w b q code =
     ∙ ap (cond (nat_eq id q) (entry_character w code)) (sym (character_view es q code))
 
 -- a new font
-pub follows_header : (es fs : Entries) (id : ℕ) (bytes : List ℕ) (e : Entry) → Becomes es fs id (Some e) → font_in e ≡ font_of bytes
+pub follows_header : (es fs : Entries) {id : ℕ} {bytes : List ℕ} (e : Entry) → Becomes es fs id (Some e) → font_in e ≡ font_of bytes
     → e.characters.entries ≡ [] → Follows (view es) (view fs) (header id bytes)
-follows_header es fs id bytes e b is none history h = record {
+follows_header es fs {id} {bytes} e b is none history h = record {
   fonts = λ q. font_becomes es fs id (Some e) b q
       ∙ ap (λ (f : Font). cond (nat_eq id q) (Some f) (font_at (view es) q)) is
       ∙ ap (cond (nat_eq id q) (Some (font_of bytes))) (h.fonts q);
@@ -90,8 +90,8 @@ follows_header es fs id bytes e b is none history h = record {
 }
 
 -- a font that is gone
-pub follows_one : (es fs : Entries) (id code : ℕ) → Becomes es fs id None → Follows (view es) (view fs) (control One id code)
-follows_one es fs id code b history h = record {
+pub follows_one : (es fs : Entries) {id code : ℕ} → Becomes es fs id None → Follows (view es) (view fs) (control One id code)
+follows_one es fs {id} {code} b history h = record {
   fonts = λ q. font_becomes es fs id None b q ∙ ap (cond (nat_eq id q) None) (h.fonts q);
   characters = λ q its. character_becomes es fs id None b q its ∙ ap (cond (nat_eq id q) None) (h.characters q its);
 }
@@ -107,27 +107,27 @@ pub record Changes (es fs : Entries) (id code : ℕ) (e f : Entry) (new : Option
   pub writes : Writes es fs id e f
   pub characters : (q : ℕ) → lookup (nat_eq q) f.characters.entries ≡ cond (nat_eq code q) new (lookup (nat_eq q) e.characters.entries)
 
-alike : {A : Type 0} (t : Bool) (x y : A) → (t ≡ true → x ≡ y) → cond t x y ≡ y
-alike true x y h = h refl
-alike false x y h = refl
+alike : {A : Type 0} (t : Bool) {x y : A} → (t ≡ true → x ≡ y) → cond t x y ≡ y
+alike true {x} {y} h = h refl
+alike false {x} {y} h = refl
 
 -- the entry of an ID under another name
-entry_there : (es : Entries) (id q : ℕ) (o : Option Entry) → lookup (nat_eq id) es ≡ o → nat_eq id q ≡ true → lookup (nat_eq q) es ≡ o
-entry_there es id q o there is = subst (λ (i : ℕ). lookup (nat_eq i) es ≡ o) (eqb-true id q is) there
+entry_there : (es : Entries) (id q : ℕ) {o : Option Entry} → lookup (nat_eq id) es ≡ o → nat_eq id q ≡ true → lookup (nat_eq q) es ≡ o
+entry_there es id q {o} there is = subst (λ (i : ℕ). lookup (nat_eq i) es ≡ o) (eqb-true id q is) there
 
-font_there : (es : Entries) (id q : ℕ) (o : Option Entry) → lookup (nat_eq id) es ≡ o → nat_eq id q ≡ true
+font_there : (es : Entries) (id q : ℕ) {o : Option Entry} → lookup (nat_eq id) es ≡ o → nat_eq id q ≡ true
     → font_at (view es) q ≡ option_map font_in o
-font_there es id q o there is = font_view es q ∙ ap (option_map font_in) (entry_there es id q o there is)
+font_there es id q {o} there is = font_view es q ∙ ap (option_map font_in) (entry_there es id q there is)
 
-character_there : (es : Entries) (id q its : ℕ) (o : Option Entry) → lookup (nat_eq id) es ≡ o → nat_eq id q ≡ true
+character_there : (es : Entries) (id q its : ℕ) {o : Option Entry} → lookup (nat_eq id) es ≡ o → nat_eq id q ≡ true
     → character_at (view es) q its ≡ entry_character o its
-character_there es id q its o there is =
-    character_view es q its ∙ ap (λ (x : Option Entry). entry_character x its) (entry_there es id q o there is)
+character_there es id q its {o} there is =
+    character_view es q its ∙ ap (λ (x : Option Entry). entry_character x its) (entry_there es id q there is)
 
 written_font : {es fs : Entries} {id : ℕ} {e f : Entry} → Writes es fs id e f → (q : ℕ) → font_at (view fs) q ≡ font_at (view es) q
 written_font {es} {fs} {id} {e} {f} w q =
     font_becomes es fs id (Some f) w.becomes q
-    ∙ alike (nat_eq id q) (Some (font_in f)) (font_at (view es) q) (λ is. ap Some w.same ∙ sym (font_there es id q (Some e) w.there is))
+    ∙ alike (nat_eq id q) (λ is. ap Some w.same ∙ sym (font_there es id q w.there is))
 
 -- nothing that is seen changes
 pub written_same : {es fs : Entries} {id : ℕ} {e f : Entry} → Writes es fs id e f
@@ -135,8 +135,8 @@ pub written_same : {es fs : Entries} {id : ℕ} {e f : Entry} → Writes es fs i
 written_same {es} {fs} {id} {e} {f} w same = (
   written_font w,
   λ q its. character_becomes es fs id (Some f) w.becomes q its
-      ∙ alike (nat_eq id q) (entry_character (Some f) its) (character_at (view es) q its)
-      (λ is. ap (option_map character_in) (same its) ∙ sym (character_there es id q its (Some e) w.there is)),
+      ∙ alike (nat_eq id q)
+      (λ is. ap (option_map character_in) (same its) ∙ sym (character_there es id q its w.there is)),
 )
 
 changed_character : {es fs : Entries} {id code : ℕ} {e f : Entry} {new : Option Glyph} → Changes es fs id code e f new → (q its : ℕ)
@@ -151,13 +151,13 @@ changed_character {es} {fs} {id} {code} {e} {f} {new} c q its =
         ≡ cond (t && u) (option_map character_in new) (character_at (view es) q its)
     by false u is = refl
     by true true is = refl
-    by true false is = sym (character_there es id q its (Some e) c.writes.there is)
+    by true false is = sym (character_there es id q its c.writes.there is)
 
 -- a character is sent, or deleted
-pub follows_character : (es fs : Entries) (id code : ℕ) (bytes : List ℕ) (e f : Entry) (glyph : Glyph)
+pub follows_character : {es fs : Entries} {id code : ℕ} {bytes : List ℕ} {e f : Entry} {glyph : Glyph}
     → Changes es fs id code e f (Some glyph) → character_in glyph ≡ character_with bytes
     → Follows (view es) (view fs) (character id code bytes)
-follows_character es fs id code bytes e f glyph c is history h = record {
+follows_character {es} {fs} {id} {code} {bytes} {e} {f} {glyph} c is history h = record {
   fonts = λ q. written_font c.writes q ∙ h.fonts q;
   characters = λ q its. changed_character c q its
       ∙ ap (λ (x : Character). cond (nat_eq id q && nat_eq code its) (Some x) (character_at (view es) q its)) is
@@ -171,19 +171,19 @@ follows_character es fs id code bytes e f glyph c is history h = record {
     by true false q its is = h.characters q its
     by true true q its is =
         ap (λ (o : Option Font). cond (is_some o) (Some (character_with bytes)) (character_after history q its))
-        (sym (font_there es id q (Some e) c.writes.there is) ∙ h.fonts q)
+        (sym (font_there es id q c.writes.there is) ∙ h.fonts q)
 
-pub follows_one_character : (es fs : Entries) (id code : ℕ) (e f : Entry) → Changes es fs id code e f None
+pub follows_one_character : {es fs : Entries} {id code : ℕ} (e f : Entry) → Changes es fs id code e f None
     → Follows (view es) (view fs) (control OneCharacter id code)
-follows_one_character es fs id code e f c history h = record {
+follows_one_character {es} {fs} {id} {code} e f c history h = record {
   fonts = λ q. written_font c.writes q ∙ h.fonts q;
   characters = λ q its. changed_character c q its ∙ ap (cond (nat_eq id q && nat_eq code its) None) (h.characters q its);
 }
 
 -- without a font of the ID a character is dropped
-pub follows_dropped : (es : Entries) (id code : ℕ) (bytes : List ℕ) → lookup (nat_eq id) es ≡ None
+pub follows_dropped : (es : Entries) {id code : ℕ} {bytes : List ℕ} → lookup (nat_eq id) es ≡ None
     → Follows (view es) (view es) (character id code bytes)
-follows_dropped es id code bytes none history h = record {
+follows_dropped es {id} {code} {bytes} none history h = record {
   fonts = h.fonts;
   characters = λ q its. h.characters q its ∙ by (nat_eq id q) (nat_eq code its) q its refl;
 }
@@ -194,7 +194,7 @@ follows_dropped es id code bytes none history h = record {
     by true false q its is = refl
     by true true q its is =
         ap (λ (o : Option Font). cond (is_some o) (Some (character_with bytes)) (character_after history q its))
-        (sym (font_there es id q None none is) ∙ h.fonts q)
+        (sym (font_there es id q none is) ∙ h.fonts q)
 
 -- ---- temporary and permanent fonts
 
@@ -207,9 +207,9 @@ pub record Marks (es fs : Entries) (id : ℕ) (e f : Entry) (permanent : Bool) :
 abbrev pub making : Bool → FontControl
 making permanent = if permanent then MakePermanent else MakeTemporary
 
-pub follows_mark : (es fs : Entries) (id code : ℕ) (e f : Entry) (permanent : Bool) → Marks es fs id e f permanent
+pub follows_mark : {es fs : Entries} {id code : ℕ} (e f : Entry) {permanent : Bool} → Marks es fs id e f permanent
     → Follows (view es) (view fs) (control (making permanent) id code)
-follows_mark es fs id code e f permanent m history h = marked permanent refl
+follows_mark {es} {fs} {id} {code} e f {permanent} m history h = marked permanent refl
   where
     fonts : (q : ℕ) → font_at (view fs) q
         ≡ cond (nat_eq id q) (option_map (with_permanent permanent) (font_after history q)) (font_after history q)
@@ -219,14 +219,14 @@ follows_mark es fs id code e f permanent m history h = marked permanent refl
             ≡ cond t (option_map (with_permanent permanent) (font_after history q)) (font_after history q)
         by false is = h.fonts q
         by true is = ap Some m.font_is
-            ∙ ap (option_map (with_permanent permanent)) (sym (font_there es id q (Some e) m.there is) ∙ h.fonts q)
+            ∙ ap (option_map (with_permanent permanent)) (sym (font_there es id q m.there is) ∙ h.fonts q)
 
     characters : (q its : ℕ) → character_at (view fs) q its ≡ character_after history q its
     characters q its =
         character_becomes es fs id (Some f) m.becomes q its
-        ∙ alike (nat_eq id q) (entry_character (Some f) its) (character_at (view es) q its)
+        ∙ alike (nat_eq id q)
         (λ is. ap (λ cs. option_map character_in (lookup (nat_eq its) cs.entries)) m.characters
-        ∙ sym (character_there es id q its (Some e) m.there is))
+        ∙ sym (character_there es id q its m.there is))
         ∙ h.characters q its
 
     marked : (b : Bool) → b ≡ permanent → Holds (view fs) (control (making b) id code ∷ history)
@@ -244,30 +244,30 @@ follows_mark es fs id code e f permanent m history h = marked permanent refl
         }
 
 -- what isn't there is left alone
-absent : {A : Type 0} (t : Bool) (x y : Option A) → (t ≡ true → y ≡ None) → (f : Option A → Option A) → f None ≡ None → cond t (f y) y ≡ y
-absent true x y none f stays = ap f (none refl) ∙ stays ∙ sym (none refl)
-absent false x y none f stays = refl
+absent : {A : Type 0} (t : Bool) (x : Option A) {y : Option A} → (t ≡ true → y ≡ None) → (f : Option A → Option A) → f None ≡ None → cond t (f y) y ≡ y
+absent true x {y} none f stays = ap f (none refl) ∙ stays ∙ sym (none refl)
+absent false x {y} none f stays = refl
 
-pub follows_no_mark : (es : Entries) (id code : ℕ) (permanent : Bool) → lookup (nat_eq id) es ≡ None
+pub follows_no_mark : (es : Entries) {id code : ℕ} (permanent : Bool) → lookup (nat_eq id) es ≡ None
     → Follows (view es) (view es) (control (making permanent) id code)
-follows_no_mark es id code permanent none history h = marked permanent
+follows_no_mark es {id} {code} permanent none history h = marked permanent
   where
     gone : (q : ℕ) → nat_eq id q ≡ true → font_after history q ≡ None
-    gone q is = sym (h.fonts q) ∙ font_there es id q None none is
+    gone q is = sym (h.fonts q) ∙ font_there es id q none is
 
     marked : (b : Bool) → Holds (view es) (control (making b) id code ∷ history)
     marked true = record {
-      fonts = λ q. h.fonts q ∙ sym (absent (nat_eq id q) None (font_after history q) (gone q) (option_map (with_permanent true)) refl);
+      fonts = λ q. h.fonts q ∙ sym (absent (nat_eq id q) None (gone q) (option_map (with_permanent true)) refl);
       characters = h.characters;
     }
     marked false = record {
-      fonts = λ q. h.fonts q ∙ sym (absent (nat_eq id q) None (font_after history q) (gone q) (option_map (with_permanent false)) refl);
+      fonts = λ q. h.fonts q ∙ sym (absent (nat_eq id q) None (gone q) (option_map (with_permanent false)) refl);
       characters = h.characters;
     }
 
-pub follows_no_character : (es : Entries) (id code : ℕ) → lookup (nat_eq id) es ≡ None
+pub follows_no_character : (es : Entries) {id code : ℕ} → lookup (nat_eq id) es ≡ None
     → Follows (view es) (view es) (control OneCharacter id code)
-follows_no_character es id code none history h = record {
+follows_no_character es {id} {code} none history h = record {
   fonts = h.fonts;
   characters = λ q its. h.characters q its ∙ by (nat_eq id q) (nat_eq code its) q its refl;
 }
@@ -276,7 +276,7 @@ follows_no_character es id code none history h = record {
         → character_after history q its ≡ cond (t && u) None (character_after history q its)
     by false u q its is = refl
     by true false q its is = refl
-    by true true q its is = sym (h.characters q its) ∙ character_there es id q its None none is
+    by true true q its is = sym (h.characters q its) ∙ character_there es id q its none is
 
 -- ---- fonts that are deleted
 
@@ -284,9 +284,9 @@ pub follows_all : (es : Entries) (id code : ℕ) → Follows (view es) [] (contr
 follows_all es id code history h = record { fonts = λ q. refl; characters = λ q its. refl }
 
 -- the temporary ones
-pub follows_temporary : (es fs : Entries) (id code : ℕ) → IsDistinct nat_eq (keys_of es)
+pub follows_temporary : (es : Entries) {fs : Entries} {id code : ℕ} → IsDistinct nat_eq (keys_of es)
     → fs ≡ filter (λ (e : ℕ × Entry). e.1.is_permanent) es → Follows (view es) (view fs) (control Temporary id code)
-follows_temporary es fs id code distinct kept history h = record {
+follows_temporary es {fs} {id} {code} distinct kept history h = record {
   fonts = λ q. font_view fs q ∙ ap (option_map font_in) (left q) ∙ fonts (lookup (nat_eq q) es)
       ∙ ap if_permanent (sym (font_view es q) ∙ h.fonts q);
   characters = λ q its. character_view fs q its ∙ ap (λ (o : Option Entry). entry_character o its) (left q)
@@ -319,21 +319,21 @@ follows_temporary es fs id code distinct kept history h = record {
 -- ---- what a map's calls say
 
 -- what is written through a loan of an entry
-pub becomes_of : {S : Type 0} (m n : IndexMap ℕ Entry S) (id : ℕ) (e f : Entry) → get nat_eq m id ≡ Some e
+pub becomes_of : {S : Type 0} (m : IndexMap ℕ Entry S) {n : IndexMap ℕ Entry S} (id : ℕ) {e f : Entry} → get nat_eq m id ≡ Some e
     → WritesThrough nat_eq (nat_eq id) m f n → Becomes m.entries n.entries id (Some f)
-becomes_of m n id e f there w = (w.3 (ap is_some there)).0
+becomes_of m {n} id {e} {f} there w = (w.3 (ap is_some there)).0
 
-pub writes_of : {S : Type 0} (m n : IndexMap ℕ Entry S) (id : ℕ) (e f : Entry) → get nat_eq m id ≡ Some e
+pub writes_of : {S : Type 0} {m n : IndexMap ℕ Entry S} {id : ℕ} {e f : Entry} → get nat_eq m id ≡ Some e
     → WritesThrough nat_eq (nat_eq id) m f n → font_in f ≡ font_in e → Writes m.entries n.entries id e f
-writes_of m n id e f there w same = record { there = there; becomes = becomes_of m n id e f there w; same = same }
+writes_of {m} {n} {id} {e} {f} there w same = record { there = there; becomes = becomes_of m id there w; same = same }
 
 -- ---- what becomes of a character
 
-pub character_dropped : (es : Entries) (id code : ℕ) (bytes : List ℕ) → lookup (nat_eq id) es ≡ None
+pub character_dropped : (es : Entries) {id code : ℕ} {bytes : List ℕ} → lookup (nat_eq id) es ≡ None
     → HasCharacter id code bytes (Ok tt) (view es) (view es)
-character_dropped es id code bytes none = (
+character_dropped es {id} {code} {bytes} none = (
   λ is. absurd (true≢false (sym is ∙ ap is_some (font_view es id ∙ ap (option_map font_in) none))),
-  follows_dropped es id code bytes none,
+  follows_dropped es none,
 )
 
 pub character_refused : {es fs : Entries} {id : ℕ} {e f : Entry} (code : ℕ) (bytes : List ℕ) → Writes es fs id e f
@@ -349,7 +349,7 @@ character_refused {es} {fs} {id} code bytes w same other = (
 pub character_taken : {es fs : Entries} {id code : ℕ} {e f : Entry} {glyph : Glyph} (bytes : List ℕ)
     → Changes es fs id code e f (Some glyph) → is_character bytes ≡ true → character_in glyph ≡ character_with bytes
     → HasCharacter id code bytes (Ok tt) (view es) (view fs)
-character_taken {es} {fs} {id} {code} {e} {f} {glyph} bytes c whole is = (λ _. whole, follows_character es fs id code bytes e f glyph c is)
+character_taken {es} {fs} {id} {code} {e} {f} {glyph} bytes c whole is = (λ _. whole, follows_character c is)
 
 -- ---- what is looked up
 
@@ -363,10 +363,10 @@ info_view es id = ap info_of (font_view es id) ∙ joined (lookup (nat_eq id) es
 pub printed_none : (es : Entries) (id code : ℕ) → lookup (nat_eq id) es ≡ None → printed (view es) id code ≡ None
 printed_none es id code none = ap (printed_in (view es) id code) (font_view es id ∙ ap (option_map font_in) none)
 
-pub printed_view : (es : Entries) (id code : ℕ) (e : Entry) → lookup (nat_eq id) es ≡ Some e
+pub printed_view : (es : Entries) (id code : ℕ) {e : Entry} → lookup (nat_eq id) es ≡ Some e
     → printed (view es) id code
     ≡ (if has_code e.font_type code then option_map character_in (lookup (nat_eq code) e.characters.entries) else None)
-printed_view es id code e there =
+printed_view es id code {e} there =
     ap (printed_in (view es) id code) (font_view es id ∙ ap (option_map font_in) there)
     ∙ ap (λ (o : Option Character). cond (has_code e.font_type code) o None)
     (character_view es id code ∙ ap (λ (o : Option Entry). entry_character o code) there)

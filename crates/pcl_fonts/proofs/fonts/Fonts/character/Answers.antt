@@ -14,14 +14,14 @@ returns-in_default c =
     subst (λ (t : FontTable). HasCharacter c.args.id c.args.code c.args.bytes.now (Ok tt) c.args.self.now t)
     (sym c.self.view_is ∙ ap (λ n. view n.entries) (sym c.get_mut.follows.holds-at-none))
     (subst (λ (t : FontTable). HasCharacter c.args.id c.args.code c.args.bytes.now (Ok tt) t t) c.self.view_is
-    (character_dropped m.entries c.args.id c.args.code c.args.bytes.now (sym c.in_default.ensures.value)))
+    (character_dropped m.entries (sym c.in_default.ensures.value)))
 
 pub returns-in_default-read : goal.returns-in_default-read
 returns-in_default-read c =
     let m = c.self.inside.entries in
     let e = c.in-Some.entry.now in
     let n = c.get_mut.follows.lender e in
-    let w = writes_of m n c.args.id e e (sym c.in-Some.ensures.value) (c.get_mut.follows.holds e) refl in
+    let w = writes_of (sym c.in-Some.ensures.value) (c.get_mut.follows.holds e) refl in
     subst (λ (t : FontTable). HasCharacter c.args.id c.args.code c.args.bytes.now (Err (Refused CharacterData)) t (view n.entries))
     c.self.view_is
     (character_refused c.args.code c.args.bytes.now w (λ q. refl) c.in_default-read.ensures)
@@ -35,7 +35,7 @@ returns c =
     let e = c.in-Some.entry.now in
     let f : Entry = record { info = e.info; font_type = e.font_type; is_permanent = e.is_permanent; characters = c.insert.new.self } in
     let n = c.get_mut.follows.lender f in
-    let w = writes_of m n c.args.id e f (sym c.in-Some.ensures.value) (c.get_mut.follows.holds f) refl in
+    let w = writes_of (sym c.in-Some.ensures.value) (c.get_mut.follows.holds f) refl in
     let bytes = c.args.bytes.now in
     subst (λ (t : FontTable). HasCharacter c.args.id c.args.code bytes c.match-insert.result t (view n.entries)) c.self.view_is
     (elim c.match-insert.branch [

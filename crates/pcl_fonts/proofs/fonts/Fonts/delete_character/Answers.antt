@@ -13,12 +13,12 @@ returns c =
           let f : Entry =
           record { info = e.info; font_type = e.font_type; is_permanent = e.is_permanent; characters = w.swap_remove.new.self } in
           let n = c.get_mut.follows.lender f in
-          let writes = writes_of m n c.args.id e f (sym w.in-Some.ensures.value) (c.get_mut.follows.holds f) refl in
+          let writes = writes_of (sym w.in-Some.ensures.value) (c.get_mut.follows.holds f) refl in
           follows_as c.self.view_is (ap (λ i. view i.entries.entries) (sym w.self-inside-is)) refl
-          (follows_one_character m.entries n.entries c.args.id c.args.code e f
+          (follows_one_character e f
           (record { writes = writes; characters = w.swap_remove.ensures.updates.0 }))
       | in_default w ↦
           follows_as c.self.view_is
           (ap (λ n. view n.entries) (sym c.get_mut.follows.holds-at-none) ∙ ap (λ i. view i.entries.entries) (sym w.self-inside-is)) refl
-          (follows_no_character m.entries c.args.id c.args.code (sym w.in_default.ensures.value))
+          (follows_no_character m.entries (sym w.in_default.ensures.value))
     ]

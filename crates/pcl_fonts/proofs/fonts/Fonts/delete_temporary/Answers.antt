@@ -6,5 +6,5 @@ use Rattle.pcl_fonts.proofs.fonts.Fonts.delete_temporary.Goals as goal
 pub returns : goal.returns
 returns c =
     follows_as c.self.view_is refl refl
-    (follows_temporary c.self.inside.entries.entries c.retain.new.self.entries 0 0 c.self.invariant
+    (follows_temporary c.self.inside.entries.entries c.self.invariant
     (filter-RetainsPairs _ _ _ (λ k v b w g call. search rules) _ _ c.retain.ensures.filtered))

@@ -10,10 +10,10 @@ returns-in_err-entry c =
 
 pub returns-then-not-has_code : goal.returns-then-not-has_code
 returns-then-not-has_code c =
-    let p = printed_view c.self.inside.entries.entries c.args.id c.args.code c.in_ok-entry.entry.now (sym c.in_ok-entry.ensures.value) in
+    let p = printed_view c.self.inside.entries.entries c.args.id c.args.code (sym c.in_ok-entry.ensures.value) in
     search rules ∙ sym p ∙ ap (λ (t : FontTable). printed t c.args.id c.args.code) c.self.view_is
 
 pub returns : goal.returns
 returns c =
-    let p = printed_view c.self.inside.entries.entries c.args.id c.args.code c.in_ok-entry.entry.now (sym c.in_ok-entry.ensures.value) in
+    let p = printed_view c.self.inside.entries.entries c.args.id c.args.code (sym c.in_ok-entry.ensures.value) in
     search rules ∙ sym p ∙ ap (λ (t : FontTable). printed t c.args.id c.args.code) c.self.view_is

@@ -7,7 +7,7 @@ pub returns-in-Ok : goal.returns-in-Ok
 returns-in-Ok c =
     let header = c.in-Some.header in (
       c.in-Some.ensures.0,
-      λ history h. follows_header c.self.inside.entries.entries c.insert.new.self.entries c.args.id c.args.bytes.now
+      λ history h. follows_header c.self.inside.entries.entries c.insert.new.self.entries
           (record { info = header.info; font_type = header.font_type; is_permanent = false; characters = c.new.result })
           c.in-Ok.ensures.updates.0 c.in-Some.ensures.1 c.new.ensures.empty history
           (subst (λ (t : FontTable). Holds t history) (sym c.self.view_is) h),

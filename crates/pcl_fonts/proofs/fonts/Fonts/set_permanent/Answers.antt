@@ -14,14 +14,14 @@ returns c =
           record { info = e.info; font_type = e.font_type; is_permanent = c.args.is_permanent; characters = e.characters } in
           let n = c.get_mut.follows.lender f in
           follows_as c.self.view_is (ap (λ i. view i.entries.entries) (sym w.self-inside-is)) refl
-          (follows_mark m.entries n.entries c.args.id 0 e f c.args.is_permanent (record {
+          (follows_mark e f (record {
             there = sym w.in-Some.ensures.value;
-            becomes = becomes_of m n c.args.id e f (sym w.in-Some.ensures.value) (c.get_mut.follows.holds f);
+            becomes = becomes_of m c.args.id (sym w.in-Some.ensures.value) (c.get_mut.follows.holds f);
             font_is = refl;
             characters = refl;
           }))
       | in_default w ↦
           follows_as c.self.view_is
           (ap (λ n. view n.entries) (sym c.get_mut.follows.holds-at-none) ∙ ap (λ i. view i.entries.entries) (sym w.self-inside-is)) refl
-          (follows_no_mark m.entries c.args.id 0 c.args.is_permanent (sym w.in_default.ensures.value))
+          (follows_no_mark m.entries c.args.is_permanent (sym w.in_default.ensures.value))
     ]

@@ -7,6 +7,6 @@ returns c = (
   is_taken c.args.bytes.now c.word-width.result c.word-height.result (omega (arith, c.if-bytes-lt-DESCRIPTOR_BYTES.false))
       (search rules) c.word-width.ensures c.word-height.ensures (omega (arith, c.if-bytes-size.false, c.pattern_bytes-size.ensures)),
   same_character (search rules) (search rules) c.word-width.ensures c.word-height.ensures (search rules)
-      (rows_are c.args.bytes.now c.word-width.result c.word-height.result c.pattern_bytes-size.result c.pattern_bytes-size.ensures
+      (rows_are c.args.bytes.now c.pattern_bytes-size.ensures
       c.word-width.ensures c.word-height.ensures),
 )
