@@ -56,9 +56,9 @@ follows_defined es fs begun later id from to b history h q =
     ∙ ap (cond (nat_eq id q) (Some (record { from = from; to = to; permanent = false }))) (h q)
 
 -- a macro that is gone
-pub controls_one : (es fs : Entries) (begun : Option Begun) (id : ℕ) → Becomes es fs id None
+pub controls_one : (es fs : Entries) {begun : Option Begun} (id : ℕ) → Becomes es fs id None
     → Controls (view es begun) (view fs begun) (control One id)
-controls_one es fs begun id b = (
+controls_one es fs {begun} id b = (
   λ history h q. macro_becomes es fs begun begun id None b q ∙ ap (cond (nat_eq id q) None) (h q),
   refl,
 )
@@ -73,52 +73,52 @@ abbrev marked_at : Bool → ℕ → ℕ → Option MacroBody → Option MacroBod
 marked_at permanent id q body = cond (nat_eq id q) (option_map (with_permanent permanent) body) body
 
 -- a table in which the macro of an ID is marked
-pub controls_marked : (es fs : Entries) (begun : Option Begun) (id : ℕ) (permanent : Bool)
+pub controls_marked : (es fs : Entries) {begun : Option Begun} (id : ℕ) (permanent : Bool)
     → ((q : ℕ) → macro_at (view fs begun) q ≡ marked_at permanent id q (macro_at (view es begun) q))
     → Controls (view es begun) (view fs begun) (control (making permanent) id)
-controls_marked es fs begun id true marks = (λ history h q. marks q ∙ ap (marked_at true id q) (h q), refl)
-controls_marked es fs begun id false marks = (λ history h q. marks q ∙ ap (marked_at false id q) (h q), refl)
+controls_marked es fs {begun} id true marks = (λ history h q. marks q ∙ ap (marked_at true id q) (h q), refl)
+controls_marked es fs {begun} id false marks = (λ history h q. marks q ∙ ap (marked_at false id q) (h q), refl)
 
 -- the macro of an ID under another name
-macro_there : (es : Entries) (begun : Option Begun) (id q : ℕ) (o : Option Body) → lookup (nat_eq id) es ≡ o → nat_eq id q ≡ true
+macro_there : (es : Entries) (begun : Option Begun) (id q : ℕ) {o : Option Body} → lookup (nat_eq id) es ≡ o → nat_eq id q ≡ true
     → macro_at (view es begun) q ≡ option_map macro_in o
-macro_there es begun id q o there is =
+macro_there es begun id q {o} there is =
     macro_view es begun q
     ∙ ap (option_map macro_in) (subst (λ (i : ℕ). lookup (nat_eq i) es ≡ o) (eqb-true id q is) there)
 
 -- one that is there
-pub controls_mark : (es fs : Entries) (begun : Option Begun) (id : ℕ) (e : Body) (permanent : Bool)
+pub controls_mark : (es fs : Entries) {begun : Option Begun} (id : ℕ) {e : Body} (permanent : Bool)
     → lookup (nat_eq id) es ≡ Some e
     → Becomes es fs id (Some (record { from = e.from; to = e.to; is_permanent = permanent }))
     → Controls (view es begun) (view fs begun) (control (making permanent) id)
-controls_mark es fs begun id e permanent there b =
-    controls_marked es fs begun id permanent (λ q. macro_becomes es fs begun begun id _ b q ∙ by q (nat_eq id q) refl)
+controls_mark es fs {begun} id {e} permanent there b =
+    controls_marked es fs id permanent (λ q. macro_becomes es fs begun begun id _ b q ∙ by q (nat_eq id q) refl)
   where
     by : (q : ℕ) (t : Bool) → nat_eq id q ≡ t
         → cond t (Some (record { from = e.from; to = e.to; permanent = permanent })) (macro_at (view es begun) q)
         ≡ cond t (option_map (with_permanent permanent) (macro_at (view es begun) q)) (macro_at (view es begun) q)
     by q false is = refl
-    by q true is = ap (option_map (with_permanent permanent)) (sym (macro_there es begun id q (Some e) there is))
+    by q true is = ap (option_map (with_permanent permanent)) (sym (macro_there es begun id q there is))
 
 -- what isn't there is left alone
-pub controls_no_mark : (es : Entries) (begun : Option Begun) (id : ℕ) (permanent : Bool) → lookup (nat_eq id) es ≡ None
+pub controls_no_mark : (es : Entries) {begun : Option Begun} (id : ℕ) (permanent : Bool) → lookup (nat_eq id) es ≡ None
     → Controls (view es begun) (view es begun) (control (making permanent) id)
-controls_no_mark es begun id permanent none = controls_marked es es begun id permanent (λ q. by q (nat_eq id q) refl)
+controls_no_mark es {begun} id permanent none = controls_marked es es id permanent (λ q. by q (nat_eq id q) refl)
   where
     by : (q : ℕ) (t : Bool) → nat_eq id q ≡ t
         → macro_at (view es begun) q
         ≡ cond t (option_map (with_permanent permanent) (macro_at (view es begun) q)) (macro_at (view es begun) q)
     by q false is = refl
     by q true is =
-        let gone = macro_there es begun id q None none is in
+        let gone = macro_there es begun id q none is in
         gone ∙ ap (option_map (with_permanent permanent)) (sym gone)
 
 -- ---- macros that are deleted
 
 -- the temporary ones
-pub controls_temporary : (es fs : Entries) (begun : Option Begun) (id : ℕ) → IsDistinct nat_eq (keys_of es)
+pub controls_temporary : (es : Entries) {fs : Entries} {begun : Option Begun} (id : ℕ) → IsDistinct nat_eq (keys_of es)
     → fs ≡ filter (λ (e : ℕ × Body). e.1.is_permanent) es → Controls (view es begun) (view fs begun) (control Temporary id)
-controls_temporary es fs begun id distinct kept = (
+controls_temporary es {fs} {begun} id distinct kept = (
   λ history h q. macro_view fs begun q ∙ ap (option_map macro_in) (left q) ∙ macros (lookup (nat_eq q) es)
       ∙ ap if_permanent (sym (macro_view es begun q) ∙ h q),
   refl,
@@ -134,9 +134,9 @@ controls_temporary es fs begun id distinct kept = (
 -- ---- what a map's calls say
 
 -- what is written through a loan of an entry
-pub becomes_of : {S : Type 0} (m n : IndexMap ℕ Body S) (id : ℕ) (e f : Body) → get nat_eq m id ≡ Some e
+pub becomes_of : {S : Type 0} (m : IndexMap ℕ Body S) {n : IndexMap ℕ Body S} (id : ℕ) {e f : Body} → get nat_eq m id ≡ Some e
     → WritesThrough nat_eq (nat_eq id) m f n → Becomes m.entries n.entries id (Some f)
-becomes_of m n id e f there w = (w.3 (ap is_some there)).0
+becomes_of m {n} id {e} {f} there w = (w.3 (ap is_some there)).0
 
 -- ---- what is looked up
 

@@ -10,4 +10,4 @@ pub returns : goal.returns
 returns c =
     let begun = option_map begun_in c.self.inside.begun in
     controls_as (control One c.args.id) c.self.view_is refl
-    (controls_one c.self.inside.bodies.entries c.swap_remove.new.self.entries begun c.args.id c.swap_remove.ensures.updates.0)
+    (controls_one c.self.inside.bodies.entries c.swap_remove.new.self.entries c.args.id c.swap_remove.ensures.updates.0)

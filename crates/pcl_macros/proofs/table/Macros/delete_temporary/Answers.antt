@@ -10,6 +10,6 @@ use Rattle.pcl_macros.proofs.table.Macros.delete_temporary.Goals as goal
 pub returns : goal.returns
 returns c =
     controls_as (control Temporary 0) c.self.view_is refl
-    (controls_temporary c.self.inside.bodies.entries c.retain.new.self.entries (option_map begun_in c.self.inside.begun) 0
+    (controls_temporary c.self.inside.bodies.entries 0
     c.self.invariant
     (filter-RetainsPairs _ _ _ (λ k v b w g call. search rules) _ _ c.retain.ensures.filtered))

@@ -19,10 +19,10 @@ returns c =
           let n = c.get_mut.follows.lender f in
           let there = sym w.in-Some.ensures.value in
           controls_as event c.self.view_is (ap table_view (sym w.self-inside-is))
-          (controls_mark m.entries n.entries begun c.args.id e c.args.is_permanent there
-          (becomes_of m n c.args.id e f there (c.get_mut.follows.holds f)))
+          (controls_mark m.entries n.entries c.args.id c.args.is_permanent there
+          (becomes_of m c.args.id there (c.get_mut.follows.holds f)))
       | in_default w ↦
           controls_as event c.self.view_is
           (ap (λ n. view n.entries begun) (sym c.get_mut.follows.holds-at-none) ∙ ap table_view (sym w.self-inside-is))
-          (controls_no_mark m.entries begun c.args.id c.args.is_permanent (sym w.in_default.ensures.value))
+          (controls_no_mark m.entries c.args.id c.args.is_permanent (sym w.in_default.ensures.value))
     ]
