@@ -7,15 +7,15 @@ use Rattle.pcl_env.specs.declared.effect.Effect.TheVariants as page
 use Rattle.pcl_env.specs.Settings.{Settings}
 use Rattle.pcl_env.specs.Outcome.{Answers, counted, stays_if}
 
-taken_if : (b : Bool) (w n : ℕ) (test : ℕ → Bool) (change : ℕ → Settings → Settings) (old new : Settings)
+taken_if : (b : Bool) (w n : ℕ) (test : ℕ → Bool) (change : ℕ → Settings → Settings) {old new : Settings}
     → (if b then None else Some w) ≡ Some n → test n ≡ true → new ≡ change n old
     → Answers (if b then None else stays_if (test w) (change w old)) (Ok page.Stay) old new
-taken_if true w n test change old new is_n holds changed = cc
-taken_if false w n test change old new is_n holds changed =
+taken_if true w n test change {old} {new} is_n holds changed = cc
+taken_if false w n test change {old} {new} is_n holds changed =
     let same : w ≡ n = cc in
     rw (same, holds) (refl, changed)
 
 pub taken : (v : Value) (n : ℕ) (test : ℕ → Bool) (change : ℕ → Settings → Settings) (old new : Settings)
     → count_of v ≡ Some n → test n ≡ true → new ≡ change n old
     → Answers (counted v (λ m. stays_if (test m) (change m old))) (Ok page.Stay) old new
-taken v n test change old new = taken_if (is_below_zero v) (whole_of v) n test change old new
+taken v n test change old new = taken_if (is_below_zero v) (whole_of v) n test change
