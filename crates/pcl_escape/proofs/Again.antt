@@ -56,7 +56,7 @@ end_on : {n : ℕ} {prefix : Prefix} (at begin : ℕ) {end : Parameter} {sent : 
     → IsEnd prefix end sent → length ((parameter_bytes end ++ sent) ++ behind) ≤ n
     → Gives (begin + length (parameter_bytes end ++ sent)) behind read → steps_in n prefix at begin
     ((parameter_bytes end ++ sent) ++ behind) ≡ with_front (command_of prefix at end sent ∷ []) read
-end_on {n} {prefix} at begin {end} {sent} behind {read} is h gives =
+end_on {n} {prefix} at begin {end} {sent} behind is h gives =
     let long = parameter_long end in
     let l0 = length-append (parameter_bytes end ++ sent) behind in
     let l1 = length-append (parameter_bytes end) sent in
@@ -136,10 +136,10 @@ broken_again : (middle : List Parameter) (n : ℕ) {prefix : Prefix} (at begin :
     → AllByRecursion (IsMiddle prefix) middle → FailsParameter prefix (place_from at begin middle) bytes refusal
     → length (flat_map parameter_bytes middle ++ bytes) ≤ n → steps_in n prefix at begin (flat_map parameter_bytes middle ++ bytes)
     ≡ Err refusal
-broken_again [] n {prefix} at begin {bytes} {refusal} each f h =
+broken_again [] n at begin {bytes} each f h =
     ap (λ (r : Result Reads Refusal). after r (λ reads. outcome n reads.inside (begin + (length bytes - length reads.rest)) reads.rest))
     (fault_again f)
-broken_again (parameter ∷ middle) zero {prefix} at begin {bytes} {refusal} each f h = absurd (too_long_front parameter middle bytes h)
+broken_again (parameter ∷ middle) zero at begin {bytes} each f h = absurd (too_long_front parameter middle bytes h)
 broken_again (parameter ∷ middle) (suc n) {prefix} at begin {bytes} {refusal} each f h =
     let next = begin + length (parameter_bytes parameter) in
     let rest = flat_map parameter_bytes middle ++ bytes in
@@ -206,7 +206,7 @@ broken_on : (n : ℕ) {prefix : Prefix} (at : ℕ) (middle : List Parameter) {by
     ≡ steps_in n prefix at (first_place at prefix) (flat_map parameter_bytes middle ++ bytes)
 broken_on n {prefix} at [] {bytes} {refusal} is apart each f = first_on n prefix at bytes (Err refusal) is apart (is_wrong f)
     (fault_again f)
-broken_on n {prefix} at (parameter ∷ middle) {bytes} {refusal} is apart each f =
+broken_on n {prefix} at (parameter ∷ middle) {bytes} is apart each f =
     let rest = flat_map parameter_bytes middle ++ bytes in
     let all : flat_map parameter_bytes (parameter ∷ middle) ++ bytes ≡ parameter_bytes parameter ++ rest =
     append_assoc (parameter_bytes parameter) (flat_map parameter_bytes middle) bytes in
@@ -230,7 +230,7 @@ piece_on : (piece : Piece) {n : ℕ} (at : ℕ) {rest : List ℕ} {said : Option
     → 0 < length (spelling piece) → start_at at (spelling piece ++ rest) ≡ piece_reads said rest
     → length (spelling piece ++ rest) < suc n → Gives (at + length (spelling piece)) rest read
     → outcome (suc n) None at (spelling piece ++ rest) ≡ with_front (commands_said said) read
-piece_on piece {n} at {rest} {said} {read} long e h gives =
+piece_on piece {n} at {rest} {said} long e h gives =
     let l = length-append (spelling piece) rest in
     let some : 0 < length (spelling piece ++ rest) = omega arith in
     let fits : length rest < n = omega arith in
@@ -244,16 +244,16 @@ piece_on piece {n} at {rest} {said} {read} long e h gives =
 piece_again : (piece : Piece) (n at : ℕ) (bytes : List ℕ) {read : Result (List Said) Refusal} → IsPiece piece bytes
     → length (spelling piece ++ bytes) < n → Gives (at + length (spelling piece)) bytes read
     → outcome n None at (spelling piece ++ bytes) ≡ with_front (commands_from at piece) read
-piece_again piece zero at bytes {read} is h gives = absurd (omega arith)
-piece_again (silent byte) (suc n) at bytes {read} is h gives = piece_on (silent byte) at (omega arith)
+piece_again piece zero at bytes is h gives = absurd (omega arith)
+piece_again (silent byte) (suc n) at bytes is h gives = piece_on (silent byte) at (omega arith)
     (silent_again at byte is) h gives
-piece_again (control code) (suc n) at bytes {read} is h gives = piece_on (control code) at
+piece_again (control code) (suc n) at bytes is h gives = piece_on (control code) at
     (omega arith) (control_again is.0 is.1 is.2) h gives
-piece_again (text []) (suc n) at bytes {read} is h gives = absurd is
-piece_again (text (byte ∷ more)) (suc n) at bytes {read} is h gives =
+piece_again (text []) (suc n) at bytes is h gives = absurd is
+piece_again (text (byte ∷ more)) (suc n) at bytes is h gives =
     piece_on (text (byte ∷ more)) at (omega arith)
     (text_again is) h gives
-piece_again (two_character byte) (suc n) at bytes {read} is h gives = piece_on (two_character byte) at (omega arith) (two_again at byte bytes is.0 is.1) h gives
+piece_again (two_character byte) (suc n) at bytes is h gives = piece_on (two_character byte) at (omega arith) (two_again at byte bytes is.0 is.1) h gives
 piece_again (combined prefix middle end sent) (suc n) at bytes {read} is h gives =
     let place : at + length (spelling (combined prefix middle end sent)) ≡ first_place at prefix + length
     (sequence_bytes middle end sent) = sym (place_prefixed at prefix (sequence_bytes middle end sent)) in
@@ -266,36 +266,36 @@ piece_again (combined prefix middle end sent) (suc n) at bytes {read} is h gives
     ∙ whole_on n at middle bytes is.0 is.1 is.2
     ∙ whole_again middle n prefix at (first_place at prefix) end sent bytes read is.1 is.2 fits
     (subst (λ (k : ℕ). Gives k bytes read) place gives)
-piece_again (exit field lines) (suc n) at bytes {read} is h gives = piece_on (exit field lines) at (omega arith) (exit_again is) h gives
+piece_again (exit field lines) (suc n) at bytes is h gives = piece_on (exit field lines) at (omega arith) (exit_again is) h gives
 
 -- a first step that fails ends the reading
 at_once : (n at byte : ℕ) (rest : List ℕ) {refusal : Refusal} → start_at at (byte ∷ rest) ≡ Err refusal
     → outcome (suc n) None at (byte ∷ rest) ≡ Err refusal
 unfolding outcome
-at_once n at byte rest {refusal} e =
+at_once n at byte rest e =
     ap (λ (r : Result Reads Refusal). after r (λ reads. outcome n reads.inside
     (at + (length (byte ∷ rest) - length reads.rest)) reads.rest)) e
 
 -- the fault at a place outside sequences is found
 fault_found : {n at : ℕ} {bytes : List ℕ} {refusal : Refusal} → Fails at bytes refusal → length bytes < suc n
     → outcome (suc n) None at bytes ≡ Err refusal
-fault_found {n} {at} {bytes} {refusal} (unknown_control {code = code} {bytes = rest} c s o) h =
+fault_found {n} {at} (unknown_control {code = code} {bytes = rest} c s o) h =
     at_once n at code rest (unknown_control_again rest c s o)
-fault_found {n} {at} {bytes} {refusal} lone_escape h = at_once n at 27 [] (lone_escape_again)
-fault_found {n} {at} {bytes} {refusal} (no_sequence {byte = byte} {bytes = rest} t p) h = at_once n at 27 (byte ∷ rest)
+fault_found {n} {at} lone_escape h = at_once n at 27 [] (lone_escape_again)
+fault_found {n} {at} (no_sequence {byte = byte} {bytes = rest} t p) h = at_once n at 27 (byte ∷ rest)
     (no_sequence_again byte rest t p)
-fault_found {n} {at} {bytes} {refusal} (unknown_two {byte = byte} {bytes = rest} t o) h = at_once n at 27 (byte ∷ rest)
+fault_found {n} {at} (unknown_two {byte = byte} {bytes = rest} t o) h = at_once n at 27 (byte ∷ rest)
     (unknown_two_again rest t o)
-fault_found {n} {at} {bytes} {refusal} (no_group {byte = byte} p u) h = at_once n at 27 (byte ∷ []) (no_group_again p)
-fault_found {n} {at} {bytes} {refusal} (bad_group {byte = byte} {group = group} {bytes = rest} p u g) h =
+fault_found {n} {at} (no_group {byte = byte} p u) h = at_once n at 27 (byte ∷ []) (no_group_again p)
+fault_found {n} {at} (bad_group {byte = byte} {group = group} {bytes = rest} p u g) h =
     at_once n at 27 (byte ∷ group ∷ rest) (bad_group_again group rest p u g)
-fault_found {n} {at} {bytes} {refusal} (in_parameter {bytes = rest} prefix middle is apart each f) h =
+fault_found {n} {at} {refusal} (in_parameter {bytes = rest} prefix middle is apart each f) h =
     let fits : length (flat_map parameter_bytes middle ++ rest) ≤ n = let m = length-append (prefix_bytes prefix)
     (flat_map parameter_bytes middle ++ rest) in omega arith in
     broken_on n at middle is apart each f
     ∙ broken_again middle n at (first_place at prefix) each
     (subst (λ (k : ℕ). FailsParameter prefix k rest refusal) (sym (place_in_sequence at prefix middle)) f) fits
-fault_found {n} {at} {bytes} {refusal} (in_line {bytes = rest} field lines line f x e each ends l p) h =
+fault_found {n} {at} (in_line {bytes = rest} field lines line f x e each ends l p) h =
     at_once n at 27 (37 ∷ (field_bytes field ++ 88 ∷ (joined lines ++ (line ++ rest))))
     (in_line_again at field lines f x e each ends l p)
 

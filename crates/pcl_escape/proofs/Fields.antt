@@ -72,7 +72,7 @@ sign_by : {byte : ℕ} {bytes : List ℕ} (plus minus : Bool) → eqb byte 43 �
     → IsSignFront (byte ∷ bytes) (sign_at (byte ∷ bytes))
 sign_by {byte} {bytes} true minus p m = rw p (record { joined = ap (λ (b : ℕ). b ∷ bytes) (eqb-true byte 43 p); stops = λ e. absurd cc })
 sign_by {byte} {bytes} false true p m = rw (p, m) (record { joined = ap (λ (b : ℕ). b ∷ bytes) (eqb-true byte 45 m); stops = λ e. absurd cc })
-sign_by {byte} {bytes} false false p m = rw (p, m) (record { joined = refl; stops = λ e. rw (p, m) refl })
+sign_by false false p m = rw (p, m) (record { joined = refl; stops = λ e. rw (p, m) refl })
 
 -- the sign that is read is the one at the front
 sign_split : (bytes : List ℕ) → IsSignFront bytes (sign_at bytes)
@@ -117,7 +117,7 @@ fraction_by {byte} {bytes} true p =
       no_digit = λ n. d.stops;
       same = λ e. absurd cc;
     })
-fraction_by {byte} {bytes} false p = rw p (record { joined = refl; digits = tt; no_point = λ e. p; no_digit = λ n. n; same = λ e. refl })
+fraction_by false p = rw p (record { joined = refl; digits = tt; no_point = λ e. p; no_digit = λ n. n; same = λ e. refl })
 
 -- the fraction that is read is the one at the front
 fraction_split : (bytes : List ℕ) → IsFractionFront bytes (fraction_at bytes)
@@ -194,7 +194,7 @@ record Stops (field : Spelled) (rest : List ℕ) : Type 0 where
 
 -- the three from the one test
 stops_parts : {field : Spelled} (rest : List ℕ) → FieldStops field rest → Stops field rest
-stops_parts {field} [] s = record { no_digit = tt; no_point = λ e. tt; no_sign = λ e. tt }
+stops_parts [] s = record { no_digit = tt; no_point = λ e. tt; no_sign = λ e. tt }
 stops_parts {field} (byte ∷ rest) s =
     let p = or_parts (is_digit byte) (eqb byte 46 && is_none field.fraction) (is_sign byte && is_bare field) s in
     record {

@@ -24,11 +24,11 @@ pub record IsFront (test : ℕ → Bool) (bytes : List ℕ) (parts : List ℕ ×
 -- a byte that passes is taken
 pub front_yes : (test : ℕ → Bool) {byte : ℕ} (bytes : List ℕ) → test byte ≡ true
     → front_at test (byte ∷ bytes) ≡ (byte ∷ (front_at test bytes).0, (front_at test bytes).1)
-front_yes test {byte} bytes e = rw (e, one-add) refl
+front_yes test bytes e = rw (e, one-add) refl
 
 -- at another byte the front ends
 pub front_no : (test : ℕ → Bool) {byte : ℕ} {bytes : List ℕ} → test byte ≡ false → front_at test (byte ∷ bytes) ≡ ([], byte ∷ bytes)
-front_no test {byte} {bytes} e = rw e refl
+front_no test e = rw e refl
 
 -- the front, by the test of the first byte
 front_by : (test : ℕ → Bool) (byte : ℕ) (bytes : List ℕ) (passes : Bool) → test byte ≡ passes → IsFront test bytes (front_at test bytes)

@@ -82,9 +82,9 @@ whole_again (byte ∷ line) none = rw none.0 (ap (λ (n : ℕ). suc n) (whole_ag
 
 -- a line is found as it ends
 found_again : {line behind : List ℕ} → Ends line behind → line_len (line ++ behind) ≡ length line
-found_again {line} {behind} (inl (text, same, none)) = subst (λ (bs : List ℕ). line_len (bs ++ behind) ≡ length bs) (sym same)
+found_again {behind} (inl (text, same, none)) = subst (λ (bs : List ℕ). line_len (bs ++ behind) ≡ length bs) (sym same)
     (fed_again text behind none)
-found_again {line} {behind} (inr (same, none)) = subst (λ (bs : List ℕ). line_len (line ++ bs) ≡ length line) (sym same)
+found_again {line} (inr (same, none)) = subst (λ (bs : List ℕ). line_len (line ++ bs) ≡ length line) (sym same)
     (whole_again line none)
 
 -- ---- one step
@@ -116,8 +116,8 @@ at_line {line} {behind} more place is =
 -- any number of steps that is enough
 next_same : (job language pcl : Bool) (place : ℕ) (bytes behind : List ℕ) {a b : Result (List ℕ) ℕ} → (job ≡ true → a ≡ b)
     → by_tests job language pcl place bytes behind a ≡ by_tests job language pcl place bytes behind b
-next_same true language pcl place bytes behind {a} {b} h = ap (by_tests true language pcl place bytes behind) (h refl)
-next_same false language pcl place bytes behind {a} {b} h = refl
+next_same true language pcl place bytes behind h = ap (by_tests true language pcl place bytes behind) (h refl)
+next_same false language pcl place bytes behind h = refl
 
 -- the bytes behind a line are fewer
 behind_shorter : (bytes : List ℕ) → is_job_line bytes ≡ true → length (drop (line_len bytes) bytes) < length bytes
@@ -166,17 +166,17 @@ last_joined (first ∷ lines) line rest =
 -- one more line that asks for no language
 more_lines : {line : List ℕ} {all : List (List ℕ)} {rest : List ℕ} → IsLine line (joined all ++ rest) → names_language line ≡ false
     → AreLines all rest → AreLines (line ∷ all) rest
-more_lines {line} {all} {rest} is none (to_other_bytes lines each e) = to_other_bytes (line ∷ lines) (is, none, each) e
-more_lines {line} {all} {rest} is none (to_pcl lines last each ends l p) =
+more_lines {line} is none (to_other_bytes lines each e) = to_other_bytes (line ∷ lines) (is, none, each) e
+more_lines {line} {rest} is none (to_pcl lines last each ends l p) =
     to_pcl (line ∷ lines) last (subst (IsLine line) (last_joined lines last rest) is, none, each) ends l p
 
 -- a line in front
 line_first : {place : ℕ} {line behind : List ℕ} {read : Result (List ℕ) ℕ} → IsLine line behind → names_language line ≡ false
     → Lines (place + length line) behind read → Lines place (line ++ behind) read
-line_first {place} {line} {behind} {read} is none (skipped lines rest each) =
+line_first {place} {line} is none (skipped lines rest each) =
     subst (λ (bs : List ℕ). Lines place bs (Ok rest)) (append_assoc line (joined lines) rest)
     (skipped (line ∷ lines) rest (more_lines is none each))
-line_first {place} {line} {behind} {read} is none (foreign lines last rest each ends l p) =
+line_first {place} {line} is none (foreign lines last rest each ends l p) =
     let further : place + length (line ++ joined lines) ≡ (place + length line) + length (joined lines) = let e =
     length-append line (joined lines) in omega arith in
     subst₂ (λ (bs : List ℕ) (k : ℕ). Lines place bs (Err k)) (append_assoc line (joined lines) (last ++ rest)) further
@@ -186,10 +186,10 @@ line_first {place} {line} {behind} {read} is none (foreign lines last rest each 
 split_by : {place : ℕ} {line behind : List ℕ} (language pcl : Bool) {next : Result (List ℕ) ℕ} → IsLine line behind
     → names_language line ≡ language → names_pcl line ≡ pcl → Lines (place + length line) behind next
     → Lines place (line ++ behind) (by_tests true language pcl place (line ++ behind) behind next)
-split_by {place} {line} {behind} false pcl {next} is l p h = line_first is l h
-split_by {place} {line} {behind} true true {next} is l p h = subst (λ (bs : List ℕ). Lines place (bs ++ behind) (Ok behind)) (append-nil line)
+split_by false pcl is l p h = line_first is l h
+split_by {place} {line} {behind} true true is l p h = subst (λ (bs : List ℕ). Lines place (bs ++ behind) (Ok behind)) (append-nil line)
     (skipped (line ∷ []) behind (to_pcl [] line tt is l p))
-split_by {place} {line} {behind} true false {next} is l p h = subst (λ (k : ℕ). Lines place (line ++ behind) (Err k)) (add-zero place)
+split_by {place} {line} {behind} true false is l p h = subst (λ (k : ℕ). Lines place (line ++ behind) (Err k)) (add-zero place)
     (foreign [] line behind tt is l p)
 
 job_by : (n : ℕ) {place : ℕ} {bytes : List ℕ} (job : Bool) → is_job_line bytes ≡ job
@@ -197,7 +197,7 @@ job_by : (n : ℕ) {place : ℕ} {bytes : List ℕ} (job : Bool) → is_job_line
     (lines_from n (place + line_len bytes) (drop (line_len bytes) bytes)))
     → Lines place bytes (lines_from (suc n) place bytes)
 unfolding lines_from
-job_by n {place} {bytes} false e h = rw e (skipped [] bytes (to_other_bytes [] tt e))
+job_by n {bytes} false e h = rw e (skipped [] bytes (to_other_bytes [] tt e))
 job_by n {place} {bytes} true e h =
     let line = take (line_len bytes) bytes in
     let behind = drop (line_len bytes) bytes in
@@ -211,8 +211,8 @@ job_by n {place} {bytes} true e h =
 
 -- what the steps give says what the bytes are
 pub lines_split : (n : ℕ) {place : ℕ} {bytes : List ℕ} → length bytes < n → Lines place bytes (lines_from n place bytes)
-lines_split zero {place} {bytes} h = absurd (omega arith)
-lines_split (suc n) {place} {bytes} h =
+lines_split zero h = absurd (omega arith)
+lines_split (suc n) {bytes} h =
     job_by n (is_job_line bytes) refl
     (λ e. let shorter = behind_shorter bytes e in lines_split n (omega arith))
 
@@ -223,9 +223,9 @@ others_again : (lines : List (List ℕ)) (n place : ℕ) (behind : List ℕ) {re
     → length (joined lines ++ behind) < n
     → ((m : ℕ) → length behind < m → lines_from m (place + length (joined lines)) behind ≡ read)
     → lines_from n place (joined lines ++ behind) ≡ read
-others_again [] n place behind {read} each h gives = ap (λ (k : ℕ). lines_from n k behind) (sym (add-zero place)) ∙ gives n h
-others_again (line ∷ lines) zero place behind {read} each h gives = absurd (omega arith)
-others_again (line ∷ lines) (suc n) place behind {read} each h gives =
+others_again [] n place behind each h gives = ap (λ (k : ℕ). lines_from n k behind) (sym (add-zero place)) ∙ gives n h
+others_again (line ∷ lines) zero place behind each h gives = absurd (omega arith)
+others_again (line ∷ lines) (suc n) place behind each h gives =
     let all : (line ++ joined lines) ++ behind ≡ line ++ (joined lines ++ behind) = append_assoc line (joined lines) behind in
     let parts = length-append line (joined lines ++ behind) in
     let whole = ap length all in
@@ -242,21 +242,21 @@ others_again (line ∷ lines) (suc n) place behind {read} each h gives =
 -- at other bytes the steps end
 other_bytes : (m place : ℕ) {behind : List ℕ} → length behind < m → is_job_line behind ≡ false → lines_from m place behind ≡ Ok behind
 unfolding lines_from
-other_bytes zero place {behind} h e = absurd (omega arith)
-other_bytes (suc m) place {behind} h e = rw e refl
+other_bytes zero place h e = absurd (omega arith)
+other_bytes (suc m) place h e = rw e refl
 
 -- so do they at a line that asks for a language
 asking_line : (m place : ℕ) {line behind : List ℕ} {pcl : Bool} → length (line ++ behind) < m → IsLine line behind
     → names_language line ≡ true → names_pcl line ≡ pcl → lines_from m place (line ++ behind) ≡ (if pcl then Ok behind else Err place)
-asking_line zero place {line} {behind} {pcl} h is l p = absurd (omega arith)
-asking_line (suc m) place {line} {behind} {pcl} h is l p = at_line m place is ∙ rw (l, p) refl
+asking_line zero place h is l p = absurd (omega arith)
+asking_line (suc m) place h is l p = at_line m place is ∙ rw (l, p) refl
 
 -- lines are skipped
 pub lines_again : {all : List (List ℕ)} (place : ℕ) {rest : List ℕ} → AreLines all rest → lines_at place (joined all ++ rest) ≡ Ok rest
-lines_again {all} place {rest} (to_other_bytes lines each e) =
+lines_again place {rest} (to_other_bytes lines each e) =
     others_again lines (suc (length (joined lines ++ rest))) place rest each (omega arith)
     (λ m fits. other_bytes m (place + length (joined lines)) fits e)
-lines_again {all} place {rest} (to_pcl lines line each ends l p) =
+lines_again place {rest} (to_pcl lines line each ends l p) =
     let all_bytes : joined (lines ++ line ∷ []) ++ rest ≡ joined lines ++ (line ++ rest) = last_joined lines line rest in
     ap (lines_at place) all_bytes
     ∙ others_again lines (suc (length (joined lines ++ (line ++ rest)))) place (line ++ rest) each (omega arith)
@@ -285,7 +285,7 @@ pub record IsCut (bytes line behind : List ℕ) : Type 0 where
 -- a line that asks for no language is skipped
 pub at_other_line : (place : ℕ) {bytes line behind : List ℕ} → IsCut bytes line behind → false ≡ names_language line
     → lines_at place bytes ≡ lines_at (place + (length bytes - length behind)) behind
-at_other_line place {bytes} {line} {behind} cut l =
+at_other_line place {bytes} {behind} cut l =
     let none : names_language (take (line_len bytes) bytes) ≡ false = ap names_language (sym cut.line_is) ∙ sym l in
     let within = line_within bytes in
     let long : length behind ≡ length bytes - line_len bytes = ap length cut.behind_is ∙ length-drop (line_len bytes) bytes in
@@ -298,7 +298,7 @@ at_other_line place {bytes} {line} {behind} cut l =
 pub at_asking_line : (place : ℕ) {bytes line behind : List ℕ} {pcl : Bool} → IsCut bytes line behind → true ≡ names_language line
     → pcl ≡ names_pcl line → lines_at place bytes ≡ (if pcl then Ok behind else Err place)
 unfolding lines_from
-at_asking_line place {bytes} {line} {behind} {pcl} cut l p =
+at_asking_line place {bytes} {pcl} cut l p =
     let asks : names_language (take (line_len bytes) bytes) ≡ true = ap names_language (sym cut.line_is) ∙ sym l in
     let says : names_pcl (take (line_len bytes) bytes) ≡ pcl = ap names_pcl (sym cut.line_is) ∙ sym p in
     rw (sym cut.job, asks, says, cut.behind_is) refl
@@ -306,4 +306,4 @@ at_asking_line place {bytes} {line} {behind} {pcl} cut l p =
 -- a place behind two parts, counted from the end
 pub place_later : (place : ℕ) {all rest behind : ℕ} → rest ≤ all → behind ≤ rest
     → (place + (all - rest)) + (rest - behind) ≡ place + (all - behind)
-place_later place {all} {rest} {behind} h k = omega arith
+place_later place h k = omega arith

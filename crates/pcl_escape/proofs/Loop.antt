@@ -29,10 +29,10 @@ goes_on_inside (Some prefix) bytes e = tt
 -- a step takes a byte
 pub step_shorter : (inside : Option Prefix) (at : ℕ) (bytes : List ℕ) {reads : Reads} → GoesOn inside bytes
     → step_at inside at bytes ≡ Ok reads → length reads.rest < length bytes
-step_shorter None at [] {reads} goes e = absurd goes
-step_shorter None at (byte ∷ bytes) {reads} goes e = start_shorter
+step_shorter None at [] goes e = absurd goes
+step_shorter None at (byte ∷ bytes) goes e = start_shorter
     (start_step) e
-step_shorter (Some prefix) at bytes {reads} goes e = parameter_shorter prefix at bytes e
+step_shorter (Some prefix) at bytes goes e = parameter_shorter prefix at bytes e
 
 -- the first step, and then the others
 first_step : (n : ℕ) (inside : Option Prefix) (at : ℕ) (bytes : List ℕ) → GoesOn inside bytes
@@ -70,7 +70,7 @@ one_more front total inside rest reads h goes e =
 -- a fault of a step is the job's
 pub stops_at : (front : List Said) (total : ℕ) (inside : Option Prefix) (rest : List ℕ) {fault : Refusal} → GoesOn inside rest
     → step_at inside (total - length rest) rest ≡ Err fault → so_far front total inside rest ≡ Err fault
-stops_at front total inside rest {fault} goes e =
+stops_at front total inside rest goes e =
     ap (with_front front) (first_step (length rest) inside (total - length rest) rest goes
     ∙ ap (λ (r : Result Reads Refusal). after r (λ reads. outcome (length rest) reads.inside
     ((total - length rest) + (length rest - length reads.rest)) reads.rest)) e)

@@ -82,7 +82,7 @@ place_further at front more = let e = length-append front more in omega arith
 piece_first : (piece : Piece) {at : ℕ} {bytes : List ℕ} {read : Result (List Said) Refusal} → IsPiece piece bytes
     → Reading (at + length (spelling piece)) bytes read
     → Reading at (spelling piece ++ bytes) (with_front (commands_from at piece) read)
-piece_first piece {at} {bytes} {read} is (reading pieces behind last each ends) =
+piece_first piece {at} is (reading pieces behind last each ends) =
     let more : Last (at + length (flat_map spelling (piece ∷ pieces))) behind last =
     subst (λ (n : ℕ). Last n behind last) (place_further at (spelling piece) (flat_map spelling pieces)) ends in
     subst₂ (Reading at) (append_assoc (spelling piece) (flat_map spelling pieces) behind)
@@ -110,7 +110,7 @@ middle_first : {prefix : Prefix} {at begin : ℕ} {parameter : Parameter} {bytes
     → IsMiddle prefix parameter
     → Rest prefix (begin + length (parameter_bytes parameter)) (begin + length (parameter_bytes parameter)) bytes read
     → Rest prefix at begin (parameter_bytes parameter ++ bytes) (with_front (command_of prefix at parameter [] ∷ []) read)
-middle_first {prefix} {at} {begin} {parameter} {bytes} {read} is (whole middle end sent behind more each last r) =
+middle_first {prefix} {at} {begin} {parameter} is (whole middle end sent behind more each last r) =
     let next = begin + length (parameter_bytes parameter) in
     let joined : sequence_bytes (parameter ∷ middle) end sent ≡ parameter_bytes parameter ++ sequence_bytes middle end sent =
     append_assoc (parameter_bytes parameter) (flat_map parameter_bytes middle) (parameter_bytes end ++ sent) in
@@ -121,7 +121,7 @@ middle_first {prefix} {at} {begin} {parameter} {bytes} {read} is (whole middle e
     (ap (λ (bs : List ℕ). bs ++ behind) joined ∙ append_assoc (parameter_bytes parameter) (sequence_bytes middle end sent) behind)
     (sym (with_fronts (command_of prefix at parameter [] ∷ []) (parameter_commands prefix next next middle end sent) more))
     (whole (parameter ∷ middle) end sent behind more (is, each) last (subst (λ (n : ℕ). Reading n behind more) place r))
-middle_first {prefix} {at} {begin} {parameter} {bytes} {read} is (broken middle behind refusal each f) =
+middle_first {prefix} {at} {begin} {parameter} is (broken middle behind refusal each f) =
     subst (λ (bs : List ℕ). Rest prefix at begin bs (Err refusal))
     (append_assoc (parameter_bytes parameter) (flat_map parameter_bytes middle) behind)
     (broken (parameter ∷ middle) behind refusal (is, each)
@@ -162,7 +162,7 @@ failing {at} {bytes} {refusal} f = reading [] bytes (Err refusal) tt
 sequence_first : {prefix : Prefix} {at : ℕ} {bytes : List ℕ} {read : Result (List Said) Refusal} → IsPrefix prefix
     → IsUngrouped prefix.group bytes → Rest prefix at (first_place at prefix) bytes read
     → Reading at (27 ∷ (prefix_bytes prefix ++ bytes)) read
-sequence_first {prefix} {at} {bytes} {read} is n (whole middle end sent behind more each last r) =
+sequence_first {prefix} {at} is n (whole middle end sent behind more each last r) =
     let place : first_place at prefix + length (sequence_bytes middle end sent) ≡ at + length
     (spelling (combined prefix middle end sent)) = place_prefixed at prefix (sequence_bytes middle end sent) in
     let joined : spelling (combined prefix middle end sent) ++ behind
@@ -170,7 +170,7 @@ sequence_first {prefix} {at} {bytes} {read} is n (whole middle end sent behind m
     ap (λ (bs : List ℕ). 27 ∷ bs) (append_assoc (prefix_bytes prefix) (sequence_bytes middle end sent) behind) in
     subst (λ (bs : List ℕ). Reading at bs (with_front (parameter_commands prefix at (first_place at prefix) middle end sent) more)) joined
     (piece_first (combined prefix middle end sent) (is, each, last) (subst (λ (n : ℕ). Reading n behind more) place r))
-sequence_first {prefix} {at} {bytes} {read} is n (broken middle behind refusal each f) =
+sequence_first {prefix} {at} is n (broken middle behind refusal each f) =
     failing
     (in_parameter prefix middle is (ungrouped_behind prefix middle behind each n) each
     (subst (λ (n : ℕ). FailsParameter prefix n behind refusal) (place_in_sequence at prefix middle) f))
@@ -180,28 +180,28 @@ sequence_first {prefix} {at} {bytes} {read} is n (broken middle behind refusal e
 -- each step outside a sequence takes a byte
 pub start_shorter : {at : ℕ} {bytes : List ℕ} {read : Result Reads Refusal} {reads : Reads} → Outside at bytes read → read ≡ Ok reads
     → length reads.rest < length bytes
-start_shorter {at} {bytes} {read} {reads} (whole_piece piece rest said is long gives) e =
+start_shorter {reads} (whole_piece piece rest said is long gives) e =
     let same : rest ≡ reads.rest = cc in
     let joined = length-append (spelling piece) rest in
     rw (← same) (omega arith)
-start_shorter {at} {bytes} {read} {reads} (sequence prefix more same is n inside) e =
+start_shorter (sequence prefix more same is n inside) e =
     let shorter = inside_shorter inside e in
     let joined = length-append (prefix_bytes prefix) more in
     omega arith
-start_shorter {at} {bytes} {read} {reads} (wrong f) e = absurd cc
+start_shorter (wrong f) e = absurd cc
 
 -- one step inside a sequence, and what the bytes behind it are, say what all the bytes are
 rest_after : {prefix : Prefix} {at begin : ℕ} {bytes : List ℕ} {read : Result Reads Refusal} {go_on : Reads → Result (List Said) Refusal}
     → Inside prefix at bytes read
     → ((reads : Reads) → read ≡ Ok reads → IsRead reads.inside (begin + (length bytes - length reads.rest)) reads.rest (go_on reads))
     → Rest prefix at begin bytes (after read go_on)
-rest_after {prefix} {at} {begin} {bytes} {read} {go_on} (is_middle parameter rest is) next =
+rest_after {prefix} {at} {begin} {go_on} (is_middle parameter rest is) next =
     let reads : Reads = record { said = Some (command_of prefix at parameter []); rest = rest; inside = Some prefix } in
     let more : Rest prefix (begin + length (parameter_bytes parameter)) (begin + length (parameter_bytes parameter)) rest (go_on reads) =
     subst (λ (n : ℕ). Rest prefix n n rest (go_on reads)) (place_of begin (parameter_bytes parameter) rest)
     (next reads refl (middle_grouped is)) in
     middle_first is more
-rest_after {prefix} {at} {begin} {bytes} {read} {go_on} (is_end parameter sent rest is) next =
+rest_after {prefix} {at} {begin} {go_on} (is_end parameter sent rest is) next =
     let reads : Reads = record { said = Some (command_of prefix at parameter sent); rest = rest; inside = None } in
     let joined : parameter_bytes parameter ++ (sent ++ rest) ≡ (parameter_bytes parameter ++ sent) ++ rest =
     sym (append_assoc (parameter_bytes parameter) sent rest) in
@@ -210,12 +210,12 @@ rest_after {prefix} {at} {begin} {bytes} {read} {go_on} (is_end parameter sent r
     ap (λ (bs : List ℕ). begin + (length bs - length rest)) joined ∙ place_of begin (parameter_bytes parameter ++ sent) rest in
     end_first is
     (subst (λ (n : ℕ). Reading n rest (go_on reads)) place (next reads refl))
-rest_after {prefix} {at} {begin} {bytes} {read} {go_on} (is_wrong {fault = refusal} f) next = broken [] bytes refusal tt f
+rest_after {bytes} (is_wrong {fault = refusal} f) next = broken [] bytes refusal tt f
 
 -- a place behind a sequence's step, counted from ESC and from the first parameter
 pub place_in : (at : ℕ) (prefix : Prefix) (more : List ℕ) {rest : ℕ} → rest < length more
     → at + (length (27 ∷ (prefix_bytes prefix ++ more)) - rest) ≡ first_place at prefix + (length more - rest)
-place_in at prefix more {rest} h = let e = length-append (prefix_bytes prefix) more in omega arith
+place_in at prefix more h = let e = length-append (prefix_bytes prefix) more in omega arith
 
 -- bytes at a place are also those at an equal place
 moved : (inside : Option Prefix) (n m : ℕ) (bytes : List ℕ) (read : Result (List Said) Refusal) → n ≡ m → IsRead inside n bytes read
@@ -227,18 +227,18 @@ reading_after : {at : ℕ} {bytes : List ℕ} {read : Result Reads Refusal} {go_
     → Outside at bytes read
     → ((reads : Reads) → read ≡ Ok reads → IsRead reads.inside (at + (length bytes - length reads.rest)) reads.rest (go_on reads))
     → Reading at bytes (after read go_on)
-reading_after {at} {bytes} {read} {go_on} (whole_piece piece rest said is long gives) next =
+reading_after {at} {go_on} (whole_piece piece rest said is long gives) next =
     let reads : Reads = record { said = said; rest = rest; inside = None } in
     subst (λ (front : List Said). Reading at (spelling piece ++ rest) (with_front front (go_on reads))) gives
     (piece_first piece is (subst (λ (n : ℕ). Reading n rest (go_on reads)) (place_of at (spelling piece) rest)
     (next reads refl)))
-reading_after {at} {bytes} {read} {go_on} (sequence prefix more same is n inside) next =
+reading_after {at} {bytes} {go_on} (sequence prefix more same is n inside) next =
     sequence_first is n
     (rest_after inside
     (λ reads e. moved reads.inside (at + (length bytes - length reads.rest)) (first_place at prefix + (length more - length reads.rest))
     reads.rest (go_on reads)
     (place_in at prefix more (inside_shorter inside e)) (next reads e)))
-reading_after {at} {bytes} {read} {go_on} (wrong {fault = refusal} f) next = failing f
+reading_after (wrong {fault = refusal} f) next = failing f
 
 -- all steps together say what the bytes are
 pub is_read : (n : ℕ) (inside : Option Prefix) (at : ℕ) (bytes : List ℕ) → length bytes < n
@@ -261,7 +261,7 @@ is_read (suc n) (Some prefix) at bytes h = λ g.
 pieces_read : (pieces : List Piece) {behind : List ℕ} {last : Result (List Said) Refusal} {commands : List Said} → ArePieces pieces behind
     → Last (0 + length (flat_map spelling pieces)) behind last
     → with_front (commands_of 0 pieces) last ≡ Ok commands → IsReading (flat_map spelling pieces ++ behind) commands
-pieces_read pieces {behind} {last} {commands} each no_more e =
+pieces_read pieces {commands} each no_more e =
     let same : commands_of 0 pieces ++ [] ≡ commands = cc in
     record {
       pieces = pieces;
@@ -270,14 +270,14 @@ pieces_read pieces {behind} {last} {commands} each no_more e =
       said = sym same
           ∙ append-nil (commands_of 0 pieces);
     }
-pieces_read pieces {behind} {last} {commands} each (first_fault f) e = absurd cc
+pieces_read pieces each (first_fault f) e = absurd cc
 
 -- the fault that was found is the one behind the pieces
 pieces_broken : (pieces : List Piece) {behind : List ℕ} {last : Result (List Said) Refusal} {fault : Refusal} → ArePieces pieces behind
     → Last (0 + length (flat_map spelling pieces)) behind last
     → with_front (commands_of 0 pieces) last ≡ Err fault → IsFault (flat_map spelling pieces ++ behind) fault
-pieces_broken pieces {behind} {last} {fault} each no_more e = absurd cc
-pieces_broken pieces {behind} {last} {fault} each (first_fault {refusal = refusal} f) e =
+pieces_broken pieces each no_more e = absurd cc
+pieces_broken pieces {behind} {fault} each (first_fault {refusal = refusal} f) e =
     let same : refusal ≡ fault = cc in
     record {
       front = pieces;
@@ -291,16 +291,16 @@ pieces_broken pieces {behind} {last} {fault} each (first_fault {refusal = refusa
 -- what a reading without fault says of the job
 all_read : {job : List ℕ} {read : Result (List Said) Refusal} {commands : List Said} → Reading 0 job read → read ≡ Ok commands
     → IsReading job commands
-all_read {job} {read} {commands} (reading pieces behind last each ends) e = pieces_read pieces each ends e
+all_read (reading pieces behind last each ends) e = pieces_read pieces each ends e
 
 -- what a reading with a fault says of the job
 broken_off : {job : List ℕ} {read : Result (List Said) Refusal} {fault : Refusal} → Reading 0 job read → read ≡ Err fault
     → IsFault job fault
-broken_off {job} {read} {fault} (reading pieces behind last each ends) e = pieces_broken pieces each ends e
+broken_off (reading pieces behind last each ends) e = pieces_broken pieces each ends e
 
 -- the commands that are read are those of a reading
 pub reading_of : {job : List ℕ} {commands : List Said} → outcome_of job ≡ Ok commands → IsReading job commands
-reading_of {job} {commands} e = all_read (is_read (suc (length job)) None 0 job (omega arith)) e
+reading_of {job} e = all_read (is_read (suc (length job)) None 0 job (omega arith)) e
 
 -- the fault that is found is the first one
 pub fault_of : (job : List ℕ) (fault : Refusal) → outcome_of job ≡ Err fault → IsFault job fault

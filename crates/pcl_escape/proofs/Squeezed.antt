@@ -33,7 +33,7 @@ longer_front (suc n) (first ∷ said) byte h = ap (λ (bs : List ℕ). first ∷
 
 pub blank_step : {front : List ℕ} (line : List ℕ) (byte : ℕ) → front ≡ take 22 (squeezed line) → true ≡ is_blank byte
     → front ≡ take 22 (squeezed (line ++ byte ∷ []))
-blank_step {front} line byte so_far e = so_far ∙ ap (take 22) (sym (squeezed_more line byte ∙ rw (sym e) (append-nil (squeezed line))))
+blank_step line byte so_far e = so_far ∙ ap (take 22) (sym (squeezed_more line byte ∙ rw (sym e) (append-nil (squeezed line))))
 
 -- a byte that says something, in upper case
 squeezed_other : (line : List ℕ) (byte : ℕ) → false ≡ is_blank byte
@@ -48,11 +48,11 @@ full_step {front} line byte so_far e full =
 
 -- a front that isn't full has room
 has_room : {n m : ℕ} → false ≡ (n == m) → n ≤ m → n < m
-has_room {n} {m} e h = grind (arith, nat_tests)
+has_room e h = grind (arith, nat_tests)
 
 pub push_step : {front : List ℕ} (line : List ℕ) (byte : ℕ) → front ≡ take 22 (squeezed line) → false ≡ is_blank byte → false ≡ (length front == 22)
     → length front ≤ 22 → front ++ to_ascii_uppercase byte ∷ [] ≡ take 22 (squeezed (line ++ byte ∷ []))
-push_step {front} line byte so_far e other within =
+push_step line byte so_far e other within =
     let room = has_room other within in
     let short : length (take 22 (squeezed line)) < 22 = let same = ap length so_far in omega arith in
     ap (λ (bs : List ℕ). bs ++ to_ascii_uppercase byte ∷ []) so_far ∙ longer_front 22 (squeezed line) (to_ascii_uppercase byte) short
@@ -86,10 +86,10 @@ front_names_pcl line = front_is (codes "@PJLENTERLANGUAGE=PCL") 22 (squeezed lin
 -- the same of a slice that holds the front
 pub slice_names_language : {b : Bool} {slice front : List ℕ} (line : List ℕ) → b ≡ starts_with nat_eq slice (codes "@PJLENTERLANGUAGE=")
     → slice ≡ front → front ≡ take 22 (squeezed line) → b ≡ names_language line
-slice_names_language {b} {slice} {front} line e s f = e ∙ ap (λ (bs : List ℕ). starts_with nat_eq bs (codes "@PJLENTERLANGUAGE=")) (s ∙ f)
+slice_names_language line e s f = e ∙ ap (λ (bs : List ℕ). starts_with nat_eq bs (codes "@PJLENTERLANGUAGE=")) (s ∙ f)
     ∙ front_names_language line
 
 pub slice_names_pcl : {b : Bool} {slice front : List ℕ} (line : List ℕ) → b ≡ bytes_eq slice (codes "@PJLENTERLANGUAGE=PCL") → slice ≡ front
     → front ≡ take 22 (squeezed line) → b ≡ names_pcl line
-slice_names_pcl {b} {slice} {front} line e s f = e ∙ ap (λ (bs : List ℕ). bytes_eq bs (codes "@PJLENTERLANGUAGE=PCL")) (s ∙ f)
+slice_names_pcl line e s f = e ∙ ap (λ (bs : List ℕ). bytes_eq bs (codes "@PJLENTERLANGUAGE=PCL")) (s ∙ f)
     ∙ front_names_pcl line

@@ -47,7 +47,7 @@ pub data Outside (at : ℕ) : List ℕ → Result Reads Refusal → Type 0 where
 control_named : {at code : ℕ} {rest : List ℕ} (operation : Option Operation) → operation_of (One code) ≡ operation
     → IsTrue (is_control code) → is_silent code ≡ false
     → Outside at (code ∷ rest) (named_by operation at code rest)
-control_named {at} {code} {rest} None o c s = wrong (unknown_control c s (ap (λ (x : Option Operation). is_some x) o))
+control_named None o c s = wrong (unknown_control c s (ap (λ (x : Option Operation). is_some x) o))
 control_named {at} {code} {rest} (Some operation) o c s =
     whole_piece (control code) rest (Some (bare_command at code)) (c, s, ap (λ (x : Option Operation). is_some x) o) (omega arith) refl
 
@@ -55,7 +55,7 @@ control_named {at} {code} {rest} (Some operation) o c s =
 two_named : {at byte : ℕ} {rest : List ℕ} (operation : Option Operation) → operation_of (One byte) ≡ operation
     → IsTrue (is_two_character byte)
     → Outside at (27 ∷ byte ∷ rest) (named_by operation at byte rest)
-two_named {at} {byte} {rest} None o t = wrong (unknown_two t (ap (λ (x : Option Operation). is_some x) o))
+two_named None o t = wrong (unknown_two t (ap (λ (x : Option Operation). is_some x) o))
 two_named {at} {byte} {rest} (Some operation) o t =
     whole_piece (two_character byte) rest (Some (bare_command at byte)) (t, ap (λ (x : Option Operation). is_some x) o) (omega arith) refl
 
@@ -114,12 +114,12 @@ exit_lines : {at : ℕ} (field : Spelled) {bytes : List ℕ} {read : Result (Lis
     → is_exit exit_name (field_value field) ≡ true → parameter_checks exit_name 88 (field_value field) 0 ≡ Ok 0
     → Lines (at + 3 + length (field_bytes field)) bytes read → Outside at (27 ∷ 37 ∷ (parameter_bytes (exit_parameter field) ++ bytes))
     (skipped_by (Some (exit_command at field)) read)
-exit_lines {at} field {bytes} {read} f x e (skipped lines rest each) =
+exit_lines {at} field f x e (skipped lines rest each) =
     subst (λ (bs : List ℕ). Outside at (27 ∷ 37 ∷ bs) (piece_reads (Some (exit_command at field)) rest))
     (exit_joined field (joined lines) rest)
     (whole_piece (exit field lines) rest (Some (exit_command at field)) (record { field_is = f; leaves = x; checks = e; lines_are = each })
     (omega arith) refl)
-exit_lines {at} field {bytes} {read} f x e (foreign lines line rest each ends l p) =
+exit_lines {at} field f x e (foreign lines line rest each ends l p) =
     subst (λ (bs : List ℕ). Outside at (27 ∷ 37 ∷ bs)
     (refuse NotPcl (at + 3 + length (field_bytes field) + length (joined lines)) exit_name))
     (sym (parameter_joined field 88 (joined lines ++ (line ++ rest))))
@@ -137,7 +137,7 @@ exit_at : {at : ℕ} {field : Spelled} {sent : List ℕ} (rest : List ℕ) → I
     → Outside at (27 ∷ 37 ∷ (parameter_bytes (exit_parameter field) ++ (sent ++ rest)))
     (with_lines (at + 2) (length (parameter_bytes (exit_parameter field) ++ (sent ++ rest)))
     (end_reads percent at (exit_parameter field) sent rest))
-exit_at {at} {field} {sent} rest is x none =
+exit_at {at} {field} rest is x none =
     let checks : parameter_checks exit_name 88 (field_value field) 0 ≡ Ok 0 =
     subst (λ (bs : List ℕ). parameter_checks exit_name 88 (field_value field) (length bs) ≡ Ok (length bs)) none is.checks in
     subst (λ (bs : List ℕ). Outside at (27 ∷ 37 ∷ (parameter_bytes (exit_parameter field) ++ (bs ++ rest)))
@@ -166,7 +166,7 @@ LeavesAt at field sent rest byte letter =
     (with_lines (at + 2) (length (parameter_bytes parameter ++ (sent ++ rest))) (end_reads prefix at parameter sent rest))
 
 leave_step : {at : ℕ} {field : Spelled} {sent : List ℕ} (rest : List ℕ) {byte letter : ℕ} → LeavesAt at field sent rest byte letter
-leave_step {at} {field} {sent} rest {byte} {letter} is x =
+leave_step {at} {field} {sent} rest {letter} is x =
     let spelled = exit_spelled (field_value field) is.letter x in
     let here : LeavesAt at field sent rest 37 88 = λ last leaving. exit_at rest last leaving
     (no_bytes sent (exit_takes_none 88 (field_value field) (length sent) last.checks)) in
@@ -178,19 +178,19 @@ leave_step {at} {field} {sent} rest {byte} {letter} is x =
 ungrouped_found : {at byte : ℕ} {bytes : List ℕ} {read : Result Reads Refusal} → is_ungrouped byte ≡ true → IsUngrouped None bytes
     → Found (record { parameterized = byte; group = None }) at bytes read
     → Outside at (27 ∷ byte ∷ bytes) (with_lines (at + 2) (length bytes) read)
-ungrouped_found {at} {byte} {bytes} {read} u n (is_inside (is_middle parameter rest m)) = absurd (let never = m.letter in cc)
-ungrouped_found {at} {byte} {bytes} {read} u n (is_inside (is_end parameter sent rest e)) =
+ungrouped_found u n (is_inside (is_middle parameter rest m)) = absurd (let never = m.letter in cc)
+ungrouped_found {at} {byte} {bytes} u n (is_inside (is_end parameter sent rest e)) =
     let prefix : Prefix = record { parameterized = byte; group = None } in
     rw e.stays (sequence prefix bytes (end_reads prefix at parameter sent rest) u n (is_end parameter sent rest e))
-ungrouped_found {at} {byte} {bytes} {read} u n (is_inside (is_wrong f)) = sequence (record { parameterized = byte; group = None }) bytes read u n
+ungrouped_found {byte} {bytes} {read} u n (is_inside (is_wrong f)) = sequence (record { parameterized = byte; group = None }) bytes read u n
     (is_wrong f)
-ungrouped_found {at} {byte} {bytes} {read} u n (is_leave parameter sent rest is x) = leave_step rest
+ungrouped_found u n (is_leave parameter sent rest is x) = leave_step rest
     is x
 
 ungrouped_step : {at byte : ℕ} {bytes : List ℕ} → is_ungrouped byte ≡ true → IsUngrouped None bytes
     → Outside at (27 ∷ byte ∷ bytes) (ungrouped_at at byte bytes)
 unfolding ungrouped_at
-ungrouped_step {at} {byte} {bytes} u n =
+ungrouped_step {byte} u n =
     let prefix : Prefix = record { parameterized = byte; group = None } in
     ungrouped_found u n (parameter_step)
 
@@ -209,8 +209,8 @@ group_by : {at byte group : ℕ} {rest : List ℕ} (is may : Bool) → is_group 
 group_by {at} {byte} {group} {rest} true may g u p =
     let prefix : Prefix = record { parameterized = byte; group = Some group } in
     sequence prefix rest (parameter_at prefix at rest) (p, g) tt (grouped_step refl)
-group_by {at} {byte} {group} {rest} false true g u p = ungrouped_step u g
-group_by {at} {byte} {group} {rest} false false g u p = wrong (bad_group p u g)
+group_by false true g u p = ungrouped_step u g
+group_by false false g u p = wrong (bad_group p u g)
 
 -- nothing behind the second byte
 none_behind_second : {at byte : ℕ} (may : Bool) → is_ungrouped byte ≡ may → IsTrue (is_parameterized byte)
@@ -219,13 +219,13 @@ none_behind_second {at} {byte} true u p =
     let prefix : Prefix = record { parameterized = byte; group = None } in
     let nothing : Spelled = record { sign = Absent; whole = []; fraction = None } in
     sequence prefix [] (refuse Truncated at (One byte)) u tt (is_wrong (cut nothing (tt, tt)))
-none_behind_second {at} {byte} false u p = wrong (no_group p u)
+none_behind_second false u p = wrong (no_group p u)
 
 -- by whether there is a third byte
 prefix_step : {at byte : ℕ} (rest : List ℕ) → IsTrue (is_parameterized byte) → Outside at (27 ∷ byte ∷ rest) (prefix_at at byte rest)
 unfolding prefix_at
-prefix_step {at} {byte} [] p = none_behind_second (is_ungrouped byte) refl p
-prefix_step {at} {byte} (group ∷ rest) p = group_by (is_group group) (is_ungrouped byte) refl refl p
+prefix_step {byte} [] p = none_behind_second (is_ungrouped byte) refl p
+prefix_step {byte} (group ∷ rest) p = group_by (is_group group) (is_ungrouped byte) refl refl p
 
 -- a sequence, by what its second byte is
 sequence_by : {at byte : ℕ} {rest : List ℕ} (two parameterized : Bool) → is_two_character byte ≡ two
@@ -233,15 +233,15 @@ sequence_by : {at byte : ℕ} {rest : List ℕ} (two parameterized : Bool) → i
     → Outside at (27 ∷ byte ∷ rest)
     (if two then named_at at byte rest else (if parameterized then prefix_at at byte rest else refuse BadSequence at Empty))
 unfolding named_at
-sequence_by {at} {byte} {rest} true parameterized t p = two_named (operation_of (One byte)) refl t
-sequence_by {at} {byte} {rest} false true t p = prefix_step rest p
-sequence_by {at} {byte} {rest} false false t p = wrong (no_sequence t p)
+sequence_by {byte} true parameterized t p = two_named (operation_of (One byte)) refl t
+sequence_by {rest} false true t p = prefix_step rest p
+sequence_by false false t p = wrong (no_sequence t p)
 
 -- a sequence, by whether it has a second byte
 sequence_step : {at : ℕ} (rest : List ℕ) → Outside at (27 ∷ rest) (sequence_at at rest)
 unfolding sequence_at
-sequence_step {at} [] = wrong lone_escape
-sequence_step {at} (byte ∷ rest) = sequence_by (is_two_character byte) (is_parameterized byte) refl refl
+sequence_step [] = wrong lone_escape
+sequence_step (byte ∷ rest) = sequence_by (is_two_character byte) (is_parameterized byte) refl refl
 
 -- bytes outside sequences, by what their first one is
 start_by : {at byte : ℕ} {rest : List ℕ} (quiet escape code : Bool) → is_silent byte ≡ quiet → (byte == 27) ≡ escape
@@ -250,30 +250,30 @@ start_by : {at byte : ℕ} {rest : List ℕ} (quiet escape code : Bool) → is_s
     (if quiet then piece_reads None rest else (if
     escape then sequence_at at rest else (if code then named_at at byte rest else text_at at (byte ∷ rest))))
 unfolding named_at
-start_by {at} {byte} {rest} true escape code s e c = whole_piece (silent byte) rest None s (omega arith) refl
+start_by {byte} {rest} true escape code s e c = whole_piece (silent byte) rest None s (omega arith) refl
 start_by {at} {byte} {rest} false true code s e c = subst (λ (b : ℕ). Outside at (b ∷ rest) (sequence_at at rest)) (sym (eqb-true byte 27 e))
     (sequence_step rest)
-start_by {at} {byte} {rest} false false true s e c = control_named (operation_of (One byte)) refl c s
-start_by {at} {byte} {rest} false false false s e c = text_run (rw (s, c, e) refl)
+start_by {byte} false false true s e c = control_named (operation_of (One byte)) refl c s
+start_by false false false s e c = text_run (rw (s, c, e) refl)
 
 -- a step outside sequences reads what the bytes begin with
 pub start_step : {at byte : ℕ} {rest : List ℕ} → Outside at (byte ∷ rest) (start_at at (byte ∷ rest))
 unfolding start_at
-start_step {at} {byte} {rest} = start_by (is_silent byte) (byte == 27) (is_control byte) refl refl refl
+start_step {byte} = start_by (is_silent byte) (byte == 27) (is_control byte) refl refl refl
 
 -- ---- from the parts to the step
 
 -- a name that is performed gives its command
 named_again : {at code : ℕ} {rest : List ℕ} (operation : Option Operation) → is_some operation ≡ true
     → named_by operation at code rest ≡ piece_reads (Some (bare_command at code)) rest
-named_again {at} {code} {rest} None s = absurd cc
-named_again {at} {code} {rest} (Some operation) s = refl
+named_again None s = absurd cc
+named_again (Some operation) s = refl
 
 -- a name that isn't performed is refused
 unknown_again : {at code : ℕ} (rest : List ℕ) (operation : Option Operation) → is_some operation ≡ false
     → named_by operation at code rest ≡ refuse UnsupportedCommand at (One code)
-unknown_again {at} {code} rest None s = refl
-unknown_again {at} {code} rest (Some operation) s = absurd cc
+unknown_again rest None s = refl
+unknown_again rest (Some operation) s = absurd cc
 
 -- ESC is no control code
 control_apart : (code : ℕ) → is_control code ≡ true → (code == 27) ≡ false
@@ -290,7 +290,7 @@ parameterized_apart byte p = grind (arith, nat_tests)
 -- a step reads a silent byte
 pub silent_again : (at byte : ℕ) {rest : List ℕ} → is_silent byte ≡ true → start_at at (byte ∷ rest) ≡ piece_reads None rest
 unfolding start_at
-silent_again at byte {rest} s = rw s refl
+silent_again at byte s = rw s refl
 
 -- a step at a control code looks at its name
 at_control : (at code : ℕ) (rest : List ℕ) → is_control code ≡ true → is_silent code ≡ false
@@ -304,7 +304,7 @@ at_text : {at : ℕ} (byte : ℕ) (rest : List ℕ) → is_text byte ≡ true
     ≡ piece_reads (Some (text_command at (take (prefix_len is_text (byte ∷ rest)) (byte ∷ rest))))
     (drop (prefix_len is_text (byte ∷ rest)) (byte ∷ rest))
 unfolding start_at text_at
-at_text {at} byte rest t = let apart = text_apart byte t in rw (apart.0, apart.1, apart.2) refl
+at_text byte rest t = let apart = text_apart byte t in rw (apart.0, apart.1, apart.2) refl
 
 -- a step at a two-character sequence looks at its name
 at_two : (at byte : ℕ) (rest : List ℕ) → is_two_character byte ≡ true
@@ -391,20 +391,20 @@ no_lines begin len (Err fault) s = refl
 
 first_stays : (grouped : Bool) (begin len : ℕ) {read : Result Reads Refusal} → Stays read
     → (if grouped then read else with_lines begin len read) ≡ read
-first_stays true begin len {read} s = refl
+first_stays true begin len s = refl
 first_stays false begin len {read} s = no_lines begin len read s
 
 -- what stands inside a sequence is no universal exit
 inside_stays : {prefix : Prefix} {at : ℕ} {bytes : List ℕ} {read : Result Reads Refusal} → Inside prefix at bytes read → Stays read
-inside_stays {prefix} {at} {bytes} {read} (is_middle parameter rest m) = middle_stays m
-inside_stays {prefix} {at} {bytes} {read} (is_end parameter sent rest e) = e.stays
-inside_stays {prefix} {at} {bytes} {read} (is_wrong f) = tt
+inside_stays (is_middle parameter rest m) = middle_stays m
+inside_stays (is_end parameter sent rest e) = e.stays
+inside_stays (is_wrong f) = tt
 
 -- a step reads the first parameter as it would inside
 pub inside_again : {prefix : Prefix} {at : ℕ} {bytes : List ℕ} {read : Result Reads Refusal} → IsPrefix prefix
     → IsUngrouped prefix.group bytes → Inside prefix at bytes read → parameter_at prefix at bytes ≡ read
     → start_at at (27 ∷ (prefix_bytes prefix ++ bytes)) ≡ read
-inside_again {prefix} {at} {bytes} {read} p n inside e =
+inside_again {prefix} {at} {bytes} p n inside e =
     first_again prefix at bytes p n
     ∙ ap (λ (r : Result Reads Refusal). if is_some prefix.group then r else with_lines (at + 2) (length bytes) r) e
     ∙ first_stays (is_some prefix.group) (at + 2) (length bytes) (inside_stays inside)
@@ -453,13 +453,13 @@ unknown_control_again {at} {code} rest c s n = at_control at code rest c s ∙ u
 -- a step refuses an ESC with nothing behind it
 pub lone_escape_again : {at : ℕ} → start_at at (27 ∷ []) ≡ Err (refusal Truncated at Empty)
 unfolding start_at sequence_at
-lone_escape_again {at} = refl
+lone_escape_again = refl
 
 -- a step refuses an ESC with no second byte of a sequence behind it
 pub no_sequence_again : {at : ℕ} (byte : ℕ) (rest : List ℕ) → is_two_character byte ≡ false → is_parameterized byte ≡ false
     → start_at at (27 ∷ byte ∷ rest) ≡ Err (refusal BadSequence at Empty)
 unfolding start_at sequence_at
-no_sequence_again {at} byte rest t p = rw (t, p) refl
+no_sequence_again byte rest t p = rw (t, p) refl
 
 -- a step refuses a two-character sequence that isn't performed
 pub unknown_two_again : {at byte : ℕ} (rest : List ℕ) → is_two_character byte ≡ true → is_some (operation_of (One byte)) ≡ false

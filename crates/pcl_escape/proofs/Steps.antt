@@ -90,7 +90,7 @@ checked_on : (prefix : Prefix) {at : ℕ} (letter : ℕ) {value : Value} (rest :
           drop len rest;
       inside = if on then Some prefix else None;
     }
-checked_on prefix {at} letter {value} rest len {on} g =
+checked_on prefix {at} letter {value} rest len g =
     ap (λ (b : Bool). Ok record {
       said = Some record {
         at = at;
@@ -124,8 +124,8 @@ middle_step {prefix} {at} field letter rest {len} f l g e =
 end_by : {prefix : Prefix} {at : ℕ} {parameter : Parameter} {bytes rest : List ℕ} (leave : Bool) → IsLast prefix parameter bytes
     → is_leaving prefix parameter ≡ leave
     → Found prefix at (parameter_bytes parameter ++ (bytes ++ rest)) (end_reads prefix at parameter bytes rest)
-end_by {prefix} {at} {parameter} {bytes} {rest} true is l = is_leave parameter bytes rest is l
-end_by {prefix} {at} {parameter} {bytes} {rest} false is l =
+end_by {parameter} {bytes} {rest} true is l = is_leave parameter bytes rest is l
+end_by {parameter} {bytes} {rest} false is l =
     is_inside (is_end parameter bytes rest (record { field = is.field; letter = is.letter; checks = is.checks; stays = l }))
 
 -- any other letter makes a last parameter, with its data
@@ -151,24 +151,24 @@ checked_step : {prefix : Prefix} {at : ℕ} (field : Spelled) (letter : ℕ) (re
     → IsField field → IsTrue (is_letter prefix letter) → goes_on letter ≡ on
     → parameter_checks (parameter_name prefix letter) letter (field_value field) (length rest) ≡ checks
     → Found prefix at (field_bytes field ++ letter ∷ rest) (checked_at prefix at letter (field_value field) rest checks)
-checked_step {prefix} {at} field letter rest true (Ok len) f l g e = middle_step field letter rest f l g e
-checked_step {prefix} {at} field letter rest false (Ok len) f l g e = end_step field letter rest f l g e
-checked_step {prefix} {at} field letter rest on (Err kind) f l g e = is_inside (is_wrong (check field letter rest kind f l e))
+checked_step field letter rest true (Ok len) f l g e = middle_step field letter rest f l g e
+checked_step field letter rest false (Ok len) f l g e = end_step field letter rest f l g e
+checked_step field letter rest on (Err kind) f l g e = is_inside (is_wrong (check field letter rest kind f l e))
 
 -- behind a field that stops stands a letter, or a byte that is none
 letter_step : {prefix : Prefix} {at : ℕ} (field : Spelled) (byte : ℕ) (rest : List ℕ) (letter : Bool) → IsField field
     → extends field byte ≡ false → is_letter prefix byte ≡ letter
     → Found prefix at (field_bytes field ++ byte ∷ rest) (letter_at prefix at field (byte ∷ rest))
-letter_step {prefix} {at} field byte rest true f s l =
+letter_step {prefix} field byte rest true f s l =
     rw l (checked_step field byte rest (goes_on byte)
     (parameter_checks (parameter_name prefix byte) byte (field_value field) (length rest)) f l refl refl)
-letter_step {prefix} {at} field byte rest false f s l = rw l (is_inside (is_wrong (no_letter field byte rest f s l)))
+letter_step field byte rest false f s l = rw l (is_inside (is_wrong (no_letter field byte rest f s l)))
 
 -- behind a field that stops stands a byte, or nothing
 behind_field : {prefix : Prefix} {at : ℕ} (field : Spelled) (rest : List ℕ) → IsField field → FieldStops field rest
     → Found prefix at (field_bytes field ++ rest) (letter_at prefix at field rest)
-behind_field {prefix} {at} field [] f s = rw append-nil (is_inside (is_wrong (cut field f)))
-behind_field {prefix} {at} field (byte ∷ rest) f s = letter_step field byte rest (is_letter prefix byte) f s refl
+behind_field field [] f s = rw append-nil (is_inside (is_wrong (cut field f)))
+behind_field {prefix} field (byte ∷ rest) f s = letter_step field byte rest (is_letter prefix byte) f s refl
 
 -- a step reads what the bytes of a parameter begin with
 pub parameter_step : {prefix : Prefix} {at : ℕ} {bytes : List ℕ} → Found prefix at bytes (parameter_at prefix at bytes)
@@ -189,8 +189,8 @@ grouped_stays parameterized (Some group) letter value g = refl
 -- so they hold none
 inside_found : {prefix : Prefix} {at : ℕ} {bytes : List ℕ} {read : Result Reads Refusal} → is_some prefix.group ≡ true
     → Found prefix at bytes read → Inside prefix at bytes read
-inside_found {prefix} {at} {bytes} {read} g (is_inside inside) = inside
-inside_found {prefix} {at} {bytes} {read} g (is_leave parameter sent rest is l) =
+inside_found g (is_inside inside) = inside
+inside_found {prefix} g (is_leave parameter sent rest is l) =
     let stays = grouped_stays prefix.parameterized prefix.group
     (if goes_on parameter.letter then parameter.letter - 32 else parameter.letter) (field_value parameter.field) g in absurd cc
 
@@ -203,7 +203,7 @@ middle_stays {prefix} {parameter} m =
 
 pub grouped_step : {prefix : Prefix} {at : ℕ} {bytes : List ℕ} → is_some prefix.group ≡ true
     → Inside prefix at bytes (parameter_at prefix at bytes)
-grouped_step {prefix} {at} {bytes} g = inside_found g (parameter_step)
+grouped_step g = inside_found g (parameter_step)
 
 -- ---- each step goes on
 
@@ -222,22 +222,22 @@ rest_shorter parameter sent rest =
 -- each step inside a sequence takes a byte
 pub inside_shorter : {prefix : Prefix} {at : ℕ} {bytes : List ℕ} {read : Result Reads Refusal} {reads : Reads}
     → Inside prefix at bytes read → read ≡ Ok reads → length reads.rest < length bytes
-inside_shorter {prefix} {at} {bytes} {read} {reads} (is_middle parameter rest is) e = let same : rest ≡ reads.rest = cc in
+inside_shorter {reads} (is_middle parameter rest is) e = let same : rest ≡ reads.rest = cc in
     rw (← same) (rest_shorter parameter [] rest)
-inside_shorter {prefix} {at} {bytes} {read} {reads} (is_end parameter sent rest is) e = let same : rest ≡ reads.rest = cc in
+inside_shorter {reads} (is_end parameter sent rest is) e = let same : rest ≡ reads.rest = cc in
     rw (← same) (rest_shorter parameter sent rest)
-inside_shorter {prefix} {at} {bytes} {read} {reads} (is_wrong f) e = absurd cc
+inside_shorter (is_wrong f) e = absurd cc
 
 -- each parameter does
 found_shorter : {prefix : Prefix} {at : ℕ} {bytes : List ℕ} {read : Result Reads Refusal} {reads : Reads} → Found prefix at bytes read
     → read ≡ Ok reads → length reads.rest < length bytes
-found_shorter {prefix} {at} {bytes} {read} {reads} (is_inside inside) e = inside_shorter inside e
-found_shorter {prefix} {at} {bytes} {read} {reads} (is_leave parameter sent rest is l) e = let same : rest ≡ reads.rest = cc in
+found_shorter (is_inside inside) e = inside_shorter inside e
+found_shorter {reads} (is_leave parameter sent rest is l) e = let same : rest ≡ reads.rest = cc in
     rw (← same) (rest_shorter parameter sent rest)
 
 pub parameter_shorter : (prefix : Prefix) (at : ℕ) (bytes : List ℕ) {reads : Reads} → parameter_at prefix at bytes ≡ Ok reads
     → length reads.rest < length bytes
-parameter_shorter prefix at bytes {reads} e = found_shorter
+parameter_shorter prefix at bytes e = found_shorter
     (parameter_step) e
 
 -- ---- from the parts to the step
@@ -295,7 +295,7 @@ end_again {prefix} {at} {parameter} {bytes} {rest} m = last_again prefix at para
 -- a step finds the fault of a parameter
 pub fault_again : {prefix : Prefix} {at : ℕ} {bytes : List ℕ} {fault : Refusal} → FailsParameter prefix at bytes fault
     → parameter_at prefix at bytes ≡ Err fault
-fault_again {prefix} {at} {bytes} {fault} (cut field f) = ap (parameter_at prefix at) (sym (append-nil (field_bytes field)))
+fault_again {prefix} {at} (cut field f) = ap (parameter_at prefix at) (sym (append-nil (field_bytes field)))
     ∙ field_behind prefix at field [] f tt
-fault_again {prefix} {at} {bytes} {fault} (no_letter field byte rest f s l) = field_behind prefix at field (byte ∷ rest) f s ∙ rw l refl
-fault_again {prefix} {at} {bytes} {fault} (check field letter rest kind f l e) = checks_behind prefix at field letter rest f l ∙ rw e refl
+fault_again {prefix} {at} (no_letter field byte rest f s l) = field_behind prefix at field (byte ∷ rest) f s ∙ rw l refl
+fault_again {prefix} {at} (check field letter rest kind f l e) = checks_behind prefix at field letter rest f l ∙ rw e refl
