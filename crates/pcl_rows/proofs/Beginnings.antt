@@ -132,5 +132,5 @@ pub front_read : (bytes : List ℕ) (h : Head) {room count said : ℕ} {back new
     → Begins bytes (head_bytes h) → room ≡ length bytes - length (head_bytes h) → count ≡ min (new_count h) room
     → said ≡ new_count h → back ≡ drop (length bytes - room) bytes → new ≡ take count back → rest ≡ drop count back
     → MatchBool (eqb count said) (IsWholeFront bytes h new rest) (IsCutFront bytes h new rest)
-front_read bytes h {room} {count} {said} {back} {new} {rest} some begins room-is count-is said-is back-is new-is rest-is =
+front_read bytes h {room} {count} some begins room-is count-is said-is back-is new-is rest-is =
     rw (said-is, new-is, rest-is, back-is) (front_is bytes h room count some begins room-is count-is)

@@ -144,7 +144,7 @@ ends_none {head} {byte} {rest} {front} n g d = record {
 ends_once : {head : Head} {byte : ℕ} {rest new : List ℕ} {front : Front} → copies_of head ≡ 1
     → front ≡ record { offset = offset_of head; given = new; rest = [] }
     → drop (length (head_bytes head)) (byte ∷ rest) ≡ new → EndsAs head byte rest front
-ends_once {head} {byte} {rest} {new} {front} one f d = record {
+ends_once {head} {byte} {rest} {new} one f d = record {
   no_more = ap (λ (x : Front). x.rest) f;
   same = λ old.
       let once : given_by head (drop (length (head_bytes head)) (byte ∷ rest)) ≡ new =
@@ -172,7 +172,7 @@ pub data FarCut (offset full last count : ℕ) (rest : List ℕ) : Type 0 where
 
 far_cut : (full offset : ℕ) {last : ℕ} (count : ℕ) (rest missing padding : List ℕ) → last < 255 → length padding ≡ count → 0 < length missing
     → rest ++ missing ≡ (replicate full 255 ++ last ∷ []) ++ padding → FarCut offset full last count rest
-far_cut full offset {last} count [] missing padding lt n some e = gives_none refl refl (drop-nil (full + 1))
+far_cut full offset count [] missing padding lt n some e = gives_none refl refl (drop-nil (full + 1))
 far_cut zero offset {last} count (byte ∷ rest) missing padding lt n some e =
     let b : byte ≡ last = cc in
     let r : rest ++ missing ≡ padding = cc in
@@ -258,7 +258,7 @@ treated_step : (n : ℕ) (method : Method) (byte : ℕ) (rest old : List ℕ) {f
     → treated_by (suc n) method (byte ∷ rest) old ≡ take front.offset old
     ++ (front.given ++ treated_by n method front.rest (drop (front.offset + length front.given) old))
 unfolding treated_by
-treated_step n method byte rest old {front} e =
+treated_step n method byte rest old e =
     ap (λ (f : Front). take f.offset old ++ (f.given ++ treated_by n method f.rest (drop (f.offset + length f.given) old))) e
 
 treated_cut : (n : ℕ) {method : Method} {cut : Element} (shown missing old : List ℕ) → IsElement method cut
@@ -267,7 +267,7 @@ treated_cut : (n : ℕ) {method : Method} {cut : Element} (shown missing old : L
 treated_cut n {method} {cut} [] missing old is e some fits =
     treated_none n method old
     ∙ sym (after_none cut.head (drop (length (head_bytes cut.head)) []) old (drop-nil (length (head_bytes cut.head))))
-treated_cut zero {method} {cut} (byte ∷ rest) missing old is e some fits = absurd (omega arith)
+treated_cut zero (byte ∷ rest) missing old is e some fits = absurd (omega arith)
 treated_cut (suc n) {method} {cut} (byte ∷ rest) missing old is e some fits =
     let c : IsCut cut.head cut.bytes byte rest missing =
     record { in_range = is.head_is.in_range; complete = is.complete; joined = e; lacks = some } in
@@ -283,7 +283,7 @@ treated_cut (suc n) {method} {cut} (byte ∷ rest) missing old is e some fits =
 treated_first : (n : ℕ) (method : Method) (byte : ℕ) (rest old : List ℕ) {front : Front} → front_of method byte rest ≡ front → 0 < n
     → treated_by n method (byte ∷ rest) old ≡ take front.offset old
     ++ (front.given ++ treated_by (n - 1) method front.rest (drop (front.offset + length front.given) old))
-treated_first zero method byte rest old {front} e some = absurd (omega arith)
+treated_first zero method byte rest old e some = absurd (omega arith)
 treated_first (suc n) method byte rest old {front} e some =
     treated_step n method byte rest old e
     ∙ (let less : n ≡ suc n - 1 = omega arith in
@@ -293,13 +293,13 @@ treated_first (suc n) method byte rest old {front} e some =
 -- behind an element are fewer bytes
 behind_shorter : {e : Element} (more : List ℕ) {bytes : List ℕ} {method : Method} → IsElement method e → bytes ≡ element_bytes e ++ more
     → length more < length bytes
-behind_shorter {e} more {bytes} {method} is joined =
+behind_shorter {e} more {method} is joined =
     omega (arith, ap length joined, length-append (element_bytes e) more, spelling_has_byte method e is)
 
 treated_is : (whole : List Element) {n : ℕ} {method : Method} {bytes : List ℕ} {cut : Element} {shown : List ℕ} (old : List ℕ)
     → IsCutIntoElements method bytes whole cut shown → length bytes ≤ n
     → treated_by n method bytes old ≡ treated whole cut shown old
-treated_is [] {n} {method} {bytes} {cut} {shown} old r fits =
+treated_is [] {n} {method} {shown} old r fits =
     ap (λ (bs : List ℕ). treated_by n method bs old) r.joined
     ∙ treated_cut n shown r.lacking.0 old r.element r.lacking.1 r.lacking.2 (omega (arith, ap length r.joined))
 treated_is (e ∷ es) {n} {method} {bytes} {cut} {shown} old r fits =

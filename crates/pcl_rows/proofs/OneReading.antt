@@ -27,7 +27,7 @@ cut_gives d shown old = after_element d.head (drop (length (head_bytes d.head)) 
 one_head : {method : Method} {d e : Element} (shown missing missing' old : List ℕ) → IsElement method d → IsElement method e
     → shown ++ missing ≡ element_bytes d → shown ++ missing' ≡ element_bytes e → length (head_bytes d.head) ≤ length shown
     → cut_gives d shown old ≡ cut_gives e shown old
-one_head {method} {d} {e} shown missing missing' old p q m m' long =
+one_head {d} {e} shown missing missing' old p q m m' long =
     let t = with_head d missing m long in
     let same : head_bytes d.head ++ (t.0 ++ missing') ≡ head_bytes e.head ++ e.bytes =
     sym (append_assoc (head_bytes d.head) t.0 missing') ∙ ap (λ (b : List ℕ). b ++ missing') (sym t.1) ∙ m' in
@@ -37,7 +37,7 @@ one_head {method} {d} {e} shown missing missing' old p q m m' long =
 -- what a cut element gives doesn't depend on the bytes that it lacks
 cuts_agree : {method : Method} {d e : Element} (shown missing missing' old : List ℕ) → IsElement method d → IsElement method e
     → shown ++ missing ≡ element_bytes d → shown ++ missing' ≡ element_bytes e → cut_gives d shown old ≡ cut_gives e shown old
-cuts_agree {method} {d} {e} shown missing missing' old p q m m' =
+cuts_agree {d} {e} shown missing missing' old p q m m' =
     elim (cases_lt (length shown) (length (head_bytes d.head))) [
       | inr long ↦ one_head shown missing missing' old p q m m' long
       | inl short ↦
@@ -53,7 +53,7 @@ cuts_agree {method} {d} {e} shown missing missing' old p q m m' =
 -- bytes of one element at least, and bytes of a cut one alone
 one_is_longer : {method : Method} {e cut : Element} (es : List Element) {shown : List ℕ} (missing rest : List ℕ) → IsElement method e
     → IsElement method cut → shown ++ missing ≡ element_bytes cut → 0 < length missing → shown ≡ flat_map element_bytes (e ∷ es) ++ rest → ⊥
-one_is_longer {method} {e} {cut} es {shown} missing rest p q m some same =
+one_is_longer {e} es missing rest p q m some same =
     cut_is_not_whole missing (flat_map element_bytes es ++ rest) q p m some
     (same ∙ append_assoc (element_bytes e) (flat_map element_bytes es) rest)
 
@@ -61,15 +61,15 @@ one_is_longer {method} {e} {cut} es {shown} missing rest p q m some same =
 readings_agree : (method : Method) (bytes : List ℕ) (whole whole' : List Element) {cut cut' : Element} {shown shown' : List ℕ} (old : List ℕ)
     → IsCutIntoElements method bytes whole cut shown → IsCutIntoElements method bytes whole' cut' shown'
     → treated whole cut shown old ≡ treated whole' cut' shown' old
-readings_agree method bytes [] [] {cut} {cut'} {shown} {shown'} old r r' =
+readings_agree method bytes [] [] {cut'} {shown} {shown'} old r r' =
     let same : shown ≡ shown' = sym r.joined ∙ r'.joined in
     cuts_agree shown r.lacking.0 r'.lacking.0 old r.element r'.element r.lacking.1
     (ap (λ (b : List ℕ). b ++ r'.lacking.0) same ∙ r'.lacking.1)
     ∙ ap (λ (b : List ℕ). cut_gives cut' b old) same
-readings_agree method bytes [] (e ∷ es) {cut} {cut'} {shown} {shown'} old r r' =
+readings_agree method bytes [] (e ∷ es) {shown'} old r r' =
     absurd (one_is_longer es r.lacking.0 shown' r'.elements.0 r.element r.lacking.1 r.lacking.2
     (sym r.joined ∙ r'.joined))
-readings_agree method bytes (d ∷ ds) [] {cut} {cut'} {shown} {shown'} old r r' =
+readings_agree method bytes (d ∷ ds) [] {shown} old r r' =
     absurd (one_is_longer ds r'.lacking.0 shown r.elements.0 r'.element r'.lacking.1 r'.lacking.2
     (sym r'.joined ∙ r.joined))
 readings_agree method bytes (d ∷ ds) (e ∷ es) {cut} {cut'} {shown} {shown'} old r r' =

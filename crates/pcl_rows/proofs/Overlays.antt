@@ -75,7 +75,7 @@ once_each [] = refl
 once_each (byte ∷ bytes) = ap (λ (rest : List ℕ). byte ∷ rest) (once_each bytes)
 
 pub copied_once : {copies : ℕ} (bytes : List ℕ) → copies ≡ 1 → flat_map (λ byte. replicate copies byte) bytes ≡ bytes
-copied_once {copies} bytes once = ap (λ (k : ℕ). flat_map (λ byte. replicate k byte) bytes) once ∙ once_each bytes
+copied_once bytes once = ap (λ (k : ℕ). flat_map (λ byte. replicate k byte) bytes) once ∙ once_each bytes
 
 -- what lies behind the new bytes
 pub drop-overlaid : (old : List ℕ) {place : ℕ} (new : List ℕ) → place ≤ length old
@@ -156,7 +156,7 @@ pub put_more : (old : List ℕ) {row : List ℕ} {start place : ℕ} (copies : �
     → row ≡ overlaid old start (copied copies i bytes) → place ≡ min (length old) (start + length (copied copies i bytes))
     → new ≡ overlaid row place (replicate copies (get_or bytes i 0)) → end ≡ min (length row) (place + copies)
     → (new ≡ overlaid old start (copied copies (i + 1) bytes)) × (end ≡ min (length old) (start + length (copied copies (i + 1) bytes)))
-put_more old {row} {start} {place} copies {i} bytes {new} {end} within more row-is place-is new-is end-is =
+put_more old {start} {place} copies {i} bytes {new} within more row-is place-is new-is end-is =
     let before : List ℕ = copied copies i bytes in
     let last : List ℕ = replicate copies (get_or bytes i 0) in
     let grown = copied_more copies bytes more in

@@ -61,11 +61,11 @@ Fills-none method old =
 none_is_nothing : {method : Method} (whole : List Element) {cut : Element} {shown old : List ℕ}
     → IsCutIntoElements method [] whole cut shown
     → treated whole cut shown old ≡ old
-none_is_nothing {method} [] {cut} {shown} {old} r =
+none_is_nothing [] {cut} {shown} {old} r =
     let none : shown ≡ [] = sym r.joined in
     after_none cut.head (drop (length (head_bytes cut.head)) shown) old
     (ap (drop (length (head_bytes cut.head))) none ∙ drop-nil (length (head_bytes cut.head)))
-none_is_nothing {method} (e ∷ es) {cut} {shown} {old} r =
+none_is_nothing {method} (e ∷ es) {shown} r =
     absurd (omega (
       arith,
       ap length r.joined,
@@ -168,7 +168,7 @@ pub treated_more : {method : Method} {bytes old rest : List ℕ} (row : List ℕ
     → row' ≡ overlaid row start (flat_map (λ byte. replicate copies byte) new)
     → place' ≡ min (length row) (start + length (flat_map (λ byte. replicate copies byte) new))
     → IsTreatedTo method bytes old rest row place → IsTreatedTo method bytes old rest' row' place'
-treated_more {method} {bytes} {old} {rest} row {place} {start} {offset} {copies} {new} {rest'} {whole} {row'} {place'} size within start-is front row-is place-is
+treated_more {method} {old} {rest} row {place} {start} {offset} {copies} {new} {rest'} {whole} {row'} {place'} size within start-is front row-is place-is
     so_far made f =
     let n : ℕ = length old in
     let h : Head = front.head in
@@ -220,7 +220,7 @@ treated_more {method} {bytes} {old} {rest} row {place} {start} {offset} {copies}
 -- where all data is treated
 pub treated_all : {method : Method} {bytes old row : List ℕ} (place : ℕ) → length row ≡ length old
     → IsTreatedTo method bytes old [] row place → RowFrom method bytes old row
-treated_all {method} {bytes} {old} {row} place size so_far =
+treated_all {method} {old} {row} place size so_far =
     let r = so_far (drop place row) (Fills-none method (drop place row)) in
     let whole : row ≡ take (length old) r.0 =
     sym (take_all (length old) row (omega arith)) ∙ ap (take (length old)) (sym (take-append-drop place row)) ∙ sym r.2 in
@@ -236,7 +236,7 @@ treated_none method bytes old made f = (made, f, refl)
 pub whole_cons : {method : Method} {bytes : List ℕ} {h : Head} {new rest : List ℕ} {room : ℕ} → IsHead method h
     → IsWholeFront bytes h new rest → offset_of h + length (given_by h new) ≤ room
     → IsWhole method rest (room - (offset_of h + length (given_by h new))) → IsWhole method bytes room
-whole_cons {method} {bytes} {h} {new} {rest} {room} is front fits (es, are, joined, within) =
+whole_cons {bytes} {h} {new} is front fits (es, are, joined, within) =
     let first : Element = record { head = h; bytes = new } in (
       first ∷ es,
       (record { head_is = is; complete = front.complete }, are),
@@ -255,7 +255,7 @@ whole_uncons_at {method} {bytes} {h} {new} {rest} room [] is front are joined wi
       length-append (head_bytes h ++ new) rest,
       spelling_has_byte method first record { head_is = is; complete = front.complete },
     ))
-whole_uncons_at {method} {bytes} {h} {new} {rest} room (e ∷ es) is front are joined within =
+whole_uncons_at {bytes} {h} {new} room (e ∷ es) is front are joined within =
     let first : Element = record { head = h; bytes = new } in
     let same = same_elements (record { head_is = is; complete = front.complete }) are.0
     (sym front.joined ∙ joined) in
@@ -265,18 +265,18 @@ whole_uncons_at {method} {bytes} {h} {new} {rest} room (e ∷ es) is front are j
 pub whole_uncons : {method : Method} {bytes : List ℕ} {h : Head} {new rest : List ℕ} {room : ℕ} → IsHead method h
     → IsWholeFront bytes h new rest → IsWhole method bytes room
     → (offset_of h + length (given_by h new) ≤ room) × IsWhole method rest (room - (offset_of h + length (given_by h new)))
-whole_uncons {method} {bytes} {h} {new} {rest} {room} is front w = whole_uncons_at room w.0 is front w.1 w.2 w.3
+whole_uncons {room} is front w = whole_uncons_at room w.0 is front w.1 w.2 w.3
 
 cut_not_whole_at : {method : Method} {bytes : List ℕ} {h : Head} {new rest : List ℕ} (es : List Element) → 0 < length bytes
     → IsHead method h → IsCutFront bytes h new rest → AreElements method es → bytes ≡ flat_map element_bytes es → ⊥
-cut_not_whole_at {method} {bytes} {h} {new} {rest} [] some is cut are joined = omega (arith, ap length joined)
-cut_not_whole_at {method} {bytes} {h} {new} {rest} (e ∷ es) some is cut are joined =
+cut_not_whole_at [] some is cut are joined = omega (arith, ap length joined)
+cut_not_whole_at (e ∷ es) some is cut are joined =
     cut_is_not_whole cut.missing (flat_map element_bytes es)
     (record { head_is = is; complete = cut.complete }) are.0 cut.lacking cut.lacks joined
 
 pub cut_not_whole : {method : Method} {bytes : List ℕ} {h : Head} {new rest : List ℕ} {room : ℕ} → 0 < length bytes → IsHead method h
     → IsCutFront bytes h new rest → IsWhole method bytes room → ⊥
-cut_not_whole {method} {bytes} {h} {new} {rest} {room} some is cut w = cut_not_whole_at w.0 some is cut w.1 w.2
+cut_not_whole some is cut w = cut_not_whole_at w.0 some is cut w.1 w.2
 
 pub whole_none : (method : Method) (room : ℕ) → IsWhole method [] room
 whole_none method room = ([], tt, refl, omega arith)
@@ -293,24 +293,24 @@ rest_shorter_at {method} bytes {h} new rest true some is front =
       length-append (head_bytes h ++ new) rest,
       spelling_has_byte method first record { head_is = is; complete = front.complete },
     )
-rest_shorter_at {method} bytes {h} new rest false some is front = omega (arith, ap length front.rest_is)
+rest_shorter_at bytes new rest false some is front = omega (arith, ap length front.rest_is)
 
 pub rest_shorter : {method : Method} {bytes : List ℕ} {offset copies : ℕ} {new rest : List ℕ} {whole : Bool} → 0 < length bytes
     → IsFront method bytes offset copies new rest whole → length rest < length bytes
-rest_shorter {method} {bytes} {offset} {copies} {new} {rest} {whole} some front =
+rest_shorter {bytes} {new} {rest} {whole} some front =
     rest_shorter_at bytes new rest whole some front.head_is front.parts
 
 stop_of_front : {method : Method} {bytes : List ℕ} {offset copies : ℕ} {new rest : List ℕ} {whole : Bool}
     (front : IsFront method bytes offset copies new rest whole) {stopped : ℕ} → stopped ≡ offset + copies * length new
     → stopped ≡ offset_of front.head + length (given_by front.head new)
-stop_of_front {method} {bytes} {offset} {copies} {new} {rest} {whole} front {stopped} e =
+stop_of_front {new} front e =
     omega (arith, e, front.offset_is, ap (λ (k : ℕ). k * length new) front.copies_is, length-copied (copies_of front.head) new)
 
 -- a whole element that stops within the room
 pub whole_more : {method : Method} {all bytes : List ℕ} {limit room offset copies stopped : ℕ} {new rest : List ℕ}
     → IsFront method bytes offset copies new rest true → stopped ≡ offset + copies * length new → stopped ≤ room
     → (IsWhole method all limit ↔ IsWhole method bytes room) → IsWhole method all limit ↔ IsWhole method rest (room - stopped)
-whole_more {method} {all} {bytes} {limit} {room} {offset} {copies} {stopped} {new} {rest} front stop-is fits so_far =
+whole_more {method} {room} {stopped} {new} {rest} front stop-is fits so_far =
     let stop = stop_of_front front stop-is in
     let left : room - (offset_of front.head + length (given_by front.head new)) ≡ room - stopped = ap (λ (k : ℕ). room - k) (sym stop) in (
       (λ w. subst (IsWhole method rest) left (whole_uncons front.head_is front.parts (so_far.0 w)).1),
@@ -323,12 +323,12 @@ whole_more {method} {all} {bytes} {limit} {room} {offset} {copies} {stopped} {ne
 pub whole_past : {method : Method} {bytes : List ℕ} {room offset copies : ℕ} (stopped : ℕ) {new rest : List ℕ}
     → IsFront method bytes offset copies new rest true → stopped ≡ offset + copies * length new → room < stopped
     → IsWhole method bytes room → ⊥
-whole_past {method} {bytes} {room} {offset} {copies} stopped {new} {rest} front stop-is past w =
+whole_past stopped front stop-is past w =
     let stop = stop_of_front front stop-is in
     omega (arith, (whole_uncons front.head_is front.parts w).0)
 
 -- a cut one
 pub whole_cut : {method : Method} {bytes : List ℕ} {room offset copies : ℕ} {new rest : List ℕ} → 0 < length bytes
     → IsFront method bytes offset copies new rest false → IsWhole method bytes room → ⊥
-whole_cut {method} {bytes} {room} {offset} {copies} {new} {rest} some front w =
+whole_cut some front w =
     cut_not_whole some front.head_is front.parts w

@@ -8,50 +8,50 @@ use Rattle.pcl_rows.specs.Elements.{Element, IsHead, IsElement, element_bytes}
 -- the bytes that lengthen an offset end in one way
 further_agree : (full full' : ℕ) {last last' : ℕ} {x y : List ℕ} → last < 255 → last' < 255
     → (replicate full 255 ++ last ∷ []) ++ x ≡ (replicate full' 255 ++ last' ∷ []) ++ y → (full ≡ full') × (last ≡ last') × (x ≡ y)
-further_agree zero zero {last} {last'} {x} {y} p q e = (refl, cc, cc)
-further_agree zero (suc full') {last} {last'} {x} {y} p q e = let h : last ≡ 255 = cc in absurd (omega arith)
-further_agree (suc full) zero {last} {last'} {x} {y} p q e = let h : 255 ≡ last' = cc in absurd (omega arith)
-further_agree (suc full) (suc full') {last} {last'} {x} {y} p q e =
+further_agree zero zero p q e = (refl, cc, cc)
+further_agree zero (suc full') {last} p q e = let h : last ≡ 255 = cc in absurd (omega arith)
+further_agree (suc full) zero {last'} p q e = let h : 255 ≡ last' = cc in absurd (omega arith)
+further_agree (suc full) (suc full') p q e =
     let r = further_agree full full' p q cc in (ap suc r.0, r.1, r.2)
 
 -- heads of one method that begin the same bytes are the same
 heads_agree : (h h' : Head) {x y : List ℕ} → method_of h ≡ method_of h' → IsInRange h → IsInRange h'
     → head_bytes h ++ x ≡ head_bytes h' ++ y → (h ≡ h') × (x ≡ y)
-heads_agree Itself Itself {x} {y} m p q e = (refl, e)
-heads_agree (Count a) (Count b) {x} {y} m p q e = (ap Count cc, cc)
-heads_agree (Literal a) (Literal b) {x} {y} m p q e = (ap Literal cc, cc)
-heads_agree (Literal a) Skipped {x} {y} m p q e = let h : a ≡ 128 = cc in absurd (omega arith)
-heads_agree (Literal a) (Repeat b) {x} {y} m p q e = let h : a ≡ b = cc in absurd (omega arith)
-heads_agree Skipped Skipped {x} {y} m p q e = (refl, cc)
-heads_agree Skipped (Literal a) {x} {y} m p q e = let h : 128 ≡ a = cc in absurd (omega arith)
-heads_agree Skipped (Repeat b) {x} {y} m p q e = let h : 128 ≡ b = cc in absurd (omega arith)
-heads_agree (Repeat a) (Repeat b) {x} {y} m p q e = (ap Repeat cc, cc)
-heads_agree (Repeat a) Skipped {x} {y} m p q e = let h : a ≡ 128 = cc in absurd (omega arith)
-heads_agree (Repeat a) (Literal b) {x} {y} m p q e = let h : a ≡ b = cc in absurd (omega arith)
-heads_agree (Near a o) (Near b o') {x} {y} m p q e =
+heads_agree Itself Itself m p q e = (refl, e)
+heads_agree (Count a) (Count b) m p q e = (ap Count cc, cc)
+heads_agree (Literal a) (Literal b) m p q e = (ap Literal cc, cc)
+heads_agree (Literal a) Skipped m p q e = let h : a ≡ 128 = cc in absurd (omega arith)
+heads_agree (Literal a) (Repeat b) m p q e = let h : a ≡ b = cc in absurd (omega arith)
+heads_agree Skipped Skipped m p q e = (refl, cc)
+heads_agree Skipped (Literal a) m p q e = let h : 128 ≡ a = cc in absurd (omega arith)
+heads_agree Skipped (Repeat b) m p q e = let h : 128 ≡ b = cc in absurd (omega arith)
+heads_agree (Repeat a) (Repeat b) m p q e = (ap Repeat cc, cc)
+heads_agree (Repeat a) Skipped m p q e = let h : a ≡ 128 = cc in absurd (omega arith)
+heads_agree (Repeat a) (Literal b) m p q e = let h : a ≡ b = cc in absurd (omega arith)
+heads_agree (Near a o) (Near b o') m p q e =
     let h : 32 * a + o ≡ 32 * b + o' = cc in
     let more : a ≡ b = omega arith in
     let offset : o ≡ o' = omega arith in (cc, cc)
-heads_agree (Near a o) (Far b f l) {x} {y} m p q e =
+heads_agree (Near a o) (Far b f l) m p q e =
     let h : 32 * a + o ≡ 32 * b + 31 = cc in absurd (omega arith)
-heads_agree (Far a f l) (Near b o) {x} {y} m p q e =
+heads_agree (Far a f l) (Near b o) m p q e =
     let h : 32 * a + 31 ≡ 32 * b + o = cc in absurd (omega arith)
-heads_agree (Far a f l) (Far b f' l') {x} {y} m p q e =
+heads_agree (Far a f l) (Far b f' l') m p q e =
     let h : 32 * a + 31 ≡ 32 * b + 31 = cc in
     let more : a ≡ b = omega arith in
     let r = further_agree f f' p.1 q.1 cc in
     let full = r.0 in let last = r.1 in (cc, r.2)
-heads_agree h h' {x} {y} m p q e = absurd cc
+heads_agree h h' m p q e = absurd cc
 
 pub same_heads : {method : Method} {h h' : Head} {x y : List ℕ} → IsHead method h → IsHead method h'
     → head_bytes h ++ x ≡ head_bytes h' ++ y → (h ≡ h') × (x ≡ y)
-same_heads {method} {h} {h'} {x} {y} p q e = heads_agree h h' (p.method_is ∙ sym q.method_is) p.in_range q.in_range e
+same_heads {h} {h'} p q e = heads_agree h h' (p.method_is ∙ sym q.method_is) p.in_range q.in_range e
 
 -- lists of one length before the same bytes
 same_fronts : (a b : List ℕ) {x y : List ℕ} → length a ≡ length b → a ++ x ≡ b ++ y → (a ≡ b) × (x ≡ y)
-same_fronts [] [] {x} {y} l e = (refl, e)
-same_fronts [] (d ∷ b) {x} {y} l e = absurd cc
-same_fronts (c ∷ a) [] {x} {y} l e = absurd cc
+same_fronts [] [] l e = (refl, e)
+same_fronts [] (d ∷ b) l e = absurd cc
+same_fronts (c ∷ a) [] l e = absurd cc
 same_fronts (c ∷ a) (d ∷ b) {x} {y} l e =
     let sizes : length a ≡ length b = cc in
     let rests : a ++ x ≡ b ++ y = cc in
@@ -65,7 +65,7 @@ same_parts {d} {e} p q =
 -- elements of one method that begin the same bytes are the same
 pub same_elements : {method : Method} {d e : Element} {x y : List ℕ} → IsElement method d → IsElement method e
     → element_bytes d ++ x ≡ element_bytes e ++ y → (d ≡ e) × (x ≡ y)
-same_elements {method} {d} {e} {x} {y} p q same =
+same_elements {d} {e} {x} {y} p q same =
     let r = same_heads p.head_is q.head_is
     (sym (append_assoc (head_bytes d.head) d.bytes x) ∙ same ∙ append_assoc (head_bytes e.head) e.bytes y) in
     let lengths : length d.bytes ≡ length e.bytes = p.complete ∙ ap new_count r.0 ∙ sym q.complete in
@@ -90,7 +90,7 @@ spelling_has_byte method e p = omega (arith, length-append (head_bytes e.head) e
 -- bytes that an element lacks are no whole element
 pub cut_is_not_whole : {method : Method} {d e : Element} {bytes : List ℕ} (missing rest : List ℕ) → IsElement method d → IsElement method e
     → bytes ++ missing ≡ element_bytes d → 0 < length missing → bytes ≡ element_bytes e ++ rest → ⊥
-cut_is_not_whole {method} {d} {e} {bytes} missing rest p q lacking lacks whole =
+cut_is_not_whole {d} {e} missing rest p q lacking lacks whole =
     let same : element_bytes e ++ (rest ++ missing) ≡ element_bytes d ++ [] =
     sym (append_assoc (element_bytes e) rest missing) ∙ ap (λ (b : List ℕ). b ++ missing) (sym whole) ∙ lacking
     ∙ sym (append-nil (element_bytes d)) in
