@@ -9,10 +9,10 @@ use Rattle.pcl_bitmap.specs.Bitmap.{bit_of_byte, dot_of_row}
 
 -- of two numbers below 2, the larger is 1 where either is
 larger_is_one : {u v : ℕ} → u < 2 → v < 2 → nat_eq (max u v) 1 ≡ (nat_eq u 1 || nat_eq v 1)
-larger_is_one {u} {v} p q = grind (arith, nat_tests)
+larger_is_one p q = grind (arith, nat_tests)
 
 lesser_is_one : {u v : ℕ} → u < 2 → v < 2 → nat_eq (min u v) 1 ≡ (nat_eq u 1 && nat_eq v 1)
-lesser_is_one {u} {v} p q = grind (arith, nat_tests)
+lesser_is_one p q = grind (arith, nat_tests)
 
 pub bit_of_byte-or : (a b k : ℕ) → bit_of_byte (bit_or a b) k ≡ (bit_of_byte a k || bit_of_byte b k)
 bit_of_byte-or a b k =

@@ -35,7 +35,7 @@ same_least {a} {k} {b} {m} f g =
 
 -- one bit that is turned
 turned_is_one : {u : ℕ} → u < 2 → nat_eq (1 - u) 1 ≡ (if nat_eq u 1 then false else true)
-turned_is_one {u} h = grind (arith, nat_tests)
+turned_is_one h = grind (arith, nat_tests)
 
 bit_of_byte-not : {n k : ℕ} → n < 256 → k < 8 → bit_of_byte (255 - n) k ≡ (if bit_of_byte n k then false else true)
 bit_of_byte-not {n} {k} h small =
@@ -76,7 +76,7 @@ and_is_white false true = refl
 and_is_white false false = refl
 
 pub black_bit : (byte m k : ℕ) {t : Bool} → bit_of_byte m k ≡ t → bit_of_byte (bit_or byte m) k ≡ (if t then true else bit_of_byte byte k)
-black_bit byte m k {t} h =
+black_bit byte m k h =
     bit_of_byte-or byte m k ∙ or_is_black (bit_of_byte byte k) (bit_of_byte m k) ∙ ap (λ u. if u then true else bit_of_byte byte k) h
 
 pub white_bit :
@@ -116,8 +116,8 @@ run_in_row r x w i px py wide within level =
     (same_test (λ h. omega arith) (λ h. omega arith))
 
 level_row : (a : Bool) {s t : Bool} → s ≡ true → t ≡ true → (a && s && t) ≡ a
-level_row true {s} {t} p q = rw (p, q) refl
-level_row false {s} {t} p q = refl
+level_row true p q = rw (p, q) refl
+level_row false p q = refl
 
 -- the rows of a rectangle up to row i, and then row i
 pub row_added :

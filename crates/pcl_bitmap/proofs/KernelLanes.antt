@@ -51,7 +51,7 @@ mask_bit test a b k size size' within =
 
 differ_not : {x y : ℕ} (d : Bool) → differ x y ≡ d → cond {A = ℕ} d 1 0 ≡ 0 → x ≡ y
 differ_not {x} {y} false e clear = eqb-true x y (not_is_false (eqb x y) e)
-differ_not {x} {y} true e clear = absurd cc
+differ_not true e clear = absurd cc
 
 differ_so : (x y : ℕ) (d : Bool) → differ x y ≡ d → cond {A = ℕ} d 1 0 ≡ 1 → x ≢ y
 differ_so x y true e set = eqb-false x y (not_is_true (eqb x y) e)
@@ -84,7 +84,7 @@ pub record AreSameTo (a b : List ℕ) (place : ℕ) : Type 0 where
 
 pub same_more : {a b : List ℕ} {place count : ℕ} → AreSameTo a b place → place + count ≤ length a
     → ((k : ℕ) → k < count → get_or a (place + k) 0 ≡ get_or b (place + k) 0) → AreSameTo a b (place + count)
-same_more {a} {b} {place} {count} to fits more = record {
+same_more {a} {b} {place} to fits more = record {
   within = fits;
   same = λ k below.
       elim (cases_lt k place) [

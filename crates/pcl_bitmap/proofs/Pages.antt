@@ -47,7 +47,7 @@ pub rows_apart : (a b r : ℕ) → a < b → a * r + r ≤ b * r
 rows_apart a b r h = row_fits a r b r h (omega arith)
 
 same_small : {u v : ℕ} → u < 2 → v < 2 → nat_eq u 1 ≡ nat_eq v 1 → u ≡ v
-same_small {u} {v} p q h = grind (arith, nat_tests)
+same_small p q h = grind (arith, nat_tests)
 
 same_bits : (a b k : ℕ) → bit_of_byte a k ≡ bit_of_byte b k → bit_at a (7 - k) ≡ bit_at b (7 - k)
 same_bits a b k h = same_small (bit_at-lt a (7 - k)) (bit_at-lt b (7 - k)) h

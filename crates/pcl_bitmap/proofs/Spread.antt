@@ -309,7 +309,7 @@ spread_count {s} {w} {n} some e =
 
 -- they are bytes of the row where its squares reach so far
 spread_within : {s w n : ℕ} (len : ℕ) → 1 ≤ s → n ≡ div_ceil w (8 * s) → w ≤ 8 * (s * len) → n ≤ len
-spread_within {s} {w} {n} len some e reach =
+spread_within {s} {n} len some e reach =
     elim (cases_lt len n) [
       | inl past ↦ absurd (let more : s * (len + 1) ≤ s * n = mul-le s (len + 1) s n (omega arith) (omega arith) in
           omega (arith, (spread_count some e).1))
@@ -317,7 +317,7 @@ spread_within {s} {w} {n} len some e reach =
     ]
 
 pub spread_room : {s w n : ℕ} (row : List ℕ) → 1 ≤ s → s ≤ 8 → w ≤ 4800 → n ≡ div_ceil w (8 * s) → s * length (take n row) ≤ 608
-spread_room {s} {w} {n} row some few narrow e =
+spread_room {s} {n} row some few narrow e =
     omega (arith, mul-le s (length (take n row)) s n (omega arith) (omega (arith, length-take n row)), (spread_count some e).1)
 
 -- each of the w dots is one of the spread row
