@@ -76,8 +76,8 @@ marked_at permanent id q body = cond (nat_eq id q) (option_map (with_permanent p
 pub controls_marked : (es fs : Entries) {begun : Option Begun} (id : ℕ) (permanent : Bool)
     → ((q : ℕ) → macro_at (view fs begun) q ≡ marked_at permanent id q (macro_at (view es begun) q))
     → Controls (view es begun) (view fs begun) (control (making permanent) id)
-controls_marked es fs {begun} id true marks = (λ history h q. marks q ∙ ap (marked_at true id q) (h q), refl)
-controls_marked es fs {begun} id false marks = (λ history h q. marks q ∙ ap (marked_at false id q) (h q), refl)
+controls_marked es fs id true marks = (λ history h q. marks q ∙ ap (marked_at true id q) (h q), refl)
+controls_marked es fs id false marks = (λ history h q. marks q ∙ ap (marked_at false id q) (h q), refl)
 
 -- the macro of an ID under another name
 macro_there : (es : Entries) (begun : Option Begun) (id q : ℕ) {o : Option Body} → lookup (nat_eq id) es ≡ o → nat_eq id q ≡ true
@@ -136,7 +136,7 @@ controls_temporary es {fs} {begun} id distinct kept = (
 -- what is written through a loan of an entry
 pub becomes_of : {S : Type 0} (m : IndexMap ℕ Body S) {n : IndexMap ℕ Body S} (id : ℕ) {e f : Body} → get nat_eq m id ≡ Some e
     → WritesThrough nat_eq (nat_eq id) m f n → Becomes m.entries n.entries id (Some f)
-becomes_of m {n} id {e} {f} there w = (w.3 (ap is_some there)).0
+becomes_of m id there w = (w.3 (ap is_some there)).0
 
 -- ---- what is looked up
 
