@@ -15,11 +15,11 @@ is_taken bytes width height long fixed w h whole =
 
 pub same_character : {a b : Character} → a.left ≡ b.left → a.top ≡ b.top → a.width ≡ b.width → a.height ≡ b.height → a.delta ≡ b.delta
     → a.rows ≡ b.rows → a ≡ b
-same_character {a} {b} l t w h d r i = record { left = l i; top = t i; width = w i; height = h i; delta = d i; rows = r i }
+same_character l t w h d r i = record { left = l i; top = t i; width = w i; height = h i; delta = d i; rows = r i }
 
 pub rows_are : (bytes : List ℕ) {width height size : ℕ} → size ≡ pattern_bytes width height → width ≡ word bytes 10 → height ≡ word bytes 12
     → take size (take (length bytes - 16) (drop 16 bytes)) ≡ take (pattern_bytes (word bytes 10) (word bytes 12)) (drop 16 bytes)
-rows_are bytes {width} {height} {size} s w h =
+rows_are bytes {height} {size} s w h =
     ap (take size) (take_rest bytes 16) ∙ ap (λ (n : ℕ). take n (drop 16 bytes)) s
     ∙ ap (λ (n : ℕ). take (pattern_bytes n height) (drop 16 bytes)) w
     ∙ ap (λ (n : ℕ). take (pattern_bytes (word bytes 10) n) (drop 16 bytes)) h

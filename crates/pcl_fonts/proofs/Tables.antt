@@ -91,7 +91,7 @@ follows_header es fs {id} {bytes} e b is none history h = record {
 
 -- a font that is gone
 pub follows_one : (es fs : Entries) {id code : ℕ} → Becomes es fs id None → Follows (view es) (view fs) (control One id code)
-follows_one es fs {id} {code} b history h = record {
+follows_one es fs {id} b history h = record {
   fonts = λ q. font_becomes es fs id None b q ∙ ap (cond (nat_eq id q) None) (h.fonts q);
   characters = λ q its. character_becomes es fs id None b q its ∙ ap (cond (nat_eq id q) None) (h.characters q its);
 }
@@ -108,8 +108,8 @@ pub record Changes (es fs : Entries) (id code : ℕ) (e f : Entry) (new : Option
   pub characters : (q : ℕ) → lookup (nat_eq q) f.characters.entries ≡ cond (nat_eq code q) new (lookup (nat_eq q) e.characters.entries)
 
 alike : {A : Type 0} (t : Bool) {x y : A} → (t ≡ true → x ≡ y) → cond t x y ≡ y
-alike true {x} {y} h = h refl
-alike false {x} {y} h = refl
+alike true h = h refl
+alike false h = refl
 
 -- the entry of an ID under another name
 entry_there : (es : Entries) (id q : ℕ) {o : Option Entry} → lookup (nat_eq id) es ≡ o → nat_eq id q ≡ true → lookup (nat_eq q) es ≡ o
@@ -117,22 +117,22 @@ entry_there es id q {o} there is = subst (λ (i : ℕ). lookup (nat_eq i) es ≡
 
 font_there : (es : Entries) (id q : ℕ) {o : Option Entry} → lookup (nat_eq id) es ≡ o → nat_eq id q ≡ true
     → font_at (view es) q ≡ option_map font_in o
-font_there es id q {o} there is = font_view es q ∙ ap (option_map font_in) (entry_there es id q there is)
+font_there es id q there is = font_view es q ∙ ap (option_map font_in) (entry_there es id q there is)
 
 character_there : (es : Entries) (id q its : ℕ) {o : Option Entry} → lookup (nat_eq id) es ≡ o → nat_eq id q ≡ true
     → character_at (view es) q its ≡ entry_character o its
-character_there es id q its {o} there is =
+character_there es id q its there is =
     character_view es q its ∙ ap (λ (x : Option Entry). entry_character x its) (entry_there es id q there is)
 
 written_font : {es fs : Entries} {id : ℕ} {e f : Entry} → Writes es fs id e f → (q : ℕ) → font_at (view fs) q ≡ font_at (view es) q
-written_font {es} {fs} {id} {e} {f} w q =
+written_font {es} {fs} {id} {f} w q =
     font_becomes es fs id (Some f) w.becomes q
     ∙ alike (nat_eq id q) (λ is. ap Some w.same ∙ sym (font_there es id q w.there is))
 
 -- nothing that is seen changes
 pub written_same : {es fs : Entries} {id : ℕ} {e f : Entry} → Writes es fs id e f
     → ((q : ℕ) → lookup (nat_eq q) f.characters.entries ≡ lookup (nat_eq q) e.characters.entries) → IsSame (view es) (view fs)
-written_same {es} {fs} {id} {e} {f} w same = (
+written_same {es} {fs} {id} {f} w same = (
   written_font w,
   λ q its. character_becomes es fs id (Some f) w.becomes q its
       ∙ alike (nat_eq id q)
@@ -157,7 +157,7 @@ changed_character {es} {fs} {id} {code} {e} {f} {new} c q its =
 pub follows_character : {es fs : Entries} {id code : ℕ} {bytes : List ℕ} {e f : Entry} {glyph : Glyph}
     → Changes es fs id code e f (Some glyph) → character_in glyph ≡ character_with bytes
     → Follows (view es) (view fs) (character id code bytes)
-follows_character {es} {fs} {id} {code} {bytes} {e} {f} {glyph} c is history h = record {
+follows_character {es} {id} {code} {bytes} c is history h = record {
   fonts = λ q. written_font c.writes q ∙ h.fonts q;
   characters = λ q its. changed_character c q its
       ∙ ap (λ (x : Character). cond (nat_eq id q && nat_eq code its) (Some x) (character_at (view es) q its)) is
@@ -175,7 +175,7 @@ follows_character {es} {fs} {id} {code} {bytes} {e} {f} {glyph} c is history h =
 
 pub follows_one_character : {es fs : Entries} {id code : ℕ} (e f : Entry) → Changes es fs id code e f None
     → Follows (view es) (view fs) (control OneCharacter id code)
-follows_one_character {es} {fs} {id} {code} e f c history h = record {
+follows_one_character {id} {code} e f c history h = record {
   fonts = λ q. written_font c.writes q ∙ h.fonts q;
   characters = λ q its. changed_character c q its ∙ ap (cond (nat_eq id q && nat_eq code its) None) (h.characters q its);
 }
@@ -245,8 +245,8 @@ follows_mark {es} {fs} {id} {code} e f {permanent} m history h = marked permanen
 
 -- what isn't there is left alone
 absent : {A : Type 0} (t : Bool) (x : Option A) {y : Option A} → (t ≡ true → y ≡ None) → (f : Option A → Option A) → f None ≡ None → cond t (f y) y ≡ y
-absent true x {y} none f stays = ap f (none refl) ∙ stays ∙ sym (none refl)
-absent false x {y} none f stays = refl
+absent true x none f stays = ap f (none refl) ∙ stays ∙ sym (none refl)
+absent false x none f stays = refl
 
 pub follows_no_mark : (es : Entries) {id code : ℕ} (permanent : Bool) → lookup (nat_eq id) es ≡ None
     → Follows (view es) (view es) (control (making permanent) id code)
@@ -286,7 +286,7 @@ follows_all es id code history h = record { fonts = λ q. refl; characters = λ 
 -- the temporary ones
 pub follows_temporary : (es : Entries) {fs : Entries} {id code : ℕ} → IsDistinct nat_eq (keys_of es)
     → fs ≡ filter (λ (e : ℕ × Entry). e.1.is_permanent) es → Follows (view es) (view fs) (control Temporary id code)
-follows_temporary es {fs} {id} {code} distinct kept history h = record {
+follows_temporary es {fs} distinct kept history h = record {
   fonts = λ q. font_view fs q ∙ ap (option_map font_in) (left q) ∙ fonts (lookup (nat_eq q) es)
       ∙ ap if_permanent (sym (font_view es q) ∙ h.fonts q);
   characters = λ q its. character_view fs q its ∙ ap (λ (o : Option Entry). entry_character o its) (left q)
@@ -321,17 +321,17 @@ follows_temporary es {fs} {id} {code} distinct kept history h = record {
 -- what is written through a loan of an entry
 pub becomes_of : {S : Type 0} (m : IndexMap ℕ Entry S) {n : IndexMap ℕ Entry S} (id : ℕ) {e f : Entry} → get nat_eq m id ≡ Some e
     → WritesThrough nat_eq (nat_eq id) m f n → Becomes m.entries n.entries id (Some f)
-becomes_of m {n} id {e} {f} there w = (w.3 (ap is_some there)).0
+becomes_of m id there w = (w.3 (ap is_some there)).0
 
 pub writes_of : {S : Type 0} {m n : IndexMap ℕ Entry S} {id : ℕ} {e f : Entry} → get nat_eq m id ≡ Some e
     → WritesThrough nat_eq (nat_eq id) m f n → font_in f ≡ font_in e → Writes m.entries n.entries id e f
-writes_of {m} {n} {id} {e} {f} there w same = record { there = there; becomes = becomes_of m id there w; same = same }
+writes_of {m} {id} there w same = record { there = there; becomes = becomes_of m id there w; same = same }
 
 -- ---- what becomes of a character
 
 pub character_dropped : (es : Entries) {id code : ℕ} {bytes : List ℕ} → lookup (nat_eq id) es ≡ None
     → HasCharacter id code bytes (Ok tt) (view es) (view es)
-character_dropped es {id} {code} {bytes} none = (
+character_dropped es {id} none = (
   λ is. absurd (true≢false (sym is ∙ ap is_some (font_view es id ∙ ap (option_map font_in) none))),
   follows_dropped es none,
 )
@@ -339,7 +339,7 @@ character_dropped es {id} {code} {bytes} none = (
 pub character_refused : {es fs : Entries} {id : ℕ} {e f : Entry} (code : ℕ) (bytes : List ℕ) → Writes es fs id e f
     → ((q : ℕ) → lookup (nat_eq q) f.characters.entries ≡ lookup (nat_eq q) e.characters.entries) → is_character bytes ≡ false
     → HasCharacter id code bytes (Err (Refused CharacterData)) (view es) (view fs)
-character_refused {es} {fs} {id} code bytes w same other = (
+character_refused {es} {id} code bytes w same other = (
   ap is_some (font_view es id ∙ ap (option_map font_in) w.there),
   other,
   refl,
@@ -349,7 +349,7 @@ character_refused {es} {fs} {id} code bytes w same other = (
 pub character_taken : {es fs : Entries} {id code : ℕ} {e f : Entry} {glyph : Glyph} (bytes : List ℕ)
     → Changes es fs id code e f (Some glyph) → is_character bytes ≡ true → character_in glyph ≡ character_with bytes
     → HasCharacter id code bytes (Ok tt) (view es) (view fs)
-character_taken {es} {fs} {id} {code} {e} {f} {glyph} bytes c whole is = (λ _. whole, follows_character c is)
+character_taken bytes c whole is = (λ _. whole, follows_character c is)
 
 -- ---- what is looked up
 
