@@ -27,9 +27,9 @@ use Rattle.pcl_coders.proofs.Starts.{delta_step, latest_is_as_good}
 use Rattle.pcl_coders.proofs.Places.{runs_shorten, packed_shorten, falls}
 
 -- the numbers of the rest of a row
-pub right_from_drop : (method : Method) (old row table : List ℕ) (place : ℕ) → place ≤ length row → AreRightFrom method old row table 0
+pub right_from_drop : {method : Method} {old row table : List ℕ} {place : ℕ} → place ≤ length row → AreRightFrom method old row table 0
     → AreRightFrom method (drop place old) (drop place row) (drop place table) 0
-right_from_drop method old row table place within right q low high =
+right_from_drop {old} {row} {table} {place} within right q low high =
     let is = right (place + q) (omega arith) (omega (arith, length-drop place row)) in
     let at : (k : ℕ) → slice_index (drop place table) k ≡ slice_index table (place + k) = λ k. get_or-drop place table k 0 in
     let there : (e : Element) → slice_index (drop place table) (q + stop e) ≡ slice_index table (place + q + stop e) =
@@ -55,23 +55,23 @@ right_from_drop method old row table place within right q low high =
     }
 
 -- a shape whose bytes and number are the first number is a best one
-pub along_choice : (method : Method) (old wanted numbers : List ℕ) (shape : Shape) (bytes : ℕ) → AreRightFrom method old wanted numbers 0
+pub along_choice : {method : Method} {old wanted numbers : List ℕ} {shape : Shape} {bytes : ℕ} → AreRightFrom method old wanted numbers 0
     → IsShapeElement method old wanted shape bytes → 0 < shape_stop shape
     → slice_index numbers 0 ≡ bytes + slice_index numbers (shape_stop shape)
     → IsShapeChoice method old wanted numbers shape (slice_index numbers 0)
-along_choice method old wanted numbers shape bytes right s some sum-is =
-    step_choice method old wanted numbers shape bytes (slice_index numbers 0) s some sum-is (λ d element agrees goes.
+along_choice {numbers} right s some sum-is =
+    step_choice s some sum-is (λ d element agrees goes.
     let at : 0 + stop d ≡ stop d = omega arith in
     omega (arith, (right 0 (omega arith) (omega arith)).steps d element agrees, ap (slice_index numbers) at))
 
-pub numbers_fall : (old wanted numbers : List ℕ) (i j : ℕ) → length old ≡ length wanted → AreRightFrom Packed old wanted numbers 0 → i ≤ j
+pub numbers_fall : {old wanted numbers : List ℕ} (i j : ℕ) → length old ≡ length wanted → AreRightFrom Packed old wanted numbers 0 → i ≤ j
     → j ≤ length wanted → slice_index numbers j ≤ slice_index numbers i
-numbers_fall old wanted numbers i j size right order within =
+numbers_fall {old} {wanted} {numbers} i j size right order within =
     falls Packed old wanted numbers 0 i j packed_shorten size right (omega arith) order within
 
-pub literal_bounds : (old wanted numbers : List ℕ) (k : ℕ) → AreRightFrom Packed old wanted numbers 0 → 1 ≤ k → k ≤ min (length wanted) 128
+pub literal_bounds : {old wanted numbers : List ℕ} (k : ℕ) → AreRightFrom Packed old wanted numbers 0 → 1 ≤ k → k ≤ min (length wanted) 128
     → slice_index numbers 0 ≤ 1 + k + slice_index numbers k
-literal_bounds old wanted numbers k right some within =
+literal_bounds {old} {wanted} {numbers} k right some within =
     let s = literal_step old wanted k some (omega arith) (omega arith) in
     let at : 0 + stop (element_of (LiteralRun k) wanted) ≡ k = omega (arith, s.stop_is) in
     omega (
@@ -81,25 +81,25 @@ literal_bounds old wanted numbers k right some within =
       ap (slice_index numbers) at,
     )
 
-pub along_literal : (old wanted numbers : List ℕ) (len : ℕ) → AreRightFrom Packed old wanted numbers 0
+pub along_literal : {old wanted numbers : List ℕ} {len : ℕ} → AreRightFrom Packed old wanted numbers 0
     → IsLiteralLen numbers (min (length wanted) 128) len → IsShapeChoice Packed old wanted numbers (LiteralRun len) (slice_index numbers 0)
-along_literal old wanted numbers len right is =
-    along_choice Packed old wanted numbers (LiteralRun len) (1 + len) right
+along_literal {old} {wanted} {len} right is =
+    along_choice right
     (literal_step old wanted len is.some (omega (arith, is.within)) (omega (arith, is.within))) (omega (arith, is.some)) is.sum_is
 
-repeat_of_run : (old wanted : List ℕ) (run end : ℕ) → IsRunLen wanted end → run ≡ min end 128 → 2 ≤ run
+repeat_of_run : (old : List ℕ) {wanted : List ℕ} {run end : ℕ} → IsRunLen wanted end → run ≡ min end 128 → 2 ≤ run
     → IsShapeElement Packed old wanted (RepeatRun run) 2
-repeat_of_run old wanted run end is run-is more =
+repeat_of_run old {wanted} {run} {end} is run-is more =
     let part : run ≤ end = omega arith in
     repeat_step old wanted run more (omega arith) (omega (arith, is.within))
     (sym (take-take run end wanted part) ∙ ap (take run) is.equal ∙ take-replicate run end (slice_index wanted 0) part)
 
-pub along_repeat : (old wanted numbers : List ℕ) (run end : ℕ) → AreRightFrom Packed old wanted numbers 0 → IsRunEnd wanted 0 end
+pub along_repeat : {old wanted numbers : List ℕ} {run end : ℕ} → AreRightFrom Packed old wanted numbers 0 → IsRunEnd wanted 0 end
     → run ≡ min end 128 → 2 ≤ run → slice_index numbers run + 2 ≡ slice_index numbers 0
     → IsShapeChoice Packed old wanted numbers (RepeatRun run) (slice_index numbers 0)
-along_repeat old wanted numbers run end right is run-is more sum-is =
-    along_choice Packed old wanted numbers (RepeatRun run) 2 right
-    (repeat_of_run old wanted run end (run_len_of wanted 0 end end is (omega arith)) run-is more) (omega arith) (omega arith)
+along_repeat {old} {wanted} {end} right is run-is more sum-is =
+    along_choice right
+    (repeat_of_run old (run_len_of wanted 0 end end is (omega arith)) run-is more) (omega arith) (omega arith)
 
 -- where no literal is best, the longest repeat is
 pub no_literal_repeat : (old wanted numbers : List ℕ) (run end : ℕ) → length old ≡ length wanted → 0 < length wanted
@@ -123,11 +123,11 @@ no_literal_repeat old wanted numbers run end size some right needed is run-is no
                 absurd (none count l.above (omega (arith, g.0, l.below))
                 (omega (arith, next.1.number_is, l.bytes_are, ap (slice_index numbers) at, ap (slice_index numbers) stops)))
             | inl r ↦
-                let w = within_run wanted end 2 128 e run-len s.0 r g.0 g.2 in
+                let w = within_run run-len s.0 r g.0 g.2 in
                 let more : 2 ≤ run = omega (arith, w.0, r.above, r.below) in
                 let fall =
-                numbers_fall old wanted numbers r.count run size right (omega (arith, w.0, r.below)) (omega (arith, run-len.within)) in
-                let m = repeat_of_run old wanted run end run-len run-is more in
+                numbers_fall r.count run size right (omega (arith, w.0, r.below)) (omega (arith, run-len.within)) in
+                let m = repeat_of_run old run-len run-is more in
                 let at' : 0 + stop (element_of (RepeatRun run) wanted) ≡ run = omega (arith, m.stop_is) in
                 let above = here.steps (element_of (RepeatRun run) wanted) m.element m.agrees in (
                   more,
@@ -161,20 +161,20 @@ literal_skip numbers most len excess next fall within excess-is some next-is non
 -- ---- methods 1 and 3
 
 -- right numbers bound walks from places of the row
-walk_bounds : (old row table : List ℕ) (es : List Element) (place : ℕ) → length old ≡ length row → AreRightFrom Delta old row table 0
+walk_bounds : {old row table : List ℕ} (es : List Element) {place : ℕ} → length old ≡ length row → AreRightFrom Delta old row table 0
     → place ≤ length row → Walk (Leads Delta old row) (Ends old row) place es → slice_index table place ≤ total cost es
-walk_bounds old row table [] place size right within walk = omega (arith, (right place (omega arith) within).ends walk)
-walk_bounds old row table (e ∷ es) place size right within walk =
+walk_bounds [] {place} size right within walk = omega (arith, (right place (omega arith) within).ends walk)
+walk_bounds {old} {row} {table} (e ∷ es) {place} size right within walk =
     let next : walk.0 ≡ place + stop e = walk.1.next_is in
     let inside = stop_within Delta old row place e size walk.1.element walk.1.agrees in
-    let rest = walk_bounds old row table es walk.0 size right (omega arith) walk.2 in
+    let rest = walk_bounds es size right (omega arith) walk.2 in
     omega (arith, (right place (omega arith) within).steps e walk.1.element walk.1.agrees, ap (slice_index table) next, rest)
 
-pub along_run : (old wanted numbers : List ℕ) (end len : ℕ) → length old ≡ length wanted → AreRightFrom Runs old wanted numbers 0
+pub along_run : {old wanted numbers : List ℕ} {end len : ℕ} → length old ≡ length wanted → AreRightFrom Runs old wanted numbers 0
     → IsRunEnd wanted 0 end → len ≡ min end 256 → IsShapeChoice Runs old wanted numbers (Run len) (2 + slice_index numbers len)
-along_run old wanted numbers end len size right is len-is =
+along_run {old} {wanted} {numbers} {end} {len} size right is len-is =
     let run-len = run_len_of wanted 0 end end is (omega arith) in
-    runs_choice old wanted numbers end len (2 + slice_index numbers len) size run-len
+    runs_choice size run-len
     (record {
       above = omega (arith, is.after);
       below = omega arith;
@@ -188,9 +188,9 @@ along_run old wanted numbers end len size right is len-is =
     })
 
 -- data is needed, so the rows differ
-pub along_start : (old wanted numbers : List ℕ) (start : ℕ) → length old ≡ length wanted → AreRightFrom Delta old wanted numbers 0
+pub along_start : {old wanted numbers : List ℕ} {start : ℕ} → length old ≡ length wanted → AreRightFrom Delta old wanted numbers 0
     → 0 < slice_index numbers 0 → IsFirstDifference old wanted start → start < length wanted
-along_start old wanted numbers start size right needed is =
+along_start {old} {wanted} {start} size right needed is =
     elim (cases_lt start (length wanted)) [
       | inl inside ↦ inside
       | inr all ↦
@@ -202,22 +202,22 @@ along_start old wanted numbers start size right needed is =
     ]
 
 -- the best replacement at the latest start is a best element
-pub along_replacement : (old wanted numbers : List ℕ) (start : ℕ) (shape : Shape) (sum : ℕ) → length old ≡ length wanted
+pub along_replacement : {old wanted numbers : List ℕ} {start : ℕ} {shape : Shape} {sum : ℕ} → length old ≡ length wanted
     → length numbers ≡ length wanted + 1 → AreRightFrom Delta old wanted numbers 0 → 0 < slice_index numbers 0
     → IsFirstDifference old wanted start
     → IsReplacement start (length wanted) numbers shape sum → IsShapeChoice Delta old wanted numbers shape sum
-along_replacement old wanted numbers start shape sum size long right needed is r =
-    let inside : start < length wanted = along_start old wanted numbers start size right needed is in
+along_replacement {old} {wanted} {numbers} {start} {shape} {sum} size long right needed is r =
+    let inside : start < length wanted = along_start size right needed is in
     let latest : IsLatestStart old wanted 0 start = record {
       order = omega arith;
       within = inside;
       same = λ k low high. is.same k high;
       differs = is.differs (omega arith);
     } in
-    let walk = attained_from Delta old wanted numbers (length wanted) 0 size right (omega arith) (omega arith) in
+    let walk = attained_from (length wanted) size right (omega arith) (omega arith) in
     let s = latest_is_as_good old wanted walk.0 0 start size latest walk.1 in
-    let d = delta_step old wanted 0 start s.walk.0 s.first size latest s.walk.1 in
-    let rest = walk_bounds old wanted numbers s.rest s.walk.0 size right d.within s.walk.2 in
+    let d = delta_step size latest s.walk.1 in
+    let rest = walk_bounds s.rest size right d.within s.walk.2 in
     let at : (k : ℕ) → slice_index (drop start numbers) k ≡ slice_index numbers (start + k) = λ k. get_or-drop start numbers k 0 in
     let begins : offset_of s.first.head ≡ start = omega (arith, s.offset_is) in
     let there : s.walk.0 ≡ start + d.len = omega (arith, d.next_is, begins) in
@@ -234,7 +234,7 @@ along_replacement old wanted numbers start shape sum size long right needed is r
       walk.2,
     ) in
     let len : ℕ = r.len in
-    let front : take start wanted ≡ take start old = (same_len_of old wanted start size is).equal in
+    let front : take start wanted ≡ take start old = (same_len_of size is).equal in
     let e = replace_step old wanted start len r.best.above (omega (arith, r.best.below)) (omega (arith, r.best.below)) front in
     let m : Element = element_of (Replace start len) wanted in
     let ends : 0 + stop m ≡ start + len = omega (arith, e.stop_is) in
@@ -243,5 +243,5 @@ along_replacement old wanted numbers start shape sum size long right needed is r
     omega (arith, most, least, e.bytes_are, ap (slice_index numbers) ends, r.best.sum_is, at len) in
     subst (λ (n : ℕ). IsShapeChoice Delta old wanted numbers shape n) equal
     (subst (λ (t : Shape). IsShapeChoice Delta old wanted numbers t (slice_index numbers 0)) (sym r.step_is)
-    (along_choice Delta old wanted numbers (Replace start len) (replacement_bytes start + len) right e (omega (arith, r.best.above))
+    (along_choice right e (omega (arith, r.best.above))
     (omega (arith, equal, r.best.sum_is, at len))))

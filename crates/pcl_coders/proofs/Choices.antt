@@ -20,10 +20,10 @@ use Rattle.pcl_coders.proofs.Shapes.{given_once, given_copies, IsRepeat, plain_s
 -- ---- elements that agree with the wanted bytes
 
 -- what is left, and then what is given
-pub agrees_by : (old wanted : List ℕ) (e : Element) (k : ℕ) → take (offset_of e.head) wanted ≡ take (offset_of e.head) old
+pub agrees_by : (old : List ℕ) {wanted : List ℕ} (e : Element) (k : ℕ) → take (offset_of e.head) wanted ≡ take (offset_of e.head) old
     → given e ≡ take k (drop (offset_of e.head) wanted) → offset_of e.head + k ≤ length wanted
     → Agrees old wanted e × (stop e ≡ offset_of e.head + k)
-agrees_by old wanted e k left gives fits =
+agrees_by old {wanted} e k left gives fits =
     let offset : ℕ = offset_of e.head in
     let size : length (given e) ≡ k = ap length gives ∙ length-take-le k (drop offset wanted) (omega (arith, length-drop offset wanted)) in
     let stop-is : stop e ≡ offset + k = omega (arith, size) in
@@ -68,10 +68,10 @@ abbrev pub IsBelow : Method → List ℕ → List ℕ → List ℕ → ℕ → T
 IsBelow method old wanted numbers sum =
     (d : Element) → IsElement method d → Agrees old wanted d → 0 < stop d → sum ≤ cost d + slice_index numbers (stop d)
 
-pub step_choice : (method : Method) (old wanted numbers : List ℕ) (shape : Shape) (bytes sum : ℕ)
+pub step_choice : {method : Method} {old wanted numbers : List ℕ} {shape : Shape} {bytes sum : ℕ}
     → IsShapeElement method old wanted shape bytes → 0 < shape_stop shape → sum ≡ bytes + slice_index numbers (shape_stop shape)
     → IsBelow method old wanted numbers sum → IsShapeChoice method old wanted numbers shape sum
-step_choice method old wanted numbers shape bytes sum e some sum-is below = record {
+step_choice {numbers} e some sum-is below = record {
   within = e.within;
   stop_is = e.stop_is;
   choice = record {
@@ -88,22 +88,22 @@ abbrev given_by_copies : ℕ → List ℕ → List ℕ
 given_by_copies k new = flat_map (λ byte. replicate k byte) new
 
 -- the front of a run
-run_part : (wanted : List ℕ) (run len byte : ℕ) → len ≤ run → take run wanted ≡ replicate run byte → take len wanted ≡ replicate len byte
-run_part wanted run len byte part all = sym (take-take len run wanted part) ∙ ap (take len) all ∙ take-replicate len run byte part
+run_part : (wanted : List ℕ) {run len : ℕ} (byte : ℕ) → len ≤ run → take run wanted ≡ replicate run byte → take len wanted ≡ replicate len byte
+run_part wanted {run} {len} byte part all = sym (take-take len run wanted part) ∙ ap (take len) all ∙ take-replicate len run byte part
 
 pub first_byte : (wanted : List ℕ) → 0 < length wanted → take 1 wanted ≡ slice_index wanted 0 ∷ []
 first_byte [] some = absurd (omega arith)
 first_byte (b ∷ wanted) some = refl
 
 -- a run has a byte
-pub run_some : (wanted numbers : List ℕ) (run : ℕ) → IsPlace wanted numbers → IsRunLen wanted run → 1 ≤ run
-run_some wanted numbers run place is = is.longest 1 (slice_index wanted 0) place.some (first_byte wanted place.some)
+pub run_some : {wanted numbers : List ℕ} {run : ℕ} → IsPlace wanted numbers → IsRunLen wanted run → 1 ≤ run
+run_some {wanted} place is = is.longest 1 (slice_index wanted 0) place.some (first_byte wanted place.some)
 
 -- a byte that stands for itself
 pub byte_step : (old wanted : List ℕ) → 0 < length wanted → IsShapeElement Plain old wanted SingleByte 1
 byte_step old wanted some =
     let size : length (take 1 wanted) ≡ 1 = length-take-le 1 wanted (omega arith) in
-    let a = agrees_by old wanted (element_of SingleByte wanted) 1 refl (given_once (take 1 wanted)) (omega arith) in
+    let a = agrees_by old (element_of SingleByte wanted) 1 refl (given_once (take 1 wanted)) (omega arith) in
     record {
       within = omega arith;
       element = record { head_is = record { method_is = refl; in_range = tt }; complete = size };
@@ -118,9 +118,9 @@ pub run_step : (old wanted : List ℕ) (len : ℕ) → 1 ≤ len → len ≤ 256
 run_step old wanted len some few within run =
     let size : length (take 1 wanted) ≡ 1 = length-take-le 1 wanted (omega arith) in
     let times : len - 1 + 1 ≡ len = omega arith in
-    let gives = given_copies (len - 1 + 1) (take 1 wanted) (slice_index wanted 0) (first_byte wanted (omega arith))
+    let gives = given_copies (len - 1 + 1) (first_byte wanted (omega arith))
     ∙ ap (λ (n : ℕ). replicate n (slice_index wanted 0)) times ∙ sym run in
-    let a = agrees_by old wanted (element_of (Run len) wanted) len refl gives (omega arith) in
+    let a = agrees_by old (element_of (Run len) wanted) len refl gives (omega arith) in
     record {
       within = (some, few, within);
       element = record { head_is = record { method_is = refl; in_range = omega arith }; complete = size };
@@ -135,9 +135,9 @@ pub repeat_step : (old wanted : List ℕ) (len : ℕ) → 2 ≤ len → len ≤ 
 repeat_step old wanted len some few within run =
     let size : length (take 1 wanted) ≡ 1 = length-take-le 1 wanted (omega arith) in
     let times : 257 - (257 - len) ≡ len = omega arith in
-    let gives = given_copies (257 - (257 - len)) (take 1 wanted) (slice_index wanted 0) (first_byte wanted (omega arith))
+    let gives = given_copies (257 - (257 - len)) (first_byte wanted (omega arith))
     ∙ ap (λ (n : ℕ). replicate n (slice_index wanted 0)) times ∙ sym run in
-    let a = agrees_by old wanted (element_of (RepeatRun len) wanted) len refl gives (omega arith) in
+    let a = agrees_by old (element_of (RepeatRun len) wanted) len refl gives (omega arith) in
     record {
       within = (some, few, within);
       element = record { head_is = record { method_is = refl; in_range = (omega arith, omega arith) }; complete = size };
@@ -151,7 +151,7 @@ pub literal_step : (old wanted : List ℕ) (len : ℕ) → 1 ≤ len → len ≤
     → IsShapeElement Packed old wanted (LiteralRun len) (1 + len)
 literal_step old wanted len some few within =
     let size : length (take len wanted) ≡ len = length-take-le len wanted within in
-    let a = agrees_by old wanted (element_of (LiteralRun len) wanted) len refl (given_once (take len wanted)) (omega arith) in
+    let a = agrees_by old (element_of (LiteralRun len) wanted) len refl (given_once (take len wanted)) (omega arith) in
     record {
       within = (some, few, within);
       element = record { head_is = record { method_is = refl; in_range = omega arith }; complete = omega (arith, size) };
@@ -165,7 +165,7 @@ pub replace_step : (old wanted : List ℕ) (offset len : ℕ) → 1 ≤ len → 
     → take offset wanted ≡ take offset old → IsShapeElement Delta old wanted (Replace offset len) (replacement_bytes offset + len)
 replace_step old wanted offset len some few within same =
     let h : Head = replacement offset len in
-    let is = replacement_is offset len some few in
+    let is = replacement_is some few in
     let new : List ℕ = take len (drop offset wanted) in
     let size : length new ≡ len = length-take-le len (drop offset wanted) (omega (arith, length-drop offset wanted)) in
     let at : offset_of h ≡ offset = is.offset_is in
@@ -173,7 +173,7 @@ replace_step old wanted offset len some few within same =
     let gives : given_by h new ≡ take len (drop (offset_of h) wanted) = once ∙ ap (λ (n : ℕ). take len (drop n wanted)) (sym at) in
     let left : take (offset_of h) wanted ≡ take (offset_of h) old =
     ap (λ (n : ℕ). take n wanted) at ∙ same ∙ ap (λ (n : ℕ). take n old) (sym at) in
-    let a = agrees_by old wanted (element_of (Replace offset len) wanted) len left gives (omega (arith, at)) in
+    let a = agrees_by old (element_of (Replace offset len) wanted) len left gives (omega (arith, at)) in
     record {
       within = (some, few, within);
       element = record { head_is = record { method_is = is.method_is; in_range = is.in_range }; complete = size ∙ sym is.count_is };
@@ -184,55 +184,55 @@ replace_step old wanted offset len some few within same =
 
 -- ---- what no element goes below
 
-front_given : (wanted : List ℕ) (d : Element) (count : ℕ) → offset_of d.head ≡ 0 → length (given d) ≡ count
+front_given : (wanted : List ℕ) (d : Element) {count : ℕ} → offset_of d.head ≡ 0 → length (given d) ≡ count
     → given d ≡ take (length (given d)) (drop (offset_of d.head) wanted) → given d ≡ take count wanted
-front_given wanted d count none size gives =
+front_given wanted d {count} none size gives =
     gives ∙ ap (λ (n : ℕ). take n (drop (offset_of d.head) wanted)) size ∙ ap (λ (n : ℕ). take count (drop n wanted)) none
 
 -- an element that repeats a byte is within the run
-pub within_run : (wanted : List ℕ) (run least most : ℕ) (d : Element) → IsRunLen wanted run → offset_of d.head ≡ 0
+pub within_run : {wanted : List ℕ} {run least most : ℕ} {d : Element} → IsRunLen wanted run → offset_of d.head ≡ 0
     → (r : IsRepeat d.head d.bytes least most) → stop d ≤ length wanted → given d ≡ take (length (given d)) (drop (offset_of d.head) wanted)
     → (r.count ≤ run) × (stop d ≡ r.count)
-within_run wanted run least most d is none r fits gives =
+within_run {wanted} {d} is none r fits gives =
     let size : length (given d) ≡ r.count = ap length r.given_is ∙ length-replicate r.count r.byte in
-    let front : take r.count wanted ≡ replicate r.count r.byte = sym (front_given wanted d r.count none size gives) ∙ r.given_is in
+    let front : take r.count wanted ≡ replicate r.count r.byte = sym (front_given wanted d none size gives) ∙ r.given_is in
     let stops : stop d ≡ r.count = omega (arith, none, size) in
     (is.longest r.count r.byte (omega arith) front, stops)
 
-pub plain_below : (old wanted numbers : List ℕ) → IsBelow Plain old wanted numbers (1 + slice_index numbers 1)
-plain_below old wanted numbers d is agrees some =
+pub plain_below : (old : List ℕ) {wanted : List ℕ} (numbers : List ℕ) → IsBelow Plain old wanted numbers (1 + slice_index numbers 1)
+plain_below old numbers d is agrees some =
     let s = plain_shape d.head d.bytes is.head_is.method_is is.complete in
     let one : length (given d) ≡ 1 = omega (arith, s.1.above, s.1.below) in
     let stops : stop d ≡ 1 = omega (arith, s.0, one) in
     omega (arith, s.1.bytes_are, one, ap (slice_index numbers) stops)
 
-pub runs_below : (old wanted numbers : List ℕ) (run sum : ℕ) → length old ≡ length wanted → IsRunLen wanted run
+pub runs_below : (old : List ℕ) {wanted : List ℕ} (numbers : List ℕ) {run sum : ℕ} → length old ≡ length wanted → IsRunLen wanted run
     → ((k : ℕ) → 1 ≤ k → k ≤ min run 256 → sum ≤ 2 + 0 * k + slice_index numbers k) → IsBelow Runs old wanted numbers sum
-runs_below old wanted numbers run sum size is best d element agrees some =
+runs_below old {wanted} numbers size is best d element agrees some =
     let s = runs_shape d.head d.bytes element.head_is.method_is element.head_is.in_range element.complete in
     let g = agrees_gives Runs old wanted d size element agrees in
-    let w = within_run wanted run 1 256 d is s.0 s.1 g.0 g.2 in
+    let w = within_run is s.0 s.1 g.0 g.2 in
     omega (arith, best s.1.count s.1.above (omega (arith, w.0, s.1.below)), s.1.bytes_are, ap (slice_index numbers) w.1)
 
-pub packed_below : (old wanted numbers : List ℕ) (run sum : ℕ) → length old ≡ length wanted → IsRunLen wanted run
+pub packed_below : (old : List ℕ) {wanted : List ℕ} (numbers : List ℕ) {run sum : ℕ} → length old ≡ length wanted → IsRunLen wanted run
     → ((k : ℕ) → 1 ≤ k → k ≤ min (length wanted) 128 → sum ≤ 1 + 1 * k + slice_index numbers k)
     → ((k : ℕ) → 2 ≤ k → k ≤ min run 128 → sum ≤ 2 + 0 * k + slice_index numbers k) → IsBelow Packed old wanted numbers sum
-packed_below old wanted numbers run sum size is literal repeat d element agrees some =
+packed_below old {wanted} numbers size is literal repeat d element agrees some =
     let g = agrees_gives Packed old wanted d size element agrees in
     let s = packed_shape d.head d.bytes element.head_is.method_is element.head_is.in_range element.complete some in
     elim s.1 [
       | inl r ↦
-          let w = within_run wanted run 2 128 d is s.0 r g.0 g.2 in
+          let w = within_run is s.0 r g.0 g.2 in
           omega (arith, repeat r.count r.above (omega (arith, w.0, r.below)), r.bytes_are, ap (slice_index numbers) w.1)
       | inr l ↦
           let stops : stop d ≡ length (given d) = omega (arith, s.0) in
           omega (arith, literal (length (given d)) l.above (omega (arith, g.0, l.below)), l.bytes_are, ap (slice_index numbers) stops)
     ]
 
-pub delta_below : (old wanted numbers : List ℕ) (same sum : ℕ) → length old ≡ length wanted → IsSameLen old wanted same
+pub delta_below : {old wanted : List ℕ} (numbers : List ℕ) {same sum : ℕ} → length old ≡ length wanted → IsSameLen old wanted same
     → ((offset k : ℕ) → offset ≤ min same (length wanted - 1) → 1 ≤ k → k ≤ min (length wanted - offset) 8
     → sum ≤ replacement_bytes offset + 1 * k + slice_index (drop offset numbers) k) → IsBelow Delta old wanted numbers sum
-delta_below old wanted numbers same sum size is best d element agrees some =
+delta_below {old} {wanted} numbers {same} size is best d element agrees some =
     let s = delta_shape d.head d.bytes element.head_is.method_is element.head_is.in_range element.complete in
     let g = agrees_gives Delta old wanted d size element agrees in
     let offset : ℕ = offset_of d.head in
@@ -243,39 +243,39 @@ delta_below old wanted numbers same sum size is best d element agrees some =
 
 -- ---- the choices
 
-pub plain_choice : (old wanted numbers : List ℕ) → IsPlace wanted numbers
+pub plain_choice : {old wanted numbers : List ℕ} → IsPlace wanted numbers
     → IsShapeChoice Plain old wanted numbers SingleByte (1 + slice_index numbers 1)
-plain_choice old wanted numbers place = step_choice Plain old wanted numbers SingleByte 1 (1 + slice_index numbers 1)
-    (byte_step old wanted place.some) (omega arith) refl (plain_below old wanted numbers)
+plain_choice {old} {wanted} {numbers} place = step_choice
+    (byte_step old wanted place.some) (omega arith) refl (plain_below old numbers)
 
-pub runs_choice : (old wanted numbers : List ℕ) (run len sum : ℕ) → length old ≡ length wanted → IsRunLen wanted run
+pub runs_choice : {old wanted numbers : List ℕ} {run len sum : ℕ} → length old ≡ length wanted → IsRunLen wanted run
     → IsLeastLen numbers 1 (min run 256) 2 0 len sum → IsShapeChoice Runs old wanted numbers (Run len) sum
-runs_choice old wanted numbers run len sum size is best =
+runs_choice {old} {wanted} {numbers} {run} {len} size is best =
     let front : len ≤ run = omega (arith, best.below) in
     let e = run_step old wanted len best.above (omega (arith, best.below)) (omega (arith, is.within))
-    (run_part wanted run len (slice_index wanted 0) front is.equal) in
-    step_choice Runs old wanted numbers (Run len) 2 sum e (omega (arith, best.above)) (omega (arith, best.sum_is))
-    (runs_below old wanted numbers run sum size is best.least)
+    (run_part wanted (slice_index wanted 0) front is.equal) in
+    step_choice e (omega (arith, best.above)) (omega (arith, best.sum_is))
+    (runs_below old numbers size is best.least)
 
-pub literal_choice : (old wanted numbers : List ℕ) (run len sum : ℕ) → length old ≡ length wanted → IsRunLen wanted run
+pub literal_choice : {old wanted numbers : List ℕ} {run len sum : ℕ} → length old ≡ length wanted → IsRunLen wanted run
     → IsLeastLen numbers 1 (min (length wanted) 128) 1 1 len sum
     → ((k : ℕ) → 2 ≤ k → k ≤ min run 128 → sum ≤ 2 + 0 * k + slice_index numbers k)
     → IsShapeChoice Packed old wanted numbers (LiteralRun len) sum
-literal_choice old wanted numbers run len sum size is best repeats =
+literal_choice {old} {wanted} {numbers} {len} size is best repeats =
     let e = literal_step old wanted len best.above (omega (arith, best.below)) (omega (arith, best.below)) in
-    step_choice Packed old wanted numbers (LiteralRun len) (1 + len) sum e (omega (arith, best.above)) (omega (arith, best.sum_is))
-    (packed_below old wanted numbers run sum size is best.least repeats)
+    step_choice e (omega (arith, best.above)) (omega (arith, best.sum_is))
+    (packed_below old numbers size is best.least repeats)
 
-pub repeat_choice : (old wanted numbers : List ℕ) (run len sum : ℕ) → length old ≡ length wanted → IsRunLen wanted run
+pub repeat_choice : {old wanted numbers : List ℕ} {run len sum : ℕ} → length old ≡ length wanted → IsRunLen wanted run
     → IsLeastLen numbers 2 (min run 128) 2 0 len sum
     → ((k : ℕ) → 1 ≤ k → k ≤ min (length wanted) 128 → sum ≤ 1 + 1 * k + slice_index numbers k)
     → IsShapeChoice Packed old wanted numbers (RepeatRun len) sum
-repeat_choice old wanted numbers run len sum size is best literals =
+repeat_choice {old} {wanted} {numbers} {run} {len} size is best literals =
     let front : len ≤ run = omega (arith, best.below) in
     let e = repeat_step old wanted len best.above (omega (arith, best.below)) (omega (arith, is.within))
-    (run_part wanted run len (slice_index wanted 0) front is.equal) in
-    step_choice Packed old wanted numbers (RepeatRun len) 2 sum e (omega (arith, best.above)) (omega (arith, best.sum_is))
-    (packed_below old wanted numbers run sum size is literals best.least)
+    (run_part wanted (slice_index wanted 0) front is.equal) in
+    step_choice e (omega (arith, best.above)) (omega (arith, best.sum_is))
+    (packed_below old numbers size is literals best.least)
 
 -- the best replacement behind the offsets up to one of them
 pub record IsBestReplacement (wanted numbers : List ℕ) (last : ℕ) (shape : Shape) (sum : ℕ) : Type 0 where
@@ -296,10 +296,10 @@ best_replacement_one wanted numbers shape sum r = record {
       subst (λ (n : ℕ). sum ≤ replacement_bytes n + 1 * k + slice_index (drop n numbers) k) at (r.best.least k some (omega (arith, at)));
 }
 
-pub best_replacement_next : (wanted numbers : List ℕ) (last next : ℕ) (shape shape' : Shape) (sum sum' : ℕ) → next ≡ last + 1
+pub best_replacement_next : {wanted numbers : List ℕ} {last next : ℕ} {shape shape' : Shape} {sum sum' : ℕ} → next ≡ last + 1
     → IsBestReplacement wanted numbers last shape sum → IsReplacement next (length wanted) numbers shape' sum' → sum' ≤ sum
     → IsBestReplacement wanted numbers next shape' sum'
-best_replacement_next wanted numbers last next shape shape' sum sum' next-is b r better = record {
+best_replacement_next {numbers} {next} {sum'} next-is b r better = record {
   offset = next;
   within = omega arith;
   replacement = r;
@@ -313,10 +313,10 @@ best_replacement_next wanted numbers last next shape shape' sum sum' next-is b r
       ];
 }
 
-pub best_replacement_stays : (wanted numbers : List ℕ) (last next : ℕ) (shape shape' : Shape) (sum sum' : ℕ) → next ≡ last + 1
+pub best_replacement_stays : {wanted numbers : List ℕ} {last next : ℕ} {shape shape' : Shape} {sum sum' : ℕ} → next ≡ last + 1
     → IsBestReplacement wanted numbers last shape sum → IsReplacement next (length wanted) numbers shape' sum' → sum ≤ sum'
     → IsBestReplacement wanted numbers next shape sum
-best_replacement_stays wanted numbers last next shape shape' sum sum' next-is b r worse = record {
+best_replacement_stays {numbers} {next} {sum} next-is b r worse = record {
   offset = b.offset;
   within = omega (arith, b.within);
   replacement = b.replacement;
@@ -330,10 +330,10 @@ best_replacement_stays wanted numbers last next shape shape' sum sum' next-is b 
       ];
 }
 
-pub delta_choice : (old wanted numbers : List ℕ) (same last : ℕ) (shape : Shape) (sum : ℕ) → length old ≡ length wanted
+pub delta_choice : {old wanted numbers : List ℕ} {same : ℕ} (last : ℕ) {shape : Shape} {sum : ℕ} → length old ≡ length wanted
     → IsPlace wanted numbers → IsSameLen old wanted same → last ≡ min same (length wanted - 1)
     → IsBestReplacement wanted numbers last shape sum → IsShapeChoice Delta old wanted numbers shape sum
-delta_choice old wanted numbers same last shape sum size place is last-is b =
+delta_choice {old} {wanted} {numbers} {same} last {sum} size place is last-is b =
     let offset : ℕ = b.offset in
     let r = b.replacement in
     let len : ℕ = r.len in
@@ -343,7 +343,7 @@ delta_choice old wanted numbers same last shape sum size place is last-is b =
     let e = replace_step old wanted offset len r.best.above (omega (arith, r.best.below))
     (omega (arith, r.best.below, b.within, last-is, r.best.above)) front in
     let at : slice_index (drop offset numbers) len ≡ slice_index numbers (offset + len) = get_or-drop offset numbers len 0 in
-    let below = delta_below old wanted numbers same sum size is (λ o k low some few. b.least o k (omega (arith, last-is)) some few) in
+    let below = delta_below numbers size is (λ o k low some few. b.least o k (omega (arith, last-is)) some few) in
     subst (λ (s : Shape). IsShapeChoice Delta old wanted numbers s sum) (sym r.step_is)
-    (step_choice Delta old wanted numbers (Replace offset len) (replacement_bytes offset + len) sum e (omega (arith, r.best.above))
+    (step_choice e (omega (arith, r.best.above))
     (omega (arith, r.best.sum_is, at)) below)

@@ -21,16 +21,16 @@ ends_at old row place k end low =
     ∙ get_or-drop place old (k - place) 0 ∙ ap (λ (n : ℕ). get_or old n 0) at
 
 -- behind such a place there are only such places
-pub ends_on : (old row : List ℕ) (place q : ℕ) → Ends old row place → place ≤ q → Ends old row q
-ends_on old row place q end low =
+pub ends_on : (old row : List ℕ) {place q : ℕ} → Ends old row place → place ≤ q → Ends old row q
+ends_on old row {place} {q} end low =
     let at : place + (q - place) ≡ q = omega arith in
     subst (λ (n : ℕ). drop n row ≡ drop n old) at
     (sym (drop-drop (q - place) place row) ∙ ap (drop (q - place)) end ∙ drop-drop (q - place) place old)
 
-pub first_end_by : (old row : List ℕ) (len : ℕ) → length old ≡ length row → len ≤ length row
+pub first_end_by : {old row : List ℕ} {len : ℕ} → length old ≡ length row → len ≤ length row
     → ((k : ℕ) → len ≤ k → k < length row → get_or row k 0 ≡ get_or old k 0)
     → (0 < len → get_or row (len - 1) 0 ≢ get_or old (len - 1) 0) → IsFirstEnd old row len
-first_end_by old row len size within same differs = record {
+first_end_by {old} {row} {len} size within same differs = record {
   within = within;
   ends = ends_by old row len size same;
   first = λ place end.
@@ -48,16 +48,16 @@ white_byte n k =
       | inr past ↦ get_or_past {X = ℕ} (replicate n 0) k 0 (omega (arith, length-replicate {A = ℕ} n 0))
     ]
 
-pub first_end_of_trimmed : (row : List ℕ) (n len : ℕ) → n ≡ length row → IsTrimmedLen row len → IsFirstEnd (replicate n 0) row len
-first_end_of_trimmed row n len size is =
-    first_end_by (replicate n 0) row len (length-replicate {A = ℕ} n 0 ∙ size) is.within
+pub first_end_of_trimmed : {row : List ℕ} {n len : ℕ} → n ≡ length row → IsTrimmedLen row len → IsFirstEnd (replicate n 0) row len
+first_end_of_trimmed {n} {len} size is =
+    first_end_by (length-replicate {A = ℕ} n 0 ∙ size) is.within
     (λ k low high. is.zeros k low ∙ sym (white_byte n k))
     (λ some same. is.last some (same ∙ white_byte n (len - 1)))
 
 pub first_end_of_same : (old row : List ℕ) (place : ℕ) → length old ≡ length row → IsFirstDifference old row place → place ≡ length row
     → IsFirstEnd old row 0
 first_end_of_same old row place size is all =
-    first_end_by old row 0 size (omega arith) (λ k low high. sym (is.same k (omega arith))) (λ some. absurd (omega arith))
+    first_end_by size (omega arith) (λ k low high. sym (is.same k (omega arith))) (λ some. absurd (omega arith))
 
 -- rows that are the same from a place on
 pub record AreSameFrom (old row : List ℕ) (len : ℕ) : Type 0 where

@@ -29,20 +29,20 @@ pub record IsOneByte (method : Method) (old wanted : List ℕ) (e : Element) : T
   pub stop_is : stop e ≡ 1
   pub few : cost e ≤ 2
 
-one_byte_of : (method : Method) (old wanted : List ℕ) (shape : Shape) (bytes : ℕ) → IsShapeElement method old wanted shape bytes
+one_byte_of : {method : Method} {old wanted : List ℕ} {shape : Shape} {bytes : ℕ} → IsShapeElement method old wanted shape bytes
     → shape_stop shape ≡ 1 → bytes ≤ 2 → (e : Element) × IsOneByte method old wanted e
-one_byte_of method old wanted shape bytes s one few = (
+one_byte_of {wanted} {shape} s one few = (
   element_of shape wanted,
   record { element = s.element; agrees = s.agrees; stop_is = s.stop_is ∙ one; few = omega (arith, s.bytes_are) },
 )
 
 one_byte : (method : Method) (old wanted : List ℕ) → 0 < length wanted → (e : Element) × IsOneByte method old wanted e
-one_byte Plain old wanted some = one_byte_of Plain old wanted SingleByte 1 (byte_step old wanted some) refl (omega arith)
-one_byte Runs old wanted some = one_byte_of Runs old wanted (Run 1) 2
+one_byte Plain old wanted some = one_byte_of (byte_step old wanted some) refl (omega arith)
+one_byte Runs old wanted some = one_byte_of
     (run_step old wanted 1 (omega arith) (omega arith) some (first_byte wanted some)) refl (omega arith)
 one_byte Packed old wanted some =
-    one_byte_of Packed old wanted (LiteralRun 1) 2 (literal_step old wanted 1 (omega arith) (omega arith) some) refl (omega arith)
-one_byte Delta old wanted some = one_byte_of Delta old wanted (Replace 0 1) 2
+    one_byte_of (literal_step old wanted 1 (omega arith) (omega arith) some) refl (omega arith)
+one_byte Delta old wanted some = one_byte_of
     (replace_step old wanted 0 1 (omega arith) (omega arith) (omega arith) refl) refl (omega arith)
 
 -- ---- the numbers of a table
@@ -52,9 +52,9 @@ pub number_behind : (table : List ℕ) (at number place : ℕ) → at < place �
 number_behind table at number place behind = let other : place ≢ at = omega arith in get_or-set_other table at place number 0 other
 
 -- what is right stays right where a number before it is set
-pub number_stays : (method : Method) (old row table : List ℕ) (at number place : ℕ) → at < place → IsPlaceNumber method old row table place
+pub number_stays : {method : Method} {old row table : List ℕ} {at : ℕ} (number : ℕ) {place : ℕ} → at < place → IsPlaceNumber method old row table place
     → IsPlaceNumber method old row (set table at number) place
-number_stays method old row table at number place behind is =
+number_stays {table} {at} number {place} behind is =
     let here = number_behind table at number place behind in
     let there : (e : Element) → slice_index (set table at number) (place + stop e) ≡ slice_index table (place + stop e) =
     λ e. number_behind table at number (place + stop e) (omega arith) in
@@ -78,9 +78,9 @@ number_stays method old row table at number place behind is =
     }
 
 -- where no more data is needed
-pub number_of_end : (method : Method) (old row table : List ℕ) (place : ℕ) → place < length table → Ends old row place
+pub number_of_end : {method : Method} {old row : List ℕ} (table : List ℕ) {place : ℕ} → place < length table → Ends old row place
     → IsPlaceNumber method old row (set table place 0) place
-number_of_end method old row table place inside end =
+number_of_end table {place} inside end =
     let here : slice_index (set table place 0) place ≡ 0 = get_or-set_same table place 0 0 inside in
     record {
       steps = λ e element agrees. omega (arith, here);
@@ -90,11 +90,11 @@ number_of_end method old row table place inside end =
     }
 
 -- elsewhere
-pub number_of_choice : (method : Method) (old row table : List ℕ) (place : ℕ) (shape : Shape) (sum : ℕ) → place < length row
+pub number_of_choice : {method : Method} {old row : List ℕ} (table : List ℕ) {place : ℕ} {shape : Shape} {sum : ℕ} → place < length row
     → length table ≡ length row + 1 → (Ends old row place → ⊥)
     → IsShapeChoice method (drop place old) (drop place row) (drop place table) shape sum → sum ≤ 2 * (length row - place)
     → IsPlaceNumber method old row (set table place sum) place
-number_of_choice method old row table place shape sum inside size more c small =
+number_of_choice {row} table {place} {shape} {sum} inside size more c small =
     let now : List ℕ = set table place sum in
     let here : slice_index now place ≡ sum = get_or-set_same table place sum 0 (omega arith) in
     let there : (k : ℕ) → 0 < k → slice_index (drop place table) k ≡ slice_index now (place + k) =
@@ -121,27 +121,27 @@ number_of_choice method old row table place shape sum inside size more c small =
     }
 
 -- the best element has no more than two bytes for each byte of the row, where that holds behind it
-pub choice_small : (method : Method) (old row table : List ℕ) (place : ℕ) (shape : Shape) (sum : ℕ) → place < length row
+pub choice_small : {method : Method} (old row table : List ℕ) {place : ℕ} {shape : Shape} {sum : ℕ} → place < length row
     → IsShapeChoice method (drop place old) (drop place row) (drop place table) shape sum
     → slice_index table (place + 1) ≤ 2 * (length row - (place + 1)) → sum ≤ 2 * (length row - place)
-choice_small method old row table place shape sum inside c small =
+choice_small {method} old row table {place} {sum} inside c small =
     let one = one_byte method (drop place old) (drop place row) (omega (arith, length-drop place row)) in
     let first : sum ≤ cost one.0 + slice_index (drop place table) (stop one.0) =
     c.choice.least one.0 one.1.element one.1.agrees (omega (arith, one.1.stop_is)) in
     omega (arith, first, one.1.few, ap (slice_index (drop place table)) one.1.stop_is, get_or-drop place table 1 0)
 
 -- a shape's choice at parts of lists that go to their ends
-pub choice_to_ends : (method : Method) (old row table : List ℕ) (place : ℕ) (shape : Shape) (sum : ℕ)
+pub choice_to_ends : {method : Method} (old row table : List ℕ) (place : ℕ) {shape : Shape} {sum : ℕ}
     → IsShapeChoice method (take (length old - place) (drop place old)) (take (length row - place) (drop place row))
     (take (length table - place) (drop place table)) shape sum
     → IsShapeChoice method (drop place old) (drop place row) (drop place table) shape sum
-choice_to_ends method old row table place shape sum c = rw (take_rest old place, take_rest row place, take_rest table place) at c
+choice_to_ends old row table place c = rw (take_rest old place, take_rest row place, take_rest table place) at c
 
 -- ---- places from which no more data is needed
 
-pub ends_here : (old row : List ℕ) (place : ℕ) → length old ≡ length row → place < length row → get_or row place 0 ≡ get_or old place 0
+pub ends_here : (old row : List ℕ) {place : ℕ} → length old ≡ length row → place < length row → get_or row place 0 ≡ get_or old place 0
     → Ends old row (place + 1) → Ends old row place
-ends_here old row place size inside same end =
+ends_here old row {place} size inside same end =
     drop_more row place 0 inside ∙ ap (λ (b : ℕ). b ∷ drop (place + 1) row) same ∙ ap (λ (bs : List ℕ). get_or old place 0 ∷ bs) end
     ∙ sym (drop_more old place 0 (omega arith))
 
@@ -154,54 +154,54 @@ ends_same old row place end =
     ∙ get_or-drop place old 0 0 ∙ ap (λ (k : ℕ). get_or old k 0) (omega arith)
 
 -- one more number
-pub right_more : (method : Method) (old row table : List ℕ) (place number : ℕ) → AreRightFrom method old row table (place + 1)
+pub right_more : {method : Method} {old row table : List ℕ} {place : ℕ} (number : ℕ) → AreRightFrom method old row table (place + 1)
     → IsPlaceNumber method old row (set table place number) place → AreRightFrom method old row (set table place number) place
-right_more method old row table place number behind here q low high =
+right_more {method} {old} {row} {table} {place} number behind here q low high =
     elim (cases_lt place q) [
-      | inl above ↦ number_stays method old row table place number q above (behind q (omega arith) high)
+      | inl above ↦ number_stays number above (behind q (omega arith) high)
       | inr same ↦ let at : place ≡ q = omega arith in subst (λ (p : ℕ). IsPlaceNumber method old row (set table place number) p) at here
     ]
 
 -- ---- a whole table
 
 -- past the row's end no more data is needed
-pub ends_past : (old row : List ℕ) (place : ℕ) → length old ≡ length row → length row ≤ place → Ends old row place
-ends_past old row place size past = drop_all place row past ∙ sym (drop_all place old (omega arith))
+pub ends_past : (old row : List ℕ) {place : ℕ} → length old ≡ length row → length row ≤ place → Ends old row place
+ends_past old row {place} size past = drop_all place row past ∙ sym (drop_all place old (omega arith))
 
-pub attained_from : (method : Method) (old row table : List ℕ) (rest place : ℕ) → length old ≡ length row
+pub attained_from : {method : Method} {old row table : List ℕ} (rest : ℕ) {place : ℕ} → length old ≡ length row
     → AreRightFrom method old row table 0 → place ≤ length row → length row - place ≤ rest
     → IsAttained (Leads method old row) (Ends old row) cost place (slice_index table place)
-attained_from method old row table zero place size right within left =
-    let end : Ends old row place = ends_past old row place size (omega arith) in
+attained_from {old} {row} zero {place} size right within left =
+    let end : Ends old row place = ends_past old row size (omega arith) in
     ([], end, sym ((right place (omega arith) within).ends end))
-attained_from method old row table (suc rest) place size right within left =
+attained_from {method} {old} {row} (suc rest) {place} size right within left =
     let is = right place (omega arith) within in
     elim is.attained [
       | inl end ↦ ([], end, sym (is.ends end))
       | inr next ↦
           let e : Element = next.0 in
           let inside = stop_within method old row place e size next.1.element next.1.agrees in
-          let walk = attained_from method old row table rest (place + stop e) size right (omega arith) (omega (arith, next.1.goes_on)) in (
+          let walk = attained_from rest size right (omega arith) (omega (arith, next.1.goes_on)) in (
             e ∷ walk.0,
             (place + stop e, record { element = next.1.element; agrees = next.1.agrees; next_is = refl }, walk.1),
             omega (arith, walk.2, next.1.number_is),
           )
     ]
 
-pub right_at_end : (method : Method) (old row table : List ℕ) → length old ≡ length row → length row < length table
+pub right_at_end : {method : Method} {old row : List ℕ} (table : List ℕ) → length old ≡ length row → length row < length table
     → AreRightFrom method old row (set table (length row) 0) (length row)
-right_at_end method old row table size inside q low high =
+right_at_end {method} {old} {row} table size inside q low high =
     let at : length row ≡ q = omega arith in
     subst (λ (p : ℕ). IsPlaceNumber method old row (set table (length row) 0) p) at
-    (number_of_end method old row table (length row) inside (ends_past old row (length row) size (omega arith)))
+    (number_of_end table inside (ends_past old row size (omega arith)))
 
 -- it is enough to look at the places of the row and its end
-pub row_table_of_places : (method : Method) (seed row table : List ℕ) → length seed ≡ length row → length table ≡ length row + 1
+pub row_table_of_places : {method : Method} {seed row table : List ℕ} → length seed ≡ length row → length table ≡ length row + 1
     → ((place : ℕ) (e : Element) → place ≤ length row → IsElement method e → Agrees (drop place (base method seed)) (drop place row) e
     → slice_index table place ≤ cost e + slice_index table (place + stop e))
     → ((place : ℕ) → place ≤ length row → Ends (base method seed) row place → slice_index table place ≡ 0)
     → IsRowTable method seed row table
-row_table_of_places method seed row table same size steps ends = record {
+row_table_of_places {row} {table} same size steps ends = record {
   size = size;
   feasible = record {
     steps = λ place e next l.
@@ -217,12 +217,12 @@ row_table_of_places method seed row table same size steps ends = record {
   };
 }
 
-pub table_is_least : (method : Method) (seed row table : List ℕ) → length seed ≡ length row → length table ≡ length row + 1
+pub table_is_least : {method : Method} {seed row table : List ℕ} → length seed ≡ length row → length table ≡ length row + 1
     → AreRightFrom method (base method seed) row table 0 → IsLeastTable method seed row table
-table_is_least method seed row table same size right = record {
-  table_is = row_table_of_places method seed row table same size (λ place e within. (right place (omega arith) within).steps e)
+table_is_least {method} {seed} {row} same size right = record {
+  table_is = row_table_of_places same size (λ place e within. (right place (omega arith) within).steps e)
       (λ place within. (right place (omega arith) within).ends);
-  attained = λ place within. attained_from method (base method seed) row table (length row) place (length-base method seed ∙ same) right
+  attained = λ place within. attained_from (length row) (length-base method seed ∙ same) right
       within (omega arith);
 }
 
@@ -231,7 +231,7 @@ table_is_least method seed row table same size right = record {
 pub first_bounds : (method : Method) (seed row table bytes : List ℕ) → length seed ≡ length row → IsRowTable method seed row table
     → IsRowData method seed row bytes → slice_index table 0 ≤ length bytes
 first_bounds method seed row table bytes same is has =
-    let w = walk_of_data method seed row bytes same has in
+    let w = walk_of_data same has in
     omega (
       arith,
       feasible_bounds (Leads method (base method seed) row) (Ends (base method seed) row) cost (slice_index table) is.feasible
@@ -240,27 +240,27 @@ first_bounds method seed row table bytes same is has =
     )
 
 -- no number of a row table is above two bytes for each byte of the row
-pub row_table_small : (method : Method) (seed row table : List ℕ) (rest place : ℕ) → length seed ≡ length row
+pub row_table_small : {method : Method} {seed row table : List ℕ} (rest place : ℕ) → length seed ≡ length row
     → IsRowTable method seed row table → place + rest ≡ length row → slice_index table place ≤ 2 * rest
-row_table_small method seed row table zero place same is at =
-    omega (arith, is.feasible.ends place (ends_past (base method seed) row place (length-base method seed ∙ same) (omega arith)))
-row_table_small method seed row table (suc rest) place same is at =
+row_table_small {method} {seed} {row} zero place same is at =
+    omega (arith, is.feasible.ends place (ends_past (base method seed) row (length-base method seed ∙ same) (omega arith)))
+row_table_small {method} {seed} {row} (suc rest) place same is at =
     let one = one_byte method (drop place (base method seed)) (drop place row) (omega (arith, length-drop place row)) in
     let next : place + 1 ≡ place + stop one.0 = omega (arith, one.1.stop_is) in
     omega (
       arith,
       is.feasible.steps place one.0 (place + 1) (record { element = one.1.element; agrees = one.1.agrees; next_is = next }),
       one.1.few,
-      row_table_small method seed row table rest (place + 1) same is (omega arith),
+      row_table_small rest (place + 1) same is (omega arith),
     )
 
 -- data along a walk of least cost
-pub least_along : (method : Method) (seed row table : List ℕ) (es : List Element) → IsCodable seed row → IsRowTable method seed row table
+pub least_along : {method : Method} {seed row table : List ℕ} (es : List Element) → IsCodable seed row → IsRowTable method seed row table
     → Walk (Leads method (base method seed) row) (Ends (base method seed) row) 0 es → total cost es ≡ slice_index table 0
     → IsRowData method seed row (flat_map element_bytes es) × IsLeastLength method seed row (length (flat_map element_bytes es))
-least_along method seed row table es codable is walk total-is =
-    let small = row_table_small method seed row table (length row) 0 codable.same_size is (omega arith) in
-    let has = data_of_walk method seed row es codable.same_size (omega (arith, total-is, small, codable.small)) walk in
+least_along {method} {seed} {row} {table} es codable is walk total-is =
+    let small = row_table_small (length row) 0 codable.same_size is (omega arith) in
+    let has = data_of_walk es codable.same_size (omega (arith, total-is, small, codable.small)) walk in
     let bytes : length (flat_map element_bytes es) ≡ slice_index table 0 = sym (total_is es) ∙ total-is in (
       has,
       record {
@@ -273,7 +273,7 @@ pub first_is_least : (method : Method) (seed row table : List ℕ) → IsCodable
     → IsLeastLength method seed row (slice_index table 0)
 first_is_least method seed row table codable is =
     let w = is.attained 0 (omega arith) in
-    let l = least_along method seed row table w.0 codable is.table_is w.1 w.2 in
+    let l = least_along w.0 codable is.table_is w.1 w.2 in
     subst (IsLeastLength method seed row) (sym (total_is w.0) ∙ w.2) l.1
 
 -- each number of the least table is the least cost of a walk from its place
@@ -298,21 +298,21 @@ appended_none method old row table before =
     record { within = omega arith; done = []; joined = sym (append-nil before); goes_on = λ es w t. (w, t) }
 
 -- where the number is not 0, data is needed
-pub more_needed : (method : Method) (old row table : List ℕ) (place : ℕ) → length old ≡ length row → AreRightFrom method old row table 0
+pub more_needed : {method : Method} {old row table : List ℕ} (place : ℕ) → length old ≡ length row → AreRightFrom method old row table 0
     → place ≤ length row → 0 < slice_index table place → place < length row
-more_needed method old row table place size right within some =
+more_needed {old} {row} place size right within some =
     elim (cases_lt place (length row)) [
       | inl inside ↦ inside
-      | inr past ↦ absurd (omega (arith, (right place (omega arith) within).ends (ends_past old row place size past)))
+      | inr past ↦ absurd (omega (arith, (right place (omega arith) within).ends (ends_past old row size past)))
     ]
 
 -- the best element of a place that needs data
-best_number : (method : Method) (old row table : List ℕ) (place : ℕ) (shape : Shape) (sum : ℕ) → AreRightFrom method old row table 0
+best_number : {method : Method} {old row table : List ℕ} {place : ℕ} {shape : Shape} {sum : ℕ} → AreRightFrom method old row table 0
     → place ≤ length row → 0 < slice_index table place
     → IsShapeChoice method (drop place old) (drop place row) (drop place table) shape sum
     → slice_index table place ≡ cost (element_of shape (drop place row)) + slice_index table
     (place + stop (element_of shape (drop place row)))
-best_number method old row table place shape sum right within some c =
+best_number {row} {table} {place} {shape} right within some c =
     let is = right place (omega arith) within in
     let e : Element = element_of shape (drop place row) in
     let at : (k : ℕ) → slice_index (drop place table) k ≡ slice_index table (place + k) = λ k. get_or-drop place table k 0 in
@@ -331,21 +331,21 @@ best_number method old row table place shape sum right within some c =
           )
     ]
 
-pub appended_more : (method : Method) (old row table before now : List ℕ) (place : ℕ) (shape : Shape) (sum : ℕ) (now' : List ℕ) (place' : ℕ)
+pub appended_more : {method : Method} {old row table before now : List ℕ} {place : ℕ} {shape : Shape} {sum : ℕ} {now' : List ℕ} {place' : ℕ}
     → length old ≡ length row → AreRightFrom method old row table 0 → 0 < slice_index table place
     → IsAppendedTo method old row table before now place
     → IsShapeChoice method (drop place old) (drop place row) (drop place table) shape sum
     → now' ≡ now ++ element_bytes (element_of shape (drop place row)) → place' ≡ place + shape_stop shape
     → IsAppendedTo method old row table before now' place'
-appended_more method old row table before now place shape sum now' place' size right some a c now-is place-is =
+appended_more {method} {old} {row} {table} {before} {place} {shape} {place'} size right some a c now-is place-is =
     let e : Element = element_of shape (drop place row) in
     let inside = stop_within method old row place e size c.choice.element c.choice.agrees in
     let next : place' ≡ place + stop e = place-is ∙ ap (λ (k : ℕ). place + k) (sym c.stop_is) in
-    let number = best_number method old row table place shape sum right a.within some c in
+    let number = best_number right a.within some c in
     let more : flat_map element_bytes (a.done ++ e ∷ []) ≡ flat_map element_bytes a.done ++ element_bytes e =
     flat_map-append element_bytes a.done (e ∷ [])
     ∙ ap (λ (bs : List ℕ). flat_map element_bytes a.done ++ bs) (append-nil (element_bytes e)) in
-    let begins = more_needed method old row table place size right a.within some in
+    let begins = more_needed place size right a.within some in
     record {
       within = omega arith;
       done = a.done ++ e ∷ [];
@@ -359,9 +359,9 @@ appended_more method old row table before now place shape sum now' place' size r
           (subst (Walk (Leads method old row) (Ends old row) 0) same g.0, ap (total cost) (sym same) ∙ g.1);
     }
 
-pub appended_all : (method : Method) (old row table before now : List ℕ) (place : ℕ) → AreRightFrom method old row table 0
+pub appended_all : {method : Method} {old row table before now : List ℕ} {place : ℕ} → AreRightFrom method old row table 0
     → slice_index table place ≡ 0 → IsAppendedTo method old row table before now place → AppendsWalk method old row table before now
-appended_all method old row table before now place right none a =
+appended_all {method} {old} {row} {before} {place} right none a =
     let is = right place (omega arith) a.within in
     let end : Ends old row place = elim is.attained [
       | inl end ↦ end
@@ -383,14 +383,14 @@ front_stays before now now' more joined front =
     ∙ ap (take (length before)) (front ∙ joined) ∙ take_at before more (length before) refl
 
 -- what was appended is least
-pub appends_least : (method : Method) (seed row old table before now : List ℕ) → IsCodable seed row → length table ≡ length row + 1
+pub appends_least : {method : Method} {seed row old table before now : List ℕ} → IsCodable seed row → length table ≡ length row + 1
     → old ≡ base method seed → AreRightFrom method old row table 0
     → AppendsWalk method old row table before now → AppendsLeast method seed row before now
-appends_least method seed row old table before now codable size old-is right a =
+appends_least {method} {seed} {row} {table} {before} {now} codable size old-is right a =
     let right' : AreRightFrom method (base method seed) row table 0 =
     subst (λ (o : List ℕ). AreRightFrom method o row table 0) old-is right in
     let a' : AppendsWalk method (base method seed) row table before now =
     subst (λ (o : List ℕ). AppendsWalk method o row table before now) old-is a in
-    let is = table_is_least method seed row table codable.same_size size right' in
-    let l = least_along method seed row table a'.steps codable is.table_is a'.walk a'.total_is in
+    let is = table_is_least codable.same_size size right' in
+    let l = least_along a'.steps codable is.table_is a'.walk a'.total_is in
     record { bytes = flat_map element_bytes a'.steps; joined = a'.joined; whole = l.0; least = l.1 }

@@ -22,14 +22,14 @@ pub record IsPlaceWindow (table numbers : List ℕ) (end place : ℕ) : Type 0 w
   pub each : (k : ℕ) → k < length numbers → slice_index numbers k
       ≡ min end (place + 128) - k + slice_index table (min end (place + 128) - k)
 
-pub place_window_none : (table : List ℕ) (end : ℕ) → IsPlaceWindow table [] end end
-place_window_none table end = record { count = omega arith; each = λ k below. absurd (omega arith) }
+pub place_window_none : {table : List ℕ} {end : ℕ} → IsPlaceWindow table [] end end
+place_window_none = record { count = omega arith; each = λ k below. absurd (omega arith) }
 
 -- a place is put in
-pub place_window_put : (table numbers now : List ℕ) (end place number : ℕ) → IsPlaceWindow table numbers end (place + 1) → place < end
+pub place_window_put : {table numbers now : List ℕ} {end place number : ℕ} → IsPlaceWindow table numbers end (place + 1) → place < end
     → number ≡ place + 1 + slice_index table (place + 1) → now ≡ numbers ++ number ∷ []
     → end ≤ place + 128 → IsPlaceWindow table now end place
-place_window_put table numbers now end place number w inside number-is now-is near =
+place_window_put {table} {numbers} {now} {end} {place} {number} w inside number-is now-is near =
     let size : length now ≡ length numbers + 1 = omega (arith, ap length now-is, length-append numbers (number ∷ [])) in
     record {
       count = omega (arith, w.count, size);
@@ -48,10 +48,10 @@ place_window_put table numbers now end place number w inside number-is now-is ne
     }
 
 -- a place is put in, and the last is taken out
-pub place_window_slide : (table numbers now : List ℕ) (end place number : ℕ) → IsPlaceWindow table numbers end (place + 1)
+pub place_window_slide : {table numbers now : List ℕ} {end place number : ℕ} → IsPlaceWindow table numbers end (place + 1)
     → place + 128 < end → number ≡ place + 1 + slice_index table (place + 1) → now ≡ drop 1 (numbers ++ number ∷ [])
     → IsPlaceWindow table now end place
-place_window_slide table numbers now end place number w far number-is now-is =
+place_window_slide {table} {numbers} {now} {end} {place} {number} w far number-is now-is =
     let size : length now ≡ length numbers =
     omega (arith, ap length now-is, length-append numbers (number ∷ []), length-drop 1 (numbers ++ number ∷ []), w.count) in
     record {
@@ -72,9 +72,9 @@ place_window_slide table numbers now end place number w far number-is now-is =
     }
 
 -- a number is set at the place itself
-pub place_window_set : (table numbers : List ℕ) (end place number : ℕ) → place < end → IsPlaceWindow table numbers end place
+pub place_window_set : {table numbers : List ℕ} {end place : ℕ} (number : ℕ) → place < end → IsPlaceWindow table numbers end place
     → IsPlaceWindow (set table place number) numbers end place
-place_window_set table numbers end place number inside w = record {
+place_window_set {table} {end} {place} number inside w = record {
   count = w.count;
   each = λ k below.
       let q : ℕ = min end (place + 128) - k in
@@ -82,11 +82,11 @@ place_window_set table numbers end place number inside w = record {
 }
 
 -- what the least of the window says of literals
-pub literal_least : (row first table numbers : List ℕ) (end place least : ℕ) → IsBegun (replicate (length row) 0) row first end
+pub literal_least : {row first table numbers : List ℕ} {end place least : ℕ} → IsBegun (replicate (length row) 0) row first end
     → length table ≡ length row + 1 → place < end → AreRightFrom Packed (replicate (length row) 0) row table (place + 1)
     → IsPlaceWindow table numbers end place → IsLeastOf numbers least
     → (place + 1 ≤ least) × ((len : ℕ) × IsLeastLen (drop place table) 1 (min (length (drop place row)) 128) 1 1 len (least - place + 1))
-literal_least row first table numbers end place least begun size inside behind w is =
+literal_least {row} {table} {numbers} {end} {place} {least} begun size inside behind w is =
     let hi : ℕ = min end (place + 128) in
     let k : ℕ = is.among.0 in
     let q : ℕ = hi - k in
@@ -120,11 +120,11 @@ literal_least row first table numbers end place least begun size inside behind w
     )
 
 -- the longest repeat of a place is the best
-pub repeat_least : (row first table : List ℕ) (end place run_end len : ℕ) → IsBegun (replicate (length row) 0) row first end
+pub repeat_least : {row first table : List ℕ} {end place run_end len : ℕ} → IsBegun (replicate (length row) 0) row first end
     → length table ≡ length row + 1 → AreRightFrom Packed (replicate (length row) 0) row table (place + 1)
     → IsRunEnd row place run_end → place + 1 < run_end → len ≡ min (run_end - place) 128
     → IsLeastLen (drop place table) 2 (min (run_end - place) 128) 2 0 len (slice_index table (place + len) + 2)
-repeat_least row first table end place run_end len begun size behind is more len-is =
+repeat_least {row} {table} {place} {len} begun size behind is more len-is =
     let at : (n : ℕ) → slice_index (drop place table) n ≡ slice_index table (place + n) = λ n. get_or-drop place table n 0 in
     record {
       above = omega arith;
@@ -140,21 +140,21 @@ repeat_least row first table end place run_end len begun size behind is more len
     }
 
 -- the better of both
-pub packed_place : (row first table numbers : List ℕ) (end place run_end least literal repeat number : ℕ)
+pub packed_place : {row first table numbers : List ℕ} {end place run_end least literal repeat number : ℕ}
     → IsBegun (replicate (length row) 0) row first end → length table ≡ length row + 1 → place < end
     → AreRightFrom Packed (replicate (length row) 0) row table (place + 1) → IsPlaceWindow table numbers end place
     → IsLeastOf numbers least → IsRunEnd row place run_end
     → literal ≡ least - place + 1 → literal ≤ 65535 → (run_end ≡ place + 1 → repeat ≡ 65535)
     → (place + 1 < run_end → repeat ≡ slice_index table (min run_end (place + 128)) + 2) → number ≡ min literal repeat
     → (shape : Shape) × IsShapeChoice Packed (drop place (replicate (length row) 0)) (drop place row) (drop place table) shape number
-packed_place row first table numbers end place run_end least literal repeat number begun size inside behind w is run literal-is small none
+packed_place {row} {table} {place} {run_end} {least} {literal} {repeat} {number} begun size inside behind w is run literal-is small none
     some number-is =
     let old : List ℕ = drop place (replicate (length row) 0) in
     let wanted : List ℕ = drop place row in
     let run-len = run_len_of row place run_end (run_end - place) run (omega (arith, run.after)) in
     let same : length old ≡ length wanted =
     omega (arith, length-drop {A = ℕ} place (replicate (length row) 0), length-drop place row, begun.same_size) in
-    let l = (literal_least row first table numbers end place least begun size inside behind w is).1 in
+    let l = (literal_least begun size inside behind w is).1 in
     let len : ℕ = min (run_end - place) 128 in
     let at : place + len ≡ min run_end (place + 128) = omega (arith, run.after) in
     elim (cases_lt (place + 1) run_end) [
@@ -162,36 +162,36 @@ packed_place row first table numbers end place run_end least literal repeat numb
           let e : literal ≡ number = omega (arith, none (omega (arith, run.after))) in (
             LiteralRun l.0,
             subst (IsShapeChoice Packed old wanted (drop place table) (LiteralRun l.0)) (sym literal-is ∙ e)
-                (literal_choice old wanted (drop place table) (run_end - place) l.0 (least - place + 1) same run-len l.1
+                (literal_choice same run-len l.1
                 (λ k low high. absurd (omega arith))),
           )
       | inl more ↦
-          let r = repeat_least row first table end place run_end len begun size behind run more refl in
+          let r = repeat_least begun size behind run more refl in
           let repeat-is : slice_index table (place + len) + 2 ≡ repeat = omega (arith, some more, ap (slice_index table) at) in
           elim (cases_lt repeat literal) [
             | inl better ↦
                 let e : repeat ≡ number = omega arith in (
                   RepeatRun len,
                   subst (IsShapeChoice Packed old wanted (drop place table) (RepeatRun len)) (repeat-is ∙ e)
-                      (repeat_choice old wanted (drop place table) (run_end - place) len (slice_index table (place + len) + 2) same run-len
+                      (repeat_choice same run-len
                       r (λ k low high. omega (arith, l.1.least k low high))),
                 )
             | inr worse ↦
                 let e : literal ≡ number = omega arith in (
                   LiteralRun l.0,
                   subst (IsShapeChoice Packed old wanted (drop place table) (LiteralRun l.0)) (sym literal-is ∙ e)
-                      (literal_choice old wanted (drop place table) (run_end - place) l.0 (least - place + 1) same run-len l.1
+                      (literal_choice same run-len l.1
                       (λ k low high. omega (arith, r.least k low high))),
                 )
           ]
     ]
 
 -- a literal's number fits
-pub literal_small : (row first table numbers : List ℕ) (end place least : ℕ) → IsBegun (replicate (length row) 0) row first end
+pub literal_small : {row first table numbers : List ℕ} {end place least : ℕ} → IsBegun (replicate (length row) 0) row first end
     → length table ≡ length row + 1 → place < end → AreRightFrom Packed (replicate (length row) 0) row table (place + 1)
     → IsPlaceWindow table numbers end place → IsLeastOf numbers least → (place + 1 ≤ least) × (least - place + 1 ≤ 1202)
-literal_small row first table numbers end place least begun size inside behind w is =
-    let l = literal_least row first table numbers end place least begun size inside behind w is in
+literal_small {row} {table} {place} {least} begun size inside behind w is =
+    let l = literal_least begun size inside behind w is in
     let long = length-drop place row in (
       l.0,
       omega (

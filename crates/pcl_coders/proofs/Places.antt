@@ -23,49 +23,49 @@ use Rattle.pcl_coders.proofs.Ends.{ends_on, ends_at, white_byte}
 -- ---- any method
 
 -- no data is needed, and the number is 0
-number_zero : (method : Method) (old row table : List ℕ) (place : ℕ) → slice_index table place ≡ 0 → Ends old row place
+number_zero : {method : Method} {old row table : List ℕ} {place : ℕ} → slice_index table place ≡ 0 → Ends old row place
     → IsPlaceNumber method old row table place
-number_zero method old row table place here end = record {
+number_zero here end = record {
   steps = λ e element agrees. omega (arith, here);
   ends = λ _. here;
   attained = inl end;
   small = omega (arith, here);
 }
 
-pub begun_right : (method : Method) (old row table : List ℕ) (end : ℕ) → IsBegun old row table end → AreRightFrom method old row table end
-begun_right method old row table end begun q low high =
-    number_zero method old row table q (begun.zeros q low) (ends_on old row end q begun.first_end.ends low)
+pub begun_right : {method : Method} {old row table : List ℕ} {end : ℕ} → IsBegun old row table end → AreRightFrom method old row table end
+begun_right {old} {row} begun q low high =
+    number_zero (begun.zeros q low) (ends_on old row begun.first_end.ends low)
 
-pub place_at : (old row first table : List ℕ) (end place : ℕ) → IsBegun old row first end → length table ≡ length row + 1 → place < end
+pub place_at : {old row first : List ℕ} (table : List ℕ) {end place : ℕ} → IsBegun old row first end → length table ≡ length row + 1 → place < end
     → IsPlace (drop place row) (drop place table)
-place_at old row first table end place begun size inside = record {
+place_at {row} table {place} begun size inside = record {
   size = omega (arith, begun.first_end.within, length-drop place row, length-drop place table);
   some = omega (arith, begun.first_end.within, length-drop place row);
   small = omega (arith, begun.small, length-drop place row);
 }
 
 -- the best element of a place gives its number
-pub place_done : (method : Method) (old row first table : List ℕ) (end place : ℕ) (shape : Shape) (sum : ℕ) → IsBegun old row first end
+pub place_done : {method : Method} {old row first table : List ℕ} {end place : ℕ} {shape : Shape} {sum : ℕ} → IsBegun old row first end
     → length table ≡ length row + 1 → place < end
     → AreRightFrom method old row table (place + 1) → IsShapeChoice method (drop place old) (drop place row) (drop place table) shape sum
     → AreRightFrom method old row (set table place sum) place × (sum ≤ 2 * (length row - place))
-place_done method old row first table end place shape sum begun size inside behind c =
+place_done {old} {row} {first} {table} {place} {sum} begun size inside behind c =
     let within : place < length row = omega (arith, begun.first_end.within) in
-    let small = choice_small method old row table place shape sum within c (behind (place + 1) (omega arith) (omega arith)).small in (
-      right_more method old row table place sum behind
-          (number_of_choice method old row table place shape sum within size (λ e. absurd (omega (arith, begun.first_end.first place e))) c
+    let small = choice_small old row table within c (behind (place + 1) (omega arith) (omega arith)).small in (
+      right_more sum behind
+          (number_of_choice table within size (λ e. absurd (omega (arith, begun.first_end.first place e))) c
           small),
       small,
     )
 
 -- ---- method 0
 
-pub plain_place : (old row first table : List ℕ) (end place : ℕ) → IsBegun old row first end → length table ≡ length row + 1 → place < end
+pub plain_place : {old row first : List ℕ} (table : List ℕ) {end place : ℕ} → IsBegun old row first end → length table ≡ length row + 1 → place < end
     → IsShapeChoice Plain (drop place old) (drop place row) (drop place table) SingleByte (slice_index table (place + 1) + 1)
-plain_place old row first table end place begun size inside =
+plain_place {old} {row} table {place} begun size inside =
     let at : 1 + slice_index (drop place table) 1 ≡ slice_index table (place + 1) + 1 = omega (arith, get_or-drop place table 1 0) in
     subst (λ (sum : ℕ). IsShapeChoice Plain (drop place old) (drop place row) (drop place table) SingleByte sum) at
-    (plain_choice (drop place old) (drop place row) (drop place table) (place_at old row first table end place begun size inside))
+    (plain_choice (place_at table begun size inside))
 
 -- ---- methods 1 and 2: numbers never grow to the right
 
@@ -76,10 +76,10 @@ pub record IsShorter (method : Method) (old wanted : List ℕ) (e d : Element) :
   pub stop_is : stop d + 1 ≡ stop e
   pub cheaper : cost d ≤ cost e
 
-shorter_of : (method : Method) (old wanted : List ℕ) (e : Element) (shape : Shape) (bytes : ℕ)
+shorter_of : {method : Method} {old wanted : List ℕ} (e : Element) {shape : Shape} {bytes : ℕ}
     → IsShapeElement method (drop 1 old) (drop 1 wanted) shape bytes → shape_stop shape + 1 ≡ stop e → bytes ≤ cost e
     → (d : Element) × IsShorter method old wanted e d
-shorter_of method old wanted e shape bytes s stops few = (
+shorter_of {wanted} e {shape} s stops few = (
   element_of shape (drop 1 wanted),
   record {
     element = s.element;
@@ -91,9 +91,9 @@ shorter_of method old wanted e shape bytes s stops few = (
 )
 
 -- a run without its first byte
-run_behind : (wanted : List ℕ) (len byte : ℕ) → 1 ≤ len → take (len + 1) wanted ≡ replicate (len + 1) byte
+run_behind : (wanted : List ℕ) {len : ℕ} (byte : ℕ) → 1 ≤ len → take (len + 1) wanted ≡ replicate (len + 1) byte
     → take len (drop 1 wanted) ≡ replicate len (slice_index (drop 1 wanted) 0)
-run_behind wanted len byte some alike =
+run_behind wanted {len} byte some alike =
     let long : len + 1 ≤ length wanted =
     omega (arith, sym (length-take (len + 1) wanted) ∙ ap length alike ∙ length-replicate (len + 1) byte) in
     let each : (i : ℕ) → i < len + 1 → get_or wanted i 0 ≡ byte =
@@ -119,9 +119,9 @@ shorter_run old wanted e size element agrees more =
     let alike : take (count - 1 + 1) wanted ≡ replicate (count - 1 + 1) s.1.byte =
     subst (λ (n : ℕ). take n wanted ≡ replicate n s.1.byte) (omega (arith, s.0, is))
     (sym (front ∙ ap (λ (n : ℕ). take n wanted) is) ∙ s.1.given_is) in
-    shorter_of Runs old wanted e (Run (count - 1)) 2
+    shorter_of e
     (run_step (drop 1 old) (drop 1 wanted) (count - 1) (omega arith) (omega (arith, s.1.below)) (omega (arith, g.0, length-drop 1 wanted))
-    (run_behind wanted (count - 1) s.1.byte (omega arith) alike))
+    (run_behind wanted s.1.byte (omega arith) alike))
     (sym stops) (omega (arith, s.1.bytes_are))
 
 shorter_packed : (old wanted : List ℕ) (e : Element) → length old ≡ length wanted → IsElement Packed e → Agrees old wanted e → 1 < stop e
@@ -140,19 +140,19 @@ shorter_packed old wanted e size element agrees more =
           (sym (front ∙ ap (λ (n : ℕ). take n wanted) is) ∙ r.given_is) in
           elim (cases_lt 2 count) [
             | inl long ↦
-                shorter_of Packed old wanted e (RepeatRun (count - 1)) 2
+                shorter_of e
                 (repeat_step (drop 1 old) (drop 1 wanted) (count - 1) (omega arith) (omega (arith, r.below))
-                (omega (arith, g.0, length-drop 1 wanted)) (run_behind wanted (count - 1) r.byte (omega arith) alike))
+                (omega (arith, g.0, length-drop 1 wanted)) (run_behind wanted r.byte (omega arith) alike))
                 (sym stops) (omega (arith, r.bytes_are))
             | inr short ↦
-                shorter_of Packed old wanted e (LiteralRun 1) 2
+                shorter_of e
                 (literal_step (drop 1 old) (drop 1 wanted) 1 (omega arith) (omega arith) (omega (arith, g.0, length-drop 1 wanted)))
                 (omega (arith, stops)) (omega (arith, r.bytes_are))
           ]
       | inr l ↦
           let count : ℕ = length (given e) in
           let stops : stop e ≡ count - 1 + 1 = omega (arith, s.0) in
-          shorter_of Packed old wanted e (LiteralRun (count - 1)) (1 + (count - 1))
+          shorter_of e
           (literal_step (drop 1 old) (drop 1 wanted) (count - 1) (omega arith) (omega (arith, l.below))
           (omega (arith, g.0, length-drop 1 wanted)))
           (sym stops) (omega (arith, l.bytes_are))
@@ -169,9 +169,9 @@ runs_shorten = shorter_run
 pub packed_shorten : CanShorten Packed
 packed_shorten = shorter_packed
 
-falls_once : (method : Method) (old row table : List ℕ) (p : ℕ) → CanShorten method → length old ≡ length row
+falls_once : {method : Method} {old row table : List ℕ} {p : ℕ} → CanShorten method → length old ≡ length row
     → IsPlaceNumber method old row table p → IsPlaceNumber method old row table (p + 1) → slice_index table (p + 1) ≤ slice_index table p
-falls_once method old row table p shorten size here next =
+falls_once {old} {row} {table} {p} shorten size here next =
     elim here.attained [
       | inl end ↦ omega (arith, next.ends (ends_behind old row p end))
       | inr has ↦
@@ -189,17 +189,17 @@ falls_once method old row table p shorten size here next =
           ]
     ]
 
-falls_by : (method : Method) (old row table : List ℕ) (from p steps : ℕ) → CanShorten method → length old ≡ length row
+falls_by : {method : Method} {old row table : List ℕ} {from : ℕ} (p steps : ℕ) → CanShorten method → length old ≡ length row
     → AreRightFrom method old row table from → from ≤ p → p + steps ≤ length row → slice_index table (p + steps) ≤ slice_index table p
-falls_by method old row table from p zero shorten size right low high =
+falls_by {table} p zero shorten size right low high =
     let at : p + 0 ≡ p = omega arith in
     omega (arith, ap (slice_index table) at)
-falls_by method old row table from p (suc steps) shorten size right low high =
+falls_by {table} p (suc steps) shorten size right low high =
     let at : p + steps + 1 ≡ p + suc steps = omega arith in
     omega (
       arith,
-      falls_by method old row table from p steps shorten size right low (omega arith),
-      falls_once method old row table (p + steps) shorten size (right (p + steps) (omega arith) (omega arith))
+      falls_by p steps shorten size right low (omega arith),
+      falls_once shorten size (right (p + steps) (omega arith) (omega arith))
           (right (p + steps + 1) (omega arith) (omega arith)),
       ap (slice_index table) at,
     )
@@ -208,18 +208,18 @@ pub falls : (method : Method) (old row table : List ℕ) (from p q : ℕ) → Ca
     → AreRightFrom method old row table from → from ≤ p → p ≤ q → q ≤ length row → slice_index table q ≤ slice_index table p
 falls method old row table from p q shorten size right low order high =
     let at : p + (q - p) ≡ q = omega arith in
-    omega (arith, falls_by method old row table from p (q - p) shorten size right low (omega arith), ap (slice_index table) at)
+    omega (arith, falls_by p (q - p) shorten size right low (omega arith), ap (slice_index table) at)
 
 -- the longest run is the best
-pub runs_place : (old row first table : List ℕ) (end place run_end len : ℕ) → IsBegun old row first end → length table ≡ length row + 1
+pub runs_place : {old row first table : List ℕ} {end place run_end len : ℕ} → IsBegun old row first end → length table ≡ length row + 1
     → place < end → AreRightFrom Runs old row table (place + 1)
     → IsRunEnd row place run_end → len ≡ min (run_end - place) 256
     → IsShapeChoice Runs (drop place old) (drop place row) (drop place table) (Run len) (slice_index table (place + len) + 2)
-runs_place old row first table end place run_end len begun size inside behind is len-is =
+runs_place {old} {row} {table} {place} {run_end} {len} begun size inside behind is len-is =
     let run : ℕ = run_end - place in
     let at : (k : ℕ) → slice_index (drop place table) k ≡ slice_index table (place + k) = λ k. get_or-drop place table k 0 in
     let sum : ℕ = slice_index table (place + len) + 2 in
-    runs_choice (drop place old) (drop place row) (drop place table) run len sum
+    runs_choice
     (omega (arith, length-drop place old, length-drop place row, begun.same_size))
     (run_len_of row place run_end run is (omega (arith, is.after)))
     (record {
@@ -242,18 +242,18 @@ pub record IsRunFrom (row : List ℕ) (end place run_end : ℕ) : Type 0 where
   pub first : place ≡ end → run_end ≡ end
   pub run : place < end → IsRunEnd row place run_end
 
-pub run_starts : (row : List ℕ) (place : ℕ) → place + 1 < length row → slice_index row place ≢ slice_index row (place + 1)
+pub run_starts : {row : List ℕ} {place : ℕ} → place + 1 < length row → slice_index row place ≢ slice_index row (place + 1)
     → IsRunEnd row place (place + 1)
-run_starts row place inside differs = record {
+run_starts {row} {place} inside differs = record {
   after = omega arith;
   within = omega arith;
   same = λ k low high. let at : k ≡ place = omega arith in ap (slice_index row) at;
   differs = λ _ same. differs (sym same);
 }
 
-pub run_goes_on : (row : List ℕ) (place run_end : ℕ) → IsRunEnd row (place + 1) run_end
+pub run_goes_on : {row : List ℕ} {place run_end : ℕ} → IsRunEnd row (place + 1) run_end
     → slice_index row place ≡ slice_index row (place + 1) → IsRunEnd row place run_end
-run_goes_on row place run_end is same = record {
+run_goes_on {row} {place} is same = record {
   after = omega (arith, is.after);
   within = is.within;
   same = λ k low high.
@@ -265,9 +265,9 @@ run_goes_on row place run_end is same = record {
 }
 
 -- the last run ends where no more data is needed
-pub run_last : (row first : List ℕ) (end place : ℕ) → IsBegun (replicate (length row) 0) row first end → place + 1 ≡ end
+pub run_last : {row first : List ℕ} {end place : ℕ} → IsBegun (replicate (length row) 0) row first end → place + 1 ≡ end
     → IsRunEnd row place end
-run_last row first end place begun last = record {
+run_last {row} {first} {end} {place} begun last = record {
   after = omega arith;
   within = begun.first_end.within;
   same = λ k low high. let at : k ≡ place = omega arith in ap (slice_index row) at;
@@ -276,7 +276,7 @@ run_last row first end place begun last = record {
       ends_at (replicate (length row) 0) row end end begun.first_end.ends (omega arith) ∙ white_byte (length row) end in
       let behind : Ends (replicate (length row) 0) row (place + 1) =
       subst (Ends (replicate (length row) 0) row) (sym last) begun.first_end.ends in
-      let here : Ends (replicate (length row) 0) row place = ends_here (replicate (length row) 0) row place begun.same_size
+      let here : Ends (replicate (length row) 0) row place = ends_here (replicate (length row) 0) row begun.same_size
       (omega (arith, begun.first_end.within)) (sym alike ∙ zero ∙ sym (white_byte (length row) place)) behind in
       absurd (omega (arith, begun.first_end.first place here));
 }
@@ -339,11 +339,11 @@ pub record IsNextStart (old row table : List ℕ) (place start best : ℕ) : Typ
   pub numbers : (q : ℕ) → place < q → q ≤ start → slice_index table q ≡ replacement_bytes (start - q) + best
 
 -- the latest start is as good as any earlier one
-pub delta_place : (old row first table : List ℕ) (end place start best : ℕ) → IsBegun old row first end → length table ≡ length row + 1
+pub delta_place : {old row first table : List ℕ} {end place start best : ℕ} → IsBegun old row first end → length table ≡ length row + 1
     → place < end → IsNextStart old row table place start best
     → (len : ℕ) × IsShapeChoice Delta (drop place old) (drop place row) (drop place table) (Replace (start - place) len)
     (replacement_bytes (start - place) + best)
-delta_place old row first table end place start best begun size inside next =
+delta_place {old} {row} {table} {place} {start} {best} begun size inside next =
     let last : ℕ = start - place in
     let wanted : List ℕ = drop place row in
     let before : List ℕ = drop place old in
@@ -366,8 +366,8 @@ delta_place old row first table end place start best begun size inside next =
     let here : (k : ℕ) → slice_index (drop last numbers) k ≡ slice_index table (start + k) =
     λ k. at last k ∙ ap (λ (n : ℕ). slice_index table (n + k)) there in (
       len,
-      delta_choice before wanted numbers last last (Replace last len) sum size' (place_at old row first table end place begun size inside)
-          (same_len_of before wanted last size' difference) (omega (arith, long, next.within))
+      delta_choice last size' (place_at table begun size inside)
+          (same_len_of size' difference) (omega (arith, long, next.within))
           (record {
             offset = last;
             within = omega arith;
@@ -408,11 +408,11 @@ delta_place old row first table end place start best begun size inside next =
     )
 
 -- the numbers behind a place that is set
-pub next_start_set : (old row table : List ℕ) (place start best : ℕ) → length table ≡ length row + 1 → place < length row
+pub next_start_set : {old row table : List ℕ} {place start best : ℕ} → length table ≡ length row + 1 → place < length row
     → IsNextStart old row table place start best
     → IsNextStart old row (set table place (replacement_bytes (start - place) + best)) place start best
     × (slice_index (set table place (replacement_bytes (start - place) + best)) place ≡ replacement_bytes (start - place) + best)
-next_start_set old row table place start best size inside next =
+next_start_set {table} {place} {start} {best} size inside next =
     let number : ℕ = replacement_bytes (start - place) + best in
     let stays : (q : ℕ) → place < q → slice_index (set table place number) q ≡ slice_index table q =
     λ q. number_behind table place number q in
@@ -435,10 +435,10 @@ next_start_set old row table place start best size inside next =
     )
 
 -- one place to the left, where the byte there is that of the row before
-pub next_start_stays : (old row table : List ℕ) (place start best : ℕ) → IsNextStart old row table (place + 1) start best
+pub next_start_stays : {old row table : List ℕ} {place start best : ℕ} → IsNextStart old row table (place + 1) start best
     → slice_index table (place + 1) ≡ replacement_bytes (start - (place + 1)) + best → slice_index old place ≡ slice_index row place
     → IsNextStart old row table place start best
-next_start_stays old row table place start best next number same = record {
+next_start_stays {old} {row} {table} {place} {start} {best} next number same = record {
   order = omega (arith, next.order);
   within = next.within;
   same = λ k low high.
@@ -457,10 +457,10 @@ next_start_stays old row table place start best next number same = record {
 }
 
 -- where it differs
-pub next_start_here : (old row table : List ℕ) (place best len : ℕ) → length table ≡ length row + 1 → place < length row
+pub next_start_here : {old row table : List ℕ} {place best len : ℕ} → length table ≡ length row + 1 → place < length row
     → slice_index old place ≢ slice_index row place
     → IsLeastLen (drop place table) 1 (min (length (drop place table) - 1) 8) 0 1 len best → IsNextStart old row table place place best
-next_start_here old row table place best len size inside differs is =
+next_start_here {table} {place} {len} size inside differs is =
     let at : (k : ℕ) → slice_index (drop place table) k ≡ slice_index table (place + k) = λ k. get_or-drop place table k 0 in
     record {
       order = omega arith;
@@ -482,16 +482,16 @@ pub record IsDeltaAt (old row table : List ℕ) (place start best : ℕ) : Type 
   pub next : IsNextStart old row table place start best
   pub number : slice_index table place ≡ replacement_bytes (start - place) + best
 
-pub delta_at : (old row table : List ℕ) (place start best : ℕ) → length table ≡ length row + 1 → place < length row
+pub delta_at : {old row table : List ℕ} {place start best : ℕ} → length table ≡ length row + 1 → place < length row
     → IsNextStart old row table place start best
     → IsDeltaAt old row (set table place (replacement_bytes (start - place) + best)) place start best
-delta_at old row table place start best size inside next = let n =
-    next_start_set old row table place start best size inside next in record { next = n.0; number = n.1 }
+delta_at size inside next = let n =
+    next_start_set size inside next in record { next = n.0; number = n.1 }
 
 -- the last byte that data is needed for differs
-pub last_differs : (old row first : List ℕ) (end place : ℕ) → IsBegun old row first end → place + 1 ≡ end
+pub last_differs : {old row first : List ℕ} {end : ℕ} (place : ℕ) → IsBegun old row first end → place + 1 ≡ end
     → slice_index old place ≢ slice_index row place
-last_differs old row first end place begun last same =
+last_differs {old} {row} {first} place begun last same =
     let behind : Ends old row (place + 1) = subst (Ends old row) (sym last) begun.first_end.ends in
-    let here : Ends old row place = ends_here old row place begun.same_size (omega (arith, begun.first_end.within)) (sym same) behind in
+    let here : Ends old row place = ends_here old row begun.same_size (omega (arith, begun.first_end.within)) (sym same) behind in
     absurd (omega (arith, begun.first_end.first place here))

@@ -46,9 +46,9 @@ run_len_of row from end run is there =
     }
 
 -- the front of two rows that is the same
-pub same_len_of : (old wanted : List ℕ) (place : ℕ) → length old ≡ length wanted → IsFirstDifference old wanted place
+pub same_len_of : {old wanted : List ℕ} {place : ℕ} → length old ≡ length wanted → IsFirstDifference old wanted place
     → IsSameLen old wanted place
-same_len_of old wanted place size is = record {
+same_len_of {old} {wanted} {place} size is = record {
   within = omega (arith, is.within);
   equal = ext_get_or 0 (take place wanted) (take place old)
       (length-take-le place wanted (omega (arith, is.within)) ∙ sym (length-take-le place old is.within))
@@ -67,9 +67,9 @@ same_len_of old wanted place size is = record {
 
 -- ---- the best length
 
-pub least_len_one : (numbers : List ℕ) (from head each len sum : ℕ) → len ≡ from → sum ≡ head + each * from + slice_index numbers from
+pub least_len_one : {numbers : List ℕ} {from head each len sum : ℕ} → len ≡ from → sum ≡ head + each * from + slice_index numbers from
     → IsLeastLen numbers from from head each len sum
-least_len_one numbers from head each len sum at e = record {
+least_len_one {from} at e = record {
   above = omega arith;
   below = omega arith;
   sum_is = rw at e;
@@ -77,10 +77,10 @@ least_len_one numbers from head each len sum at e = record {
 }
 
 -- the next length is better
-pub least_len_next : (numbers : List ℕ) (from to head each len sum : ℕ) → from ≤ to → (l s : ℕ)
+pub least_len_next : {numbers : List ℕ} {from to head each len sum : ℕ} → from ≤ to → {l s : ℕ}
     → IsLeastLen numbers from (to - 1) head each l s → len ≡ to → sum ≡ head + each * to + slice_index numbers to → sum ≤ s
     → IsLeastLen numbers from to head each len sum
-least_len_next numbers from to head each len sum order l s best at e better = record {
+least_len_next {to} order best at e better = record {
   above = omega arith;
   below = omega arith;
   sum_is = rw at e;
@@ -92,9 +92,9 @@ least_len_next numbers from to head each len sum order l s best at e better = re
 }
 
 -- it isn't
-pub least_len_stays : (numbers : List ℕ) (from to head each sum : ℕ) → (l s : ℕ) → IsLeastLen numbers from (to - 1) head each l s
+pub least_len_stays : {numbers : List ℕ} {from to head each : ℕ} (sum : ℕ) → {l s : ℕ} → IsLeastLen numbers from (to - 1) head each l s
     → sum ≡ head + each * to + slice_index numbers to → s ≤ sum → IsLeastLen numbers from to head each l s
-least_len_stays numbers from to head each sum l s best e worse = record {
+least_len_stays {to} sum best e worse = record {
   above = best.above;
   below = omega (arith, best.below);
   sum_is = best.sum_is;
@@ -107,7 +107,7 @@ least_len_stays numbers from to head each sum l s best e worse = record {
 
 -- the lesser of the best so far and the next
 pub least_min_one : (numbers : List ℕ) → (len : ℕ) × IsLeastLen numbers 1 1 0 1 len (slice_index numbers 1 + 1)
-least_min_one numbers = (1, least_len_one numbers 1 0 1 1 (slice_index numbers 1 + 1) refl (omega arith))
+least_min_one numbers = (1, least_len_one refl (omega arith))
 
 pub least_min_next : (numbers : List ℕ) (to best now : ℕ) → 1 ≤ to → (len : ℕ) × IsLeastLen numbers 1 (to - 1) 0 1 len best
     → now ≡ min best (slice_index numbers to + to) → (len : ℕ) × IsLeastLen numbers 1 to 0 1 len now
@@ -118,9 +118,9 @@ least_min_next numbers to best now order b now-is =
           let e : sum ≡ now = omega arith in (
             to,
             subst (IsLeastLen numbers 1 to 0 1 to) e
-                (least_len_next numbers 1 to 0 1 to sum order b.0 best b.1 refl (omega arith) (omega arith)),
+                (least_len_next order b.1 refl (omega arith) (omega arith)),
           )
       | inr worse ↦
           let e : best ≡ now = omega arith in
-          (b.0, subst (IsLeastLen numbers 1 to 0 1 b.0) e (least_len_stays numbers 1 to 0 1 sum b.0 best b.1 (omega arith) worse))
+          (b.0, subst (IsLeastLen numbers 1 to 0 1 b.0) e (least_len_stays sum b.1 (omega arith) worse))
     ]

@@ -19,9 +19,9 @@ pub number_in_window : (numbers : List ℕ) (taken put k : ℕ) → taken + k < 
 number_in_window numbers taken put k inside = get_or-drop taken (take put numbers) k 0 ∙ get_or-take put numbers (taken + k) 0 inside
 
 -- the first place of the queue has the least number
-pub queue_least : (numbers places : List ℕ) (taken put first stop : ℕ) → IsQueue numbers places taken put first stop → taken < put
+pub queue_least : {numbers places : List ℕ} {taken put first stop : ℕ} → IsQueue numbers places taken put first stop → taken < put
     → (first < stop) × IsLeastOf (in_window numbers taken put) (slice_index numbers (slice_index places first))
-queue_least numbers places taken put first stop q some =
+queue_least {numbers} {places} {taken} {put} {first} {stop} q some =
     let c = q.covers taken (omega arith) some in
     let inside : first < stop = omega (arith, c.1, c.2) in
     let place : ℕ = slice_index places first in
@@ -46,11 +46,11 @@ queue_least numbers places taken put first stop q some =
     )
 
 -- the number that was put in first is taken out
-pub queue_take : (numbers places : List ℕ) (taken put first first' stop : ℕ) → IsQueue numbers places taken put first stop → taken < put
+pub queue_take : {numbers places : List ℕ} {taken put first first' stop : ℕ} → IsQueue numbers places taken put first stop → taken < put
     → (slice_index places first ≡ taken → first' ≡ first + 1) → (slice_index places first ≢ taken → first' ≡ first)
     → IsQueue numbers places (taken + 1) put first' stop
-queue_take numbers places taken put first first' stop q some out stays =
-    let inside : first < stop = (queue_least numbers places taken put first stop q some).0 in
+queue_take {places} {taken} {first} {first'} {stop} q some out stays =
+    let inside : first < stop = (queue_least q some).0 in
     let place : ℕ = slice_index places first in
     elim (cases_lt taken place) [
       | inl later ↦
@@ -93,12 +93,12 @@ queue_take numbers places taken put first first' stop q some out stays =
     ]
 
 -- a number is put in, and the later places of the queue give way to it
-pub queue_put : (numbers places : List ℕ) (taken put first stop end number : ℕ) → IsQueue numbers places taken put first stop
+pub queue_put : {numbers places : List ℕ} {taken put first stop end number : ℕ} → IsQueue numbers places taken put first stop
     → put < length numbers → first ≤ end → end ≤ stop
     → ((k : ℕ) → end ≤ k → k < stop → number ≤ slice_index numbers (slice_index places k))
     → (first < end → slice_index numbers (slice_index places (end - 1)) < number)
     → IsQueue (set numbers put number) (set places end put) taken (put + 1) first (end + 1)
-queue_put numbers places taken put first stop end number q room low-end high-end above last =
+queue_put {numbers} {places} {put} {first} {end} {number} q room low-end high-end above last =
     let numbers' : List ℕ = set numbers put number in
     let places' : List ℕ = set places end put in
     let new_place : slice_index places' end ≡ put = get_or-set_same places end put 0 (omega (arith, q.same_size, q.stop_within)) in
@@ -174,9 +174,9 @@ queue_put numbers places taken put first stop end number q room low-end high-end
     }
 
 -- what the window has then
-pub window_put : (numbers : List ℕ) (taken put number : ℕ) → taken ≤ put → put < length numbers
+pub window_put : (numbers : List ℕ) {taken put : ℕ} (number : ℕ) → taken ≤ put → put < length numbers
     → in_window (set numbers put number) taken (put + 1) ≡ in_window numbers taken put ++ number ∷ []
-window_put numbers taken put number order room =
+window_put numbers {taken} {put} number order room =
     let numbers' : List ℕ = set numbers put number in
     let before = length-in_window numbers taken put (omega arith) in
     let after = length-in_window numbers' taken (put + 1) (omega (arith, length-set numbers put number)) in

@@ -100,16 +100,16 @@ walk_makes method old row (e ∷ es) place size w =
     )
 
 -- behind the elements a cut one with no bytes changes nothing
-after_elements_cut : (es : List Element) (h : Head) (none old : List ℕ) → none ≡ []
+after_elements_cut : (es : List Element) (h : Head) {none : List ℕ} (old : List ℕ) → none ≡ []
     → after_elements es (after_element h none (λ rest. rest)) old ≡ after_elements es kept old
-after_elements_cut [] h none old e = after_none h none old e
-after_elements_cut (d ∷ es) h none old e =
-    ap (λ (bs : List ℕ). take (offset_of d.head) old ++ (given d ++ bs)) (after_elements_cut es h none (drop (stop d) old) e)
+after_elements_cut [] h {none} old e = after_none h none old e
+after_elements_cut (d ∷ es) h old e =
+    ap (λ (bs : List ℕ). take (offset_of d.head) old ++ (given d ++ bs)) (after_elements_cut es h (drop (stop d) old) e)
 
 -- whole elements decode to what they make
-pub elements_decode : (method : Method) (old : List ℕ) (es : List Element) → AreElements method es
+pub elements_decode : {method : Method} (old : List ℕ) (es : List Element) → AreElements method es
     → RowFrom method (flat_map element_bytes es) old (take (length old) (after_elements es kept old))
-elements_decode method old es are =
+elements_decode {method} old es are =
     let e = some_element method in
     let none : drop (length (head_bytes e.0.head)) [] ≡ [] = drop-nil (length (head_bytes e.0.head)) in (
       es,
@@ -122,7 +122,7 @@ elements_decode method old es are =
         lacking =
             (element_bytes e.0, refl, spelling_has_byte method e.0 e.1);
       },
-      ap (take (length old)) (sym (after_elements_cut es e.0.head (drop (length (head_bytes e.0.head)) []) old none)),
+      ap (take (length old)) (sym (after_elements_cut es e.0.head old none)),
     )
 
 -- how many bytes there are behind elements that stop within the row
@@ -140,15 +140,15 @@ length-after (e ∷ es) old within =
     )
 
 -- whole data for a row is a walk
-pub walk_of_data : (method : Method) (seed row bytes : List ℕ) → length seed ≡ length row → IsRowData method seed row bytes
+pub walk_of_data : {method : Method} {seed row bytes : List ℕ} → length seed ≡ length row → IsRowData method seed row bytes
     → (es : List Element) × Walk (Leads method (base method seed) row) (Ends (base method seed) row) 0 es × (total cost es ≡ length bytes)
-walk_of_data method seed row bytes size has =
+walk_of_data {method} {seed} {row} {bytes} size has =
     let old : List ℕ = base method seed in
     let same : length old ≡ length row = length-base method seed ∙ size in
     let w = has.whole in
     let decoded : RowFrom method bytes old (take (length old) (after_elements w.0 kept old)) =
     subst (λ (bs : List ℕ). RowFrom method bs old (take (length old) (after_elements w.0 kept old))) (sym w.2)
-    (elements_decode method old w.0 w.1) in
+    (elements_decode old w.0 w.1) in
     let cut : row ≡ take (length old) (after_elements w.0 kept old) =
     one_row method bytes old row (take (length old) (after_elements w.0 kept old)) has.decodes decoded in
     let made : after_elements w.0 kept old ≡ row =
@@ -156,15 +156,15 @@ walk_of_data method seed row bytes size has =
     (w.0, walk_from_elements method old row w.0 0 same w.1 (omega (arith, w.3)) made, total_is w.0 ∙ ap length (sym w.2))
 
 -- a walk is whole data
-pub data_of_walk : (method : Method) (seed row : List ℕ) (es : List Element) → length seed ≡ length row → total cost es ≤ 65535
+pub data_of_walk : {method : Method} {seed row : List ℕ} (es : List Element) → length seed ≡ length row → total cost es ≤ 65535
     → Walk (Leads method (base method seed) row) (Ends (base method seed) row) 0 es → IsRowData method seed row (flat_map element_bytes es)
-data_of_walk method seed row es size small walk =
+data_of_walk {method} {seed} {row} es size small walk =
     let old : List ℕ = base method seed in
     let same : length old ≡ length row = length-base method seed ∙ size in
     let m = walk_makes method old row es 0 same walk in
     record {
       whole = (es, m.0, refl, omega (arith, m.1));
       decodes = subst (RowFrom method (flat_map element_bytes es) old)
-          (take_all (length old) (after_elements es kept old) (omega (arith, ap length m.2)) ∙ m.2) (elements_decode method old es m.0);
+          (take_all (length old) (after_elements es kept old) (omega (arith, ap length m.2)) ∙ m.2) (elements_decode old es m.0);
       fits = omega (arith, total_is es);
     }

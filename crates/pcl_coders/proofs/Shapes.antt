@@ -20,9 +20,9 @@ one_byte (b ∷ []) e = (b, refl)
 one_byte (b ∷ c ∷ bytes) e = absurd (omega arith)
 
 -- one byte that is repeated
-pub given_copies : (copies : ℕ) (bytes : List ℕ) (byte : ℕ) → bytes ≡ byte ∷ []
+pub given_copies : (copies : ℕ) {bytes : List ℕ} {byte : ℕ} → bytes ≡ byte ∷ []
     → flat_map (λ b. replicate copies b) bytes ≡ replicate copies byte
-given_copies copies bytes byte e = ap (flat_map (λ b. replicate copies b)) e ∙ append-nil (replicate copies byte)
+given_copies copies {byte} e = ap (flat_map (λ b. replicate copies b)) e ∙ append-nil (replicate copies byte)
 
 -- copies of one byte
 pub record IsRepeat (h : Head) (bytes : List ℕ) (least most : ℕ) : Type 0 where
@@ -55,7 +55,7 @@ runs_shape (Count n) bytes m r c =
         above = omega arith;
         below = omega arith;
         given_is =
-            given_copies (n + 1) bytes b.0 b.1;
+            given_copies (n + 1) b.1;
         bytes_are = omega (arith, c);
       },
     )
@@ -76,7 +76,7 @@ packed_shape (Repeat n) bytes m r c some =
             above = omega (arith, r.1);
             below = omega (arith, r.0);
             given_is =
-                given_copies (257 - n) bytes b.0 b.1;
+                given_copies (257 - n) b.1;
             bytes_are = omega (arith, c);
           },
     )
@@ -125,9 +125,9 @@ pub record IsReplacementHead (offset len : ℕ) (h : Head) : Type 0 where
   pub copies_is : copies_of h ≡ 1
   pub bytes_are : length (head_bytes h) ≡ replacement_bytes offset
 
-replacement_at : (offset len : ℕ) (near : Bool) → 1 ≤ len → len ≤ 8 → ltb offset 31 ≡ near
+replacement_at : {offset len : ℕ} (near : Bool) → 1 ≤ len → len ≤ 8 → ltb offset 31 ≡ near
     → IsReplacementHead offset len (cond near (Near (len - 1) offset) (Far (len - 1) ((offset - 31) / 255) ((offset - 31) % 255)))
-replacement_at offset len true some few e =
+replacement_at {offset} true some few e =
     let below : offset < 31 = ltb-true offset 31 e in
     record {
       method_is = refl;
@@ -138,7 +138,7 @@ replacement_at offset len true some few e =
       bytes_are =
           rw e refl;
     }
-replacement_at offset len false some few e =
+replacement_at {offset} false some few e =
     let above : 31 ≤ offset = ltb-false offset 31 e in
     record {
       method_is = refl;
@@ -154,5 +154,5 @@ replacement_at offset len false some few e =
           ));
     }
 
-pub replacement_is : (offset len : ℕ) → 1 ≤ len → len ≤ 8 → IsReplacementHead offset len (replacement offset len)
-replacement_is offset len some few = replacement_at offset len (ltb offset 31) some few refl
+pub replacement_is : {offset len : ℕ} → 1 ≤ len → len ≤ 8 → IsReplacementHead offset len (replacement offset len)
+replacement_is {offset} some few = replacement_at (ltb offset 31) some few refl

@@ -20,9 +20,9 @@ use Rattle.pcl_coders.proofs.Ends.{ends_at}
 use Rattle.pcl_coders.proofs.Places.{command_grows, command_joins}
 
 -- as many bytes are left as are the same
-same_to_start : (old row : List ℕ) (place start : ℕ) → length old ≡ length row → IsLatestStart old row place start
+same_to_start : {old row : List ℕ} {place start : ℕ} → length old ≡ length row → IsLatestStart old row place start
     → IsSameLen (drop place old) (drop place row) (start - place)
-same_to_start old row place start size is =
+same_to_start {old} {row} {place} {start} size is =
     let last : ℕ = start - place in
     let there : place + last ≡ start = omega (arith, is.order) in
     let long : length (drop place old) ≡ length row - place = omega (arith, length-drop place old) in
@@ -33,7 +33,7 @@ same_to_start old row place start size is =
           (ap (slice_index old) (sym there) ∙ sym (get_or-drop place old last 0) ∙ same ∙ get_or-drop place row last 0
           ∙ ap (slice_index row) there);
     } in
-    same_len_of (drop place old) (drop place row) last (omega (arith, long, length-drop place row)) difference
+    same_len_of (omega (arith, long, length-drop place row)) difference
 
 -- a replacement at the latest start
 record IsLatestStep (old row : List ℕ) (place start len : ℕ) (e : Element) : Type 0 where
@@ -41,16 +41,16 @@ record IsLatestStep (old row : List ℕ) (place start len : ℕ) (e : Element) :
   pub leads : Leads Delta old row place e (start + len)
   pub cost_is : cost e ≡ replacement_bytes (start - place) + len
 
-latest_step : (old row : List ℕ) (place start len : ℕ) → length old ≡ length row → IsLatestStart old row place start → 1 ≤ len → len ≤ 8
+latest_step : {old row : List ℕ} {place start : ℕ} (len : ℕ) → length old ≡ length row → IsLatestStart old row place start → 1 ≤ len → len ≤ 8
     → start + len ≤ length row → (e : Element) × IsLatestStep old row place start len e
-latest_step old row place start len size is some few fits =
+latest_step {old} {row} {place} {start} len size is some few fits =
     let last : ℕ = start - place in
     let wanted : List ℕ = drop place row in
     let s = replace_step (drop place old) wanted last len some few (omega (arith, length-drop place row, is.order))
-    (same_to_start old row place start size is).equal in (
+    (same_to_start size is).equal in (
       element_of (Replace last len) wanted,
       record {
-        offset_is = (replacement_is last len some few).offset_is;
+        offset_is = (replacement_is some few).offset_is;
         leads = record { element = s.element; agrees = s.agrees; next_is = omega (arith, s.stop_is, is.order) };
         cost_is = s.bytes_are;
       },
@@ -66,9 +66,9 @@ pub record IsDeltaStep (old row : List ℕ) (place start next : ℕ) (e : Elemen
   pub within : next ≤ length row
   pub cost_is : cost e ≡ replacement_bytes (offset_of e.head) + len
 
-pub delta_step : (old row : List ℕ) (place start next : ℕ) (e : Element) → length old ≡ length row → IsLatestStart old row place start
+pub delta_step : {old row : List ℕ} {place start next : ℕ} {e : Element} → length old ≡ length row → IsLatestStart old row place start
     → Leads Delta old row place e next → IsDeltaStep old row place start next e
-delta_step old row place start next e size is l =
+delta_step {old} {row} {place} {e} size is l =
     let wanted : List ℕ = drop place row in
     let long = length-drop place row in
     let s = delta_shape e.head e.bytes l.element.head_is.method_is l.element.head_is.in_range l.element.complete in
@@ -77,7 +77,7 @@ delta_step old row place start next e size is l =
       len = length (given e);
       some = s.above;
       few = s.below;
-      early = (same_to_start old row place start size is).longest (offset_of e.head) (omega (arith, g.0)) g.1;
+      early = (same_to_start size is).longest (offset_of e.head) (omega (arith, g.0)) g.1;
       next_is = l.next_is;
       within = omega (arith, l.next_is, g.0, long, is.within, is.order);
       cost_is = s.bytes_are;
@@ -91,12 +91,12 @@ latest_is_as_good old row (e ∷ es) place start size is walk =
     let b : ℕ = walk.0 in
     let last : ℕ = start - place in
     let o : ℕ = offset_of e.head in
-    let d = delta_step old row place start b e size is walk.1 in
+    let d = delta_step size is walk.1 in
     elim (cases_lt start b) [
       | inl far ↦
           let len : ℕ = b - start in
           let there : start + len ≡ b = omega arith in
-          let n = latest_step old row place start len size is (omega arith) (omega (arith, d.few, d.next_is, d.early))
+          let n = latest_step len size is (omega arith) (omega (arith, d.few, d.next_is, d.early))
           (omega (arith, d.within)) in
           record {
             first = n.0;
@@ -113,9 +113,9 @@ latest_is_as_good old row (e ∷ es) place start size is walk =
             differs = is.differs;
           } in
           let r = latest_is_as_good old row es b start size later walk.2 in
-          let f = delta_step old row b start r.walk.0 r.first size later r.walk.1 in
+          let f = delta_step size later r.walk.1 in
           let there : start + f.len ≡ r.walk.0 = omega (arith, f.next_is, r.offset_is) in
-          let n = latest_step old row place start f.len size is f.some f.few (omega (arith, f.within)) in
+          let n = latest_step f.len size is f.some f.few (omega (arith, f.within)) in
           let rest-cost : replacement_bytes (offset_of r.first.head) ≡ replacement_bytes (last - (o + d.len)) =
           ap replacement_bytes (omega (arith, r.offset_is, d.next_is)) in
           record {

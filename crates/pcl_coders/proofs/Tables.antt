@@ -26,10 +26,10 @@ use Rattle.pcl_coders.proofs.Ends.{ends_on, white_byte}
 use Rattle.pcl_coders.proofs.Places.{begun_right}
 
 -- a table over the row before, and over white
-pub begun_base : (method : Method) (seed row table : List ℕ) (end : ℕ) → IsCodable seed row → length table ≡ length row + 1
+pub begun_base : (method : Method) {seed row table : List ℕ} {end : ℕ} → IsCodable seed row → length table ≡ length row + 1
     → IsFirstEnd (base method seed) row end
     → ((place : ℕ) → end ≤ place → slice_index table place ≡ 0) → IsBegun (base method seed) row table end
-begun_base method seed row table end codable size first zeros = record {
+begun_base method {seed} codable size first zeros = record {
   same_size = length-base method seed ∙ codable.same_size;
   small = codable.small;
   size = size;
@@ -38,16 +38,16 @@ begun_base method seed row table end codable size first zeros = record {
 }
 
 -- where no data is needed at all
-pub none_least : (method : Method) (seed row : List ℕ) (end : ℕ) → IsCodable seed row → IsFirstEnd (base method seed) row end → end ≡ 0
+pub none_least : {method : Method} {seed row : List ℕ} {end : ℕ} → IsCodable seed row → IsFirstEnd (base method seed) row end → end ≡ 0
     → IsLeastLength method seed row 0
-none_least method seed row end codable first none =
+none_least {method} {seed} {row} codable first none =
     let table : List ℕ = replicate (length row + 1) 0 in
     let size : length table ≡ length row + 1 = length-replicate {A = ℕ} (length row + 1) 0 in
-    let begun = begun_base method seed row table end codable size first (λ place low. white_byte (length row + 1) place) in
+    let begun = begun_base method codable size first (λ place low. white_byte (length row + 1) place) in
     let right : AreRightFrom method (base method seed) row table 0 =
-    subst (AreRightFrom method (base method seed) row table) none (begun_right method (base method seed) row table end begun) in
+    subst (AreRightFrom method (base method seed) row table) none (begun_right begun) in
     subst (IsLeastLength method seed row) (white_byte (length row + 1) 0)
-    (first_is_least method seed row table codable (table_is_least method seed row table codable.same_size size right))
+    (first_is_least method seed row table codable (table_is_least codable.same_size size right))
 
 -- ---- method 0
 
@@ -65,9 +65,9 @@ falling_at zero first k below = absurd (omega arith)
 falling_at (suc count) first zero below = omega arith
 falling_at (suc count) first (suc k) below = omega (arith, falling_at count (first - 1) k (omega arith))
 
-pub plain_least : (seed row : List ℕ) (end : ℕ) → IsCodable seed row → IsFirstEnd (base Plain seed) row end
+pub plain_least : {seed row : List ℕ} {end : ℕ} → IsCodable seed row → IsFirstEnd (base Plain seed) row end
     → IsLeastLength Plain seed row end
-plain_least seed row end codable first =
+plain_least {seed} {row} {end} codable first =
     let old : List ℕ = base Plain seed in
     let table : List ℕ = falling (length row + 1) end in
     let size : length table ≡ length row + 1 = length-falling (length row + 1) end in
@@ -85,7 +85,7 @@ plain_least seed row end codable first =
       ends = λ ending. omega (arith, at place, first.first place ending);
       attained =
           elim (cases_lt place end) [
-            | inr past ↦ inl (ends_on old row end place first.ends past)
+            | inr past ↦ inl (ends_on old row first.ends past)
             | inl inside ↦
                 let b = byte_step (drop place old) (drop place row) (omega (arith, length-drop place row)) in
                 let e : Element = element_of SingleByte (drop place row) in
@@ -103,21 +103,21 @@ plain_least seed row end codable first =
       small = omega (arith, at place);
     } in
     subst (IsLeastLength Plain seed row) (at 0 ∙ omega arith)
-    (first_is_least Plain seed row table codable (table_is_least Plain seed row table codable.same_size size right))
+    (first_is_least Plain seed row table codable (table_is_least codable.same_size size right))
 
 -- ---- a table of least numbers, whoever made it
 
-right_here : (method : Method) (seed row table : List ℕ) (place : ℕ) → length seed ≡ length row → IsRowTable method seed row table
+right_here : {method : Method} {seed row table : List ℕ} {place : ℕ} → length seed ≡ length row → IsRowTable method seed row table
     → place ≤ length row → (es : List Element)
     → Walk (Leads method (base method seed) row) (Ends (base method seed) row) place es → total cost es ≡ slice_index table place
     → IsPlaceNumber method (base method seed) row table place
-right_here method seed row table place same is within [] walk total-is = record {
+right_here {row} {place} same is within [] walk total-is = record {
   steps = λ e element agrees. is.feasible.steps place e (place + stop e) (record { element = element; agrees = agrees; next_is = refl });
   ends = is.feasible.ends place;
   attained = inl walk;
-  small = row_table_small method seed row table (length row - place) place same is (omega arith);
+  small = row_table_small (length row - place) place same is (omega arith);
 }
-right_here method seed row table place same is within (e ∷ es) walk total-is =
+right_here {method} {seed} {row} {table} {place} same is within (e ∷ es) walk total-is =
     let b : ℕ = walk.0 in
     let next : b ≡ place + stop e = walk.1.next_is in
     let rest = feasible_bounds (Leads method (base method seed) row) (Ends (base method seed) row) cost (slice_index table) is.feasible b
@@ -143,19 +143,19 @@ right_here method seed row table place same is within (e ∷ es) walk total-is =
               omega (arith, ap (slice_index table) next);
         },
       );
-      small = row_table_small method seed row table (length row - place) place same is (omega arith);
+      small = row_table_small (length row - place) place same is (omega arith);
     }
 
-pub right_of_least : (method : Method) (seed row table : List ℕ) → length seed ≡ length row → IsLeastTable method seed row table
+pub right_of_least : {method : Method} {seed row table : List ℕ} → length seed ≡ length row → IsLeastTable method seed row table
     → AreRightFrom method (base method seed) row table 0
-right_of_least method seed row table same is place low high =
+right_of_least same is place low high =
     let w = is.attained place high in
-    right_here method seed row table place same is.table_is high w.0 w.1 w.2
+    right_here same is.table_is high w.0 w.1 w.2
 
 -- a row up to where no more of it is needed is its data
-pub plain_data : (seed row : List ℕ) (end : ℕ) → IsCodable seed row → IsFirstEnd (base Plain seed) row end
+pub plain_data : {seed row : List ℕ} {end : ℕ} → IsCodable seed row → IsFirstEnd (base Plain seed) row end
     → IsRowData Plain seed row (take end row)
-plain_data seed row end codable first =
+plain_data {seed} {row} {end} codable first =
     let old : List ℕ = base Plain seed in
     let bytes : List ℕ = take end row in
     let long : length bytes ≡ end = omega (arith, length-take end row, first.within) in
@@ -173,13 +173,13 @@ plain_data seed row end codable first =
       fits = omega (arith, long, first.within, codable.small);
     }
 
-pub plain_appended : (seed row old : List ℕ) (end : ℕ) → IsCodable seed row → IsFirstEnd (base Plain seed) row end
+pub plain_appended : {seed row old : List ℕ} {end : ℕ} → IsCodable seed row → IsFirstEnd (base Plain seed) row end
     → AppendsLeast Plain seed row old (old ++ take end row)
-plain_appended seed row old end codable first =
+plain_appended {seed} {row} {end} codable first =
     let long : length (take end row) ≡ end = omega (arith, length-take end row, first.within) in
     record {
       bytes = take end row;
       joined = refl;
-      whole = plain_data seed row end codable first;
-      least = subst (IsLeastLength Plain seed row) (sym long) (plain_least seed row end codable first);
+      whole = plain_data codable first;
+      least = subst (IsLeastLength Plain seed row) (sym long) (plain_least codable first);
     }

@@ -10,7 +10,7 @@ use Rattle.pcl_coders.proofs.fill.fill_delta.Goals.{then-old-place, else-old-pla
 
 pub loop-place-init : goal.loop-place-init
 loop-place-init c = record {
-  right = begun_right Delta c.args.old.now c.args.row.now c.args.out.now c.args.end c.requires;
+  right = begun_right c.requires;
   next = λ none. absurd (omega arith);
 }
 
@@ -31,21 +31,21 @@ overflow_add-out c =
     elim c.if-old-place.branch [
       | then-old-place w ↦
           let e = rw (take_rest out place) at w.least_behind-best.ensures in
-          rw (w.start-is, w.best-is) (next_start_here old row out place w.least_behind-best.result e.0 size within w.if-old-place.true e.1)
+          rw (w.start-is, w.best-is) (next_start_here size within w.if-old-place.true e.1)
       | else-old-place w ↦
           let more : place + 1 < end = elim (cases_lt (place + 1) end) [
             | inl more ↦ more
-            | inr last ↦ absurd (last_differs old row c.args.out.now end place c.requires (omega arith) w.if-old-place.false)
+            | inr last ↦ absurd (last_differs place c.requires (omega arith) w.if-old-place.false)
           ] in
           let at = subst (λ (p : ℕ). IsDeltaAt old row out p c.loop-place.start c.loop-place.best) after
           (c.loop-place.invariant.next (omega arith)) in
           rw (w.start-is, w.best-is)
-          (next_start_stays old row out place c.loop-place.start c.loop-place.best at.next at.number w.if-old-place.false)
+          (next_start_stays at.next at.number w.if-old-place.false)
     ] in
-    let choice = delta_place old row c.args.out.now out end place start best c.requires size inside next in
+    let choice = delta_place c.requires size inside next in
     let behind = subst (AreRightFrom Delta old row out) after c.loop-place.invariant.right in
     let done =
-    place_done Delta old row c.args.out.now out end place (Replace (start - place) choice.0) _ c.requires size inside behind choice.1 in
+    place_done c.requires size inside behind choice.1 in
     omega (arith, done.1, c.command_bytes.ensures, c.requires.small)
 
 pub overflow_cast-out : goal.overflow_cast-out
@@ -65,21 +65,21 @@ overflow_cast-out c =
     elim c.if-old-place.branch [
       | then-old-place w ↦
           let e = rw (take_rest out place) at w.least_behind-best.ensures in
-          rw (w.start-is, w.best-is) (next_start_here old row out place w.least_behind-best.result e.0 size within w.if-old-place.true e.1)
+          rw (w.start-is, w.best-is) (next_start_here size within w.if-old-place.true e.1)
       | else-old-place w ↦
           let more : place + 1 < end = elim (cases_lt (place + 1) end) [
             | inl more ↦ more
-            | inr last ↦ absurd (last_differs old row c.args.out.now end place c.requires (omega arith) w.if-old-place.false)
+            | inr last ↦ absurd (last_differs place c.requires (omega arith) w.if-old-place.false)
           ] in
           let at = subst (λ (p : ℕ). IsDeltaAt old row out p c.loop-place.start c.loop-place.best) after
           (c.loop-place.invariant.next (omega arith)) in
           rw (w.start-is, w.best-is)
-          (next_start_stays old row out place c.loop-place.start c.loop-place.best at.next at.number w.if-old-place.false)
+          (next_start_stays at.next at.number w.if-old-place.false)
     ] in
-    let choice = delta_place old row c.args.out.now out end place start best c.requires size inside next in
+    let choice = delta_place c.requires size inside next in
     let behind = subst (AreRightFrom Delta old row out) after c.loop-place.invariant.right in
     let done =
-    place_done Delta old row c.args.out.now out end place (Replace (start - place) choice.0) _ c.requires size inside behind choice.1 in
+    place_done c.requires size inside behind choice.1 in
     omega (arith, done.1, c.command_bytes.ensures, c.requires.small)
 
 pub loop-place-preserved : goal.loop-place-preserved
@@ -99,22 +99,22 @@ loop-place-preserved c =
     elim c.if-old-place.branch [
       | then-old-place w ↦
           let e = rw (take_rest out place) at w.least_behind-best.ensures in
-          rw (w.start-is, w.best-is) (next_start_here old row out place w.least_behind-best.result e.0 size within w.if-old-place.true e.1)
+          rw (w.start-is, w.best-is) (next_start_here size within w.if-old-place.true e.1)
       | else-old-place w ↦
           let more : place + 1 < end = elim (cases_lt (place + 1) end) [
             | inl more ↦ more
-            | inr last ↦ absurd (last_differs old row c.args.out.now end place c.requires (omega arith) w.if-old-place.false)
+            | inr last ↦ absurd (last_differs place c.requires (omega arith) w.if-old-place.false)
           ] in
           let at = subst (λ (p : ℕ). IsDeltaAt old row out p c.loop-place.start c.loop-place.best) after
           (c.loop-place.invariant.next (omega arith)) in
           rw (w.start-is, w.best-is)
-          (next_start_stays old row out place c.loop-place.start c.loop-place.best at.next at.number w.if-old-place.false)
+          (next_start_stays at.next at.number w.if-old-place.false)
     ] in
-    let choice = delta_place old row c.args.out.now out end place start best c.requires size inside next in
+    let choice = delta_place c.requires size inside next in
     let behind = subst (AreRightFrom Delta old row out) after c.loop-place.invariant.right in
     let done =
-    place_done Delta old row c.args.out.now out end place (Replace (start - place) choice.0) _ c.requires size inside behind choice.1 in
+    place_done c.requires size inside behind choice.1 in
     record {
       right = rw c.command_bytes.ensures done.0;
-      next = λ _. rw c.command_bytes.ensures (delta_at old row out place start best size within next);
+      next = λ _. rw c.command_bytes.ensures (delta_at size within next);
     }

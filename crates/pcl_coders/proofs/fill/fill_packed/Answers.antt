@@ -27,13 +27,13 @@ overflow_sub-literal c =
     let window : IsPlaceWindow out now end place =
     elim c.if-place-end.branch [
       | then-place-end w ↦
-          place_window_slide out before now end place (place + 1 + c.from.result) was w.if-place-end.true number
+          place_window_slide was w.if-place-end.true number
           (ap (λ (v : Numbers). v.numbers) w.window-is ∙ w.take.ensures.numbers ∙ ap (drop 1) c.put.ensures.numbers)
       | else-place-end w ↦
-          place_window_put out before now end place (place + 1 + c.from.result) was inside number
+          place_window_put was inside number
           (ap (λ (v : Numbers). v.numbers) w.window-is ∙ c.put.ensures.numbers) (omega (arith, w.if-place-end.false))
     ] in
-    let small = literal_small row c.args.out.now out now end place c.least.result c.requires size inside behind window c.least.ensures in
+    let small = literal_small c.requires size inside behind window c.least.ensures in
     omega (arith, small.0)
 
 pub overflow_add-literal : goal.overflow_add-literal
@@ -53,13 +53,13 @@ overflow_add-literal c =
     let window : IsPlaceWindow out now end place =
     elim c.if-place-end.branch [
       | then-place-end w ↦
-          place_window_slide out before now end place (place + 1 + c.from.result) was w.if-place-end.true number
+          place_window_slide was w.if-place-end.true number
           (ap (λ (v : Numbers). v.numbers) w.window-is ∙ w.take.ensures.numbers ∙ ap (drop 1) c.put.ensures.numbers)
       | else-place-end w ↦
-          place_window_put out before now end place (place + 1 + c.from.result) was inside number
+          place_window_put was inside number
           (ap (λ (v : Numbers). v.numbers) w.window-is ∙ c.put.ensures.numbers) (omega (arith, w.if-place-end.false))
     ] in
-    let small = literal_small row c.args.out.now out now end place c.least.result c.requires size inside behind window c.least.ensures in
+    let small = literal_small c.requires size inside behind window c.least.ensures in
     omega (arith, small.1)
 
 pub overflow_cast-literal-in-loop-place : goal.overflow_cast-literal-in-loop-place
@@ -79,21 +79,21 @@ overflow_cast-literal-in-loop-place c =
     let window : IsPlaceWindow out now end place =
     elim c.if-place-end.branch [
       | then-place-end w ↦
-          place_window_slide out before now end place (place + 1 + c.from.result) was w.if-place-end.true number
+          place_window_slide was w.if-place-end.true number
           (ap (λ (v : Numbers). v.numbers) w.window-is ∙ w.take.ensures.numbers ∙ ap (drop 1) c.put.ensures.numbers)
       | else-place-end w ↦
-          place_window_put out before now end place (place + 1 + c.from.result) was inside number
+          place_window_put was inside number
           (ap (λ (v : Numbers). v.numbers) w.window-is ∙ c.put.ensures.numbers) (omega (arith, w.if-place-end.false))
     ] in
-    let small = literal_small row c.args.out.now out now end place c.least.result c.requires size inside behind window c.least.ensures in
+    let small = literal_small c.requires size inside behind window c.least.ensures in
     omega (arith, small.1)
 
 pub loop-place-init : goal.loop-place-init
 loop-place-init c = record {
-  right = begun_right Packed (white_like c.args.row.now) c.args.row.now c.args.out.now c.args.end c.requires;
+  right = begun_right c.requires;
   run = record { first = λ _. refl; run = λ none. absurd (omega arith) };
   window = subst (λ (numbers : List ℕ). IsPlaceWindow c.args.out.now numbers c.args.end c.args.end) (sym c.new-window.ensures.numbers)
-      (place_window_none c.args.out.now c.args.end);
+      (place_window_none);
   room = omega (arith, c.new-window.ensures.room);
 }
 
@@ -114,38 +114,37 @@ loop-place-preserved c =
     let window : IsPlaceWindow out now end place =
     elim c.if-place-end.branch [
       | then-place-end w ↦
-          place_window_slide out before now end place (place + 1 + c.from.result) was w.if-place-end.true number
+          place_window_slide was w.if-place-end.true number
           (ap (λ (v : Numbers). v.numbers) w.window-is ∙ w.take.ensures.numbers ∙ ap (drop 1) c.put.ensures.numbers)
       | else-place-end w ↦
-          place_window_put out before now end place (place + 1 + c.from.result) was inside number
+          place_window_put was inside number
           (ap (λ (v : Numbers). v.numbers) w.window-is ∙ c.put.ensures.numbers) (omega (arith, w.if-place-end.false))
     ] in
-    let small = literal_small row c.args.out.now out now end place c.least.result c.requires size inside behind window c.least.ensures in
+    let small = literal_small c.requires size inside behind window c.least.ensures in
     let run : IsRunEnd row place c.if-place-end-2.run_end =
     elim c.if-place-end-2.branch [
       | then-place-end-2+then-row-place w ↦ rw w.run_end-is
-          (run_starts row place (omega (arith, w.if-place-end-2.true, c.requires.first_end.within)) w.if-row-place.true)
+          (run_starts (omega (arith, w.if-place-end-2.true, c.requires.first_end.within)) w.if-row-place.true)
       | else-place-end-2 w ↦
           elim w.else-place-end-2.branch [
             | else-place-end-2-via-then-place-end-2+else-row-place w' ↦
                 rw w.run_end-is
-                (run_goes_on row place c.loop-place.run_end
+                (run_goes_on
                 (subst (λ (p : ℕ). IsRunEnd row p c.loop-place.run_end) after
                 (c.loop-place.invariant.run.run (omega (arith, w'.if-place-end-2.true)))) w'.if-row-place.false)
             | else-place-end-2-via-else-place-end-2 w' ↦
                 let last : place + 1 ≡ end = omega (arith, w'.if-place-end-2.false) in
-                rw (w.run_end-is, c.loop-place.invariant.run.first (after ∙ last)) (run_last row c.args.out.now end place c.requires last)
+                rw (w.run_end-is, c.loop-place.invariant.run.first (after ∙ last)) (run_last c.requires last)
           ]
     ] in
-    let choice = packed_place row c.args.out.now out now end place c.if-place-end-2.run_end c.least.result (c.least.result - place + 1)
-    c.repeat_number-repeat.result c.min.result
+    let choice = packed_place
     c.requires size inside behind window c.least.ensures run refl (omega (arith, small.1)) c.repeat_number-repeat.ensures.none
     c.repeat_number-repeat.ensures.some c.min.ensures in
     record {
-      right = (place_done Packed (white_like row) row c.args.out.now out end place choice.0 c.min.result c.requires size inside behind
+      right = (place_done c.requires size inside behind
           choice.1).0;
       run = record { first = λ at_end. absurd (omega arith); run = λ _. run };
-      window = place_window_set out now end place c.min.result inside window;
+      window = place_window_set c.min.result inside window;
       room = elim c.if-place-end.branch [
         | then-place-end w ↦
             omega (arith, ap (λ (v : Numbers). v.room) w.window-is, w.take.ensures.room, c.put.ensures.room, c.loop-place.invariant.room)

@@ -6,7 +6,7 @@ use Rattle.pcl_coders.proofs.Places.{begun_right, place_done, plain_place}
 use Rattle.pcl_coders.proofs.fill.fill_plain.Goals as goal
 
 pub loop-place-init : goal.loop-place-init
-loop-place-init c = begun_right Plain (white_like c.args.row.now) c.args.row.now c.args.out.now c.args.end c.requires
+loop-place-init c = begun_right c.requires
 
 pub loop-place-preserved : goal.loop-place-preserved
 loop-place-preserved c =
@@ -18,5 +18,5 @@ loop-place-preserved c =
     let inside : place < c.args.end = omega (arith, c.loop-place.auto.place) in
     let size : length out ≡ length row + 1 = c.loop-place.auto.out ∙ c.requires.size in
     let behind = subst (AreRightFrom Plain old row out) next c.loop-place.invariant in
-    (place_done Plain old row c.args.out.now out c.args.end place SingleByte _ c.requires size inside behind
-    (plain_place old row c.args.out.now out c.args.end place c.requires size inside)).0
+    (place_done c.requires size inside behind
+    (plain_place out c.requires size inside)).0

@@ -9,7 +9,7 @@ use Rattle.pcl_coders.proofs.fill.fill_runs.Goals.{then-place-end+then-row-place
 
 pub loop-place-init : goal.loop-place-init
 loop-place-init c = record {
-  right = begun_right Runs (white_like c.args.row.now) c.args.row.now c.args.out.now c.args.end c.requires;
+  right = begun_right c.requires;
   run = record { first = λ _. refl; run = λ none. absurd (omega arith) };
 }
 
@@ -27,24 +27,24 @@ loop-place-preserved c =
     let run : IsRunEnd row place c.if-place-end.run_end =
     elim c.if-place-end.branch [
       | then-place-end+then-row-place w ↦ rw w.run_end-is
-          (run_starts row place (omega (arith, w.if-place-end.true, c.requires.first_end.within)) w.if-row-place.true)
+          (run_starts (omega (arith, w.if-place-end.true, c.requires.first_end.within)) w.if-row-place.true)
       | else-place-end w ↦
           elim w.else-place-end.branch [
             | else-place-end-via-then-place-end+else-row-place w' ↦
                 rw w.run_end-is
-                (run_goes_on row place c.loop-place.run_end
+                (run_goes_on
                 (subst (λ (p : ℕ). IsRunEnd row p c.loop-place.run_end) next
                 (c.loop-place.invariant.run.run (omega (arith, w'.if-place-end.true)))) w'.if-row-place.false)
             | else-place-end-via-else-place-end w' ↦
                 let last : place + 1 ≡ end = omega (arith, w'.if-place-end.false) in
-                rw (w.run_end-is, c.loop-place.invariant.run.first (next ∙ last)) (run_last row c.args.out.now end place c.requires last)
+                rw (w.run_end-is, c.loop-place.invariant.run.first (next ∙ last)) (run_last c.requires last)
           ]
     ] in
     let len : ℕ = min (c.if-place-end.run_end - place) 256 in
     let at : c.min.result ≡ place + len = omega (arith, c.min.ensures, run.after) in
     record {
       right = rw at
-          (place_done Runs old row c.args.out.now out end place (Run len) _ c.requires size inside behind
-          (runs_place old row c.args.out.now out end place c.if-place-end.run_end len c.requires size inside behind run refl)).0;
+          (place_done c.requires size inside behind
+          (runs_place c.requires size inside behind run refl)).0;
       run = record { first = λ at_end. absurd (omega arith); run = λ _. run };
     }

@@ -12,8 +12,8 @@ loop-place-init c =
     let old = c.args.old.now in
     let row = c.args.row.now in
     record {
-      right = right_at_end c.args.method old row c.args.out.now c.requires.same (omega (arith, c.requires.size));
-      at_end = λ _. ends_past old row (length row) c.requires.same (omega arith);
+      right = right_at_end c.args.out.now c.requires.same (omega (arith, c.requires.size));
+      at_end = λ _. ends_past old row c.requires.same (omega arith);
       before_end = λ e. absurd cc;
     }
 
@@ -25,8 +25,8 @@ overflow_cast-out c =
     let place : ℕ = c.loop-place.place - 1 in
     let inside : place < length row = omega (arith, c.loop-place.auto.place) in
     let behind = c.loop-place.invariant.right (place + 1) (omega arith) (omega arith) in
-    let best = choice_to_ends c.args.method old row out place c.of.result.shape c.of.result.sum c.of.ensures in
-    omega (arith, choice_small c.args.method old row out place c.of.result.shape c.of.result.sum inside best behind.small, c.requires.small)
+    let best = choice_to_ends old row out place c.of.ensures in
+    omega (arith, choice_small old row out inside best behind.small, c.requires.small)
 
 pub loop-place-preserved : goal.loop-place-preserved
 loop-place-preserved c =
@@ -42,7 +42,7 @@ loop-place-preserved c =
     let at_end : c.if-is_end.is_end ≡ true → Ends old row place =
     elim c.if-is_end.branch [
       | then-is_end w ↦
-          λ e. ends_here old row place c.requires.same inside (eqb-true _ _ (sym w.is_end-is ∙ e))
+          λ e. ends_here old row c.requires.same inside (eqb-true _ _ (sym w.is_end-is ∙ e))
           (subst (Ends old row) next (c.loop-place.invariant.at_end w.if-is_end.true))
       | else-is_end w ↦ λ e. absurd (cc (w.is_end-is, e))
     ] in
@@ -57,15 +57,15 @@ loop-place-preserved c =
           elim c.if-is_end-2.branch [
             | then-is_end-2 w ↦
                 rw w.out-is
-                (right_more method old row out place 0 behind
-                (number_of_end method old row out place (omega (arith, size)) (at_end w.if-is_end-2.true)))
+                (right_more 0 behind
+                (number_of_end out (omega (arith, size)) (at_end w.if-is_end-2.true)))
             | else-is_end-2 w ↦
-                let best = choice_to_ends method old row out place w.of.result.shape w.of.result.sum w.of.ensures in
-                let small = choice_small method old row out place w.of.result.shape w.of.result.sum inside best
+                let best = choice_to_ends old row out place w.of.ensures in
+                let small = choice_small old row out inside best
                 (behind (place + 1) (omega arith) (omega arith)).small in
                 rw w.out-is
-                (right_more method old row out place w.of.result.sum behind
-                (number_of_choice method old row out place w.of.result.shape w.of.result.sum inside size
+                (right_more w.of.result.sum behind
+                (number_of_choice out inside size
                 (before_end w.if-is_end-2.false) best small))
           ];
       at_end = at_end;

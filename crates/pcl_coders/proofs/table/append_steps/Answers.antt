@@ -22,7 +22,7 @@ along-choice-requires-clause-right c =
     let numbers = c.args.numbers.now in
     let place = c.loop-place.place in
     rw (take_rest old place, take_rest row place, take_rest numbers place)
-    (right_from_drop c.args.method old row numbers place c.loop-place.invariant.within c.requires.right)
+    (right_from_drop c.loop-place.invariant.within c.requires.right)
 
 pub loop-place-preserved : goal.loop-place-preserved
 loop-place-preserved c =
@@ -31,9 +31,8 @@ loop-place-preserved c =
     let numbers = c.args.numbers.now in
     let place = c.loop-place.place in
     let choice = c.along-choice.result in
-    let best = choice_to_ends c.args.method old row numbers place choice.shape choice.sum c.along-choice.ensures in
-    appended_more c.args.method old row numbers c.args.out.now.items c.loop-place.out.items place choice.shape choice.sum
-    c.append.new.out.items (place + c.stop-place.result)
+    let best = choice_to_ends old row numbers place c.along-choice.ensures in
+    appended_more
     c.requires.same c.requires.right c.loop-place-test.true c.loop-place.invariant best
     (c.in_ok-append.ensures.ok ∙ ap (λ (bs : List ℕ). c.loop-place.out.items ++ element_bytes (element_of choice.shape bs))
     (take_rest row place)) (omega (arith, c.stop-place.ensures))
@@ -42,5 +41,5 @@ pub returns-clause-ok : goal.returns-clause-ok
 returns-clause-ok c =
     let place = c.loop-place.place in
     let none : slice_index c.args.numbers.now place ≡ 0 = omega arith in
-    appended_all c.args.method c.args.old.now c.args.row.now c.args.numbers.now c.args.out.now.items c.loop-place.out.items place
+    appended_all
     c.requires.right none c.loop-place.invariant

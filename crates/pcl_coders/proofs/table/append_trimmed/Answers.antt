@@ -8,4 +8,4 @@ pub returns-clause-ok : goal.returns-clause-ok
 returns-clause-ok c =
     subst (λ (now : List ℕ). AppendsLeast methods.Plain c.args.seed.now c.args.row.now c.args.out.now.items now)
     (sym c.in_ok-extend_from_slice.ensures.items)
-    (plain_appended c.args.seed.now c.args.row.now c.args.out.now.items c.needed_len-end.result c.requires c.needed_len-end.ensures)
+    (plain_appended c.requires c.needed_len-end.ensures)

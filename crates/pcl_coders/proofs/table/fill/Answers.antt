@@ -4,5 +4,5 @@ use Rattle.pcl_coders.proofs.table.fill.Goals as goal
 
 pub returns : goal.returns
 returns c =
-    table_is_least c.args.method c.args.seed.now c.args.row.now c.fill_before.new.out c.requires.codable.same_size
+    table_is_least c.requires.codable.same_size
     (c.fill_before.auto.out ∙ c.requires.size) c.fill_before.ensures

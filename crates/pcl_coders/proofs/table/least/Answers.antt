@@ -3,9 +3,9 @@ use Rattle.pcl_coders.proofs.table.least.Goals as goal
 
 pub returns-then-end-eq0 : goal.returns-then-end-eq0
 returns-then-end-eq0 c =
-    none_least c.args.method c.args.seed.now c.args.row.now c.needed_len-end.result c.requires c.needed_len-end.ensures c.if-end-eq0.true
+    none_least c.requires c.needed_len-end.ensures c.if-end-eq0.true
 
 pub returns-in-Plain : goal.returns-in-Plain
 returns-in-Plain c =
     let plain = c.in-Plain.is in
-    rw plain (plain_least c.args.seed.now c.args.row.now c.needed_len-end.result c.requires (rw plain at c.needed_len-end.ensures))
+    rw plain (plain_least c.requires (rw plain at c.needed_len-end.ensures))

@@ -11,4 +11,4 @@ returns c =
     let now = c.fill_before.new.out in
     subst (IsLeastLength method seed row) (sym c.from.ensures)
     (first_is_least method seed row now c.requires.codable
-    (table_is_least method seed row now c.requires.codable.same_size (c.fill_before.auto.out ∙ c.requires.size) c.fill_before.ensures))
+    (table_is_least c.requires.codable.same_size (c.fill_before.auto.out ∙ c.requires.size) c.fill_before.ensures))

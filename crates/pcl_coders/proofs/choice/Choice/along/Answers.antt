@@ -9,12 +9,12 @@ use Rattle.pcl_coders.proofs.choice.Choice.along.Goals.{then-run-ge2, else-run-g
 pub literal_len-requires-clause-falls : goal.literal_len-requires-clause-falls
 literal_len-requires-clause-falls c i j order within =
     let right = rw c.in-Packed.is at c.requires.right in
-    numbers_fall c.args.old.now c.args.wanted.now c.args.numbers.now i j c.requires.same right order (omega (arith, c.min.ensures))
+    numbers_fall i j c.requires.same right order (omega (arith, c.min.ensures))
 
 pub literal_len-requires-clause-least : goal.literal_len-requires-clause-least
 literal_len-requires-clause-least c k some within =
     let right = rw c.in-Packed.is at c.requires.right in
-    literal_bounds c.args.old.now c.args.wanted.now c.args.numbers.now k right some (omega (arith, c.min.ensures))
+    literal_bounds k right some (omega (arith, c.min.ensures))
 
 pub returns-then-not-is_repeat : goal.returns-then-not-is_repeat
 returns-then-not-is_repeat c =
@@ -22,7 +22,7 @@ returns-then-not-is_repeat c =
     let numbers = c.args.numbers.now in
     let wanted = c.args.wanted.now in
     let is = subst (λ (most : ℕ). IsLiteralLen numbers most c.in-Some.len) c.min.ensures c.in-Some.ensures in
-    rw (c.in-Packed.is, c.from-sum-in-Packed.ensures) (along_literal c.args.old.now wanted numbers c.in-Some.len right is)
+    rw (c.in-Packed.is, c.from-sum-in-Packed.ensures) (along_literal right is)
 
 pub returns-else-run-len : goal.returns-else-run-len
 returns-else-run-len c =
@@ -33,7 +33,7 @@ returns-else-run-len c =
       | then-run-ge2 w ↦
           let same = eqb-true _ _ (sym w.is_repeat-is ∙ c.if-not-is_repeat.false) in
           rw (c.in-Packed.is, c.from-sum-in-Packed.ensures)
-          (along_repeat c.args.old.now c.args.wanted.now numbers run c.run_end-in-Packed.result right c.run_end-in-Packed.ensures
+          (along_repeat right c.run_end-in-Packed.ensures
           c.min-run.ensures w.if-run-ge2.true (omega (arith, same, w.from-then-run-ge2.ensures, c.from-sum-in-Packed.ensures)))
       | else-run-ge2 w ↦ absurd (omega (arith, leb-true 2 run (sym w.is_repeat-is ∙ c.if-not-is_repeat.false), w.if-run-ge2.false))
     ]
@@ -48,29 +48,28 @@ returns-in_default c =
     let r = no_literal_repeat c.args.old.now wanted numbers run c.run_end-in-Packed.result c.requires.same c.requires.place.some right
     c.requires.needed c.run_end-in-Packed.ensures c.min-run.ensures none in
     rw (c.in-Packed.is, c.from-sum-in-Packed.ensures)
-    (along_repeat c.args.old.now wanted numbers run c.run_end-in-Packed.result right c.run_end-in-Packed.ensures c.min-run.ensures r.0
+    (along_repeat right c.run_end-in-Packed.ensures c.min-run.ensures r.0
     r.1)
 
 pub returns-in-Plain : goal.returns-in-Plain
-returns-in-Plain c = rw (c.in-Plain.is, c.from.ensures) (plain_choice c.args.old.now c.args.wanted.now c.args.numbers.now c.requires.place)
+returns-in-Plain c = rw (c.in-Plain.is, c.from.ensures) (plain_choice c.requires.place)
 
 pub returns-in-Runs : goal.returns-in-Runs
 returns-in-Runs c =
     let right = rw c.in-Runs.is at c.requires.right in
     rw (c.in-Runs.is, c.from-sum.ensures)
-    (along_run c.args.old.now c.args.wanted.now c.args.numbers.now c.run_end.result c.min-len.result c.requires.same right
+    (along_run c.requires.same right
     c.run_end.ensures c.min-len.ensures)
 
 pub behind-requires-clause-inside : goal.behind-requires-clause-inside
 behind-requires-clause-inside c =
     let right = rw c.in-Delta.is at c.requires.right in
-    along_start c.args.old.now c.args.wanted.now c.args.numbers.now c.first_difference-start.result c.requires.same right c.requires.needed
+    along_start c.requires.same right c.requires.needed
     c.first_difference-start.ensures
 
 pub returns-in-Delta : goal.returns-in-Delta
 returns-in-Delta c =
     let right = rw c.in-Delta.is at c.requires.right in
     rw c.in-Delta.is
-    (along_replacement c.args.old.now c.args.wanted.now c.args.numbers.now c.first_difference-start.result c.behind.result.shape
-    c.behind.result.sum c.requires.same c.requires.place.size right c.requires.needed
+    (along_replacement c.requires.same c.requires.place.size right c.requires.needed
     c.first_difference-start.ensures c.behind.ensures)

@@ -15,10 +15,10 @@ loop-offset-preserved c =
     let after : offset ≡ offset - 1 + 1 = omega arith in
     rw at (elim c.if-next-best.branch [
       | then-next-best w ↦ rw w.best-is
-          (best_replacement_next wanted numbers (offset - 1) offset best.shape next.shape best.sum next.sum after c.loop-offset.invariant
+          (best_replacement_next after c.loop-offset.invariant
           c.behind-next.ensures w.if-next-best.true)
       | else-next-best w ↦ rw w.best-is
-          (best_replacement_stays wanted numbers (offset - 1) offset best.shape next.shape best.sum next.sum after c.loop-offset.invariant
+          (best_replacement_stays after c.loop-offset.invariant
           c.behind-next.ensures (omega (arith, w.if-next-best.false)))
     ])
 
@@ -26,7 +26,6 @@ pub returns : goal.returns
 returns c =
     let last : ℕ = c.loop-offset.offset - 1 in
     let at : last ≡ min c.first_difference.result (length c.args.wanted.now - 1) = omega (arith, c.min-same.ensures) in
-    delta_choice c.args.old.now c.args.wanted.now c.args.numbers.now c.first_difference.result last c.loop-offset.best.shape
-    c.loop-offset.best.sum c.requires.same c.requires.place
-    (same_len_of c.args.old.now c.args.wanted.now c.first_difference.result c.requires.same c.first_difference.ensures) at
+    delta_choice last c.requires.same c.requires.place
+    (same_len_of c.requires.same c.first_difference.ensures) at
     c.loop-offset.invariant

@@ -7,7 +7,7 @@ use Rattle.pcl_coders.proofs.choice.Choice.packed.Goals as goal
 pub returns-then-beats : goal.returns-then-beats
 returns-then-beats c = λ old size.
     let best = c.among-repeat.result in
-    repeat_choice old c.args.wanted.now c.args.numbers.now c.run_end.result best.len best.sum size
+    repeat_choice size
     (run_len_of c.args.wanted.now 0 c.run_end.result c.run_end.result c.run_end.ensures (omega arith))
     (subst (λ (to : ℕ). IsLeastLen c.args.numbers.now 2 to 2 0 best.len best.sum) c.min-longest.ensures c.among-repeat.ensures)
     (λ k low high. omega (arith, c.among-literal.ensures.least k low (omega (arith, c.min.ensures)), c.beats.ensures.won c.if-beats.true))
@@ -15,7 +15,7 @@ returns-then-beats c = λ old size.
 pub returns-else-beats : goal.returns-else-beats
 returns-else-beats c = λ old size.
     let best = c.among-literal.result in
-    literal_choice old c.args.wanted.now c.args.numbers.now c.run_end.result best.len best.sum size
+    literal_choice size
     (run_len_of c.args.wanted.now 0 c.run_end.result c.run_end.result c.run_end.ensures (omega arith))
     (subst (λ (to : ℕ). IsLeastLen c.args.numbers.now 1 to 1 1 best.len best.sum) c.min.ensures c.among-literal.ensures)
     (λ k low high. omega (
@@ -27,7 +27,7 @@ returns-else-beats c = λ old size.
 pub returns-else-longest-ge2 : goal.returns-else-longest-ge2
 returns-else-longest-ge2 c = λ old size.
     let best = c.among-literal.result in
-    literal_choice old c.args.wanted.now c.args.numbers.now c.run_end.result best.len best.sum size
+    literal_choice size
     (run_len_of c.args.wanted.now 0 c.run_end.result c.run_end.result c.run_end.ensures (omega arith))
     (subst (λ (to : ℕ). IsLeastLen c.args.numbers.now 1 to 1 1 best.len best.sum) c.min.ensures c.among-literal.ensures)
     (λ k low high. absurd (omega (arith, c.min-longest.ensures)))

@@ -9,12 +9,11 @@ among-best-requires-clause-order c =
     omega (
       arith,
       c.min-longest.ensures,
-      run_some c.args.wanted.now c.args.numbers.now c.run_end.result c.requires
+      run_some c.requires
           (run_len_of c.args.wanted.now 0 c.run_end.result c.run_end.result c.run_end.ensures (omega arith)),
     )
 
 pub returns : goal.returns
-returns c = λ old size. runs_choice old c.args.wanted.now c.args.numbers.now c.run_end.result c.among-best.result.len
-    c.among-best.result.sum size (run_len_of c.args.wanted.now 0 c.run_end.result c.run_end.result c.run_end.ensures (omega arith))
+returns c = λ old size. runs_choice size (run_len_of c.args.wanted.now 0 c.run_end.result c.run_end.result c.run_end.ensures (omega arith))
     (subst (λ (to : ℕ). IsLeastLen c.args.numbers.now 1 to 2 0 c.among-best.result.len c.among-best.result.sum) c.min-longest.ensures
     c.among-best.ensures)

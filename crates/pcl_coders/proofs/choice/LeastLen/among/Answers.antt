@@ -8,7 +8,7 @@ pub loop-len-init : goal.loop-len-init
 loop-len-init c =
     let a = c.args in
     let at : a.from + 1 - 1 ≡ a.from = omega arith in
-    rw at (least_len_one a.numbers.now a.from a.head a.each c.at-best.result.len c.at-best.result.sum c.at-best.ensures.0
+    rw at (least_len_one c.at-best.ensures.0
     c.at-best.ensures.1)
 
 pub loop-len-preserved : goal.loop-len-preserved
@@ -20,11 +20,11 @@ loop-len-preserved c =
     rw at (elim c.if-beats.branch [
       | then-beats w ↦
           rw w.best-is
-          (least_len_next a.numbers.now a.from c.loop-len.len a.head a.each next.len next.sum (omega arith) best.len best.sum
+          (least_len_next (omega arith)
           c.loop-len.invariant c.at-next.ensures.0 c.at-next.ensures.1 (c.beats.ensures.won w.if-beats.true))
       | else-beats w ↦
           rw w.best-is
-          (least_len_stays a.numbers.now a.from c.loop-len.len a.head a.each next.sum best.len best.sum c.loop-len.invariant
+          (least_len_stays next.sum c.loop-len.invariant
           c.at-next.ensures.1 (c.beats.ensures.lost w.if-beats.false))
     ])
 

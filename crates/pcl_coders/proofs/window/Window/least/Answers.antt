@@ -15,5 +15,5 @@ returns c =
       ap (λ (v : Numbers). length v.numbers) c.self.view_is,
       length-in_window a.numbers.now a.taken a.put q.put_within,
     ) in
-    let l = queue_least a.numbers.now a.places.now a.taken a.put a.first a.stop q some in
+    let l = queue_least q some in
     subst (λ (v : Numbers). IsLeastOf v.numbers (slice_index a.numbers.now (slice_index a.places.now a.first))) c.self.view_is l.1

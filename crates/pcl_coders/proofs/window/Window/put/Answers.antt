@@ -8,7 +8,7 @@ pub invariant_of-self : goal.invariant_of-self
 invariant_of-self c =
     let a = c.self.inside in
     let room : a.put < length a.numbers.now = omega (arith, c.requires, ap (λ (v : Numbers). v.room) c.self.view_is) in
-    queue_put a.numbers.now a.places.now a.taken a.put a.first a.stop c.loop-stop.stop c.args.number c.self.invariant room
+    queue_put c.self.invariant room
     c.loop-stop.invariant.order c.loop-stop.invariant.within c.loop-stop.invariant.above
     (λ some.
     elim c.loop-stop-test.branch [
@@ -20,5 +20,5 @@ pub returns-clause-numbers : goal.returns-clause-numbers
 returns-clause-numbers c =
     let a = c.self.inside in
     let room : a.put < length a.numbers.now = omega (arith, c.requires, ap (λ (v : Numbers). v.room) c.self.view_is) in
-    window_put a.numbers.now a.taken a.put c.args.number c.self.invariant.taken_within room
+    window_put a.numbers.now c.args.number c.self.invariant.taken_within room
     ∙ ap (λ (v : Numbers). v.numbers ++ c.args.number ∷ []) c.self.view_is
