@@ -20,10 +20,10 @@ use Rattle.pcl_page.specs.Situation.{Situation}
 use Rattle.pcl_page.specs.Macros.{Run, action_of, control_keeping, keeping_of, counting, defining, after_command, run_by, run_from, run_of}
 use Rattle.pcl_page.specs.Unfolding.{IsAt, IsStepped}
 
-command_inside : (dpi : Dpi) (place : ℕ) (command : Said) (s : Situation) (keeping : Keeping) → is_some s.begun ≡ true
+command_inside : (dpi : Dpi) (place : ℕ) (command : Said) (s : Situation) {keeping : Keeping} → is_some s.begun ≡ true
     → keeping_of (operation_of command.name) command.value ≡ keeping
     → after_command dpi place command s ≡ defining dpi place keeping command s
-command_inside dpi place command s keeping e k =
+command_inside dpi place command s e k =
     ap (λ (b : Bool). cond b (defining dpi place (keeping_of (operation_of command.name) command.value) command s)
     (counting dpi place command s)) e
     ∙ ap (λ (kept : Keeping). defining dpi place kept command s) k
@@ -56,7 +56,7 @@ stepped_as : {S : Type 0} (takes : S → Page → S → Type 0) (dpi : Dpi) (out
     (run_after run_other : Situation → Option Run) (s : Situation) (result : Result (Unit {0}) CallFault) (old new : Interpreter)
     (sink later : S) → other ≡ outcome → run_other ≡ run_after → IsStepped takes dpi outcome run_after s result old new sink later
     → IsStepped takes dpi other run_other s result old new sink later
-stepped_as {S} takes dpi outcome other run_after run_other s result old new sink later o r step =
+stepped_as takes dpi outcome other run_after run_other s result old new sink later o r step =
     subst (λ (p : Result Situation Kind). IsStepped takes dpi p run_other s result old new sink later) (sym o)
     (subst (λ (f : Situation → Option Run). IsStepped takes dpi outcome f s result old new sink later) (sym r) step)
 
@@ -65,7 +65,7 @@ pub stepped_ending : {S : Type 0} (takes : S → Page → S → Type 0) (dpi : D
     → keeping_of (operation_of command.name) command.value ≡ Ends
     → IsStepped takes dpi (counting dpi place command s) (run_from (operation_of command.name) command.value) s result old new sink later
     → IsStepped takes dpi (after_command dpi place command s) (run_of command s) s result old new sink later
-stepped_ending {S} takes dpi place command s result old new sink later at some ends step =
+stepped_ending takes dpi place command s result old new sink later at some ends step =
     let begun : is_some s.begun ≡ true = ap (λ (b : Option Begun). is_some b) (sym at.begun) ∙ some in
     let is = ends_is (operation_of command.name) command.value ends in
     let runs : run_from (operation_of command.name) command.value ≡ runs_none =
@@ -73,4 +73,4 @@ stepped_ending {S} takes dpi place command s result old new sink later at some e
     ∙ ap (λ (a : Option Action). λ (t : Situation). run_by a t) is.1 in
     stepped_as takes dpi (counting dpi place command s) (after_command dpi place command s)
     (run_from (operation_of command.name) command.value) (run_of command s) s result old new sink later
-    (command_inside dpi place command s Ends begun ends) (run_inside command s begun ∙ sym runs) step
+    (command_inside dpi place command s begun ends) (run_inside command s begun ∙ sym runs) step

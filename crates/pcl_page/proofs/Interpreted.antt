@@ -49,79 +49,79 @@ runs_none later = None
 
 -- ---- a command that counts
 
-counting_refused : (dpi : Dpi) (place : ℕ) (command : Said) (s : Situation) (kind : Kind) → command_refusal dpi command s ≡ Some kind
+counting_refused : (dpi : Dpi) (place : ℕ) (command : Said) (s : Situation) {kind : Kind} → command_refusal dpi command s ≡ Some kind
     → counting dpi place command s ≡ Err kind
-counting_refused dpi place command s kind e =
+counting_refused dpi place command s e =
     ap (λ (why : Option Kind). if_not_refused why (after_at dpi place (operation_of command.name) command s)) e
 
-counting_is : (dpi : Dpi) (place : ℕ) (command : Said) (operation : Operation) (s now : Situation)
+counting_is : (dpi : Dpi) (place : ℕ) (command : Said) {operation : Operation} (s : Situation) {now : Situation}
     → operation_of command.name ≡ Some operation → after dpi operation command s ≡ Ok now → command_refusal dpi command s ≡ None
     → counting dpi place command s ≡ managed place operation command.value now
-counting_is dpi place command operation s now named done none =
+counting_is dpi place command {operation} s named done none =
     ap (λ (why : Option Kind). if_not_refused why (after_at dpi place (operation_of command.name) command s)) none
     ∙ ap (λ (o : Option Operation). after_at dpi place o command s) named
     ∙ ap (λ (r : Result Situation Kind). and_then r (managed place operation command.value)) done
 
 -- a macro control lets the page stay
-control_stay : (below taken : Bool) (s : Settings) (done : Settings × Effect) → cond below None (cond taken (stays s) None) ≡ Some done
+control_stay : (below taken : Bool) (s : Settings) {done : Settings × Effect} → cond below None (cond taken (stays s) None) ≡ Some done
     → done.1 ≡ Stay
-control_stay true taken s done e = absurd cc
-control_stay false true s done e =
+control_stay true taken s e = absurd cc
+control_stay false true s {done} e =
     let same : ◌≡◌ {A = Settings × Effect} (s, Stay) done = cc in ap (λ (d : Settings × Effect). d.1) (sym same)
-control_stay false false s done e = absurd cc
+control_stay false false s e = absurd cc
 
-control_outcome : (dpi : Dpi) (value : Value) (m : Bool) (s : Settings) (done : Settings × Effect)
+control_outcome : (dpi : Dpi) (value : Value) (m : Bool) (s : Settings) {done : Settings × Effect}
     → outcome dpi ControlMacros value m s ≡ Some done → done.1 ≡ Stay
 unfolding outcome
-control_outcome dpi value m s done e = control_stay (is_below_zero value) _ s done e
+control_outcome dpi value m s e = control_stay (is_below_zero value) _ s e
 
-control_done : (dpi : Dpi) (command : Said) (o : Outcome) (s later : Situation)
+control_done : (dpi : Dpi) (command : Said) (o : Outcome) (s : Situation) {later : Situation}
     → outcome dpi ControlMacros command.value (is_marked s) s.settings ≡ o → done_with dpi ControlMacros command o s ≡ Ok later
     → later.pages ≡ s.pages
-control_done dpi command None s later is e = absurd cc
-control_done dpi command (Some done) s later is e =
+control_done dpi command None s is e = absurd cc
+control_done dpi command (Some done) s {later} is e =
     let same : turned done.0 done.1 s ≡ later = cc in
     ap (λ (z : Situation). z.pages) (sym same)
-    ∙ stays_pages done s (control_outcome dpi command.value (is_marked s) s.settings done is)
+    ∙ stays_pages done s (control_outcome dpi command.value (is_marked s) s.settings is)
 
-control_by : (dpi : Dpi) (command : Said) (s later : Situation) (ignored : Bool)
+control_by : (dpi : Dpi) (command : Said) (s : Situation) {later : Situation} (ignored : Bool)
     → cond ignored (Ok (counted s)) (taken dpi ControlMacros command (prepared dpi ControlMacros (counted s))) ≡ Ok later
     → later.pages ≡ s.pages
-control_by dpi command s later true e = let same : counted s ≡ later = cc in ap (λ (z : Situation). z.pages) (sym same)
-control_by dpi command s later false e =
+control_by dpi command s {later} true e = let same : counted s ≡ later = cc in ap (λ (z : Situation). z.pages) (sym same)
+control_by dpi command s false e =
     let before = prepared dpi ControlMacros (counted s) in
-    control_done dpi command (outcome dpi ControlMacros command.value (is_marked before) before.settings) before later refl e
+    control_done dpi command (outcome dpi ControlMacros command.value (is_marked before) before.settings) before refl e
     ∙ prepared_pages dpi true (counted s)
 
-control_pages : (dpi : Dpi) (command : Said) (s later : Situation) → after dpi ControlMacros command s ≡ Ok later → later.pages ≡ s.pages
+control_pages : (dpi : Dpi) (command : Said) (s : Situation) {later : Situation} → after dpi ControlMacros command s ≡ Ok later → later.pages ≡ s.pages
 unfolding after
-control_pages dpi command s later e = control_by dpi command s later (is_ignored ControlMacros s) e
+control_pages dpi command s e = control_by dpi command s (is_ignored ControlMacros s) e
 
 -- what is refused for macros ejects nothing
-unmanaged_pages : (dpi : Dpi) (place : ℕ) (operation : Operation) (command : Said) (s now : Situation) (kind : Kind)
+unmanaged_pages : (dpi : Dpi) (place : ℕ) (operation : Operation) (command : Said) (s : Situation) {now : Situation} {kind : Kind}
     → after dpi operation command s ≡ Ok now → managed place operation command.value now ≡ Err kind → now.pages ≡ s.pages
-unmanaged_pages dpi place Reset command s now kind e m = absurd cc
-unmanaged_pages dpi place UniversalExit command s now kind e m = absurd cc
-unmanaged_pages dpi place ControlMacros command s now kind e m = control_pages dpi command s now e
-unmanaged_pages dpi place other command s now kind e m = absurd cc
+unmanaged_pages dpi place Reset command s e m = absurd cc
+unmanaged_pages dpi place UniversalExit command s e m = absurd cc
+unmanaged_pages dpi place ControlMacros command s e m = control_pages dpi command s e
+unmanaged_pages dpi place other command s e m = absurd cc
 
 same_sink : {S : Type 0} (takes : S → Page → S → Type 0) (dpi : Dpi) (s now : Situation) (sink later : S) → now.pages ≡ s.pages
     → HandsMore takes dpi s now sink later → later ≡ sink
-same_sink {S} takes dpi s now sink later e h =
+same_sink takes dpi s now sink later e h =
     subst (λ (more : List Sheet). Hands takes dpi more sink later)
     (no_more s.pages h.0 (sym e ∙ h.1)) h.2
 
 more_same : {S : Type 0} (takes : S → Page → S → Type 0) (dpi : Dpi) (s now then : Situation) (sink later : S) → then.pages ≡ now.pages
     → HandsMore takes dpi s now sink later → HandsMore takes dpi s then sink later
-more_same {S} takes dpi s now then sink later e h = (h.0, e ∙ h.1, h.2)
+more_same takes dpi s now then sink later e h = (h.0, e ∙ h.1, h.2)
 
 items_same : (old new : Interpreter) → new.running ≡ old.running → new.running.items ≡ old.running.items
 items_same old new e = ap (λ (r : ArrayVec Running). r.items) e
 
 -- the performer performed the command, and nothing was done to macros yet
-pub at_tried : (dpi : Dpi) (operation : Operation) (command : Said) (s now : Situation) (old middle : Interpreter) → IsAt dpi s old
+pub at_tried : {dpi : Dpi} (operation : Operation) (command : Said) {s now : Situation} {old middle : Interpreter} → IsAt dpi s old
     → after dpi operation command s ≡ Ok now → IsIn dpi now middle.performer → middle.macros ≡ old.macros → IsAt dpi now middle
-at_tried dpi operation command s now old middle at e i same =
+at_tried {dpi} operation command {s} {now} {middle} at e i same =
     let a = after_adds dpi operation command s now e in
     record {
       is_in = i;
@@ -137,23 +137,23 @@ pub counted_stepped : {S : Type 0} (takes : S → Page → S → Type 0) (dpi : 
     → ((t : Situation) → IsAt dpi t middle
     → IsActed dpi (managed place operation command.value t) (run_from (Some operation) command.value) result middle new)
     → IsStepped takes dpi (counting dpi place command s) (run_from (operation_of command.name) command.value) s result old new sink later
-counted_stepped {S} takes dpi place command operation s old middle new sink later (Ok unit) at t same run f =
-    let a = f t.0 (at_tried dpi operation command s t.0 old middle at t.2 t.4 same) in
-    let is = counting_is dpi place command operation s t.0 t.1 t.2 t.3 in (
+counted_stepped takes dpi place command operation s old middle new sink later (Ok unit) at t same run f =
+    let a = f t.0 (at_tried operation command at t.2 t.4 same) in
+    let is = counting_is dpi place command s t.1 t.2 t.3 in (
       a.0,
       is ∙ a.1,
       a.2,
       subst (λ (o : Option Operation). Enters (run_from o command.value a.0) old.running.items new.running.items) (sym t.1)
           (subst (λ (rs : List Running). Enters (run_from (Some operation) command.value a.0) rs new.running.items)
           (items_same old middle run) a.3),
-      more_same takes dpi s t.0 a.0 sink later (managed_acts place operation command.value t.0 a.0 a.1).pages t.5,
+      more_same takes dpi s t.0 a.0 sink later (managed_acts place operation command.value a.1).pages t.5,
     )
-counted_stepped {S} takes dpi place command operation s old middle new sink later (Err (Refused kind)) at t same run f =
-    let is = counting_is dpi place command operation s t.0 t.1 t.2 t.3 in
-    elim (f t.0 (at_tried dpi operation command s t.0 old middle at t.2 t.4 same)) [
+counted_stepped takes dpi place command operation s old middle new sink later (Err (Refused kind)) at t same run f =
+    let is = counting_is dpi place command s t.1 t.2 t.3 in
+    elim (f t.0 (at_tried operation command at t.2 t.4 same)) [
       | inl e ↦ inl (
         is ∙ e,
-        same_sink takes dpi s t.0 sink later (unmanaged_pages dpi place operation command s t.0 kind t.2 e) t.5,
+        same_sink takes dpi s t.0 sink later (unmanaged_pages dpi place operation command s t.2 e) t.5,
       )
       | inr a ↦ inr (
         a.0,
@@ -162,22 +162,22 @@ counted_stepped {S} takes dpi place command operation s old middle new sink late
         ap (λ (o : Option Operation). run_from o command.value a.0) t.1 ∙ a.3,
         ap (λ (rs : List Running). length rs) (sym (items_same old middle run)) ∙ a.4,
         a.5,
-        more_same takes dpi s t.0 a.0 sink later (managed_acts place operation command.value t.0 a.0 a.2).pages t.5,
+        more_same takes dpi s t.0 a.0 sink later (managed_acts place operation command.value a.2).pages t.5,
       )
     ]
-counted_stepped {S} takes dpi place command operation s old middle new sink later (Err Memory) at t same run f =
-    let is = counting_is dpi place command operation s t.0 t.1 t.2 t.3 in
-    let a = f t.0 (at_tried dpi operation command s t.0 old middle at t.2 t.4 same) in
-    inr (a.0, is ∙ a.1, more_same takes dpi s t.0 a.0 sink later (managed_acts place operation command.value t.0 a.0 a.1).pages t.5)
+counted_stepped takes dpi place command operation s old middle new sink later (Err Memory) at t same run f =
+    let is = counting_is dpi place command s t.1 t.2 t.3 in
+    let a = f t.0 (at_tried operation command at t.2 t.4 same) in
+    inr (a.0, is ∙ a.1, more_same takes dpi s t.0 a.0 sink later (managed_acts place operation command.value a.1).pages t.5)
 
 -- the performer refused it, or memory ran out there
 pub counted_untried : {S : Type 0} (takes : S → Page → S → Type 0) (dpi : Dpi) (place : ℕ) (command : Said) (s : Situation)
     (old new : Interpreter) (sink later : S) (fault : CallFault) → IsTried takes dpi command s (Err fault) new.performer sink later
     → IsStepped takes dpi (counting dpi place command s) (run_from (operation_of command.name) command.value) s
     (Err fault) old new sink later
-counted_untried {S} takes dpi place command s old new sink later (Refused kind) t =
-    inl (counting_refused dpi place command s kind t.0, t.1)
-counted_untried {S} takes dpi place command s old new sink later Memory t =
+counted_untried takes dpi place command s old new sink later (Refused kind) t =
+    inl (counting_refused dpi place command s t.0, t.1)
+counted_untried takes dpi place command s old new sink later Memory t =
     elim t [
       | inl same ↦ inl same
       | inr d ↦ short_by (managed place d.0 command.value d.1) d refl
@@ -190,17 +190,17 @@ counted_untried {S} takes dpi place command s old new sink later Memory t =
         sink later
     short_by (Ok now) d m = inr (
       now,
-      counting_is dpi place command d.0 s d.1 d.2 d.3 d.4 ∙ m,
-      more_same takes dpi s d.1 now sink later (managed_acts place d.0 command.value d.1 now m).pages d.5,
+      counting_is dpi place command s d.2 d.3 d.4 ∙ m,
+      more_same takes dpi s d.1 now sink later (managed_acts place d.0 command.value m).pages d.5,
     )
-    short_by (Err kind) d m = inl (same_sink takes dpi s d.1 sink later (unmanaged_pages dpi place d.0 command s d.1 kind d.3 m) d.5)
+    short_by (Err kind) d m = inl (same_sink takes dpi s d.1 sink later (unmanaged_pages dpi place d.0 command s d.3 m) d.5)
 
 -- ---- what is done to macros
 
 -- one event more
-pub event_done : (dpi : Dpi) (event : MacroEvent) (s : Situation) (old new : Interpreter) → IsAt dpi s old
+pub event_done : {dpi : Dpi} {event : MacroEvent} {s : Situation} {old new : Interpreter} → IsAt dpi s old
     → new.performer ≡ old.performer → Controls old.macros new.macros event → IsAt dpi (record s { macros = event ∷ s.macros }) new
-event_done dpi event s old new at same c = record {
+event_done {dpi} {event} {s} {old} at same c = record {
   is_in = subst (λ (p : Performer). IsIn dpi (record s { macros = event ∷ s.macros }) p) (sym same) (in_same at.is_in);
   macros = c.0 s.macros at.macros;
   begun = c.1 ∙ at.begun;
@@ -217,35 +217,35 @@ event_done dpi event s old new at same c = record {
       painted = i.painted;
     }
 
-pub control_acted : (dpi : Dpi) (what : MacroControl) (id place : ℕ) (s : Situation) (old new : Interpreter) → IsAt dpi s old
+pub control_acted : {dpi : Dpi} {what : MacroControl} {id : ℕ} (place : ℕ) {s : Situation} {old new : Interpreter} → IsAt dpi s old
     → id ≡ old.performer.environment.macro_id → new.performer ≡ old.performer → new.running ≡ old.running
     → Controls old.macros new.macros (control what id)
     → IsActed dpi (acted place (Some (Control what)) s) (run_by (Some (Control what))) (Ok tt) old new
-control_acted dpi what id place s old new at i same run c =
+control_acted {what} {id} place {s} {old} {new} at i same run c =
     let id_is : id ≡ s.settings.macro_id = i ∙ ap (λ (t : Settings). t.macro_id) at.is_in.settings in (
       record s { macros = control what s.settings.macro_id ∷ s.macros },
       refl,
-      event_done dpi (control what s.settings.macro_id) s old new at same
+      event_done at same
           (subst (λ (n : ℕ). Controls old.macros new.macros (control what n)) id_is c),
       (items_same old new run ∙ sym (append-nil old.running.items), tt),
     )
 
-pub reset_acted : (dpi : Dpi) (s : Situation) (old new : Interpreter) → IsAt dpi s old
+pub reset_acted : {dpi : Dpi} {s : Situation} {old new : Interpreter} → IsAt dpi s old
     → new.performer ≡ old.performer → new.running ≡ old.running → Controls old.macros new.macros (control Temporary 0)
     → IsActed dpi (Ok (record s { macros = control Temporary 0 ∷ s.macros })) runs_none (Ok tt) old new
-reset_acted dpi s old new at same run c = (
+reset_acted {s} {old} {new} at same run c = (
   record s { macros = control Temporary 0 ∷ s.macros },
   refl,
-  event_done dpi (control Temporary 0) s old new at same c,
+  event_done at same c,
   (items_same old new run ∙ sym (append-nil old.running.items), tt),
 )
 
 -- a definition begins
-pub begin_acted : (dpi : Dpi) (id place : ℕ) (s : Situation) (old new : Interpreter) → IsAt dpi s old
+pub begin_acted : {dpi : Dpi} {id : ℕ} (place : ℕ) {s : Situation} {old new : Interpreter} → IsAt dpi s old
     → id ≡ old.performer.environment.macro_id → new.performer ≡ old.performer → new.running ≡ old.running
     → new.macros ≡ record old.macros { begun = Some (record { id = id; from = place + 1 }) }
     → IsActed dpi (acted place (Some Begin) s) (run_by (Some Begin)) (Ok tt) old new
-begin_acted dpi id place s old new at i same run m =
+begin_acted {dpi} {id} place {s} {old} {new} at i same run m =
     let id_is : id ≡ s.settings.macro_id = i ∙ ap (λ (t : Settings). t.macro_id) at.is_in.settings in (
       record s { begun = Some (record { id = s.settings.macro_id; from = place + 1 }) },
       refl,
@@ -270,9 +270,9 @@ begin_acted dpi id place s old new at i same run m =
     }
 
 -- a definition ends, or there is none
-ended_is : (place : ℕ) (begun : Option Begun) (s : Situation) (d : Begun) → begun ≡ Some d
+ended_is : {place : ℕ} {begun : Option Begun} (s : Situation) {d : Begun} → begun ≡ Some d
     → definition_ended place begun s ≡ Ok (record s { macros = defined d.id d.from place ∷ s.macros; begun = None })
-ended_is place begun s d e = ap (λ (b : Option Begun). definition_ended place b s) e
+ended_is {place} s e = ap (λ (b : Option Begun). definition_ended place b s) e
 
 begun_some : (begun : Option Begun) → is_some begun ≡ true → (d : Begun) × (begun ≡ Some d)
 begun_some None e = absurd cc
@@ -282,14 +282,14 @@ begun_none : (begun : Option Begun) → is_some begun ≡ false → begun ≡ No
 begun_none None e = refl
 begun_none (Some d) e = absurd cc
 
-pub end_acted : (dpi : Dpi) (place : ℕ) (s : Situation) (old new : Interpreter) (result : Result (Unit {0}) CallFault) → IsAt dpi s old
+pub end_acted : {dpi : Dpi} (place : ℕ) {s : Situation} {old : Interpreter} (new : Interpreter) (result : Result (Unit {0}) CallFault) → IsAt dpi s old
     → new.performer ≡ old.performer → new.running ≡ old.running → HasEnd place result old.macros new.macros
     → IsActed dpi (acted place (Some End) s) (run_by (Some End)) result old new
-end_acted dpi place s old new (Ok unit) at same run h =
+end_acted {dpi} place {s} {old} new (Ok unit) at same run h =
     let d = h.0 in
     let later = record s { macros = defined d.id d.from place ∷ s.macros; begun = None } in (
       later,
-      ended_is place s.begun s d (sym at.begun ∙ h.1),
+      ended_is s (sym at.begun ∙ h.1),
       record {
         is_in = subst (λ (p : Performer). IsIn dpi later p) (sym same) (record {
           settings = at.is_in.settings;
@@ -305,18 +305,18 @@ end_acted dpi place s old new (Ok unit) at same run h =
       },
       (items_same old new run ∙ sym (append-nil old.running.items), tt),
     )
-end_acted dpi place s old new (Err (Refused kind)) at same run h =
+end_acted place {s} new (Err (Refused kind)) at same run h =
     let none : s.begun ≡ None = begun_none s.begun (ap (λ (b : Option Begun). is_some b) (sym at.begun) ∙ h.0) in
     inl (ap (λ (b : Option Begun). definition_ended place b s) none ∙ ap (λ (k : Kind). Err k) (sym h.1))
-end_acted dpi place s old new (Err Memory) at same run h =
+end_acted place {s} new (Err Memory) at same run h =
     let d = begun_some s.begun (ap (λ (b : Option Begun). is_some b) (sym at.begun) ∙ h.0) in
-    (record s { macros = defined d.0.id d.0.from place ∷ s.macros; begun = None }, ended_is place s.begun s d.0 d.1)
+    (record s { macros = defined d.0.id d.0.from place ∷ s.macros; begun = None }, ended_is s d.1)
 
 -- a macro begins to run
-pub enter_acted : (dpi : Dpi) (run_after : Situation → Option Run) (run : Option Run) (s : Situation) (old new : Interpreter)
+pub enter_acted : {dpi : Dpi} (run_after : Situation → Option Run) (run : Option Run) {s : Situation} {old : Interpreter} (new : Interpreter)
     (result : Result (Unit {0}) CallFault) → IsAt dpi s old → run ≡ run_after s → IsEntered run result old new
     → IsActed dpi (Ok s) run_after result old new
-enter_acted dpi run_after run s old new (Ok unit) at e h = (
+enter_acted {dpi} run_after run {s} {old} new (Ok unit) at e h = (
   s,
   refl,
   record {
@@ -326,31 +326,31 @@ enter_acted dpi run_after run s old new (Ok unit) at e h = (
   },
   subst (λ (r : Option Run). Enters r old.running.items new.running.items) e h.0,
 )
-enter_acted dpi run_after None s old new (Err fault) at e h = absurd h
-enter_acted dpi run_after (Some run) s old new (Err (Refused kind)) at e h = inr (s, run, refl, sym e, h.0, h.1)
-enter_acted dpi run_after (Some run) s old new (Err Memory) at e h = absurd h
+enter_acted run_after None new (Err fault) at e h = absurd h
+enter_acted run_after (Some run) {s} new (Err (Refused kind)) at e h = inr (s, run, refl, sym e, h.0, h.1)
+enter_acted run_after (Some run) new (Err Memory) at e h = absurd h
 
 -- the macro that is meant
-macro_found : (dpi : Dpi) (id : ℕ) (s : Situation) (old : Interpreter) → IsAt dpi s old → id ≡ old.performer.environment.macro_id
+macro_found : {dpi : Dpi} {id : ℕ} {s : Situation} {old : Interpreter} → IsAt dpi s old → id ≡ old.performer.environment.macro_id
     → macro_at old.macros id ≡ macro_now s
-macro_found dpi id s old at i =
+macro_found {id} {s} at i =
     at.macros id ∙ ap (λ (n : ℕ). body_after s.macros n) (i ∙ ap (λ (t : Settings). t.macro_id) at.is_in.settings)
 
-pub execute_acted : (dpi : Dpi) (id : ℕ) (s : Situation) (old new : Interpreter) (result : Result (Unit {0}) CallFault) → IsAt dpi s old
+pub execute_acted : {dpi : Dpi} {id : ℕ} {s : Situation} {old : Interpreter} (new : Interpreter) (result : Result (Unit {0}) CallFault) → IsAt dpi s old
     → id ≡ old.performer.environment.macro_id → IsEntered (option_map (run_with None) (macro_at old.macros id)) result old new
     → IsActed dpi (Ok s) (run_by (Some Execute)) result old new
-execute_acted dpi id s old new result at i h =
-    enter_acted dpi (run_by (Some Execute)) (option_map (run_with None) (macro_at old.macros id)) s old new result at
-    (ap (λ (o : Option MacroBody). option_map (run_with None) o) (macro_found dpi id s old at i)) h
+execute_acted {id} {old} new result at i h =
+    enter_acted (run_by (Some Execute)) (option_map (run_with None) (macro_at old.macros id)) new result at
+    (ap (λ (o : Option MacroBody). option_map (run_with None) o) (macro_found at i)) h
 
-pub call_acted : (dpi : Dpi) (id : ℕ) (saved : Settings) (s : Situation) (old new : Interpreter) (result : Result (Unit {0}) CallFault)
+pub call_acted : {dpi : Dpi} {id : ℕ} {saved : Settings} {s : Situation} {old : Interpreter} (new : Interpreter) (result : Result (Unit {0}) CallFault)
     → IsAt dpi s old → id ≡ old.performer.environment.macro_id → saved ≡ kept old.performer.environment
     → IsEntered (option_map (run_with (Some saved)) (macro_at old.macros id)) result old new
     → IsActed dpi (Ok s) (run_by (Some Call)) result old new
-call_acted dpi id saved s old new result at i k h =
+call_acted {id} {saved} {s} {old} new result at i k h =
     let same : saved ≡ kept s.settings = k ∙ ap (λ (t : Settings). kept t) at.is_in.settings in
-    enter_acted dpi (run_by (Some Call)) (option_map (run_with (Some saved)) (macro_at old.macros id)) s old new result at
-    (ap (λ (o : Option MacroBody). option_map (run_with (Some saved)) o) (macro_found dpi id s old at i)
+    enter_acted (run_by (Some Call)) (option_map (run_with (Some saved)) (macro_at old.macros id)) new result at
+    (ap (λ (o : Option MacroBody). option_map (run_with (Some saved)) o) (macro_found at i)
     ∙ ap (λ (t : Settings). option_map (run_with (Some t)) (macro_now s)) same) h
 
 -- ---- the end

@@ -51,10 +51,10 @@ rest_next dpi end all place command commands s =
     then_assoc (next_step dpi all place command s) (after_all dpi all (place + 1) commands) (after_end dpi end)
 
 -- no macro runs before the command
-pub begun_alone : (dpi : Dpi) (all : List Said) (place : ℕ) (command : Said) (s : Situation) (running : List Running) → running ≡ []
+pub begun_alone : (dpi : Dpi) (all : List Said) (place : ℕ) (command : Said) (s : Situation) {running : List Running} → running ≡ []
     → begun_among dpi all place command running s ≡ next_step dpi all place command s
-begun_alone dpi all place command s running e =
-    ap (λ (rs : List Running). begun_among dpi all place command rs s) e ∙ then_done (next_step dpi all place command s)
+begun_alone dpi all place command s e =
+    ap (λ (rs : List Running). begun_among dpi all place command rs s) e ∙ then_done
 
 -- ---- how far the performing has come
 
@@ -67,21 +67,21 @@ pub record IsReached {S : Type 0} (takes : S → Page → S → Type 0) (dpi : D
   pub same : rest situation ≡ whole
 
 -- a performance that has ended in a refusal
-then_refused : (why : Option Refusal) (reason : Refusal) (s : Situation) (f : Situation → Performance) → why ≡ Some reason
+then_refused : {why : Option Refusal} {reason : Refusal} {s : Situation} (f : Situation → Performance) → why ≡ Some reason
     → unless why s f ≡ record { situation = s; refusal = Some reason }
-then_refused why reason s f e = ap (λ (o : Option Refusal). unless o s f) e
+then_refused {s} f e = ap (λ (o : Option Refusal). unless o s f) e
 
 -- it stopped on the way
 stopped_on : {S : Type 0} (takes : S → Page → S → Type 0) (dpi : Dpi) (all : List Said) (whole first : Performance)
     (f : Situation → Performance) (s : Situation) (last : Interpreter) (old now then : S) (fault : JobFault)
     → Hands takes dpi s.pages old now → then_on first f ≡ whole → Grows f → GoesOn takes dpi all first s (Err fault) last now then
     → HandsOver takes dpi whole (Err fault) old then
-stopped_on {S} takes dpi all whole first f s last old now then (Refused why) h e g on =
+stopped_on takes dpi all whole first f s last old now then (Refused why) h e g on =
     let is : whole ≡ record { situation = first.situation; refusal = Some why } =
-    sym e ∙ then_refused first.refusal why first.situation f on.0 in
+    sym e ∙ then_refused f on.0 in
     subst (λ (p : Performance). HandsOver takes dpi p (Err (Refused why)) old then) (sym is)
     (refl, hands_further takes dpi s first.situation old now then h on.1)
-stopped_on {S} takes dpi all whole first f s last old now then Memory h e g on =
+stopped_on takes dpi all whole first f s last old now then Memory h e g on =
     let o = then_grows first first.situation f (stays_there first.situation) g in
     subst (λ (p : Performance). HandsOver takes dpi p (Err Memory) old then) e (
       s.pages ++ on.0,
@@ -99,12 +99,12 @@ pub command_stopped : {S : Type 0} (takes : S → Page → S → Type 0) (dpi : 
     → (r : IsReached takes dpi whole (rest_of_job dpi end all place (command ∷ commands)) first old now)
     → GoesOn takes dpi all (begun_among dpi all place command first.running.items r.situation) r.situation (Err fault) last now then
     → HandsOver takes dpi whole (Err fault) old then
-command_stopped {S} takes dpi end all whole place command commands first last old now then fault r on =
+command_stopped takes dpi end all whole place command commands first last old now then fault r on =
     let s = r.situation in
     stopped_on takes dpi all whole (next_step dpi all place command s) (rest_of_job dpi end all (place + 1) commands) s last old now then
     fault r.handed (sym (rest_next dpi end all place command commands s) ∙ r.same) (rest_grows dpi end all (place + 1) commands)
     (goes_to takes dpi all (begun_among dpi all place command first.running.items s) (next_step dpi all place command s) s (Err fault) last
-    now then (begun_alone dpi all place command s first.running.items r.idle) on)
+    now then (begun_alone dpi all place command s r.idle) on)
 
 -- what a command has led to, whose macros are still to be performed
 pub record HasBegun {S : Type 0} (takes : S → Page → S → Type 0) (dpi : Dpi) (end : ℕ) (all : List Said) (whole : Performance) (place : ℕ)
@@ -119,13 +119,13 @@ pub has_begun : {S : Type 0} (takes : S → Page → S → Type 0) (dpi : Dpi) (
     → (r : IsReached takes dpi whole (rest_of_job dpi end all place (command ∷ commands)) first old now)
     → GoesOn takes dpi all (begun_among dpi all place command first.running.items r.situation) r.situation (Ok tt) middle now then
     → HasBegun takes dpi end all whole place command commands middle old now then
-has_begun {S} takes dpi end all whole place command commands first middle old now then r on = record {
+has_begun takes dpi end all whole place command commands first middle old now then r on = record {
   from = r.situation;
   handed = r.handed;
   same = r.same;
   on = goes_to takes dpi all (begun_among dpi all place command first.running.items r.situation)
       (next_step dpi all place command r.situation) r.situation (Ok tt) middle now then
-      (begun_alone dpi all place command r.situation first.running.items r.idle) on;
+      (begun_alone dpi all place command r.situation r.idle) on;
 }
 
 -- its macros, performed from there
@@ -136,7 +136,7 @@ macros_on : {S : Type 0} (takes : S → Page → S → Type 0) (dpi : Dpi) (end 
     → ((s : Situation) → IsAt dpi s middle
     → GoesOn takes dpi all (resumed macro_limit dpi all middle.running.items s) s result last then later)
     → GoesOn takes dpi all (next_step dpi all place command b.from) b.from result last now later
-macros_on {S} takes dpi end all whole place command commands middle last old now then later result b f =
+macros_on takes dpi end all whole place command commands middle last old now then later result b f =
     let g = b.on in
     goes_from takes dpi all (next_step dpi all place command b.from) b.from g.0 result last now then later g.2
     (goes_to takes dpi all (resumed macro_limit dpi all middle.running.items g.0) (next_step dpi all place command b.from) g.0 result last
@@ -148,7 +148,7 @@ pub macros_stopped : {S : Type 0} (takes : S → Page → S → Type 0) (dpi : D
     → ((s : Situation) → IsAt dpi s middle
     → GoesOn takes dpi all (resumed macro_limit dpi all middle.running.items s) s (Err fault) last then later)
     → HandsOver takes dpi whole (Err fault) old later
-macros_stopped {S} takes dpi end all whole place command commands middle last old now then later fault b f =
+macros_stopped takes dpi end all whole place command commands middle last old now then later fault b f =
     stopped_on takes dpi all whole (next_step dpi all place command b.from) (rest_of_job dpi end all (place + 1) commands) b.from last old
     now later fault b.handed (sym (rest_next dpi end all place command commands b.from) ∙ b.same)
     (rest_grows dpi end all (place + 1) commands)
@@ -161,7 +161,7 @@ pub macros_reached : {S : Type 0} (takes : S → Page → S → Type 0) (dpi : D
     → GoesOn takes dpi all (resumed macro_limit dpi all middle.running.items s) s (Ok tt) last then later)
     → last.running.items ≡ []
     → IsReached takes dpi whole (rest_of_job dpi end all (place + 1) commands) last old later
-macros_reached {S} takes dpi end all whole place command commands middle last old now then later b f idle =
+macros_reached takes dpi end all whole place command commands middle last old now then later b f idle =
     let g = macros_on takes dpi end all whole place command commands middle last old now then later (Ok tt) b f in
     let all_done : done g.0 ≡ next_step dpi all place command b.from =
     ap (λ (rs : List Running). resumed macro_limit dpi all rs g.0) (sym idle) ∙ g.3 in
@@ -180,7 +180,7 @@ pub end_reached : {S : Type 0} (takes : S → Page → S → Type 0) (dpi : Dpi)
     → IsReached takes dpi whole (rest_of_job dpi end all place []) interpreter old now
     → ((dpi : Dpi) (s : Situation) → IsAt dpi s interpreter → InterpreterEnds takes dpi end s result now then)
     → HandsOver takes dpi whole result old then
-end_reached {S} takes dpi end all whole place interpreter old now then (Ok unit) r step =
+end_reached takes dpi end all whole place interpreter old now then (Ok unit) r step =
     let s = r.situation in
     let d = step dpi s r.is_at in
     let ends : whole ≡ done (at_end dpi s) = sym r.same ∙ ap (λ (why : Option Kind). ended dpi end why s) d.0 in
@@ -203,11 +203,11 @@ end_reached {S} takes dpi end all whole place interpreter old now then (Err Memo
 pub delivered : {S : Type 0} (takes : S → Page → S → Type 0) (dpi : Dpi) (job : List ℕ) (commands : List Said)
     (result : Result (Unit {0}) JobFault) (old new : S) → IsReading job commands
     → HandsOver takes dpi (performance_of dpi job commands) result old new → Delivers takes dpi job result old new
-delivered {S} takes dpi job commands (Ok unit) old new reading handed =
+delivered takes dpi job commands (Ok unit) old new reading handed =
     record { commands = commands; reading = reading; handed = handed }
-delivered {S} takes dpi job commands (Err (Refused why)) old new reading handed =
+delivered takes dpi job commands (Err (Refused why)) old new reading handed =
     inr (record { commands = commands; reading = reading; handed = handed })
-delivered {S} takes dpi job commands (Err Memory) old new reading handed =
+delivered takes dpi job commands (Err Memory) old new reading handed =
     inr (record { commands = commands; reading = reading; handed = handed })
 
 -- ---- pages that were kept
@@ -219,20 +219,20 @@ accepted_pages {S} {takes} {dpi} {job} {done} {old} {new} p = pages_of (performa
 
 pub has_pages : {S : Type 0} {takes : S → Page → S → Type 0} {dpi : Dpi} {job : List ℕ} {done : Unit {0}} {old new : S}
     → (p : IsPerformed takes dpi job (Ok done) old new) → HasPages dpi job (accepted_pages p)
-has_pages {S} {takes} {dpi} {job} {done} {old} {new} p =
+has_pages p =
     record { commands = p.commands; reading = p.reading; accepted = p.handed.0; ejected = refl }
 
-show_more : (dpi : Dpi) (pages : List Page) (page : Page) (sheets : List Sheet) (sheet : Sheet) → AllShow dpi pages sheets
+show_more : {dpi : Dpi} (pages : List Page) {page : Page} (sheets : List Sheet) {sheet : Sheet} → AllShow dpi pages sheets
     → Shows dpi page sheet
     → AllShow dpi (pages ++ page ∷ []) (sheets ++ sheet ∷ [])
-show_more dpi [] page [] sheet a s = (s, tt)
-show_more dpi [] page (one ∷ sheets) sheet a s = absurd a
-show_more dpi (first ∷ pages) page [] sheet a s = absurd a
-show_more dpi (first ∷ pages) page (one ∷ sheets) sheet a s = (a.0, show_more dpi pages page sheets sheet a.1 s)
+show_more [] [] a s = (s, tt)
+show_more [] (one ∷ sheets) a s = absurd a
+show_more (first ∷ pages) [] a s = absurd a
+show_more (first ∷ pages) (one ∷ sheets) a s = (a.0, show_more pages sheets a.1 s)
 
 -- a copy shows what the page shows
-copy_shows : (dpi : Dpi) (page copy : Page) (sheet : Sheet) → Shows dpi page sheet → IsSamePage page copy → Shows dpi copy sheet
-copy_shows dpi page copy sheet s c = record {
+copy_shows : {dpi : Dpi} {page copy : Page} {sheet : Sheet} → Shows dpi page sheet → IsSamePage page copy → Shows dpi copy sheet
+copy_shows s c = record {
   size = c.size ∙ s.size;
   resolution = c.resolution ∙ s.resolution;
   copies = c.copies ∙ s.copies;
@@ -243,12 +243,12 @@ copy_shows dpi page copy sheet s c = record {
 abbrev pub KeepsCopy : List Page → Page → List Page → Type 0
 KeepsCopy old page new = (copy : Page) × (new ≡ old ++ copy ∷ []) × IsSamePage page copy
 
-pub all_shown : (dpi : Dpi) (front old new : List Page) (before sheets : List Sheet) → old ≡ front → AllShow dpi front before
+pub all_shown : (dpi : Dpi) {front old : List Page} (new : List Page) (before sheets : List Sheet) → old ≡ front → AllShow dpi front before
     → Hands KeepsCopy dpi sheets old new → AllShow dpi new (before ++ sheets)
-all_shown dpi front old new before [] e s h = rw append-nil (subst (λ (pages : List Page). AllShow dpi pages before) (sym (h ∙ e)) s)
-all_shown dpi front old new before (sheet ∷ sheets) e s h =
+all_shown dpi new before [] e s h = rw append-nil (subst (λ (pages : List Page). AllShow dpi pages before) (sym (h ∙ e)) s)
+all_shown dpi {front} new before (sheet ∷ sheets) e s h =
     let copy = h.3.0 in
     let shown =
-    all_shown dpi (front ++ copy ∷ []) h.1 new (before ++ sheet ∷ []) sheets (h.3.1 ∙ ap (λ (pages : List Page). pages ++ copy ∷ []) e)
-    (show_more dpi front copy before sheet s (copy_shows dpi h.0 copy sheet h.2 h.3.2)) h.4 in
+    all_shown dpi new (before ++ sheet ∷ []) sheets (h.3.1 ∙ ap (λ (pages : List Page). pages ++ copy ∷ []) e)
+    (show_more front before s (copy_shows h.2 h.3.2)) h.4 in
     subst (λ (all : List Sheet). AllShow dpi new all) (append_assoc before (sheet ∷ []) sheets) shown

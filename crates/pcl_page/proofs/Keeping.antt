@@ -43,25 +43,25 @@ pub record KeepsCounts (s other : Situation) : Type 0 where
   pub macros : other.macros ≡ s.macros
   pub begun : other.begun ≡ s.begun
 
-font_keeps : (bytes : List ℕ) (s : Situation) → KeepsCounts s (with_font bytes s)
-font_keeps [] s = record { pages = refl; performed = refl; macros = refl; begun = refl }
-font_keeps (byte ∷ bytes) s = record { pages = refl; performed = refl; macros = refl; begun = refl }
+font_keeps : (bytes : List ℕ) {s : Situation} → KeepsCounts s (with_font bytes s)
+font_keeps [] = record { pages = refl; performed = refl; macros = refl; begun = refl }
+font_keeps (byte ∷ bytes) = record { pages = refl; performed = refl; macros = refl; begun = refl }
 
-character_keeps : (bytes : List ℕ) (s : Situation) → KeepsCounts s (with_character bytes s)
-character_keeps [] s = record { pages = refl; performed = refl; macros = refl; begun = refl }
-character_keeps (byte ∷ bytes) s = record { pages = refl; performed = refl; macros = refl; begun = refl }
+character_keeps : (bytes : List ℕ) {s : Situation} → KeepsCounts s (with_character bytes s)
+character_keeps [] = record { pages = refl; performed = refl; macros = refl; begun = refl }
+character_keeps (byte ∷ bytes) = record { pages = refl; performed = refl; macros = refl; begun = refl }
 
-code_keeps : (dpi : Dpi) (proportional : Bool) (c : Option Character) (code : ℕ) (s : Situation)
+code_keeps : (dpi : Dpi) (proportional : Bool) (c : Option Character) (code : ℕ) {s : Situation}
     → KeepsCounts s (code_printed dpi proportional c code s)
-code_keeps dpi proportional None code s = record { pages = refl; performed = refl; macros = refl; begun = refl }
-code_keeps dpi proportional (Some c) code s = record { pages = refl; performed = refl; macros = refl; begun = refl }
+code_keeps dpi proportional None code = record { pages = refl; performed = refl; macros = refl; begun = refl }
+code_keeps dpi proportional (Some c) code = record { pages = refl; performed = refl; macros = refl; begun = refl }
 
-codes_keep : (dpi : Dpi) (proportional : Bool) (characters : ℕ → Option Character) (codes : List ℕ) (s : Situation)
+codes_keep : (dpi : Dpi) (proportional : Bool) (characters : ℕ → Option Character) (codes : List ℕ) {s : Situation}
     → KeepsCounts s (codes_printed dpi proportional characters codes s)
-codes_keep dpi proportional characters [] s = record { pages = refl; performed = refl; macros = refl; begun = refl }
-codes_keep dpi proportional characters (code ∷ codes) s =
-    let one = code_keeps dpi proportional (characters code) code s in
-    let more = codes_keep dpi proportional characters codes (code_printed dpi proportional (characters code) code s) in
+codes_keep dpi proportional characters [] = record { pages = refl; performed = refl; macros = refl; begun = refl }
+codes_keep dpi proportional characters (code ∷ codes) =
+    let one = code_keeps dpi proportional (characters code) code in
+    let more = codes_keep dpi proportional characters codes in
     record {
       pages = more.pages ∙ one.pages;
       performed = more.performed ∙ one.performed;
@@ -69,20 +69,20 @@ codes_keep dpi proportional characters (code ∷ codes) s =
       begun = more.begun ∙ one.begun;
     }
 
-pub drawn_keeps : (dpi : Dpi) (operation : Operation) (command : Said) (s : Situation) → KeepsCounts s (drawn dpi operation command s)
-drawn_keeps dpi Reset command s = record { pages = refl; performed = refl; macros = refl; begun = refl }
-drawn_keeps dpi UniversalExit command s = record { pages = refl; performed = refl; macros = refl; begun = refl }
-drawn_keeps dpi ControlFonts command s = record { pages = refl; performed = refl; macros = refl; begun = refl }
-drawn_keeps dpi DownloadFont command s = font_keeps command.bytes s
-drawn_keeps dpi DownloadCharacter command s = character_keeps command.bytes s
-drawn_keeps dpi (SelectFont side) command s = record { pages = refl; performed = refl; macros = refl; begun = refl }
-drawn_keeps dpi PrintText command s =
-    codes_keep dpi (is_proportional (font_now s)) (prints s.fonts (font_in_use s.settings)) command.bytes s
-drawn_keeps dpi FillRectangle command s = record { pages = refl; performed = refl; macros = refl; begun = refl }
-drawn_keeps dpi StartRaster command s = record { pages = refl; performed = refl; macros = refl; begun = refl }
-drawn_keeps dpi RasterOffset command s = record { pages = refl; performed = refl; macros = refl; begun = refl }
-drawn_keeps dpi RasterRow command s = record { pages = refl; performed = refl; macros = refl; begun = refl }
-drawn_keeps dpi other command s = record { pages = refl; performed = refl; macros = refl; begun = refl }
+pub drawn_keeps : (dpi : Dpi) (operation : Operation) (command : Said) {s : Situation} → KeepsCounts s (drawn dpi operation command s)
+drawn_keeps dpi Reset command = record { pages = refl; performed = refl; macros = refl; begun = refl }
+drawn_keeps dpi UniversalExit command = record { pages = refl; performed = refl; macros = refl; begun = refl }
+drawn_keeps dpi ControlFonts command = record { pages = refl; performed = refl; macros = refl; begun = refl }
+drawn_keeps dpi DownloadFont command = font_keeps command.bytes
+drawn_keeps dpi DownloadCharacter command = character_keeps command.bytes
+drawn_keeps dpi (SelectFont side) command = record { pages = refl; performed = refl; macros = refl; begun = refl }
+drawn_keeps dpi PrintText command {s} =
+    codes_keep dpi (is_proportional (font_now s)) (prints s.fonts (font_in_use s.settings)) command.bytes
+drawn_keeps dpi FillRectangle command = record { pages = refl; performed = refl; macros = refl; begun = refl }
+drawn_keeps dpi StartRaster command = record { pages = refl; performed = refl; macros = refl; begun = refl }
+drawn_keeps dpi RasterOffset command = record { pages = refl; performed = refl; macros = refl; begun = refl }
+drawn_keeps dpi RasterRow command = record { pages = refl; performed = refl; macros = refl; begun = refl }
+drawn_keeps dpi other command = record { pages = refl; performed = refl; macros = refl; begun = refl }
 
 -- ---- a command
 
@@ -95,7 +95,7 @@ pub record Adds (s later : Situation) : Type 0 where
   pub begun : later.begun ≡ s.begun
 
 adds_none : {s later : Situation} → later ≡ s → Adds s later
-adds_none {s} {later} e = record {
+adds_none {s} e = record {
   more = [];
   pages = ap (λ (z : Situation). z.pages) e ∙ sym (append-nil s.pages);
   performed = ap (λ (z : Situation). z.performed) e;
@@ -110,11 +110,11 @@ adds_turned settings effect s true e =
 adds_turned settings effect s false e =
     record { more = []; pages = rw e (sym (append-nil s.pages)); performed = rw e refl; macros = rw e refl; begun = rw e refl }
 
-adds_on : (dpi : Dpi) (operation : Operation) (command : Said) (s now later : Situation) (why : Option Kind) → Adds s now
+adds_on : (dpi : Dpi) (operation : Operation) (command : Said) {s now later : Situation} (why : Option Kind) → Adds s now
     → unless_refused why (drawn dpi operation command now) ≡ Ok later → Adds s later
-adds_on dpi operation command s now later None t e =
+adds_on dpi operation command {s} {now} {later} None t e =
     let same : drawn dpi operation command now ≡ later = cc in
-    let k = drawn_keeps dpi operation command now in
+    let k = drawn_keeps dpi operation command in
     subst (λ (z : Situation). Adds s z) same
     (record {
       more = t.more;
@@ -123,14 +123,14 @@ adds_on dpi operation command s now later None t e =
       macros = k.macros ∙ t.macros;
       begun = k.begun ∙ t.begun;
     })
-adds_on dpi operation command s now later (Some kind) t e = absurd cc
+adds_on dpi operation command (Some kind) t e = absurd cc
 
-adds_drawn : (dpi : Dpi) (operation : Operation) (command : Said) (o : Outcome) (s later : Situation)
+adds_drawn : (dpi : Dpi) (operation : Operation) (command : Said) (o : Outcome) {s later : Situation}
     → done_with dpi operation command o s ≡ Ok later → Adds s later
-adds_drawn dpi operation command None s later e = absurd cc
-adds_drawn dpi operation command (Some done) s later e =
+adds_drawn dpi operation command None e = absurd cc
+adds_drawn dpi operation command (Some done) {s} e =
     let now = turned done.0 done.1 s in
-    adds_on dpi operation command s now later (draw_refusal operation command now)
+    adds_on dpi operation command (draw_refusal operation command now)
     (adds_turned done.0 done.1 s (ejects done.1 (is_marked s)) refl) e
 
 adds_prepared : (dpi : Dpi) (ends : Bool) (s later : Situation) → Adds (cond ends (end_raster dpi s) s) later → Adds s later
@@ -144,19 +144,19 @@ adds_prepared dpi ends s later a =
       begun = a.begun ∙ k.begun;
     }
 
-adds_by : (dpi : Dpi) (operation : Operation) (command : Said) (s later : Situation) (ignored : Bool)
+adds_by : (dpi : Dpi) (operation : Operation) (command : Said) (s : Situation) {later : Situation} (ignored : Bool)
     → cond ignored (Ok (counted s)) (taken dpi operation command (prepared dpi operation (counted s))) ≡ Ok later → Adds (counted s) later
-adds_by dpi operation command s later true e = let same : later ≡ counted s = cc in adds_none same
-adds_by dpi operation command s later false e =
+adds_by dpi operation command s {later} true e = let same : later ≡ counted s = cc in adds_none same
+adds_by dpi operation command s {later} false e =
     let before = prepared dpi operation (counted s) in
     adds_prepared dpi (ends_raster operation) (counted s) later
-    (adds_drawn dpi operation command (outcome dpi operation command.value (is_marked before) before.settings) before later e)
+    (adds_drawn dpi operation command (outcome dpi operation command.value (is_marked before) before.settings) e)
 
 -- a command that isn't refused counts one, adds pages, and does nothing to macros
 pub after_adds : (dpi : Dpi) (operation : Operation) (command : Said) (s later : Situation) → after dpi operation command s ≡ Ok later
     → Adds (counted s) later
 unfolding after
-after_adds dpi operation command s later e = adds_by dpi operation command s later (is_ignored operation s) e
+after_adds dpi operation command s later e = adds_by dpi operation command s (is_ignored operation s) e
 
 -- the end of the input
 pub end_adds : (dpi : Dpi) (s : Situation) → (more : List Sheet) × ((at_end dpi s).pages ≡ s.pages ++ more)

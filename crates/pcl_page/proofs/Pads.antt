@@ -12,26 +12,26 @@ whole_byte width byte le =
     ap (λ (n : ℕ). byte / 2 ^ n * 2 ^ n) none ∙ (let one : byte / 1 * 1 ≡ byte = omega arith in one)
 
 -- a row that is as wide as its bytes
-pub cleared_whole : (row : List ℕ) (width : ℕ) → width ≡ 8 * length row → row ≡ cleared_past width row
-cleared_whole [] width e = refl
-cleared_whole (byte ∷ row) width e =
-    ap (λ (bs : List ℕ). byte ∷ bs) (cleared_whole row (width - 8) (omega arith))
+pub cleared_whole : (row : List ℕ) {width : ℕ} → width ≡ 8 * length row → row ≡ cleared_past width row
+cleared_whole [] e = refl
+cleared_whole (byte ∷ row) {width} e =
+    ap (λ (bs : List ℕ). byte ∷ bs) (cleared_whole row (omega arith))
     ∙ ap (λ (b : ℕ). b ∷ cleared_past (width - 8) row) (sym (whole_byte width byte (omega arith)))
 
 -- what is cut off a byte is its remainder
-bits_less : (step byte : ℕ) → 0 < step → byte - byte % step ≡ byte / step * step
-bits_less step byte some = omega arith
+bits_less : {step : ℕ} (byte : ℕ) → 0 < step → byte - byte % step ≡ byte / step * step
+bits_less byte some = omega arith
 
 -- in the last byte of a row some bits are kept
-cleared_at : (row : List ℕ) (width last rest : ℕ) → length row ≡ last + 1 → width ≡ 8 * last + rest → 0 < rest → rest < 8
+cleared_at : (row : List ℕ) {width : ℕ} (last : ℕ) {rest : ℕ} → length row ≡ last + 1 → width ≡ 8 * last + rest → 0 < rest → rest < 8
     → set row last (get_or row last 0 - get_or row last 0 % 2 ^ (8 - rest)) ≡ cleared_past width row
-cleared_at [] width last rest long e some few = absurd (omega arith)
-cleared_at (byte ∷ next ∷ row) width zero rest long e some few = absurd (omega arith)
-cleared_at (byte ∷ []) width zero rest long e some few =
+cleared_at [] last long e some few = absurd (omega arith)
+cleared_at (byte ∷ next ∷ row) zero long e some few = absurd (omega arith)
+cleared_at (byte ∷ []) {width} zero {rest} long e some few =
     let same : rest ≡ width = omega arith in
-    ap (λ (b : ℕ). b ∷ []) (bits_less (2 ^ (8 - rest)) byte (pow_pos (8 - rest)) ∙ ap (λ (n : ℕ). first_bits n byte) same)
-cleared_at (byte ∷ row) width (suc last) rest long e some few =
-    ap (λ (bs : List ℕ). byte ∷ bs) (cleared_at row (width - 8) last rest (omega arith) (omega arith) some few)
+    ap (λ (b : ℕ). b ∷ []) (bits_less byte (pow_pos (8 - rest)) ∙ ap (λ (n : ℕ). first_bits n byte) same)
+cleared_at (byte ∷ row) {width} (suc last) long e some few =
+    ap (λ (bs : List ℕ). byte ∷ bs) (cleared_at row last (omega arith) (omega arith) some few)
     ∙ ap (λ (b : ℕ). b ∷ cleared_past (width - 8) row) (sym (whole_byte width byte (omega arith)))
 
 -- the same with the numbers of the code
@@ -42,4 +42,4 @@ cleared_last row width long some =
     let small : 2 ^ (8 - width % 8) ≤ 2 ^ 7 = pow_mono {i = 8 - width % 8} {j = 7} (omega arith) in
     let step : 1 * 2 ^ (8 - width % 8) % 256 ≡ 2 ^ (8 - width % 8) = omega (arith, small) in
     ap (λ (n : ℕ). set row (length row - 1) (get_or row (length row - 1) 0 - get_or row (length row - 1) 0 % n)) step
-    ∙ cleared_at row width (length row - 1) (width % 8) (omega arith) (omega arith) some (omega arith)
+    ∙ cleared_at row (length row - 1) (omega arith) (omega arith) some (omega arith)

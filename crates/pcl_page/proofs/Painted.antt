@@ -10,21 +10,21 @@ or_is true before = refl
 or_is false before = refl
 
 -- bytes that were written over a whole buffer
-pub written : (new items : List ℕ) (len : ℕ) → length new ≡ len → take len (new ++ drop (length new) items) ≡ new
-written new items len e = take_at new (drop (length new) items) len e
+pub written : {new : List ℕ} (items : List ℕ) {len : ℕ} → length new ≡ len → take len (new ++ drop (length new) items) ≡ new
+written {new} items {len} e = take_at new (drop (length new) items) len e
 
 -- a row below the height
-pub painted_dot : (r : Raster) (row sent : List ℕ) (place x y : ℕ) (before after : Bool)
+pub painted_dot : (r : Raster) {row sent : List ℕ} {place : ℕ} (x y : ℕ) (before : Bool) {after : Bool}
     → after ≡ (raster_dot r.left place r.scale r.width sent x y || before)
     → is_below_height r.height r.rows ≡ true → place ≡ r.top + r.rows * r.scale → sent ≡ row
     → after ≡ ((row_mark row r).covers x y || before)
-painted_dot r row sent place x y before after e below p s =
+painted_dot r {row} {sent} x y before e below p s =
     e ∙ ap (λ (n : ℕ). raster_dot r.left n r.scale r.width sent x y || before) p
     ∙ ap (λ (bs : List ℕ). raster_dot r.left (r.top + r.rows * r.scale) r.scale r.width bs x y || before) s
     ∙ ap (λ (b : Bool). (b && raster_dot r.left (r.top + r.rows * r.scale) r.scale r.width row x y) || before) (sym below)
 
 -- a row past the height
-pub unpainted_dot : (r : Raster) (row : List ℕ) (x y : ℕ) (before : Bool) → is_below_height r.height r.rows ≡ false
+pub unpainted_dot : (r : Raster) (row : List ℕ) (x y : ℕ) {before : Bool} → is_below_height r.height r.rows ≡ false
     → before ≡ ((row_mark row r).covers x y || before)
-unpainted_dot r row x y before below =
+unpainted_dot r row x y {before} below =
     ap (λ (b : Bool). (b && raster_dot r.left (r.top + r.rows * r.scale) r.scale r.width row x y) || before) (sym below)

@@ -21,7 +21,7 @@ use Rattle.pcl_page.proofs.Turns.{painted_same, holds_same, drawn_in}
 
 pub event_in : {dpi : Dpi} {event : FontEvent} {s : Situation} {old new : Performer} → IsIn dpi s old → HasEvent event old new
     → IsIn dpi (with_event event s) new
-event_in {dpi} {event} {s} {old} {new} i h = record {
+event_in {s} i h = record {
   settings = h.settings ∙ i.settings;
   raster = h.raster ∙ i.raster;
   marked = h.marked ∙ i.marked;
@@ -33,7 +33,7 @@ event_in {dpi} {event} {s} {old} {new} i h = record {
 
 pub settings_in : {dpi : Dpi} {settings : Settings} {s : Situation} {old new : Performer} → IsIn dpi s old → HasSettings settings old new
     → IsIn dpi (record s { settings = settings }) new
-settings_in {dpi} {settings} {s} {old} {new} i h = record {
+settings_in {settings} i h = record {
   settings = h.settings_are;
   raster = h.raster ∙ i.raster;
   marked = h.marked ∙ i.marked;
@@ -48,9 +48,9 @@ settings_in {dpi} {settings} {s} {old} {new} i h = record {
 pub rectangle_in : {dpi : Dpi} {s : Situation} {old new : Performer} (value : Value) → IsIn dpi s old
     → IsDrawn (rectangle_mark dpi value old.environment) old new → new.raster ≡ old.raster
     → IsIn dpi (record s { marks = rectangle_mark dpi value s.settings ∷ s.marks }) new
-rectangle_in {dpi} {s} {old} {new} value i d r =
+rectangle_in {dpi} {s} {new} value i d r =
     subst (λ (t : Settings). IsIn dpi (record s { marks = rectangle_mark dpi value t ∷ s.marks }) new) i.settings
-    (drawn_in dpi (rectangle_mark dpi value old.environment) s.raster s old new i d (r ∙ i.raster))
+    (drawn_in i d (r ∙ i.raster))
 
 -- the row that goes to a raster, by what is set and the raster
 abbrev row_drawn : List ℕ → Situation → Settings → Raster → Situation
@@ -66,8 +66,7 @@ row_in {dpi} {s} {old} {new} command i m =
     ∙ ap (λ (t : Settings). raster_for_row dpi s.raster t) i.settings in
     subst (λ (r : Raster). IsIn dpi (row_drawn bytes s s.settings r) new) raster
     (subst (λ (t : Settings). IsIn dpi (row_drawn bytes s t m.raster) new) i.settings
-    (drawn_in dpi (row_mark (row_sent old.environment.method bytes m.raster) m.raster)
-    (Some (with_row (row_sent old.environment.method bytes m.raster) m.raster)) s old new i m.drawn m.sent))
+    (drawn_in i m.drawn m.sent))
 
 -- ---- one code
 
@@ -75,16 +74,16 @@ pub character_printed : {dpi : Dpi} {s : Situation} {old middle new : Performer}
     → IsIn dpi s old → IsDrawn (character_mark dpi c old.environment) old middle → middle.raster ≡ old.raster
     → HasSettings (behind_character proportional c middle.environment) middle new
     → IsIn dpi (code_printed dpi proportional (Some c) code s) new
-character_printed {dpi} {s} {old} {middle} {new} proportional c code i d r h =
+character_printed {dpi} {s} {middle} {new} proportional c code i d r h =
     let inked : IsIn dpi (record s { marks = character_mark dpi c s.settings ∷ s.marks }) middle =
     subst (λ (t : Settings). IsIn dpi (record s { marks = character_mark dpi c t ∷ s.marks }) middle) i.settings
-    (drawn_in dpi (character_mark dpi c old.environment) s.raster s old middle i d (r ∙ i.raster)) in
+    (drawn_in i d (r ∙ i.raster)) in
     settings_in inked
     (subst (λ (t : Settings). HasSettings (behind_character proportional c t) middle new) inked.settings h)
 
 pub blank_printed : {dpi : Dpi} {s : Situation} {old new : Performer} (proportional : Bool) (code : ℕ) → IsIn dpi s old
     → HasSettings (behind_blank code old.environment) old new → IsIn dpi (code_printed dpi proportional None code s) new
-blank_printed {dpi} {s} {old} {new} proportional code i h =
+blank_printed {old} {new} proportional code i h =
     settings_in i (subst (λ (t : Settings). HasSettings (behind_blank code t) old new) i.settings h)
 
 -- ---- all codes
@@ -125,7 +124,7 @@ pub record IsPrintedTo (dpi : Dpi) (proportional : Bool) (s : Situation) (codes 
 pub same_character : {dpi : Dpi} {proportional : Bool} {s : Situation} {codes rest : List ℕ} {performer : Performer}
     (p : IsPrintedTo dpi proportional s codes rest performer) (code : ℕ) (c : Option Character)
     → c ≡ prints p.now.fonts (font_in_use p.now.settings) code → c ≡ prints s.fonts (font_in_use s.settings) code
-same_character {dpi} {proportional} {s} {codes} {rest} {performer} p code c e =
+same_character {s} p code c e =
     e ∙ ap (λ (es : List FontEvent). prints es (font_in_use p.now.settings) code) p.fonts
     ∙ ap (λ (id : Option ℕ). prints s.fonts id code) p.in_use
 
@@ -133,7 +132,7 @@ pub code_done : {dpi : Dpi} {proportional : Bool} {s : Situation} {codes rest : 
     (c : Option Character) (p : IsPrintedTo dpi proportional s codes (code ∷ rest) performer)
     → c ≡ prints p.now.fonts (font_in_use p.now.settings) code → IsIn dpi (code_printed dpi proportional c code p.now) later
     → IsPrintedTo dpi proportional s codes rest later
-code_done {dpi} {proportional} {s} {codes} {rest} {performer} {later} code c p e i =
+code_done {dpi} {proportional} {s} {rest} code c p e i =
     let characters = prints s.fonts (font_in_use s.settings) in
     record {
       now = code_printed dpi proportional c code p.now;
@@ -147,14 +146,14 @@ code_done {dpi} {proportional} {s} {codes} {rest} {performer} {later} code c p e
 pub all_done : {dpi : Dpi} {proportional : Bool} {s : Situation} {codes rest : List ℕ} {performer : Performer}
     → IsPrintedTo dpi proportional s codes rest performer → rest ≡ []
     → IsIn dpi (codes_printed dpi proportional (prints s.fonts (font_in_use s.settings)) codes s) performer
-all_done {dpi} {proportional} {s} {codes} {rest} {performer} p e =
+all_done {dpi} {proportional} {s} {performer} p e =
     let characters = prints s.fonts (font_in_use s.settings) in
     subst (λ (z : Situation). IsIn dpi z performer)
     (sym (ap (λ (cs : List ℕ). codes_printed dpi proportional characters cs p.now) e) ∙ p.left) p.is_in
 
 pub none_done : {dpi : Dpi} {proportional : Bool} {s : Situation} {codes : List ℕ} {performer : Performer} → IsIn dpi s performer
     → IsPrintedTo dpi proportional s codes codes performer
-none_done {dpi} {proportional} {s} {codes} {performer} i = record { now = s; is_in = i; fonts = refl; in_use = refl; left = refl }
+none_done {s} i = record { now = s; is_in = i; fonts = refl; in_use = refl; left = refl }
 
 -- ---- with a font and without
 
@@ -174,17 +173,17 @@ text_blank codes font e blank =
 pub blank_advance : (font : Option Font) → None ≡ info_of font → is_proportional font ≡ false
 blank_advance font e = ap is_proportional (no_font font e)
 
-pub text_taken : (codes : List ℕ) (font : Option Font) (info : FontInfo) → Some info ≡ info_of font → text_refusal codes font ≡ None
-text_taken codes None info e = absurd cc
-text_taken codes (Some font) info e = refl
+pub text_taken : (codes : List ℕ) (font : Option Font) {info : FontInfo} → Some info ≡ info_of font → text_refusal codes font ≡ None
+text_taken codes None e = absurd cc
+text_taken codes (Some font) e = refl
 
-pub text_advance : (font : Option Font) (info : FontInfo) → Some info ≡ info_of font → is_proportional font ≡ info.proportional
-text_advance None info e = absurd cc
-text_advance (Some font) info e =
+pub text_advance : (font : Option Font) {info : FontInfo} → Some info ≡ info_of font → is_proportional font ≡ info.proportional
+text_advance None e = absurd cc
+text_advance (Some font) {info} e =
     let same : info ≡ record { proportional = font.proportional; pitch = font.pitch } = cc in
     ap (λ (i : FontInfo). i.proportional) (sym same)
 
 pub printed_as : {dpi : Dpi} {one other : Bool} {new : Performer} (characters : ℕ → Option Character) (codes : List ℕ) (s : Situation)
     → other ≡ one → IsIn dpi (codes_printed dpi one characters codes s) new → IsIn dpi (codes_printed dpi other characters codes s) new
-printed_as {dpi} {one} {other} {new} characters codes s e i =
+printed_as {dpi} {new} characters codes s e i =
     subst (λ (b : Bool). IsIn dpi (codes_printed dpi b characters codes s) new) (sym e) i

@@ -36,12 +36,12 @@ pub stepped_on : {S : Type 0} (takes : S → Page → S → Type 0) (dpi : Dpi) 
     (old new : Interpreter) (sink later : S)
     → IsStepped takes dpi (after_command dpi place command s) (run_of command s) s (Ok tt) old new sink later
     → GoesOn takes dpi all (begun_among dpi all place command old.running.items s) s (Ok tt) new sink later
-stepped_on {S} takes dpi all place command s old new sink later t = (
+stepped_on takes dpi all place command s old new sink later t = (
   t.0,
   t.2,
   t.4,
   ap (λ (rs : List Running). resumed macro_limit dpi all rs t.0) t.3.0
-      ∙ begun_entered dpi all place command old.running.items s t.0 (run_of command s t.0) t.1 refl t.3.1,
+      ∙ begun_entered dpi all place command old.running.items s (run_of command s t.0) t.1 refl t.3.1,
 )
 
 -- it ends with the refusal of the command
@@ -49,7 +49,7 @@ stopped_there : {S : Type 0} (takes : S → Page → S → Type 0) (dpi : Dpi) (
     (kind : Kind) (s now : Situation) (why : Refusal) (new : Interpreter) (sink later : S) → whole ≡ stopped kind command now
     → why ≡ refusal kind command.at command.name → HandsMore takes dpi s now sink later
     → GoesOn takes dpi all whole s (Err (job.Refused why)) new sink later
-stopped_there {S} takes dpi all whole command kind s now why new sink later e w h =
+stopped_there takes dpi all whole command kind s now why new sink later e w h =
     subst (λ (p : Performance). GoesOn takes dpi all p s (Err (job.Refused why)) new sink later) (sym e)
     (ap (λ (r : Refusal). Some r) (sym w), h)
 
@@ -58,12 +58,12 @@ pub stepped_stops : {S : Type 0} (takes : S → Page → S → Type 0) (dpi : Dp
     → IsStepped takes dpi (after_command dpi place command s) (run_of command s) s (Err (call.Refused kind)) old new sink later
     → why ≡ refusal kind command.at command.name
     → GoesOn takes dpi all (begun_among dpi all place command old.running.items s) s (Err (job.Refused why)) new sink later
-stepped_stops {S} takes dpi all place command kind s why old new sink later t w =
+stepped_stops takes dpi all place command kind s why old new sink later t w =
     elim t [
       | inl r ↦ stopped_there takes dpi all (begun_among dpi all place command old.running.items s) command kind s s why new sink later
-          (begun_refused dpi all place command old.running.items s kind r.0) w (no_pages takes dpi s s sink later refl r.1)
+          (begun_refused dpi all place command old.running.items r.0) w (no_pages takes dpi s s sink later refl r.1)
       | inr r ↦ stopped_there takes dpi all (begun_among dpi all place command old.running.items s) command kind s r.0 why new sink later
-          (begun_deep dpi all place command old.running.items s r.0 r.1 r.2 r.3 r.4
+          (begun_deep dpi all place command old.running.items s r.2 r.3 r.4
           ∙ ap (λ (k : Kind). stopped k command r.0) (sym r.5)) w r.6
     ]
 
@@ -71,12 +71,12 @@ pub stepped_short : {S : Type 0} (takes : S → Page → S → Type 0) (dpi : Dp
     (s : Situation) (old new : Interpreter) (sink later : S)
     → IsStepped takes dpi (after_command dpi place command s) (run_of command s) s (Err call.Memory) old new sink later
     → GoesOn takes dpi all (begun_among dpi all place command old.running.items s) s (Err job.Memory) new sink later
-stepped_short {S} takes dpi all place command s old new sink later t =
+stepped_short takes dpi all place command s old new sink later t =
     let whole = (begun_among dpi all place command old.running.items s).situation in
     elim t [
       | inl same ↦ none_of_more takes dpi s whole sink later same (begun_grow dpi all place command old.running.items s)
       | inr d ↦ first_of_more takes dpi s d.0 whole sink later d.2
-          (begun_after dpi all place command old.running.items s d.0 d.1)
+          (begun_after dpi all place command old.running.items s d.1)
     ]
 
 -- ---- the next command of a macro
@@ -86,34 +86,34 @@ drop_views zero commands = refl
 drop_views (suc i) [] = refl
 drop_views (suc i) (first ∷ commands) = drop_views i commands
 
-got_there : (commands : List Command) (i : ℕ) (command : Command) → i < length commands → command ≡ get_or commands i command
+got_there : (commands : List Command) {i : ℕ} {command : Command} → i < length commands → command ≡ get_or commands i command
     → drop i (views commands) ≡ view command ∷ drop (suc i) (views commands)
-got_there commands i command lt same =
+got_there commands {i} {command} lt same =
     drop_views i commands ∙ ap views (drop-cons commands i command lt)
     ∙ ap (λ (c : Command). view c ∷ views (drop (suc i) commands)) (sym same)
     ∙ ap (λ (rest : List Said). view command ∷ rest) (sym (drop_views (suc i) commands))
 
-past_end : (commands : List Command) (i : ℕ) → length commands ≤ i → drop i (views commands) ≡ []
-past_end commands i le = drop_views i commands ∙ ap views (drop_of_length-le commands le)
+past_end : (commands : List Command) {i : ℕ} → length commands ≤ i → drop i (views commands) ≡ []
+past_end commands {i} le = drop_views i commands ∙ ap views (drop_of_length-le commands le)
 
-taken_next : (n place end : ℕ) (command : Said) (rest : List Said) → end - place ≡ suc n → end - (place + 1) ≡ n
+taken_next : (n place end : ℕ) {command : Said} (rest : List Said) → end - place ≡ suc n → end - (place + 1) ≡ n
     → take (end - place) (command ∷ rest) ≡ command ∷ take (end - (place + 1)) rest
-taken_next n place end command rest e f =
+taken_next n place end {command} rest e f =
     ap (λ (m : ℕ). take m (command ∷ rest)) e ∙ ap (λ (m : ℕ). command ∷ take m rest) (sym f)
 
 -- the macro with one command less
 abbrev pub advanced : Running → Running
 advanced newest = record { next = newest.next + 1; end = newest.end; saved = newest.saved }
 
-left_next : (commands : List Command) (newest : Running) (command : Command)
+left_next : (commands : List Command) (newest : Running) {command : Command}
     → newest.next < length commands → command ≡ get_or commands newest.next command
     → newest.next < newest.end
     → commands_left (views commands) (run_in newest) ≡ view command ∷ commands_left (views commands) (run_in (advanced newest))
-left_next commands newest command within got lt =
+left_next commands newest {command} within got lt =
     let plus : suc newest.next ≡ newest.next + 1 = omega arith in
-    ap (λ (rest : List Said). take (newest.end - newest.next) rest) (got_there commands newest.next command within got)
+    ap (λ (rest : List Said). take (newest.end - newest.next) rest) (got_there commands within got)
     ∙ ap (λ (n : ℕ). take (newest.end - newest.next) (view command ∷ drop n (views commands))) plus
-    ∙ taken_next (newest.end - (newest.next + 1)) newest.next newest.end (view command) (drop (newest.next + 1) (views commands))
+    ∙ taken_next (newest.end - (newest.next + 1)) newest.next newest.end (drop (newest.next + 1) (views commands))
     (omega arith) refl
 
 rest_next : (levels : ℕ) (dpi : Dpi) (commands : List Command) (newest : Running) (command : Command) (s : Situation)
@@ -125,23 +125,22 @@ rest_next levels dpi commands newest command s within got lt =
     let all = views commands in
     let one = step dpi (runs levels dpi all) in
     ap (λ (cs : List Said). then_on (in_order one newest.next cs s) (λ later. done (left dpi newest.saved later)))
-    (left_next commands newest command within got lt)
+    (left_next commands newest within got lt)
     ∙ then_assoc (one newest.next (view command) s)
     (in_order one (newest.next + 1) (commands_left all (run_in (advanced newest)))) (λ later. done (left dpi newest.saved later))
 
-pub next_of_macro : (dpi : Dpi) (commands : List Command) (older : List Running) (newest : Running) (command : Command) (s : Situation)
+pub next_of_macro : (dpi : Dpi) (commands : List Command) (older : List Running) (newest : Running) {command : Command} (s : Situation)
     → length older < 3 → newest.next < length commands → command ≡ get_or commands newest.next command → newest.next < newest.end
     → begun_among dpi (views commands) newest.next (view command) (older ++ advanced newest ∷ []) s
     ≡ resumed macro_limit dpi (views commands) (older ++ newest ∷ []) s
-next_of_macro dpi commands older newest command s few within got lt =
+next_of_macro dpi commands older newest {command} s few within got lt =
     let all = views commands in
     let k = 2 - length older in
     let one = step dpi (runs k dpi all) newest.next (view command) s in
     let levels : macro_limit - length (older ++ advanced newest ∷ []) ≡ k = omega (arith, length-append older (advanced newest ∷ [])) in
     ap (λ (n : ℕ). then_on (step dpi (runs n dpi all) newest.next (view command) s)
     (resumed macro_limit dpi all (older ++ advanced newest ∷ []))) levels
-    ∙ then_same one (resumed macro_limit dpi all (older ++ advanced newest ∷ []))
-    (λ t. then_on (rest_of k dpi all (run_in (advanced newest)) t) (resumed macro_limit dpi all older))
+    ∙ then_same one
     (λ t. pushed dpi all older (advanced newest) t few)
     ∙ sym (pushed dpi all older newest s few
     ∙ ap (λ (p : Performance). then_on p (resumed macro_limit dpi all older)) (rest_next k dpi commands newest command s within got lt)
@@ -151,7 +150,7 @@ next_of_macro dpi commands older newest command s few within got lt =
 none_left : (commands : List Command) (newest : Running)
     → ((length commands ≤ newest.next) ⊎ (newest.end ≤ newest.next)) → commands_left (views commands) (run_in newest) ≡ []
 none_left commands newest e = elim e [
-  | inl past ↦ ap (λ (rest : List Said). take (newest.end - newest.next) rest) (past_end commands newest.next past)
+  | inl past ↦ ap (λ (rest : List Said). take (newest.end - newest.next) rest) (past_end commands past)
       ∙ take_none (newest.end - newest.next)
   | inr le ↦ let zero_left : newest.end - newest.next ≡ 0 = omega arith in
       ap (λ (n : ℕ). take n (drop newest.next (views commands))) zero_left
@@ -172,9 +171,9 @@ end_of_macro dpi commands older newest s few e =
     (λ later. done (left dpi newest.saved later))) (resumed macro_limit dpi all older)) (none_left commands newest e))
 
 -- the same interpreter but for the macros that run
-pub at_running : (dpi : Dpi) (s : Situation) (old new : Interpreter) → new.performer ≡ old.performer → new.macros ≡ old.macros
+pub at_running : {dpi : Dpi} {s : Situation} {old new : Interpreter} → new.performer ≡ old.performer → new.macros ≡ old.macros
     → IsAt dpi s old → IsAt dpi s new
-at_running dpi s old new p m at = record {
+at_running {dpi} {s} p m at = record {
   is_in = subst (λ (q : Performer). IsIn dpi s q) (sym p) at.is_in;
   macros = subst (λ (t : MacroTable). Holds t s.macros) (sym m) at.macros;
   begun = ap (λ (t : MacroTable). t.begun) m ∙ at.begun;
@@ -250,12 +249,12 @@ pub command_goes : {S : Type 0} (takes : S → Page → S → Type 0) (dpi : Dpi
     → pushed_on ≡ older ++ advanced newest ∷ []
     → GoesOn takes dpi (views commands) (begun_among dpi (views commands) newest.next (view command) pushed_on s) s result last sink later
     → GoesOn takes dpi (views commands) (resumed macro_limit dpi (views commands) (older ++ newest ∷ []) s) s result last sink later
-command_goes {S} takes dpi commands older pushed_on newest command s result last sink later few within got lt push g =
+command_goes takes dpi commands older pushed_on newest command s result last sink later few within got lt push g =
     let all = views commands in
     goes_to takes dpi all (begun_among dpi all newest.next (view command) pushed_on s)
     (resumed macro_limit dpi all (older ++ newest ∷ []) s) s result last sink later
     (ap (λ (rs : List Running). begun_among dpi all newest.next (view command) rs s) push
-    ∙ next_of_macro dpi commands older newest command s few within got lt) g
+    ∙ next_of_macro dpi commands older newest s few within got lt) g
 
 -- the end of the newest macro
 pub end_goes : {S : Type 0} (takes : S → Page → S → Type 0) (dpi : Dpi) (commands : List Command) (old last : Interpreter)
@@ -264,7 +263,7 @@ pub end_goes : {S : Type 0} (takes : S → Page → S → Type 0) (dpi : Dpi) (c
     → IsAt dpi (left dpi newest.saved s) last → last.running ≡ old.running
     → GoesOn takes dpi (views commands) (resumed macro_limit dpi (views commands) (old.running.items ++ newest ∷ []) s) s
     (Ok tt) last sink sink
-end_goes {S} takes dpi commands old last newest s sink few e at run =
+end_goes takes dpi commands old last newest s sink few e at run =
     let all = views commands in
     let then = left dpi newest.saved s in (
       then,
@@ -290,9 +289,9 @@ macro_goes : {S : Type 0} (takes : S → Page → S → Type 0) (dpi : Dpi) (all
     → ((now : Situation) → IsAt dpi now middle
     → GoesOn takes dpi all (resumed macro_limit dpi all (middle.running.items ++ newest ∷ []) now) now result last then new)
     → GoesOn takes dpi all whole s result last old new
-macro_goes {S} takes dpi all whole s result before middle last newest old then new b off p m f =
+macro_goes takes dpi all whole s result before middle last newest old then new b off p m f =
     let now = b.0 in
-    let g = f now (at_running dpi now before middle p m b.1) in
+    let g = f now (at_running p m b.1) in
     goes_from takes dpi all whole s now result last old then new b.2
     (goes_to takes dpi all (resumed macro_limit dpi all (middle.running.items ++ newest ∷ []) now) whole now result last then new
     (ap (λ (rs : List Running). resumed macro_limit dpi all rs now) (sym off) ∙ b.3) g)
@@ -304,7 +303,7 @@ pub macro_on : {S : Type 0} (takes : S → Page → S → Type 0) (dpi : Dpi) (a
     → ((now : Situation) → IsAt dpi now middle
     → GoesOn takes dpi all (resumed macro_limit dpi all (middle.running.items ++ newest ∷ []) now) now (Ok tt) last then new)
     → GoesBack takes dpi all whole s last old new
-macro_on {S} takes dpi all whole s before middle last newest old then new b off p m f =
+macro_on takes dpi all whole s before middle last newest old then new b off p m f =
     macro_goes takes dpi all whole s (Ok tt) before middle last newest old then new b off p m f
 
 pub macro_fault : {S : Type 0} (takes : S → Page → S → Type 0) (dpi : Dpi) (all : List Said) (whole : Performance) (s : Situation)
@@ -314,11 +313,11 @@ pub macro_fault : {S : Type 0} (takes : S → Page → S → Type 0) (dpi : Dpi)
     → ((now : Situation) → IsAt dpi now middle
     → GoesOn takes dpi all (resumed macro_limit dpi all (middle.running.items ++ newest ∷ []) now) now (Err fault) last then new)
     → GoesOn takes dpi all whole s (Err fault) last old new
-macro_fault {S} takes dpi all whole s fault before middle last newest old then new b off p m f =
+macro_fault takes dpi all whole s fault before middle last newest old then new b off p m f =
     macro_goes takes dpi all whole s (Err fault) before middle last newest old then new b off p m f
 
 -- as many macros run as may
-pub enters_few : (run : Option Run) (old new : List Running) → Enters run old new → length old ≤ 3 → length new ≤ 3
-enters_few None old new e few = omega (arith, ap (λ (rs : List Running). length rs) e.0, length-append old [])
-enters_few (Some run) old new e few =
+pub enters_few : (run : Option Run) (old : List Running) {new : List Running} → Enters run old new → length old ≤ 3 → length new ≤ 3
+enters_few None old e few = omega (arith, ap (λ (rs : List Running). length rs) e.0, length-append old [])
+enters_few (Some run) old e few =
     omega (arith, ap (λ (rs : List Running). length rs) e.0, length-append old (entered (Some run)), e.1)

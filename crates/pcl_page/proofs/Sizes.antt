@@ -25,48 +25,48 @@ Keeps s (Some done) = done.1 ≡ Stay → done.0.size ≡ s.size
 record KeepsSize (s : Settings) (o : Outcome) : Type 0 where
   same : Keeps s o
 
-if_keeps : (test : Bool) (s : Settings) (one other : Outcome) → KeepsSize s one → KeepsSize s other → KeepsSize s (cond test one other)
-if_keeps true s one other p q = p
-if_keeps false s one other p q = q
+if_keeps : (test : Bool) {s : Settings} {one other : Outcome} → KeepsSize s one → KeepsSize s other → KeepsSize s (cond test one other)
+if_keeps true p q = p
+if_keeps false p q = q
 
-none_keeps : (s : Settings) → KeepsSize s None
-none_keeps s = record { same = tt }
+none_keeps : {s : Settings} → KeepsSize s None
+none_keeps = record { same = tt }
 
-eject_keeps : (s t : Settings) → KeepsSize s (Some (t, Eject))
-eject_keeps s t = record { same = λ stay. absurd cc }
+eject_keeps : {s t : Settings} → KeepsSize s (Some (t, Eject))
+eject_keeps = record { same = λ stay. absurd cc }
 
-marked_keeps : (s t : Settings) → KeepsSize s (Some (t, EjectMarked))
-marked_keeps s t = record { same = λ stay. absurd cc }
+marked_keeps : {s t : Settings} → KeepsSize s (Some (t, EjectMarked))
+marked_keeps = record { same = λ stay. absurd cc }
 
 stay_keeps : (s t : Settings) → t.size ≡ s.size → KeepsSize s (stays t)
 stay_keeps s t e = record { same = λ stay. e }
 
 counted_keeps : (value : Value) (s : Settings) (f : ℕ → Outcome) → ((n : ℕ) → KeepsSize s (f n)) → KeepsSize s (counted value f)
-counted_keeps value s f k = if_keeps (is_below_zero value) s None (f (whole_of value)) (none_keeps s) (k (whole_of value))
+counted_keeps value s f k = if_keeps (is_below_zero value) (none_keeps) (k (whole_of value))
 
 stays_if_keeps : (test : Bool) (s t : Settings) → t.size ≡ s.size → KeepsSize s (stays_if test t)
-stays_if_keeps test s t e = if_keeps test s (stays t) None (stay_keeps s t e) (none_keeps s)
+stays_if_keeps test s t e = if_keeps test (stay_keeps s t e) (none_keeps)
 
-feed_keeps : (by : ℕ) (s t : Settings) → t.size ≡ s.size → KeepsSize s (feed by t)
-feed_keeps by s t e =
-    if_keeps (nat_lt (feed_limit t) (t.cursor.y + by)) s (Some (t, Eject)) (stays (put_y (t.cursor.y + by) t)) (eject_keeps s t)
+feed_keeps : (by : ℕ) {s : Settings} (t : Settings) → t.size ≡ s.size → KeepsSize s (feed by t)
+feed_keeps by {s} t e =
+    if_keeps (nat_lt (feed_limit t) (t.cursor.y + by)) (eject_keeps)
     (stay_keeps s (put_y (t.cursor.y + by) t) e)
 
-if_size : (test : Bool) (size : Size) (one other : Settings) → one.size ≡ size → other.size ≡ size → (cond test one other).size ≡ size
-if_size true size one other p q = p
-if_size false size one other p q = q
+if_size : (test : Bool) {size : Size} (one other : Settings) → one.size ≡ size → other.size ≡ size → (cond test one other).size ≡ size
+if_size true one other p q = p
+if_size false one other p q = q
 
 top_size : (top : ℕ) (marked : Bool) (s : Settings) → (set_top top marked s).size ≡ s.size
-top_size top marked s = if_size _ s.size s _ refl (if_size marked s.size _ _ refl refl)
+top_size top marked s = if_size _ s _ refl (if_size marked _ _ refl refl)
 
 left_size : (left : ℕ) (s : Settings) → (set_left left s).size ≡ s.size
-left_size left s = if_size (nat_lt left (units_wide s.size)) s.size (put_x (max s.cursor.x left) (record s { left = left })) s refl refl
+left_size left s = if_size (nat_lt left (units_wide s.size)) (put_x (max s.cursor.x left) (record s { left = left })) s refl refl
 
 bottom_size : (bottom : ℕ) (s : Settings) → (set_bottom bottom s).size ≡ s.size
-bottom_size bottom s = if_size (nat_lt (units_high s.size) bottom) s.size s (record s { bottom = bottom }) refl refl
+bottom_size bottom s = if_size (nat_lt (units_high s.size) bottom) s (record s { bottom = bottom }) refl refl
 
 push_size : (s : Settings) → (push s).size ≡ s.size
-push_size s = if_size (nat_lt (length s.stack) 20) s.size (record s { stack = s.cursor ∷ s.stack }) s refl refl
+push_size s = if_size (nat_lt (length s.stack) 20) (record s { stack = s.cursor ∷ s.stack }) s refl refl
 
 axis_size : (axis : Axis) (unit : Measure) (value : Value) (s : Settings) → (move_along axis unit value s).size ≡ s.size
 axis_size Horizontal unit value s = refl
@@ -80,32 +80,32 @@ pop_size : (stack : List Position) (s : Settings) → (popped stack s).size ≡ 
 pop_size [] s = refl
 pop_size (place ∷ older) s = refl
 
-size_keeps : (size : Option Size) (s : Settings) → KeepsSize s (set_size size s)
-size_keeps None s = none_keeps s
-size_keeps (Some size) s = marked_keeps s (with_size size s)
+size_keeps : (size : Option Size) {s : Settings} → KeepsSize s (set_size size s)
+size_keeps None = none_keeps
+size_keeps (Some size) = marked_keeps
 
-method_keeps : (method : Option Method) (s : Settings) → KeepsSize s (set_method method s)
-method_keeps None s = none_keeps s
-method_keeps (Some method) s = stay_keeps s (record s { method = method }) refl
+method_keeps : (method : Option Method) {s : Settings} → KeepsSize s (set_method method s)
+method_keeps None = none_keeps
+method_keeps (Some method) {s} = stay_keeps s (record s { method = method }) refl
 
 keeps : (dpi : Dpi) (operation : Operation) (value : Value) (marked : Bool) (s : Settings)
     → KeepsSize s (outcome dpi operation value marked s)
 unfolding outcome
-keeps dpi Reset v m s = marked_keeps s defaults
+keeps dpi Reset v m s = marked_keeps
 keeps dpi UniversalExit v m s =
-    if_keeps (is_minus v.sign && whole_of v == 12345) s (Some (defaults, EjectMarked)) None (marked_keeps s defaults) (none_keeps s)
+    if_keeps (is_minus v.sign && whole_of v == 12345) (marked_keeps) (none_keeps)
 keeps dpi ClearMargins v m s = stay_keeps s _ refl
-keeps dpi HalfLineFeed v m s = feed_keeps (s.vmi / 2) s s refl
+keeps dpi HalfLineFeed v m s = feed_keeps (s.vmi / 2) s refl
 keeps dpi HorizontalTab v m s = stay_keeps s _ refl
-keeps dpi LineFeed v m s = feed_keeps s.vmi s (before_feed s) (if_size s.feed_returns s.size (return_carriage s) s refl refl)
-keeps dpi FormFeed v m s = eject_keeps s (before_feed s)
+keeps dpi LineFeed v m s = feed_keeps s.vmi (before_feed s) (if_size s.feed_returns (return_carriage s) s refl refl)
+keeps dpi FormFeed v m s = eject_keeps
 keeps dpi CarriageReturn v m s =
-    if_keeps s.return_feeds s (feed s.vmi (return_carriage s)) (stays (return_carriage s)) (feed_keeps s.vmi s (return_carriage s) refl)
+    if_keeps s.return_feeds (feed_keeps s.vmi (return_carriage s) refl)
     (stay_keeps s (return_carriage s) refl)
 keeps dpi (Shift side) v m s = stay_keeps s _ refl
 keeps dpi PageSize v m s =
     counted_keeps v s (λ n. set_size (size_with_code n) s)
-    (λ n. size_keeps (size_with_code n) s)
+    (λ n. size_keeps (size_with_code n))
 keeps dpi Copies v m s =
     counted_keeps v s (λ n. stays_if (nat_le 1 n && nat_le n 99) (record s { copies = n }))
     (λ n. stays_if_keeps _ s _ refl)
@@ -125,7 +125,7 @@ keeps dpi PerforationSkip v m s =
     counted_keeps v s (λ n. stays_if (nat_le n 1) (record s { skips = n == 1 }))
     (λ n. stays_if_keeps _ s _ refl)
 keeps dpi OnlyZero v m s = stays_if_keeps (whole_of v == 0) s s refl
-keeps dpi EjectMarkedPage v m s = marked_keeps s s
+keeps dpi EjectMarkedPage v m s = marked_keeps
 keeps dpi UnitOfMeasure v m s =
     counted_keeps v s (λ n. stays_if (is_one_of units_of_measure n) (record s { pcl_unit = 7200 / n }))
     (λ n. stays_if_keeps _ s _ refl)
@@ -141,7 +141,7 @@ keeps dpi LeftMargin v m s =
 keeps dpi (Move axis unit) v m s = stay_keeps s (move_along axis unit v s) (axis_size axis unit v s)
 keeps dpi CursorStack v m s =
     counted_keeps v s (λ n. if n == 0 then stays (push s) else stays_if (n == 1) (pop s))
-    (λ n. if_keeps (n == 0) s (stays (push s)) (stays_if (n == 1) (pop s)) (stay_keeps s (push s) (push_size s))
+    (λ n. if_keeps (n == 0) (stay_keeps s (push s) (push_size s))
     (stays_if_keeps (n == 1) s (pop s) (pop_size s.stack s)))
 keeps dpi MacroId v m s =
     counted_keeps v s (λ n. stays_if (nat_le n 32767) (record s { macro_id = n }))
@@ -196,7 +196,7 @@ keeps dpi EndRaster v m s = stay_keeps s _ refl
 keeps dpi EndRasterResetMethod v m s = stay_keeps s _ refl
 keeps dpi RasterMethod v m s =
     counted_keeps v s (λ n. set_method (method_with_code n) s)
-    (λ n. method_keeps (method_with_code n) s)
+    (λ n. method_keeps (method_with_code n))
 keeps dpi RasterOffset v m s =
     counted_keeps v s (λ n. stays s)
     (λ n. stay_keeps s _ refl)
@@ -205,7 +205,7 @@ keeps dpi RasterRow v m s =
     (λ n. stay_keeps s _ refl)
 keeps dpi NoEffect v m s = stay_keeps s _ refl
 
-pub size_kept : (dpi : Dpi) (operation : Operation) (value : Value) (marked : Bool) (s settings : Settings)
+pub size_kept : (dpi : Dpi) (operation : Operation) (value : Value) (marked : Bool) (s : Settings) {settings : Settings}
     → outcome dpi operation value marked s ≡ Some (settings, Stay)
     → settings.size ≡ s.size
-size_kept dpi operation value marked s settings o = (subst (KeepsSize s) o (keeps dpi operation value marked s)).same refl
+size_kept dpi operation value marked s o = (subst (KeepsSize s) o (keeps dpi operation value marked s)).same refl

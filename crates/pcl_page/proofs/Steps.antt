@@ -40,16 +40,16 @@ use Rattle.pcl_page.proofs.Keeping.{drawn_keeps}
 -- ---- a command
 
 pub drawn_pages : (dpi : Dpi) (operation : Operation) (command : Said) (s : Situation) → (drawn dpi operation command s).pages ≡ s.pages
-drawn_pages dpi operation command s = (drawn_keeps dpi operation command s).pages
+drawn_pages dpi operation command s = (drawn_keeps dpi operation command).pages
 
 pub prepared_pages : (dpi : Dpi) (ends : Bool) (s : Situation) → (cond ends (end_raster dpi s) s).pages ≡ s.pages
 prepared_pages dpi ends s = (prepared_page dpi ends s).pages
 
-pub counted_in : (dpi : Dpi) (s : Situation) (old new : Performer) → IsIn dpi s old → new.environment ≡ old.environment
+pub counted_in : {dpi : Dpi} {s : Situation} {old new : Performer} → IsIn dpi s old → new.environment ≡ old.environment
     → new.raster ≡ old.raster
     → new.page ≡ old.page → new.is_marked ≡ old.is_marked → new.ejected ≡ old.ejected → new.performed ≡ old.performed + 1
     → new.fonts ≡ old.fonts → IsIn dpi (counted s) new
-counted_in dpi s old new i e r b m j p f = record {
+counted_in i e r b m j p f = record {
   settings = e ∙ i.settings;
   raster = r ∙ i.raster;
   marked = m ∙ i.marked;
@@ -87,11 +87,11 @@ unfolding after
 after_ignored dpi operation command s e =
     ap (λ (b : Bool). cond b (Ok (counted s)) (taken dpi operation command (prepared dpi operation (counted s)))) e
 
-after_taken : (dpi : Dpi) (operation : Operation) (command : Said) (s : Situation) (o : Outcome) → is_ignored operation s ≡ false
+after_taken : (dpi : Dpi) (operation : Operation) (command : Said) (s : Situation) {o : Outcome} → is_ignored operation s ≡ false
     → outcome dpi operation command.value (is_marked (prepared dpi operation (counted s))) (prepared dpi operation (counted s)).settings ≡ o
     → after dpi operation command s ≡ done_with dpi operation command o (prepared dpi operation (counted s))
 unfolding after
-after_taken dpi operation command s o e is =
+after_taken dpi operation command s e is =
     ap (λ (b : Bool). cond b (Ok (counted s)) (taken dpi operation command (prepared dpi operation (counted s)))) e
     ∙ ap (λ (p : Outcome). done_with dpi operation command p (prepared dpi operation (counted s))) is
 
@@ -100,7 +100,7 @@ pub tried_ignored : {S : Type 0} (takes : S → Page → S → Type 0) (dpi : Dp
     → IsIn dpi s old → old.performed < 100000000 → old.ejected ≤ 256 → operation_of command.name ≡ Some operation
     → (is_some old.raster && is_ignored_in_raster operation) ≡ true → IsIn dpi (counted s) new
     → IsTried takes dpi command s (Ok operation) new sink sink
-tried_ignored {S} takes dpi operation command s old new sink i few fit named e now =
+tried_ignored takes dpi operation command s old new sink i few fit named e now =
     let ignored : is_ignored operation s ≡ true =
     ap (λ (r : Option Raster). is_some r && is_ignored_in_raster operation) (sym i.raster) ∙ e in
     let done = after_ignored dpi operation command s ignored in (
@@ -121,36 +121,36 @@ pub record AtTurn (dpi : Dpi) (operation : Operation) (command : Said) (s : Situ
   pub performed : (is_some old.raster && is_ignored_in_raster operation) ≡ false
 
 -- what the turn of the page leads to, of a command whose value is taken
-turned_after : (dpi : Dpi) (operation : Operation) (command : Said) (s : Situation) (old : Performer) (o : Outcome)
+turned_after : {dpi : Dpi} {operation : Operation} {command : Said} {s : Situation} {old : Performer} {o : Outcome}
     → AtTurn dpi operation command s old
     → outcome dpi operation command.value (is_marked (prepared dpi operation (counted s))) (prepared dpi operation (counted s)).settings ≡ o
     → after dpi operation command s ≡ done_with dpi operation command o (prepared dpi operation (counted s))
-turned_after dpi operation command s old o a is =
+turned_after {dpi} {operation} {command} {s} a is =
     let ignored : is_ignored operation s ≡ false =
     ap (λ (r : Option Raster). is_some r && is_ignored_in_raster operation) (sym a.is_in.raster) ∙ a.performed in
-    after_taken dpi operation command s o ignored is
+    after_taken dpi operation command s ignored is
 
 -- why a command is refused that is at the turn of the page
-turn_refusal : (dpi : Dpi) (operation : Operation) (command : Said) (s : Situation) (old : Performer)
+turn_refusal : {dpi : Dpi} {operation : Operation} {command : Said} {s : Situation} {old : Performer}
     → AtTurn dpi operation command s old → command_refusal dpi command s ≡ refusal_after (after dpi operation command s)
-turn_refusal dpi operation command s old a =
+turn_refusal {dpi} {operation} {command} {s} a =
     refusal_is dpi command operation s (omega (arith, a.few, a.is_in.performed)) a.named
 
 -- ---- commands that are refused where they draw
 
-taken_stays : (below : Bool) (s : Settings) (done : Settings × Effect) → cond below None (stays s) ≡ Some done → done.1 ≡ Stay
-taken_stays true s done e = absurd cc
-taken_stays false s done e = let same : ◌≡◌ {A = Settings × Effect} (s, Stay) done = cc in ap (λ (d : Settings × Effect). d.1) (sym same)
+taken_stays : (below : Bool) (s : Settings) {done : Settings × Effect} → cond below None (stays s) ≡ Some done → done.1 ≡ Stay
+taken_stays true s e = absurd cc
+taken_stays false s {done} e = let same : ◌≡◌ {A = Settings × Effect} (s, Stay) done = cc in ap (λ (d : Settings × Effect). d.1) (sym same)
 
 -- they let the page stay
-refused_stays : (dpi : Dpi) (operation : Operation) (command : Said) (m : Bool) (settings : Settings) (done : Settings × Effect)
-    (s : Situation) (kind : Kind)
+refused_stays : (dpi : Dpi) (operation : Operation) (command : Said) (m : Bool) (settings : Settings) {done : Settings × Effect}
+    (s : Situation) {kind : Kind}
     → draw_refusal operation command s ≡ Some kind → outcome dpi operation command.value m settings ≡ Some done → done.1 ≡ Stay
 unfolding outcome
-refused_stays dpi DownloadFont command m settings done s kind e o = taken_stays (is_below_zero command.value) settings done o
-refused_stays dpi DownloadCharacter command m settings done s kind e o = taken_stays (is_below_zero command.value) settings done o
-refused_stays dpi PrintText command m settings done s kind e o = taken_stays (is_below_zero command.value) settings done o
-refused_stays dpi other command m settings done s kind e o = absurd cc
+refused_stays dpi DownloadFont command m settings s e o = taken_stays (is_below_zero command.value) settings o
+refused_stays dpi DownloadCharacter command m settings s e o = taken_stays (is_below_zero command.value) settings o
+refused_stays dpi PrintText command m settings s e o = taken_stays (is_below_zero command.value) settings o
+refused_stays dpi other command m settings s e o = absurd cc
 
 pub stays_pages : (done : Settings × Effect) (s : Situation) → done.1 ≡ Stay → (turned done.0 done.1 s).pages ≡ s.pages
 stays_pages done s e = ap (λ (effect : Effect). (turned done.0 effect s).pages) e
@@ -164,7 +164,7 @@ no_more pages (sheet ∷ more) e =
 -- so the sink is as before
 stays_sink : {S : Type 0} (takes : S → Page → S → Type 0) (dpi : Dpi) (done : Settings × Effect) (s : Situation) (sink later : S)
     → done.1 ≡ Stay → HandsMore takes dpi s (turned done.0 done.1 s) sink later → later ≡ sink
-stays_sink {S} takes dpi done s sink later e h =
+stays_sink takes dpi done s sink later e h =
     subst (λ (more : List Sheet). Hands takes dpi more sink later) (no_more s.pages h.0 (sym (stays_pages done s e) ∙ h.1)) h.2
 
 -- the pages of a turn, behind those from before the command
@@ -172,7 +172,7 @@ handed_on : {S : Type 0} (takes : S → Page → S → Type 0) (dpi : Dpi) (oper
     (sink later : S)
     → HandsMore takes dpi (prepared dpi operation (counted s)) now sink later
     → HandsMore takes dpi s (drawn dpi operation command now) sink later
-handed_on {S} takes dpi operation command s now sink later h = (
+handed_on takes dpi operation command s now sink later h = (
   h.0,
   drawn_pages dpi operation command now ∙ h.1
       ∙ ap (λ (ps : List Sheet). ps ++ h.0) (prepared_pages dpi (ends_raster operation) (counted s)),
@@ -201,30 +201,30 @@ gone_with : {S : Type 0} (takes : S → Page → S → Type 0) (dpi : Dpi) (oper
     → page_refusal (turned done.0 done.1 (prepared dpi operation (counted s))) ≡ None
     → HandsMore takes dpi (prepared dpi operation (counted s)) (turned done.0 done.1 (prepared dpi operation (counted s))) sink later
     → IsGone takes dpi operation command s (turned done.0 done.1 (prepared dpi operation (counted s))) sink later
-gone_with {S} takes dpi operation command s old done sink later a is fits h =
+gone_with takes dpi operation command s old done sink later a is fits h =
     let before = prepared dpi operation (counted s) in
     let now = turned done.0 done.1 before in
     record {
-      after_is = turned_after dpi operation command s old (Some done) a is;
+      after_is = turned_after a is;
       fits = fits;
       handed = handed_on takes dpi operation command s now sink later h;
       quiet = λ kind e.
           stays_sink takes dpi done before sink later
-          (refused_stays dpi operation command (is_marked before) before.settings done now kind e is) h;
+          (refused_stays dpi operation command (is_marked before) before.settings now e is) h;
     }
 
 -- nothing is refused where it is drawn
 drawn_after : {S : Type 0} (takes : S → Page → S → Type 0) (dpi : Dpi) (operation : Operation) (command : Said) (s now : Situation)
     (sink later : S) → IsGone takes dpi operation command s now sink later → draw_refusal operation command now ≡ None
     → after dpi operation command s ≡ Ok (drawn dpi operation command now)
-drawn_after {S} takes dpi operation command s now sink later g e =
+drawn_after takes dpi operation command s now sink later g e =
     g.after_is ∙ ap (λ (why : Option Kind). unless_refused why (drawn dpi operation command now)) e
 
 drawn_accepted : {S : Type 0} (takes : S → Page → S → Type 0) (dpi : Dpi) (operation : Operation) (command : Said) (s now : Situation)
     (old : Performer) (sink later : S) → AtTurn dpi operation command s old → IsGone takes dpi operation command s now sink later
     → draw_refusal operation command now ≡ None → command_refusal dpi command s ≡ None
-drawn_accepted {S} takes dpi operation command s now old sink later a g e =
-    turn_refusal dpi operation command s old a
+drawn_accepted takes dpi operation command s now old sink later a g e =
+    turn_refusal a
     ∙ ap refusal_after (drawn_after takes dpi operation command s now sink later g e)
     ∙ drawn_fits dpi operation command now ∙ g.fits
 
@@ -233,7 +233,7 @@ gone_short : {S : Type 0} (takes : S → Page → S → Type 0) (dpi : Dpi) (ope
     (old new : Performer) (sink later : S) (why : Option Kind)
     → AtTurn dpi operation command s old → IsGone takes dpi operation command s now sink later
     → draw_refusal operation command now ≡ why → IsTried takes dpi command s (Err Memory) new sink later
-gone_short {S} takes dpi operation command s now old new sink later None a g e =
+gone_short takes dpi operation command s now old new sink later None a g e =
     inr (
       operation,
       drawn dpi operation command now,
@@ -242,21 +242,21 @@ gone_short {S} takes dpi operation command s now old new sink later None a g e =
       drawn_accepted takes dpi operation command s now old sink later a g e,
       g.handed,
     )
-gone_short {S} takes dpi operation command s now old new sink later (Some kind) a g e = inl (g.quiet kind e)
+gone_short takes dpi operation command s now old new sink later (Some kind) a g e = inl (g.quiet kind e)
 
 -- pages that are past the limit come from a command that isn't refused where it draws
-past_why : (dpi : Dpi) (operation : Operation) (command : Said) (s : Situation) (old : Performer) (done : Settings × Effect)
-    (kind : Kind) (why : Option Kind)
+past_why : {dpi : Dpi} {operation : Operation} {command : Said} {s : Situation} {old : Performer} {done : Settings × Effect}
+    {kind : Kind} (why : Option Kind)
     → AtTurn dpi operation command s old
     → outcome dpi operation command.value (is_marked (prepared dpi operation (counted s))) (prepared dpi operation (counted s)).settings
     ≡ Some done
     → page_refusal (turned done.0 done.1 (prepared dpi operation (counted s))) ≡ Some kind
     → draw_refusal operation command (turned done.0 done.1 (prepared dpi operation (counted s))) ≡ why → why ≡ None
-past_why dpi operation command s old done kind None a is past e = refl
-past_why dpi operation command s old done kind (Some other) a is past e =
+past_why None a is past e = refl
+past_why {dpi} {operation} {command} {s} {old} {done} (Some other) a is past e =
     let before = prepared dpi operation (counted s) in
     let now = turned done.0 done.1 before in
-    let stay = refused_stays dpi operation command (is_marked before) before.settings done now other e is in
+    let stay = refused_stays dpi operation command (is_marked before) before.settings now e is in
     let pages : now.pages ≡ s.pages = stays_pages done before stay ∙ prepared_pages dpi (ends_raster operation) (counted s) in
     let few : length s.pages ≤ 256 = omega (arith, a.is_in.ejected, old.few_pages) in
     let fits : page_refusal now ≡ None =
@@ -270,17 +270,17 @@ turn_refused : {S : Type 0} (takes : S → Page → S → Type 0) (dpi : Dpi) (o
     → outcome dpi operation command.value (is_marked (prepared dpi operation (counted s))) (prepared dpi operation (counted s)).settings ≡ o
     → IsTurned takes dpi o (prepared dpi operation (counted s)) (Err (Refused kind)) new sink later
     → IsTried takes dpi command s (Err (Refused kind)) new sink later
-turn_refused {S} takes dpi operation command s old new sink later kind None a is t = (
-  turn_refusal dpi operation command s old a ∙ ap refusal_after (turned_after dpi operation command s old None a is)
+turn_refused takes dpi operation command s old new sink later kind None a is t = (
+  turn_refusal a ∙ ap refusal_after (turned_after a is)
       ∙ ap (λ (k : Kind). Some k) (sym t.0),
   t.1,
 )
-turn_refused {S} takes dpi operation command s old new sink later kind (Some done) a is t =
+turn_refused takes dpi operation command s old new sink later kind (Some done) a is t =
     let now = turned done.0 done.1 (prepared dpi operation (counted s)) in
     let free : draw_refusal operation command now ≡ None =
-    past_why dpi operation command s old done kind (draw_refusal operation command now) a is t.0 refl in (
-      turn_refusal dpi operation command s old a
-          ∙ ap refusal_after (turned_after dpi operation command s old (Some done) a is)
+    past_why (draw_refusal operation command now) a is t.0 refl in (
+      turn_refusal a
+          ∙ ap refusal_after (turned_after a is)
           ∙ ap (λ (why : Option Kind). refusal_after (unless_refused why (drawn dpi operation command now))) free
           ∙ drawn_fits dpi operation command now ∙ t.0,
       t.1,
@@ -292,8 +292,8 @@ turn_short : {S : Type 0} (takes : S → Page → S → Type 0) (dpi : Dpi) (ope
     → outcome dpi operation command.value (is_marked (prepared dpi operation (counted s))) (prepared dpi operation (counted s)).settings ≡ o
     → IsTurned takes dpi o (prepared dpi operation (counted s)) (Err Memory) new sink later
     → IsTried takes dpi command s (Err Memory) new sink later
-turn_short {S} takes dpi operation command s old new sink later None a is t = inl t
-turn_short {S} takes dpi operation command s old new sink later (Some done) a is t =
+turn_short takes dpi operation command s old new sink later None a is t = inl t
+turn_short takes dpi operation command s old new sink later (Some done) a is t =
     let now = turned done.0 done.1 (prepared dpi operation (counted s)) in
     elim t [
       | inl same ↦ inl same
@@ -309,9 +309,9 @@ pub tried_refused : {S : Type 0} (takes : S → Page → S → Type 0) (dpi : Dp
     (outcome dpi operation command.value (is_marked (prepared dpi operation (counted s))) (prepared dpi operation (counted s)).settings)
     (prepared dpi operation (counted s)) (Err fault) new sink later
     → IsTried takes dpi command s (Err fault) new sink later
-tried_refused {S} takes dpi operation command s old new sink later (Refused kind) a t =
+tried_refused takes dpi operation command s old new sink later (Refused kind) a t =
     turn_refused takes dpi operation command s old new sink later kind _ a refl t
-tried_refused {S} takes dpi operation command s old new sink later Memory a t =
+tried_refused takes dpi operation command s old new sink later Memory a t =
     turn_short takes dpi operation command s old new sink later _ a refl t
 
 -- the performer is at the situation behind the turn
@@ -327,8 +327,8 @@ gone_by : {S : Type 0} (takes : S → Page → S → Type 0) (dpi : Dpi) (operat
     → outcome dpi operation command.value (is_marked (prepared dpi operation (counted s))) (prepared dpi operation (counted s)).settings ≡ o
     → IsTurned takes dpi o (prepared dpi operation (counted s)) (Ok tt) middle sink later
     → Gone takes dpi operation command s middle sink later
-gone_by {S} takes dpi operation command s old middle sink later None a is t = absurd t
-gone_by {S} takes dpi operation command s old middle sink later (Some done) a is t = record {
+gone_by takes dpi operation command s old middle sink later None a is t = absurd t
+gone_by takes dpi operation command s old middle sink later (Some done) a is t = record {
   turned_to = turned done.0 done.1 (prepared dpi operation (counted s));
   is_in = t.0;
   is_gone = gone_with takes dpi operation command s old done sink later a is t.1 t.2;
@@ -341,7 +341,7 @@ pub gone : {S : Type 0} (takes : S → Page → S → Type 0) (dpi : Dpi) (opera
     (outcome dpi operation command.value (is_marked (prepared dpi operation (counted s))) (prepared dpi operation (counted s)).settings)
     (prepared dpi operation (counted s)) (Ok tt) middle sink later
     → Gone takes dpi operation command s middle sink later
-gone {S} takes dpi operation command s old middle sink later a t = gone_by takes dpi operation command s old middle sink later _ a refl t
+gone takes dpi operation command s old middle sink later a t = gone_by takes dpi operation command s old middle sink later _ a refl t
 
 -- a command that was drawn
 pub tried_drawn : {S : Type 0} (takes : S → Page → S → Type 0) (dpi : Dpi) (operation : Operation) (command : Said) (s : Situation)
@@ -349,7 +349,7 @@ pub tried_drawn : {S : Type 0} (takes : S → Page → S → Type 0) (dpi : Dpi)
     → AtTurn dpi operation command s old → (g : Gone takes dpi operation command s middle sink later)
     → Draws dpi (draw_refusal operation command g.turned_to) (drawn dpi operation command g.turned_to) (Ok tt) new
     → IsTried takes dpi command s (Ok operation) new sink later
-tried_drawn {S} takes dpi operation command s old middle new sink later a g d = (
+tried_drawn takes dpi operation command s old middle new sink later a g d = (
   drawn dpi operation command g.turned_to,
   a.named,
   drawn_after takes dpi operation command s g.turned_to sink later g.is_gone d.0,
@@ -364,12 +364,12 @@ pub tried_undrawn : {S : Type 0} (takes : S → Page → S → Type 0) (dpi : Dp
     → AtTurn dpi operation command s old → (g : Gone takes dpi operation command s middle sink later) (fault : CallFault)
     → Draws dpi (draw_refusal operation command g.turned_to) (drawn dpi operation command g.turned_to) (Err fault) new
     → IsTried takes dpi command s (Err fault) new sink later
-tried_undrawn {S} takes dpi operation command s old middle new sink later a g (Refused kind) d = (
-  turn_refusal dpi operation command s old a ∙ ap refusal_after g.is_gone.after_is
+tried_undrawn takes dpi operation command s old middle new sink later a g (Refused kind) d = (
+  turn_refusal a ∙ ap refusal_after g.is_gone.after_is
       ∙ ap (λ (why : Option Kind). refusal_after (unless_refused why (drawn dpi operation command g.turned_to))) d,
   g.is_gone.quiet kind d,
 )
-tried_undrawn {S} takes dpi operation command s old middle new sink later a g Memory d =
+tried_undrawn takes dpi operation command s old middle new sink later a g Memory d =
     gone_short takes dpi operation command s g.turned_to old new sink later (draw_refusal operation command g.turned_to) a g.is_gone refl
 
 -- ---- the end of the input
@@ -380,10 +380,10 @@ sheet_below : (dpi : Dpi) (raster : Option Raster) (s : Situation)
 sheet_below dpi None s = refl
 sheet_below dpi (Some r) s = refl
 
-end_turned : (dpi : Dpi) (s : Situation) (marked : Bool) → is_marked s ≡ marked
+end_turned : (dpi : Dpi) (s : Situation) {marked : Bool} → is_marked s ≡ marked
     → at_end dpi s
     ≡ without_temporary (cond marked (turned_page defaults (end_raster dpi s)) (with_settings defaults (end_raster dpi s)))
-end_turned dpi s marked e =
+end_turned dpi s e =
     ap (λ (b : Bool).
     without_temporary (cond b (turned_page defaults (end_raster dpi s)) (with_settings defaults (end_raster dpi s)))) e
 
@@ -391,12 +391,12 @@ pub end_marked : {S : Type 0} (takes : S → Page → S → Type 0) (dpi : Dpi) 
     → IsIn dpi s old
     → old.is_marked ≡ true → old.ejected < 256 → copies ≡ old.environment.copies → Takes takes copies old sink later
     → (page_refusal (at_end dpi s) ≡ None) × HandsMore takes dpi s (at_end dpi s) sink later
-end_marked {S} takes dpi s copies old sink later i m few c t =
+end_marked takes dpi s copies old sink later i m few c t =
     let end = end_raster dpi s in
-    let is = end_turned dpi s true (sym i.marked ∙ m) in
+    let is = end_turned dpi s (sym i.marked ∙ m) in
     let count = length-append s.pages (sheet_of end ∷ []) in
     let shows = subst (λ (sheet : Sheet). Shows dpi t.0 sheet) (sym (sheet_below dpi s.raster s))
-    (handed_sheet dpi s copies old old t.0 i refl c t.1) in
+    (handed_sheet i refl c t.1) in
     subst (λ (z : Situation). (page_refusal z ≡ None) × HandsMore takes dpi s z sink later) (sym is) (
       pages_fit (without_temporary (turned_page defaults end)) (omega (arith, i.ejected, count)),
       (sheet_of end ∷ [], refl, (t.0, later, shows, t.2, refl)),
@@ -406,16 +406,16 @@ pub end_unmarked : {S : Type 0} (takes : S → Page → S → Type 0) (dpi : Dpi
     → IsIn dpi s old
     → old.is_marked ≡ false → old.ejected ≤ 256 → later ≡ sink
     → (page_refusal (at_end dpi s) ≡ None) × HandsMore takes dpi s (at_end dpi s) sink later
-end_unmarked {S} takes dpi s old sink later i m few same =
+end_unmarked takes dpi s old sink later i m few same =
     let end = end_raster dpi s in
     subst (λ (z : Situation). (page_refusal z ≡ None) × HandsMore takes dpi s z sink later)
-    (sym (end_turned dpi s false (sym i.marked ∙ m)))
+    (sym (end_turned dpi s (sym i.marked ∙ m)))
     (pages_fit (without_temporary (with_settings defaults end)) (omega (arith, i.ejected)), ([], sym (append-nil s.pages), same))
 
-pub end_past : (dpi : Dpi) (s : Situation) (old : Performer) → IsIn dpi s old → old.is_marked ≡ true → 256 ≤ old.ejected
+pub end_past : {dpi : Dpi} {s : Situation} {old : Performer} → IsIn dpi s old → old.is_marked ≡ true → 256 ≤ old.ejected
     → page_refusal (at_end dpi s) ≡ Some TooManyPages
-end_past dpi s old i m many =
+end_past {dpi} {s} i m many =
     let end = end_raster dpi s in
     let count = length-append s.pages (sheet_of end ∷ []) in
-    ap (λ (z : Situation). page_refusal z) (end_turned dpi s true (sym i.marked ∙ m))
+    ap (λ (z : Situation). page_refusal z) (end_turned dpi s (sym i.marked ∙ m))
     ∙ pages_past (without_temporary (turned_page defaults end)) (omega (arith, i.ejected, count))

@@ -39,22 +39,22 @@ use Rattle.pcl_page.proofs.Sizes.{size_kept}
 -- ---- pages
 
 width_same : {one other : Size} {dpi same : Dpi} → one ≡ other → dpi ≡ same → page_width one dpi ≡ page_width other same
-width_same {one} {other} {dpi} {same} p q = ap (λ (size : Size). page_width size dpi) p ∙ ap (λ (d : Dpi). page_width other d) q
+width_same {other} {dpi} p q = ap (λ (size : Size). page_width size dpi) p ∙ ap (λ (d : Dpi). page_width other d) q
 
 height_same : {one other : Size} {dpi same : Dpi} → one ≡ other → dpi ≡ same → page_height one dpi ≡ page_height other same
-height_same {one} {other} {dpi} {same} p q = ap (λ (size : Size). page_height size dpi) p ∙ ap (λ (d : Dpi). page_height other d) q
+height_same {other} {dpi} p q = ap (λ (size : Size). page_height size dpi) p ∙ ap (λ (d : Dpi). page_height other d) q
 
 -- the same bitmap, of the same size, shows the same marks
 pub painted_same : {dpi : Dpi} {size other : Size} {marks : List Mark} {old new : Picture} → IsPainted dpi size marks old → new ≡ old
     → other ≡ size
     → IsPainted dpi other marks new
-painted_same {dpi} {size} {other} {marks} {old} {new} p e s =
+painted_same {dpi} {other} {marks} {old} p e s =
     subst (λ (b : Picture). IsPainted dpi other marks b) (sym e) (subst (λ (z : Size). IsPainted dpi z marks old) (sym s) p)
 
 -- the same fonts hold the same events
 pub holds_same : {table other : FontTable} {events later : List FontEvent} → Holds table events → other ≡ table → later ≡ events
     → Holds other later
-holds_same {table} {other} {events} {later} h t e =
+holds_same {other} {events} h t e =
     subst (λ (es : List FontEvent). Holds other es) (sym e) (subst (λ (ft : FontTable). Holds ft events) (sym t) h)
 
 -- ---- the end of a raster
@@ -95,10 +95,10 @@ prepared_page dpi true s = record {
 prepared_page dpi false s =
     record { size = refl; fonts = refl; macros = refl; begun = refl; marks = refl; pages = refl; performed = refl }
 
-pub prepared_in : (dpi : Dpi) (operation : Operation) (s : Situation) (old new : Performer) → IsIn dpi s old
+pub prepared_in : {dpi : Dpi} {operation : Operation} {s : Situation} {old new : Performer} → IsIn dpi s old
     → IsPrepared dpi operation old new
     → IsIn dpi (prepared dpi operation s) new
-prepared_in dpi operation s old new i p =
+prepared_in {dpi} {operation} {s} {old} {new} i p =
     let ends = ends_raster operation in
     let k = prepared_page dpi ends s in
     record {
@@ -117,27 +117,27 @@ prepared_in dpi operation s old new i p =
 
 -- ---- the outcome of a command
 
-pub answered : (o : Outcome) (effect : Effect) (old new : Settings) → Answers o (Ok effect) old new
+pub answered : (o : Outcome) {effect : Effect} (old : Settings) {new : Settings} → Answers o (Ok effect) old new
     → (done : Settings × Effect) × (o ≡ Some done) × (effect ≡ done.1) × (new ≡ done.0)
-answered None effect old new a = let e = a.0 in absurd cc
-answered (Some done) effect old new a = (done, refl, (let e : ◌≡◌ {A = Result Effect Unsupported} (Ok effect) (Ok done.1) = a.0 in cc), a.1)
+answered None old a = let e = a.0 in absurd cc
+answered (Some done) {effect} old a = (done, refl, (let e : ◌≡◌ {A = Result Effect Unsupported} (Ok effect) (Ok done.1) = a.0 in cc), a.1)
 
-pub unanswered : (o : Outcome) (e : Unsupported) (old new : Settings) → Answers o (Err e) old new → o ≡ None
-unanswered None e old new a = refl
-unanswered (Some done) e old new a = let f : ◌≡◌ {A = Result Effect Unsupported} (Err e) (Ok done.1) = a.0 in absurd cc
+pub unanswered : (o : Outcome) {e : Unsupported} (old new : Settings) → Answers o (Err e) old new → o ≡ None
+unanswered None old new a = refl
+unanswered (Some done) {e} old new a = let f : ◌≡◌ {A = Result Effect Unsupported} (Err e) (Ok done.1) = a.0 in absurd cc
 
 -- the outcome in the situation is that of the performer
-pub outcome_in : (dpi : Dpi) (operation : Operation) (value : Value) (s : Situation) (old : Performer) → IsIn dpi s old
+pub outcome_in : {dpi : Dpi} (operation : Operation) (value : Value) {s : Situation} {old : Performer} → IsIn dpi s old
     → outcome dpi operation value old.is_marked old.environment ≡ outcome dpi operation value (is_marked s) s.settings
-outcome_in dpi operation value s old i =
+outcome_in {dpi} operation value {s} {old} i =
     ap (λ (m : Bool). outcome dpi operation value m old.environment) i.marked
     ∙ ap (λ (e : Settings). outcome dpi operation value (is_marked s) e) i.settings
 
 -- ---- pages that stay
 
 -- with no marks every dot is white
-white_in : (dpi : Dpi) (s : Situation) (old : Performer) → IsIn dpi s old → s.marks ≡ [] → IsWhite old.page.bitmap
-white_in dpi s old i none x y wide high =
+white_in : {dpi : Dpi} {s : Situation} {old : Performer} → IsIn dpi s old → s.marks ≡ [] → IsWhite old.page.bitmap
+white_in i none x y wide high =
     i.painted.dots x y (subst (λ (n : ℕ). x < n) (width_same i.painted.size_is i.painted.dpi_is) wide)
     (subst (λ (n : ℕ). y < n) (height_same i.painted.size_is i.painted.dpi_is) high)
     ∙ ap (λ (ms : List Mark). is_black ms x y) none
@@ -147,20 +147,20 @@ unmarked [] s e m = e
 unmarked (mark ∷ older) s e m = absurd (let t : is_marked s ≡ true = ap (λ (ms : List Mark). is_marked (record s { marks = ms })) e in cc)
 
 -- the page that follows the settings shows the same marks
-followed_page : (dpi : Dpi) (operation : Operation) (value : Value) (s : Situation) (settings : Settings) (effect : Effect)
-    (old middle new : Performer)
+followed_page : {dpi : Dpi} (operation : Operation) (value : Value) {s : Situation} {settings : Settings} (effect : Effect)
+    {old middle new : Performer}
     → IsIn dpi s old → outcome dpi operation value (is_marked s) s.settings ≡ Some (settings, effect) → ejects effect (is_marked s) ≡ false
     → middle.page.bitmap ≡ old.page.bitmap → middle.environment ≡ settings → IsFollowed middle new
     → IsPainted dpi settings.size s.marks new.page.bitmap
-followed_page dpi operation value s settings Eject old middle new i o e b env f = absurd cc
-followed_page dpi operation value s settings Stay old middle new i o e b env f =
-    let kept : settings.size ≡ s.settings.size = size_kept dpi operation value (is_marked s) s.settings settings o in
+followed_page operation value Eject i o e b env f = absurd cc
+followed_page {dpi} operation value {s} {settings} Stay {middle} i o e b env f =
+    let kept : settings.size ≡ s.settings.size = size_kept dpi operation value (is_marked s) s.settings o in
     let before : middle.page.bitmap.size ≡ middle.environment.size =
     ap (λ (p : Picture). p.size) b ∙ i.painted.size_is ∙ sym kept ∙ ap (λ (t : Settings). t.size) (sym env) in
     painted_same i.painted (f.same before ∙ b) kept
-followed_page dpi operation value s settings EjectMarked old middle new i o e b env f =
+followed_page {dpi} operation value {s} {settings} EjectMarked {new} i o e b env f =
     let none = unmarked s.marks s refl e in
-    let white : IsWhite new.page.bitmap = f.white (subst IsWhite (sym b) (white_in dpi s old i none)) in
+    let white : IsWhite new.page.bitmap = f.white (subst IsWhite (sym b) (white_in i none)) in
     let size : new.page.bitmap.size ≡ settings.size = f.size ∙ ap (λ (t : Settings). t.size) env in
     let resolution : new.page.bitmap.dpi ≡ dpi = f.resolution ∙ ap (λ (p : Picture). p.dpi) b ∙ i.painted.dpi_is in
     record {
@@ -186,9 +186,9 @@ with_settings settings s = record s { settings = settings }
 abbrev pub turned_page : Settings → Situation → Situation
 turned_page settings s = record s { settings = to_first_line settings; marks = []; pages = s.pages ++ sheet_of s ∷ [] }
 
-pub turned_no : (settings : Settings) (effect : Effect) (s : Situation) → ejects effect (is_marked s) ≡ false
+pub turned_no : {settings : Settings} (effect : Effect) (s : Situation) → ejects effect (is_marked s) ≡ false
     → turned settings effect s ≡ with_settings settings s
-turned_no settings effect s e = ap (λ (b : Bool). cond b (turned_page settings s) (with_settings settings s)) e
+turned_no {settings} effect s e = ap (λ (b : Bool). cond b (turned_page settings s) (with_settings settings s)) e
 
 pub turned_yes : (settings : Settings) (effect : Effect) (s : Situation) → ejects effect (is_marked s) ≡ true
     → turned settings effect s ≡ turned_page settings s
@@ -205,7 +205,7 @@ turns_to : {S : Type 0} (takes : S → Page → S → Type 0) (dpi : Dpi) (o : O
     (new : Performer) (old_sink new_sink : S)
     → o ≡ Some done → turned done.0 done.1 s ≡ later → Turns takes dpi s later new old_sink new_sink
     → IsTurned takes dpi o s (Ok tt) new old_sink new_sink
-turns_to {S} takes dpi o done s later new old_sink new_sink e t w =
+turns_to takes dpi o done s later new old_sink new_sink e t w =
     subst (λ (p : Outcome). IsTurned takes dpi p s (Ok tt) new old_sink new_sink) (sym e)
     (let is : Turns takes dpi s (turned done.0 done.1 s) new old_sink new_sink =
     subst (λ (z : Situation). Turns takes dpi s z new old_sink new_sink) (sym t) w in
@@ -219,13 +219,13 @@ pub turned_stays : {S : Type 0} (takes : S → Page → S → Type 0) (dpi : Dpi
     → middle.ejected ≡ old.ejected → middle.performed ≡ old.performed → middle.raster ≡ old.raster → middle.fonts ≡ old.fonts
     → IsFollowed middle new → later ≡ sink
     → IsTurned takes dpi (outcome dpi operation value (is_marked s) s.settings) s (Ok tt) new sink later
-turned_stays {S} takes dpi operation value effect s old middle new sink later i a e few b m j p r t f same =
-    let d = answered (outcome dpi operation value old.is_marked old.environment) effect old.environment middle.environment a in
-    let o : outcome dpi operation value (is_marked s) s.settings ≡ Some d.0 = sym (outcome_in dpi operation value s old i) ∙ d.1 in
+turned_stays takes dpi operation value effect s old middle new sink later i a e few b m j p r t f same =
+    let d = answered (outcome dpi operation value old.is_marked old.environment) old.environment a in
+    let o : outcome dpi operation value (is_marked s) s.settings ≡ Some d.0 = sym (outcome_in operation value i) ∙ d.1 in
     let no : ejects d.0.1 (is_marked s) ≡ false =
     ap (λ (x : Effect). ejects x (is_marked s)) (sym d.2) ∙ ap (ejects effect) (sym i.marked) ∙ e in
     turns_to takes dpi (outcome dpi operation value (is_marked s) s.settings) d.0 s (with_settings d.0.0 s) new sink later o
-    (turned_no d.0.0 d.0.1 s no)
+    (turned_no d.0.1 s no)
     (record {
       is_in = record {
         settings = f.settings ∙ d.3;
@@ -234,16 +234,16 @@ turned_stays {S} takes dpi operation value effect s old middle new sink later i 
         ejected = f.ejected ∙ j ∙ i.ejected;
         performed = f.performed ∙ p ∙ i.performed;
         fonts = holds_same i.fonts (f.fonts ∙ t) refl;
-        painted = followed_page dpi operation value s d.0.0 d.0.1 old middle new i o no b d.3 f;
+        painted = followed_page operation value d.0.1 i o no b d.3 f;
       };
       fits = pages_fit (with_settings d.0.0 s) (omega (arith, i.ejected));
       handed = ([], sym (append-nil s.pages), same);
     })
 
 -- the page that was ejected is the situation's
-pub handed_sheet : (dpi : Dpi) (s : Situation) (copies : ℕ) (old middle : Performer) (page : Page) → IsIn dpi s old → middle.page ≡ old.page
+pub handed_sheet : {dpi : Dpi} {s : Situation} {copies : ℕ} {old middle : Performer} {page : Page} → IsIn dpi s old → middle.page ≡ old.page
     → copies ≡ old.environment.copies → IsHanded copies middle page → Shows dpi page (sheet_of s)
-handed_sheet dpi s copies old middle page i b c handed =
+handed_sheet {dpi} {copies} {old} {page} i b c handed =
     let same : page.bitmap ≡ old.page.bitmap = handed.bitmap ∙ ap (λ (q : Page). q.bitmap) b in
     record {
       size = sym page.size_is ∙ ap (λ (q : Picture). q.size) same ∙ i.painted.size_is;
@@ -274,24 +274,24 @@ ejected_done : {S : Type 0} (takes : S → Page → S → Type 0) (dpi : Dpi) (o
     (old middle last : Performer) (sink later : S) → Ejected takes dpi operation value effect copies s old middle last sink later
     → (done : Settings × Effect) × (outcome dpi operation value (is_marked s) s.settings ≡ Some done) × (middle.environment ≡ done.0)
     × (turned done.0 done.1 s ≡ turned_page done.0 s)
-ejected_done {S} takes dpi operation value effect copies s old middle last sink later e =
-    let d = answered (outcome dpi operation value old.is_marked old.environment) effect old.environment middle.environment e.answered_as in
+ejected_done takes dpi operation value effect copies s old middle last sink later e =
+    let d = answered (outcome dpi operation value old.is_marked old.environment) old.environment e.answered_as in
     let yes : ejects d.0.1 (is_marked s) ≡ true =
     ap (λ (x : Effect). ejects x (is_marked s)) (sym d.2) ∙ ap (ejects effect) (sym e.is_in.marked) ∙ e.yes in
-    (d.0, sym (outcome_in dpi operation value s old e.is_in) ∙ d.1, d.3, turned_yes d.0.0 d.0.1 s yes)
+    (d.0, sym (outcome_in operation value e.is_in) ∙ d.1, d.3, turned_yes d.0.0 d.0.1 s yes)
 
 ejected_handed : {S : Type 0} (takes : S → Page → S → Type 0) (dpi : Dpi) (operation : Operation) (value : Value) (effect : Effect)
     (copies : ℕ) (s : Situation)
     (old middle last : Performer) (sink later : S) (settings : Settings)
     → Ejected takes dpi operation value effect copies s old middle last sink later
     → (page_refusal (turned_page settings s) ≡ None) × HandsMore takes dpi s (turned_page settings s) sink later
-ejected_handed {S} takes dpi operation value effect copies s old middle last sink later settings e =
+ejected_handed takes dpi operation value effect copies s old middle last sink later settings e =
     let count = length-append s.pages (sheet_of s ∷ []) in (
       pages_fit (turned_page settings s) (omega (arith, e.is_in.ejected, e.few, count)),
       (
         sheet_of s ∷ [],
         refl,
-        (e.taken.0, later, handed_sheet dpi s copies old middle e.taken.0 e.is_in e.page e.copies_are e.taken.1, e.taken.2, refl),
+        (e.taken.0, later, handed_sheet e.is_in e.page e.copies_are e.taken.1, e.taken.2, refl),
       ),
     )
 
@@ -300,7 +300,7 @@ pub turned_ejects : {S : Type 0} (takes : S → Page → S → Type 0) (dpi : Dp
     (old middle last new : Performer) (sink later : S) → Ejected takes dpi operation value effect copies s old middle last sink later
     → IsFollowed last new
     → IsTurned takes dpi (outcome dpi operation value (is_marked s) s.settings) s (Ok tt) new sink later
-turned_ejects {S} takes dpi operation value effect copies s old middle last new sink later e f =
+turned_ejects takes dpi operation value effect copies s old middle last new sink later e f =
     let i = e.is_in in
     let d = ejected_done takes dpi operation value effect copies s old middle last sink later e in
     let h = ejected_handed takes dpi operation value effect copies s old middle last sink later d.0.0 e in
@@ -333,7 +333,7 @@ pub turned_short : {S : Type 0} (takes : S → Page → S → Type 0) (dpi : Dpi
     (copies : ℕ) (s : Situation)
     (old middle last new : Performer) (sink later : S) → Ejected takes dpi operation value effect copies s old middle last sink later
     → IsTurned takes dpi (outcome dpi operation value (is_marked s) s.settings) s (Err Memory) new sink later
-turned_short {S} takes dpi operation value effect copies s old middle last new sink later e =
+turned_short takes dpi operation value effect copies s old middle last new sink later e =
     let d = ejected_done takes dpi operation value effect copies s old middle last sink later e in
     let h = ejected_handed takes dpi operation value effect copies s old middle last sink later d.0.0 e in
     subst (λ (o : Outcome). IsTurned takes dpi o s (Err Memory) new sink later) (sym d.1)
@@ -345,9 +345,9 @@ pub turned_past : {S : Type 0} (takes : S → Page → S → Type 0) (dpi : Dpi)
     → IsIn dpi s old → Answers (outcome dpi operation value old.is_marked old.environment) (Ok effect) old.environment now
     → ejects effect old.is_marked ≡ true → 256 ≤ old.ejected → later ≡ sink
     → IsTurned takes dpi (outcome dpi operation value (is_marked s) s.settings) s (Err (Refused TooManyPages)) new sink later
-turned_past {S} takes dpi operation value effect s old new now sink later i a e many same =
-    let d = answered (outcome dpi operation value old.is_marked old.environment) effect old.environment now a in
-    let o : outcome dpi operation value (is_marked s) s.settings ≡ Some d.0 = sym (outcome_in dpi operation value s old i) ∙ d.1 in
+turned_past takes dpi operation value effect s old new now sink later i a e many same =
+    let d = answered (outcome dpi operation value old.is_marked old.environment) old.environment a in
+    let o : outcome dpi operation value (is_marked s) s.settings ≡ Some d.0 = sym (outcome_in operation value i) ∙ d.1 in
     let yes : ejects d.0.1 (is_marked s) ≡ true =
     ap (λ (x : Effect). ejects x (is_marked s)) (sym d.2) ∙ ap (ejects effect) (sym i.marked) ∙ e in
     let count = length-append s.pages (sheet_of s ∷ []) in
@@ -362,23 +362,23 @@ pub turned_none : {S : Type 0} (takes : S → Page → S → Type 0) (dpi : Dpi)
     (old new : Performer) (now : Settings) (sink later : S)
     → IsIn dpi s old → Answers (outcome dpi operation value old.is_marked old.environment) (Err why) old.environment now → later ≡ sink
     → IsTurned takes dpi (outcome dpi operation value (is_marked s) s.settings) s (Err (Refused UnsupportedValue)) new sink later
-turned_none {S} takes dpi operation value why s old new now sink later i a same =
-    let n = unanswered (outcome dpi operation value old.is_marked old.environment) why old.environment now a in
+turned_none takes dpi operation value why s old new now sink later i a same =
+    let n = unanswered (outcome dpi operation value old.is_marked old.environment) old.environment now a in
     subst (λ (q : Outcome). IsTurned takes dpi q s (Err (Refused UnsupportedValue)) new sink later)
-    (sym (sym (outcome_in dpi operation value s old i) ∙ n)) (refl, same)
+    (sym (sym (outcome_in operation value i) ∙ n)) (refl, same)
 
 pub turned_memory : {S : Type 0} (takes : S → Page → S → Type 0) (dpi : Dpi) (o : Outcome) (s : Situation) (new : Performer)
-    (sink later : S) → later ≡ sink
+    {sink later : S} → later ≡ sink
     → IsTurned takes dpi o s (Err Memory) new sink later
-turned_memory takes dpi None s new sink later same = same
-turned_memory takes dpi (Some done) s new sink later same = inl same
+turned_memory takes dpi None s new same = same
+turned_memory takes dpi (Some done) s new same = inl same
 
 -- ---- what is drawn
 
-pub drawn_in : (dpi : Dpi) (mark : Mark) (raster : Option Raster) (s : Situation) (old new : Performer) → IsIn dpi s old
+pub drawn_in : {dpi : Dpi} {mark : Mark} {raster : Option Raster} {s : Situation} {old new : Performer} → IsIn dpi s old
     → IsDrawn mark old new → new.raster ≡ raster
     → IsIn dpi (record s { raster = raster; marks = mark ∷ s.marks }) new
-drawn_in dpi mark raster s old new i d r =
+drawn_in {dpi} {mark} {raster} {s} {old} i d r =
     let size : old.page.bitmap.size ≡ s.settings.size = i.painted.size_is in
     let resolution : old.page.bitmap.dpi ≡ dpi = i.painted.dpi_is in
     record {

@@ -29,12 +29,12 @@ use Rattle.pcl_page.proofs.Sinks.{Onward, stays_there, onward_on}
 
 -- ---- performances in a row
 
-unless_done : (why : Option Refusal) (s : Situation) → unless why s done ≡ record { situation = s; refusal = why }
-unless_done None s = refl
-unless_done (Some why) s = refl
+unless_done : (why : Option Refusal) {s : Situation} → unless why s done ≡ record { situation = s; refusal = why }
+unless_done None = refl
+unless_done (Some why) = refl
 
-pub then_done : (p : Performance) → then_on p done ≡ p
-then_done p = unless_done p.refusal p.situation
+pub then_done : {p : Performance} → then_on p done ≡ p
+then_done {p} = unless_done p.refusal
 
 unless_assoc : (why : Option Refusal) (s : Situation) (f g : Situation → Performance)
     → then_on (unless why s f) g ≡ unless why s (λ t. then_on (f t) g)
@@ -44,13 +44,13 @@ unless_assoc (Some why) s f g = refl
 pub then_assoc : (p : Performance) (f g : Situation → Performance) → then_on (then_on p f) g ≡ then_on p (λ t. then_on (f t) g)
 then_assoc p f g = unless_assoc p.refusal p.situation f g
 
-unless_same : (why : Option Refusal) (s : Situation) (f g : Situation → Performance) → ((t : Situation) → f t ≡ g t)
+unless_same : (why : Option Refusal) (s : Situation) {f g : Situation → Performance} → ((t : Situation) → f t ≡ g t)
     → unless why s f ≡ unless why s g
-unless_same None s f g e = e s
-unless_same (Some why) s f g e = refl
+unless_same None s e = e s
+unless_same (Some why) s e = refl
 
-pub then_same : (p : Performance) (f g : Situation → Performance) → ((t : Situation) → f t ≡ g t) → then_on p f ≡ then_on p g
-then_same p f g e = unless_same p.refusal p.situation f g e
+pub then_same : (p : Performance) {f g : Situation → Performance} → ((t : Situation) → f t ≡ g t) → then_on p f ≡ then_on p g
+then_same p e = unless_same p.refusal p.situation e
 
 -- ---- macros that run
 
@@ -66,7 +66,7 @@ deep_is (running ∷ older) k = let d = deep_is older k in omega (arith, d)
 pushed_deep : (k : ℕ) (dpi : Dpi) (all : List Said) (older : List Running) (newest : Running) (s : Situation)
     → resumed (deep older k) dpi all (older ++ newest ∷ []) s
     ≡ then_on (rest_of k dpi all (run_in newest) s) (resumed (deep older k) dpi all older)
-pushed_deep k dpi all [] newest s = sym (then_done (rest_of k dpi all (run_in newest) s))
+pushed_deep k dpi all [] newest s = sym (then_done)
 pushed_deep k dpi all (running ∷ older) newest s =
     ap (λ (p : Performance). then_on p (rest_of (deep older k) dpi all (run_in running))) (pushed_deep k dpi all older newest s)
     ∙ then_assoc (rest_of k dpi all (run_in newest) s) (resumed (deep older k) dpi all older)
@@ -84,51 +84,51 @@ pushed dpi all older newest s few =
 
 -- ---- a command
 
-stepped : (dpi : Dpi) (f : Said → Run → Situation → Performance) (place : ℕ) (command : Said) (s : Situation) (o : Result Situation Kind)
+stepped : (dpi : Dpi) (f : Said → Run → Situation → Performance) (place : ℕ) (command : Said) (s : Situation) {o : Result Situation Kind}
     → after_command dpi place command s ≡ o
     → step dpi f place command s ≡ then_on (concluded command s o) (λ later. and_run (f command) (run_of command s later) later)
-stepped dpi f place command s o e =
+stepped dpi f place command s e =
     ap (λ (p : Result Situation Kind). then_on (concluded command s p) (λ later. and_run (f command) (run_of command s later) later)) e
 
 -- one that is refused
-pub begun_refused : (dpi : Dpi) (all : List Said) (place : ℕ) (command : Said) (running : List Running) (s : Situation) (kind : Kind)
+pub begun_refused : (dpi : Dpi) (all : List Said) (place : ℕ) (command : Said) (running : List Running) {s : Situation} {kind : Kind}
     → after_command dpi place command s ≡ Err kind → begun_among dpi all place command running s ≡ stopped kind command s
-begun_refused dpi all place command running s kind e =
+begun_refused dpi all place command running {s} e =
     ap (λ (p : Performance). then_on p (resumed macro_limit dpi all running))
-    (stepped dpi (runs (macro_limit - length running) dpi all) place command s (Err kind) e)
+    (stepped dpi (runs (macro_limit - length running) dpi all) place command s e)
 
-begun_run : (dpi : Dpi) (all : List Said) (place : ℕ) (command : Said) (running : List Running) (s later : Situation) (run : Option Run)
+begun_run : (dpi : Dpi) (all : List Said) (place : ℕ) (command : Said) (running : List Running) (s : Situation) {later : Situation} {run : Option Run}
     → after_command dpi place command s ≡ Ok later → run_of command s later ≡ run
     → begun_among dpi all place command running s
     ≡ then_on (and_run (runs (macro_limit - length running) dpi all command) run later) (resumed macro_limit dpi all running)
-begun_run dpi all place command running s later run e r =
+begun_run dpi all place command running s {later} e r =
     let f = runs (macro_limit - length running) dpi all in
-    ap (λ (p : Performance). then_on p (resumed macro_limit dpi all running)) (stepped dpi f place command s (Ok later) e)
+    ap (λ (p : Performance). then_on p (resumed macro_limit dpi all running)) (stepped dpi f place command s e)
     ∙ ap (λ (o : Option Run). then_on (and_run (f command) o later) (resumed macro_limit dpi all running)) r
 
 -- one that would run a macro too deep
-pub begun_deep : (dpi : Dpi) (all : List Said) (place : ℕ) (command : Said) (running : List Running) (s later : Situation) (run : Run)
+pub begun_deep : (dpi : Dpi) (all : List Said) (place : ℕ) (command : Said) (running : List Running) (s : Situation) {later : Situation} {run : Run}
     → after_command dpi place command s ≡ Ok later → run_of command s later ≡ Some run → length running ≡ 3
     → begun_among dpi all place command running s ≡ stopped MacroDepth command later
-begun_deep dpi all place command running s later run e r full =
+begun_deep dpi all place command running s {later} {run} e r full =
     let levels : macro_limit - length running ≡ 0 = omega (arith, full) in
-    begun_run dpi all place command running s later (Some run) e r
+    begun_run dpi all place command running s e r
     ∙ ap (λ (n : ℕ). then_on (runs n dpi all command run later) (resumed macro_limit dpi all running)) levels
 
 -- one that runs a macro, or none
-pub begun_entered : (dpi : Dpi) (all : List Said) (place : ℕ) (command : Said) (running : List Running) (s later : Situation)
+pub begun_entered : (dpi : Dpi) (all : List Said) (place : ℕ) (command : Said) (running : List Running) (s : Situation) {later : Situation}
     (run : Option Run) → after_command dpi place command s ≡ Ok later → run_of command s later ≡ run
     → HasLevel run running
     → resumed macro_limit dpi all (running ++ entered run) later ≡ begun_among dpi all place command running s
-begun_entered dpi all place command running s later None e r few =
+begun_entered dpi all place command running s {later} None e r few =
     ap (λ (rs : List Running). resumed macro_limit dpi all rs later) (append-nil running)
-    ∙ sym (begun_run dpi all place command running s later None e r)
-begun_entered dpi all place command running s later (Some run) e r few =
+    ∙ sym (begun_run dpi all place command running s e r)
+begun_entered dpi all place command running s {later} (Some run) e r few =
     let newest : Running = record { next = run.next; end = run.end; saved = run.saved } in
     let fits : length running < 3 = few in
     let levels : macro_limit - length running ≡ suc (2 - length running) = omega arith in
     pushed dpi all running newest later fits
-    ∙ sym (begun_run dpi all place command running s later (Some run) e r
+    ∙ sym (begun_run dpi all place command running s e r
     ∙ ap (λ (n : ℕ). then_on (runs n dpi all command run later) (resumed macro_limit dpi all running)) levels)
 
 -- ---- what a command adds
@@ -144,9 +144,9 @@ pub record ActsOnMacros (s later : Situation) : Type 0 where
   pub pages : later.pages ≡ s.pages
   pub performed : later.performed ≡ s.performed
 
-ended_acts : (place : ℕ) (begun : Option Begun) (s later : Situation) → definition_ended place begun s ≡ Ok later → ActsOnMacros s later
-ended_acts place None s later e = absurd cc
-ended_acts place (Some d) s later e =
+ended_acts : (place : ℕ) (begun : Option Begun) {s later : Situation} → definition_ended place begun s ≡ Ok later → ActsOnMacros s later
+ended_acts place None e = absurd cc
+ended_acts place (Some d) {s} {later} e =
     let same : record s { macros = defined d.id d.from place ∷ s.macros; begun = None } ≡ later = cc in record {
       pages = ap (λ (z : Situation). z.pages) (sym same);
       performed = ap (λ (z : Situation). z.performed) (sym same);
@@ -155,79 +155,79 @@ ended_acts place (Some d) s later e =
 same_acts : {s now later : Situation} → ActsOnMacros s now → ◌≡◌ {A = Result Situation Kind} (Ok now) (Ok later) → ActsOnMacros s later
 same_acts {s} {now} {later} a e = let same : now ≡ later = cc in subst (λ (z : Situation). ActsOnMacros s z) same a
 
-acted_acts : (place : ℕ) (action : Option Action) (s later : Situation) → acted place action s ≡ Ok later → ActsOnMacros s later
-acted_acts place (Some Begin) s later e = same_acts (record { pages = refl; performed = refl }) e
-acted_acts place (Some End) s later e = ended_acts place s.begun s later e
-acted_acts place (Some (Control what)) s later e = same_acts (record { pages = refl; performed = refl }) e
-acted_acts place other s later e = same_acts (record { pages = refl; performed = refl }) e
+acted_acts : (place : ℕ) (action : Option Action) {s later : Situation} → acted place action s ≡ Ok later → ActsOnMacros s later
+acted_acts place (Some Begin) e = same_acts (record { pages = refl; performed = refl }) e
+acted_acts place (Some End) {s} e = ended_acts place s.begun e
+acted_acts place (Some (Control what)) e = same_acts (record { pages = refl; performed = refl }) e
+acted_acts place other e = same_acts (record { pages = refl; performed = refl }) e
 
-pub managed_acts : (place : ℕ) (operation : Operation) (value : Value) (s later : Situation) → managed place operation value s ≡ Ok later
+pub managed_acts : (place : ℕ) (operation : Operation) (value : Value) {s later : Situation} → managed place operation value s ≡ Ok later
     → ActsOnMacros s later
-managed_acts place Reset value s later e = same_acts (record { pages = refl; performed = refl }) e
-managed_acts place UniversalExit value s later e = same_acts (record { pages = refl; performed = refl }) e
-managed_acts place ControlMacros value s later e = acted_acts place (action_of value) s later e
-managed_acts place other value s later e = same_acts (record { pages = refl; performed = refl }) e
+managed_acts place Reset value e = same_acts (record { pages = refl; performed = refl }) e
+managed_acts place UniversalExit value e = same_acts (record { pages = refl; performed = refl }) e
+managed_acts place ControlMacros value e = acted_acts place (action_of value) e
+managed_acts place other value e = same_acts (record { pages = refl; performed = refl }) e
 
 not_past : (dpi : Dpi) (command : Said) (s : Situation) (past : Bool) → nat_le command_limit s.performed ≡ past
     → cond past (Some TooManyCommands) (operation_refusal dpi (operation_of command.name) command s) ≡ None → s.performed < 100000000
 not_past dpi command s true e n = absurd cc
 not_past dpi command s false e n = grind (arith, nat_tests)
 
-done_counts : (dpi : Dpi) (place : ℕ) (operation : Operation) (command : Said) (s later : Situation) (o : Result Situation Kind)
+done_counts : (dpi : Dpi) (place : ℕ) (operation : Operation) (command : Said) {s later : Situation} (o : Result Situation Kind)
     → after dpi operation command s ≡ o → and_then o (managed place operation command.value) ≡ Ok later → s.performed < 100000000
     → Counts s later
-done_counts dpi place operation command s later (Err kind) e m few = absurd cc
-done_counts dpi place operation command s later (Ok now) e m few =
+done_counts dpi place operation command (Err kind) e m few = absurd cc
+done_counts dpi place operation command {s} (Ok now) e m few =
     let a = after_adds dpi operation command s now e in
-    let b = managed_acts place operation command.value now later m in
+    let b = managed_acts place operation command.value m in
     record { onward = (a.more, b.pages ∙ a.pages); performed = b.performed ∙ a.performed; few = few }
 
-named_counts : (dpi : Dpi) (place : ℕ) (operation : Option Operation) (command : Said) (s later : Situation)
+named_counts : (dpi : Dpi) (place : ℕ) (operation : Option Operation) (command : Said) {s later : Situation}
     → after_at dpi place operation command s ≡ Ok later → s.performed < 100000000 → Counts s later
-named_counts dpi place None command s later e few = absurd cc
-named_counts dpi place (Some operation) command s later e few =
-    done_counts dpi place operation command s later (after dpi operation command s) refl e few
+named_counts dpi place None command e few = absurd cc
+named_counts dpi place (Some operation) command {s} e few =
+    done_counts dpi place operation command (after dpi operation command s) refl e few
 
-unrefused_counts : (dpi : Dpi) (place : ℕ) (command : Said) (s later : Situation) (why : Option Kind) → command_refusal dpi command s ≡ why
+unrefused_counts : (dpi : Dpi) (place : ℕ) (command : Said) {s later : Situation} (why : Option Kind) → command_refusal dpi command s ≡ why
     → if_not_refused why (after_at dpi place (operation_of command.name) command s) ≡ Ok later → Counts s later
-unrefused_counts dpi place command s later (Some kind) w e = absurd cc
-unrefused_counts dpi place command s later None w e =
-    named_counts dpi place (operation_of command.name) command s later e
+unrefused_counts dpi place command (Some kind) w e = absurd cc
+unrefused_counts dpi place command {s} None w e =
+    named_counts dpi place (operation_of command.name) command e
     (not_past dpi command s (nat_le command_limit s.performed) refl w)
 
-counting_counts : (dpi : Dpi) (place : ℕ) (command : Said) (s later : Situation) → counting dpi place command s ≡ Ok later → Counts s later
-counting_counts dpi place command s later e = unrefused_counts dpi place command s later (command_refusal dpi command s) refl e
+counting_counts : (dpi : Dpi) (place : ℕ) (command : Said) {s later : Situation} → counting dpi place command s ≡ Ok later → Counts s later
+counting_counts dpi place command {s} e = unrefused_counts dpi place command (command_refusal dpi command s) refl e
 
 -- a command is kept, and nothing changes, or it counts
 abbrev pub KeptOrCounts : Situation → Situation → Type 0
 KeptOrCounts s later = ((later ≡ s) × (is_some s.begun ≡ true)) ⊎ Counts s later
 
-defining_counts : (dpi : Dpi) (place : ℕ) (keeping : Keeping) (command : Said) (s later : Situation) → is_some s.begun ≡ true
+defining_counts : (dpi : Dpi) (place : ℕ) (keeping : Keeping) (command : Said) {s later : Situation} → is_some s.begun ≡ true
     → defining dpi place keeping command s ≡ Ok later → KeptOrCounts s later
-defining_counts dpi place Kept command s later b e = let same : later ≡ s = cc in inl (same, b)
-defining_counts dpi place Ends command s later b e = inr (counting_counts dpi place command s later e)
-defining_counts dpi place (Refused kind) command s later b e = absurd cc
+defining_counts dpi place Kept command {s} {later} b e = let same : later ≡ s = cc in inl (same, b)
+defining_counts dpi place Ends command b e = inr (counting_counts dpi place command e)
+defining_counts dpi place (Refused kind) command b e = absurd cc
 
-command_by : (dpi : Dpi) (place : ℕ) (command : Said) (s later : Situation) (begun : Bool) → is_some s.begun ≡ begun
+command_by : (dpi : Dpi) (place : ℕ) (command : Said) {s later : Situation} (begun : Bool) → is_some s.begun ≡ begun
     → cond begun (defining dpi place (keeping_of (operation_of command.name) command.value) command s) (counting dpi place command s)
     ≡ Ok later → KeptOrCounts s later
-command_by dpi place command s later true b e =
-    defining_counts dpi place (keeping_of (operation_of command.name) command.value) command s later b e
-command_by dpi place command s later false b e = inr (counting_counts dpi place command s later e)
+command_by dpi place command true b e =
+    defining_counts dpi place (keeping_of (operation_of command.name) command.value) command b e
+command_by dpi place command false b e = inr (counting_counts dpi place command e)
 
 pub command_counts : (dpi : Dpi) (place : ℕ) (command : Said) (s later : Situation) → after_command dpi place command s ≡ Ok later
     → KeptOrCounts s later
-command_counts dpi place command s later e = command_by dpi place command s later (is_some s.begun) refl e
+command_counts dpi place command s later e = command_by dpi place command (is_some s.begun) refl e
 
-kept_onward : (s later : Situation) → KeptOrCounts s later → Onward s later
-kept_onward s later k = elim k [
+kept_onward : {s later : Situation} → KeptOrCounts s later → Onward s later
+kept_onward {s} k = elim k [
   | inl same ↦ subst (λ (z : Situation). Onward s z) (sym same.0) (stays_there s)
   | inr counts ↦ counts.onward
 ]
 
 pub command_onward : (dpi : Dpi) (place : ℕ) (command : Said) (s later : Situation) → after_command dpi place command s ≡ Ok later
     → Onward s later
-command_onward dpi place command s later e = kept_onward s later (command_counts dpi place command s later e)
+command_onward dpi place command s later e = kept_onward (command_counts dpi place command s later e)
 
 -- ---- performances only add pages
 
@@ -252,9 +252,9 @@ run_grows : (f : Run → Situation → Performance) (run : Option Run) → ((r :
 run_grows f None g = stays_there
 run_grows f (Some run) g = g run
 
-step_grows : (dpi : Dpi) (f : Said → Run → Situation → Performance) (place : ℕ) (command : Said)
+step_grows : (dpi : Dpi) (f : Said → Run → Situation → Performance) (place : ℕ) {command : Said}
     → ((r : Run) → Grows (f command r)) → Grows (step dpi f place command)
-step_grows dpi f place command g = λ s.
+step_grows dpi f place {command} g = λ s.
     then_grows (concluded command s (after_command dpi place command s)) s (λ later. and_run (f command) (run_of command s later) later)
     (concluded_grows dpi place command s (after_command dpi place command s) refl)
     (λ later. run_grows (f command) (run_of command s later) g later)
@@ -263,7 +263,7 @@ order_grows : (dpi : Dpi) (f : Said → Run → Situation → Performance) (plac
     → ((command : Said) (r : Run) → Grows (f command r)) → Grows (in_order (step dpi f) place commands)
 order_grows dpi f place [] g = stays_there
 order_grows dpi f place (command ∷ commands) g = λ s.
-    then_grows (step dpi f place command s) s (in_order (step dpi f) (place + 1) commands) (step_grows dpi f place command (g command) s)
+    then_grows (step dpi f place command s) s (in_order (step dpi f) (place + 1) commands) (step_grows dpi f place (g command) s)
     (order_grows dpi f (place + 1) commands g)
 
 left_grows : (dpi : Dpi) (saved : Option Settings) → Grows (λ later. done (left dpi saved later))
@@ -295,16 +295,16 @@ pub begun_grow : (dpi : Dpi) (all : List Said) (place : ℕ) (command : Said) (r
     → Grows (begun_among dpi all place command running)
 begun_grow dpi all place command running = λ s.
     then_grows (step dpi (runs (macro_limit - length running) dpi all) place command s) s (resumed macro_limit dpi all running)
-    (step_grows dpi (runs (macro_limit - length running) dpi all) place command
+    (step_grows dpi (runs (macro_limit - length running) dpi all) place
     (runs_grow (macro_limit - length running) dpi all command) s) (resumed_grow macro_limit dpi all running)
 
 -- behind a command that isn't refused
-pub begun_after : (dpi : Dpi) (all : List Said) (place : ℕ) (command : Said) (running : List Running) (s later : Situation)
+pub begun_after : (dpi : Dpi) (all : List Said) (place : ℕ) (command : Said) (running : List Running) (s : Situation) {later : Situation}
     → after_command dpi place command s ≡ Ok later → Onward later (begun_among dpi all place command running s).situation
-begun_after dpi all place command running s later e =
+begun_after dpi all place command running s {later} e =
     let f = runs (macro_limit - length running) dpi all in
     subst (λ (p : Performance). Onward later p.situation)
-    (sym (begun_run dpi all place command running s later (run_of command s later) e refl))
+    (sym (begun_run dpi all place command running s e refl))
     (then_grows (and_run (f command) (run_of command s later) later) later (resumed macro_limit dpi all running)
     (run_grows (f command) (run_of command s later) (runs_grow (macro_limit - length running) dpi all command) later)
     (resumed_grow macro_limit dpi all running))

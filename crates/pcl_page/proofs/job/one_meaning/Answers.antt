@@ -11,9 +11,9 @@ returns-clause-pages c = λ dpi job pages others p q.
     p.ejected ∙ ap (λ (commands : List Said). pages_of (performance_of dpi job commands))
     (c.one_outcome.ensures.reading job p.commands q.commands p.reading q.reading) ∙ sym q.ejected
 
-same_stop : (dpi : Dpi) (job : List ℕ) (refusal other : Refusal) (p : IsStopped dpi job refusal) (q : IsStopped dpi job other)
+same_stop : {dpi : Dpi} {job : List ℕ} {refusal other : Refusal} (p : IsStopped dpi job refusal) (q : IsStopped dpi job other)
     → p.commands ≡ q.commands → refusal ≡ other
-same_stop dpi job refusal other p q e =
+same_stop {dpi} {job} {refusal} {other} p q e =
     let s : Some refusal ≡ Some other =
     sym p.refused ∙ ap (λ (commands : List Said). (performance_of dpi job commands).refusal) e ∙ q.refused in cc
 
@@ -26,7 +26,7 @@ returns-clause-refusal c = λ dpi job refusal other p q.
       ]
       | inr s ↦ elim q [
         | inl k ↦ absurd (c.one_outcome.ensures.apart job s.commands other s.reading k)
-        | inr t ↦ same_stop dpi job refusal other s t (c.one_outcome.ensures.reading job s.commands t.commands s.reading t.reading)
+        | inr t ↦ same_stop s t (c.one_outcome.ensures.reading job s.commands t.commands s.reading t.reading)
       ]
     ]
 

@@ -8,5 +8,5 @@ returns c =
       accepted_pages h,
       has_pages h,
       rw c.collected.view_is
-          (all_shown c.args.dpi [] c.new.result.items c.perform.new.sink [] (accepted_pages h) c.new.ensures.items tt h.handed.1),
+          (all_shown c.args.dpi c.perform.new.sink [] (accepted_pages h) c.new.ensures.items tt h.handed.1),
     )

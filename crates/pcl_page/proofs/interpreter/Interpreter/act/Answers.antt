@@ -4,27 +4,25 @@ use Rattle.pcl_page.proofs.interpreter.Interpreter.act.Goals as goal
 
 pub returns-in-Execute : goal.returns-in-Execute
 returns-in-Execute c = λ dpi s at. rw c.in-Execute.is
-    (execute_acted dpi c.macro_id-id.result s c.args.self.now c.enter.new.self c.enter.result at c.macro_id-id.ensures c.enter.ensures)
+    (execute_acted c.enter.new.self c.enter.result at c.macro_id-id.ensures c.enter.ensures)
 
 pub returns-in-Call : goal.returns-in-Call
 returns-in-Call c = λ dpi s at. rw c.in-Call.is
-    (call_acted dpi c.macro_id-id.result c.save-saved.result s c.args.self.now c.enter-in-Call.new.self c.enter-in-Call.result at
+    (call_acted c.enter-in-Call.new.self c.enter-in-Call.result at
     c.macro_id-id.ensures c.save-saved.ensures.kept c.enter-in-Call.ensures)
 
 pub returns-in-Begin : goal.returns-in-Begin
 returns-in-Begin c = λ dpi s at. rw c.in-Begin.is
-    (begin_acted dpi c.macro_id-id.result c.args.place s c.args.self.now
-    (record { performer = c.args.self.now.performer; macros = c.begin.new.self; running = c.args.self.now.running }) at
+    (begin_acted c.args.place at
     c.macro_id-id.ensures refl refl c.begin.ensures)
 
 pub returns-in-End : goal.returns-in-End
 returns-in-End c = λ dpi s at. rw c.in-End.is
-    (end_acted dpi c.args.place s c.args.self.now
+    (end_acted c.args.place
     (record { performer = c.args.self.now.performer; macros = c.end.new.self; running = c.args.self.now.running }) c.end.result at refl refl
     c.end.ensures)
 
 pub returns-in-Control : goal.returns-in-Control
 returns-in-Control c = λ dpi s at. rw c.in-Control.is
-    (control_acted dpi c.in-Control.what c.macro_id-id.result c.args.place s c.args.self.now
-    (record { performer = c.args.self.now.performer; macros = c.control.new.self; running = c.args.self.now.running }) at
+    (control_acted c.args.place at
     c.macro_id-id.ensures refl refl c.control.ensures)

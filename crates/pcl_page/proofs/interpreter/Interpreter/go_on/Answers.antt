@@ -15,7 +15,7 @@ returns-in-Some-clause-done g c = λ s at.
     command_goes g.S.PageSink.takes c.args.dpi c.args.commands.now c.args.self.now.running.items c.push.new.self.items c.args.newest
     c.in-Some.command.now s c.perform_at.result c.perform_at.new.self c.args.sink.now c.perform_at.new.sink c.requires.level
     c.in-Some.ensures.lookup.3.0 c.in-Some.ensures.lookup.1 c.if-place-newest.true c.push.ensures.items
-    (c.perform_at.ensures.done (views c.args.commands.now) s (at_running c.args.dpi s c.args.self.now middle refl refl at))
+    (c.perform_at.ensures.done (views c.args.commands.now) s (at_running refl refl at))
 
 pub returns-in_default-clause-done : goal.returns-in_default-clause-done
 returns-in_default-clause-done g c = λ s at.

@@ -14,6 +14,6 @@ returns-in-Some c = λ dpi s at. rw c.in-ControlMacros.is
 pub returns-in-Reset : goal.returns-in-Reset
 returns-in-Reset c = λ dpi s at.
     elim c.in-Reset.is [
-      | inl e ↦ rw e (reset_acted dpi s c.args.self.now _ at refl refl c.control.ensures)
-      | inr e ↦ rw e (reset_acted dpi s c.args.self.now _ at refl refl c.control.ensures)
+      | inl e ↦ rw e (reset_acted at refl refl c.control.ensures)
+      | inr e ↦ rw e (reset_acted at refl refl c.control.ensures)
     ]

@@ -21,8 +21,7 @@ returns-in-Ok-clause-no_more g c = λ count.
 pub returns-in-Ok-clause-few : goal.returns-in-Ok-clause-few
 returns-in-Ok-clause-few g c =
     let t = c.in-Ok.ensures c.requires.somewhere.0 c.requires.somewhere.1 in
-    enters_few (run_of (view c.args.command.now) c.requires.somewhere.0 t.0) c.args.self.now.running.items
-    c.try_command.new.self.running.items t.3 c.requires.few
+    enters_few (run_of (view c.args.command.now) c.requires.somewhere.0 t.0) c.args.self.now.running.items t.3 c.requires.few
 
 pub returns-in-Err-Refused-clause-done : goal.returns-in-Err-Refused-clause-done
 returns-in-Err-Refused-clause-done g c = λ all s at.

@@ -6,7 +6,7 @@ use Rattle.pcl_page.proofs.performer.Performer.finish.Goals.{then-self+else-self
 
 pub returns-then-self-ge-PAGE_LIMIT : goal.returns-then-self-ge-PAGE_LIMIT
 returns-then-self-ge-PAGE_LIMIT g c = λ dpi s i.
-    (TooManyPages, end_past dpi s c.args.self i c.if-self.true (omega (arith, c.if-self-ge-PAGE_LIMIT.true)), c.new.ensures, refl)
+    (TooManyPages, end_past i c.if-self.true (omega (arith, c.if-self-ge-PAGE_LIMIT.true)), c.new.ensures, refl)
 
 pub returns : goal.returns
 returns g c = λ dpi s i.

@@ -21,7 +21,7 @@ returns-in-None-2 c = λ s i.
 pub returns-in-Some : goal.returns-in-Some
 returns-in-Some c = λ s i.
     let some = sym c.in-Some.is ∙ c.font_in_use.ensures c.args.dpi s i in (
-      text_taken c.args.codes.now (font_now s) c.in-Some.font some,
-      printed_as (prints s.fonts (font_in_use s.settings)) c.args.codes.now s (text_advance (font_now s) c.in-Some.font some)
+      text_taken c.args.codes.now (font_now s) some,
+      printed_as (prints s.fonts (font_in_use s.settings)) c.args.codes.now s (text_advance (font_now s) some)
           (c.print_codes.ensures s i),
     )

@@ -30,7 +30,7 @@ returns-in_err-follow_size-clause-turned g c = λ s i.
             is_ejected = w.in_ok-eject.ensures.ok.0;
             taken = w.in_ok-eject.ensures.ok.1;
           }))
-      | else-ejects w ↦ turned_memory g.S.PageSink.takes c.args.dpi _ s _ c.args.sink.now c.if-ejects.sink w.sink-is
+      | else-ejects w ↦ turned_memory g.S.PageSink.takes c.args.dpi _ s _ w.sink-is
     ])
 
 pub returns-clause-turned : goal.returns-clause-turned
