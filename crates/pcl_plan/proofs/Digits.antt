@@ -15,8 +15,8 @@ use Rattle.pcl_plan.proofs.Numbers.{decimal_spelled}
 digit_small : (d : ℕ) → is_digit d ≡ true → d - 48 < 10
 digit_small d e = grind (arith, nat_tests)
 
-regrouped : (a b c : ℕ) → c ≡ 10 * b → a * 10 * b ≡ a * c
-regrouped a b c e = (let same : a * 10 * b ≡ a * (10 * b) = grind arith in same) ∙ ap (λ (x : ℕ). a * x) (sym e)
+regrouped : (a b : ℕ) {c : ℕ} → c ≡ 10 * b → a * 10 * b ≡ a * c
+regrouped a b e = (let same : a * 10 * b ≡ a * (10 * b) = grind arith in same) ∙ ap (λ (x : ℕ). a * x) (sym e)
 
 -- digits spell a number below the power of ten of their count
 number_below : (digits : List ℕ) (n : ℕ) → AreDigits digits → fold (λ (m : ℕ) (d : ℕ). m * 10 + (d - 48)) n digits < (n + 1) * 10 ^ length
@@ -29,8 +29,7 @@ number_below (d ∷ digits) n are =
     let room : next + 1 ≤ (n + 1) * 10 = omega arith in
     let power : 10 ^ suc (length digits) ≡ 10 * 10 ^ length digits = pow-succ' 10 (length digits) in
     let more : (next + 1) * 10 ^ length digits ≤ (n + 1) * 10 * 10 ^ length digits = mul-le-mul_right (10 ^ length digits) room in
-    let same : (n + 1) * 10 * 10 ^ length digits ≡ (n + 1) * 10 ^ suc (length digits) = regrouped (n + 1) (10 ^ length digits)
-    (10 ^ suc (length digits)) power in
+    let same : (n + 1) * 10 * 10 ^ length digits ≡ (n + 1) * 10 ^ suc (length digits) = regrouped (n + 1) (10 ^ length digits) power in
     omega (arith, below, more, same)
 
 -- a number is below the power of ten of its digits

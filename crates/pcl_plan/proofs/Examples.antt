@@ -24,26 +24,26 @@ three = ((refl, tt), refl)
 
 -- ---- rows
 
-is_byte : (b : ℕ) → IsElement Plain (record { head = Itself; bytes = b ∷ [] })
-is_byte b = record { head_is = record { method_is = refl; in_range = tt }; complete = refl }
+is_byte : {b : ℕ} → IsElement Plain (record { head = Itself; bytes = b ∷ [] })
+is_byte = record { head_is = record { method_is = refl; in_range = tt }; complete = refl }
 
 -- a plain row of one byte
-plain_row : (seed b : ℕ) → IsRowData Plain (seed ∷ []) (b ∷ []) (b ∷ [])
-plain_row seed b = record {
-  whole = (record { head = Itself; bytes = b ∷ [] } ∷ [], (is_byte b, tt), refl, lit≤ tt);
+plain_row : {seed b : ℕ} → IsRowData Plain (seed ∷ []) (b ∷ []) (b ∷ [])
+plain_row {b} = record {
+  whole = (record { head = Itself; bytes = b ∷ [] } ∷ [], (is_byte, tt), refl, lit≤ tt);
   decodes = (
     record { head = Itself; bytes = b ∷ [] } ∷ [],
     record { head = Itself; bytes = 0 ∷ [] },
     [],
-    record { elements = (is_byte b, tt); joined = refl; element = is_byte 0; lacking = (0 ∷ [], refl, lit≤ tt) },
+    record { elements = (is_byte, tt); joined = refl; element = is_byte; lacking = (0 ∷ [], refl, lit≤ tt) },
     refl,
   );
   fits = lit≤ tt;
 }
 
 -- the row above again, without data in method 3
-row_again : (b : ℕ) → IsRowData Delta (b ∷ []) (b ∷ []) []
-row_again b = record {
+row_again : {b : ℕ} → IsRowData Delta (b ∷ []) (b ∷ []) []
+row_again = record {
   whole = ([], tt, refl, lit≤ tt);
   decodes = (
     [],
@@ -71,7 +71,7 @@ skipping_spelled = refl
 
 skipping_prints : PrintsRows false Plain (0 ∷ []) skipping ((128 ∷ []) ∷ (0 ∷ []) ∷ (128 ∷ []) ∷ [])
 unfolding PrintsRows
-skipping_prints = (one, plain_row 0 128, (one, lit≤ tt, lit≤ tt, ((refl, tt), tt), (one, plain_row 0 128, tt)))
+skipping_prints = (one, plain_row, (one, lit≤ tt, lit≤ tt, ((refl, tt), tt), (one, plain_row, tt)))
 
 -- three equal rows, the second and third by method 3; below them the page is white
 abbrev repeating : List Token
@@ -82,7 +82,7 @@ repeating_spelled = refl
 
 repeating_prints : PrintsRows false Plain (0 ∷ []) repeating ((128 ∷ []) ∷ (128 ∷ []) ∷ (128 ∷ []) ∷ (0 ∷ []) ∷ [])
 unfolding PrintsRows
-repeating_prints = (one, plain_row 0 128, (three, (no_digits, row_again 128, (no_digits, row_again 128, ((refl, tt), tt)))))
+repeating_prints = (one, plain_row, (three, (no_digits, row_again, (no_digits, row_again, ((refl, tt), tt)))))
 
 -- a sequence without a parameter prints nothing, and so does one that isn't ended
 lone_opening : PrintsRows false Plain (0 ∷ []) (opening ∷ []) ((0 ∷ []) ∷ []) → ⊥

@@ -72,14 +72,14 @@ ink_left rows row run is lt white =
 
 -- ---- what is read of a table
 
-falls_by : (width : ℕ) (rows : List (List ℕ)) (table : List RowNumbers) (row run : ℕ) → AreRightFrom width rows table (row + 1)
+falls_by : {width : ℕ} {rows : List (List ℕ)} {table : List RowNumbers} {row run : ℕ} → AreRightFrom width rows table (row + 1)
     → IsWhiteRun rows row run → (method : Method) (near gap : ℕ) → 0 < near → near + gap ≤ run
     → rest (node_number table) (row + (near + gap)) method ≤ rest (node_number table) (row + near) method
-falls_by width rows table row run right is method near zero some within =
+falls_by {table} {row} right is method near zero some within =
     let same : near + 0 ≡ near = omega arith in
     omega (arith, ap (λ (k : ℕ). rest (node_number table) (row + k) method) same)
-falls_by width rows table row run right is method near (suc gap) some within =
-    let before = falls_by width rows table row run right is method near gap some (omega arith) in
+falls_by {rows} {table} {row} {run} right is method near (suc gap) some within =
+    let before = falls_by right is method near gap some (omega arith) in
     let place : ℕ = row + (near + gap) in
     let white = white_below rows row run (near + gap) is.white (omega arith) is.within in
     let step = (right.right place (omega arith) (omega (arith, is.within))).falls method (omega (arith, is.within)) white in
@@ -96,7 +96,7 @@ readable width rows table row run few right is ink = record {
       let gap : near + (far - near) ≡ far = omega arith in
       omega (
         arith,
-        falls_by width rows table row run right is method near (far - near) some (omega arith),
+        falls_by right is method near (far - near) some (omega arith),
         ap
             (λ (k : ℕ). rest (node_number table) (row + k) method) gap,
       );
@@ -105,11 +105,11 @@ readable width rows table row run few right is ink = record {
 
 -- ---- the numbers of a row
 
-pub direct_of_start : (width : ℕ) (rows : List (List ℕ)) (number : Node → ℕ) (row : ℕ) (method : Method) (run bytes least : ℕ)
+pub direct_of_start : {width : ℕ} {rows : List (List ℕ)} {number : Node → ℕ} {row : ℕ} {method : Method} {run bytes least : ℕ}
     → IsWhiteRun rows row run
     → IsLeastLength method (row_above width rows row) (row_at rows row) bytes → IsLeastStart number row method run bytes least
     → IsDirect width rows number row method least
-direct_of_start width rows number row method run bytes least is length_is start = record {
+direct_of_start {rows} {row} {run} {bytes} is length_is start = record {
   bytes = bytes;
   is_length = length_is;
   sent = start.sent;
@@ -130,10 +130,10 @@ direct_of_start width rows number row method run bytes least is length_is start 
       ];
 }
 
-direct_stays : (width : ℕ) (rows : List (List ℕ)) (number other : Node → ℕ) (row : ℕ) (method : Method) (least : ℕ)
+direct_stays : {width : ℕ} {rows : List (List ℕ)} {number other : Node → ℕ} {row : ℕ} {method : Method} {least : ℕ}
     → ((a : Node) → row < a.row → other a ≡ number a) → IsDirect width rows number row method least
     → IsDirect width rows other row method least
-direct_stays width rows number other row method least same is =
+direct_stays {number} {other} {row} {method} same is =
     let there : (count : ℕ) → 0 < count → skipping other row method count ≡ skipping number row method count =
     λ count some. omega (arith, same (node (row + count) method true) (omega arith), same (node (row + count) method false) (omega arith))
     in
@@ -158,21 +158,21 @@ pub record IsPut (old new : List RowNumbers) (row : ℕ) (numbers : RowNumbers) 
   pub changed : (method : Method) (is_open : Bool) → node_number new (node row method is_open) ≡ number_in numbers method is_open
   pub others : (a : Node) → (a.row ≡ row → ⊥) → node_number new a ≡ node_number old a
 
-stays_behind : (width : ℕ) (rows : List (List ℕ)) (old new : List RowNumbers) (row : ℕ) (numbers : RowNumbers) → IsPut old new row numbers
+stays_behind : {width : ℕ} {rows : List (List ℕ)} {old new : List RowNumbers} {row : ℕ} {numbers : RowNumbers} → IsPut old new row numbers
     → AreRightFrom width rows old (row + 1)
     → (behind : ℕ) → row < behind → behind ≤ length rows → IsRowRight width rows (node_number new) behind
-stays_behind width rows old new row numbers put right behind lt within =
-    row_stays width rows (node_number old) (node_number new) behind (λ a le. put.others a (λ same. omega arith))
+stays_behind put right behind lt within =
+    row_stays (λ a le. put.others a (λ same. omega arith))
     (right.right behind (omega arith) within)
 
-right_more : (width : ℕ) (rows : List (List ℕ)) (old new : List RowNumbers) (row : ℕ) (numbers : RowNumbers) → IsPut old new row numbers
+right_more : {width : ℕ} {rows : List (List ℕ)} {old new : List RowNumbers} {row : ℕ} {numbers : RowNumbers} → IsPut old new row numbers
     → AreRightFrom width rows old (row + 1)
     → IsRowRight width rows (node_number new) row → AreRightFrom width rows new row
-right_more width rows old new row numbers put right here = record {
+right_more {width} {rows} {new} {row} put right here = record {
   size = put.size ∙ right.size;
   right = λ behind from within.
       elim (cases_lt row behind) [
-        | inl lt ↦ stays_behind width rows old new row numbers put right behind lt within
+        | inl lt ↦ stays_behind put right behind lt within
         | inr le ↦
             let same : row ≡ behind = omega arith in
             subst (IsRowRight width rows (node_number new)) same here
@@ -194,26 +194,26 @@ end_is Runs false = refl
 end_is Packed false = refl
 end_is Delta false = refl
 
-pub put_white : (width : ℕ) (rows : List (List ℕ)) (old new : List RowNumbers) (row : ℕ) → row < length rows
+pub put_white : {width : ℕ} {rows : List (List ℕ)} {old new : List RowNumbers} {row : ℕ} → row < length rows
     → IsPut old new row end_numbers → AreRightFrom width rows old (row + 1) → AreWhite (drop row rows)
     → AreRightFrom width rows new row
-put_white width rows old new row lt put right white =
+put_white {rows} {row} lt put right white =
     let rest_white : AreWhite (drop (row + 1) rows) = (let all : AreWhite (row_at rows row ∷ drop (row + 1) rows) = subst AreWhite
     (drop_more rows row [] lt) white in all.1) in
-    right_more width rows old new row end_numbers put right
-    (white_row_right width rows (node_number new) row white
+    right_more put right
+    (white_row_right white
     (λ method. put.changed method false ∙ end_is method false)
     (λ method. put.changed method true ∙ end_is method true)
-    (λ method inside. (stays_behind width rows old new row end_numbers put right (row + 1) (omega arith) (omega arith)).ends
+    (λ method inside. (stays_behind put right (row + 1) (omega arith) (omega arith)).ends
     (node (row + 1) method false) refl (refl, rest_white)))
 
-pub put_inked : (width : ℕ) (rows : List (List ℕ)) (old new : List RowNumbers) (row run : ℕ) (numbers : RowNumbers) → length rows ≤ 9999
+pub put_inked : {width : ℕ} {rows : List (List ℕ)} {old new : List RowNumbers} {row run : ℕ} {numbers : RowNumbers} → length rows ≤ 9999
     → IsPut old new row numbers → AreRightFrom width rows old (row + 1)
     → IsWhiteRun rows row run → row + run < length rows → AreRowNumbers width rows (node_number old) row numbers
     → AreRightFrom width rows new row
-put_inked width rows old new row run numbers few put right is ink are =
-    right_more width rows old new row numbers put right
-    (inked_row_right width rows (node_number new) row (record {
+put_inked {rows} {row} {run} {numbers} few put right is ink are =
+    right_more put right
+    (inked_row_right (record {
       direct = are.direct;
       numbers = numbers;
       inside_page = omega arith;
@@ -222,20 +222,20 @@ put_inked width rows old new row run numbers few put right is ink are =
       placed = put.changed;
       switched = are.switched;
       are_direct = λ method.
-          direct_stays width rows (node_number old) (node_number new) row method (are.direct method)
+          direct_stays
           (λ a below. put.others a (λ same. omega arith)) (are.are_direct method);
-      later = stays_behind width rows old new row numbers put right;
+      later = stays_behind put right;
     }))
 
 -- behind all rows
-pub put_last : (width : ℕ) (rows : List (List ℕ)) (old new : List RowNumbers) (row : ℕ) → row ≡ length rows → length old ≡ length rows + 1
+pub put_last : {width : ℕ} {rows : List (List ℕ)} {old new : List RowNumbers} {row : ℕ} → row ≡ length rows → length old ≡ length rows + 1
     → IsPut old new row end_numbers → drop row rows ≡ [] → AreRightFrom width rows new row
-put_last width rows old new row e size put none = record {
+put_last {width} {rows} {new} {row} e size put none = record {
   size = put.size ∙ size;
   right = λ behind from within.
       let same : row ≡ behind = omega arith in
       subst (IsRowRight width rows (node_number new)) same
-      (white_row_right width rows (node_number new) row (subst AreWhite (sym none) tt)
+      (white_row_right (subst AreWhite (sym none) tt)
       (λ method. put.changed method false ∙ end_is method false) (λ method. put.changed method true ∙ end_is method true)
       (λ method inside. absurd (omega arith)));
 }

@@ -93,14 +93,14 @@ sends width rows number row current bytes is whole =
           (omega (arith, whole.fits)),
     )
 
-steps_from : (width : ℕ) (rows : List (List ℕ)) (number : Node → ℕ) (row : ℕ) → IsInkedRow width rows number row
+steps_from : {width : ℕ} {rows : List (List ℕ)} {number : Node → ℕ} {row : ℕ} → IsInkedRow width rows number row
     → (current : Method) (is_open : Bool) (token : Token) (b : Node) → Leads width rows (node row current is_open) token b
     → number (node row current is_open) ≤ cost token + number b
-steps_from width rows number row is current true opening b l = let no : true ≡ false = l.0 in absurd cc
-steps_from width rows number row is current false opening b l =
+steps_from is current true opening b l = let no : true ≡ false = l.0 in absurd cc
+steps_from {width} {rows} {number} {row} is current false opening b l =
     omega (arith, opens width rows number row current is, cost_opening, ap number l.1)
-steps_from width rows number row is current false (method digits next ends) b l = let no : false ≡ true = l.0 in absurd cc
-steps_from width rows number row is current true (method digits next ends) b l =
+steps_from is current false (method digits next ends) b l = let no : false ≡ true = l.0 in absurd cc
+steps_from {width} {rows} {number} {row} is current true (method digits next ends) b l =
     omega (
       arith,
       switches width rows number row current next (not ends) is,
@@ -108,8 +108,8 @@ steps_from width rows number row is current true (method digits next ends) b l =
       spelled_long digits (method_code next) l.1 (omega (arith, method_small next)),
       ap number l.2,
     )
-steps_from width rows number row is current false (skip digits count ends) b l = let no : false ≡ true = l.0 in absurd cc
-steps_from width rows number row is current true (skip digits count ends) b l =
+steps_from is current false (skip digits count ends) b l = let no : false ≡ true = l.0 in absurd cc
+steps_from {width} {rows} {number} {row} is current true (skip digits count ends) b l =
     omega (
       arith,
       skips width rows number row current count (not ends) is (l.2, l.3, l.4),
@@ -117,8 +117,8 @@ steps_from width rows number row is current true (skip digits count ends) b l =
       spelled_long digits count l.1 (omega (arith, l.3, is.few)),
       ap number l.5,
     )
-steps_from width rows number row is current false (send digits bytes) b l = let no : false ≡ true = l.0 in absurd cc
-steps_from width rows number row is current true (send digits bytes) b l =
+steps_from is current false (send digits bytes) b l = let no : false ≡ true = l.0 in absurd cc
+steps_from {width} {rows} {number} {row} is current true (send digits bytes) b l =
     omega (
       arith,
       sends width rows number row current bytes is l.3,
@@ -130,17 +130,17 @@ steps_from width rows number row is current true (send digits bytes) b l =
 -- ---- walks from the row
 
 -- a token that leads to where a walk begins
-pub walk_more : (width : ℕ) (rows : List (List ℕ)) (a b : Node) (token : Token) (n m : ℕ) → Leads width rows a token b
+pub walk_more : (width : ℕ) {rows : List (List ℕ)} {a b : Node} (token : Token) {n m : ℕ} → Leads width rows a token b
     → IsAttained (Leads width rows) (Ends rows) cost b m → n ≡ cost token + m
     → IsAttained (Leads width rows) (Ends rows) cost a n
-walk_more width rows a b token n m l w e = (token ∷ w.0, (b, l, w.1), omega (arith, w.2, e))
+walk_more width {b} token l w e = (token ∷ w.0, (b, l, w.1), omega (arith, w.2, e))
 
 pub spelled_cost : (n : ℕ) → n ≤ 65535 → IsSpelled (least_spelling n) n × (length (least_spelling n) ≡ digit_count n)
 spelled_cost n small = (least_spelled n (omega arith), length-least_spelling n)
 
-direct_walk : (width : ℕ) (rows : List (List ℕ)) (number : Node → ℕ) (row : ℕ) (current : Method) → (is : IsInkedRow width rows number row)
+direct_walk : {width : ℕ} {rows : List (List ℕ)} {number : Node → ℕ} {row : ℕ} {current : Method} → (is : IsInkedRow width rows number row)
     → IsAttained (Leads width rows) (Ends rows) cost (node row current true) (is.direct current)
-direct_walk width rows number row current is =
+direct_walk {width} {rows} {number} {row} {current} is =
     let d = is.are_direct current in
     elim d.attained [
       | inl sent ↦
@@ -149,8 +149,7 @@ direct_walk width rows number row current is =
           let spelled : IsSpelled (least_spelling d.bytes) (length whole.0) = subst (IsSpelled (least_spelling d.bytes)) (sym whole.2) s.0
           in
           let behind = (is.later (row + 1) (omega arith) (omega (arith, is.inside_page))).attained (node (row + 1) current false) refl in
-          walk_more width rows (node row current true) (node (row + 1) current false) (send (least_spelling d.bytes) whole.0)
-          (is.direct current) (outside number (row + 1) current)
+          walk_more width (send (least_spelling d.bytes) whole.0)
           (refl, spelled, is.inside_page, whole.1, refl) behind
           (omega (arith, sent, s.1, whole.2, cost_send (least_spelling d.bytes) whole.0))
       | inr skipped ↦
@@ -159,52 +158,51 @@ direct_walk width rows number row current is =
           let best = best_end number (row + count) current in
           let s = spelled_cost count (omega (arith, can.1, is.few)) in
           let behind = (is.later (row + count) (omega (arith, can.0)) can.1).attained (node (row + count) current (not best.0)) refl in
-          walk_more width rows (node row current true) (node (row + count) current (not best.0))
-          (skip (least_spelling count) count best.0) (is.direct current) (number (node (row + count) current (not best.0)))
+          walk_more width
+          (skip (least_spelling count) count best.0)
           (refl, s.0, can.0, can.1, can.2, refl) behind
           (omega (arith, skipped.2, s.1, best.1, cost_skip (least_spelling count) count best.0))
     ]
 
-inside_walk : (width : ℕ) (rows : List (List ℕ)) (number : Node → ℕ) (row : ℕ) (current : Method) → IsInkedRow width rows number row
+inside_walk : {width : ℕ} {rows : List (List ℕ)} {number : Node → ℕ} {row : ℕ} {current : Method} → IsInkedRow width rows number row
     → IsAttained (Leads width rows) (Ends rows) cost (node row current true) (inside number row current)
-inside_walk width rows number row current is =
+inside_walk {width} {rows} {row} {current} is =
     elim (is.switched.attained current) [
       | inl stays ↦
           subst (λ (n : ℕ). IsAttained (Leads width rows) (Ends rows) cost (node row current true) n)
-          (sym stays ∙ sym (is.placed current true)) (direct_walk width rows number row current is)
+          (sym stays ∙ sym (is.placed current true)) (direct_walk is)
       | inr next ↦
           let s = spelled_cost (method_code next.0) (omega (arith, method_small next.0)) in
-          walk_more width rows (node row current true) (node row next.0 true) (method (least_spelling (method_code next.0)) next.0 false)
-          (inside number row current) (is.direct next.0)
-          (refl, s.0, refl) (direct_walk width rows number row next.0 is)
+          walk_more width (method (least_spelling (method_code next.0)) next.0 false)
+          (refl, s.0, refl) (direct_walk is)
           (omega (arith, is.placed current true, next.1, s.1, cost_method (least_spelling (method_code next.0)) next.0 false))
     ]
 
-walk_from : (width : ℕ) (rows : List (List ℕ)) (number : Node → ℕ) (row : ℕ) → IsInkedRow width rows number row
+walk_from : {width : ℕ} {rows : List (List ℕ)} {number : Node → ℕ} {row : ℕ} → IsInkedRow width rows number row
     → (current : Method) (is_open : Bool)
     → IsAttained (Leads width rows) (Ends rows) cost (node row current is_open) (number (node row current is_open))
-walk_from width rows number row is current true = inside_walk width rows number row current is
-walk_from width rows number row is current false =
-    walk_more width rows (node row current false) (node row current true) opening (outside number row current) (inside number row current)
-    (refl, refl) (inside_walk width rows number row current is) (omega (arith, opens width rows number row current is, cost_opening))
+walk_from is current true = inside_walk is
+walk_from {width} {rows} {number} {row} is current false =
+    walk_more width opening
+    (refl, refl) (inside_walk is) (omega (arith, opens width rows number row current is, cost_opening))
 
 -- ---- a white row may be left out
 
 -- the rest of skippable rows is skippable
-skippable_rest : (rows : List (List ℕ)) (row count : ℕ) → AreSkippable rows row (suc (suc count)) → AreSkippable rows (row + 1) (suc count)
-skippable_rest rows row count can =
+skippable_rest : (rows : List (List ℕ)) (row : ℕ) {count : ℕ} → AreSkippable rows row (suc (suc count)) → AreSkippable rows (row + 1) (suc count)
+skippable_rest rows row {count} can =
     let first : drop row rows ≡ row_at rows row ∷ drop (row + 1) rows = drop_more rows row [] (omega (arith, can.1)) in
     let white : AreWhite (take (suc (suc count)) (row_at rows row ∷ drop (row + 1) rows)) = subst
     (λ (left : List (List ℕ)). AreWhite (take (suc (suc count)) left)) first can.2 in
     (omega arith, omega (arith, can.1), white.1)
 
-skip_falls : (width : ℕ) (rows : List (List ℕ)) (number : Node → ℕ) (row : ℕ) (current : Method) (count : ℕ)
+skip_falls : {width : ℕ} {rows : List (List ℕ)} {number : Node → ℕ} {row : ℕ} (current : Method) (count : ℕ)
     → IsInkedRow width rows number row → AreSkippable rows row count
     → rest number (row + 1) current ≤ skipping number row current count
-skip_falls width rows number row current zero is can = absurd (omega (arith, can.0))
-skip_falls width rows number row current (suc zero) is can = omega arith
-skip_falls width rows number row current (suc (suc count)) is can =
-    let few = skippable_rest rows row count can in
+skip_falls current zero is can = absurd (omega (arith, can.0))
+skip_falls current (suc zero) is can = omega arith
+skip_falls {rows} {number} {row} current (suc (suc count)) is can =
+    let few = skippable_rest rows row can in
     let there : row + 1 + suc count ≡ row + suc (suc count) = omega arith in
     let best = best_end number (row + suc (suc count)) current in
     let s = spelled_cost (suc count) (omega (arith, can.1, is.few)) in
@@ -221,17 +219,17 @@ skip_falls width rows number row current (suc (suc count)) is can =
       count_grows (suc count) (suc (suc count)) (omega arith) (omega (arith, can.1, is.few)),
     )
 
-direct_falls : (width : ℕ) (rows : List (List ℕ)) (number : Node → ℕ) (row : ℕ) (current : Method)
+direct_falls : {width : ℕ} {rows : List (List ℕ)} {number : Node → ℕ} {row : ℕ} (current : Method)
     → (is : IsInkedRow width rows number row) → rest number (row + 1) current ≤ is.direct current
-direct_falls width rows number row current is =
+direct_falls current is =
     elim (is.are_direct current).attained [
       | inl sent ↦ omega (arith, sent)
-      | inr skipped ↦ omega (arith, skipped.2, skip_falls width rows number row current skipped.0 is skipped.1)
+      | inr skipped ↦ omega (arith, skipped.2, skip_falls current skipped.0 is skipped.1)
     ]
 
-switch_falls : (width : ℕ) (rows : List (List ℕ)) (number : Node → ℕ) (row : ℕ) (current next : Method) → IsInkedRow width rows number row
+switch_falls : {width : ℕ} {rows : List (List ℕ)} {number : Node → ℕ} {row : ℕ} (current next : Method) → IsInkedRow width rows number row
     → rest number (row + 1) current ≤ switching next + rest number (row + 1) next
-switch_falls width rows number row current next is =
+switch_falls {number} {row} current next is =
     let best = best_end number (row + 1) next in
     let s = spelled_cost (method_code next) (omega (arith, method_small next)) in
     let step = (is.later (row + 1) (omega arith) (omega (arith, is.inside_page))).steps (node (row + 1) current true)
@@ -239,30 +237,29 @@ switch_falls width rows number row current next is =
     (node (row + 1) next (not best.0)) refl (refl, s.0, refl) in
     omega (arith, step, s.1, cost_method (least_spelling (method_code next)) next best.0, best.1)
 
-falls_from : (width : ℕ) (rows : List (List ℕ)) (number : Node → ℕ) (row : ℕ) (current : Method) → IsInkedRow width rows number row
+falls_from : {width : ℕ} {rows : List (List ℕ)} {number : Node → ℕ} {row : ℕ} (current : Method) → IsInkedRow width rows number row
     → rest number (row + 1) current ≤ rest number row current
-falls_from width rows number row current is =
+falls_from {width} {rows} {number} {row} current is =
     let below : rest number (row + 1) current ≤ inside number row current =
     elim (is.switched.attained current) [
-      | inl stays ↦ omega (arith, stays, is.placed current true, direct_falls width rows number row current is)
+      | inl stays ↦ omega (arith, stays, is.placed current true, direct_falls current is)
       | inr next ↦
           omega (
             arith,
             next.1,
             is.placed current true,
-            switch_falls width rows number row current next.0 is,
-            direct_falls width rows
-                number row next.0 is,
+            switch_falls current next.0 is,
+            direct_falls next.0 is,
           )
     ] in
     omega (arith, below, opens width rows number row current is)
 
 -- ---- the row
 
-small_from : (width : ℕ) (rows : List (List ℕ)) (number : Node → ℕ) (row : ℕ) → IsInkedRow width rows number row
+small_from : {width : ℕ} {rows : List (List ℕ)} {number : Node → ℕ} {row : ℕ} → IsInkedRow width rows number row
     → (current : Method) (is_open : Bool)
     → number (node row current is_open) ≤ 65544 * (length rows - row) + 1
-small_from width rows number row is current is_open =
+small_from {width} {rows} {number} {row} is current is_open =
     let d = is.are_direct current in
     let behind = (is.later (row + 1) (omega arith) (omega (arith, is.inside_page))).small (node (row + 1) current false) refl in
     let sent = sending_small d.bytes (length_small current (row_above width rows row) (row_at rows row) d.bytes d.is_length) in
@@ -273,14 +270,14 @@ small_from width rows number row is current is_open =
       | false ↦ omega (arith, low, opens width rows number row current is, is.inside_page)
     ]
 
-pub inked_row_right : (width : ℕ) (rows : List (List ℕ)) (number : Node → ℕ) (row : ℕ) → IsInkedRow width rows number row
+pub inked_row_right : {width : ℕ} {rows : List (List ℕ)} {number : Node → ℕ} {row : ℕ} → IsInkedRow width rows number row
     → IsRowRight width rows number row
-inked_row_right width rows number row is = record {
+inked_row_right {width} {rows} {number} {row} is = record {
   steps = λ a token b at l.
       at_row (λ (n : Node). Leads width rows n token b → number n ≤ cost token + number b) row
-      (λ current is_open. steps_from width rows number row is current is_open token b) a at l;
+      (λ current is_open. steps_from is current is_open token b) a at l;
   ends = λ a at end. absurd (is.inked (subst (λ (r : ℕ). AreWhite (drop r rows)) at end.1));
-  attained = at_row (λ (n : Node). IsAttained (Leads width rows) (Ends rows) cost n (number n)) row (walk_from width rows number row is);
-  falls = λ current inside_page white. falls_from width rows number row current is;
-  small = at_row (λ (n : Node). number n ≤ 65544 * (length rows - row) + 1) row (small_from width rows number row is);
+  attained = at_row (λ (n : Node). IsAttained (Leads width rows) (Ends rows) cost n (number n)) row (walk_from is);
+  falls = λ current inside_page white. falls_from current is;
+  small = at_row (λ (n : Node). number n ≤ 65544 * (length rows - row) + 1) row (small_from is);
 }

@@ -27,10 +27,10 @@ step_is_least width rows number feasible a b token rest l w t =
     (omega (arith, t, below, step), omega (arith, t, below, step))
 
 -- where a switch is taken first, no other one can follow
-switch_follows : (width : ℕ) (rows : List (List ℕ)) (number : Node → ℕ) → IsFeasible (Leads width rows) (Ends rows) cost number
+switch_follows : (width : ℕ) {rows : List (List ℕ)} {number : Node → ℕ} → IsFeasible (Leads width rows) (Ends rows) cost number
     → (row : ℕ) (first next : Method) (ends : Bool)
     → number (node row first true) ≤ switching next + number (node row next (not ends))
-switch_follows width rows number feasible row first next ends =
+switch_follows width feasible row first next ends =
     let s = spelled_cost (method_code next) (omega (arith, method_small next)) in
     let step = feasible.steps (node row first true) (method (least_spelling (method_code next)) next ends) (node row next (not ends))
     (refl, s.0, refl) in
@@ -42,28 +42,28 @@ pub record AreFewCommands (rows : List (List ℕ)) (number : Node → ℕ) (a : 
   pub behind_switch : (first : Method) → switching a.method + number a ≤ number (node a.row first true)
       → command_count tokens ≤ 2 * (length rows - a.row)
 
-few_at : (width : ℕ) (rows : List (List ℕ)) (number : Node → ℕ) → length rows ≤ 9999
-    → IsFeasible (Leads width rows) (Ends rows) cost number → (tokens : List Token) (row : ℕ) (current : Method) (is_open : Bool)
+few_at : (width : ℕ) {rows : List (List ℕ)} {number : Node → ℕ} → length rows ≤ 9999
+    → IsFeasible (Leads width rows) (Ends rows) cost number → (tokens : List Token) {row : ℕ} {current : Method} (is_open : Bool)
     → Walk (Leads width rows) (Ends rows) (node row current is_open) tokens → total cost tokens ≡ number (node row current is_open)
     → AreFewCommands rows number (node row current is_open) tokens
-few_at width rows number few feasible [] row current is_open w t = record { bound = omega arith; behind_switch = λ first h. omega arith }
-few_at width rows number few feasible (opening ∷ tokens) row current is_open w t =
+few_at width few feasible [] is_open w t = record { bound = omega arith; behind_switch = λ first h. omega arith }
+few_at width {rows} {number} few feasible (opening ∷ tokens) {row} {current} is_open w t =
     let s = step_is_least width rows number feasible (node row current is_open) w.0 opening tokens w.1 w.2 t in
     let at = w.1.1 in
-    let r = few_at width rows number few feasible tokens row current true
+    let r = few_at width few feasible tokens true
     (subst (λ (n : Node). Walk (Leads width rows) (Ends rows) n tokens) at w.2) (s.1 ∙ ap number at) in
     record {
       bound = omega (arith, r.bound);
       behind_switch = λ first h. omega (arith, r.behind_switch first (omega (arith, s.0, h, ap number at)));
     }
-few_at width rows number few feasible (method digits next ends ∷ tokens) row current false w t = let never : false
+few_at width few feasible (method digits next ends ∷ tokens) false w t = let never : false
     ≡ true = w.1.0 in absurd cc
-few_at width rows number few feasible (method digits next ends ∷ tokens) row current true w t =
+few_at width {rows} {number} few feasible (method digits next ends ∷ tokens) {row} {current} true w t =
     let s = step_is_least width rows number feasible (node row current true) w.0 (method digits next ends) tokens w.1 w.2 t in
     let at = w.1.2 in
     let digits_long = spelled_long digits (method_code next) w.1.1 (omega (arith, method_small next)) in
     let costs = cost_method digits next ends in
-    let r = few_at width rows number few feasible tokens row next (not ends)
+    let r = few_at width few feasible tokens (not ends)
     (subst (λ (n : Node). Walk (Leads width rows) (Ends rows) n tokens) at w.2) (s.1 ∙ ap number at) in
     record {
       bound = omega (arith, r.behind_switch current (omega (arith, s.0, ap number at, digits_long, costs)));
@@ -74,23 +74,23 @@ few_at width rows number few feasible (method digits next ends ∷ tokens) row c
         ap number at,
         digits_long,
         costs,
-        switch_follows width rows number feasible
+        switch_follows width feasible
             row first next ends,
       ));
     }
-few_at width rows number few feasible (skip digits count ends ∷ tokens) row current is_open w t =
+few_at width {rows} {number} few feasible (skip digits count ends ∷ tokens) {row} {current} is_open w t =
     let s = step_is_least width rows number feasible (node row current is_open) w.0 (skip digits count ends) tokens w.1 w.2 t in
     let at = w.1.5 in
-    let r = few_at width rows number few feasible tokens (row + count) current (not ends)
+    let r = few_at width few feasible tokens (not ends)
     (subst (λ (n : Node). Walk (Leads width rows) (Ends rows) n tokens) at w.2) (s.1 ∙ ap number at) in
     record {
       bound = omega (arith, r.bound, w.1.2, w.1.3);
       behind_switch = λ first h. omega (arith, r.bound, w.1.2, w.1.3);
     }
-few_at width rows number few feasible (send digits bytes ∷ tokens) row current is_open w t =
+few_at width {rows} {number} few feasible (send digits bytes ∷ tokens) {row} {current} is_open w t =
     let s = step_is_least width rows number feasible (node row current is_open) w.0 (send digits bytes) tokens w.1 w.2 t in
     let at = w.1.4 in
-    let r = few_at width rows number few feasible tokens (row + 1) current false
+    let r = few_at width few feasible tokens false
     (subst (λ (n : Node). Walk (Leads width rows) (Ends rows) n tokens) at w.2) (s.1 ∙ ap number at) in
     record {
       bound = omega (arith, r.bound, w.1.2);
@@ -102,7 +102,7 @@ pub few_commands : (width : ℕ) (rows : List (List ℕ)) (number : Node → ℕ
     → Walk (Leads width rows) (Ends rows) (node row current is_open) tokens → total cost tokens ≡ number (node row current is_open)
     → command_count tokens ≤ 2 * (length rows - row) + 1
 few_commands width rows number few feasible tokens row current is_open w t =
-    (few_at width rows number few feasible tokens row current is_open w t).bound
+    (few_at width few feasible tokens is_open w t).bound
 
 -- a row that a walk of least cost sends has data of least length
 pub sent_is_least : (width : ℕ) (rows : List (List ℕ)) (number : Node → ℕ) → IsFeasible (Leads width rows) (Ends rows) cost number

@@ -12,18 +12,18 @@ plan_of : (width : ℕ) (rows : List (List ℕ)) (table : List RowNumbers) (step
     → AreLeastSteps width rows (node_number table) steps → IsPlan width rows (record { steps = steps; table = table })
 plan_of width rows table steps right are = record {
   size = right.size;
-  feasible = feasible_table width rows table right;
-  least = least_table width rows table right;
+  feasible = feasible_table right;
+  least = least_table right;
   tokens = are.tokens;
   spelled = are.spelled;
   walk = are.walk;
   total_is = are.total_is;
 }
 
-pub plan_is : (width : ℕ) (rows : List (List ℕ)) (table : List RowNumbers) (steps : List Step) (plan : StepsAndTable) → plan.steps ≡ steps
+pub plan_is : {width : ℕ} {rows : List (List ℕ)} {table : List RowNumbers} {steps : List Step} {plan : StepsAndTable} → plan.steps ≡ steps
     → plan.table ≡ table → AreRightFrom width rows table 0
     → AreLeastSteps width rows (node_number table) steps → IsPlan width rows plan
-plan_is width rows table steps plan s t right are =
+plan_is {width} {rows} {table} {steps} {plan} s t right are =
     subst (λ (ss : List Step). IsPlan width rows (record { steps = ss; table = plan.table })) (sym s)
     (subst (λ (n : List RowNumbers). IsPlan width rows (record { steps = steps; table = n })) (sym t)
     (plan_of width rows table steps right are))

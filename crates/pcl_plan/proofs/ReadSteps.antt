@@ -37,12 +37,12 @@ not_not true = refl
 not_not false = refl
 
 -- behind a step that isn't a row, the number is the lesser one
-rest_is : (width : ℕ) (rows : List (List ℕ)) (table : List RowNumbers) (row : ℕ) (current : Method) (is_open : Bool)
+rest_is : {width : ℕ} {rows : List (List ℕ)} {table : List RowNumbers} {row : ℕ} (current : Method) (is_open : Bool)
     → IsRightTable width rows table → row ≤ length rows
     → (is_open ≡ true → 0 < outside (node_number table) row current) → (is_open ≡ false → outside (node_number table) row current ≡ 0)
     → rest (node_number table) row current ≡ node_number table (node row current is_open)
-rest_is width rows table row current true is within some none = omega (arith, opens width rows table row current is within (some refl))
-rest_is width rows table row current false is within some none = omega (arith, none refl)
+rest_is {width} {rows} {table} {row} current true is within some none = omega (arith, opens width rows table row current is within (some refl))
+rest_is current false is within some none = omega (arith, none refl)
 
 -- ---- the token of a step
 
@@ -54,14 +54,14 @@ pub record IsNext (width : ℕ) (rows : List (List ℕ)) (number : Node → ℕ)
   pub number_is : inside number row current ≡ cost token + number (node_of place)
   pub within : place.row ≤ length rows
 
-pub next_is : (width : ℕ) (rows : List (List ℕ)) (table : List RowNumbers) (row : ℕ) (current : Method) (step : Step) (place : Place)
+pub next_is : {width : ℕ} {rows : List (List ℕ)} {table : List RowNumbers} {row : ℕ} {current : Method} (step : Step) {place : Place}
     → IsRightTable width rows table → row ≤ length rows
     → IsBestStep width rows (node_number table) row current step → IsPlaceBehind (node_number table) row current step place
     → IsNext width rows (node_number table) row current step place
-next_is width rows table row current (Skip count) place is before best p =
+next_is {rows} {table} {row} {current} (Skip count) {place} is before best p =
     let s = spelled_cost count (omega (arith, best.0.1, is.few)) in
     let there : place.row ≤ length rows = omega (arith, p.row_is, best.0.1) in
-    let number = rest_is width rows table place.row place.method place.inside is there (λ goes. (p.goes_on goes).1)
+    let number = rest_is place.method place.inside is there (λ goes. (p.goes_on goes).1)
     (λ ended. p.ends ended refl) in
     let moved : rest (node_number table) place.row place.method ≡ rest (node_number table) (row + count) current =
     ap (λ (r : ℕ). rest (node_number table) r place.method) p.row_is ∙ ap (rest (node_number table) (row + count)) p.method_is in
@@ -80,10 +80,10 @@ next_is width rows table row current (Skip count) place is before best p =
       number_is = omega (arith, best.1, number, moved, s.1, cost_skip (least_spelling count) count (not place.inside));
       within = there;
     }
-next_is width rows table row current (Switch next) place is before best p =
+next_is {rows} {table} {row} (Switch next) {place} is before best p =
     let s = spelled_cost (method_code next) (omega (arith, method_small next)) in
     let there : place.row ≤ length rows = omega (arith, p.row_is, before) in
-    let number = rest_is width rows table place.row place.method place.inside is there (λ goes. (p.goes_on goes).1)
+    let number = rest_is place.method place.inside is there (λ goes. (p.goes_on goes).1)
     (λ ended. p.ends ended refl) in
     let moved : rest (node_number table) place.row place.method ≡ rest (node_number table) row next =
     ap (λ (r : ℕ). rest (node_number table) r place.method) p.row_is ∙ ap (rest (node_number table) row) p.method_is in
@@ -99,7 +99,7 @@ next_is width rows table row current (Switch next) place is before best p =
       number_is = omega (arith, best, number, moved, s.1, cost_method (least_spelling (method_code next)) next (not place.inside));
       within = there;
     }
-next_is width rows table row current (Row bytes) place is before best p =
+next_is {width} {rows} {table} {row} {current} (Row bytes) {place} is before best p =
     let s = spelled_cost bytes (length_small current (row_above width rows row) (row_at rows row) bytes best.1) in
     let whole = best.1.attained in
     let spelled : IsSpelled (least_spelling bytes) (length whole.0) = subst (IsSpelled (least_spelling bytes)) (sym whole.2) s.0 in
@@ -152,8 +152,8 @@ spells_any one two [] behind same s = s
 spells_any one two (step ∷ more) behind same s = subst (λ (o : Bool). Spells o (step ∷ more) behind) (same refl) s
 
 -- a step ends its sequence where no other follows
-token_at_end : (step : Step) (one two : Bool) (token : Token) → one ≡ two → IsTokenOf step one token → IsTokenOf step two token
-token_at_end step one two token e t = subst (λ (o : Bool). IsTokenOf step o token) e t
+token_at_end : (step : Step) {one two : Bool} (token : Token) → one ≡ two → IsTokenOf step one token → IsTokenOf step two token
+token_at_end step token e t = subst (λ (o : Bool). IsTokenOf step o token) e t
 
 row_token : (step : Step) (one two : Bool) (token : Token) → stays_inside step ≡ false → IsTokenOf step one token → IsTokenOf step two token
 row_token (Skip count) one two token e t = let never : true ≡ false = e in absurd cc
@@ -169,19 +169,19 @@ opened_walk : (width : ℕ) (rows : List (List ℕ)) (row : ℕ) (current : Meth
 opened_walk width rows row current true tokens w = w
 opened_walk width rows row current false tokens w = (node row current true, (refl, refl), w)
 
-opened_total : (width : ℕ) (rows : List (List ℕ)) (table : List RowNumbers) (row : ℕ) (current : Method) (is_open : Bool)
+opened_total : {width : ℕ} {rows : List (List ℕ)} {table : List RowNumbers} {row : ℕ} (current : Method) (is_open : Bool)
     (tokens : List Token) → IsRightTable width rows table → row ≤ length rows
     → 0 < outside (node_number table) row current → total cost tokens ≡ inside (node_number table) row current
     → total cost (opened is_open tokens) ≡ node_number table (node row current is_open)
-opened_total width rows table row current true tokens is within some t = t
-opened_total width rows table row current false tokens is within some t = omega
+opened_total current true tokens is within some t = t
+opened_total {width} {rows} {table} {row} current false tokens is within some t = omega
     (arith, t, cost_opening, opens width rows table row current is within some)
 
-inside_below : (width : ℕ) (rows : List (List ℕ)) (table : List RowNumbers) (row : ℕ) (current : Method) (is_open : Bool)
+inside_below : {width : ℕ} {rows : List (List ℕ)} {table : List RowNumbers} (row : ℕ) (current : Method) (is_open : Bool)
     → IsRightTable width rows table → row ≤ length rows
     → 0 < outside (node_number table) row current → inside (node_number table) row current ≤ node_number table (node row current is_open)
-inside_below width rows table row current true is within some = omega arith
-inside_below width rows table row current false is within some = omega (arith, opens width rows table row current is within some)
+inside_below row current true is within some = omega arith
+inside_below {width} {rows} {table} row current false is within some = omega (arith, opens width rows table row current is within some)
 
 -- ink is left where a step is read
 pub ink_left : (width : ℕ) (rows : List (List ℕ)) (table : List RowNumbers) (steps : List Step) (place : Place)
@@ -203,9 +203,9 @@ opened_more true token tail = refl
 opened_more false token tail = refl
 
 -- inside a sequence a parameter is to come
-inside_some : (width : ℕ) (rows : List (List ℕ)) (table : List RowNumbers) (row : ℕ) (current : Method) → IsRightTable width rows table
+inside_some : {width : ℕ} {rows : List (List ℕ)} {table : List RowNumbers} (row : ℕ) (current : Method) → IsRightTable width rows table
     → row ≤ length rows → 0 < inside (node_number table) row current
-inside_some width rows table row current is within =
+inside_some {width} {rows} {table} row current is within =
     elim (cases_lt 0 (inside (node_number table) row current)) [
       | inl some ↦ some
       | inr none ↦ let never : true ≡ false = (ends width rows table (node row current true) is within (omega arith)).0 in absurd cc
@@ -217,36 +217,36 @@ pub record IsFollowed (width : ℕ) (rows : List (List ℕ)) (table : List RowNu
   pub stops : behind.inside ≡ false → stays_inside step ≡ true → is_last more ≡ true
   pub goes_on : behind.inside ≡ true → is_last more ≡ false
 
-followed : (width : ℕ) (rows : List (List ℕ)) (table : List RowNumbers) (row : ℕ) (current : Method) (behind : Place) (step : Step)
-    (more : List Step) → IsRightTable width rows table → behind.row ≤ length rows
+followed : {width : ℕ} {rows : List (List ℕ)} {table : List RowNumbers} {row : ℕ} {current : Method} {behind : Place} {step : Step}
+    {more : List Step} → IsRightTable width rows table → behind.row ≤ length rows
     → IsPlaceBehind (node_number table) row current step behind → (node_number table (node_of behind) ≡ 0 → more ≡ [])
     → (0 < node_number table (node_of behind) → is_last more ≡ false)
     → IsFollowed width rows table behind step more
-followed width rows table row current behind step more is within p z s = record {
+followed {table} {row} {behind} is within p z s = record {
   stops = λ closed stays. ap is_last (z (ap (λ (i : Bool). node_number table (node behind.row behind.method i)) closed ∙ p.ends closed
       stays));
   goes_on = λ goes.
       let same = ap (λ (i : Bool). node_number table (node behind.row behind.method i)) goes in
-      s (omega (arith, same, inside_some width rows table behind.row behind.method is within));
+      s (omega (arith, same, inside_some behind.row behind.method is within));
 }
 
-token_followed : (width : ℕ) (rows : List (List ℕ)) (table : List RowNumbers) (behind : Place) (step : Step) (more : List Step)
+token_followed : {width : ℕ} {rows : List (List ℕ)} {table : List RowNumbers} {behind : Place} {step : Step} {more : List Step}
     (token : Token) → IsFollowed width rows table behind step more
     → IsTokenOf step (not behind.inside) token → IsTokenOf step (is_last more) token
-token_followed width rows table behind step more token f t =
+token_followed {behind} {step} {more} token f t =
     elim (bool_cases (stays_inside step)) [
       | inr row ↦ row_token step (not behind.inside) (is_last more) token row t
       | inl stays ↦
           elim (bool_cases behind.inside) [
-            | inl goes ↦ token_at_end step (not behind.inside) (is_last more) token (ap not goes ∙ sym (f.goes_on goes)) t
-            | inr closed ↦ token_at_end step (not behind.inside) (is_last more) token (ap not closed ∙ sym (f.stops closed stays)) t
+            | inl goes ↦ token_at_end step token (ap not goes ∙ sym (f.goes_on goes)) t
+            | inr closed ↦ token_at_end step token (ap not closed ∙ sym (f.stops closed stays)) t
           ]
     ]
 
-spells_followed : (width : ℕ) (rows : List (List ℕ)) (table : List RowNumbers) (row : ℕ) (current : Method) (behind : Place) (step : Step)
-    (more : List Step) (tail : List Token) → IsFollowed width rows table behind step more
+spells_followed : {width : ℕ} {rows : List (List ℕ)} {table : List RowNumbers} {row : ℕ} {current : Method} {behind : Place} {step : Step}
+    {more : List Step} (tail : List Token) → IsFollowed width rows table behind step more
     → IsPlaceBehind (node_number table) row current step behind → Spells behind.inside more tail → Spells (stays_inside step) more tail
-spells_followed width rows table row current behind step more tail f p spells =
+spells_followed {behind} {step} {more} tail f p spells =
     spells_any behind.inside (stays_inside step) more tail
     (λ others.
     elim (bool_cases behind.inside) [
@@ -259,34 +259,33 @@ spells_followed width rows table row current behind step more tail f p spells =
     ])
     spells
 
-pub read_more : (width : ℕ) (rows : List (List ℕ)) (table : List RowNumbers) (steps : List Step) (place behind : Place) (step : Step)
+pub read_more : {width : ℕ} {rows : List (List ℕ)} {table : List RowNumbers} {steps : List Step} {place behind : Place} {step : Step}
     → IsRightTable width rows table → IsReadTo width rows table steps place
     → 0 < node_number table (node_of place) → IsBestStep width rows (node_number table) place.row place.method step
     → IsPlaceBehind (node_number table) place.row place.method step behind
     → IsReadTo width rows table (steps ++ step ∷ []) behind
 unfolding Spells
-read_more width rows table steps place behind step is r some best p =
-    let next = next_is width rows table place.row place.method step behind is r.within best p in
+read_more {width} {rows} {table} {steps} {place} {behind} {step} is r some best p =
+    let next = next_is step is r.within best p in
     let ink = ink_left width rows table steps place r some in
     record {
       within = next.within;
       inked = λ goes. (p.goes_on goes).1;
       tokens = r.tokens ++ opened place.inside (next.token ∷ []);
       goes_on = λ more tail z s spells walk t.
-          let f = followed width rows table place.row place.method behind step more is next.within p z s in
+          let f = followed is next.within p z s in
           let inside_total : total cost (next.token ∷ tail) ≡ inside (node_number table) place.row place.method = omega
           (arith, t, next.number_is) in
           let g = r.goes_on (step ∷ more) (opened place.inside (next.token ∷ tail)) (λ none. absurd (omega (arith, none, some)))
           (λ _. refl) (
             next.token,
             tail,
-            token_followed width rows table behind step more next.token f next.is_of,
+            token_followed next.token f next.is_of,
             refl,
-            spells_followed width rows
-                table place.row place.method behind step more tail f p spells,
+            spells_followed tail f p spells,
           )
           (opened_walk width rows place.row place.method place.inside (next.token ∷ tail) (node_of behind, next.leads, walk))
-          (opened_total width rows table place.row place.method place.inside (next.token ∷ tail) is r.within ink inside_total) in
+          (opened_total place.method place.inside (next.token ∷ tail) is r.within ink inside_total) in
           let steps_are : steps ++ (step ∷ more) ≡ (steps ++ step ∷ []) ++ more = sym (append_assoc steps (step ∷ []) more) in
           let tokens_are : r.tokens ++ opened place.inside (next.token ∷ tail)
           ≡ (r.tokens ++ opened place.inside (next.token ∷ [])) ++ tail =
@@ -300,21 +299,21 @@ read_more width rows table steps place behind step is r some best p =
     }
 
 -- the measure of reading
-pub read_less : (width : ℕ) (rows : List (List ℕ)) (table : List RowNumbers) (steps : List Step) (place behind : Place) (step : Step)
+pub read_less : {width : ℕ} {rows : List (List ℕ)} {table : List RowNumbers} {steps : List Step} {place behind : Place} {step : Step}
     → IsRightTable width rows table → IsReadTo width rows table steps place
     → 0 < node_number table (node_of place) → IsBestStep width rows (node_number table) place.row place.method step
     → IsPlaceBehind (node_number table) place.row place.method step behind
     → node_number table (node_of behind) < node_number table (node_of place)
-read_less width rows table steps place behind step is r some best p =
-    let next = next_is width rows table place.row place.method step behind is r.within best p in
+read_less {width} {rows} {table} {steps} {place} {step} is r some best p =
+    let next = next_is step is r.within best p in
     let ink = ink_left width rows table steps place r some in
-    omega (arith, next.number_is, cost_some next.token, inside_below width rows table place.row place.method place.inside is r.within ink)
+    omega (arith, next.number_is, cost_some next.token, inside_below place.row place.method place.inside is r.within ink)
 
-pub read_all : (width : ℕ) (rows : List (List ℕ)) (table : List RowNumbers) (steps : List Step) (place : Place)
+pub read_all : {width : ℕ} {rows : List (List ℕ)} {table : List RowNumbers} {steps : List Step} {place : Place}
     → IsRightTable width rows table → IsReadTo width rows table steps place → node_number table (node_of place) ≡ 0
     → AreLeastSteps width rows (node_number table) steps
 unfolding Spells
-read_all width rows table steps place is r none =
+read_all {width} {rows} {table} {steps} {place} is r none =
     let g = r.goes_on [] [] (λ _. refl) (λ some. absurd (omega (arith, none, some))) refl
     (ends width rows table (node_of place) is r.within none) (sym none) in
     record {

@@ -40,9 +40,9 @@ past_is : (table : List RowNumbers) (a : Node) → length table ≤ a.row → no
 past_is table a past = ap (λ (n : RowNumbers). number_in n a.method a.inside) (get_or_past table a.row no_numbers past) ∙ none_is a.method
     a.inside
 
-pub feasible_table : (width : ℕ) (rows : List (List ℕ)) (table : List RowNumbers) → AreRightFrom width rows table 0
+pub feasible_table : {width : ℕ} {rows : List (List ℕ)} {table : List RowNumbers} → AreRightFrom width rows table 0
     → IsFeasible (Leads width rows) (Ends rows) cost (node_number table)
-feasible_table width rows table right = record {
+feasible_table {rows} {table} right = record {
   steps = λ a token b l.
       elim (cases_lt (length rows) a.row) [
         | inl past ↦ omega (arith, past_is table a (omega (arith, right.size)))
@@ -55,10 +55,10 @@ feasible_table width rows table right = record {
       ];
 }
 
-pub least_table : (width : ℕ) (rows : List (List ℕ)) (table : List RowNumbers) → AreRightFrom width rows table 0 → (a : Node)
+pub least_table : {width : ℕ} {rows : List (List ℕ)} {table : List RowNumbers} → AreRightFrom width rows table 0 → (a : Node)
     → a.row ≤ length rows → IsLeastCost (Leads width rows) (Ends rows) cost a (node_number table a)
-least_table width rows table right a within =
-    attained_is_least (Leads width rows) (Ends rows) cost (node_number table) (feasible_table width rows table right) a
+least_table {width} {rows} {table} right a within =
+    attained_is_least (Leads width rows) (Ends rows) cost (node_number table) (feasible_table right) a
     ((right.right a.row (omega arith) within).attained a refl)
 
 -- ---- what begins the least inside a sequence
@@ -71,37 +71,37 @@ pub record IsRightTable (width : ℕ) (rows : List (List ℕ)) (table : List Row
 bounds : (width : ℕ) (rows : List (List ℕ)) (table : List RowNumbers) → IsRightTable width rows table → (a : Node) (es : List Token)
     → Walk (Leads width rows) (Ends rows) a es → node_number table a ≤ total cost es
 bounds width rows table is = feasible_bounds (Leads width rows) (Ends rows) cost (node_number table)
-    (feasible_table width rows table is.right)
+    (feasible_table is.right)
 
 step : (width : ℕ) (rows : List (List ℕ)) (table : List RowNumbers) → IsRightTable width rows table
     → (a : Node) (token : Token) (b : Node) → Leads width rows a token b → node_number table a ≤ cost token + node_number table b
-step width rows table is = (feasible_table width rows table is.right).steps
+step width rows table is = (feasible_table is.right).steps
 
-pub switch_bound : (width : ℕ) (rows : List (List ℕ)) (table : List RowNumbers) (row : ℕ) (current next : Method)
+pub switch_bound : {width : ℕ} {rows : List (List ℕ)} {table : List RowNumbers} (row : ℕ) (current next : Method)
     → IsRightTable width rows table
     → inside (node_number table) row current ≤ switching next + rest (node_number table) row next
-switch_bound width rows table row current next is =
+switch_bound {width} {rows} {table} row current next is =
     let best = best_end (node_number table) row next in
     let s = spelled_cost (method_code next) (omega (arith, method_small next)) in
     let l = step width rows table is (node row current true) (method (least_spelling (method_code next)) next best.0)
     (node row next (not best.0)) (refl, s.0, refl) in
     omega (arith, l, s.1, cost_method (least_spelling (method_code next)) next best.0, best.1)
 
-pub skip_bound : (width : ℕ) (rows : List (List ℕ)) (table : List RowNumbers) (row : ℕ) (current : Method) (count : ℕ)
+pub skip_bound : {width : ℕ} {rows : List (List ℕ)} {table : List RowNumbers} (row : ℕ) (current : Method) {count : ℕ}
     → IsRightTable width rows table → AreSkippable rows row count
     → inside (node_number table) row current ≤ skipping (node_number table) row current count
-skip_bound width rows table row current count is can =
+skip_bound {width} {rows} {table} row current {count} is can =
     let best = best_end (node_number table) (row + count) current in
     let s = spelled_cost count (omega (arith, can.1, is.few)) in
     let l = step width rows table is (node row current true) (skip (least_spelling count) count best.0)
     (node (row + count) current (not best.0)) (refl, s.0, can.0, can.1, can.2, refl) in
     omega (arith, l, s.1, cost_skip (least_spelling count) count best.0, best.1)
 
-pub send_bound : (width : ℕ) (rows : List (List ℕ)) (table : List RowNumbers) (row : ℕ) (current : Method) (bytes : ℕ)
+pub send_bound : {width : ℕ} {rows : List (List ℕ)} {table : List RowNumbers} {row : ℕ} {current : Method} {bytes : ℕ}
     → IsRightTable width rows table → row < length rows
     → IsLeastLength current (row_above width rows row) (row_at rows row) bytes
     → inside (node_number table) row current ≤ sending bytes + outside (node_number table) (row + 1) current
-send_bound width rows table row current bytes is lt length_is =
+send_bound {width} {rows} {table} {row} {current} {bytes} is lt length_is =
     let whole = length_is.attained in
     let s = spelled_cost bytes (length_small current (row_above width rows row) (row_at rows row) bytes length_is) in
     let spelled : IsSpelled (least_spelling bytes) (length whole.0) = subst (IsSpelled (least_spelling bytes)) (sym whole.2) s.0 in
@@ -119,12 +119,12 @@ pub data Beginning (width : ℕ) (rows : List (List ℕ)) (table : List RowNumbe
       → sending (length bytes) + outside (node_number table) (row + 1) current ≤ inside (node_number table) row current
       → Beginning width rows table row current
 
-begins_with : (width : ℕ) (rows : List (List ℕ)) (table : List RowNumbers) (row : ℕ) (current : Method) → IsRightTable width rows table
+begins_with : {width : ℕ} {rows : List (List ℕ)} {table : List RowNumbers} {row : ℕ} {current : Method} → IsRightTable width rows table
     → (es : List Token) → Walk (Leads width rows) (Ends rows) (node row current true) es
     → total cost es ≡ inside (node_number table) row current → Beginning width rows table row current
-begins_with width rows table row current is [] w t = let no : true ≡ false = w.0 in absurd cc
-begins_with width rows table row current is (opening ∷ es) w t = let no : true ≡ false = w.1.0 in absurd cc
-begins_with width rows table row current is (method digits next ends ∷ es) w t =
+begins_with is [] w t = let no : true ≡ false = w.0 in absurd cc
+begins_with is (opening ∷ es) w t = let no : true ≡ false = w.1.0 in absurd cc
+begins_with {width} {rows} {table} {row} {current} is (method digits next ends ∷ es) w t =
     by_switch next
     (omega (
       arith,
@@ -134,9 +134,9 @@ begins_with width rows table row current is (method digits next ends ∷ es) w t
       rest_below (node_number table) row next (not ends),
       cost_method digits next ends,
       spelled_long digits (method_code next) w.1.1 (omega (arith, method_small next)),
-      switch_bound width rows table row current next is,
+      switch_bound row current next is,
     ))
-begins_with width rows table row current is (skip digits count ends ∷ es) w t =
+begins_with {width} {rows} {table} {row} {current} is (skip digits count ends ∷ es) w t =
     let can : AreSkippable rows row count = (w.1.2, w.1.3, w.1.4) in
     by_skip count can
     (omega (
@@ -147,9 +147,9 @@ begins_with width rows table row current is (skip digits count ends ∷ es) w t 
       rest_below (node_number table) (row + count) current (not ends),
       cost_skip digits count ends,
       spelled_long digits count w.1.1 (omega (arith, w.1.3, is.few)),
-      skip_bound width rows table row current count is can,
+      skip_bound row current is can,
     ))
-begins_with width rows table row current is (send digits bytes ∷ es) w t =
+begins_with {width} {rows} {table} is (send digits bytes ∷ es) w t =
     by_row bytes w.1.2 w.1.3
     (omega (
       arith,
@@ -164,16 +164,16 @@ pub begins : (width : ℕ) (rows : List (List ℕ)) (table : List RowNumbers) (r
     → row ≤ length rows → Beginning width rows table row current
 begins width rows table row current is within =
     let w = (is.right.right row (omega arith) within).attained (node row current true) refl in
-    begins_with width rows table row current is w.0 w.1 w.2
+    begins_with is w.0 w.1 w.2
 
 -- where no row and no skip begins the least, a switch does
-pub switch_begins : (width : ℕ) (rows : List (List ℕ)) (table : List RowNumbers) (row : ℕ) (current : Method) (bytes : ℕ)
+pub switch_begins : {width : ℕ} {rows : List (List ℕ)} {table : List RowNumbers} {row : ℕ} {current : Method} {bytes : ℕ}
     → IsRightTable width rows table → row ≤ length rows
     → ((count : ℕ) → AreSkippable rows row count → inside (node_number table) row current < skipping (node_number table) row current count)
     → IsLeastLength current (row_above width rows row) (row_at rows row) bytes
     → (sending bytes + outside (node_number table) (row + 1) current ≡ inside (node_number table) row current → ⊥)
     → (next : Method) × (inside (node_number table) row current ≡ switching next + rest (node_number table) row next)
-switch_begins width rows table row current bytes is within no_skip length_is no_row =
+switch_begins {width} {rows} {table} {row} {current} {bytes} is within no_skip length_is no_row =
     elim (begins width rows table row current is within) [
       | by_switch next e ↦ (next, e)
       | by_skip count can e ↦ absurd (let more = no_skip count can in omega (arith, more, e))
@@ -184,19 +184,18 @@ switch_begins width rows table row current bytes is within no_skip length_is no_
             below,
             short,
             count_grows bytes (length whole) short (omega (arith, has.fits)),
-            send_bound width rows table row
-                current bytes is lt length_is,
+            send_bound is lt length_is,
           )))
     ]
 
 -- ---- outside a sequence
 
-opens_with : (width : ℕ) (rows : List (List ℕ)) (table : List RowNumbers) (row : ℕ) (current : Method) → IsRightTable width rows table
+opens_with : {width : ℕ} {rows : List (List ℕ)} {table : List RowNumbers} (row : ℕ) (current : Method) → IsRightTable width rows table
     → (es : List Token) → Walk (Leads width rows) (Ends rows) (node row current false) es
     → total cost es ≡ outside (node_number table) row current → 0 < outside (node_number table) row current
     → outside (node_number table) row current ≡ 3 + inside (node_number table) row current
-opens_with width rows table row current is [] w t some = absurd (omega arith)
-opens_with width rows table row current is (opening ∷ es) w t some =
+opens_with row current is [] w t some = absurd (omega arith)
+opens_with {width} {rows} {table} row current is (opening ∷ es) w t some =
     omega (
       arith,
       t,
@@ -205,9 +204,9 @@ opens_with width rows table row current is (opening ∷ es) w t some =
       cost_opening,
       step width rows table is (node row current false) opening (node row current true) (refl, refl),
     )
-opens_with width rows table row current is (method digits next ends ∷ es) w t some = let no : false ≡ true = w.1.0 in absurd cc
-opens_with width rows table row current is (skip digits count ends ∷ es) w t some = let no : false ≡ true = w.1.0 in absurd cc
-opens_with width rows table row current is (send digits bytes ∷ es) w t some = let no : false ≡ true = w.1.0 in absurd cc
+opens_with row current is (method digits next ends ∷ es) w t some = let no : false ≡ true = w.1.0 in absurd cc
+opens_with row current is (skip digits count ends ∷ es) w t some = let no : false ≡ true = w.1.0 in absurd cc
+opens_with row current is (send digits bytes ∷ es) w t some = let no : false ≡ true = w.1.0 in absurd cc
 
 -- where the rest isn't white, a sequence is opened
 pub opens : (width : ℕ) (rows : List (List ℕ)) (table : List RowNumbers) (row : ℕ) (current : Method) → IsRightTable width rows table
@@ -215,7 +214,7 @@ pub opens : (width : ℕ) (rows : List (List ℕ)) (table : List RowNumbers) (ro
     → outside (node_number table) row current ≡ 3 + inside (node_number table) row current
 opens width rows table row current is within some =
     let w = (is.right.right row (omega arith) within).attained (node row current false) refl in
-    opens_with width rows table row current is w.0 w.1 w.2 some
+    opens_with row current is w.0 w.1 w.2 some
 
 ends_with : (width : ℕ) (rows : List (List ℕ)) (table : List RowNumbers) (a : Node) (es : List Token)
     → Walk (Leads width rows) (Ends rows) a es → total cost es ≡ 0 → Ends rows a
@@ -230,9 +229,9 @@ ends width rows table a is within none =
     ends_with width rows table a w.0 w.1 (w.2 ∙ none)
 
 -- where the rest isn't white, a row is left
-pub row_left : (width : ℕ) (rows : List (List ℕ)) (table : List RowNumbers) (row : ℕ) (current : Method) → IsRightTable width rows table
+pub row_left : {width : ℕ} {rows : List (List ℕ)} {table : List RowNumbers} (row : ℕ) (current : Method) → IsRightTable width rows table
     → row ≤ length rows → 0 < outside (node_number table) row current → row < length rows
-row_left width rows table row current is within some =
+row_left {rows} row current is within some =
     elim (cases_lt row (length rows)) [
       | inl left ↦ left
       | inr past ↦ absurd (omega (
@@ -243,10 +242,10 @@ row_left width rows table row current is within some =
     ]
 
 -- the run of white rows ends before the rows do
-pub run_inked : (width : ℕ) (rows : List (List ℕ)) (table : List RowNumbers) (row : ℕ) (current : Method) (run : ℕ)
+pub run_inked : {width : ℕ} {rows : List (List ℕ)} {table : List RowNumbers} {row : ℕ} (current : Method) {run : ℕ}
     → IsRightTable width rows table → 0 < outside (node_number table) row current → IsWhiteRun rows row run
     → row + run < length rows
-run_inked width rows table row current run is some white =
+run_inked {rows} {row} current {run} is some white =
     elim (cases_lt (row + run) (length rows)) [
       | inl inked ↦ inked
       | inr past ↦
@@ -256,24 +255,24 @@ run_inked width rows table row current run is some white =
           absurd (omega (arith, none))
     ]
 
-pub readable_run : (width : ℕ) (rows : List (List ℕ)) (table : List RowNumbers) (row : ℕ) (current : Method) (run : ℕ)
+pub readable_run : {width : ℕ} {rows : List (List ℕ)} {table : List RowNumbers} {row : ℕ} (current : Method) {run : ℕ}
     → IsRightTable width rows table → 0 < outside (node_number table) row current → IsWhiteRun rows row run
     → IsReadable table row run
-readable_run width rows table row current run is some white =
+readable_run {width} {rows} {table} {row} current {run} is some white =
     readable width rows table row run is.few (record {
       size = is.right.size;
       right = λ behind from within. is.right.right behind
           (omega arith) within;
-    }) white (run_inked width rows table row current run is some white)
+    }) white (run_inked current is some white)
 
-pub skippable : (rows : List (List ℕ)) (row run count : ℕ) → IsWhiteRun rows row run → 0 < count → count ≤ run → AreSkippable rows row count
-skippable rows row run count white some within = (
+pub skippable : {rows : List (List ℕ)} {row run count : ℕ} → IsWhiteRun rows row run → 0 < count → count ≤ run → AreSkippable rows row count
+skippable {rows} {row} {run} {count} white some within = (
   some,
   omega (arith, white.within),
   white_front run count (drop row rows) white.white
       within,
 )
 
-pub small_number : (width : ℕ) (rows : List (List ℕ)) (table : List RowNumbers) (a : Node) → IsRightTable width rows table
+pub small_number : {width : ℕ} {rows : List (List ℕ)} {table : List RowNumbers} (a : Node) → IsRightTable width rows table
     → a.row ≤ length rows → node_number table a ≤ 655374457
-small_number width rows table a is within = omega (arith, (is.right.right a.row (omega arith) within).small a refl, is.few)
+small_number a is within = omega (arith, (is.right.right a.row (omega arith) within).small a refl, is.few)

@@ -72,9 +72,9 @@ best_end number row current =
 
 -- ---- rows that stay right
 
-pub row_stays : (width : ℕ) (rows : List (List ℕ)) (number other : Node → ℕ) (row : ℕ) → ((a : Node) → row ≤ a.row → other a ≡ number a)
+pub row_stays : {width : ℕ} {rows : List (List ℕ)} {number other : Node → ℕ} {row : ℕ} → ((a : Node) → row ≤ a.row → other a ≡ number a)
     → IsRowRight width rows number row → IsRowRight width rows other row
-row_stays width rows number other row same is = record {
+row_stays {width} {rows} {row} same is = record {
   steps = λ a token b at l. omega (
     arith,
     is.steps a token b at l,
@@ -98,10 +98,10 @@ row_stays width rows number other row same is = record {
 
 -- ---- where the rest is white
 
-pub white_row_right : (width : ℕ) (rows : List (List ℕ)) (number : Node → ℕ) (row : ℕ) → AreWhite (drop row rows)
+pub white_row_right : {width : ℕ} {rows : List (List ℕ)} {number : Node → ℕ} {row : ℕ} → AreWhite (drop row rows)
     → ((current : Method) → outside number row current ≡ 0) → ((current : Method) → inside number row current ≡ 1)
     → ((current : Method) → row < length rows → outside number (row + 1) current ≡ 0) → IsRowRight width rows number row
-white_row_right width rows number row white none one next = record {
+white_row_right {width} {rows} {number} {row} white none one next = record {
   steps = λ a token b at l.
       at_row (λ (n : Node). Leads width rows n token b → number n ≤ cost token + number b) row
       (λ current. elim [ true ↦ λ _. omega (arith, one current, cost_some token) | false ↦ λ _. omega (arith, none current) ]) a at l;

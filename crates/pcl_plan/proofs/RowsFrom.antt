@@ -65,34 +65,34 @@ row_small A4 Dpi600 = lit≤ tt
 
 pub row_of_bytes : (y n width : ℕ) (bytes : List ℕ) → y < n → row_at (rows_from n width bytes) y ≡ take width (drop (y * width) bytes)
 row_of_bytes y n width bytes lt =
-    row_at_first y (rows_from n width bytes) (take width (drop (y * width) bytes)) (drop (y + 1) (rows_from n width bytes))
+    row_at_first y (rows_from n width bytes)
     (rows_at y n width bytes lt)
 
 -- ---- rows of bitmaps
 
 -- a row has its bytes
-row_room : (k n width : ℕ) (bytes : List ℕ) (height : ℕ) → length bytes ≡ height * width → k + suc n ≡ height
+row_room : (k n : ℕ) {width : ℕ} (bytes : List ℕ) {height : ℕ} → length bytes ≡ height * width → k + suc n ≡ height
     → width ≤ length (drop (k * width) bytes)
-row_room k n width bytes height whole e =
+row_room k n {width} bytes {height} whole e =
     let all : (k + suc n) * width ≡ k * width + (width + n * width) = grind arith in
     let same : height * width ≡ (k + suc n) * width = ap (λ (m : ℕ). m * width) (sym e) in
     omega (arith, length-drop (k * width) bytes, all, same)
 
-rows_from_are : (n k : ℕ) (picture : Picture) → IsPicture picture → k + n ≡ page_height picture.size picture.dpi
+rows_from_are : (n k : ℕ) {picture : Picture} → IsPicture picture → k + n ≡ page_height picture.size picture.dpi
     → AllByRecursion (IsRowOf picture.size picture.dpi)
     (rows_from n (page_row_bytes picture.size picture.dpi) (drop (k * page_row_bytes picture.size picture.dpi) picture.bytes))
 unfolding rows_from
-rows_from_are zero k picture is e = tt
-rows_from_are (suc n) k picture is e =
+rows_from_are zero k is e = tt
+rows_from_are (suc n) k {picture} is e =
     let width = page_row_bytes picture.size picture.dpi in
     let bytes = picture.bytes in
     let next : drop width (drop (k * width) bytes) ≡ drop ((k + 1) * width) bytes =
     drop-drop width (k * width) bytes ∙ (let place : k * width + width ≡ (k + 1) * width = grind arith in ap (λ (m : ℕ). drop m bytes)
     place) in
-    let room : width ≤ length (drop (k * width) bytes) = row_room k n width bytes (page_height picture.size picture.dpi) is.whole e in (
+    let room : width ≤ length (drop (k * width) bytes) = row_room k n bytes is.whole e in (
       (length-take-le width (drop (k * width) bytes) room, λ x past. is.clear_pads x k past),
       subst (λ (rest : List ℕ). AllByRecursion (IsRowOf picture.size picture.dpi) (rows_from n width rest)) (sym next)
-          (rows_from_are n (k + 1) picture is (omega arith)),
+          (rows_from_are n (k + 1) is (omega arith)),
     )
 
 -- the rows of a bitmap are rows of its size
@@ -102,4 +102,4 @@ bitmap_rows_are picture is =
     let none : 0 * width ≡ 0 = omega arith in
     subst (λ (bytes : List ℕ). AllByRecursion (IsRowOf picture.size picture.dpi)
     (rows_from (page_height picture.size picture.dpi) width bytes))
-    (ap (λ (m : ℕ). drop m picture.bytes) none) (rows_from_are (page_height picture.size picture.dpi) 0 picture is (omega arith))
+    (ap (λ (m : ℕ). drop m picture.bytes) none) (rows_from_are (page_height picture.size picture.dpi) 0 is (omega arith))

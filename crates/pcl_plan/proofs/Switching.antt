@@ -27,10 +27,10 @@ pub record IsLeastSwitch (direct : ByMethod) (switched : ℕ) : Type 0 where
   pub bound : (next : Method) → switched ≤ switch_cost next + by_method direct next
   pub attained : (next : Method) × (switched ≡ switch_cost next + by_method direct next)
 
-pub least_switch : (direct : ByMethod) (first others switched : ℕ) → first ≡ min direct.runs direct.packed → others
+pub least_switch : {direct : ByMethod} {first others switched : ℕ} → first ≡ min direct.runs direct.packed → others
     ≡ min first direct.delta → switched ≡ min (direct.plain + 1) (others + 2)
     → IsLeastSwitch direct switched
-least_switch direct first others switched f o s = record {
+least_switch {direct} {first} {others} f o s = record {
   bound = elim [
     | Plain ↦ omega arith
     | Runs ↦ omega arith
@@ -51,10 +51,10 @@ least_switch direct first others switched f o s = record {
       ];
 }
 
-pub switched_numbers : (direct : ByMethod) (switched : ℕ) (numbers : RowNumbers) → IsLeastSwitch direct switched
+pub switched_numbers : {direct : ByMethod} {switched : ℕ} {numbers : RowNumbers} → IsLeastSwitch direct switched
     → ((method : Method) → by_method numbers.inside method ≡ min (by_method direct method) switched)
     → ((method : Method) → by_method numbers.outside method ≡ by_method numbers.inside method + 3) → IsSwitched (by_method direct) numbers
-switched_numbers direct switched numbers least inside outside = record {
+switched_numbers {direct} {switched} least inside outside = record {
   stays = λ method. omega (arith, inside method);
   switches = λ method next. omega (arith, inside method, least.bound next, switching_is next);
   attained = λ method.

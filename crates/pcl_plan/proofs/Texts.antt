@@ -26,12 +26,12 @@ widths size dpi (row ∷ rows) are = (are.0.0, widths size dpi rows are.1)
 
 pub walk_of_prints : (width : ℕ) (rows : List (List ℕ)) (tokens : List Token) → AreOfWidth width rows
     → PrintsRows false Plain (replicate width 0) tokens rows → Walk (Leads width rows) (Ends rows) start tokens
-walk_of_prints width rows tokens are p = walk_of_tokens width rows are tokens false Plain 0 (replicate width 0) rows (omega arith) refl
+walk_of_prints width rows tokens are p = walk_of_tokens width rows are tokens false Plain rows (omega arith) refl
     refl p
 
 pub prints_of_walk : (width : ℕ) (rows : List (List ℕ)) (tokens : List Token) → AreOfWidth width rows
     → Walk (Leads width rows) (Ends rows) start tokens → PrintsRows false Plain (replicate width 0) tokens rows
-prints_of_walk width rows tokens are w = tokens_of_walk width rows are tokens false Plain 0 (replicate width 0) (omega arith) refl w
+prints_of_walk width rows tokens are w = tokens_of_walk width rows are tokens false Plain (omega arith) refl w
 
 -- a page text has its fixed part, and the bytes of its tokens
 pub text_length : (dpi : Dpi) (size : Size) (copies : ℕ) (tokens : List Token)
@@ -41,15 +41,15 @@ text_length dpi size copies tokens =
     let body = flat_map token_bytes tokens in
     omega (arith, length-append (begin ++ body) end_bytes, length-append begin body, total_is tokens)
 
-pub printed_length : (dpi : Dpi) (size : Size) (copies : ℕ) (rows : List (List ℕ)) (text : List ℕ)
+pub printed_length : {dpi : Dpi} {size : Size} {copies : ℕ} {rows : List (List ℕ)} {text : List ℕ}
     → (printed : IsPageText dpi size copies rows text)
     → length text ≡ fixed_bytes dpi size copies + total cost printed.tokens
-printed_length dpi size copies rows text printed = ap length printed.spelled ∙ text_length dpi size copies printed.tokens
+printed_length {dpi} {size} {copies} printed = ap length printed.spelled ∙ text_length dpi size copies printed.tokens
 
-pub printed_walk : (dpi : Dpi) (size : Size) (copies : ℕ) (rows : List (List ℕ)) (text : List ℕ)
+pub printed_walk : {dpi : Dpi} {size : Size} {copies : ℕ} {rows : List (List ℕ)} {text : List ℕ}
     → (printed : IsPageText dpi size copies rows text)
     → Walk (Leads (page_row_bytes size dpi) rows) (Ends rows) start printed.tokens
-printed_walk dpi size copies rows text printed =
+printed_walk {dpi} {size} {rows} printed =
     walk_of_prints (page_row_bytes size dpi) rows printed.tokens (widths size dpi rows printed.rows_are) printed.prints
 
 pub text_bounded : (dpi : Dpi) (size : Size) (copies : ℕ) (rows : List (List ℕ)) (text : List ℕ) (number : Node → ℕ)
@@ -58,9 +58,9 @@ pub text_bounded : (dpi : Dpi) (size : Size) (copies : ℕ) (rows : List (List �
 text_bounded dpi size copies rows text number feasible printed =
     omega (
       arith,
-      printed_length dpi size copies rows text printed,
+      printed_length printed,
       feasible_bounds (Leads (page_row_bytes size dpi) rows) (Ends rows) cost number feasible start printed.tokens
-          (printed_walk dpi size copies rows text printed),
+          (printed_walk printed),
     )
 
 pub text_of_least : (dpi : Dpi) (size : Size) (copies : ℕ) (rows : List (List ℕ)) (number : ℕ) → 0 < copies → copies < 100 → length rows
@@ -84,8 +84,8 @@ text_of_least dpi size copies rows number some few count are least =
       attained = (text, printed, text_length dpi size copies w.0 ∙ ap (λ (n : ℕ). fixed_bytes dpi size copies + n) w.2);
       shortest = λ other is. omega (
         arith,
-        printed_length dpi size copies rows other is,
+        printed_length is,
         least.least is.tokens
-            (printed_walk dpi size copies rows other is),
+            (printed_walk is),
       );
     }

@@ -19,7 +19,7 @@ loop-row-init g c =
       others = c.put.ensures.others;
     } in
     record {
-      right = put_last rows.width (rows_of rows) c.args.table.now c.put.new.self rows.count (sym count) (omega (arith, c.requires, count))
+      right = put_last (sym count) (omega (arith, c.requires, count))
           put (no_rows rows.count rows.count rows.width rows.bytes.now (omega arith));
       run = run_end (rows_of rows) rows.count (sym count);
     }
@@ -42,13 +42,13 @@ loop-row-preserved g c =
     record {
       right = elim c.if-row-run.branch [
         | then-row-run w ↦
-            put_white rows.width (rows_of rows) c.loop-row.table new row inside
+            put_white inside
             (subst (IsPut c.loop-row.table new row) (w.numbers-is ∙ w.at_end-numbers.ensures) put) behind
             (white_to_end (rows_of rows) row c.white_run-run.result run (w.if-row-run.true ∙ sym count))
         | else-row-run w ↦
             let ink : row + c.white_run-run.result < length (rows_of rows) = omega
             (arith, count, w.if-row-run.false, c.white_run-run.ensures.within) in
-            put_inked rows.width (rows_of rows) c.loop-row.table new row c.white_run-run.result w.row_numbers-numbers.result
+            put_inked
             (omega (arith, count, rows.few))
             (subst (IsPut c.loop-row.table new row) w.numbers-is put) behind run ink w.row_numbers-numbers.ensures
       ];

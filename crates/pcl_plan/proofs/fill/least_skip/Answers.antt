@@ -7,8 +7,8 @@ use Rattle.pcl_plan.proofs.fill.least_skip.Goals as goal
 pub returns : goal.returns
 returns c =
     let skips = skipping (node_number c.args.table.now) c.args.row c.args.method in
-    least_skip_is c.args.table.now c.args.row c.args.method c.args.run c.skip_of.result c.skip_of-2.result c.skip_of-3.result
-    c.skip_of-4.result c.or.result c.or-2.result c.or-3.result
+    least_skip_is c.skip_of.result c.skip_of-2.result c.skip_of-3.result
+    c.skip_of-4.result c.or.result c.or-2.result
     c.requires.readable c.requires.some
     c.skip_of.ensures.count (c.skip_of-2.ensures.count ∙ c.min.ensures) (c.skip_of-3.ensures.count ∙ c.min-2.ensures)
     (c.skip_of-4.ensures.count ∙ c.min-3.ensures)

@@ -11,14 +11,14 @@ use Rattle.pcl_plan.proofs.InkedRows.{length_small, sending_small}
 use Rattle.pcl_plan.proofs.Filled.{readable, direct_of_start}
 use Rattle.pcl_plan.proofs.fill.row_numbers.Goals as goal
 
-readable_rows : (rows : Rows) (table : List RowNumbers) (row run : ℕ) → AreRightFrom rows.width (rows_of rows) table (row + 1)
+readable_rows : (rows : Rows) {table : List RowNumbers} {row run : ℕ} → AreRightFrom rows.width (rows_of rows) table (row + 1)
     → IsWhiteRun (rows_of rows) row run → row + run < rows.count → IsReadable table row run
-readable_rows rows table row run right is ink =
+readable_rows rows {table} {row} {run} right is ink =
     let count = length_rows rows.count rows.width rows.bytes.now in
     readable rows.width (rows_of rows) table row run (omega (arith, count, rows.few)) right is (omega (arith, count))
 
 pub least_starts-requires-clause-readable : goal.least_starts-requires-clause-readable
-least_starts-requires-clause-readable g c = readable_rows c.args.rows.now c.args.table.now c.args.row c.args.run c.requires.right
+least_starts-requires-clause-readable g c = readable_rows c.args.rows.now c.requires.right
     c.requires.run c.requires.ink
 
 pub least_starts-requires-clause-bytes : goal.least_starts-requires-clause-bytes
@@ -29,7 +29,7 @@ least_starts-requires-clause-bytes g c = λ method.
 pub from_direct-requires : goal.from_direct-requires
 from_direct-requires g c = λ method.
     let rows = c.args.rows.now in
-    let is = readable_rows rows c.args.table.now c.args.row c.args.run c.requires.right c.requires.run c.requires.ink in
+    let is = readable_rows rows c.requires.right c.requires.run c.requires.ink in
     let bytes : ℕ = by_method c.least_lengths-bytes.result method in
     let small : bytes ≤ 65535 = length_small method (row_above rows.width (rows_of rows) c.args.row) (row_at (rows_of rows) c.args.row)
     bytes (c.least_lengths-bytes.ensures method) in
@@ -47,8 +47,7 @@ returns g c =
     record {
       direct = by_method c.least_starts.result;
       are_direct = λ method.
-          direct_of_start rows.width (rows_of rows) (node_number c.args.table.now) c.args.row method c.args.run
-          (by_method c.least_lengths-bytes.result method) (by_method c.least_starts.result method)
+          direct_of_start
           c.requires.run (c.least_lengths-bytes.ensures method) (c.least_starts.ensures method);
       switched = c.from_direct.ensures;
     }

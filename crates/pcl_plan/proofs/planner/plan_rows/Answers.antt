@@ -5,5 +5,5 @@ use Rattle.pcl_plan.proofs.planner.plan_rows.Goals as goal
 pub returns : goal.returns
 returns g c =
     let rows = c.args.rows.now in
-    plan_is rows.width (rows_of rows) c.fill.new.table c.append_steps.new.steps.items c.new-2.result c.new-2.ensures.steps
+    plan_is c.new-2.ensures.steps
     c.new-2.ensures.table c.fill.ensures c.in_ok-append_steps.ensures

@@ -24,7 +24,7 @@ best_step-step-requires-clause-row g c =
     (omega (arith, c.loop-place-test.true, c.number.ensures)) in
     omega (
       arith,
-      row_left rows.width (rows_of rows) table place.row place.method is r.within ink,
+      row_left place.row place.method is r.within ink,
       length_rows rows.count rows.width
           rows.bytes.now,
     )
@@ -38,7 +38,7 @@ pub loop-place-smaller : goal.loop-place-smaller
 loop-place-smaller g c =
     let rows = c.args.rows.now in
     let table = c.args.table.now in
-    read_less rows.width (rows_of rows) table c.loop-place.steps.items c.loop-place.place c.behind-place.result c.best_step-step.result
+    read_less
     (right_table rows table c.requires.right) c.loop-place.invariant
     (omega (arith, c.loop-place-test.true, c.number.ensures)) c.best_step-step.ensures c.behind-place.ensures
 
@@ -47,7 +47,7 @@ loop-place-preserved g c =
     let rows = c.args.rows.now in
     let table = c.args.table.now in
     subst (λ (steps : List Step). IsReadTo rows.width (rows_of rows) table steps c.behind-place.result) (sym c.in_ok-push.ensures.items)
-    (read_more rows.width (rows_of rows) table c.loop-place.steps.items c.loop-place.place c.behind-place.result c.best_step-step.result
+    (read_more
     (right_table rows table c.requires.right) c.loop-place.invariant
     (omega (arith, c.loop-place-test.true, c.number.ensures)) c.best_step-step.ensures c.behind-place.ensures)
 
@@ -55,5 +55,5 @@ pub returns : goal.returns
 returns g c =
     let rows = c.args.rows.now in
     let table = c.args.table.now in
-    read_all rows.width (rows_of rows) table c.loop-place.steps.items c.loop-place.place (right_table rows table c.requires.right)
+    read_all (right_table rows table c.requires.right)
     c.loop-place.invariant (omega (arith, c.loop-place-test.false, c.number.ensures))

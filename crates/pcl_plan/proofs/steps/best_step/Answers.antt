@@ -16,17 +16,17 @@ right_table rows table right = record { few = omega (arith, length_rows rows.cou
 pub beginning_skip-requires-clause-readable : goal.beginning_skip-requires-clause-readable
 beginning_skip-requires-clause-readable g c =
     let rows = c.args.rows.now in
-    readable_run rows.width (rows_of rows) c.args.table.now c.args.row c.args.method c.white_run-run.result
+    readable_run c.args.method
     (right_table rows c.args.table.now c.requires.right) c.requires.ink c.white_run-run.ensures.run
 
 pub beginning_skip-requires-clause-least : goal.beginning_skip-requires-clause-least
 beginning_skip-requires-clause-least g c = λ count some within.
     let rows = c.args.rows.now in
-    let can = skippable (rows_of rows) c.args.row c.white_run-run.result count c.white_run-run.ensures.run some within in
+    let can = skippable c.white_run-run.ensures.run some within in
     omega (
       arith,
       c.number-least.ensures,
-      skip_bound rows.width (rows_of rows) c.args.table.now c.args.row c.args.method count
+      skip_bound c.args.row c.args.method
           (right_table rows c.args.table.now c.requires.right) can,
     )
 
@@ -34,7 +34,7 @@ pub returns-in-Some : goal.returns-in-Some
 returns-in-Some g c =
     let rows = c.args.rows.now in
     let some = c.in-Some.ensures.some in (
-      skippable (rows_of rows) c.args.row c.white_run-run.result c.in-Some.count c.white_run-run.ensures.run some.0 some.1,
+      skippable c.white_run-run.ensures.run some.0 some.1,
       sym
           c.number-least.ensures ∙ some.2,
     )
@@ -56,7 +56,7 @@ overflow_add-sending_cost g c =
       arith,
       c.sending_cost.ensures.small,
       c.number.ensures,
-      small_number rows.width (rows_of rows) c.args.table.now
+      small_number
           (node (c.args.row + 1) c.args.method false) (right_table rows c.args.table.now c.requires.right) inside,
     )
 
@@ -81,7 +81,7 @@ lowest_switch-requires-clause-small g c = λ method.
     let inside : c.args.row ≤ length (rows_of rows) = omega (arith, c.requires.row, length_rows rows.count rows.width rows.bytes.now) in
     omega (
       arith,
-      small_number rows.width (rows_of rows) c.args.table.now (node c.args.row method false)
+      small_number (node c.args.row method false)
           (right_table rows c.args.table.now c.requires.right) inside,
     )
 
@@ -89,7 +89,7 @@ pub lowest_switch-requires-clause-some : goal.lowest_switch-requires-clause-some
 lowest_switch-requires-clause-some g c =
     let rows = c.args.rows.now in
     let inside : c.args.row ≤ length (rows_of rows) = omega (arith, c.requires.row, length_rows rows.count rows.width rows.bytes.now) in
-    let next = switch_begins rows.width (rows_of rows) c.args.table.now c.args.row c.args.method c.least_length-bytes.result
+    let next = switch_begins
     (right_table rows c.args.table.now c.requires.right) inside
     (λ count can. (let more = c.in_default.ensures.none count can.0 (skippable_within (rows_of rows) c.args.row c.white_run-run.result
     count c.white_run-run.ensures.run can) in omega (arith, more, c.number-least.ensures)))

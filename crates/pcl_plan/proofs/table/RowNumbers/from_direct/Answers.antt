@@ -12,6 +12,6 @@ overflow_add-others c = omega (arith, c.requires Runs, c.min.ensures, c.min-othe
 pub returns : goal.returns
 returns c =
     let direct = c.args.direct in
-    let least = least_switch direct c.min.result c.min-others.result c.min-switched.result c.min.ensures c.min-others.ensures
+    let least = least_switch c.min.ensures c.min-others.ensures
     c.min-switched.ensures in
-    switched_numbers direct c.min-switched.result _ least c.at_most-inside.ensures c.plus-outside.ensures
+    switched_numbers least c.at_most-inside.ensures c.plus-outside.ensures
