@@ -33,35 +33,35 @@ use Rattle.pcl_writer.specs.declared.place.Place.{Place}
 use Rattle.pcl_writer.specs.Steps.{width_of, above, IsBitmapPlan, IsWritable, HasRowData, AppendsRow, AppendsStep, IsPlaceBehind, AppendsBody}
 
 -- what was there is the front of what is
-pub front_is : (old new more : List ℕ) → new ≡ old ++ more → take (length old) new ≡ old
-front_is old new more e = ap (take (length old)) e ∙ take_at old more (length old) refl
+pub front_is : {old new : List ℕ} (more : List ℕ) → new ≡ old ++ more → take (length old) new ≡ old
+front_is {old} more e = ap (take (length old)) e ∙ take_at old more (length old) refl
 
-pub page_joined : (old one two three start body tail : List ℕ) → one ≡ old ++ start → two ≡ one ++ body → three ≡ two ++ tail → three
+pub page_joined : (old : List ℕ) {one two three : List ℕ} (start body tail : List ℕ) → one ≡ old ++ start → two ≡ one ++ body → three ≡ two ++ tail → three
     ≡ old ++ (start ++ body ++ tail)
-page_joined old one two three start body tail a b c =
+page_joined old start body tail a b c =
     c ∙ ap (λ (t : List ℕ). t ++ tail) (b ∙ ap (λ (t : List ℕ). t ++ body) a) ∙ simp append_assoc
 
 -- ---- the token of a step
 
-skip_token : (count : ℕ) (ends : Bool) (token : Token) → IsTokenOf (Skip count) ends token → token ≡ skip (least_spelling count) count ends
-skip_token count ends opening t = absurd t
-skip_token count ends (method digits next capital) t = absurd t
-skip_token count ends (skip digits rows capital) t = let a = t.0 in let b = t.1 in let e = t.2 in cc
-skip_token count ends (send digits bytes) t = absurd t
+skip_token : {count : ℕ} {ends : Bool} (token : Token) → IsTokenOf (Skip count) ends token → token ≡ skip (least_spelling count) count ends
+skip_token opening t = absurd t
+skip_token (method digits next capital) t = absurd t
+skip_token (skip digits rows capital) t = let a = t.0 in let b = t.1 in let e = t.2 in cc
+skip_token (send digits bytes) t = absurd t
 
-switch_token : (next : Method) (ends : Bool) (token : Token) → IsTokenOf (Switch next) ends token → token
+switch_token : {next : Method} {ends : Bool} (token : Token) → IsTokenOf (Switch next) ends token → token
     ≡ method (least_spelling (method_code next)) next ends
-switch_token next ends opening t = absurd t
-switch_token next ends (method digits current capital) t = let a = t.0 in let b = t.1 in let e = t.2 in cc
-switch_token next ends (skip digits rows capital) t = absurd t
-switch_token next ends (send digits bytes) t = absurd t
+switch_token opening t = absurd t
+switch_token (method digits current capital) t = let a = t.0 in let b = t.1 in let e = t.2 in cc
+switch_token (skip digits rows capital) t = absurd t
+switch_token (send digits bytes) t = absurd t
 
-row_token : (count : ℕ) (ends : Bool) (token : Token) → IsTokenOf (Row count) ends token → (bytes : List ℕ)
+row_token : {count : ℕ} (ends : Bool) (token : Token) → IsTokenOf (Row count) ends token → (bytes : List ℕ)
     × (token ≡ send (least_spelling count) bytes) × (length bytes ≡ count)
-row_token count ends opening t = absurd t
-row_token count ends (method digits current capital) t = absurd t
-row_token count ends (skip digits rows capital) t = absurd t
-row_token count ends (send digits bytes) t = (bytes, ap (λ (d : List ℕ). send d bytes) t.1, t.0)
+row_token ends opening t = absurd t
+row_token ends (method digits current capital) t = absurd t
+row_token ends (skip digits rows capital) t = absurd t
+row_token ends (send digits bytes) t = (bytes, ap (λ (d : List ℕ). send d bytes) t.1, t.0)
 
 abbrev pub node_of : Place → Node
 node_of place = node place.row place.method place.inside
@@ -73,15 +73,15 @@ pub record LeadsToo (picture : Picture) (place behind : Place) (token written : 
   pub costs : cost written ≡ cost token
   pub within : behind.row ≤ length (bitmap_rows picture)
 
-leads_too : (picture : Picture) (place behind : Place) (step : Step) (ends : Bool) (token written : Token) (b : Node)
+leads_too : {picture : Picture} {place behind : Place} (step : Step) {ends : Bool} {token written : Token} {b : Node}
     → place.row ≤ length (bitmap_rows picture) → IsTokenOf step ends token → IsTokenOf step ends written
     → HasRowData picture place.row place.method written
     → IsPlaceBehind place step ends behind → Leads (width_of picture) (bitmap_rows picture) (node place.row place.method true) token b
     → LeadsToo picture place behind token written b
-leads_too picture place behind (Skip count) ends token written b before t w d p l =
+leads_too {picture} {place} {behind} (Skip count) {ends} {token} {written} {b} before t w d p l =
     let from = node place.row place.method true in
-    let is = skip_token count ends token t in
-    let same : token ≡ written = is ∙ sym (skip_token count ends written w) in
+    let is = skip_token token t in
+    let same : token ≡ written = is ∙ sym (skip_token written w) in
     let led = subst (λ (x : Token). Leads (width_of picture) (bitmap_rows picture) from x b) is l in
     record {
       within = omega (arith, p.row_is, led.3);
@@ -90,10 +90,10 @@ leads_too picture place behind (Skip count) ends token written b before t w d p 
       leads = subst (λ (x : Token). Leads (width_of picture) (bitmap_rows picture) from x b) same l;
       costs = ap cost (sym same);
     }
-leads_too picture place behind (Switch next) ends token written b before t w d p l =
+leads_too {picture} {place} {behind} (Switch next) {ends} {token} {written} {b} before t w d p l =
     let from = node place.row place.method true in
-    let is = switch_token next ends token t in
-    let same : token ≡ written = is ∙ sym (switch_token next ends written w) in
+    let is = switch_token token t in
+    let same : token ≡ written = is ∙ sym (switch_token written w) in
     let led = subst (λ (x : Token). Leads (width_of picture) (bitmap_rows picture) from x b) is l in
     record {
       within = omega (arith, p.row_is, before);
@@ -101,10 +101,10 @@ leads_too picture place behind (Switch next) ends token written b before t w d p
       leads = subst (λ (x : Token). Leads (width_of picture) (bitmap_rows picture) from x b) same l;
       costs = ap cost (sym same);
     }
-leads_too picture place behind (Row count) ends token written b before t w d p l =
+leads_too {picture} {place} {behind} (Row count) {ends} {token} {written} {b} before t w d p l =
     let from = node place.row place.method true in
-    let one = row_token count ends token t in
-    let other = row_token count ends written w in
+    let one = row_token ends token t in
+    let other = row_token ends written w in
     let led = subst (λ (x : Token). Leads (width_of picture) (bitmap_rows picture) from x b) one.1 l in
     let whole = subst (HasRowData picture place.row place.method) other.1 d in
     let spelled : IsSpelled (least_spelling count) (length other.0) = subst (IsSpelled (least_spelling count)) (one.2 ∙ sym other.2) led.1
@@ -138,13 +138,13 @@ pub record IsOpened (picture : Picture) (number : Node → ℕ) (row : ℕ) (cur
         → Walk (Leads (width_of picture) (bitmap_rows picture)) (Ends (bitmap_rows picture)) (node row current is_open)
         (opened is_open other) × (total cost (opened is_open other) ≡ number (node row current is_open))
 
-opened_is : (picture : Picture) (number : Node → ℕ) → IsFeasible (Leads (width_of picture) (bitmap_rows picture))
-    (Ends (bitmap_rows picture)) cost number → (row : ℕ) (current : Method) (is_open : Bool) (tokens : List Token)
+opened_is : {picture : Picture} {number : Node → ℕ} → IsFeasible (Leads (width_of picture) (bitmap_rows picture))
+    (Ends (bitmap_rows picture)) cost number → {row : ℕ} {current : Method} (is_open : Bool) {tokens : List Token}
     → Walk (Leads (width_of picture) (bitmap_rows picture)) (Ends (bitmap_rows picture)) (node row current is_open)
     (opened is_open tokens) → total cost (opened is_open tokens) ≡ number (node row current is_open)
     → IsOpened picture number row current is_open tokens
-opened_is picture number feasible row current true tokens w t = record { walk = w; total_is = t; back = λ other v u. (v, u) }
-opened_is picture number feasible row current false tokens w t =
+opened_is feasible true w t = record { walk = w; total_is = t; back = λ other v u. (v, u) }
+opened_is {picture} {number} feasible {row} {current} false {tokens} w t =
     let s = step_is_least (width_of picture) (bitmap_rows picture) number feasible (node row current false) w.0 opening tokens w.1 w.2 t in
     let at = w.1.1 in
     record {
@@ -195,29 +195,29 @@ pub record IsNextToken (picture : Picture) (plan : StepsAndTable) (place : Place
   pub spells : Spells (stays_inside step) more rest
   pub from : IsOpened picture (node_number plan.table) place.row place.method place.inside (token ∷ rest)
 
-next_token : (picture : Picture) (plan : StepsAndTable) (old now : List ℕ) (step : Step) (more : List Step) (place : Place)
+next_token : {picture : Picture} {plan : StepsAndTable} {old now : List ℕ} {step : Step} {more : List Step} {place : Place}
     → IsBitmapPlan picture plan → IsWrittenTo picture plan old now (step ∷ more) place
     → IsNextToken picture plan place step more
 unfolding Spells
-next_token picture plan old now step more place is w =
+next_token {picture} {place} is w =
     let s = w.spells in
     record {
       token = s.0;
       rest = s.1;
       is_of = s.2;
       spells = s.4;
-      from = opened_is picture (node_number plan.table) is.feasible place.row place.method place.inside (s.0 ∷ s.1)
+      from = opened_is is.feasible place.inside
           (subst (Walk (Leads (width_of picture) (bitmap_rows picture)) (Ends (bitmap_rows picture)) (node_of place)) s.3 w.walk)
           (ap (total cost) (sym s.3) ∙ w.total_is);
     }
 
 -- a row that comes next is sent by as few bytes as can be
-writable_from : (picture : Picture) (plan : StepsAndTable) (place : Place) (step : Step) (more : List Step) → IsBitmapPlan picture plan
+writable_from : {picture : Picture} {plan : StepsAndTable} {place : Place} (step : Step) {more : List Step} → IsBitmapPlan picture plan
     → IsNextToken picture plan place step more → IsWritable picture place.row place.method step
-writable_from picture plan place (Skip count) more is n = tt
-writable_from picture plan place (Switch next) more is n = tt
-writable_from picture plan place (Row count) more is n =
-    let one = row_token count (is_last more) n.token n.is_of in
+writable_from (Skip count) is n = tt
+writable_from (Switch next) is n = tt
+writable_from {picture} {plan} {place} (Row count) {more} is n =
+    let one = row_token (is_last more) n.token n.is_of in
     let from = node place.row place.method true in
     let w = subst (λ (t : Token). Walk (Leads (width_of picture) (bitmap_rows picture)) (Ends (bitmap_rows picture)) from (t ∷ n.rest))
     one.1 n.from.walk in
@@ -226,27 +226,27 @@ writable_from picture plan place (Row count) more is n =
     (least_spelling count) one.0 n.rest w.1 w.2 t in
     (w.1.2, subst (IsLeastLength place.method (above picture place.row) (row_at (bitmap_rows picture) place.row)) one.2 least)
 
-pub writable : (picture : Picture) (plan : StepsAndTable) (old now : List ℕ) (step : Step) (more : List Step) (place : Place)
+pub writable : {picture : Picture} {plan : StepsAndTable} {old now : List ℕ} {step : Step} {more : List Step} {place : Place}
     → IsBitmapPlan picture plan → IsWrittenTo picture plan old now (step ∷ more) place
     → IsWritable picture place.row place.method step
-writable picture plan old now step more place is w = writable_from picture plan place step more is
-    (next_token picture plan old now step more place is w)
+writable {step} is w = writable_from step is
+    (next_token is w)
 
 -- behind the last step it makes no difference whether a sequence is open
-goes_on_open : (step : Step) (last : Bool) → last ≡ false → stays_inside step ≡ (stays_inside step && not last)
-goes_on_open (Skip count) last e = sym (ap not e)
-goes_on_open (Switch next) last e = sym (ap not e)
-goes_on_open (Row count) last e = refl
+goes_on_open : (step : Step) {last : Bool} → last ≡ false → stays_inside step ≡ (stays_inside step && not last)
+goes_on_open (Skip count) e = sym (ap not e)
+goes_on_open (Switch next) e = sym (ap not e)
+goes_on_open (Row count) e = refl
 
-pub written_more : (picture : Picture) (plan : StepsAndTable) (old now new : List ℕ) (step : Step) (more : List Step)
-    (place behind : Place) → IsBitmapPlan picture plan → IsWrittenTo picture plan old now (step ∷ more) place
+pub written_more : {picture : Picture} {plan : StepsAndTable} {old now new : List ℕ} {step : Step} {more : List Step}
+    {place behind : Place} → IsBitmapPlan picture plan → IsWrittenTo picture plan old now (step ∷ more) place
     → AppendsStep picture place step (is_last more) now new → IsPlaceBehind place step (is_last more) behind
     → IsWrittenTo picture plan old new more behind
-written_more picture plan old now new step more place behind is w a p =
-    let n = next_token picture plan old now step more place is w in
+written_more {picture} {plan} {old} {step} {more} {place} {behind} is w a p =
+    let n = next_token is w in
     let walk = n.from.walk in
     let from = node place.row place.method true in
-    let too = leads_too picture place behind step (is_last more) n.token a.0 walk.0 w.within n.is_of a.1 a.2 p walk.1 in
+    let too = leads_too step w.within n.is_of a.1 a.2 p walk.1 in
     let s = step_is_least (width_of picture) (bitmap_rows picture) (node_number plan.table) is.feasible from walk.0 n.token n.rest walk.1
     walk.2 n.from.total_is in
     let token : List Token = opened place.inside (a.0 ∷ []) in
@@ -258,7 +258,7 @@ written_more picture plan old now new step more place behind is w a p =
           ∙ ap (λ (t : List ℕ). old ++ t) (sym (flat_map-append token_bytes w.done token));
       left = n.rest;
       spells = spells_any (stays_inside step) behind.inside more n.rest
-          (λ others. goes_on_open step (is_last more) others ∙ sym p.inside_is) n.spells;
+          (λ others. goes_on_open step others ∙ sym p.inside_is) n.spells;
       walk = subst (λ (x : Node). Walk (Leads (width_of picture) (bitmap_rows picture)) (Ends (bitmap_rows picture)) x n.rest) too.there
           walk.2;
       total_is = s.1 ∙ ap (node_number plan.table) too.there;
@@ -276,10 +276,10 @@ written_more picture plan old now new step more place behind is w a p =
           );
     }
 
-pub written_all : (picture : Picture) (plan : StepsAndTable) (old now : List ℕ) (place : Place)
+pub written_all : {picture : Picture} {plan : StepsAndTable} {old now : List ℕ} {place : Place}
     → IsWrittenTo picture plan old now [] place → AppendsBody picture plan old now
 unfolding Spells
-written_all picture plan old now place w =
+written_all {picture} w =
     let none : w.left ≡ [] = w.spells in
     let g = w.goes_on w.left w.walk w.total_is in
     let all : w.done ++ w.left ≡ w.done = ap (λ (ts : List Token). w.done ++ ts) none ∙ append-nil w.done in (
@@ -290,9 +290,9 @@ written_all picture plan old now place w =
     )
 
 -- there is one least length
-pub one_least : (current : Method) (seed row : List ℕ) (m n : ℕ) → IsLeastLength current seed row m → IsLeastLength current seed row n → m
+pub one_least : {current : Method} {seed row : List ℕ} {m n : ℕ} → IsLeastLength current seed row m → IsLeastLength current seed row n → m
     ≡ n
-one_least current seed row m n a b =
+one_least a b =
     let below = a.shortest b.attained.0 b.attained.1 in
     let over = b.shortest a.attained.0 a.attained.1 in
     omega (arith, a.attained.2, b.attained.2, below, over)
@@ -309,31 +309,31 @@ row_joined old digits bytes = simp append_assoc
 equal_is : (k : ℕ) → (k == k) ≡ true
 equal_is k = grind (arith, nat_tests)
 
-unequal_is : (k n : ℕ) → k < n → (k == n) ≡ false
-unequal_is k n lt = grind (arith, nat_tests)
+unequal_is : {k n : ℕ} → k < n → (k == n) ≡ false
+unequal_is lt = grind (arith, nat_tests)
 
 -- the last step by its place
-pub ends_at : (steps : List Step) (k : ℕ) → k ≤ length steps → is_last (drop k steps) ≡ (k == length steps)
-ends_at steps k le =
+pub ends_at : (steps : List Step) {k : ℕ} → k ≤ length steps → is_last (drop k steps) ≡ (k == length steps)
+ends_at steps {k} le =
     elim (cases_lt k (length steps)) [
-      | inl lt ↦ ap is_last (drop_more steps k (Skip 0) lt) ∙ sym (unequal_is k (length steps) lt)
+      | inl lt ↦ ap is_last (drop_more steps k (Skip 0) lt) ∙ sym (unequal_is lt)
       | inr ge ↦
           let same : k ≡ length steps = omega arith in
           ap is_last (drop_of_length-le steps ge) ∙ sym (ap (λ (n : ℕ). k == n) (sym same) ∙ equal_is k)
     ]
 
 -- a row's data behind its length
-pub appended_row : (picture : Picture) (y : ℕ) (current : Method) (count : ℕ) (old one mid new seed row : List ℕ) → row
+pub appended_row : (picture : Picture) (y : ℕ) {current : Method} {count : ℕ} (old : List ℕ) {one mid new seed row : List ℕ} → row
     ≡ row_at (bitmap_rows picture) y → seed ≡ above picture y
     → IsLeastLength current (above picture y) (row_at (bitmap_rows picture) y) count → one ≡ old ++ least_spelling count → mid
     ≡ one ++ 87 ∷ [] → AppendsLeast current seed row mid new
     → AppendsRow picture y current count old new
-appended_row picture y current count old one mid new seed row r s least a b appends =
+appended_row picture y {current} {count} old {mid} {new} {row} r s least a b appends =
     let is = subst (λ (x : List ℕ). AppendsLeast current (above picture y) x mid new) r
     (subst (λ (x : List ℕ). AppendsLeast current x row mid new) s appends) in (
       is.bytes,
       is.whole,
-      one_least current (above picture y) (row_at (bitmap_rows picture) y) (length is.bytes) count is.least least,
+      one_least is.least least,
       is.joined ∙ ap (λ (t : List ℕ). t ++ is.bytes) (b ∙ ap (λ (t : List ℕ). t ++ 87 ∷ []) a) ∙ row_joined old (least_spelling count)
           is.bytes,
     )

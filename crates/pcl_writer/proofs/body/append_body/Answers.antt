@@ -15,7 +15,7 @@ pub loop-i-init : goal.loop-i-init
 loop-i-init c =
     let old = c.args.out.now.items in
     record {
-      front = front_is old old [] (sym (append-nil old));
+      front = front_is [] (sym (append-nil old));
       written = subst (λ (steps : List Step). IsWrittenTo c.args.bitmap.now c.args.plan.now old old steps _) (sym c.steps-steps.ensures)
           (begin c.args.bitmap.now c.args.plan.now old _ c.requires refl refl);
     }
@@ -26,7 +26,7 @@ append_step-requires c =
     let steps = c.steps-steps.result.now in
     let i = c.loop-i.i in
     let more = drop (i + 1) steps in
-    writable picture c.args.plan.now c.args.out.now.items c.loop-i.out.items (slice_index_or steps i (Skip 0)) more c.loop-i.place
+    writable
     c.requires
     (subst (λ (todo : List Step). IsWrittenTo picture c.args.plan.now c.args.out.now.items c.loop-i.out.items todo c.loop-i.place)
     (drop_more steps i (Skip 0) c.loop-i-test.true) c.loop-i.invariant.written)
@@ -52,17 +52,17 @@ loop-i-preserved c =
     let i = c.loop-i.i in
     let step = slice_index_or steps i (Skip 0) in
     let more = drop (i + 1) steps in
-    let ends : is_last more ≡ (i + 1 == length steps) = ends_at steps (i + 1) (omega (arith, c.loop-i-test.true)) in
+    let ends : is_last more ≡ (i + 1 == length steps) = ends_at steps (omega (arith, c.loop-i-test.true)) in
     let before = subst (λ (todo : List Step). IsWrittenTo picture plan old now todo c.loop-i.place)
     (drop_more steps i (Skip 0) c.loop-i-test.true) c.loop-i.invariant.written in
     let appends = subst (λ (e : Bool). AppendsStep picture c.loop-i.place step e now new) (sym ends) c.in_ok-append_step.ensures.ok in
     let moves = subst (λ (e : Bool). IsPlaceBehind c.loop-i.place step e c.behind-place.result) (sym ends) c.behind-place.ensures in
-    let written = written_more picture plan old now new step more c.loop-i.place c.behind-place.result c.requires before appends moves in
-    record { front = front_is old new _ written.spelled; written = written }
+    let written = written_more c.requires before appends moves in
+    record { front = front_is _ written.spelled; written = written }
 
 pub returns-clause-ok : goal.returns-clause-ok
 returns-clause-ok c =
     let steps = c.steps-steps.result.now in
-    written_all c.args.bitmap.now c.args.plan.now c.args.out.now.items c.loop-i.out.items c.loop-i.place
+    written_all
     (subst (λ (todo : List Step). IsWrittenTo c.args.bitmap.now c.args.plan.now c.args.out.now.items c.loop-i.out.items todo
     c.loop-i.place) (drop_of_length-le steps c.loop-i-test.false) c.loop-i.invariant.written)

@@ -15,9 +15,9 @@ append_row-requires-clause-row c =
     let w = subst (IsWritable picture c.args.row c.args.method) c.in-Row.is c.requires in
     omega (arith, w.0, length_rows (page_height picture.size picture.dpi) (width_of picture) picture.bytes)
 
-setting_is : (old new tail : List ℕ) (number same : ℕ) → new ≡ old ++ (least_spelling number ++ tail) → number ≡ same → new
+setting_is : (old : List ℕ) {new : List ℕ} (tail : List ℕ) {number same : ℕ} → new ≡ old ++ (least_spelling number ++ tail) → number ≡ same → new
     ≡ old ++ (least_spelling same ++ tail)
-setting_is old new tail number same e n = e ∙ ap (λ (m : ℕ). old ++ (least_spelling m ++ tail)) n
+setting_is old tail e n = e ∙ ap (λ (m : ℕ). old ++ (least_spelling m ++ tail)) n
 
 pub returns-in-Skip-clause-ok : goal.returns-in-Skip-clause-ok
 returns-in-Skip-clause-ok c =
@@ -29,7 +29,7 @@ returns-in-Skip-clause-ok c =
       skip (least_spelling count) count c.args.ends,
       (refl, refl, refl),
       tt,
-      setting_is old new (letter 89 c.args.ends) c.from.result count
+      setting_is old (letter 89 c.args.ends)
           e c.from.ensures,
     ))
     c.append_setting.ensures.ok
@@ -44,8 +44,7 @@ returns-in-Switch-clause-ok c =
       method (least_spelling (method_code next)) next c.args.ends,
       (refl, refl, refl),
       tt,
-      setting_is old new (letter 77 c.args.ends)
-          c.code.result (method_code next) e c.code.ensures,
+      setting_is old (letter 77 c.args.ends) e c.code.ensures,
     ))
     c.append_setting-in-Switch.ensures.ok
 

@@ -14,8 +14,8 @@ append_data-requires c = record {
   small = omega (arith, c.row.ensures.len, row_small c.args.bitmap.now.size c.args.bitmap.now.dpi);
 }
 
-digits_are : (old new : List ℕ) (number same : ℕ) → new ≡ old ++ least_spelling number → number ≡ same → new ≡ old ++ least_spelling same
-digits_are old new number same e n = e ∙ ap (λ (m : ℕ). old ++ least_spelling m) n
+digits_are : (old : List ℕ) {new : List ℕ} {number same : ℕ} → new ≡ old ++ least_spelling number → number ≡ same → new ≡ old ++ least_spelling same
+digits_are old e n = e ∙ ap (λ (m : ℕ). old ++ least_spelling m) n
 
 pub returns-clause-ok : goal.returns-clause-ok
 returns-clause-ok c =
@@ -23,10 +23,8 @@ returns-clause-ok c =
     let row_is = c.row.ensures.bytes ∙ sym (row_of_bytes c.args.row (page_height picture.size picture.dpi) (width_of picture)
     picture.bytes c.requires.row) in
     on_ok_weaker c.append_data.result
-    (appended_row picture c.args.row c.args.method c.args.bytes c.args.out.now.items c.append_spelling.new.out.items
-    c.extend_from_slice.new.self.items c.append_data.new.out.items c.row_above.result.now c.row.result.now
-    row_is c.row_above.ensures.row c.requires.bytes (digits_are c.args.out.now.items c.append_spelling.new.out.items c.from.result
-    c.args.bytes c.in_ok-append_spelling.ensures.ok c.from.ensures) c.in_ok-extend_from_slice.ensures.items)
+    (appended_row picture c.args.row c.args.out.now.items
+    row_is c.row_above.ensures.row c.requires.bytes (digits_are c.args.out.now.items c.in_ok-append_spelling.ensures.ok c.from.ensures) c.in_ok-extend_from_slice.ensures.items)
     c.append_data.ensures.ok
 
 pub returns-clause-front : goal.returns-clause-front
