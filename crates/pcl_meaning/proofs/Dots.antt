@@ -74,9 +74,9 @@ skipped_dots (suc count) k (row ∷ rows) x y w =
     ∙ sym (first_row k row rows x y ∙ ap (λ (b : Bool). b || dot_from (k + 1) rows x y) first)
 
 -- what a row inks that is sent at the left edge, k rows below the top
-pub row_inks : (k width : ℕ) (bytes : List ℕ) (x y : ℕ) → x < width
+pub row_inks : (k : ℕ) {width : ℕ} (bytes : List ℕ) {x : ℕ} (y : ℕ) → x < width
     → raster_dot 0 (0 + k * 1) 1 width bytes x y ≡ (k == y && dot_of_row bytes x)
-row_inks k width bytes x y within =
+row_inks k {width} bytes {x} y within =
     let at : (x - 0) / 1 ≡ x = omega arith in
     let wide : nat_lt x width ≡ true = grind (arith, nat_tests) in
     let left : nat_le 0 x ≡ true = grind (arith, nat_tests) in

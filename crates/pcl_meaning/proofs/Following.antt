@@ -107,21 +107,21 @@ record IsQuiet (operation : Operation) (value : Value) (s next : Situation) : Ty
   performed : next.performed ≡ s.performed
   pages : next.pages ≡ s.pages
 
-same_quiet : (operation : Operation) (value : Value) (s now next : Situation) → ◌≡◌ {A = Result Situation Kind} (Ok now) (Ok next)
+same_quiet : {operation : Operation} {value : Value} {s : Situation} (now : Situation) {next : Situation} → ◌≡◌ {A = Result Situation Kind} (Ok now) (Ok next)
     → IsQuiet operation value s now → IsQuiet operation value s next
-same_quiet operation value s now next e q =
+same_quiet {operation} {value} {s} now {next} e q =
     let same : now ≡ next = cc in subst (λ (z : Situation). IsQuiet operation value s z) same q
 
-quiet : (operation : Operation) (value : Value) (s next : Situation) → quietly operation value s ≡ Ok next
+quiet : (operation : Operation) {value : Value} {s next : Situation} → quietly operation value s ≡ Ok next
     → IsQuiet operation value s next
-quiet Reset value s next e =
-    same_quiet Reset value s _ next e (record { anywhere = λ place. refl; runs = refl; begun = refl; performed = refl; pages = refl })
-quiet UniversalExit value s next e =
-    same_quiet UniversalExit value s _ next e
+quiet Reset e =
+    same_quiet _ e (record { anywhere = λ place. refl; runs = refl; begun = refl; performed = refl; pages = refl })
+quiet UniversalExit e =
+    same_quiet _ e
     (record { anywhere = λ place. refl; runs = refl; begun = refl; performed = refl; pages = refl })
-quiet ControlMacros value s next e = absurd cc
-quiet other value s next e =
-    same_quiet other value s s next e (record { anywhere = λ place. refl; runs = refl; begun = refl; performed = refl; pages = refl })
+quiet ControlMacros e = absurd cc
+quiet other {s} e =
+    same_quiet s e (record { anywhere = λ place. refl; runs = refl; begun = refl; performed = refl; pages = refl })
 
 -- each deed counts one, and leaves a definition that is open
 record IsDone (dpi : Dpi) (d : Deed) (s next : Situation) : Type 0 where
@@ -131,39 +131,39 @@ record IsDone (dpi : Dpi) (d : Deed) (s next : Situation) : Type 0 where
   performed : next.performed ≡ s.performed + 1
   begun : next.begun ≡ s.begun
 
-done_by : (dpi : Dpi) (d : Deed) (s next : Situation) (o : Result Situation Kind) → after dpi d.operation (said_of d) s ≡ o
+done_by : {dpi : Dpi} {d : Deed} {s next : Situation} (o : Result Situation Kind) → after dpi d.operation (said_of d) s ≡ o
     → and_then o (quietly d.operation d.value) ≡ Ok next → IsDone dpi d s next
-done_by dpi d s next (Err kind) e q = absurd cc
-done_by dpi d s next (Ok now) e q =
-    let is = quiet d.operation d.value now next q in
+done_by (Err kind) e q = absurd cc
+done_by {dpi} {d} {s} (Ok now) e q =
+    let is = quiet d.operation q in
     let a = after_adds dpi d.operation (said_of d) s now e in
     record { now = now; drawn_as = e; is_quiet = is; performed = is.performed ∙ a.performed; begun = is.begun ∙ a.begun }
 
-is_done : (dpi : Dpi) (d : Deed) (s next : Situation) → does dpi d s ≡ Ok next → IsDone dpi d s next
-is_done dpi d s next e = done_by dpi d s next (after dpi d.operation (said_of d) s) refl e
+is_done : {dpi : Dpi} {d : Deed} {s next : Situation} → does dpi d s ≡ Ok next → IsDone dpi d s next
+is_done {dpi} {d} {s} e = done_by (after dpi d.operation (said_of d) s) refl e
 
 pub leads_counts : (dpi : Dpi) (deeds : List Deed) (s later : Situation) → Leads dpi deeds s later
     → later.performed ≡ s.performed + length deeds
 leads_counts dpi [] s later a = ap (λ (z : Situation). z.performed) a ∙ (let none : s.performed ≡ s.performed + 0 = omega arith in none)
 leads_counts dpi (d ∷ deeds) s later a =
-    let one = (is_done dpi d s a.0 a.1).performed in
+    let one = (is_done a.1).performed in
     let more = leads_counts dpi deeds a.0 later a.3 in
     omega (arith, one, more)
 
 -- ---- commands that are deeds
 
-not_refused : (dpi : Dpi) (command : Said) (operation : Operation) (s next : Situation) → operation_of command.name ≡ Some operation
+not_refused : (dpi : Dpi) (command : Said) {operation : Operation} (s : Situation) {next : Situation} → operation_of command.name ≡ Some operation
     → after dpi operation command s ≡ Ok next → page_refusal next ≡ None → s.performed < 100000000 → command_refusal dpi command s ≡ None
-not_refused dpi command operation s next named done fits few =
+not_refused dpi command s named done fits few =
     let under : nat_le command_limit s.performed ≡ false = grind (arith, nat_tests) in
     ap (λ (b : Bool). cond b (Some TooManyCommands) (operation_refusal dpi (operation_of command.name) command s)) under
     ∙ ap (λ (o : Option Operation). operation_refusal dpi o command s) named ∙ ap refusal_after done ∙ fits
 
 -- performing a command is its deed
-deed_done : (dpi : Dpi) (command : Said) (d : Deed) (s next : Situation) → IsSaid command d
+deed_done : (dpi : Dpi) (command : Said) {d : Deed} (s : Situation) {next : Situation} → IsSaid command d
     → after dpi d.operation (said_of d) s ≡ Ok next
     → after dpi d.operation command s ≡ Ok next
-deed_done dpi command d s next is e =
+deed_done dpi command {d} s is e =
     after_same dpi d.operation command.at command.name command.value command.bytes s
     ∙ ap (λ (v : Value). after dpi d.operation (record { at = 0; name = Empty; value = v; bytes = command.bytes }) s) is.1
     ∙ ap (λ (bs : List ℕ). after dpi d.operation (record { at = 0; name = Empty; value = d.value; bytes = bs }) s) is.2
@@ -173,13 +173,13 @@ same_pages : (one other : Situation) → one.pages ≡ other.pages → page_refu
 same_pages one other e = ap (λ (ps : List Sheet). cond (nat_le (length ps) page_limit) None (Some TooManyPages)) e
 
 -- outside of a definition a deed's command leads where the deed does, and runs no macro
-command_done : (dpi : Dpi) (place : ℕ) (command : Said) (d : Deed) (s next : Situation) → IsSaid command d → IsDone dpi d s next
+command_done : {dpi : Dpi} (place : ℕ) (command : Said) {d : Deed} {s next : Situation} → IsSaid command d → IsDone dpi d s next
     → page_refusal next ≡ None → s.performed < 100000000 → s.begun ≡ None
     → (after_command dpi place command s ≡ Ok next) × (run_of command s next ≡ None)
-command_done dpi place command d s next is done fits few none =
-    let drawn : after dpi d.operation command s ≡ Ok done.now = deed_done dpi command d s done.now is done.drawn_as in
+command_done {dpi} place command {d} {s} {next} is done fits few none =
+    let drawn : after dpi d.operation command s ≡ Ok done.now = deed_done dpi command s is done.drawn_as in
     let free : command_refusal dpi command s ≡ None =
-    not_refused dpi command d.operation s done.now is.0 drawn (sym (same_pages next done.now done.is_quiet.pages) ∙ fits) few in
+    not_refused dpi command s is.0 drawn (sym (same_pages next done.now done.is_quiet.pages) ∙ fits) few in
     let closed : is_some s.begun ≡ false = ap (λ (b : Option Begun). is_some b) none in (
       ap (λ (b : Bool). cond b (defining dpi place (keeping_of (operation_of command.name) command.value) command s)
           (counting dpi place command s)) closed
@@ -195,16 +195,16 @@ command_done dpi place command d s next is done fits few none =
 
 -- performing commands that are deeds leads where the deeds do
 pub commands_done : (dpi : Dpi) (f : Said → Run → Situation → Performance) (place : ℕ) (commands : List Said) (deeds : List Deed)
-    (s later : Situation) → AreSaid commands deeds → Leads dpi deeds s later → s.performed + length deeds ≤ 100000000 → s.begun ≡ None
+    (s : Situation) {later : Situation} → AreSaid commands deeds → Leads dpi deeds s later → s.performed + length deeds ≤ 100000000 → s.begun ≡ None
     → (in_order (step dpi f) place commands s ≡ done later) × (later.begun ≡ None)
-commands_done dpi f place [] [] s later a l few none =
+commands_done dpi f place [] [] s a l few none =
     (ap done (sym l), ap (λ (z : Situation). z.begun) l ∙ none)
-commands_done dpi f place [] (d ∷ deeds) s later a l few none = absurd a
-commands_done dpi f place (command ∷ commands) [] s later a l few none = absurd a
-commands_done dpi f place (command ∷ commands) (d ∷ deeds) s later a l few none =
-    let one = is_done dpi d s l.0 l.1 in
-    let is = command_done dpi place command d s l.0 a.0 one l.2 (omega arith) none in
-    let rest = commands_done dpi f (place + 1) commands deeds l.0 later a.1 l.3 (omega (arith, one.performed)) (one.begun ∙ none) in
+commands_done dpi f place [] (d ∷ deeds) s a l few none = absurd a
+commands_done dpi f place (command ∷ commands) [] s a l few none = absurd a
+commands_done dpi f place (command ∷ commands) (d ∷ deeds) s a l few none =
+    let one = is_done l.1 in
+    let is = command_done place command a.0 one l.2 (omega arith) none in
+    let rest = commands_done dpi f (place + 1) commands deeds l.0 a.1 l.3 (omega (arith, one.performed)) (one.begun ∙ none) in
     let stepped : step dpi f place command s ≡ done l.0 =
     ap (λ (r : Result Situation Kind). then_on (concluded command s r) (λ t. and_run (f command) (run_of command s t) t)) is.0
     ∙ ap (λ (r : Option Run). and_run (f command) r l.0) is.1 in

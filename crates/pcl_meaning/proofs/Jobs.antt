@@ -51,19 +51,19 @@ height_small A4 Dpi300 = lit≤ tt
 height_small A4 Dpi600 = lit≤ tt
 
 -- what stands in a text
-pub text_read : (dpi : Dpi) (size : Size) (copies : ℕ) (rows : List (List ℕ)) (text : List ℕ)
+pub text_read : {dpi : Dpi} {size : Size} {copies : ℕ} {rows : List (List ℕ)} {text : List ℕ}
     (printed : IsPageText dpi size copies rows text)
     → ReadsAs text (text_deeds dpi size copies printed.tokens)
-text_read dpi size copies rows text printed =
+text_read {dpi} {size} {copies} {rows} printed =
     let few : length rows ≤ 65535 = omega (arith, printed.count, height_small size dpi) in
     let small : copies ≤ 65535 = omega (arith, printed.few_copies) in
     let start = start_bytes dpi copies size in
     let body = flat_map token_bytes printed.tokens in
     subst (λ (bytes : List ℕ). ReadsAs bytes (text_deeds dpi size copies printed.tokens))
     (sym (printed.spelled ∙ append_assoc start body end_bytes))
-    (reads_joined start (body ++ end_bytes) (start_deeds dpi copies size) (body_deeds printed.tokens ++ end_deeds)
-    (start_read dpi copies size small)
-    (reads_joined body end_bytes (body_deeds printed.tokens) end_deeds (body_read _ _ printed.tokens rows printed.prints few) end_read))
+    (reads_joined
+    (start_read dpi size small)
+    (reads_joined (body_read _ _ printed.tokens rows printed.prints few) end_read))
 
 token_counted : (token : Token) → length (token_deeds token) ≡ commands_in token
 token_counted opening = refl
@@ -100,37 +100,37 @@ closed pages n =
       macros = macro_control macros.Temporary 0 ∷ reset_macros;
     }
 
-reset_last : (dpi : Dpi) (t : Settings) (pages : List Sheet) (n : ℕ) → does dpi reset (between t pages n) ≡ Ok (closed pages (n + 1))
+reset_last : (dpi : Dpi) (t : Settings) {pages : List Sheet} (n : ℕ) → does dpi reset (between t pages n) ≡ Ok (closed pages (n + 1))
 unfolding after outcome
-reset_last dpi t pages n = refl
+reset_last dpi t n = refl
 
 -- the end of the input changes nothing behind a reset
 end_refused : (dpi : Dpi) (pages : List Sheet) (n : ℕ) → length pages ≤ 256 → page_refusal (at_end dpi (closed pages n)) ≡ None
 end_refused dpi pages n few = pages_fit (at_end dpi (closed pages n)) few
 
-ended_there : (dpi : Dpi) (end : ℕ) (pages : List Sheet) (n : ℕ) → length pages ≤ 256
+ended_there : (dpi : Dpi) (end : ℕ) {pages : List Sheet} {n : ℕ} → length pages ≤ 256
     → after_end dpi end (closed pages n) ≡ done (at_end dpi (closed pages n))
-ended_there dpi end pages n few = ap (λ (why : Option Kind). ended dpi end why (closed pages n)) (end_refused dpi pages n few)
+ended_there dpi end {pages} {n} few = ap (λ (why : Option Kind). ended dpi end why (closed pages n)) (end_refused dpi pages n few)
 
 -- bytes that are read as deeds that eject these pages
-pub job_accepted : (dpi : Dpi) (text : List ℕ) (deeds : List Deed) (t : Settings) (pages : List Sheet) (n : ℕ)
+pub job_accepted : {dpi : Dpi} {text : List ℕ} {deeds : List Deed} (t : Settings) {pages : List Sheet} (n : ℕ)
     → ReadsAs text deeds → Leads dpi deeds (between defaults [] 1) (between t pages n) → length pages ≤ 256 → length deeds ≤ 99999998
     → HasPages dpi (frame_bytes ++ text ++ frame_bytes) pages
-job_accepted dpi text deeds t pages n read leads fits few =
+job_accepted {dpi} {text} {deeds} t {pages} n read leads fits few =
     let all = reset ∷ (deeds ++ reset ∷ []) in
-    let r = reads_joined frame_bytes (text ++ frame_bytes) (reset ∷ []) (deeds ++ reset ∷ []) frame_read
-    (reads_joined text frame_bytes deeds (reset ∷ []) read frame_read) in
+    let r = reads_joined frame_read
+    (reads_joined read frame_read) in
     let end = length (frame_bytes ++ text ++ frame_bytes) in
     let commands = commands_of 0 r.pieces in
     let first = between defaults [] 1 in
     let last = closed pages (n + 1) in
-    let closes : Leads dpi (reset ∷ []) (between t pages n) last = (last, reset_last dpi t pages n, pages_fit last fits, refl) in
+    let closes : Leads dpi (reset ∷ []) (between t pages n) last = (last, reset_last dpi t n, pages_fit last fits, refl) in
     let whole : Leads dpi all at_begin last =
     (first, reset_first dpi, pages_fit first (lit≤ tt), leads_append dpi deeds (reset ∷ []) first (between t pages n) last leads closes) in
     let count : at_begin.performed + length all ≤ 100000000 = omega (arith, length-append deeds (reset ∷ [])) in
-    let c = commands_done dpi (runs macro_limit dpi commands) 0 commands all at_begin last (r.said 0) whole count refl in
+    let c = commands_done dpi (runs macro_limit dpi commands) 0 commands all at_begin (r.said 0) whole count refl in
     let accepted : performance_of dpi (frame_bytes ++ text ++ frame_bytes) commands ≡ done (at_end dpi last) =
-    ap (λ (p : Performance). then_on p (after_end dpi end)) c.0 ∙ ended_there dpi end pages (n + 1) fits in
+    ap (λ (p : Performance). then_on p (after_end dpi end)) c.0 ∙ ended_there dpi end fits in
     record {
       commands = commands;
       reading = record { pieces = r.pieces; each = r.each []; spelled = r.spelled; said = refl };
@@ -142,12 +142,12 @@ job_accepted dpi text deeds t pages n read leads fits few =
 
 pub text_means_page : PageTextsMeanTheirPages
 text_means_page dpi size copies rows text printed few =
-    let t = text_taken dpi size copies rows text printed defaults [] 1 (record { method = refl; height = refl }) (lit≤ tt) in
+    let t = text_taken printed (record { method = refl; height = refl }) (lit≤ tt) in
     let sheet : Sheet = record { size = size; copies = copies; marks = t.inked } in
     record {
       sheet = sheet;
-      meaning = job_accepted dpi text (text_deeds dpi size copies printed.tokens) t.settings (sheet ∷ []) t.count
-          (text_read dpi size copies rows text printed) t.leads (lit≤ tt)
+      meaning = job_accepted t.settings t.count
+          (text_read printed) t.leads (lit≤ tt)
           (omega (arith, few, text_counted dpi size copies printed.tokens));
       size_is = refl;
       copies_are = refl;
@@ -168,40 +168,40 @@ pub record AreTextsTaken (dpi : Dpi) (meant : List Sheet) (texts : List ℕ) (fr
   pub same_many : length again ≡ length meant
   pub few : length deeds ≤ 25210 * length meant
 
-rows_dot : (size : Size) (dpi : Dpi) (page : Page) (x y : ℕ) → page.bitmap.size ≡ size → page.bitmap.dpi ≡ dpi → y < page_height size dpi
+rows_dot : {size : Size} {dpi : Dpi} (page : Page) (x : ℕ) {y : ℕ} → page.bitmap.size ≡ size → page.bitmap.dpi ≡ dpi → y < page_height size dpi
     → dot_of_rows (bitmap_rows page.bitmap) x y ≡ dot page.bitmap x y
-rows_dot size dpi page x y s d below =
+rows_dot {size} {dpi} page x {y} s d below =
     let height : page_height size dpi ≡ page_height page.bitmap.size page.bitmap.dpi =
     ap (λ (z : Size). page_height z dpi) (sym s) ∙ ap (λ (r : Dpi). page_height page.bitmap.size r) (sym d) in
     page_dot (page_height page.bitmap.size page.bitmap.dpi) (page_row_bytes page.bitmap.size page.bitmap.dpi) page.bitmap.bytes x y
     (subst (λ (n : ℕ). y < n) height below)
 
-sheet_alike : (dpi : Dpi) (sheet : Sheet) (page : Page) (inked : List Mark) → Shows dpi page sheet
+sheet_alike : {dpi : Dpi} {sheet : Sheet} {page : Page} {inked : List Mark} → Shows dpi page sheet
     → ((x y : ℕ) → x < page_width page.size page.dpi → is_black inked x y ≡ dot_of_rows (bitmap_rows page.bitmap) x y)
     → AreAlike dpi sheet (record { size = page.size; copies = page.copies; marks = inked })
-sheet_alike dpi sheet page inked shows black = record {
+sheet_alike {dpi} {sheet} {page} shows black = record {
   size = sym shows.size;
   copies = sym shows.copies;
   dots = λ x y wide high.
       let width : page_width sheet.size dpi ≡ page_width page.size page.dpi =
       ap (λ (z : Size). page_width z dpi) (sym shows.size) ∙ ap (λ (r : Dpi). page_width page.size r) (sym shows.resolution) in
       sym (black x y (subst (λ (n : ℕ). x < n) width wide)
-      ∙ rows_dot sheet.size dpi page x y (page.size_is ∙ shows.size) (page.dpi_is ∙ shows.resolution) high
+      ∙ rows_dot page x (page.size_is ∙ shows.size) (page.dpi_is ∙ shows.resolution) high
       ∙ shows.dots x y wide high);
 }
 
 -- a written page, said with the resolution of its job
-at_resolution : (page : Page) (text : List ℕ) (dpi : Dpi) → page.dpi ≡ dpi → IsWrittenPage page text
+at_resolution : (page : Page) {text : List ℕ} {dpi : Dpi} → page.dpi ≡ dpi → IsWrittenPage page text
     → (printed : IsPageText dpi page.size page.copies (bitmap_rows page.bitmap) text)
     × (command_count printed.tokens ≤ 3 * page_height page.size dpi)
-at_resolution page text dpi e w =
+at_resolution page {text} e w =
     subst (λ (r : Dpi). (printed : IsPageText r page.size page.copies (bitmap_rows page.bitmap) text)
     × (command_count printed.tokens ≤ 3 * page_height page.size r)) e (w.0, w.1)
 
-pub texts_taken : (dpi : Dpi) (meant : List Sheet) (texts : List ℕ) (t : Settings) (pages : List Sheet) (n : ℕ)
+pub texts_taken : {dpi : Dpi} (meant : List Sheet) {texts : List ℕ} {t : Settings} {pages : List Sheet} {n : ℕ}
     → PrintSheets dpi meant texts → IsBetween t → length pages + length meant ≤ 256
     → AreTextsTaken dpi meant texts (between t pages n) pages
-texts_taken dpi [] texts t pages n p b few = record {
+texts_taken [] {t} {pages} {n} p b few = record {
   deeds = [];
   read = subst (λ (bytes : List ℕ). ReadsAs bytes []) (sym p) reads_none;
   again = [];
@@ -212,16 +212,16 @@ texts_taken dpi [] texts t pages n p b few = record {
   same_many = refl;
   few = omega arith;
 }
-texts_taken dpi (sheet ∷ meant) texts t pages n p b few =
+texts_taken {dpi} (sheet ∷ meant) {t} {pages} {n} p b few =
     let page = p.0 in
     let shows = p.3 in
-    let written = at_resolution page p.1 dpi shows.resolution p.4 in
+    let written = at_resolution page shows.resolution p.4 in
     let printed = written.0 in
     let deeds = text_deeds dpi page.size page.copies printed.tokens in
-    let one = text_taken dpi page.size page.copies (bitmap_rows page.bitmap) p.1 printed t pages n b (omega arith) in
+    let one = text_taken printed b (omega arith) in
     let again : Sheet = record { size = page.size; copies = page.copies; marks = one.inked } in
     let more = pages ++ again ∷ [] in
-    let rest = texts_taken dpi meant p.2 one.settings more one.count p.6 one.stands (omega (arith, length-append pages (again ∷ []))) in
+    let rest = texts_taken meant p.6 one.stands (omega (arith, length-append pages (again ∷ []))) in
     let middle = between one.settings more one.count in
     let last = between rest.settings (pages ++ (again ∷ rest.again)) rest.count in
     let behind : Leads dpi rest.deeds middle last =
@@ -230,13 +230,13 @@ texts_taken dpi (sheet ∷ meant) texts t pages n p b few =
     record {
       deeds = deeds ++ rest.deeds;
       read = subst (λ (bytes : List ℕ). ReadsAs bytes (deeds ++ rest.deeds)) (sym p.5)
-          (reads_joined p.1 p.2 deeds rest.deeds (text_read dpi page.size page.copies (bitmap_rows page.bitmap) p.1 printed) rest.read);
+          (reads_joined (text_read printed) rest.read);
       again = again ∷ rest.again;
       settings = rest.settings;
       count = rest.count;
       leads = leads_append dpi deeds rest.deeds (between t pages n) middle last one.leads behind;
       alike = (
-        sheet_alike dpi sheet page one.inked shows
+        sheet_alike shows
             (subst (λ (r : Dpi). (x y : ℕ) → x < page_width page.size r
             → is_black one.inked x y ≡ dot_of_rows (bitmap_rows page.bitmap) x y)
             (sym shows.resolution) one.black),
@@ -293,9 +293,9 @@ pub written_again : (dpi : Dpi) (job texts : List ℕ) (pages : List Sheet) → 
     → (again : List Sheet) × HasPages dpi (frame_bytes ++ texts ++ frame_bytes) again × AllAlike dpi pages again
 written_again dpi job texts pages h p =
     let few = job_fits dpi job pages h in
-    let t = texts_taken dpi pages texts defaults [] 1 p (record { method = refl; height = refl }) (omega (arith, few)) in (
+    let t = texts_taken pages p (record { method = refl; height = refl }) (omega (arith, few)) in (
       t.again,
-      job_accepted dpi texts t.deeds t.settings t.again t.count t.read t.leads (omega (arith, t.same_many, few))
+      job_accepted t.settings t.count t.read t.leads (omega (arith, t.same_many, few))
           (omega (arith, few, t.few)),
       t.alike,
     )

@@ -78,21 +78,21 @@ between t pages n = record {
 pub pages_fit : (s : Situation) → length s.pages ≤ 256 → page_refusal s ≡ None
 pages_fit s le = let t : nat_le (length s.pages) 256 ≡ true = grind (arith, nat_tests) in rw t refl
 
-prepared_is : (dpi : Dpi) (ends : Bool) (t : Settings) (pages : List Sheet) (n : ℕ)
+prepared_is : (dpi : Dpi) (ends : Bool) {t : Settings} {pages : List Sheet} {n : ℕ}
     → cond ends (end_raster dpi (between t pages n)) (between t pages n) ≡ between t pages n
-prepared_is dpi true t pages n = refl
-prepared_is dpi false t pages n = refl
+prepared_is dpi true = refl
+prepared_is dpi false = refl
 
 -- a command that sets something between texts
-drawn_between : (dpi : Dpi) (operation : Operation) (value : Value) (t t' : Settings) (effect : Effect) (pages : List Sheet) (n : ℕ)
+drawn_between : (dpi : Dpi) (operation : Operation) (value : Value) (t : Settings) {t' : Settings} {effect : Effect} {pages : List Sheet} (n : ℕ)
     → outcome dpi operation value false t ≡ Some (t', effect) → ejects effect false ≡ false
     → ((s : Situation) → drawn_on dpi operation (said_of (deed operation value [])) s ≡ Ok s)
     → after dpi operation (said_of (deed operation value [])) (between t pages n) ≡ Ok (between t' pages (n + 1))
 unfolding after
-drawn_between dpi operation value t t' effect pages n o e d =
+drawn_between dpi operation value t {t'} {pages} n o e d =
     let command = said_of (deed operation value []) in
     let at = between t pages (n + 1) in
-    ap (λ (z : Situation). taken dpi operation command z) (prepared_is dpi (ends_raster operation) t pages (n + 1))
+    ap (λ (z : Situation). taken dpi operation command z) (prepared_is dpi (ends_raster operation))
     ∙ ap (λ (out : Outcome). done_with dpi operation command out at) o
     ∙ ap (λ (test : Bool).
     drawn_on dpi operation command
@@ -100,13 +100,13 @@ drawn_between dpi operation value t t' effect pages n o e d =
     (record at { settings = t' }))) e
     ∙ d (between t' pages (n + 1))
 
-set_between : (dpi : Dpi) (operation : Operation) (value : Value) (t t' : Settings) (effect : Effect) (pages : List Sheet) (n : ℕ)
+set_between : (dpi : Dpi) (operation : Operation) (value : Value) (t : Settings) {t' : Settings} {effect : Effect} {pages : List Sheet} (n : ℕ)
     → outcome dpi operation value false t ≡ Some (t', effect) → ejects effect false ≡ false
     → ((s : Situation) → drawn_on dpi operation (said_of (deed operation value [])) s ≡ Ok s)
     → ((s : Situation) → quietly operation value s ≡ Ok s)
     → does dpi (deed operation value []) (between t pages n) ≡ Ok (between t' pages (n + 1))
-set_between dpi operation value t t' effect pages n o e d q =
-    ap (λ (r : Result Situation Kind). and_then r (quietly operation value)) (drawn_between dpi operation value t t' effect pages n o e d)
+set_between dpi operation value t {t'} {pages} n o e d q =
+    ap (λ (r : Result Situation Kind). and_then r (quietly operation value)) (drawn_between dpi operation value t n o e d)
     ∙ q (between t' pages (n + 1))
 
 -- ---- what the begin of a text sets
@@ -192,11 +192,11 @@ in_body size dpi t m k seed marks pages n = record {
 abbrev zeros : Size → Dpi → List ℕ
 zeros size dpi = replicate (bytes_of_width (page_width size dpi)) 0
 
-first_dot : (dpi : Dpi) (y : ℕ) → y ≡ 0 → dot_at dpi y ≡ 0
-first_dot Dpi300 y e = omega (arith, e)
-first_dot Dpi600 y e = omega (arith, e)
+first_dot : (dpi : Dpi) {y : ℕ} → y ≡ 0 → dot_at dpi y ≡ 0
+first_dot Dpi300 e = omega (arith, e)
+first_dot Dpi600 e = omega (arith, e)
 
-one_scale : (dpi : Dpi) (size : Size) (top : ℕ) (height : Option ℕ) → height ≡ None → top ≡ 0
+one_scale : (dpi : Dpi) (size : Size) {top : ℕ} {height : Option ℕ} → height ≡ None → top ≡ 0
     → record {
       left = 0;
       top = top;
@@ -207,7 +207,7 @@ one_scale : (dpi : Dpi) (size : Size) (top : ℕ) (height : Option ℕ) → heig
           0;
       seed = zeros size dpi;
     } ≡ body_raster size dpi 0 (zeros size dpi)
-one_scale Dpi300 size top height h t =
+one_scale Dpi300 size {top} {height} h t =
     ap (λ (o : Option ℕ). record {
       left = 0;
       top = top;
@@ -228,7 +228,7 @@ one_scale Dpi300 size top height h t =
       seed =
           zeros size Dpi300;
     }) t
-one_scale Dpi600 size top height h t =
+one_scale Dpi600 size {top} {height} h t =
     ap (λ (o : Option ℕ). record {
       left = 0;
       top = top;
@@ -250,15 +250,15 @@ one_scale Dpi600 size top height h t =
           zeros size Dpi600;
     }) t
 
-start_after : (size : Size) (dpi : Dpi) (copies : ℕ) (t : Settings) (pages : List Sheet) (n : ℕ) → IsBetween t
+start_after : {size : Size} (dpi : Dpi) {copies : ℕ} {t : Settings} {pages : List Sheet} (n : ℕ) → IsBetween t
     → does dpi (deed StartRaster (number_value 0) []) (between (ready dpi size copies t) pages n)
     ≡ Ok (in_body size dpi (ready dpi size copies t) Plain 0 (zeros size dpi) [] pages (n + 1))
 unfolding after outcome
-start_after size dpi copies t pages n b =
+start_after {size} dpi {copies} {t} {pages} n b =
     let at = ready dpi size copies t in
     let y : at.cursor.y ≡ 0 = omega arith in
     let raster : raster_from dpi 0 at ≡ body_raster size dpi 0 (zeros size dpi) =
-    one_scale dpi size (dot_at dpi at.cursor.y) t.raster_height b.height (first_dot dpi at.cursor.y y) in
+    one_scale dpi size b.height (first_dot dpi y) in
     ap (λ (r : Raster). Ok
     (record {
       settings = at;
@@ -283,11 +283,11 @@ start_after size dpi copies t pages n b =
       performed = n + 1;
     })) b.method
 
-start_leads : (size : Size) (dpi : Dpi) (copies : ℕ) (t : Settings) (pages : List Sheet) (n : ℕ) → IsBetween t → 0 < copies → copies < 100
+start_leads : (size : Size) (dpi : Dpi) (copies : ℕ) {t : Settings} (pages : List Sheet) (n : ℕ) → IsBetween t → 0 < copies → copies < 100
     → length pages ≤ 256
     → (m : ℕ) × Leads dpi (start_deeds dpi copies size) (between t pages n)
     (in_body size dpi (ready dpi size copies t) Plain 0 (zeros size dpi) [] pages m)
-start_leads size dpi copies t pages n b some few fits =
+start_leads size dpi copies {t} pages n b some few fits =
     let a1 = record t { copies = copies } in
     let a2 = with_size size a1 in
     let a3 = top_zero a2 in
@@ -299,40 +299,40 @@ start_leads size dpi copies t pages n b some few fits =
       n + 1 + 1 + 1 + 1 + 1 + 1 + 1 + 1,
       (
         between a1 pages (n + 1),
-        set_between dpi Copies (number_value copies) t a1 page.Stay pages n (copies_out dpi copies t some few) refl (λ s. refl) (λ s. refl),
+        set_between dpi Copies (number_value copies) t n (copies_out dpi copies t some few) refl (λ s. refl) (λ s. refl),
         ok a1 (n + 1),
         (
           between a2 pages (n + 1 + 1),
-          set_between dpi PageSize (number_value (code_of size)) a1 a2 page.EjectMarked pages (n + 1) (size_out dpi size a1) refl
+          set_between dpi PageSize (number_value (code_of size)) a1 (n + 1) (size_out dpi size a1) refl
               (λ s. refl) (λ s. refl),
           ok a2 (n + 1 + 1),
           (
             between a3 pages (n + 1 + 1 + 1),
-            set_between dpi TopMargin (number_value 0) a2 a3 page.Stay pages (n + 1 + 1) (top_out dpi a2) refl (λ s. refl) (λ s. refl),
+            set_between dpi TopMargin (number_value 0) a2 (n + 1 + 1) (top_out dpi a2) refl (λ s. refl) (λ s. refl),
             ok a3 (n + 1 + 1 + 1),
             (
               between a4 pages (n + 1 + 1 + 1 + 1),
-              set_between dpi (Move Horizontal PclUnit) (number_value 0) a3 a4 page.Stay pages (n + 1 + 1 + 1) (across_out dpi a3) refl
+              set_between dpi (Move Horizontal PclUnit) (number_value 0) a3 (n + 1 + 1 + 1) (across_out dpi a3) refl
                   (λ s. refl) (λ s. refl),
               ok a4 (n + 1 + 1 + 1 + 1),
               (
                 between a5 pages (n + 1 + 1 + 1 + 1 + 1),
-                set_between dpi (Move Vertical PclUnit) (number_value 0) a4 a5 page.Stay pages (n + 1 + 1 + 1 + 1) (down_out dpi a4 refl)
+                set_between dpi (Move Vertical PclUnit) (number_value 0) a4 (n + 1 + 1 + 1 + 1) (down_out dpi a4 refl)
                     refl (λ s. refl) (λ s. refl),
                 ok a5 (n + 1 + 1 + 1 + 1 + 1),
                 (
                   between a6 pages (n + 1 + 1 + 1 + 1 + 1 + 1),
-                  set_between dpi RasterResolution (number_value (dots_per_inch dpi)) a5 a6 page.Stay pages (n + 1 + 1 + 1 + 1 + 1)
+                  set_between dpi RasterResolution (number_value (dots_per_inch dpi)) a5 (n + 1 + 1 + 1 + 1 + 1)
                       (resolution_out dpi a5) refl (λ s. refl) (λ s. refl),
                   ok a6 (n + 1 + 1 + 1 + 1 + 1 + 1),
                   (
                     between a7 pages (n + 1 + 1 + 1 + 1 + 1 + 1 + 1),
-                    set_between dpi RasterWidth (number_value (page_width size dpi)) a6 a7 page.Stay pages (n + 1 + 1 + 1 + 1 + 1 + 1)
+                    set_between dpi RasterWidth (number_value (page_width size dpi)) a6 (n + 1 + 1 + 1 + 1 + 1 + 1)
                         (width_out size dpi a6) refl (λ s. refl) (λ s. refl),
                     ok a7 (n + 1 + 1 + 1 + 1 + 1 + 1 + 1),
                     (
                       in_body size dpi a7 Plain 0 (zeros size dpi) [] pages (n + 1 + 1 + 1 + 1 + 1 + 1 + 1 + 1),
-                      start_after size dpi copies t pages (n + 1 + 1 + 1 + 1 + 1 + 1 + 1) b,
+                      start_after dpi (n + 1 + 1 + 1 + 1 + 1 + 1 + 1) b,
                       pages_fit (in_body size dpi a7 Plain 0 (zeros size dpi) [] pages (n + 1 + 1 + 1 + 1 + 1 + 1 + 1 + 1)) fits,
                       refl,
                     ),
@@ -347,41 +347,41 @@ start_leads size dpi copies t pages n b some few fits =
 
 -- ---- the body
 
-method_after : (size : Size) (dpi : Dpi) (t : Settings) (m next : Method) (k : ℕ) (seed : List ℕ) (marks : List Mark) (pages : List Sheet)
+method_after : (size : Size) (dpi : Dpi) (t : Settings) (m next : Method) {k : ℕ} {seed : List ℕ} {marks : List Mark} {pages : List Sheet}
     (n : ℕ)
     → does dpi (deed RasterMethod (number_value (method_code next)) []) (in_body size dpi t m k seed marks pages n)
     ≡ Ok (in_body size dpi t next k seed marks pages (n + 1))
 unfolding after outcome
-method_after size dpi t m Plain k seed marks pages n = refl
-method_after size dpi t m Runs k seed marks pages n = refl
-method_after size dpi t m Packed k seed marks pages n = refl
-method_after size dpi t m Delta k seed marks pages n = refl
+method_after size dpi t m Plain n = refl
+method_after size dpi t m Runs n = refl
+method_after size dpi t m Packed n = refl
+method_after size dpi t m Delta n = refl
 
-skip_after : (size : Size) (dpi : Dpi) (t : Settings) (m : Method) (count k : ℕ) (seed : List ℕ) (marks : List Mark) (pages : List Sheet)
+skip_after : (size : Size) (dpi : Dpi) (t : Settings) {m : Method} (count k : ℕ) (seed : List ℕ) {marks : List Mark} {pages : List Sheet}
     (n : ℕ)
     → does dpi (deed RasterOffset (number_value count) []) (in_body size dpi t m k seed marks pages n)
     ≡ Ok (in_body size dpi t m (k + count) (zeros size dpi) marks pages (n + 1))
 unfolding after outcome
-skip_after size dpi t m count k seed marks pages n =
+skip_after size dpi t {m} count k seed {marks} {pages} n =
     ap (λ (c : ℕ). Ok (in_body size dpi t m (k + c) (zeros size dpi) marks pages (n + 1))) (whole_is count)
 
 abbrev sent_mark : Size → Dpi → ℕ → List ℕ → List ℕ → Mark
 sent_mark size dpi k seed row = row_mark row (body_raster size dpi k seed)
 
-row_after : (size : Size) (dpi : Dpi) (t : Settings) (m : Method) (k : ℕ) (seed row bytes : List ℕ) (marks : List Mark)
-    (pages : List Sheet) (n : ℕ)
+row_after : (size : Size) (dpi : Dpi) (t : Settings) {m : Method} (k : ℕ) (seed : List ℕ) {row : List ℕ} (bytes : List ℕ) {marks : List Mark}
+    {pages : List Sheet} (n : ℕ)
     → row_sent m bytes (body_raster size dpi k seed) ≡ row
     → does dpi (deed RasterRow (number_value (length bytes)) bytes) (in_body size dpi t m k seed marks pages n)
     ≡ Ok (in_body size dpi t m (k + 1) row (sent_mark size dpi k seed row ∷ marks) pages (n + 1))
 unfolding after outcome
-row_after size dpi t m k seed row bytes marks pages n e =
+row_after size dpi t {m} k seed bytes {marks} {pages} n e =
     ap (λ (r : List ℕ). Ok (in_body size dpi t m (k + 1) r (sent_mark size dpi k seed r ∷ marks) pages (n + 1))) e
 
 -- the row that is sent is the row that is printed
-sent_is : (size : Size) (dpi : Dpi) (m : Method) (k : ℕ) (seed row bytes : List ℕ) → IsRowData m seed row bytes → IsRowOf size dpi row
+sent_is : (size : Size) (dpi : Dpi) {m : Method} (k : ℕ) {seed row bytes : List ℕ} → IsRowData m seed row bytes → IsRowOf size dpi row
     → row_sent m bytes (body_raster size dpi k seed) ≡ row
-sent_is size dpi m k seed row bytes d is =
-    ap (cleared_past (page_width size dpi)) (sym (decoded_is m seed bytes row d.decodes)) ∙ cleared_is row (page_width size dpi) is.1
+sent_is size dpi {m} k {seed} {row} {bytes} d is =
+    ap (cleared_past (page_width size dpi)) (sym (decoded_is m seed bytes row d.decodes)) ∙ cleared_is row is.1
 
 rows_below : (count : ℕ) (size : Size) (dpi : Dpi) (rows : List (List ℕ)) → AllByRecursion (IsRowOf size dpi) rows
     → AllByRecursion (IsRowOf size dpi) (drop count rows)
@@ -412,26 +412,26 @@ over : (covered older : Bool) → cond covered true older ≡ (covered || older)
 over true older = refl
 over false older = refl
 
-sent_dots : (size : Size) (dpi : Dpi) (k : ℕ) (seed row : List ℕ) (rest : List (List ℕ)) (inked all : List Mark) (x y : ℕ)
+sent_dots : (size : Size) (dpi : Dpi) (k : ℕ) (seed row : List ℕ) (rest : List (List ℕ)) (inked all : List Mark) {x : ℕ} (y : ℕ)
     → x < page_width size dpi
     → is_black all x y ≡ (dot_from (k + 1) rest x y || is_black (sent_mark size dpi k seed row ∷ inked) x y)
     → is_black all x y ≡ (dot_from k (row ∷ rest) x y || is_black inked x y)
-sent_dots size dpi k seed row rest inked all x y within e =
+sent_dots size dpi k seed row rest inked all {x} y within e =
     let covers : (sent_mark size dpi k seed row).covers x y ≡ (k == y && dot_of_row row x) =
-    row_inks k (page_width size dpi) row x y within in
+    row_inks k row y within in
     e ∙ ap (λ (b : Bool). dot_from (k + 1) rest x y || b) (over ((sent_mark size dpi k seed row).covers x y) (is_black inked x y))
     ∙ ap (λ (b : Bool). dot_from (k + 1) rest x y || (b || is_black inked x y)) covers
     ∙ swapped (dot_from (k + 1) rest x y) (k == y && dot_of_row row x) (is_black inked x y)
     ∙ ap (λ (b : Bool). b || is_black inked x y) (sym (first_row k row rest x y))
 
-body_printed : (inside : Bool) (tokens : List Token) (size : Size) (dpi : Dpi) (t : Settings) (m : Method) (seed : List ℕ)
+body_printed : (inside : Bool) (tokens : List Token) {size : Size} {dpi : Dpi} (t : Settings) {m : Method} {seed : List ℕ}
     (rows : List (List ℕ)) (k : ℕ) (inked : List Mark) (pages : List Sheet) (n : ℕ)
     → PrintsRows inside m seed tokens rows → AllByRecursion (IsRowOf size dpi) rows → length seed ≡ bytes_of_width (page_width size dpi)
     → length pages ≤ 256
     → IsPrinted size dpi t (body_deeds tokens) rows k (in_body size dpi t m k seed inked pages n) inked pages
 unfolding PrintsRows
-body_printed true [] size dpi t m seed rows k inked pages n p are long fits = absurd p
-body_printed false [] size dpi t m seed rows k inked pages n p are long fits = record {
+body_printed true [] t rows k inked pages n p are long fits = absurd p
+body_printed false [] t {m} {seed} rows k inked pages n p are long fits = record {
   last = m;
   end = k;
   seed = seed;
@@ -440,13 +440,13 @@ body_printed false [] size dpi t m seed rows k inked pages n p are long fits = r
   leads = refl;
   black = λ x y within. ap (λ (b : Bool). b || is_black inked x y) (sym (white_from k rows x y p));
 }
-body_printed true (opening ∷ tokens) size dpi t m seed rows k inked pages n p are long fits = absurd p
-body_printed false (opening ∷ tokens) size dpi t m seed rows k inked pages n p are long fits =
-    let r = body_printed true tokens size dpi t m seed rows k inked pages n p are long fits in
+body_printed true (opening ∷ tokens) t rows k inked pages n p are long fits = absurd p
+body_printed false (opening ∷ tokens) t {seed} rows k inked pages n p are long fits =
+    let r = body_printed true tokens t rows k inked pages n p are long fits in
     record { last = r.last; end = r.end; seed = r.seed; all = r.all; count = r.count; leads = r.leads; black = r.black }
-body_printed false (method digits next ends ∷ tokens) size dpi t m seed rows k inked pages n p are long fits = absurd p
-body_printed true (method digits next ends ∷ tokens) size dpi t m seed rows k inked pages n p are long fits =
-    let r = body_printed (not ends) tokens size dpi t next seed rows k inked pages (n + 1) p.1 are long fits in
+body_printed false (method digits next ends ∷ tokens) t rows k inked pages n p are long fits = absurd p
+body_printed true (method digits next ends ∷ tokens) {size} {dpi} t {m} {seed} rows k inked pages n p are long fits =
+    let r = body_printed (not ends) tokens t rows k inked pages (n + 1) p.1 are long fits in
     let at = in_body size dpi t next k seed inked pages (n + 1) in
     record {
       last = r.last;
@@ -454,14 +454,14 @@ body_printed true (method digits next ends ∷ tokens) size dpi t m seed rows k 
       seed = r.seed;
       all = r.all;
       count = r.count;
-      leads = (at, method_after size dpi t m next k seed inked pages n, pages_fit at fits, r.leads);
+      leads = (at, method_after size dpi t m next n, pages_fit at fits, r.leads);
       black = r.black;
     }
-body_printed false (skip digits count ends ∷ tokens) size dpi t m seed rows k inked pages n p are long fits = absurd p
-body_printed true (skip digits count ends ∷ tokens) size dpi t m seed rows k inked pages n p are long fits =
+body_printed false (skip digits count ends ∷ tokens) t rows k inked pages n p are long fits = absurd p
+body_printed true (skip digits count ends ∷ tokens) {size} {dpi} t {m} {seed} rows k inked pages n p are long fits =
     let seeds : replicate (length seed) 0 ≡ zeros size dpi = ap (λ (len : ℕ). replicate len 0) long in
     let printed = subst (λ (z : List ℕ). PrintsRows (not ends) m z tokens (drop count rows)) seeds p.4 in
-    let r = body_printed (not ends) tokens size dpi t m (zeros size dpi) (drop count rows) (k + count) inked pages (n + 1) printed
+    let r = body_printed (not ends) tokens t (drop count rows) (k + count) inked pages (n + 1) printed
     (rows_below count size dpi rows are)
     (length-replicate (bytes_of_width (page_width size dpi)) 0) fits in
     let at = in_body size dpi t m (k + count) (zeros size dpi) inked pages (n + 1) in
@@ -471,14 +471,14 @@ body_printed true (skip digits count ends ∷ tokens) size dpi t m seed rows k i
       seed = r.seed;
       all = r.all;
       count = r.count;
-      leads = (at, skip_after size dpi t m count k seed inked pages n, pages_fit at fits, r.leads);
+      leads = (at, skip_after size dpi t count k seed n, pages_fit at fits, r.leads);
       black = λ x y within. r.black x y within ∙ ap (λ (b : Bool). b || is_black inked x y) (skipped_dots count k rows x y p.3);
     }
-body_printed false (send digits bytes ∷ tokens) size dpi t m seed rows k inked pages n p are long fits = absurd p
-body_printed true (send digits bytes ∷ tokens) size dpi t m seed [] k inked pages n p are long fits = absurd p
-body_printed true (send digits bytes ∷ tokens) size dpi t m seed (row ∷ rest) k inked pages n p are long fits =
+body_printed false (send digits bytes ∷ tokens) t rows k inked pages n p are long fits = absurd p
+body_printed true (send digits bytes ∷ tokens) t [] k inked pages n p are long fits = absurd p
+body_printed true (send digits bytes ∷ tokens) {size} {dpi} t {m} {seed} (row ∷ rest) k inked pages n p are long fits =
     let mark = sent_mark size dpi k seed row in
-    let r = body_printed false tokens size dpi t m row rest (k + 1) (mark ∷ inked) pages (n + 1) p.2 are.1 are.0.0 fits in
+    let r = body_printed false tokens t rest (k + 1) (mark ∷ inked) pages (n + 1) p.2 are.1 are.0.0 fits in
     let at = in_body size dpi t m (k + 1) row (mark ∷ inked) pages (n + 1) in
     record {
       last = r.last;
@@ -488,11 +488,11 @@ body_printed true (send digits bytes ∷ tokens) size dpi t m seed (row ∷ rest
       count = r.count;
       leads = (
         at,
-        row_after size dpi t m k seed row bytes inked pages n (sent_is size dpi m k seed row bytes p.1 are.0),
+        row_after size dpi t k seed bytes n (sent_is size dpi k p.1 are.0),
         pages_fit at fits,
         r.leads,
       );
-      black = λ x y within. sent_dots size dpi k seed row rest inked r.all x y within (r.black x y within);
+      black = λ x y within. sent_dots size dpi k seed row rest inked r.all y within (r.black x y within);
     }
 
 -- ---- the end
@@ -501,11 +501,11 @@ body_printed true (send digits bytes ∷ tokens) size dpi t m seed (row ∷ rest
 abbrev behind : Size → Dpi → Settings → Method → ℕ → List ℕ → Settings
 behind size dpi t m k seed = record (put (below dpi (body_raster size dpi k seed)) (record t { method = m })) { method = Plain }
 
-end_after : (size : Size) (dpi : Dpi) (t : Settings) (m : Method) (k : ℕ) (seed : List ℕ) (marks : List Mark) (pages : List Sheet) (n : ℕ)
+end_after : (size : Size) (dpi : Dpi) (t : Settings) (m : Method) (k : ℕ) (seed : List ℕ) {marks : List Mark} {pages : List Sheet} (n : ℕ)
     → does dpi (deed EndRasterResetMethod (number_value 0) []) (in_body size dpi t m k seed marks pages n)
     ≡ Ok (record (between (behind size dpi t m k seed) pages (n + 1)) { marks = marks })
 unfolding after outcome
-end_after size dpi t m k seed marks pages n = refl
+end_after size dpi t m k seed n = refl
 
 feed_after : (dpi : Dpi) (u : Settings) (marks : List Mark) (pages : List Sheet) (n : ℕ)
     → does dpi (deed FormFeed zero_value [])
@@ -541,7 +541,7 @@ end_leads size dpi t m k seed marks pages n none few =
       record { method = feed_method u.feed_returns u; height = feed_height u.feed_returns u ∙ none },
       (
         middle,
-        end_after size dpi t m k seed marks pages n,
+        end_after size dpi t m k seed n,
         pages_fit middle (omega arith),
         (last, feed_after dpi u marks pages (n + 1), pages_fit last all, refl),
       ),
@@ -568,14 +568,14 @@ all_rows rows x y =
     let below : nat_le 0 y ≡ true = grind (arith, nat_tests) in
     or-false (dot_from 0 rows x y) ∙ ap (λ (b : Bool). b && dot_of_rows rows x (y - 0)) below ∙ ap (λ (n : ℕ). dot_of_rows rows x n) place
 
-pub text_taken : (dpi : Dpi) (size : Size) (copies : ℕ) (rows : List (List ℕ)) (text : List ℕ)
+pub text_taken : {dpi : Dpi} {size : Size} {copies : ℕ} {rows : List (List ℕ)} {text : List ℕ}
     (printed : IsPageText dpi size copies rows text)
-    (t : Settings) (pages : List Sheet) (n : ℕ) → IsBetween t → length pages < 256
+    {t : Settings} {pages : List Sheet} {n : ℕ} → IsBetween t → length pages < 256
     → IsTextTaken dpi size copies (text_deeds dpi size copies printed.tokens) rows (between t pages n) pages
-text_taken dpi size copies rows text printed t pages n b few =
+text_taken {dpi} {size} {copies} {rows} printed {t} {pages} {n} b few =
     let u = ready dpi size copies t in
-    let start = start_leads size dpi copies t pages n b printed.some_copies printed.few_copies (omega arith) in
-    let body = body_printed false printed.tokens size dpi u Plain (zeros size dpi) rows 0 [] pages start.0 printed.prints printed.rows_are
+    let start = start_leads size dpi copies pages n b printed.some_copies printed.few_copies (omega arith) in
+    let body = body_printed false printed.tokens u rows 0 [] pages start.0 printed.prints printed.rows_are
     (length-replicate (bytes_of_width (page_width size dpi)) 0) (omega arith) in
     let end = end_leads size dpi u body.last body.end body.seed body.all pages body.count b.height few in
     let begun = in_body size dpi u Plain 0 (zeros size dpi) [] pages start.0 in

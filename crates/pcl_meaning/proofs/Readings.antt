@@ -67,9 +67,9 @@ commands_append at (piece ∷ one) two =
     ∙ sym (append_assoc (commands_from at piece) (commands_of next one) (commands_of (next + length (flat_map spelling one)) two))
     ∙ ap (λ (n : ℕ). commands_of at (piece ∷ one) ++ commands_of n two) (place_further at (spelling piece) (flat_map spelling one))
 
-pub reads_joined : (one two : List ℕ) (before after : List Deed) → ReadsAs one before → ReadsAs two after
+pub reads_joined : {one two : List ℕ} {before after : List Deed} → ReadsAs one before → ReadsAs two after
     → ReadsAs (one ++ two) (before ++ after)
-reads_joined one two before after a b = record {
+reads_joined {two} {before} {after} a b = record {
   pieces = a.pieces ++ b.pieces;
   each = λ behind. pieces_append a.pieces b.pieces behind (a.each (flat_map spelling b.pieces ++ behind)) (b.each behind);
   spelled =
@@ -84,9 +84,9 @@ reads_joined one two before after a b = record {
 pub reads_none : ReadsAs [] []
 reads_none = record { pieces = []; each = λ behind. tt; spelled = refl; said = λ at. tt }
 
-pub reads_piece : (piece : Piece) (deeds : List Deed)
+pub reads_piece : (piece : Piece) {deeds : List Deed}
     → ((behind : List ℕ) → IsPiece piece behind) → ((at : ℕ) → AreSaid (commands_from at piece) deeds) → ReadsAs (spelling piece) deeds
-reads_piece piece deeds is said = record {
+reads_piece piece {deeds} is said = record {
   pieces = piece ∷ [];
   each = λ behind. (is behind, tt);
   spelled = sym (append-nil (spelling piece));
@@ -107,36 +107,36 @@ AreMeant prefix [] (deed ∷ deeds) = ⊥
 AreMeant prefix (parameter ∷ middle) [] = ⊥
 AreMeant prefix (parameter ∷ middle) (deed ∷ deeds) = IsMeant prefix parameter [] deed × AreMeant prefix middle deeds
 
-pub meant_more : (prefix : Prefix) (middle : List Parameter) (deeds : List Deed) (parameter : Parameter) (deed : Deed)
+pub meant_more : (prefix : Prefix) (middle : List Parameter) (deeds : List Deed) (parameter : Parameter) {deed : Deed}
     → AreMeant prefix middle deeds → IsMeant prefix parameter [] deed
     → AreMeant prefix (middle ++ parameter ∷ []) (deeds ++ deed ∷ [])
-meant_more prefix [] [] parameter deed a m = (m, tt)
-meant_more prefix [] (first ∷ deeds) parameter deed a m = absurd a
-meant_more prefix (first ∷ middle) [] parameter deed a m = absurd a
-meant_more prefix (first ∷ middle) (one ∷ deeds) parameter deed a m = (a.0, meant_more prefix middle deeds parameter deed a.1 m)
+meant_more prefix [] [] parameter a m = (m, tt)
+meant_more prefix [] (first ∷ deeds) parameter a m = absurd a
+meant_more prefix (first ∷ middle) [] parameter a m = absurd a
+meant_more prefix (first ∷ middle) (one ∷ deeds) parameter a m = (a.0, meant_more prefix middle deeds parameter a.1 m)
 
-pub middle_more : (prefix : Prefix) (middle : List Parameter) (parameter : Parameter)
+pub middle_more : {prefix : Prefix} (middle : List Parameter) {parameter : Parameter}
     → AllByRecursion (IsMiddle prefix) middle → IsMiddle prefix parameter → AllByRecursion (IsMiddle prefix) (middle ++ parameter ∷ [])
-middle_more prefix [] parameter a m = (m, tt)
-middle_more prefix (first ∷ middle) parameter a m = (a.0, middle_more prefix middle parameter a.1 m)
+middle_more [] a m = (m, tt)
+middle_more (first ∷ middle) a m = (a.0, middle_more middle a.1 m)
 
-parameters_said : (prefix : Prefix) (middle : List Parameter) (end : Parameter) (bytes : List ℕ) (deeds : List Deed) (last : Deed)
+parameters_said : (prefix : Prefix) (middle : List Parameter) (end : Parameter) {bytes : List ℕ} (deeds : List Deed) {last : Deed}
     (at begin : ℕ) → AreMeant prefix middle deeds → IsMeant prefix end bytes last
     → AreSaid (parameter_commands prefix at begin middle end bytes) (deeds ++ last ∷ [])
-parameters_said prefix [] end bytes [] last at begin a m = (m, tt)
-parameters_said prefix [] end bytes (deed ∷ deeds) last at begin a m = absurd a
-parameters_said prefix (parameter ∷ middle) end bytes [] last at begin a m = absurd a
-parameters_said prefix (parameter ∷ middle) end bytes (deed ∷ deeds) last at begin a m =
+parameters_said prefix [] end [] at begin a m = (m, tt)
+parameters_said prefix [] end (deed ∷ deeds) at begin a m = absurd a
+parameters_said prefix (parameter ∷ middle) end [] at begin a m = absurd a
+parameters_said prefix (parameter ∷ middle) end (deed ∷ deeds) at begin a m =
     let behind = begin + length (parameter_bytes parameter) in
-    (a.0, parameters_said prefix middle end bytes deeds last behind behind a.1 m)
+    (a.0, parameters_said prefix middle end deeds behind behind a.1 m)
 
-pub reads_sequence : (prefix : Prefix) (middle : List Parameter) (end : Parameter) (bytes : List ℕ) (deeds : List Deed) (last : Deed)
+pub reads_sequence : {prefix : Prefix} (middle : List Parameter) {end : Parameter} {bytes : List ℕ} (deeds : List Deed) {last : Deed}
     → IsPrefix prefix → AllByRecursion (IsMiddle prefix) middle → AreMeant prefix middle deeds
     → IsEnd prefix end bytes → IsMeant prefix end bytes last
     → ReadsAs (27 ∷ (prefix_bytes prefix ++ (flat_map parameter_bytes middle ++ (parameter_bytes end ++ bytes)))) (deeds ++ last ∷ [])
-reads_sequence prefix middle end bytes deeds last is each meant ends m =
-    reads_piece (combined prefix middle end bytes) (deeds ++ last ∷ []) (λ behind. (is, each, ends))
-    (λ at. parameters_said prefix middle end bytes deeds last at (first_place at prefix) meant m)
+reads_sequence {prefix} middle {end} {bytes} deeds is each meant ends m =
+    reads_piece (combined prefix middle end bytes) (λ behind. (is, each, ends))
+    (λ at. parameters_said prefix middle end deeds at (first_place at prefix) meant m)
 
 -- ---- parameters that are numbers
 
@@ -149,8 +149,8 @@ number_parameter digits letter = record { field = number_field digits; letter = 
 abbrev pub number_value : ℕ → Value
 number_value n = record { sign = Absent; parts = n * 10000 }
 
-value_is : (digits : List ℕ) (n : ℕ) → IsSpelled digits n → field_value (number_field digits) ≡ number_value n
-value_is digits n s =
+value_is : (digits : List ℕ) {n : ℕ} → IsSpelled digits n → field_value (number_field digits) ≡ number_value n
+value_is digits {n} s =
     let parts : number_of digits * 10000 + 0 ≡ n * 10000 = omega (arith, s.1) in
     ap (λ (p : ℕ). record { sign = Absent; parts = p }) parts
 
@@ -160,8 +160,8 @@ whole_is n = omega arith
 pub number_bytes : (digits : List ℕ) (letter : ℕ) → parameter_bytes (number_parameter digits letter) ≡ digits ++ letter ∷ []
 number_bytes digits letter = ap (λ (bytes : List ℕ). bytes ++ letter ∷ []) (append-nil digits)
 
-in_range_is : (n : ℕ) → n ≤ 65535 → in_range (number_value n) ≡ true
-in_range_is n le = grind (arith, nat_tests)
+in_range_is : {n : ℕ} → n ≤ 65535 → in_range (number_value n) ≡ true
+in_range_is le = grind (arith, nat_tests)
 
 -- a parameter that sets something: its number, in range, and an operation without data, which is no universal exit
 pub record IsSetting (prefix : Prefix) (letter : ℕ) (digits : List ℕ) (n : ℕ) (operation : Operation) : Type 0 where
@@ -171,32 +171,32 @@ pub record IsSetting (prefix : Prefix) (letter : ℕ) (digits : List ℕ) (n : �
   pub alone : takes_data operation ≡ false
   pub stays : is_exit (parameter_name prefix letter) (field_value (number_field digits)) ≡ false
 
-setting_checks : (prefix : Prefix) (letter : ℕ) (digits : List ℕ) (n : ℕ) (operation : Operation)
+setting_checks : {prefix : Prefix} {letter : ℕ} {digits : List ℕ} {n : ℕ} {operation : Operation}
     → IsSetting prefix letter digits n operation
     → parameter_checks (parameter_name prefix letter) letter (field_value (number_field digits)) 0 ≡ Ok 0
 unfolding parameter_checks
-setting_checks prefix letter digits n operation s =
-    ap (λ (value : Value). parameter_checks (parameter_name prefix letter) letter value 0) (value_is digits n s.spelled)
-    ∙ rw (in_range_is n s.small, s.named, s.alone) refl
+setting_checks {prefix} {letter} {digits} s =
+    ap (λ (value : Value). parameter_checks (parameter_name prefix letter) letter value 0) (value_is digits s.spelled)
+    ∙ rw (in_range_is s.small, s.named, s.alone) refl
 
-pub setting_middle : (prefix : Prefix) (letter : ℕ) (digits : List ℕ) (n : ℕ) (operation : Operation) → may_go_on prefix letter ≡ true
+pub setting_middle : {prefix : Prefix} {letter : ℕ} {digits : List ℕ} {n : ℕ} {operation : Operation} → may_go_on prefix letter ≡ true
     → IsSetting prefix letter digits n operation → IsMiddle prefix (number_parameter digits letter)
-setting_middle prefix letter digits n operation g s =
-    record { field = (s.spelled.0, tt); letter = g; checks = setting_checks prefix letter digits n operation s }
+setting_middle {letter} g s =
+    record { field = (s.spelled.0, tt); letter = g; checks = setting_checks s }
 
-pub setting_end : (prefix : Prefix) (letter : ℕ) (digits : List ℕ) (n : ℕ) (operation : Operation) → is_last letter ≡ true
+pub setting_end : {prefix : Prefix} {letter : ℕ} {digits : List ℕ} {n : ℕ} {operation : Operation} → is_last letter ≡ true
     → IsSetting prefix letter digits n operation → IsEnd prefix (number_parameter digits letter) []
-setting_end prefix letter digits n operation l s = record {
+setting_end {letter} l s = record {
   field = (s.spelled.0, tt);
   letter = l;
-  checks = setting_checks prefix letter digits n operation s;
+  checks = setting_checks s;
   stays = s.stays;
 }
 
-pub setting_meant : (prefix : Prefix) (letter : ℕ) (digits : List ℕ) (n : ℕ) (operation : Operation)
+pub setting_meant : {prefix : Prefix} {letter : ℕ} {digits : List ℕ} {n : ℕ} {operation : Operation}
     → IsSetting prefix letter digits n operation
     → IsMeant prefix (number_parameter digits letter) [] (deed operation (number_value n) [])
-setting_meant prefix letter digits n operation s = (s.named, value_is digits n s.spelled, refl)
+setting_meant {digits} s = (s.named, value_is digits s.spelled, refl)
 
 -- ---- a row that is sent
 
@@ -211,17 +211,17 @@ count_checks : (n whole : ℕ) → whole ≡ n → data_checks 87 (number_value 
 count_checks zero whole e = refl
 count_checks (suc n) whole e = rw (whole_is (suc n)) (grind (arith, nat_tests))
 
-row_checks : (digits : List ℕ) (n : ℕ) → IsSpelled digits n → n ≤ 65535
+row_checks : (digits : List ℕ) {n : ℕ} → IsSpelled digits n → n ≤ 65535
     → parameter_checks (Three 42 98 87) 87 (field_value (number_field digits)) n ≡ Ok n
 unfolding parameter_checks
-row_checks digits n s le =
-    ap (λ (value : Value). parameter_checks (Three 42 98 87) 87 value n) (value_is digits n s)
-    ∙ rw (in_range_is n le, row_named) (count_checks n n refl)
+row_checks digits {n} s le =
+    ap (λ (value : Value). parameter_checks (Three 42 98 87) 87 value n) (value_is digits s)
+    ∙ rw (in_range_is le, row_named) (count_checks n n refl)
 
-pub row_end : (digits bytes : List ℕ) → IsSpelled digits (length bytes) → length bytes ≤ 65535
+pub row_end : {digits bytes : List ℕ} → IsSpelled digits (length bytes) → length bytes ≤ 65535
     → IsEnd row_prefix (number_parameter digits 87) bytes
-row_end digits bytes s le = record { field = (s.0, tt); letter = refl; checks = row_checks digits (length bytes) s le; stays = refl }
+row_end {digits} s le = record { field = (s.0, tt); letter = refl; checks = row_checks digits s le; stays = refl }
 
-pub row_meant : (digits bytes : List ℕ) → IsSpelled digits (length bytes)
+pub row_meant : (digits : List ℕ) {bytes : List ℕ} → IsSpelled digits (length bytes)
     → IsMeant row_prefix (number_parameter digits 87) bytes (deed RasterRow (number_value (length bytes)) bytes)
-row_meant digits bytes s = (row_named, value_is digits (length bytes) s, refl)
+row_meant digits s = (row_named, value_is digits s, refl)

@@ -135,7 +135,7 @@ ended_inside tokens digits n letter operation bytes middle deeds first rest =
     let spelled : (front ++ end) ++ behind ≡ front ++ ((digits ++ letter ∷ bytes) ++ behind) =
     ap (λ (t : List ℕ). (front ++ t) ++ behind) last ∙ append_assoc front (digits ++ letter ∷ bytes) behind in
     subst₂ ReadsAs (ap (λ (t : List ℕ). 27 ∷ 42 ∷ 98 ∷ t) spelled) (append_assoc deeds (done ∷ []) (body_deeds tokens))
-    (reads_joined (27 ∷ 42 ∷ 98 ∷ (front ++ end)) behind (deeds ++ done ∷ []) (body_deeds tokens) first rest)
+    (reads_joined first rest)
 
 -- what is read of a row's token and what stands behind it
 record IsSent (digits bytes : List ℕ) (tokens : List Token) (rows : List (List ℕ)) (current : Method) : Type 0 where
@@ -146,58 +146,58 @@ record IsSent (digits bytes : List ℕ) (tokens : List Token) (rows : List (List
   prints : PrintsRows false current row tokens rest
   fewer : length rest ≤ length rows
 
-sent_parts : (current : Method) (seed digits bytes : List ℕ) (tokens : List Token) (rows : List (List ℕ))
+sent_parts : {current : Method} (seed : List ℕ) {digits bytes : List ℕ} {tokens : List Token} (rows : List (List ℕ))
     → PrintsRows true current seed (send digits bytes ∷ tokens) rows → IsSent digits bytes tokens rows current
 unfolding PrintsRows
-sent_parts current seed digits bytes tokens [] p = absurd p
-sent_parts current seed digits bytes tokens (first ∷ rest) p =
+sent_parts seed [] p = absurd p
+sent_parts seed (first ∷ rest) p =
     record { spelled = p.0; small = p.1.fits; row = first; rest = rest; prints = p.2; fewer = omega arith }
 
 -- a method that is set, and rows that are skipped, with a capital or without
-method_setting : (digits : List ℕ) (next : Method) → IsSpelled digits (method_code next)
+method_setting : {digits : List ℕ} (next : Method) → IsSpelled digits (method_code next)
     → IsSetting row_prefix 77 digits (method_code next) RasterMethod
-method_setting digits next spelled =
+method_setting next spelled =
     record { spelled = spelled; small = code_small next; named = method_named; alone = refl; stays = refl }
 
-method_setting_more : (digits : List ℕ) (next : Method) → IsSpelled digits (method_code next)
+method_setting_more : {digits : List ℕ} (next : Method) → IsSpelled digits (method_code next)
     → IsSetting row_prefix 109 digits (method_code next) RasterMethod
-method_setting_more digits next spelled =
+method_setting_more next spelled =
     record { spelled = spelled; small = code_small next; named = method_named; alone = refl; stays = refl }
 
-offset_setting : (digits : List ℕ) (count : ℕ) → IsSpelled digits count → count ≤ 65535
+offset_setting : {digits : List ℕ} {count : ℕ} → IsSpelled digits count → count ≤ 65535
     → IsSetting row_prefix 89 digits count RasterOffset
-offset_setting digits count spelled small =
+offset_setting spelled small =
     record { spelled = spelled; small = small; named = offset_named; alone = refl; stays = refl }
 
-offset_setting_more : (digits : List ℕ) (count : ℕ) → IsSpelled digits count → count ≤ 65535
+offset_setting_more : {digits : List ℕ} {count : ℕ} → IsSpelled digits count → count ≤ 65535
     → IsSetting row_prefix 121 digits count RasterOffset
-offset_setting_more digits count spelled small =
+offset_setting_more spelled small =
     record { spelled = spelled; small = small; named = offset_named; alone = refl; stays = refl }
 
 -- one more parameter of a sequence that goes on
-setting_more : (letter : ℕ) (digits : List ℕ) (n : ℕ) (operation : Operation) (middle : List Parameter)
+setting_more : {letter : ℕ} {digits : List ℕ} {n : ℕ} {operation : Operation} (middle : List Parameter)
     → may_go_on row_prefix letter ≡ true → IsSetting row_prefix letter digits n operation
     → AllByRecursion (IsMiddle row_prefix) middle
     → AllByRecursion (IsMiddle row_prefix) (middle ++ number_parameter digits letter ∷ [])
-setting_more letter digits n operation middle goes s each =
-    middle_more row_prefix middle _ each (setting_middle row_prefix letter digits n operation goes s)
+setting_more middle goes s each =
+    middle_more middle each (setting_middle goes s)
 
 -- and what it means
-setting_meant_more : (letter : ℕ) (digits : List ℕ) (n : ℕ) (operation : Operation) (middle : List Parameter) (deeds : List Deed)
+setting_meant_more : {letter : ℕ} {digits : List ℕ} {n : ℕ} {operation : Operation} (middle : List Parameter) (deeds : List Deed)
     → IsSetting row_prefix letter digits n operation → AreMeant row_prefix middle deeds
     → AreMeant row_prefix (middle ++ number_parameter digits letter ∷ []) (deeds ++ set_to operation n ∷ [])
-setting_meant_more letter digits n operation middle deeds s meant =
-    meant_more row_prefix middle deeds _ _ meant (setting_meant row_prefix letter digits n operation s)
+setting_meant_more middle deeds s meant =
+    meant_more row_prefix middle deeds _ meant (setting_meant s)
 
 -- the last one
-setting_read : (letter : ℕ) (digits : List ℕ) (n : ℕ) (operation : Operation) (middle : List Parameter) (deeds : List Deed)
+setting_read : {letter : ℕ} {digits : List ℕ} {n : ℕ} {operation : Operation} (middle : List Parameter) (deeds : List Deed)
     → is_last letter ≡ true → IsSetting row_prefix letter digits n operation
     → AllByRecursion (IsMiddle row_prefix) middle → AreMeant row_prefix middle deeds
     → ReadsAs (27 ∷ 42 ∷ 98 ∷ (flat_map parameter_bytes middle ++ (parameter_bytes (number_parameter digits letter) ++ [])))
     (deeds ++ set_to operation n ∷ [])
-setting_read letter digits n operation middle deeds last s each meant =
-    reads_sequence row_prefix middle (number_parameter digits letter) [] deeds _ row_prefix_is each meant
-    (setting_end row_prefix letter digits n operation last s) (setting_meant row_prefix letter digits n operation s)
+setting_read middle deeds last s each meant =
+    reads_sequence middle deeds row_prefix_is each meant
+    (setting_end last s) (setting_meant s)
 
 tokens_read : (tokens : List Token) → IsTokensRead tokens
 unfolding PrintsRows
@@ -209,46 +209,46 @@ tokens_read (opening ∷ tokens) = (
 tokens_read (method digits next false ∷ tokens) = (
   λ current seed rows p few. absurd p,
   λ current seed rows middle deeds p few each meant.
-      let s = method_setting_more digits next p.0 in
+      let s = method_setting_more next p.0 in
       let code = method_code next in
       more_inside tokens digits code 109 RasterMethod middle deeds
       ((tokens_read tokens).1 next seed rows _ _ p.1 few
-      (setting_more 109 digits code RasterMethod middle refl s each)
-      (setting_meant_more 109 digits code RasterMethod middle deeds s meant)),
+      (setting_more middle refl s each)
+      (setting_meant_more middle deeds s meant)),
 )
 tokens_read (method digits next true ∷ tokens) = (
   λ current seed rows p few. absurd p,
   λ current seed rows middle deeds p few each meant.
-      let s = method_setting digits next p.0 in
+      let s = method_setting next p.0 in
       let code = method_code next in
       ended_inside tokens digits code 77 RasterMethod [] middle deeds
-      (setting_read 77 digits code RasterMethod middle deeds refl s each meant)
+      (setting_read middle deeds refl s each meant)
       ((tokens_read tokens).0 next seed rows p.1 few),
 )
 tokens_read (skip digits count false ∷ tokens) = (
   λ current seed rows p few. absurd p,
   λ current seed rows middle deeds p few each meant.
-      let s = offset_setting_more digits count p.0 (omega (arith, p.2)) in
+      let s = offset_setting_more p.0 (omega (arith, p.2)) in
       more_inside tokens digits count 121 RasterOffset middle deeds
       ((tokens_read tokens).1 current (replicate (length seed) 0) (drop count rows) _ _ p.4 (omega (arith, length-drop count rows))
-      (setting_more 121 digits count RasterOffset middle refl s each)
-      (setting_meant_more 121 digits count RasterOffset middle deeds s meant)),
+      (setting_more middle refl s each)
+      (setting_meant_more middle deeds s meant)),
 )
 tokens_read (skip digits count true ∷ tokens) = (
   λ current seed rows p few. absurd p,
   λ current seed rows middle deeds p few each meant.
-      let s = offset_setting digits count p.0 (omega (arith, p.2)) in
+      let s = offset_setting p.0 (omega (arith, p.2)) in
       ended_inside tokens digits count 89 RasterOffset [] middle deeds
-      (setting_read 89 digits count RasterOffset middle deeds refl s each meant)
+      (setting_read middle deeds refl s each meant)
       ((tokens_read tokens).0 current (replicate (length seed) 0) (drop count rows) p.4 (omega (arith, length-drop count rows))),
 )
 tokens_read (send digits bytes ∷ tokens) = (
   λ current seed rows p few. absurd p,
   λ current seed rows middle deeds p few each meant.
-      let s = sent_parts current seed digits bytes tokens rows p in
+      let s = sent_parts seed rows p in
       ended_inside tokens digits (length bytes) 87 RasterRow bytes middle deeds
-      (reads_sequence row_prefix middle (number_parameter digits 87) bytes deeds _ row_prefix_is each meant
-      (row_end digits bytes s.spelled s.small) (row_meant digits bytes s.spelled))
+      (reads_sequence middle deeds row_prefix_is each meant
+      (row_end s.spelled s.small) (row_meant digits s.spelled))
       ((tokens_read tokens).0 current s.row s.rest s.prints (omega (arith, s.fewer))),
 )
 
@@ -276,9 +276,9 @@ no_digits = (tt, refl)
 zero_digit : IsSpelled (48 ∷ []) 0
 zero_digit = ((refl, tt), refl)
 
-copies_setting : (copies : ℕ) → copies ≤ 65535 → IsSetting page_prefix 120 (decimal copies) copies Copies
+copies_setting : {copies : ℕ} → copies ≤ 65535 → IsSetting page_prefix 120 (decimal copies) copies Copies
 unfolding operation_of
-copies_setting copies le =
+copies_setting {copies} le =
     record { spelled = decimal_spelled copies (omega arith); small = le; named = refl; alone = refl; stays = refl }
 
 size_code_small : (size : Size) → code_of size ≤ 65535
@@ -356,52 +356,51 @@ abbrev raster_bytes : Size → Dpi → List ℕ
 raster_bytes size dpi =
     27 ∷ 42 ∷ 114 ∷ (flat_map parameter_bytes (number_parameter (decimal (page_width size dpi)) 115 ∷ []) ++ (48 ∷ 65 ∷ []))
 
-page_read : (copies : ℕ) (size : Size) → copies ≤ 65535
+page_read : {copies : ℕ} (size : Size) → copies ≤ 65535
     → ReadsAs (page_bytes copies size) (set_to Copies copies ∷ set_to PageSize (code_of size) ∷ set_to TopMargin 0 ∷ [])
-page_read copies size le =
-    let c = copies_setting copies le in
+page_read {copies} size le =
+    let c = copies_setting le in
     let s = size_setting size in
-    reads_sequence page_prefix (number_parameter (decimal copies) 120 ∷ number_parameter (decimal (code_of size)) 97 ∷ [])
-    (number_parameter (48 ∷ []) 69) [] (set_to Copies copies ∷ set_to PageSize (code_of size) ∷ []) (set_to TopMargin 0) (refl, refl)
-    (setting_middle page_prefix 120 _ _ Copies refl c, (setting_middle page_prefix 97 _ _ PageSize refl s, tt))
-    (setting_meant page_prefix 120 _ _ Copies c, (setting_meant page_prefix 97 _ _ PageSize s, tt))
-    (setting_end page_prefix 69 _ _ TopMargin refl margin_setting) (setting_meant page_prefix 69 _ _ TopMargin margin_setting)
+    reads_sequence (number_parameter (decimal copies) 120 ∷ number_parameter (decimal (code_of size)) 97 ∷ []) (set_to Copies copies ∷ set_to PageSize (code_of size) ∷ []) (refl, refl)
+    (setting_middle refl c, (setting_middle refl s, tt))
+    (setting_meant c, (setting_meant s, tt))
+    (setting_end refl margin_setting) (setting_meant margin_setting)
 
 place_read : ReadsAs place_bytes (set_to (Move Horizontal PclUnit) 0 ∷ set_to (Move Vertical PclUnit) 0 ∷ [])
 place_read =
     let across = Move Horizontal PclUnit in
     let down = Move Vertical PclUnit in
-    reads_sequence place_prefix (number_parameter (48 ∷ []) 120 ∷ []) (number_parameter (48 ∷ []) 89) []
-    (set_to across 0 ∷ []) (set_to down 0) (refl, refl)
-    (setting_middle place_prefix 120 _ _ across refl across_setting, tt) (setting_meant place_prefix 120 _ _ across across_setting, tt)
-    (setting_end place_prefix 89 _ _ down refl down_setting) (setting_meant place_prefix 89 _ _ down down_setting)
+    reads_sequence (number_parameter (48 ∷ []) 120 ∷ [])
+    (set_to across 0 ∷ []) (refl, refl)
+    (setting_middle refl across_setting, tt) (setting_meant across_setting, tt)
+    (setting_end refl down_setting) (setting_meant down_setting)
 
 resolution_read : (dpi : Dpi) → ReadsAs (resolution_bytes dpi) (set_to RasterResolution (dots_per_inch dpi) ∷ [])
 resolution_read dpi =
     let r = resolution_setting dpi in
-    reads_sequence resolution_prefix [] (number_parameter (decimal (dots_per_inch dpi)) 82) []
-    [] (set_to RasterResolution (dots_per_inch dpi)) (refl, refl) tt tt
-    (setting_end resolution_prefix 82 _ _ RasterResolution refl r) (setting_meant resolution_prefix 82 _ _ RasterResolution r)
+    reads_sequence []
+    [] (refl, refl) tt tt
+    (setting_end refl r) (setting_meant r)
 
 raster_read : (size : Size) (dpi : Dpi)
     → ReadsAs (raster_bytes size dpi) (set_to RasterWidth (page_width size dpi) ∷ set_to StartRaster 0 ∷ [])
 raster_read size dpi =
     let w = width_setting size dpi in
-    reads_sequence raster_prefix (number_parameter (decimal (page_width size dpi)) 115 ∷ []) (number_parameter (48 ∷ []) 65) []
-    (set_to RasterWidth (page_width size dpi) ∷ []) (set_to StartRaster 0) (refl, refl)
-    (setting_middle raster_prefix 115 _ _ RasterWidth refl w, tt) (setting_meant raster_prefix 115 _ _ RasterWidth w, tt)
-    (setting_end raster_prefix 65 _ _ StartRaster refl raster_setting) (setting_meant raster_prefix 65 _ _ StartRaster raster_setting)
+    reads_sequence (number_parameter (decimal (page_width size dpi)) 115 ∷ [])
+    (set_to RasterWidth (page_width size dpi) ∷ []) (refl, refl)
+    (setting_middle refl w, tt) (setting_meant w, tt)
+    (setting_end refl raster_setting) (setting_meant raster_setting)
 
 start_spelled : (dpi : Dpi) (copies : ℕ) (size : Size)
     → page_bytes copies size ++ (place_bytes ++ (resolution_bytes dpi ++ raster_bytes size dpi)) ≡ start_bytes dpi copies size
 start_spelled dpi copies size = simp (append_assoc, append-nil)
 
-pub start_read : (dpi : Dpi) (copies : ℕ) (size : Size) → copies ≤ 65535
+pub start_read : (dpi : Dpi) {copies : ℕ} (size : Size) → copies ≤ 65535
     → ReadsAs (start_bytes dpi copies size) (start_deeds dpi copies size)
-start_read dpi copies size le =
+start_read dpi {copies} size le =
     subst (λ (bytes : List ℕ). ReadsAs bytes (start_deeds dpi copies size)) (start_spelled dpi copies size)
-    (reads_joined _ _ _ _ (page_read copies size le)
-    (reads_joined _ _ _ _ place_read (reads_joined _ _ _ _ (resolution_read dpi) (raster_read size dpi))))
+    (reads_joined (page_read size le)
+    (reads_joined place_read (reads_joined (resolution_read dpi) (raster_read size dpi))))
 
 feed_named : operation_of (One 12) ≡ Some FormFeed
 unfolding operation_of
@@ -414,13 +413,13 @@ reset_named = refl
 pub end_read : ReadsAs end_bytes end_deeds
 unfolding operation_of
 end_read =
-    reads_joined (27 ∷ 42 ∷ 114 ∷ 67 ∷ []) (12 ∷ []) (set_to EndRasterResetMethod 0 ∷ []) (deed FormFeed zero_value [] ∷ [])
-    (reads_sequence raster_prefix [] (number_parameter [] 67) [] [] (set_to EndRasterResetMethod 0) (refl, refl) tt tt
-    (setting_end raster_prefix 67 [] 0 EndRasterResetMethod refl end_setting)
-    (setting_meant raster_prefix 67 [] 0 EndRasterResetMethod end_setting))
-    (reads_piece (control 12) (deed FormFeed zero_value [] ∷ []) (λ behind. (refl, refl, refl))
+    reads_joined
+    (reads_sequence [] [] (refl, refl) tt tt
+    (setting_end refl end_setting)
+    (setting_meant end_setting))
+    (reads_piece (control 12) (λ behind. (refl, refl, refl))
     (λ at. ((feed_named, refl, refl), tt)))
 
 pub frame_read : ReadsAs frame_bytes (reset ∷ [])
 unfolding operation_of
-frame_read = reads_piece (two_character 69) (reset ∷ []) (λ behind. (refl, refl)) (λ at. ((reset_named, refl, refl), tt))
+frame_read = reads_piece (two_character 69) (λ behind. (refl, refl)) (λ at. ((reset_named, refl, refl), tt))
