@@ -1,14 +1,13 @@
 -- The row that is computed element by element is the one that the data's elements make.
-use Rattle.std.proofs.Common.{◌≡◌, ℕ, zero, suc, ◌+◌, ◌-◌, ◌*◌, ◌/◌, ◌%◌, ◌<◌, ◌≤◌, ◌==◌, Bool, true, false, cond, nat_lt, List, [], ◌∷◌, ◌++◌, length, take, drop, replicate, refl, sym, ap, subst, ◌∙◌, append_assoc, append-nil, length-append, add-zero, arith}
+use Rattle.std.proofs.Common.{◌≡◌, ℕ, zero, suc, ◌+◌, ◌-◌, ◌*◌, ◌/◌, ◌%◌, ◌<◌, ◌≤◌, ◌==◌, true, false, nat_lt, List, [], ◌∷◌, ◌++◌, length, take, drop, replicate, refl, sym, ap, ◌∙◌, append_assoc, append-nil, length-append, add-zero, arith}
 use Rattle.std.specs.List.{flat_map}
 use Rattle.std.proofs.lemmas.Bool.Decides.{nat_tests}
 use Rattle.std.proofs.lemmas.List.{take_at, drop_at, take_all, drop_all, take-append-drop, length-replicate}
 use Rattle.pcl_base.specs.declared.method.Method.{Method}
-use Rattle.pcl_base.specs.declared.method.Method.TheVariants.{Plain, Runs, Packed, Delta}
 use Rattle.pcl_rows.specs.Heads.{Head, Itself, Count, Literal, Skipped, Repeat, Near, Far, method_of, IsInRange, head_bytes, new_count, copies_of, offset_of}
-use Rattle.pcl_rows.specs.Elements.{Element, IsHead, IsElement, AreElements, element_bytes, given_by}
-use Rattle.pcl_rows.specs.Rows.{base, after_element, IsCutIntoElements, treated, RowFrom, Decodes}
-use Rattle.pcl_rows.specs.Decoding.{Front, repeated, literal, further, front_of, treated_by, decoded}
+use Rattle.pcl_rows.specs.Elements.{Element, IsElement, element_bytes, given_by}
+use Rattle.pcl_rows.specs.Rows.{base, after_element, IsCutIntoElements, treated, Decodes}
+use Rattle.pcl_rows.specs.Decoding.{Front, literal, further, front_of, treated_by, decoded}
 use Rattle.pcl_rows.proofs.Readings.{after_none, drop-nil}
 use Rattle.pcl_rows.proofs.Spellings.{spelling_has_byte}
 

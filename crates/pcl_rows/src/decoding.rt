@@ -3,6 +3,7 @@
 ghost use Rattle.std.specs.Prelude.{◌≡◌, ◌+◌, ◌≤◌, length, min, replicate, flat_map};
 ghost use Rattle.pcl_rows.specs.Rows.{RowFrom, Decodes};
 ghost use Rattle.pcl_rows.specs.Fronts.{overlaid};
+ghost use Rattle.pcl_base.specs.declared.method.Method.TheVariants as methods;
 
 use crate::front::Front;
 use pcl_base::Method;
@@ -20,7 +21,7 @@ pub fn decode(method: Method, seed: &[u8], bytes: &[u8], row: &mut [u8])
         }
         Method::Runs => {
             row.fill(0);
-            treat(Method::Runs, bytes, row);
+            put_runs(row, bytes);
         }
         Method::Packed => {
             row.fill(0);
@@ -30,6 +31,17 @@ pub fn decode(method: Method, seed: &[u8], bytes: &[u8], row: &mut [u8])
             row.copy_from_slice(seed);
             treat(Method::Delta, bytes, row);
         }
+    }
+}
+
+/// Method 1: writes each byte as often as the count before it says. A count without its byte gives nothing.
+fn put_runs(row: &mut [u8], bytes: &[u8])
+    ensures { RowFrom methods.Runs bytes.now row.old row.new }
+{
+    let mut place = 0;
+    for pair in 0..bytes.len() / 2 {
+        let copies = usize::from(bytes[2 * pair]) + 1;
+        place = put_copies(row, place, copies, bytes[2 * pair + 1]);
     }
 }
 
