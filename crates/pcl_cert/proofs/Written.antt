@@ -13,7 +13,7 @@ use Rattle.pcl_cert.specs.declared.format.Format.{Format}
 use Rattle.pcl_cert.specs.declared.format.Format.TheVariants.{One, Two}
 use Rattle.pcl_cert.specs.declared.page_proof.PageProof.{PageProof}
 use Rattle.pcl_cert.specs.Certificates.{IsProof, AreProofs, proof_in, proofs_in}
-use Rattle.pcl_cert.specs.RowTables.{count_of, list_from, lists_within, IsListAt}
+use Rattle.pcl_cert.specs.RowTables.{count_of, list_from, list_of, lists_within, IsListAt}
 use Rattle.pcl_cert.proofs.Numbers.{length_numbers, number_within}
 
 -- the front stays where more is appended behind something that begins with it
@@ -91,6 +91,15 @@ pub list_within : (self : List (List ℕ)) (bytes starts : List ℕ) (row : ℕ)
     → 4 * row + 4 ≤ length self → code ≡ method_code method → 4 * row + code < length starts
 list_within self bytes starts row method code view there is =
     omega (arith, ap length view, length-map starts (λ (s : ℕ). list_from (drop s bytes)), there, is, code_small method)
+
+-- the list of a row and a method, by the place where it begins
+pub list_kept : (self : List (List ℕ)) (bytes starts : List ℕ) (row : ℕ) (method : Method) (code start : ℕ) → self ≡ lists_within bytes starts
+    → 4 * row + 4 ≤ length self → code ≡ method_code method → start ≡ get_or starts (4 * row + code) start
+    → list_of self row method ≡ list_from (drop start bytes)
+list_kept self bytes starts row method code start view there is at =
+    ap (λ (lists : List (List ℕ)). list_of lists row method) view
+    ∙ ap (λ (c : ℕ). get_or (lists_within bytes starts) (4 * row + c) []) (sym is)
+    ∙ listed_number bytes starts (4 * row + code) start (list_within self bytes starts row method code view there is) at
 
 -- ---- proofs of pages in the format that they were read in
 
