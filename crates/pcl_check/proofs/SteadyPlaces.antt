@@ -23,9 +23,9 @@ falls_on numbers falls place (suc gap) =
       | inr past ↦ omega (arith, get_or_past numbers (place + gap + 1) 0 past, ap (slice_index numbers) next)
     ]
 
-pub steady_by : (numbers : List ℕ) → slice_index numbers 0 ≤ 1200
+pub steady_by : {numbers : List ℕ} → slice_index numbers 0 ≤ 1200
     → ((k : ℕ) → k + 1 < length numbers → slice_index numbers (k + 1) ≤ slice_index numbers k) → IsSteady numbers
-steady_by numbers small falls =
+steady_by {numbers} small falls =
     let on : (place later : ℕ) → place ≤ later → slice_index numbers later ≤ slice_index numbers place =
     λ place later le.
     let at : place + (later - place) ≡ later = omega arith in
@@ -34,9 +34,9 @@ steady_by numbers small falls =
     record { falls = on; small = λ place. omega (arith, on 0 place (omega arith), small) }
 
 -- no more data is needed only where the number is 0
-pub end_of_need : (old row numbers : List ℕ) (end place : ℕ) → IsSteady numbers → IsNeedEnd old row numbers end
+pub end_of_need : {old row numbers : List ℕ} {end : ℕ} (place : ℕ) → IsSteady numbers → IsNeedEnd old row numbers end
     → IsGoodEnd old row numbers place
-end_of_need old row numbers end place steady need = λ ends.
+end_of_need {old} {row} {end} place steady need = λ ends.
     elim (cases_lt place end) [
       | inl before ↦ absurd (need.needed (omega arith) (sym (ends_at old row place (end - 1) ends (omega arith))))
       | inr past ↦ omega (arith, steady.falls end place past, need.none)
@@ -45,17 +45,17 @@ end_of_need old row numbers end place steady need = λ ends.
 -- ---- runs
 
 -- a byte of a run
-run_byte : (row : List ℕ) (place count byte k : ℕ) → take count (drop place row) ≡ replicate count byte → k < count
+run_byte : (row : List ℕ) (place : ℕ) {count byte k : ℕ} → take count (drop place row) ≡ replicate count byte → k < count
     → slice_index row (place + k) ≡ byte
-run_byte row place count byte k alike lt =
+run_byte row place {count} {byte} {k} alike lt =
     sym (get_or-drop place row k 0) ∙ sym (get_or-take count (drop place row) k 0 lt) ∙ ap (λ (bytes : List ℕ). get_or bytes k 0) alike
     ∙ get_or-replicate count k byte 0 lt
 
 -- a run that begins before a place where the bytes change ends there or before it
-pub runs_by_stop : (row numbers : List ℕ) (most end stop place : ℕ) → IsSteady numbers → slice_index numbers end ≡ 0 → place < stop
+pub runs_by_stop : (row : List ℕ) {numbers : List ℕ} {most end : ℕ} (stop : ℕ) {place : ℕ} → IsSteady numbers → slice_index numbers end ≡ 0 → place < stop
     → stop ≤ end → (stop < end → slice_index row (stop - 1) ≢ slice_index row stop)
     → slice_index numbers place ≤ 2 + slice_index numbers (min stop (place + most)) → AreGoodRuns row numbers most place
-runs_by_stop row numbers most end stop place steady none after within breaks kept = λ count byte some few inside alike.
+runs_by_stop row {numbers} {most} {end} stop {place} steady none after within breaks kept = λ count byte some few inside alike.
     elim (cases_lt stop (place + count)) [
       | inr reaches ↦ omega (arith, kept, steady.falls (place + count) (min stop (place + most)) (omega arith))
       | inl passes ↦
@@ -66,8 +66,8 @@ runs_by_stop row numbers most end stop place steady none after within breaks kep
                 let one : place + (stop - 1 - place) ≡ stop - 1 = omega arith in
                 let other : place + (stop - place) ≡ stop = omega arith in
                 absurd (breaks before
-                (ap (slice_index row) (sym one) ∙ run_byte row place count byte (stop - 1 - place) alike (omega arith)
-                ∙ sym (run_byte row place count byte (stop - place) alike (omega arith)) ∙ ap (slice_index row) other))
+                (ap (slice_index row) (sym one) ∙ run_byte row place alike (omega arith)
+                ∙ sym (run_byte row place alike (omega arith)) ∙ ap (slice_index row) other))
           ]
     ]
 
@@ -78,9 +78,9 @@ runs_past row numbers most end place steady none past = λ count byte some few i
 
 -- ---- literals
 
-pub sums_more : (numbers old new : List ℕ) (count : ℕ) → length old ≡ length numbers → AreLeastSums numbers count old
+pub sums_more : (numbers : List ℕ) {old new : List ℕ} {count : ℕ} → length old ≡ length numbers → AreLeastSums numbers count old
     → TakesBehind count old new → AreLeastSums numbers (count + count) new
-sums_more numbers old new count size sums takes = λ place stop after before inside.
+sums_more numbers {count} size sums takes = λ place stop after before inside.
     elim (cases_lt stop (place + count)) [
       | inl near ↦ omega (arith, takes.here place, sums place stop after near inside)
       | inr far ↦
@@ -93,9 +93,9 @@ literals_by_sums numbers least place sums kept = λ count some few within.
     omega (arith, kept (omega arith), sums (place + 1) (place + count) (omega arith) (omega arith) within)
 
 -- a literal that goes on where no more is needed
-pub literals_of_front : (numbers : List ℕ) (end place : ℕ) → IsSteady numbers → slice_index numbers end ≡ 0 → end < length numbers
+pub literals_of_front : {numbers : List ℕ} {end : ℕ} (place : ℕ) → IsSteady numbers → slice_index numbers end ≡ 0 → end < length numbers
     → AreGoodLiterals (take (end + 1) numbers) place → AreGoodLiterals numbers place
-literals_of_front numbers end place steady none inside good = λ count some few within.
+literals_of_front {numbers} {end} place steady none inside good = λ count some few within.
     let size : length (take (end + 1) numbers) ≡ end + 1 = length-take-le (end + 1) numbers (omega arith) in
     elim (cases_lt place end) [
       | inr past ↦ omega (arith, steady.falls end place past, none)
@@ -159,20 +159,20 @@ start_within old row place start offset order differs alike =
     ]
 
 -- the least sum of a front, where the numbers are 0 behind it
-front_sums : (numbers least : List ℕ) (end place stop : ℕ) → end < length numbers → AreLeastSums (take (end + 1) numbers) 8 least
+front_sums : (numbers least : List ℕ) {end : ℕ} (place stop : ℕ) → end < length numbers → AreLeastSums (take (end + 1) numbers) 8 least
     → place ≤ stop → stop < place + 8 → stop ≤ end → slice_index least place ≤ stop + slice_index numbers stop
-front_sums numbers least end place stop inside sums low high within =
+front_sums numbers least {end} place stop inside sums low high within =
     omega (
       arith,
       sums place stop low high (omega (arith, length-take-le (end + 1) numbers (omega arith))),
       get_or-take (end + 1) numbers stop 0 (omega arith),
     )
 
-pub replacements_by_start : (old row numbers least : List ℕ) (end place start : ℕ) → IsSteady numbers → slice_index numbers end ≡ 0
+pub replacements_by_start : (old row : List ℕ) {numbers : List ℕ} (least : List ℕ) {end place start : ℕ} → IsSteady numbers → slice_index numbers end ≡ 0
     → end < length numbers → AreLeastSums (take (end + 1) numbers) 8 least → place ≤ start → start < end
     → slice_index old start ≢ slice_index row start → IsKeptBefore (slice_index numbers place) least place start
     → AreGoodReplacements old row numbers place
-replacements_by_start old row numbers least end place start steady none inside sums order before differs kept =
+replacements_by_start old row {numbers} least {end} {place} {start} steady none inside sums order before differs kept =
     λ offset len some few within alike.
     let k = kept offset (start_within old row place start offset order differs alike) in
     let far : ℕ = k.0 in
@@ -181,14 +181,14 @@ replacements_by_start old row numbers least end place start steady none inside s
           omega (
             arith,
             k.3,
-            front_sums numbers least end (far + 1) (far + len) inside sums (omega arith) (omega arith) le,
+            front_sums numbers least (far + 1) (far + len) inside sums (omega arith) (omega arith) le,
             steady.falls (place + (offset + len)) (far + len) (omega (arith, k.1)),
           )
       | inl lt ↦
           omega (
             arith,
             k.3,
-            front_sums numbers least end (far + 1) end inside sums (omega (arith, k.2)) (omega arith) (omega arith),
+            front_sums numbers least (far + 1) end inside sums (omega (arith, k.2)) (omega arith) (omega arith),
             none,
           )
     ]

@@ -31,7 +31,7 @@ loop-place-preserved c =
     ] in
     let kept : slice_index numbers place ≤ 2 + slice_index numbers (min stop (place + c.args.most)) =
     omega (arith, c.if-numbers-place.false, ap (slice_index numbers) c.min.ensures) in
-    let here = runs_by_stop row numbers c.args.most c.args.end stop place c.requires.steady c.requires.end.1 is.0 is.1 is.2 kept in
+    let here = runs_by_stop row stop c.requires.steady c.requires.end.1 is.0 is.1 is.2 kept in
     record {
       order = omega (arith, is.0);
       within = is.1;
