@@ -1,8 +1,8 @@
 //! The row tables of a page.
 
-ghost use Rattle.std.specs.Prelude.{◌≡◌, ◌++◌, ◌+◌, ◌*◌, ◌^◌, ◌<◌, ◌≤◌, length, take, drop, OnOk};
+ghost use Rattle.std.specs.Prelude.{◌≡◌, ◌++◌, ◌+◌, ◌*◌, ◌/◌, ◌^◌, ◌<◌, ◌≤◌, ◌↔◌, [], length, take, drop, IsTrue, OnOk};
 ghost use Rattle.std.specs.Int.{w16, from_be_bytes};
-ghost use Rattle.pcl_cert.specs.RowTables.{contents, count_of, list_from, list_of, number_at_place, lists_within, IsListAt};
+ghost use Rattle.pcl_cert.specs.RowTables.{contents, count_of, numbers_from, list_from, list_of, number_at_place, lists_within, IsListAt};
 ghost use Rattle.std.specs.List.{flat_map, AllByRecursion};
 ghost use Rattle.pcl_cert.specs.Certificates.{list_bytes};
 ghost use Rattle.pcl_cert.specs.PageTables.{table_of};
@@ -84,9 +84,17 @@ impl<'a> RowTables<'a> {
         requires few { length out.old < 2 ^ 32 }
         ensures { out.new ≡ table_of (length out.old) (list_of self.now row method) }
     {
-        for place in 0..out.len() {
-            out[place] = self.number(row, method, place as u32);
-        }
+        let list = 4 * row as usize + method.code() as usize;
+        copy_numbers(numbers_at(self.bytes.as_slice(), self.starts[list]), out);
+    }
+
+    /// Whether the list of a row and a method has no number, so that all of its table are 0.
+    pub fn is_empty(&self, row: u32, method: Method) -> bool
+        requires { 4 * row + 4 ≤ length self.now }
+        ensures { IsTrue result ↔ (list_of self.now row method ≡ []) }
+    {
+        let list = 4 * row as usize + method.code() as usize;
+        numbers_at(self.bytes.as_slice(), self.starts[list]).is_empty()
     }
 
     /// Appends the lists as they stand in a certificate, or a front of them where memory runs out.
@@ -124,6 +132,29 @@ fn list_at(bytes: &[u8], start: usize) -> &[u8]
 {
     let numbers = usize::from(word(bytes, start));
     &bytes[start..start + 2 + 2 * numbers]
+}
+
+/// The bytes of the numbers of the list that begins at a place.
+fn numbers_at(bytes: &[u8], start: usize) -> &[u8]
+    requires { IsListAt bytes.now start }
+    ensures size { length result.now ≡ 2 * count_of (drop start bytes.now) }
+    ensures numbers { numbers_from (length result.now / 2) result.now ≡ list_from (drop start bytes.now) }
+{
+    let count = usize::from(word(bytes, start));
+    &bytes[start + 2..start + 2 + 2 * count]
+}
+
+/// Writes out numbers of two bytes each, and 0 behind them.
+fn copy_numbers(bytes: &[u8], out: &mut [u16])
+    ensures { out.new ≡ table_of (length out.old) (numbers_from (length bytes.now / 2) bytes.now) }
+{
+    let count = (bytes.len() / 2).min(out.len());
+    for place in 0..count {
+        out[place] = word(bytes, 2 * place);
+    }
+    for place in count..out.len() {
+        out[place] = 0;
+    }
 }
 
 /// The number in the two bytes from a place on.

@@ -22,3 +22,4 @@ pub mod PlacesFound
 pub mod PlaceWindows
 pub mod PlaceKinds
 pub mod PlaceSteps
+pub mod SteadyPlaces

@@ -4,3 +4,4 @@ pub mod Edges
 pub mod EdgePasses
 pub mod Places
 pub mod PlacePasses
+pub mod SteadyNumbers

@@ -2,9 +2,10 @@
 
 mod fill;
 mod found;
+mod steady;
 mod windows;
 
-ghost use Rattle.std.specs.Prelude.{◌≡◌, ℕ, ◌+◌, ◌-◌, ◌<◌, ◌≤◌, ◌↔◌, length, replicate, slice_index, EachIndex, IsTrue};
+ghost use Rattle.std.specs.Prelude.{◌≡◌, ℕ, ◌+◌, ◌-◌, ◌<◌, ◌≤◌, length, replicate, slice_index};
 ghost use Rattle.pcl_base.specs.declared.method.Method.TheVariants as methods;
 ghost use Rattle.pcl_rows.specs.Rows.{base};
 ghost use Rattle.pcl_coders.specs.Coding.{IsCodable};
@@ -14,6 +15,7 @@ ghost use Rattle.pcl_check.specs.PlacePasses.{IsGoodEnd, IsGoodByte, AreGoodRuns
 use fill::{add_places, fill_behind_starts, fill_ends, fill_run_stops, fill_start_ends, widen};
 use found::first_place;
 use pcl_base::{Method, ROW_LIMIT};
+use steady::is_steady_table;
 use windows::first_undercut;
 
 /// The places of the longest row, and its end.
@@ -27,21 +29,14 @@ pub fn first_bad_place(method: Method, row: &[u8], seed: &[u8], numbers: &[u16])
     requires size { length numbers.now ≡ length row.now + 1 }
     ensures { FindsBadPlace method seed.now row.now numbers.now result }
 {
-    if are_zeros(numbers) {
-        return None;
-    }
     let zeros = [0; ROW_LIMIT];
     let old = base_row(method, seed, &zeros);
+    if is_steady_table(method, old, row, numbers) {
+        return None;
+    }
     let end = first_bad_end(old, row, numbers);
     let step = first_bad_step(method, old, row, numbers);
     first_place(end, step)
-}
-
-/// Whether all numbers are 0, as those of a row that needs no data: no element undercuts these.
-fn are_zeros(numbers: &[u16]) -> bool
-    ensures { IsTrue result ↔ EachIndex numbers.now (λ k. slice_index numbers.now k ≡ 0) }
-{
-    numbers.iter().all(|number| *number == 0)
 }
 
 /// The row before its data comes: zeros, and the seed row in method 3.

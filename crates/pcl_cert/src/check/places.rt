@@ -76,9 +76,12 @@ fn first_bad_in_table(page: &Page, tables: &RowTables<'_>, row: u32, method: Met
     requires tables { length tables.now ≡ 4 * page_height page.now.size page.now.dpi }
     ensures { FindsPlace (IsGoodIn page.now tables.now row method) (page_row_bytes page.now.size page.now.dpi) result }
 {
+    let bytes = page.bitmap.row(row);
+    if tables.is_empty(row, method) {
+        return None;
+    }
     let zeros = [0; ROW_LIMIT];
     let mut space = [0; ROW_LIMIT + 1];
-    let bytes = page.bitmap.row(row);
     let seed = row_above(&page.bitmap, row, &zeros);
     let numbers = &mut space[..bytes.len() + 1];
     tables.copy_table(row, method, numbers);

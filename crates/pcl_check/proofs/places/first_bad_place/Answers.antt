@@ -2,14 +2,22 @@ use Rattle.std.proofs.Common.{ℕ, List, length, sym, subst}
 use Rattle.pcl_rows.specs.Rows.{base}
 use Rattle.pcl_check.specs.Places.{FindsPlace, IsGoodPlace}
 use Rattle.pcl_check.specs.PlacePasses.{IsGoodEnd, AreGoodSteps, first_found_place}
+use Rattle.pcl_check.specs.SteadyNumbers.{IsGoodFor}
 use Rattle.pcl_check.proofs.PlacesFound.{And, finds_both, finds_place_too}
-use Rattle.pcl_check.proofs.PlaceSteps.{table_of_zeros, finds_table}
+use Rattle.pcl_check.proofs.PlaceSteps.{table_of_good, finds_table}
 use Rattle.pcl_check.proofs.places.first_bad_place.Goals as goal
 
-pub returns-then-are_zeros : goal.returns-then-are_zeros
-returns-then-are_zeros c =
-    table_of_zeros c.args.method c.args.seed.now c.args.row.now c.args.numbers.now c.requires.size
-    (c.are_zeros.ensures.0 c.if-are_zeros.true)
+pub returns-then-is_steady_table : goal.returns-then-is_steady_table
+returns-then-is_steady_table c =
+    let method = c.args.method in
+    let seed = c.args.seed.now in
+    let row = c.args.row.now in
+    let numbers = c.args.numbers.now in
+    table_of_good c.requires.size
+    (λ place le.
+    let good = subst (λ (old : List ℕ). IsGoodFor method old row numbers place) c.base_row-old.ensures
+    (c.is_steady_table.ensures c.if-is_steady_table.true place le) in
+    record { steps = good.steps; ends = good.ends })
 
 pub returns : goal.returns
 returns c =
@@ -26,7 +34,7 @@ returns c =
     (subst (λ (old : List ℕ). FindsPlace (Steps old) (length row) step) c.base_row-old.ensures c.first_bad_step-step.ensures) in
     finds_table method seed row numbers c.first_place.result c.requires.size
     (subst (FindsPlace (IsGoodPlace method seed row numbers) (length row)) (sym c.first_place.ensures)
-    (finds_place_too (And (End (base method seed)) (Steps (base method seed))) (IsGoodPlace method seed row numbers) (length row)
+    (finds_place_too (And (End (base method seed)) (Steps (base method seed))) (IsGoodPlace method seed row numbers)
     (first_found_place end step)
     (λ place le good. record { steps = good.1; ends = good.0 })
     (λ place le good. (good.ends, good.steps)) both))

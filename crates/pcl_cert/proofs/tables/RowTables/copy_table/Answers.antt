@@ -1,14 +1,14 @@
-use Rattle.std.proofs.Common.{length, arith}
-use Rattle.std.proofs.lemmas.List.{length-set}
-use Rattle.pcl_cert.specs.RowTables.{list_of}
-use Rattle.pcl_cert.proofs.KeptLists.{one_place_more}
+use Rattle.std.proofs.Common.{◌≡◌, ℕ, List, length, drop, sym, ap, ◌∙◌}
+use Rattle.pcl_cert.specs.RowTables.{contents, list_from}
+use Rattle.pcl_cert.specs.PageTables.{table_of}
+use Rattle.pcl_cert.proofs.Written.{list_kept}
 use Rattle.pcl_cert.proofs.tables.RowTables.copy_table.Goals as goal
 
-pub loop-place-preserved : goal.loop-place-preserved
-loop-place-preserved c =
-    let list = list_of c.args.self.now c.args.row c.args.method in (
-      omega (arith, length-set c.loop-place.out c.loop-place.place c.number.result, c.loop-place.invariant.0),
-      one_place_more (length c.args.out.now) list c.loop-place.out c.loop-place.place c.number.result
-          (omega (arith, c.loop-place-test.true, c.loop-place.invariant.0)) c.loop-place.invariant.0
-          c.loop-place.invariant.1 c.number.ensures,
-    )
+pub returns : goal.returns
+returns c =
+    let start : ℕ = c.index.result.now in
+    let list = list_kept (contents c.self.inside.bytes) c.self.inside.starts.items c.args.row c.args.method
+    (sym c.self.view_is) c.requires.row c.code.ensures c.index.ensures in
+    c.copy_numbers.ensures
+    ∙ ap (table_of (length c.args.out.now))
+    (c.numbers_at.ensures.numbers ∙ ap (λ (bytes : List ℕ). list_from (drop start bytes)) c.as_slice.ensures ∙ sym list)

@@ -1,0 +1,20 @@
+use Rattle.std.proofs.Common.{◌≡◌, ◌+◌, ◌-◌, ◌*◌, ◌/◌, ℕ, List, length, take, drop, sym, ap, ◌∙◌, arith}
+use Rattle.std.proofs.lemmas.List.{length-drop, length-take-le, drop-drop}
+use Rattle.pcl_cert.specs.RowTables.{numbers_from, count_of}
+use Rattle.pcl_cert.proofs.Numbers.{numbers_of_front}
+use Rattle.pcl_cert.proofs.tables.numbers_at.Goals as goal
+
+pub returns-clause-numbers : goal.returns-clause-numbers
+returns-clause-numbers c =
+    let bytes = c.args.bytes.now in
+    let start : ℕ = c.args.start in
+    let count : ℕ = count_of (drop start bytes) in
+    let rest : List ℕ = drop (start + 2) bytes in
+    let len : start + 2 + 2 * c.from-count.result - (start + 2) ≡ 2 * count = omega (arith, c.from-count.ensures, c.word.ensures) in
+    let size : length (take (2 * count) rest) ≡ 2 * count =
+    length-take-le (2 * count) rest (omega (arith, c.requires.whole, length-drop (start + 2) bytes)) in
+    let half : length (take (2 * count) rest) / 2 ≡ count = omega (arith, size) in
+    ap (λ (n : ℕ). numbers_from (length (take n rest) / 2) (take n rest)) len
+    ∙ ap (λ (n : ℕ). numbers_from n (take (2 * count) rest)) half
+    ∙ numbers_of_front count rest
+    ∙ ap (numbers_from count) (sym (drop-drop 2 start bytes))

@@ -1,0 +1,199 @@
+-- Places of rows whose numbers never grow.
+use Rattle.std.proofs.Common.{◌≡◌, ◌≢◌, ℕ, zero, suc, ◌+◌, ◌-◌, ◌/◌, ◌<◌, ◌≤◌, min, List, length, get_or, take, drop, replicate, sym, ap, ◌∙◌, inl, inr, arith}
+use Rattle.std.specs.Prelude.{slice_index}
+use Rattle.std.proofs.lemmas.Bool.{cases_lt}
+use Rattle.std.proofs.lemmas.List.{get_or-take, get_or-drop, get_or-replicate, get_or_past, length-take-le}
+use Rattle.pcl_coders.specs.Replacement.{replacement_bytes}
+use Rattle.pcl_coders.proofs.Ends.{ends_at}
+use Rattle.pcl_coders.proofs.Shapes.{near_bytes, far_bytes}
+use Rattle.pcl_check.specs.PlacePasses.{IsGoodEnd, AreGoodRuns, AreGoodLiterals, AreGoodReplacements}
+use Rattle.pcl_check.specs.SteadyNumbers.{IsSteady, IsNeedEnd, AreLeastSums, TakesBehind, IsKeptBefore}
+
+-- ---- steady numbers
+
+-- numbers that don't rise from a place to the next are above none before them
+falls_on : (numbers : List ℕ) → ((k : ℕ) → k + 1 < length numbers → slice_index numbers (k + 1) ≤ slice_index numbers k)
+    → (place gap : ℕ) → slice_index numbers (place + gap) ≤ slice_index numbers place
+falls_on numbers falls place zero = let at : place + 0 ≡ place = omega arith in omega (arith, ap (slice_index numbers) at)
+falls_on numbers falls place (suc gap) =
+    let next : place + suc gap ≡ place + gap + 1 = omega arith in
+    elim (cases_lt (place + gap + 1) (length numbers)) [
+      | inl inside ↦
+          omega (arith, falls_on numbers falls place gap, falls (place + gap) inside, ap (slice_index numbers) next)
+      | inr past ↦ omega (arith, get_or_past numbers (place + gap + 1) 0 past, ap (slice_index numbers) next)
+    ]
+
+pub steady_by : {numbers : List ℕ} → slice_index numbers 0 ≤ 1200
+    → ((k : ℕ) → k + 1 < length numbers → slice_index numbers (k + 1) ≤ slice_index numbers k) → IsSteady numbers
+steady_by {numbers} small falls =
+    let on : (place later : ℕ) → place ≤ later → slice_index numbers later ≤ slice_index numbers place =
+    λ place later le.
+    let at : place + (later - place) ≡ later = omega arith in
+    omega (arith, falls_on numbers falls place (later - place), ap (slice_index numbers) at)
+    in
+    record { falls = on; small = λ place. omega (arith, on 0 place (omega arith), small) }
+
+-- no more data is needed only where the number is 0
+pub end_of_need : {old row numbers : List ℕ} {end : ℕ} (place : ℕ) → IsSteady numbers → IsNeedEnd old row numbers end
+    → IsGoodEnd old row numbers place
+end_of_need {old} {row} {end} place steady need = λ ends.
+    elim (cases_lt place end) [
+      | inl before ↦ absurd (need.needed (omega arith) (sym (ends_at old row place (end - 1) ends (omega arith))))
+      | inr past ↦ omega (arith, steady.falls end place past, need.none)
+    ]
+
+-- ---- runs
+
+-- a byte of a run
+run_byte : (row : List ℕ) (place : ℕ) {count byte k : ℕ} → take count (drop place row) ≡ replicate count byte → k < count
+    → slice_index row (place + k) ≡ byte
+run_byte row place {count} {byte} {k} alike lt =
+    sym (get_or-drop place row k 0) ∙ sym (get_or-take count (drop place row) k 0 lt) ∙ ap (λ (bytes : List ℕ). get_or bytes k 0) alike
+    ∙ get_or-replicate count k byte 0 lt
+
+-- a run that begins before a place where the bytes change ends there or before it
+pub runs_by_stop : (row : List ℕ) {numbers : List ℕ} {most end : ℕ} (stop : ℕ) {place : ℕ} → IsSteady numbers → slice_index numbers end ≡ 0 → place < stop
+    → stop ≤ end → (stop < end → slice_index row (stop - 1) ≢ slice_index row stop)
+    → slice_index numbers place ≤ 2 + slice_index numbers (min stop (place + most)) → AreGoodRuns row numbers most place
+runs_by_stop row {numbers} {most} {end} stop {place} steady none after within breaks kept = λ count byte some few inside alike.
+    elim (cases_lt stop (place + count)) [
+      | inr reaches ↦ omega (arith, kept, steady.falls (place + count) (min stop (place + most)) (omega arith))
+      | inl passes ↦
+          elim (cases_lt stop end) [
+            | inr last ↦
+                let is : min stop (place + most) ≡ end = omega arith in omega (arith, kept, ap (slice_index numbers) is, none)
+            | inl before ↦
+                let one : place + (stop - 1 - place) ≡ stop - 1 = omega arith in
+                let other : place + (stop - place) ≡ stop = omega arith in
+                absurd (breaks before
+                (ap (slice_index row) (sym one) ∙ run_byte row place alike (omega arith)
+                ∙ sym (run_byte row place alike (omega arith)) ∙ ap (slice_index row) other))
+          ]
+    ]
+
+pub runs_past : (row numbers : List ℕ) (most end place : ℕ) → IsSteady numbers → slice_index numbers end ≡ 0 → end ≤ place
+    → AreGoodRuns row numbers most place
+runs_past row numbers most end place steady none past = λ count byte some few inside alike.
+    omega (arith, steady.falls end place past, none)
+
+-- ---- literals
+
+pub sums_more : (numbers : List ℕ) {old new : List ℕ} {count : ℕ} → length old ≡ length numbers → AreLeastSums numbers count old
+    → TakesBehind count old new → AreLeastSums numbers (count + count) new
+sums_more numbers {count} size sums takes = λ place stop after before inside.
+    elim (cases_lt stop (place + count)) [
+      | inl near ↦ omega (arith, takes.here place, sums place stop after near inside)
+      | inr far ↦
+          omega (arith, takes.behind place (omega (arith, size)), sums (place + count) stop far (omega arith) inside)
+    ]
+
+pub literals_by_sums : (numbers least : List ℕ) (place : ℕ) → AreLeastSums numbers 128 least
+    → (place + 1 < length numbers → place + slice_index numbers place ≤ 1 + slice_index least (place + 1)) → AreGoodLiterals numbers place
+literals_by_sums numbers least place sums kept = λ count some few within.
+    omega (arith, kept (omega arith), sums (place + 1) (place + count) (omega arith) (omega arith) within)
+
+-- a literal that goes on where no more is needed
+pub literals_of_front : {numbers : List ℕ} {end : ℕ} (place : ℕ) → IsSteady numbers → slice_index numbers end ≡ 0 → end < length numbers
+    → AreGoodLiterals (take (end + 1) numbers) place → AreGoodLiterals numbers place
+literals_of_front {numbers} {end} place steady none inside good = λ count some few within.
+    let size : length (take (end + 1) numbers) ≡ end + 1 = length-take-le (end + 1) numbers (omega arith) in
+    elim (cases_lt place end) [
+      | inr past ↦ omega (arith, steady.falls end place past, none)
+      | inl before ↦
+          let here = get_or-take (end + 1) numbers place 0 (omega arith) in
+          elim (cases_lt end (place + count)) [
+            | inr le ↦
+                omega (
+                  arith,
+                  good count some few (omega (arith, size)),
+                  here,
+                  get_or-take (end + 1) numbers (place + count) 0 (omega arith),
+                )
+            | inl lt ↦
+                let at : place + (end - place) ≡ end = omega arith in
+                omega (
+                  arith,
+                  good (end - place) (omega arith) (omega arith) (omega (arith, size)),
+                  here,
+                  get_or-take (end + 1) numbers (place + (end - place)) 0 (omega arith),
+                  ap (slice_index numbers) at,
+                  none,
+                )
+          ]
+    ]
+
+-- ---- replacements
+
+pub kept_by : (number : ℕ) (least : List ℕ) (place start far cost offset : ℕ) → place + offset ≤ far → far ≤ start
+    → cost ≤ replacement_bytes offset → number + far ≤ cost + slice_index least (far + 1)
+    → (far : ℕ) × (place + offset ≤ far) × (far ≤ start) × (number + far ≤ replacement_bytes offset + slice_index least (far + 1))
+kept_by number least place start far cost offset low high le kept = (far, low, high, omega (arith, le, kept))
+
+-- the bytes of commands by the least offset that they spell
+pub one_byte : (offset : ℕ) → 1 ≤ replacement_bytes offset
+one_byte offset = elim (cases_lt offset 31) [
+  | inl near ↦ omega (arith, near_bytes offset near)
+  | inr far ↦ omega (arith, far_bytes offset far)
+]
+
+pub more_bytes : (offset cost : ℕ) → 31 ≤ offset → cost ≤ 2 + (offset - 31) / 255 → cost ≤ replacement_bytes offset
+more_bytes offset cost far le = omega (arith, far_bytes offset far)
+
+-- a byte of two fronts that are the same
+alike_at : (old row : List ℕ) (place offset k : ℕ) → take offset (drop place row) ≡ take offset (drop place old) → k < offset
+    → slice_index row (place + k) ≡ slice_index old (place + k)
+alike_at old row place offset k alike lt =
+    sym (get_or-drop place row k 0) ∙ sym (get_or-take offset (drop place row) k 0 lt) ∙ ap (λ (bytes : List ℕ). get_or bytes k 0) alike
+    ∙ get_or-take offset (drop place old) k 0 lt ∙ get_or-drop place old k 0
+
+-- a replacement starts at the first byte that differs, or before it
+start_within : (old row : List ℕ) (place start offset : ℕ) → place ≤ start → slice_index old start ≢ slice_index row start
+    → take offset (drop place row) ≡ take offset (drop place old) → place + offset ≤ start
+start_within old row place start offset order differs alike =
+    elim (cases_lt start (place + offset)) [
+      | inr le ↦ le
+      | inl past ↦
+          let at : place + (start - place) ≡ start = omega arith in
+          absurd (differs
+          (ap (slice_index old) (sym at) ∙ sym (alike_at old row place offset (start - place) alike (omega arith)) ∙ ap (slice_index row) at))
+    ]
+
+-- the least sum of a front, where the numbers are 0 behind it
+front_sums : (numbers least : List ℕ) {end : ℕ} (place stop : ℕ) → end < length numbers → AreLeastSums (take (end + 1) numbers) 8 least
+    → place ≤ stop → stop < place + 8 → stop ≤ end → slice_index least place ≤ stop + slice_index numbers stop
+front_sums numbers least {end} place stop inside sums low high within =
+    omega (
+      arith,
+      sums place stop low high (omega (arith, length-take-le (end + 1) numbers (omega arith))),
+      get_or-take (end + 1) numbers stop 0 (omega arith),
+    )
+
+pub replacements_by_start : (old row : List ℕ) {numbers : List ℕ} (least : List ℕ) {end place start : ℕ} → IsSteady numbers → slice_index numbers end ≡ 0
+    → end < length numbers → AreLeastSums (take (end + 1) numbers) 8 least → place ≤ start → start < end
+    → slice_index old start ≢ slice_index row start → IsKeptBefore (slice_index numbers place) least place start
+    → AreGoodReplacements old row numbers place
+replacements_by_start old row {numbers} least {end} {place} {start} steady none inside sums order before differs kept =
+    λ offset len some few within alike.
+    let k = kept offset (start_within old row place start offset order differs alike) in
+    let far : ℕ = k.0 in
+    elim (cases_lt end (far + len)) [
+      | inr le ↦
+          omega (
+            arith,
+            k.3,
+            front_sums numbers least (far + 1) (far + len) inside sums (omega arith) (omega arith) le,
+            steady.falls (place + (offset + len)) (far + len) (omega (arith, k.1)),
+          )
+      | inl lt ↦
+          omega (
+            arith,
+            k.3,
+            front_sums numbers least (far + 1) end inside sums (omega (arith, k.2)) (omega arith) (omega arith),
+            none,
+          )
+    ]
+
+pub replacements_past : (old row numbers : List ℕ) (end place : ℕ) → IsSteady numbers → slice_index numbers end ≡ 0 → end ≤ place
+    → AreGoodReplacements old row numbers place
+replacements_past old row numbers end place steady none past = λ offset len some few within alike.
+    omega (arith, steady.falls end place past, none)

@@ -1,0 +1,44 @@
+use Rattle.std.proofs.Common.{◌≡◌, ◌≢◌, ℕ, ◌+◌, ◌-◌, ◌<◌, ◌≤◌, min, sym, ap, subst, ◌∙◌, inl, inr, arith}
+use Rattle.std.specs.Prelude.{slice_index}
+use Rattle.std.proofs.lemmas.Bool.{cases_lt}
+use Rattle.pcl_check.specs.PlacePasses.{AreGoodRuns}
+use Rattle.pcl_check.proofs.SteadyPlaces.{runs_by_stop}
+use Rattle.pcl_check.proofs.places.steady.are_good_runs.Goals as goal
+use Rattle.pcl_check.proofs.places.steady.are_good_runs.Goals.{then-place-end+then-row-place, else-place-end}
+
+pub loop-place-preserved : goal.loop-place-preserved
+loop-place-preserved c =
+    let row = c.args.row.now in
+    let numbers = c.args.numbers.now in
+    let place : ℕ = c.loop-place.place - 1 in
+    let stop : ℕ = c.if-place-end.stop in
+    let after : place + 1 ≡ c.loop-place.place = omega (arith, c.loop-place-test.true) in
+    let is : (place < stop) × (stop ≤ c.args.end) × (stop < c.args.end → slice_index row (stop - 1) ≢ slice_index row stop) =
+    elim c.if-place-end.branch [
+      | then-place-end+then-row-place w ↦
+          let here : stop ≡ place + 1 = omega (arith, w.stop-is) in
+          let before : stop - 1 ≡ place = omega (arith, here) in (
+            omega (arith, here),
+            omega (arith, here, w.if-place-end.true),
+            λ lt e. w.if-row-place.true (ap (slice_index row) (sym before) ∙ e ∙ ap (slice_index row) here),
+          )
+      | else-place-end w ↦
+          let same : c.loop-place.stop ≡ stop = omega (arith, w.stop-is) in (
+            omega (arith, same, c.loop-place.invariant.order),
+            omega (arith, same, c.loop-place.invariant.within),
+            subst (λ (n : ℕ). n < c.args.end → slice_index row (n - 1) ≢ slice_index row n) same c.loop-place.invariant.breaks,
+          )
+    ] in
+    let kept : slice_index numbers place ≤ 2 + slice_index numbers (min stop (place + c.args.most)) =
+    omega (arith, c.if-numbers-place.false, ap (slice_index numbers) c.min.ensures) in
+    let here = runs_by_stop row stop c.requires.steady c.requires.end.1 is.0 is.1 is.2 kept in
+    record {
+      order = omega (arith, is.0);
+      within = is.1;
+      breaks = is.2;
+      good = λ k low.
+          elim (cases_lt place k) [
+            | inl past ↦ c.loop-place.invariant.good k (omega (arith, after, past))
+            | inr at ↦ let same : place ≡ k = omega arith in subst (AreGoodRuns row numbers c.args.most) same here
+          ];
+    }

@@ -1,0 +1,38 @@
+-- Numbers that never grow along a row, and what is tested of them. Only contracts of private functions cite this.
+use Rattle.std.specs.Prelude.{◌≡◌, ◌≢◌, ℕ, ◌+◌, ◌-◌, ◌<◌, ◌≤◌, List, length, slice_index}
+use Rattle.pcl_base.specs.declared.method.Method.{Method}
+use Rattle.pcl_coders.specs.Replacement.{replacement_bytes}
+use Rattle.pcl_check.specs.PlacePasses.{IsGoodEnd, AreGoodSteps}
+
+-- no number is above one before it, or above what least numbers can be
+pub record IsSteady (numbers : List ℕ) : Type 0 where
+  pub falls : (place later : ℕ) → place ≤ later → slice_index numbers later ≤ slice_index numbers place
+  pub small : (place : ℕ) → slice_index numbers place ≤ 1200
+
+-- the number of a place is 0, and the byte before it differs from the row before
+pub record IsNeedEnd (old row numbers : List ℕ) (end : ℕ) : Type 0 where
+  pub within : end ≤ length row
+  pub none : slice_index numbers end ≡ 0
+  pub needed : 0 < end → slice_index old (end - 1) ≢ slice_index row (end - 1)
+
+-- for each place at most each sum of a number and its place, of so many places from it on
+abbrev pub AreLeastSums : List ℕ → ℕ → List ℕ → Type 0
+AreLeastSums numbers count least = (place stop : ℕ) → place ≤ stop → stop < place + count → stop < length numbers
+    → slice_index least place ≤ stop + slice_index numbers stop
+
+-- no value is above what it was, or above what was that far behind it
+pub record TakesBehind (count : ℕ) (old new : List ℕ) : Type 0 where
+  pub size : length new ≡ length old
+  pub here : (place : ℕ) → slice_index new place ≤ slice_index old place
+  pub behind : (place : ℕ) → place + count < length old → slice_index new place ≤ slice_index old (place + count)
+
+-- a replacement that starts up to a place doesn't undercut a number, since one of as few bytes that starts as far or
+-- farther doesn't
+abbrev pub IsKeptBefore : ℕ → List ℕ → ℕ → ℕ → Type 0
+IsKeptBefore number least place start = (offset : ℕ) → place + offset ≤ start
+    → (far : ℕ) × (place + offset ≤ far) × (far ≤ start) × (number + far ≤ replacement_bytes offset + slice_index least (far + 1))
+
+-- a place whose number is good
+pub record IsGoodFor (method : Method) (old row numbers : List ℕ) (place : ℕ) : Type 0 where
+  pub ends : IsGoodEnd old row numbers place
+  pub steps : AreGoodSteps method old row numbers place

@@ -1,0 +1,215 @@
+//! Tests that suffice for numbers that never grow along a row, as least numbers don't. Who isn't told yes here may have
+//! good numbers all the same.
+//!
+//! Where numbers never grow, of elements that cost the same the one that stops farthest undercuts a number most. So of each
+//! place and each cost one element is tested, and of the places from the first 0 on none is.
+
+ghost use Rattle.std.specs.Prelude.{◌≡◌, ℕ, ◌+◌, ◌-◌, ◌<◌, ◌≤◌, min, length, slice_index, IsTrue};
+ghost use Rattle.pcl_check.specs.PlacePasses.{IsGoodByte, AreGoodRuns, AreGoodLiterals, AreGoodReplacements};
+ghost use Rattle.pcl_check.specs.SteadyNumbers.{IsSteady, IsNeedEnd, AreLeastSums, TakesBehind, IsKeptBefore, IsGoodFor};
+
+use super::PLACES;
+use pcl_base::Method;
+
+/// Whether no number of a row is bad, by tests that suffice where no number is above one before it.
+pub fn is_steady_table(method: Method, old: &[u8], row: &[u8], numbers: &[u16]) -> bool
+    requires same { length old.now ≡ length row.now }
+    requires small { length row.now ≤ 600 }
+    requires size { length numbers.now ≡ length row.now + 1 }
+    ensures { IsTrue result → (place : ℕ) → place ≤ length row.now → IsGoodFor method old.now row.now numbers.now place }
+{
+    let end = count_above_zero(numbers);
+    if !is_need_end(old, row, numbers, end) || !is_steady(numbers) {
+        return false;
+    }
+    match method {
+        Method::Plain => greatest_fall(numbers) <= 1,
+        Method::Runs => are_good_runs(row, numbers, end, 256),
+        Method::Packed => {
+            are_good_runs(row, numbers, end, 128) && are_good_literals(&numbers[..end + 1])
+        }
+        Method::Delta => are_good_replacements(old, row, numbers, end),
+    }
+}
+
+/// How many numbers aren't 0.
+fn count_above_zero(numbers: &[u16]) -> usize
+    requires { length numbers.now ≤ 601 }
+    ensures { result ≤ length numbers.now }
+{
+    let mut count = 0u16;
+    for number in numbers {
+        if *number > 0 {
+            count += 1;
+        }
+    }
+    usize::from(count)
+}
+
+/// Whether the number of a place is 0, and the byte before it has to be given.
+fn is_need_end(old: &[u8], row: &[u8], numbers: &[u16], end: usize) -> bool
+    requires same { length old.now ≡ length row.now }
+    requires size { length numbers.now ≡ length row.now + 1 }
+    ensures { IsTrue result → IsNeedEnd old.now row.now numbers.now end }
+{
+    end <= row.len() && numbers[end] == 0 && (end == 0 || old[end - 1] != row[end - 1])
+}
+
+/// Whether no number is above one before it, or above what least numbers can be.
+fn is_steady(numbers: &[u16]) -> bool
+    requires { 0 < length numbers.now }
+    ensures { IsTrue result → IsSteady numbers.now }
+{
+    numbers[0] <= 1200 && greatest_rise(numbers) == 0
+}
+
+/// How much numbers rise from a place to the next, at most.
+fn greatest_rise(numbers: &[u16]) -> u16
+    requires { 0 < length numbers.now }
+    ensures { (place : ℕ) → place + 1 < length numbers.now
+        → slice_index numbers.now (place + 1) ≤ slice_index numbers.now place + result }
+{
+    let mut rise = 0u16;
+    for place in 0..numbers.len() - 1 {
+        rise = rise.max(numbers[place + 1].saturating_sub(numbers[place]));
+    }
+    rise
+}
+
+/// How much numbers fall from a place to the next, at most.
+fn greatest_fall(numbers: &[u16]) -> u16
+    requires { 0 < length numbers.now }
+    ensures { (place : ℕ) → place + 1 < length numbers.now
+        → slice_index numbers.now place ≤ slice_index numbers.now (place + 1) + result }
+{
+    let mut fall = 0u16;
+    for place in 0..numbers.len() - 1 {
+        fall = fall.max(numbers[place].saturating_sub(numbers[place + 1]));
+    }
+    fall
+}
+
+/// Whether no run of at most `most` equal bytes undercuts a number.
+fn are_good_runs(row: &[u8], numbers: &[u16], end: usize, most: usize) -> bool
+    requires size { length numbers.now ≡ length row.now + 1 }
+    requires end { (end ≤ length row.now) × (slice_index numbers.now end ≡ 0) }
+    requires steady { IsSteady numbers.now }
+    requires small { (length row.now ≤ 600) × (most ≤ 256) }
+    ensures { IsTrue result → (place : ℕ) → AreGoodRuns row.now numbers.now most place }
+{
+    let mut stop = end;
+    for place in (0..end).rev() {
+        if place + 1 < end && row[place] != row[place + 1] {
+            stop = place + 1;
+        }
+        if numbers[place] > 2 + numbers[stop.min(place + most)] {
+            return false;
+        }
+    }
+    true
+}
+
+/// Method 2: whether no literal undercuts a number.
+fn are_good_literals(numbers: &[u16]) -> bool
+    requires size { (0 < length numbers.now) × (length numbers.now ≤ 601) }
+    requires small { (place : ℕ) → slice_index numbers.now place ≤ 1200 }
+    ensures { IsTrue result → (place : ℕ) → AreGoodLiterals numbers.now place }
+{
+    let mut room = [0; PLACES];
+    let least = &mut room[..numbers.len()];
+    fill_least_of_eight(numbers, least);
+    take_behind(least, 8);
+    take_behind(least, 16);
+    take_behind(least, 32);
+    take_behind(least, 64);
+    greatest_excess(numbers, least) <= 1
+}
+
+/// How much a number and its place are above the least sum at the next place, at most.
+fn greatest_excess(numbers: &[u16], least: &[u16]) -> u16
+    requires size { (0 < length numbers.now) × (length numbers.now ≤ 601) × (length least.now ≡ length numbers.now) }
+    requires small { (place : ℕ) → slice_index numbers.now place ≤ 1200 }
+    ensures { (place : ℕ) → place + 1 < length numbers.now
+        → place + slice_index numbers.now place ≤ slice_index least.now (place + 1) + result }
+{
+    let mut excess = 0u16;
+    for place in 0..numbers.len() - 1 {
+        let sum = place as u16 + numbers[place];
+        excess = excess.max(sum.saturating_sub(least[place + 1]));
+    }
+    excess
+}
+
+/// For each place the least sum of a number and its place, of eight places from it on.
+fn fill_least_of_eight(numbers: &[u16], least: &mut [u16])
+    requires size { (length numbers.now ≤ 601) × (length least.old ≡ length numbers.now) }
+    requires small { (place : ℕ) → slice_index numbers.now place ≤ 1200 }
+    ensures size { length least.new ≡ length numbers.now }
+    ensures sums { AreLeastSums numbers.now 8 least.new }
+{
+    for place in 0..numbers.len() {
+        least[place] = place as u16 + numbers[place];
+    }
+    take_behind(least, 1);
+    take_behind(least, 2);
+    take_behind(least, 4);
+}
+
+/// Takes for each value the lesser one of it and the one that far behind it.
+#[inline(always)]
+fn take_behind(least: &mut [u16], count: usize)
+    requires { count ≤ 64 }
+    ensures { TakesBehind count least.old least.new }
+{
+    for place in 0..least.len().saturating_sub(count) {
+        least[place] = least[place].min(least[place + count]);
+    }
+}
+
+/// Method 3: whether no replacement undercuts a number.
+fn are_good_replacements(old: &[u8], row: &[u8], numbers: &[u16], end: usize) -> bool
+    requires same { length old.now ≡ length row.now }
+    requires small { length row.now ≤ 600 }
+    requires size { length numbers.now ≡ length row.now + 1 }
+    requires end { IsNeedEnd old.now row.now numbers.now end }
+    requires steady { IsSteady numbers.now }
+    ensures { IsTrue result → (place : ℕ) → AreGoodReplacements old.now row.now numbers.now place }
+{
+    let mut room = [0; PLACES];
+    let least = &mut room[..end + 1];
+    fill_least_of_eight(&numbers[..end + 1], least);
+    let mut start = end;
+    for place in (0..end).rev() {
+        if old[place] != row[place] {
+            start = place;
+        }
+        if !is_kept_before(numbers[place], least, place, start) {
+            return false;
+        }
+    }
+    true
+}
+
+/// Whether no replacement that starts up to a place undercuts a number. One byte spells offsets up to 30, two up to 285,
+/// three up to 540, and four up to all others.
+fn is_kept_before(number: u16, least: &[u16], place: usize, start: usize) -> bool
+    requires order { (place ≤ start) × (start + 1 < length least.now) }
+    requires small { length least.now ≤ 601 }
+    ensures { IsTrue result → IsKeptBefore number least.now place start }
+{
+    is_kept(number, least, start.min(place + 30), 1)
+        && (start <= place + 30
+            || is_kept(number, least, start.min(place + 285), 2)
+                && (start <= place + 285
+                    || is_kept(number, least, start.min(place + 540), 3)
+                        && is_kept(number, least, start, 4)))
+}
+
+/// Whether no replacement that starts at a place, behind a command of so many bytes, undercuts a number.
+fn is_kept(number: u16, least: &[u16], start: usize, cost: usize) -> bool
+    requires within { start + 1 < length least.now }
+    requires small { (length least.now ≤ 601) × (cost ≤ 4) }
+    ensures { IsTrue result → number + start ≤ cost + slice_index least.now (start + 1) }
+{
+    usize::from(number) + start <= cost + usize::from(least[start + 1])
+}
