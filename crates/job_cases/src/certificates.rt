@@ -26,7 +26,7 @@ use crate::notation::{bracketed_bytes_of, bytes_of};
 use crate::table::{TableFault, number, resolution};
 use pcl_base::Dpi;
 use pcl_cert::Format;
-use pcl_tool::{Fault, Output, check_job, minimize};
+use pcl_tool::{Fault, Output, Unwatched, check_job, minimize};
 use std::alloc::{AllocError, Global};
 
 /// Lengths to which a certificate is cut.
@@ -136,9 +136,8 @@ impl Certificates {
     /// What the other job is written as, or the input where there is no other.
     fn write(&self, alloc: Global) -> Result<Output, TableFault> {
         let job = self.other.as_ref().unwrap_or(&self.job);
-        minimize(alloc, job, self.made.unwrap_or(self.dpi), self.format).map_err(
-            |_| TableFault::Unknown,
-        )
+        let dpi = self.made.unwrap_or(self.dpi);
+        minimize(alloc, job, dpi, self.format, Unwatched).map_err(|_| TableFault::Unknown)
     }
 
     /// Begins a case with the certificate as it is made.
@@ -215,7 +214,7 @@ fn answer(
     certificate: &[u8],
     dpi: Dpi,
 ) -> Result<String, AllocError> {
-    match check_job(alloc, input, output, certificate, dpi) {
+    match check_job(alloc, input, output, certificate, dpi, Unwatched) {
         Ok(verdict) => format!(in alloc; "{verdict:?}"),
         Err(Fault::Memory) => Err(AllocError),
         Err(_) => String::from_str(alloc, "refused"),

@@ -10,3 +10,4 @@ pub mod JobVerdicts
 pub mod PageChecks
 pub mod CheckerSteps
 pub mod LeastJobs
+pub mod Watching

@@ -6,56 +6,66 @@ ghost use Rattle.pcl_cert.specs.ReadingCertificates.{Fails, certificate_at};
 ghost use Rattle.pcl_tool.specs.JobVerdicts.{IsChecked};
 
 use crate::page_checks::Checker;
+use crate::watching::{Watcher, perform_watched};
 use crate::{Fault, JobVerdict};
 use pcl_base::Dpi;
 use pcl_cert::{CertFault, PageProof, read_certificate};
-use pcl_page::{Page, PageSink, perform};
+use pcl_page::{Page, PageSink};
 use std::alloc::{AllocError, Global};
 
 /// Checks that an output prints the pages of an input, and that no job text that does is shorter, by a certificate,
-/// whoever made these (docs/CERTIFICATE.md). A refusal is the input's; else it fails only where memory runs out.
-pub fn check_job(
+/// whoever made these (docs/CERTIFICATE.md); the watcher is told of each page that is done. A refusal is the input's; else it
+/// fails only where memory runs out.
+pub fn check_job<P: Watcher>(
     alloc: Global,
     input: &[u8],
     output: &[u8],
     certificate: &[u8],
     dpi: Dpi,
+    watcher: P,
 ) -> Result<JobVerdict, Fault>
     ensures { IsChecked dpi input.now output.now certificate.now result }
 {
     match read_certificate(alloc, certificate, dpi) {
-        Ok((_, proofs)) => check_pages(alloc, input, output, &proofs, dpi),
-        Err(fault) => check_fault(alloc, input, fault, dpi),
+        Ok((_, proofs)) => check_pages(alloc, input, output, &proofs, dpi, watcher),
+        Err(fault) => check_fault(alloc, input, fault, dpi, watcher),
     }
 }
 
 /// What is answered of bytes that are no certificate.
-fn check_fault(alloc: Global, input: &[u8], fault: CertFault, dpi: Dpi) -> Result<JobVerdict, Fault>
+fn check_fault<P: Watcher>(
+    alloc: Global,
+    input: &[u8],
+    fault: CertFault,
+    dpi: Dpi,
+    watcher: P,
+) -> Result<JobVerdict, Fault>
     ensures { (output certificate : List ℕ) → Fails fault (certificate_at dpi certificate)
         → IsChecked dpi input.now output certificate result }
 {
     match fault {
         CertFault::Memory => Err(Fault::Memory),
         fault => {
-            perform(alloc, input, dpi, &mut Unseen)?;
+            let _ = perform_watched(alloc, input, dpi, Unseen, watcher)?;
             Ok(JobVerdict::Certificate(fault))
         }
     }
 }
 
 /// The same, by what a certificate says of each page.
-fn check_pages(
+fn check_pages<P: Watcher>(
     alloc: Global,
     input: &[u8],
     output: &[u8],
     proofs: &[PageProof<'_>],
     dpi: Dpi,
+    watcher: P,
 ) -> Result<JobVerdict, Fault>
     ensures { (certificate : List ℕ) (format : Format) → certificate_at dpi certificate ≡ Ok (format, proofs.now)
         → IsChecked dpi input.now output.now certificate result }
 {
-    let mut checker = Checker::new(alloc, output, proofs);
-    perform(alloc, input, dpi, &mut checker)?;
+    let begun = Checker::new(alloc, output, proofs);
+    let checker = perform_watched(alloc, input, dpi, begun, watcher)?;
     Ok(checker.verdict())
 }
 

@@ -11,6 +11,7 @@ mod minimizing;
 mod page_checks;
 mod page_preview;
 mod reading;
+mod watching;
 mod writing;
 
 pub use checking::check_job;
@@ -20,4 +21,5 @@ pub use laws::{certified_jobs_are_proved, proved_jobs_are_least, written_jobs_ar
 pub use minimizing::{INPUT_LIMIT, Output, filter, filter_cert, minimize};
 pub use page_preview::preview;
 pub use reading::read_all;
+pub use watching::{Unwatched, Watcher};
 pub use writing::write_bytes;

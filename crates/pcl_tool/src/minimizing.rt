@@ -6,10 +6,11 @@ ghost use Rattle.pcl_tool.specs.Minimizing.{IsMinimized, IsJobWritten, IsFiltere
 use crate::Fault;
 use crate::certifying::CertifiedJob;
 use crate::reading::read_all;
+use crate::watching::{Watcher, perform_watched};
 use crate::writing::write_bytes;
 use pcl_base::Dpi;
 use pcl_cert::{Format, write_certificate};
-use pcl_page::{Page, PageSink, perform};
+use pcl_page::{Page, PageSink};
 use pcl_plan::plan;
 use pcl_writer::{write_frame, write_page};
 use std::alloc::{AllocError, Global};
@@ -29,17 +30,24 @@ pub struct Output {
 }
 
 /// Writes a job again as a raster job of the same pages, with a certificate of this format, by which the checker answers
-/// Proved on each page text. A refusal is the job's.
-pub fn minimize(alloc: Global, job: &[u8], dpi: Dpi, format: Format) -> Result<Output, Fault>
+/// Proved on each page text. The watcher is told of each page that is done. A refusal is the job's.
+pub fn minimize<P: Watcher>(
+    alloc: Global,
+    job: &[u8],
+    dpi: Dpi,
+    format: Format,
+    watcher: P,
+) -> Result<Output, Fault>
     ensures { IsMinimized dpi format job.now result }
 {
-    let mut certified = CertifiedJob {
+    let mut bytes = Vec::new(alloc);
+    write_frame(&mut bytes)?;
+    let begun = CertifiedJob {
         format,
-        bytes: Vec::new(alloc),
+        bytes,
         proofs: Vec::new(alloc),
     };
-    write_frame(&mut certified.bytes)?;
-    perform(alloc, job, dpi, &mut certified)?;
+    let mut certified = perform_watched(alloc, job, dpi, begun, watcher)?;
     write_frame(&mut certified.bytes)?;
     let mut certificate = Vec::new(alloc);
     write_certificate(&certified.proofs, format, &mut certificate)?;
@@ -50,49 +58,49 @@ pub fn minimize(alloc: Global, job: &[u8], dpi: Dpi, format: Format) -> Result<O
 }
 
 /// Writes a job again as a raster job of the same pages. A refusal is the job's.
-fn write_job(alloc: Global, job: &[u8], dpi: Dpi) -> Result<Vec<u8>, Fault>
+fn write_job<P: Watcher>(alloc: Global, job: &[u8], dpi: Dpi, watcher: P) -> Result<Vec<u8>, Fault>
     ensures { IsJobWritten dpi job.now result }
 {
-    let mut written = Written {
-        bytes: Vec::new(alloc),
-    };
-    write_frame(&mut written.bytes)?;
-    perform(alloc, job, dpi, &mut written)?;
+    let mut bytes = Vec::new(alloc);
+    write_frame(&mut bytes)?;
+    let mut written = perform_watched(alloc, job, dpi, Written { bytes }, watcher)?;
     write_frame(&mut written.bytes)?;
     Ok(written.bytes)
 }
 
-/// Reads a job to its end, writes it again, and flushes. Nothing is written after any fault but of a write,
-/// and then a front of the job.
-pub fn filter<R: Read, W: Write>(
+/// Reads a job to its end, writes it again, and flushes; the watcher is told of each page that is done. Nothing is written
+/// after any fault but of a write, and then a front of the job.
+pub fn filter<R: Read, W: Write, P: Watcher>(
     alloc: Global,
     reader: &mut R,
     dpi: Dpi,
     out: &mut W,
+    watcher: P,
 ) -> Result<(), Fault>
     ensures { IsFiltered dpi (R.remaining reader.old) (R.remaining reader.new) (W.contents out.old) (W.contents out.new) result }
 {
     let job = read_all(alloc, reader, INPUT_LIMIT)?;
-    let output = write_job(alloc, &job, dpi)?;
+    let output = write_job(alloc, &job, dpi, watcher)?;
     write_all(out, &output)
 }
 
 /// The same with a certificate of this format (docs/CERTIFICATE.md), which is written and flushed once the whole job is.
 /// Nothing is written after any fault but of a write; then a front of the job and nothing of the certificate, or the whole job
 /// and a front of the certificate.
-pub fn filter_cert<R: Read, W: Write, C: Write>(
+pub fn filter_cert<R: Read, W: Write, C: Write, P: Watcher>(
     alloc: Global,
     reader: &mut R,
     dpi: Dpi,
     format: Format,
     out: &mut W,
     cert: &mut C,
+    watcher: P,
 ) -> Result<(), Fault>
     ensures { IsFilteredCert dpi format (R.remaining reader.old) (R.remaining reader.new) (W.contents out.old) (W.contents out.new)
         (C.contents cert.old) (C.contents cert.new) result }
 {
     let job = read_all(alloc, reader, INPUT_LIMIT)?;
-    let output = minimize(alloc, &job, dpi, format)?;
+    let output = minimize(alloc, &job, dpi, format, watcher)?;
     write_all(out, &output.job)?;
     write_all(cert, &output.certificate)
 }

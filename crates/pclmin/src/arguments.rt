@@ -6,7 +6,7 @@ ghost use Rattle.pclmin.specs.Runs.{page_of};
 
 use crate::checks::CheckedFiles;
 use clap::error::ErrorKind;
-use clap::{Arg, ArgMatches, Command, Error, value_parser};
+use clap::{Arg, ArgAction, ArgMatches, Command, Error, value_parser};
 use pcl_base::Dpi;
 use pcl_cert::Format;
 use std::alloc::{AllocError, Global};
@@ -30,6 +30,8 @@ pub struct Usage<'w> {
     pub task: Task<'w>,
     /// The resolution.
     pub dpi: Dpi,
+    /// Whether nothing is told of how far it has come.
+    pub quiet: bool,
 }
 
 impl Usage<'_> {
@@ -73,16 +75,14 @@ fn request_of<'w>(matches: &ArgMatches<'w>) -> Option<Request<'w>> {
     }
 }
 
-/// What the words of `min` or `pbm` ask for.
+/// What the words of `min` or `pbm` ask for. A preview tells nothing of how far it has come.
 fn usage_of<'w>(name: &str, command: &ArgMatches<'w>) -> Option<Usage<'w>> {
-    let task = match name {
-        "min" => min_task(command),
-        _ => Task::Preview {
-            page: command.get_one::<usize>("page")?,
-        },
+    let (task, quiet) = match name {
+        "min" => (min_task(command), command.get_flag("quiet")),
+        _ => (preview_task(command)?, true),
     };
     let dpi = resolution(command.get_one::<u16>("dpi")?)?;
-    Some(Usage { task, dpi })
+    Some(Usage { task, dpi, quiet })
 }
 
 /// What the words of `check` ask for.
@@ -92,6 +92,7 @@ fn checked_files<'w>(check: &ArgMatches<'w>) -> Option<CheckedFiles<'w>> {
         output: check.get_str("OUT")?,
         certificate: check.get_str("CERT")?,
         dpi: resolution(check.get_one::<u16>("dpi")?)?,
+        quiet: check.get_flag("quiet"),
     })
 }
 
@@ -105,6 +106,13 @@ fn min_task<'w>(min: &ArgMatches<'w>) -> Task<'w> {
         Some(file) => Task::Certify { file, format },
         None => Task::Minimize,
     }
+}
+
+/// What the words behind `pbm` ask for.
+fn preview_task<'w>(pbm: &ArgMatches<'w>) -> Option<Task<'w>> {
+    Some(Task::Preview {
+        page: pbm.get_one::<usize>("page")?,
+    })
 }
 
 /// The resolution of so many dots per inch.
@@ -151,6 +159,7 @@ fn min<'a>(alloc: Global) -> Result<Command<'a>, AllocError> {
         )
         .arg(cert)?
         .arg(format)?
+        .arg(quiet(alloc))?
         .arg(dpi(alloc))
 }
 
@@ -163,6 +172,7 @@ fn check<'a>(alloc: Global) -> Result<Command<'a>, AllocError> {
         .arg(file(alloc, "IN", "The job as it was"))?
         .arg(file(alloc, "OUT", "The job that it was written as"))?
         .arg(file(alloc, "CERT", "The certificate of the written job"))?
+        .arg(quiet(alloc))?
         .arg(dpi(alloc))
 }
 
@@ -186,6 +196,15 @@ fn pbm<'a>(alloc: Global) -> Result<Command<'a>, AllocError> {
         .about("Writes a page of the job on standard input as a PBM image (P4) to standard output")
         .arg(page)?
         .arg(dpi(alloc))
+}
+
+/// Silence, where a run would tell how far it has come.
+fn quiet<'a>(alloc: Global) -> Arg<'a> {
+    Arg::new(alloc, "quiet")
+        .short('q')
+        .long("quiet")
+        .action(ArgAction::SetTrue)
+        .help("Don't tell on a terminal how many pages are done")
 }
 
 /// The resolution, which all commands take.

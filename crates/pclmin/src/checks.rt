@@ -4,7 +4,7 @@ ghost use Rattle.pclmin.specs.Checks.{IsCheckRun, IsFileRead};
 
 use crate::verdicts::verdict_line;
 use pcl_base::Dpi;
-use pcl_tool::{Fault, INPUT_LIMIT, JobVerdict, check_job, read_all, write_bytes};
+use pcl_tool::{Fault, INPUT_LIMIT, JobVerdict, Watcher, check_job, read_all, write_bytes};
 use std::alloc::Global;
 use std::fs;
 use std::io::Write;
@@ -21,22 +21,26 @@ pub struct CheckedFiles<'w> {
     pub certificate: &'w str,
     /// The resolution.
     pub dpi: Dpi,
+    /// Whether nothing is told of how far the check has come.
+    pub quiet: bool,
 }
 
-/// Reads the files, the input first, checks the job, and writes the line of the answer. Nothing is written after any fault
-/// but of a write, and then a front of the line.
-pub fn check<F: Files, W: Write>(
+/// Reads the files, the input first, checks the job, and writes the line of the answer; the watcher is told of each page that is
+/// done, and that the last one is before the line is written. Nothing is written after any fault but of a write, and then a
+/// front of the line.
+pub fn check<F: Files, W: Write, P: Watcher>(
     files: &F,
     alloc: Global,
     asked: CheckedFiles<'_>,
     out: &mut W,
+    watcher: P,
 ) -> Result<JobVerdict, Fault>
     ensures { IsCheckRun asked.entry.dpi (W.contents out.old) (W.contents out.new) result }
 {
     let input = read_file(files, alloc, asked.input)?;
     let output = read_file(files, alloc, asked.output)?;
     let certificate = read_file(files, alloc, asked.certificate)?;
-    let verdict = check_job(alloc, &input, &output, &certificate, asked.dpi)?;
+    let verdict = check_job(alloc, &input, &output, &certificate, asked.dpi, watcher)?;
     let line = verdict_line(alloc, &verdict)?;
     write_bytes(out, &line)?;
     match out.flush() {

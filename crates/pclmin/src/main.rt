@@ -4,10 +4,12 @@
 mod arguments;
 mod checks;
 mod messages;
+mod progress;
 mod run;
 mod verdicts;
 
 use messages::USAGE_STATUS;
+use progress::Progress;
 use run::{Ending, run};
 use std::io;
 use std::process::ExitCode;
@@ -25,6 +27,7 @@ fn main(rt: HostRuntime) -> ExitCode {
             &words,
             &mut rt.reader(),
             &mut io::writer(&rt),
+            Progress::new(&rt),
         ),
         Err(_) => Ending::NoMemory,
     };

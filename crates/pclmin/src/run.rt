@@ -1,5 +1,6 @@
 //! A run: what the words of a command line ask for is done, over any reader and writer.
 
+ghost use Rattle.std.specs.Prelude.{◌≡◌, if◌then◌else◌, None, Some};
 ghost use Rattle.pclmin.specs.Runs.{HasDone, HasEnded, HasFailed, IsStatus};
 
 use crate::arguments::{Request, Task, Usage, parse_arguments};
@@ -8,7 +9,7 @@ use crate::messages::{MEMORY_STATUS, fault_line, status_of};
 use crate::verdicts::verdict_status;
 use clap::Error;
 use clap::error::ErrorKind;
-use pcl_tool::{Fault, INPUT_LIMIT, JobVerdict, filter, filter_cert, preview, read_all};
+use pcl_tool::{Fault, INPUT_LIMIT, JobVerdict, Watcher, filter, filter_cert, preview, read_all};
 use std::alloc::Global;
 use std::convert::AsStr;
 use std::fs;
@@ -45,44 +46,60 @@ impl Ending {
     }
 }
 
-/// Does what the words of a command line ask for, the program's name first, with the job that a reader gives.
-pub fn run<F: Files, S: AsStr, R: Read, W: Write>(
+/// Does what the words of a command line ask for, the program's name first, with the job that a reader gives. The watcher is told
+/// of each page that is done, unless the words ask for silence.
+pub fn run<F: Files, S: AsStr, R: Read, W: Write, P: Watcher>(
     files: &F,
     alloc: Global,
     words: &[S],
     reader: &mut R,
     out: &mut W,
+    watcher: P,
 ) -> Ending
     ensures { HasEnded (R.remaining reader.old) (R.remaining reader.new) (W.contents out.old) (W.contents out.new) result }
 {
     match parse_arguments(alloc, words) {
-        Ok(Request::Run(usage)) => match carry_out(files, alloc, usage, reader, out) {
-            Ok(()) => Ending::Done,
-            Err(fault) => failed(alloc, &fault, usage.page()),
-        },
-        Ok(Request::Check(asked)) => match check(files, alloc, asked, out) {
-            Ok(verdict) => Ending::Checked(verdict),
-            Err(fault) => failed(alloc, &fault, 0),
-        },
+        Ok(Request::Run(usage)) => {
+            let told = told_of(usage.quiet, watcher);
+            match carry_out(files, alloc, usage, reader, out, told) {
+                Ok(()) => Ending::Done,
+                Err(fault) => failed(alloc, &fault, usage.page()),
+            }
+        }
+        Ok(Request::Check(asked)) => {
+            let told = told_of(asked.quiet, watcher);
+            match check(files, alloc, asked, out, told) {
+                Ok(verdict) => Ending::Checked(verdict),
+                Err(fault) => failed(alloc, &fault, 0),
+            }
+        }
         Err(error) if error.kind() == ErrorKind::OutOfMemory => Ending::NoMemory,
         Err(error) => Ending::Shown(error),
     }
 }
 
+/// Who is told of the pages of a run: nobody where it is to be quiet.
+fn told_of<P: Watcher>(quiet: bool, watcher: P) -> Option<P>
+    ensures { result ≡ (if quiet then None else Some watcher) }
+{
+    if quiet { None } else { Some(watcher) }
+}
+
 /// Does what is asked for with the job that a reader gives. The file of a certificate is made before anything is read.
-fn carry_out<F: Files, R: Read, W: Write>(
+fn carry_out<F: Files, R: Read, W: Write, P: Watcher>(
     files: &F,
     alloc: Global,
     usage: Usage<'_>,
     reader: &mut R,
     out: &mut W,
+    watcher: P,
 ) -> Result<(), Fault>
     ensures { HasDone usage.entry (R.remaining reader.old) (R.remaining reader.new) (W.contents out.old) (W.contents out.new) result }
 {
     match usage.task {
-        Task::Minimize => filter(alloc, reader, usage.dpi, out),
+        Task::Minimize => filter(alloc, reader, usage.dpi, out, watcher),
         Task::Certify { file, format } => match fs::create(files, file) {
-            Ok(mut cert) => filter_cert(alloc, reader, usage.dpi, format, out, &mut cert),
+            Ok(mut cert) => filter_cert(alloc, reader, usage.dpi, format, out, &mut cert, watcher),
             Err(_) => Err(Fault::WriteFault),
         },
         Task::Preview { page } => {

@@ -2,8 +2,9 @@ use super::*;
 use messages::{fault_line, status_of};
 use pcl_base::{Dpi, Kind, Method, Name, Refusal};
 use pcl_cert::{CertFault, Verdict};
-use pcl_tool::{Fault, JobVerdict, filter};
+use pcl_tool::{Fault, JobVerdict, Unwatched, Watcher, filter};
 use std::alloc::Global;
+use std::cell::Cell;
 use std::fs;
 use std::io::{ErrorKind, Read, Write};
 use std::test::Fail;
@@ -64,6 +65,28 @@ impl Write for Broken {
     }
 }
 
+/// Counts what it is told.
+#[derive(Drop)]
+struct Told {
+    /// The number of pages that was told last.
+    pages: Cell<u32>,
+    /// How often pages were told.
+    times: Cell<u32>,
+    /// How often the end was.
+    ends: Cell<u32>,
+}
+
+impl Watcher for &Told {
+    fn pages_done(&self, pages: u32) {
+        self.pages.set(pages);
+        self.times.set(self.times.get().wrapping_add(1));
+    }
+
+    fn ended(&self) {
+        self.ends.set(self.ends.get().wrapping_add(1));
+    }
+}
+
 /// The words of a command line.
 fn words_of(alloc: Global, line: &str) -> Result<Vec<&str>, Fail> {
     Ok(line.split(' ').collect(alloc)?)
@@ -84,11 +107,13 @@ fn text_of(alloc: Global, ending: &Ending) -> Result<String, Fail> {
 #[test]
 fn command_lines(rt: HostRuntime) -> Result<(), Fail> {
     let alloc = rt.alloc();
-    let cases: [(&str, &[u8], u8, usize, &[u8], &str); 37] = [
+    let cases: [(&str, &[u8], u8, usize, &[u8], &str); 41] = [
         ("pclmin min", DOT, 0, 48, DOT_AT_300, ""),
         ("pclmin min --dpi 300", DOT, 0, 48, DOT_AT_300, ""),
         ("pclmin min --dpi 600", DOT, 0, 54, DOT_AT_600, ""),
         ("pclmin min --dpi=600", DOT, 0, 54, DOT_AT_600, ""),
+        ("pclmin min --quiet", DOT, 0, 48, DOT_AT_300, ""),
+        ("pclmin min -q --dpi 600", DOT, 0, 54, DOT_AT_600, ""),
         ("pclmin min", b"", 0, 4, b"\x1bE\x1bE", ""),
         ("pclmin min", TWO_PAGES, 0, 81, TWO_PAGES_AT_300, ""),
         (
@@ -205,6 +230,7 @@ fn command_lines(rt: HostRuntime) -> Result<(), Fail> {
         ("pclmin pbm --page 257", DOT, 2, 0, b"", "'257'"),
         ("pclmin pbm --page one", DOT, 2, 0, b"", "'one'"),
         ("pclmin min --page 1", DOT, 2, 0, b"", "'--page'"),
+        ("pclmin pbm --page 1 --quiet", DOT, 2, 0, b"", "'--quiet'"),
         (
             "pclmin min --dpi 200",
             DOT,
@@ -218,6 +244,7 @@ fn command_lines(rt: HostRuntime) -> Result<(), Fail> {
         ("pclmin print", DOT, 2, 0, b"", "'print'"),
         ("pclmin", DOT, 2, 0, b"", "Usage: pclmin"),
         ("pclmin --help", DOT, 0, 0, b"", "Statuses: 0 done"),
+        ("pclmin min --help", DOT, 0, 0, b"", "-q, --quiet"),
         ("pclmin pbm --help", DOT, 0, 0, b"", "Usage: pclmin pbm"),
         ("pclmin --version", DOT, 0, 0, b"", "pclmin 0.1.0"),
     ];
@@ -225,7 +252,14 @@ fn command_lines(rt: HostRuntime) -> Result<(), Fail> {
         let mut out = Held {
             bytes: Vec::new(alloc),
         };
-        let ending = run(&rt, alloc, &words_of(alloc, line)?, &mut &*job, &mut out);
+        let ending = run(
+            &rt,
+            alloc,
+            &words_of(alloc, line)?,
+            &mut &*job,
+            &mut out,
+            Unwatched,
+        );
         let text = text_of(alloc, &ending)?;
         assert_eq!(rt; ending.status(), status, "{line}: {text}");
         assert_eq!(rt; out.bytes.len(), len, "{line}");
@@ -285,7 +319,14 @@ fn certificates(rt: HostRuntime) -> Result<(), Fail> {
         let mut plain = Held {
             bytes: Vec::new(alloc),
         };
-        let ending = run(&rt, alloc, &words_of(alloc, line)?, &mut &*job, &mut out);
+        let ending = run(
+            &rt,
+            alloc,
+            &words_of(alloc, line)?,
+            &mut &*job,
+            &mut out,
+            Unwatched,
+        );
         assert_eq!(rt; ending.status(), status, "{line}");
         let certificate = fs::read(&rt, file)?;
         assert_eq!(rt; certificate.len(), len, "{line}");
@@ -295,7 +336,7 @@ fn certificates(rt: HostRuntime) -> Result<(), Fail> {
         } else {
             Dpi::Dpi300
         };
-        let _ = filter(alloc, &mut &*job, dpi, &mut plain);
+        let _ = filter(alloc, &mut &*job, dpi, &mut plain, Unwatched);
         assert_eq!(rt; out.bytes.as_slice(), plain.bytes.as_slice(), "{line}");
     }
     fs::remove_file(&rt, file)?;
@@ -316,6 +357,7 @@ fn broken_devices(rt: HostRuntime) -> Result<(), Fail> {
             &words_of(alloc, line)?,
             &mut Broken,
             &mut Broken,
+            Unwatched,
         );
         assert_eq!(rt; text_of(alloc, &ending)?.as_str(), said);
         assert_eq!(rt; ending.status(), status);
@@ -331,9 +373,66 @@ fn broken_devices(rt: HostRuntime) -> Result<(), Fail> {
             "pclmin: refused: Truncated at 0 -\n",
         ),
     ] {
-        let ending = run(&rt, alloc, &words_of(alloc, line)?, &mut &*job, &mut Broken);
+        let ending = run(
+            &rt,
+            alloc,
+            &words_of(alloc, line)?,
+            &mut &*job,
+            &mut Broken,
+            Unwatched,
+        );
         assert_eq!(rt; text_of(alloc, &ending)?.as_str(), said);
         assert_eq!(rt; ending.status(), status);
+    }
+    Ok(())
+}
+
+// How many pages are told of a run, and how often its end: of a job that is refused while it is read none, of one that is refused
+// while it is performed those before the fault; of a quiet run, a preview and a wrong command line neither. The certificate that is
+// checked is the one that `min` wrote before.
+#[test]
+fn what_is_told(rt: HostRuntime) -> Result<(), Fail> {
+    let alloc = rt.alloc();
+    fs::write(&rt, "told.in", TWO_PAGES)?;
+    fs::write(&rt, "told.out", TWO_PAGES_AT_300)?;
+    let cases: [(&str, &[u8], u8, u32, u32); 12] = [
+        ("pclmin min", TWO_PAGES, 0, 2, 1),
+        ("pclmin min", b"", 0, 0, 1),
+        ("pclmin min", b"\x0c\x1b*p70000X", 1, 0, 1),
+        ("pclmin min", b"\x0cA", 1, 1, 1),
+        ("pclmin min --quiet", TWO_PAGES, 0, 0, 0),
+        ("pclmin min --page 1", TWO_PAGES, 2, 0, 0),
+        ("pclmin pbm --page 1", TWO_PAGES, 0, 0, 0),
+        ("pclmin min -q --cert told.cert", TWO_PAGES, 0, 0, 0),
+        ("pclmin min --cert told.cert", TWO_PAGES, 0, 2, 1),
+        ("pclmin check told.in told.out told.cert", b"", 0, 2, 1),
+        ("pclmin check told.in told.out told.in", b"", 1, 2, 1),
+        ("pclmin check -q told.in told.out told.cert", b"", 0, 0, 0),
+    ];
+    for (line, job, status, pages, ends) in cases {
+        let told = Told {
+            pages: Cell::new(0),
+            times: Cell::new(0),
+            ends: Cell::new(0),
+        };
+        let mut out = Held {
+            bytes: Vec::new(alloc),
+        };
+        let ending = run(
+            &rt,
+            alloc,
+            &words_of(alloc, line)?,
+            &mut &*job,
+            &mut out,
+            &told,
+        );
+        assert_eq!(rt; ending.status(), status, "{line}");
+        assert_eq!(rt; told.pages.get(), pages, "{line}");
+        assert_eq!(rt; told.times.get(), pages, "{line}");
+        assert_eq!(rt; told.ends.get(), ends, "{line}");
+    }
+    for name in ["told.in", "told.out", "told.cert"] {
+        fs::remove_file(&rt, name)?;
     }
     Ok(())
 }
@@ -403,9 +502,11 @@ fn checks(rt: HostRuntime) -> Result<(), Fail> {
     let frame: &[u8] = b"\x1bE\x1bE";
     let line = "pclmin check check.in check.out check.cert";
     let fine = "pclmin check --dpi 600 check.in check.out check.cert";
-    let cases: [(&str, &[u8], &[u8], &[u8], u8, &str, &str); 13] = [
+    let quiet = "pclmin check --quiet check.in check.out check.cert";
+    let cases: [(&str, &[u8], &[u8], &[u8], u8, &str, &str); 14] = [
         (line, b"", frame, none, 0, "proved\n", ""),
         (fine, b"", frame, none, 0, "proved\n", ""),
+        (quiet, b"", frame, none, 0, "proved\n", ""),
         (line, b"", b"", none, 1, "not proved: frame\n", ""),
         (
             line,
@@ -497,7 +598,14 @@ fn checks(rt: HostRuntime) -> Result<(), Fail> {
         let mut out = Held {
             bytes: Vec::new(alloc),
         };
-        let ending = run(&rt, alloc, &words_of(alloc, line)?, &mut Broken, &mut out);
+        let ending = run(
+            &rt,
+            alloc,
+            &words_of(alloc, line)?,
+            &mut Broken,
+            &mut out,
+            Unwatched,
+        );
         let text = text_of(alloc, &ending)?;
         assert_eq!(rt; ending.status(), status, "{line}: {text}");
         assert_eq!(rt; out.bytes.as_slice(), written.as_bytes(), "{line}");
@@ -509,6 +617,7 @@ fn checks(rt: HostRuntime) -> Result<(), Fail> {
         &words_of(alloc, line)?,
         &mut Broken,
         &mut Broken,
+        Unwatched,
     );
     assert_eq!(rt; text_of(alloc, &ending)?.as_str(), "pclmin: cannot write\n");
     for name in ["check.in", "check.out", "check.cert"] {

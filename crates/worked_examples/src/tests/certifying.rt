@@ -4,7 +4,7 @@ use super::devices::{Held, Source};
 use super::filtering::{JOB, WRITTEN, taking};
 use pcl_base::Dpi;
 use pcl_cert::Format;
-use pcl_tool::{Fault, filter_cert, minimize};
+use pcl_tool::{Fault, Unwatched, filter_cert, minimize};
 use std::alloc::{AllocError, Global};
 use std::io::{ErrorKind, Read};
 use std::process::Abort;
@@ -35,7 +35,15 @@ fn filtered<R: Read>(
     out: &mut Held,
     cert: &mut Held,
 ) -> Result<(), Fault> {
-    filter_cert(alloc, source, Dpi::Dpi300, Format::One, out, cert)
+    filter_cert(
+        alloc,
+        source,
+        Dpi::Dpi300,
+        Format::One,
+        out,
+        cert,
+        Unwatched,
+    )
 }
 
 /// Asserts what a writer holds, and how often it was flushed.
@@ -52,14 +60,14 @@ fn assert_held(rt: &impl Abort, held: &Held, bytes: &[u8], flushes: usize, case:
 #[test]
 fn by_hand(rt: HostRuntime) -> Result<(), Fail> {
     for (format, len) in [(Format::One, 105_650), (Format::Two, 132_060)] {
-        let Ok(none) = minimize(rt.alloc(), b"", Dpi::Dpi300, format) else {
+        let Ok(none) = minimize(rt.alloc(), b"", Dpi::Dpi300, format, Unwatched) else {
             rt.abort();
         };
         assert!(rt; none.job.as_slice() == b"\x1bE\x1bE".as_slice());
         assert!(rt; none.certificate.starts_with(format.magic()));
         assert!(rt; none.certificate.ends_with(&[0, 0, 0, 0]));
         assert_eq!(rt; none.certificate.len(), 12);
-        let Ok(dot) = minimize(rt.alloc(), JOB, Dpi::Dpi300, format) else {
+        let Ok(dot) = minimize(rt.alloc(), JOB, Dpi::Dpi300, format, Unwatched) else {
             rt.abort();
         };
         assert_eq!(rt; dot.job.as_slice(), WRITTEN);

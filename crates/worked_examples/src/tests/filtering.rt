@@ -2,7 +2,7 @@
 
 use super::devices::{Held, Source};
 use pcl_base::{Dpi, Kind, Name, Refusal};
-use pcl_tool::{Fault, filter};
+use pcl_tool::{Fault, Unwatched, filter};
 use std::alloc::Global;
 use std::io::ErrorKind;
 use std::test::Fail;
@@ -39,7 +39,7 @@ fn each_read_fails(rt: HostRuntime) -> Result<(), Fail> {
                     kind,
                 };
                 let mut out = taking(rt.alloc(), usize::MAX);
-                let result = filter(rt.alloc(), &mut source, Dpi::Dpi300, &mut out);
+                let result = filter(rt.alloc(), &mut source, Dpi::Dpi300, &mut out, Unwatched);
                 if good < reads {
                     assert_eq!(rt; result, Err(Fault::ReadFault), "{most} a read, {good}");
                     assert!(rt; out.bytes.is_empty(), "{most} a read, {good}");
@@ -62,7 +62,7 @@ fn each_write_fails(rt: HostRuntime) -> Result<(), Fail> {
         for good in 0..=writes {
             let mut out = taking(rt.alloc(), most);
             out.good = Some(good);
-            let result = filter(rt.alloc(), &mut &*JOB, Dpi::Dpi300, &mut out);
+            let result = filter(rt.alloc(), &mut &*JOB, Dpi::Dpi300, &mut out, Unwatched);
             if good < writes {
                 assert_eq!(rt; result, Err(Fault::WriteFault), "{most} a write, {good}");
                 assert_eq!(rt;
@@ -84,12 +84,12 @@ fn each_write_fails(rt: HostRuntime) -> Result<(), Fail> {
 #[test]
 fn nothing_taken_and_no_flush(rt: HostRuntime) -> Result<(), Fail> {
     let mut full = taking(rt.alloc(), 0);
-    let result = filter(rt.alloc(), &mut &*JOB, Dpi::Dpi300, &mut full);
+    let result = filter(rt.alloc(), &mut &*JOB, Dpi::Dpi300, &mut full, Unwatched);
     assert_eq!(rt; result, Err(Fault::WriteFault));
     assert!(rt; full.bytes.is_empty());
     let mut stuck = taking(rt.alloc(), usize::MAX);
     stuck.flush_fails = true;
-    let result = filter(rt.alloc(), &mut &*JOB, Dpi::Dpi300, &mut stuck);
+    let result = filter(rt.alloc(), &mut &*JOB, Dpi::Dpi300, &mut stuck, Unwatched);
     assert_eq!(rt; result, Err(Fault::WriteFault));
     assert_eq!(rt; &*stuck.bytes, WRITTEN);
     assert_eq!(rt; stuck.flushes, 1);
@@ -114,7 +114,7 @@ fn nothing_of_a_refused_job(rt: HostRuntime) -> Result<(), Fail> {
     for (job, refusal) in [(&*more, too_many), (b"\x0c\x1b".as_slice(), cut)] {
         let mut out = taking(alloc, usize::MAX);
         let mut rest = job;
-        let result = filter(alloc, &mut rest, Dpi::Dpi300, &mut out);
+        let result = filter(alloc, &mut rest, Dpi::Dpi300, &mut out, Unwatched);
         assert_eq!(rt; result, Err(Fault::Refused(refusal)));
         assert!(rt; out.bytes.is_empty());
         assert_eq!(rt; out.flushes, 0);

@@ -1,4 +1,3 @@
-use Rattle.pcl_page.proofs.Jobs.{accepted_pages, has_pages}
 use Rattle.std.proofs.Common.{subst, sym}
 use Rattle.pcl_tool.specs.declared.job_verdict.JobVerdict.{JobVerdict}
 use Rattle.pcl_tool.specs.JobVerdicts.{IsJobVerdict}
@@ -6,8 +5,8 @@ use Rattle.pcl_tool.proofs.JobsChecked.{job_answered}
 use Rattle.pcl_tool.proofs.checking.check_pages.Goals as goal
 
 pub returns : goal.returns
-returns c = λ certificate format e.
-    let h = c.in_ok-perform.ensures in
+returns g c = λ certificate format e.
+    let h = c.in_ok-checker.ensures in
     subst (IsJobVerdict c.args.dpi c.args.input.now c.args.output.now certificate) (sym c.verdict.ensures)
-    (job_answered c.args.dpi c.args.input.now c.args.output.now certificate format c.args.proofs.now (accepted_pages h) _ _ (has_pages h) e
-    c.new-checker.ensures h.handed.1)
+    (job_answered c.args.dpi c.args.input.now c.args.output.now certificate format c.args.proofs.now h.0 _ _ h.1 e
+    c.new-begun.ensures h.2)
