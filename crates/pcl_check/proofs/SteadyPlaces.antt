@@ -1,13 +1,13 @@
 -- Places of rows whose numbers never grow.
-use Rattle.std.proofs.Common.{◌≡◌, ◌≢◌, ℕ, zero, suc, ◌+◌, ◌-◌, ◌/◌, ◌<◌, ◌≤◌, min, List, length, get_or, take, drop, replicate, sym, ap, ◌∙◌, inl, inr, arith}
+use Rattle.std.proofs.Common.{◌≡◌, ◌≢◌, ℕ, zero, suc, ◌+◌, ◌-◌, ◌/◌, ◌<◌, ◌≤◌, min, List, length, get_or, take, drop, replicate, refl, sym, ap, subst, ◌∙◌, inl, inr, arith}
 use Rattle.std.specs.Prelude.{slice_index}
-use Rattle.std.proofs.lemmas.Bool.{cases_lt}
-use Rattle.std.proofs.lemmas.List.{get_or-take, get_or-drop, get_or-replicate, get_or_past, length-take-le}
+use Rattle.std.proofs.lemmas.Bool.{cases_lt, cases_eq}
+use Rattle.std.proofs.lemmas.List.{ext_get_or, get_or-take, get_or-drop, get_or-replicate, get_or_past, length-take, length-take-le, length-drop, length-replicate, drop-drop, drop-take}
 use Rattle.pcl_coders.specs.Replacement.{replacement_bytes}
 use Rattle.pcl_coders.proofs.Ends.{ends_at}
 use Rattle.pcl_coders.proofs.Shapes.{near_bytes, far_bytes}
 use Rattle.pcl_check.specs.PlacePasses.{IsGoodEnd, AreGoodRuns, AreGoodLiterals, AreGoodReplacements}
-use Rattle.pcl_check.specs.SteadyNumbers.{IsSteady, IsNeedEnd, AreLeastSums, TakesBehind, IsKeptBefore}
+use Rattle.pcl_check.specs.SteadyNumbers.{IsSteady, IsNeedEnd, FallsByRun, FallsByStart, AreLeastSums, TakesBehind, IsKeptBefore}
 
 -- ---- steady numbers
 
@@ -197,3 +197,180 @@ pub replacements_past : (old row numbers : List ℕ) (end place : ℕ) → IsSte
     → AreGoodReplacements old row numbers place
 replacements_past old row numbers end place steady none past = λ offset len some few within alike.
     omega (arith, steady.falls end place past, none)
+
+-- ---- from a place to the one before
+
+-- the first bytes of a run, and the run from its second byte on
+rest_of_run : (row : List ℕ) (place count byte : ℕ) → take (suc count) (drop place row) ≡ replicate (suc count) byte
+    → take count (drop (place + 1) row) ≡ replicate count byte
+rest_of_run row place count byte alike =
+    let size : length (take (suc count) (drop place row)) ≡ suc count = ap length alike ∙ length-replicate (suc count) byte in
+    let fits : suc count ≤ length (drop place row) = omega (arith, size, length-take (suc count) (drop place row)) in
+    let one : length (take count (drop (place + 1) row)) ≡ count =
+    length-take-le count (drop (place + 1) row) (omega (arith, fits, length-drop place row, length-drop (place + 1) row)) in
+    ext_get_or 0 (take count (drop (place + 1) row)) (replicate count byte) (one ∙ sym (length-replicate count byte)) (λ k below.
+    let lt : k < count = omega (arith, one) in
+    let at : place + (k + 1) ≡ place + 1 + k = omega arith in
+    get_or-take count (drop (place + 1) row) k 0 lt ∙ get_or-drop (place + 1) row k 0 ∙ ap (slice_index row) (sym at)
+    ∙ run_byte row place (suc count) byte (k + 1) alike (omega arith) ∙ sym (get_or-replicate count k byte 0 lt))
+
+-- a run of some bytes at the place before
+runs_before : (row numbers : List ℕ) (most place : ℕ) → IsSteady numbers → FallsByRun row numbers place
+    → AreGoodRuns row numbers most (place + 1) → AreGoodRuns row numbers most place
+runs_before row numbers most place steady falls next zero byte some few inside alike = absurd (omega arith)
+runs_before row numbers most place steady falls next (suc zero) byte some few inside alike =
+    elim (cases_eq (slice_index row place) (slice_index row (place + 1))) [
+      | inr differs ↦ falls.one differs
+      | inl same ↦
+          elim (cases_eq (slice_index row (place + 1)) (slice_index row (place + 2))) [
+            | inl third ↦ omega (arith, falls.more same third)
+            | inr differs ↦ omega (arith, falls.two same differs, steady.falls (place + 1) (place + 2) (omega arith))
+          ]
+    ]
+runs_before row numbers most place steady falls next (suc (suc more)) byte some few inside alike =
+    let count : ℕ = suc more in
+    let at : place + 0 ≡ place = omega arith in
+    let there : place + 1 + count ≡ place + suc count = omega arith in
+    let first : slice_index row place ≡ byte =
+    ap (slice_index row) (sym at) ∙ run_byte row place (suc count) byte 0 alike (omega arith) in
+    let second = run_byte row place (suc count) byte 1 alike (omega arith) in
+    elim (cases_eq (slice_index row (place + 1)) (slice_index row (place + 2))) [
+      | inl third ↦
+          omega (
+            arith,
+            falls.more (first ∙ sym second) third,
+            next count byte (omega arith) (omega (arith, few)) (omega (arith, inside)) (rest_of_run row place count byte alike),
+            ap (slice_index numbers) there,
+          )
+      | inr differs ↦
+          elim (cases_lt 0 more) [
+            | inl long ↦ absurd (differs (second ∙ sym (run_byte row place (suc count) byte 2 alike (omega arith))))
+            | inr none ↦
+                let two : place + 2 ≡ place + suc count = omega arith in
+                omega (arith, falls.two (first ∙ sym second) differs, ap (slice_index numbers) two)
+          ]
+    ]
+
+pub runs_from : (row numbers : List ℕ) (most from : ℕ) → IsSteady numbers → ((k : ℕ) → k < from → FallsByRun row numbers k)
+    → ((k : ℕ) → from ≤ k → AreGoodRuns row numbers most k) → (k : ℕ) → AreGoodRuns row numbers most k
+runs_from row numbers most zero steady falls good k = good k (omega arith)
+runs_from row numbers most (suc from) steady falls good k =
+    runs_from row numbers most from steady (λ j lt. falls j (omega arith)) (λ j low.
+    elim (cases_lt from j) [
+      | inl past ↦ good j past
+      | inr at ↦
+          let same : from ≡ j = omega arith in
+          let next : suc from ≡ from + 1 = omega arith in
+          subst (AreGoodRuns row numbers most) same
+          (runs_before row numbers most from steady (falls from (omega arith)) (subst (AreGoodRuns row numbers most) next (good (suc from) (omega arith))))
+    ]) k
+
+-- what is the same from a place on, from the next place on
+rest_of_alike : (old row : List ℕ) (place offset : ℕ) → take (1 + offset) (drop place row) ≡ take (1 + offset) (drop place old)
+    → take offset (drop (place + 1) row) ≡ take offset (drop (place + 1) old)
+rest_of_alike old row place offset alike =
+    ap (take offset) (sym (drop-drop 1 place row)) ∙ sym (drop-take 1 offset (drop place row)) ∙ ap (drop 1) alike
+    ∙ drop-take 1 offset (drop place old) ∙ ap (take offset) (drop-drop 1 place old)
+
+bytes_grow : (offset : ℕ) → replacement_bytes offset ≤ replacement_bytes (1 + offset)
+bytes_grow offset = elim (cases_lt (1 + offset) 31) [
+  | inl near ↦ omega (arith, near_bytes (1 + offset) near, near_bytes offset (omega arith))
+  | inr far ↦
+      elim (cases_lt offset 31) [
+        | inl near ↦ omega (arith, near_bytes offset near, one_byte (1 + offset))
+        | inr both ↦ omega (arith, far_bytes offset both, far_bytes (1 + offset) far)
+      ]
+]
+
+-- a replacement that starts at a place that differs
+replaced_here : (numbers least : List ℕ) (end place len : ℕ) → slice_index numbers end ≡ 0 → end < length numbers
+    → AreLeastSums (take (end + 1) numbers) 8 least → place < end → 0 < len → len ≤ 8
+    → place + slice_index numbers place ≤ 1 + slice_index least (place + 1)
+    → slice_index numbers place ≤ 1 + len + slice_index numbers (place + len)
+replaced_here numbers least end place len none inside sums before some few kept =
+    elim (cases_lt end (place + len)) [
+      | inr le ↦ omega (arith, kept, front_sums numbers least end (place + 1) (place + len) inside sums (omega arith) (omega arith) le)
+      | inl lt ↦
+          omega (arith, kept, front_sums numbers least end (place + 1) end inside sums (omega arith) (omega arith) (omega arith), none)
+    ]
+
+-- one that starts at the next place or behind it undercuts more
+replaced_next : (old row numbers : List ℕ) (place offset len : ℕ) → slice_index numbers place ≤ slice_index numbers (place + 1)
+    → AreGoodReplacements old row numbers (place + 1) → 0 < len → len ≤ 8 → place + (1 + offset) + len ≤ length row
+    → take (1 + offset) (drop place row) ≡ take (1 + offset) (drop place old)
+    → slice_index numbers place ≤ replacement_bytes (1 + offset) + len + slice_index numbers (place + ((1 + offset) + len))
+replaced_next old row numbers place offset len falls next some few within alike =
+    let there : place + 1 + (offset + len) ≡ place + ((1 + offset) + len) = omega arith in
+    omega (
+      arith,
+      falls,
+      next offset len some few (omega (arith, within)) (rest_of_alike old row place offset alike),
+      bytes_grow offset,
+      ap (slice_index numbers) there,
+    )
+
+-- one that starts at a place that doesn't differ
+replaced_same : (old row numbers : List ℕ) (place len : ℕ) → slice_index numbers place ≤ slice_index numbers (place + 1)
+    → AreGoodReplacements old row numbers (place + 1) → 0 < len → len ≤ 8 → place + len ≤ length row
+    → slice_index numbers place ≤ 1 + len + slice_index numbers (place + len)
+replaced_same old row numbers place len falls next some few within =
+    elim (cases_lt 1 len) [
+      | inr one ↦ let at : place + 1 ≡ place + len = omega arith in omega (arith, falls, ap (slice_index numbers) at)
+      | inl more ↦
+          let there : place + 1 + (0 + (len - 1)) ≡ place + len = omega arith in
+          omega (
+            arith,
+            falls,
+            next 0 (len - 1) (omega arith) (omega arith) (omega (arith, within)) refl,
+            near_bytes 0 (omega arith),
+            ap (slice_index numbers) there,
+          )
+    ]
+
+-- replacements at the place before
+replacements_before : (old row numbers least : List ℕ) (end place : ℕ) → slice_index numbers end ≡ 0
+    → end < length numbers → AreLeastSums (take (end + 1) numbers) 8 least → place < end → FallsByStart old row numbers least place
+    → AreGoodReplacements old row numbers (place + 1) → AreGoodReplacements old row numbers place
+replacements_before old row numbers least end place none inside sums before falls next zero len some few within alike =
+    let at : place + len ≡ place + (0 + len) = omega arith in
+    elim (cases_eq (slice_index old place) (slice_index row place)) [
+      | inl same ↦
+          omega (
+            arith,
+            replaced_same old row numbers place len (falls.same same) next some few (omega (arith, within)),
+            one_byte 0,
+            ap (slice_index numbers) at,
+          )
+      | inr differs ↦
+          omega (
+            arith,
+            replaced_here numbers least end place len none inside sums before some few (falls.differs differs),
+            one_byte 0,
+            ap (slice_index numbers) at,
+          )
+    ]
+replacements_before old row numbers least end place none inside sums before falls next (suc offset) len some few within alike =
+    let more : suc offset ≡ 1 + offset = omega arith in
+    let here : place + 0 ≡ place = omega arith in
+    let same : slice_index old place ≡ slice_index row place =
+    ap (slice_index old) (sym here) ∙ sym (alike_at old row place (suc offset) 0 alike (omega arith)) ∙ ap (slice_index row) here in
+    subst (λ (n : ℕ). slice_index numbers place ≤ replacement_bytes n + len + slice_index numbers (place + (n + len))) (sym more)
+    (replaced_next old row numbers place offset len (falls.same same) next some few (omega (arith, within))
+    (subst (λ (n : ℕ). take n (drop place row) ≡ take n (drop place old)) more alike))
+
+pub replacements_from : (old row numbers least : List ℕ) (end from : ℕ) → slice_index numbers end ≡ 0
+    → end < length numbers → AreLeastSums (take (end + 1) numbers) 8 least → from ≤ end
+    → ((k : ℕ) → k < from → FallsByStart old row numbers least k)
+    → ((k : ℕ) → from ≤ k → AreGoodReplacements old row numbers k) → (k : ℕ) → AreGoodReplacements old row numbers k
+replacements_from old row numbers least end zero none inside sums le falls good k = good k (omega arith)
+replacements_from old row numbers least end (suc from) none inside sums le falls good k =
+    replacements_from old row numbers least end from none inside sums (omega arith) (λ j lt. falls j (omega arith)) (λ j low.
+    elim (cases_lt from j) [
+      | inl past ↦ good j past
+      | inr at ↦
+          let same : from ≡ j = omega arith in
+          let next : suc from ≡ from + 1 = omega arith in
+          subst (AreGoodReplacements old row numbers) same
+          (replacements_before old row numbers least end from none inside sums (omega arith) (falls from (omega arith))
+          (subst (AreGoodReplacements old row numbers) next (good (suc from) (omega arith))))
+    ]) k

@@ -15,6 +15,21 @@ pub record IsNeedEnd (old row numbers : List ℕ) (end : ℕ) : Type 0 where
   pub none : slice_index numbers end ≡ 0
   pub needed : 0 < end → slice_index old (end - 1) ≢ slice_index row (end - 1)
 
+-- a number falls to the next one by what a run costs where that ends, and not where it goes on; two equal bytes may be
+-- literal bytes too, so that the first number falls
+pub record FallsByRun (row numbers : List ℕ) (place : ℕ) : Type 0 where
+  pub one : slice_index row place ≢ slice_index row (place + 1) → slice_index numbers place ≤ 2 + slice_index numbers (place + 1)
+  pub two : slice_index row place ≡ slice_index row (place + 1) → slice_index row (place + 1) ≢ slice_index row (place + 2)
+      → slice_index numbers place ≤ 2 + slice_index numbers (place + 2)
+  pub more : slice_index row place ≡ slice_index row (place + 1) → slice_index row (place + 1) ≡ slice_index row (place + 2)
+      → slice_index numbers place ≤ slice_index numbers (place + 1)
+
+-- a number is at most a byte and what is least behind it where the bytes differ, and at most the next one where they don't
+pub record FallsByStart (old row numbers least : List ℕ) (place : ℕ) : Type 0 where
+  pub same : slice_index old place ≡ slice_index row place → slice_index numbers place ≤ slice_index numbers (place + 1)
+  pub differs : slice_index old place ≢ slice_index row place
+      → place + slice_index numbers place ≤ 1 + slice_index least (place + 1)
+
 -- for each place at most each sum of a number and its place, of so many places from it on
 abbrev pub AreLeastSums : List ℕ → ℕ → List ℕ → Type 0
 AreLeastSums numbers count least = (place stop : ℕ) → place ≤ stop → stop < place + count → stop < length numbers

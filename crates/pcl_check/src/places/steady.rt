@@ -4,9 +4,9 @@
 //! Where numbers never grow, of elements that cost the same the one that stops farthest undercuts a number most. So of each
 //! place and each cost one element is tested, and of the places from the first 0 on none is.
 
-ghost use Rattle.std.specs.Prelude.{◌≡◌, ℕ, ◌+◌, ◌-◌, ◌<◌, ◌≤◌, min, length, slice_index, IsTrue};
+ghost use Rattle.std.specs.Prelude.{◌≡◌, ℕ, ◌+◌, ◌-◌, ◌<◌, ◌≤◌, length, slice_index, IsTrue};
 ghost use Rattle.pcl_check.specs.PlacePasses.{IsGoodByte, AreGoodRuns, AreGoodLiterals, AreGoodReplacements};
-ghost use Rattle.pcl_check.specs.SteadyNumbers.{IsSteady, IsNeedEnd, AreLeastSums, TakesBehind, IsKeptBefore, IsGoodFor};
+ghost use Rattle.pcl_check.specs.SteadyNumbers.{IsSteady, IsNeedEnd, FallsByRun, FallsByStart, AreLeastSums, TakesBehind, IsKeptBefore, IsGoodFor};
 
 use super::PLACES;
 use pcl_base::Method;
@@ -97,8 +97,14 @@ fn are_good_runs(row: &[u8], numbers: &[u16], end: usize, most: usize) -> bool
     requires small { (length row.now ≤ 600) × (most ≤ 256) }
     ensures { IsTrue result → (place : ℕ) → AreGoodRuns row.now numbers.now most place }
 {
+    let inner = end.saturating_sub(2);
+    let from = if fall_by_runs(row, numbers, inner) {
+        inner
+    } else {
+        0
+    };
     let mut stop = end;
-    for place in (0..end).rev() {
+    for place in (from..end).rev() {
         if place + 1 < end && row[place] != row[place + 1] {
             stop = place + 1;
         }
@@ -107,6 +113,27 @@ fn are_good_runs(row: &[u8], numbers: &[u16], end: usize, most: usize) -> bool
         }
     }
     true
+}
+
+/// Whether the numbers of the places up to an end fall by what runs cost, from a place to the next.
+fn fall_by_runs(row: &[u8], numbers: &[u16], end: usize) -> bool
+    requires size { length numbers.now ≡ length row.now + 1 }
+    requires end { end ≤ length row.now - 2 }
+    requires small { (place : ℕ) → slice_index numbers.now place ≤ 1200 }
+    ensures { IsTrue result → (place : ℕ) → place < end → FallsByRun row.now numbers.now place }
+{
+    let mut excess = 0u16;
+    for place in 0..end {
+        let least = if row[place] != row[place + 1] {
+            numbers[place + 1] + 2
+        } else if row[place + 1] != row[place + 2] {
+            numbers[place + 2] + 2
+        } else {
+            numbers[place + 1]
+        };
+        excess = excess.max(numbers[place].saturating_sub(least));
+    }
+    excess == 0
 }
 
 /// Method 2: whether no literal undercuts a number.
@@ -178,6 +205,9 @@ fn are_good_replacements(old: &[u8], row: &[u8], numbers: &[u16], end: usize) ->
     let mut room = [0; PLACES];
     let least = &mut room[..end + 1];
     fill_least_of_eight(&numbers[..end + 1], least);
+    if fall_by_starts(old, row, numbers, least, end) {
+        return true;
+    }
     let mut start = end;
     for place in (0..end).rev() {
         if old[place] != row[place] {
@@ -188,6 +218,27 @@ fn are_good_replacements(old: &[u8], row: &[u8], numbers: &[u16], end: usize) ->
         }
     }
     true
+}
+
+/// Whether the numbers of the places up to an end fall by what replacements cost, from a place to the next.
+fn fall_by_starts(old: &[u8], row: &[u8], numbers: &[u16], least: &[u16], end: usize) -> bool
+    requires same { length old.now ≡ length row.now }
+    requires size { length numbers.now ≡ length row.now + 1 }
+    requires end { (end ≤ length row.now) × (length least.now ≡ end + 1) }
+    requires small { (length row.now ≤ 600) × ((place : ℕ) → slice_index numbers.now place ≤ 1200) }
+    ensures { IsTrue result → (place : ℕ) → place < end → FallsByStart old.now row.now numbers.now least.now place }
+{
+    let mut excess = 0u16;
+    for place in 0..end {
+        let sum = place as u16 + numbers[place];
+        let bound = if old[place] == row[place] {
+            place as u16 + numbers[place + 1]
+        } else {
+            least[place + 1].saturating_add(1)
+        };
+        excess = excess.max(sum.saturating_sub(bound));
+    }
+    excess == 0
 }
 
 /// Whether no replacement that starts up to a place undercuts a number. One byte spells offsets up to 30, two up to 285,
