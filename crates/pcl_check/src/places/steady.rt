@@ -1,8 +1,9 @@
-//! Tests that suffice for numbers that never grow along a row, as least numbers don't. Who isn't told yes here may have
-//! good numbers all the same.
+//! Tests that suffice for numbers that never grow along a row, as least numbers don't: whose table passes is a row table.
+//! One that doesn't may be a row table all the same.
 //!
 //! Where numbers never grow, of elements that cost the same the one that stops farthest undercuts a number most. So of each
-//! place and each cost one element is tested, and of the places from the first 0 on none is.
+//! place and each cost one element is tested, and of the places from the first 0 on none is: these need no data. Most rows
+//! pass a test of each place beside the next one, which has no branch.
 
 ghost use Rattle.std.specs.Prelude.{◌≡◌, ℕ, ◌+◌, ◌-◌, ◌<◌, ◌≤◌, length, slice_index, IsTrue};
 ghost use Rattle.pcl_check.specs.PlacePasses.{IsGoodByte, AreGoodRuns, AreGoodLiterals, AreGoodReplacements};
@@ -11,7 +12,7 @@ ghost use Rattle.pcl_check.specs.SteadyNumbers.{IsSteady, IsNeedEnd, FallsByRun,
 use super::PLACES;
 use pcl_base::Method;
 
-/// Whether no number of a row is bad, by tests that suffice where no number is above one before it.
+/// Whether all numbers of a row are good, over the row before its data comes. False says nothing.
 pub fn is_steady_table(method: Method, old: &[u8], row: &[u8], numbers: &[u16]) -> bool
     requires same { length old.now ≡ length row.now }
     requires small { length row.now ≤ 600 }
@@ -32,7 +33,7 @@ pub fn is_steady_table(method: Method, old: &[u8], row: &[u8], numbers: &[u16]) 
     }
 }
 
-/// How many numbers aren't 0.
+/// How many numbers aren't 0: where none grows, the place of the first 0.
 fn count_above_zero(numbers: &[u16]) -> usize
     requires { length numbers.now ≤ 601 }
     ensures { result ≤ length numbers.now }
@@ -46,7 +47,7 @@ fn count_above_zero(numbers: &[u16]) -> usize
     usize::from(count)
 }
 
-/// Whether the number of a place is 0, and the byte before it has to be given.
+/// Whether the number of a place is 0, and the byte before it differs from that of the row before.
 fn is_need_end(old: &[u8], row: &[u8], numbers: &[u16], end: usize) -> bool
     requires same { length old.now ≡ length row.now }
     requires size { length numbers.now ≡ length row.now + 1 }
@@ -55,7 +56,7 @@ fn is_need_end(old: &[u8], row: &[u8], numbers: &[u16], end: usize) -> bool
     end <= row.len() && numbers[end] == 0 && (end == 0 || old[end - 1] != row[end - 1])
 }
 
-/// Whether no number is above one before it, or above what least numbers can be.
+/// Whether no number is above one before it, or above what least numbers can be: two bytes for each of 600.
 fn is_steady(numbers: &[u16]) -> bool
     requires { 0 < length numbers.now }
     ensures { IsTrue result → IsSteady numbers.now }
@@ -89,7 +90,8 @@ fn greatest_fall(numbers: &[u16]) -> u16
     fall
 }
 
-/// Whether no run of at most `most` equal bytes undercuts a number.
+/// Whether no run of at most `most` equal bytes undercuts a number: at the last two places that need data, and at all where
+/// the numbers don't fall by what runs cost, by the stop that is farthest.
 fn are_good_runs(row: &[u8], numbers: &[u16], end: usize, most: usize) -> bool
     requires size { length numbers.now ≡ length row.now + 1 }
     requires end { (end ≤ length row.now) × (slice_index numbers.now end ≡ 0) }
@@ -115,7 +117,9 @@ fn are_good_runs(row: &[u8], numbers: &[u16], end: usize, most: usize) -> bool
     true
 }
 
-/// Whether the numbers of the places up to an end fall by what runs cost, from a place to the next.
+/// Whether the numbers before an end fall by at most what runs cost: by 2 where a run ends, and not where three bytes or more
+/// of it are left. With two left, the number behind both counts, since two equal bytes may be literal bytes too. This tests
+/// runs of any length, and says no where a run is longer than one element can be.
 fn fall_by_runs(row: &[u8], numbers: &[u16], end: usize) -> bool
     requires size { length numbers.now ≡ length row.now + 1 }
     requires end { end ≤ length row.now - 2 }
@@ -124,19 +128,18 @@ fn fall_by_runs(row: &[u8], numbers: &[u16], end: usize) -> bool
 {
     let mut excess = 0u16;
     for place in 0..end {
-        let least = if row[place] != row[place + 1] {
-            numbers[place + 1] + 2
-        } else if row[place + 1] != row[place + 2] {
-            numbers[place + 2] + 2
-        } else {
-            numbers[place + 1]
-        };
+        let (first, second, third) = (row[place], row[place + 1], row[place + 2]);
+        let (next, behind) = (numbers[place + 1], numbers[place + 2]);
+        let (one_run, two_bytes) = (next + 2, behind + 2);
+        let in_run = if second == third { next } else { two_bytes };
+        let least = if first == second { in_run } else { one_run };
         excess = excess.max(numbers[place].saturating_sub(least));
     }
     excess == 0
 }
 
-/// Method 2: whether no literal undercuts a number.
+/// Method 2: whether no literal undercuts a number. The least sum of a number and its place among 128 places comes from
+/// those among 8, 16, 32 and 64.
 fn are_good_literals(numbers: &[u16]) -> bool
     requires size { (0 < length numbers.now) × (length numbers.now ≤ 601) }
     requires small { (place : ℕ) → slice_index numbers.now place ≤ 1200 }
@@ -193,7 +196,8 @@ fn take_behind(least: &mut [u16], count: usize)
     }
 }
 
-/// Method 3: whether no replacement undercuts a number.
+/// Method 3: whether no replacement undercuts a number. Of each count of bytes of a command, the start is tested that is
+/// farthest: it is at the first byte that differs, or before it.
 fn are_good_replacements(old: &[u8], row: &[u8], numbers: &[u16], end: usize) -> bool
     requires same { length old.now ≡ length row.now }
     requires small { length row.now ≤ 600 }
@@ -220,7 +224,9 @@ fn are_good_replacements(old: &[u8], row: &[u8], numbers: &[u16], end: usize) ->
     true
 }
 
-/// Whether the numbers of the places up to an end fall by what replacements cost, from a place to the next.
+/// Whether the numbers before an end fall by at most what replacements cost: not at a byte that stays, since a replacement
+/// that starts behind it may also be tried at the next place, and at a byte that differs by one that starts there. This says
+/// no where an offset takes bytes of its own.
 fn fall_by_starts(old: &[u8], row: &[u8], numbers: &[u16], least: &[u16], end: usize) -> bool
     requires same { length old.now ≡ length row.now }
     requires size { length numbers.now ≡ length row.now + 1 }
@@ -231,10 +237,12 @@ fn fall_by_starts(old: &[u8], row: &[u8], numbers: &[u16], least: &[u16], end: u
     let mut excess = 0u16;
     for place in 0..end {
         let sum = place as u16 + numbers[place];
+        let kept = place as u16 + numbers[place + 1];
+        let replaced = least[place + 1].saturating_add(1);
         let bound = if old[place] == row[place] {
-            place as u16 + numbers[place + 1]
+            kept
         } else {
-            least[place + 1].saturating_add(1)
+            replaced
         };
         excess = excess.max(sum.saturating_sub(bound));
     }

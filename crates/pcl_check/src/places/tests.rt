@@ -129,17 +129,18 @@ fn raised_numbers(rt: HostRuntime) -> Result<(), Fail> {
 
 /// Raises the numbers of a row at some places, one at a time.
 fn assert_raised<C: RowCoder>(rt: &impl Abort, coder: &C, row: &[u8; 300], seed: &[u8; 300]) {
-    let method = coder.method();
     let mut numbers = [0; 301];
     coder.places(row, seed, &mut numbers);
-    assert_eq!(rt; first_bad_place(method, row, seed, &numbers), None);
+    assert_eq!(rt; first_bad_place(coder.method(), row, seed, &numbers), None);
     for place in [0, 1, 30, 40, 41, 122, 123, 249, 288, 289, 290, 300] {
-        let number = numbers[place];
-        numbers[place] = number + 1;
-        assert_eq!(rt; first_bad_place(method, row, seed, &numbers), Some(place));
-        numbers[place] = number + 1000;
-        assert_eq!(rt; first_bad_place(method, row, seed, &numbers), Some(place));
-        numbers[place] = number;
+        for more in [1, 1000] {
+            let mut raised = numbers;
+            raised[place] = numbers[place].saturating_add(more);
+            assert_eq!(rt;
+                first_bad_place(coder.method(), row, seed, &raised),
+                Some(place)
+            );
+        }
     }
 }
 
@@ -150,11 +151,20 @@ fn lowered_numbers(rt: HostRuntime) -> Result<(), Fail> {
     let seed = [0; 300];
     let mut numbers = [0; 301];
     Packed.places(&row, &seed, &mut numbers);
-    numbers[0] -= 1;
-    assert_eq!(rt; first_bad_place(Method::Packed, &row, &seed, &numbers), None);
-    numbers[1] -= 1;
-    assert_eq!(rt; first_bad_place(Method::Packed, &row, &seed, &numbers), None);
-    numbers[2] -= 3;
-    assert_eq!(rt; first_bad_place(Method::Packed, &row, &seed, &numbers), Some(0));
+    numbers[0] = numbers[0].saturating_sub(1);
+    assert_eq!(rt;
+        first_bad_place(Method::Packed, &row, &seed, &numbers),
+        None
+    );
+    numbers[1] = numbers[1].saturating_sub(1);
+    assert_eq!(rt;
+        first_bad_place(Method::Packed, &row, &seed, &numbers),
+        None
+    );
+    numbers[2] = numbers[2].saturating_sub(3);
+    assert_eq!(rt;
+        first_bad_place(Method::Packed, &row, &seed, &numbers),
+        Some(0)
+    );
     Ok(())
 }

@@ -3,7 +3,7 @@ use Rattle.std.specs.Prelude.{slice_index}
 use Rattle.std.proofs.lemmas.Bool.{cases_lt}
 use Rattle.pcl_check.specs.PlacePasses.{AreGoodRuns}
 use Rattle.pcl_check.specs.SteadyNumbers.{FallsByRun}
-use Rattle.pcl_check.proofs.SteadyPlaces.{runs_by_stop, runs_past, runs_from}
+use Rattle.pcl_check.proofs.SteadyPlaces.{runs_by_stop, runs_from}
 use Rattle.pcl_check.proofs.places.steady.are_good_runs.Goals as goal
 use Rattle.pcl_check.proofs.places.steady.are_good_runs.Goals.{then-place-end+then-row-place, else-place-end, then-fall_by_runs, else-fall_by_runs}
 
@@ -54,4 +54,5 @@ returns c said =
       | then-fall_by_runs w ↦ λ k lt. c.fall_by_runs.ensures w.if-fall_by_runs.true k (omega (arith, w.from-is, lt))
       | else-fall_by_runs w ↦ λ k lt. absurd (omega (arith, w.from-is, lt))
     ] in
-    runs_from row numbers c.args.most from c.requires.steady falls (λ k low. c.loop-place.invariant.good k (omega (arith, c.loop-place-test.false, low)))
+    runs_from row numbers c.args.most from c.requires.steady falls
+    (λ k low. c.loop-place.invariant.good k (omega (arith, c.loop-place-test.false, low)))
