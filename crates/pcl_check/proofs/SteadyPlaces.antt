@@ -247,7 +247,16 @@ runs_before row numbers most place steady falls next (suc (suc more)) byte some 
             | inl long ↦ absurd (differs (second ∙ sym (run_byte row place (suc count) byte 2 alike (omega arith))))
             | inr none ↦
                 let two : place + 2 ≡ place + suc count = omega arith in
-                omega (arith, falls.two (first ∙ sym second) differs, ap (slice_index numbers) two)
+                let last : place + 1 + 1 ≡ place + suc count = omega arith in
+                let one : count ≡ 1 = omega (arith, none) in
+                omega (
+                  arith,
+                  falls.two (first ∙ sym second) differs,
+                  next 1 byte (omega arith) (omega (arith, few)) (omega (arith, inside))
+                      (subst (λ (n : ℕ). take n (drop (place + 1) row) ≡ replicate n byte) one (rest_of_run row place count byte alike)),
+                  ap (slice_index numbers) two,
+                  ap (slice_index numbers) last,
+                )
           ]
     ]
 

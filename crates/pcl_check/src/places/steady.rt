@@ -5,7 +5,7 @@
 //! place and each cost one element is tested, and of the places from the first 0 on none is: these need no data. Most rows
 //! pass a test of each place beside the next one, which has no branch.
 
-ghost use Rattle.std.specs.Prelude.{◌≡◌, ℕ, ◌+◌, ◌-◌, ◌<◌, ◌≤◌, length, slice_index, IsTrue};
+ghost use Rattle.std.specs.Prelude.{◌≡◌, ◌≢◌, ℕ, ◌+◌, ◌-◌, ◌<◌, ◌≤◌, length, slice_index, IsTrue};
 ghost use Rattle.pcl_check.specs.PlacePasses.{IsGoodByte, AreGoodRuns, AreGoodLiterals, AreGoodReplacements};
 ghost use Rattle.pcl_check.specs.SteadyNumbers.{IsSteady, IsNeedEnd, FallsByRun, FallsByStart, AreLeastSums, TakesBehind, IsKeptBefore, IsGoodFor};
 
@@ -117,25 +117,32 @@ fn are_good_runs(row: &[u8], numbers: &[u16], end: usize, most: usize) -> bool
     true
 }
 
-/// Whether the numbers before an end fall by at most what runs cost: by 2 where a run ends, and not where three bytes or more
-/// of it are left. With two left, the number behind both counts, since two equal bytes may be literal bytes too. This tests
-/// runs of any length, and says no where a run is longer than one element can be.
+/// Whether each number before an end is at most the next one, or the one behind that, and what a run costs that ends there:
+/// with two equal bytes left, the number behind both counts, since they may be literal bytes too. This tests runs of any
+/// length, and says no where a run is longer than one element can be.
 fn fall_by_runs(row: &[u8], numbers: &[u16], end: usize) -> bool
     requires size { length numbers.now ≡ length row.now + 1 }
     requires end { end ≤ length row.now - 2 }
-    requires small { (place : ℕ) → slice_index numbers.now place ≤ 1200 }
+    requires steady { IsSteady numbers.now }
     ensures { IsTrue result → (place : ℕ) → place < end → FallsByRun row.now numbers.now place }
 {
     let mut excess = 0u16;
     for place in 0..end {
-        let (first, second, third) = (row[place], row[place + 1], row[place + 2]);
-        let (next, behind) = (numbers[place + 1], numbers[place + 2]);
-        let (one_run, two_bytes) = (next + 2, behind + 2);
-        let in_run = if second == third { next } else { two_bytes };
-        let least = if first == second { in_run } else { one_run };
+        let next = numbers[place + 1] + run_cost(row[place], row[place + 1]);
+        let behind = numbers[place + 2] + run_cost(row[place + 1], row[place + 2]);
+        let least = next.max(behind);
         excess = excess.max(numbers[place].saturating_sub(least));
     }
     excess == 0
+}
+
+/// What a run costs that ends between two bytes, if it does.
+#[inline(always)]
+fn run_cost(byte: u8, next: u8) -> u16
+    ensures ends { byte ≢ next → result ≡ 2 }
+    ensures goes_on { byte ≡ next → result ≡ 0 }
+{
+    if byte == next { 0 } else { 2 }
 }
 
 /// Method 2: whether no literal undercuts a number. The least sum of a number and its place among 128 places comes from
