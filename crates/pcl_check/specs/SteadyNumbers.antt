@@ -1,5 +1,5 @@
 -- Numbers that never grow along a row, and what is tested of them. Only contracts of private functions cite this.
-use Rattle.std.specs.Prelude.{◌≡◌, ◌≢◌, ℕ, ◌+◌, ◌-◌, ◌<◌, ◌≤◌, List, length, slice_index}
+use Rattle.std.specs.Prelude.{◌≡◌, ◌≢◌, ℕ, ◌+◌, ◌-◌, ◌<◌, ◌≤◌, max, List, length, slice_index}
 use Rattle.pcl_base.specs.declared.method.Method.{Method}
 use Rattle.pcl_coders.specs.Replacement.{replacement_bytes}
 use Rattle.pcl_check.specs.PlacePasses.{IsGoodEnd, AreGoodSteps}
@@ -14,6 +14,21 @@ pub record IsNeedEnd (old row numbers : List ℕ) (end : ℕ) : Type 0 where
   pub within : end ≤ length row
   pub none : slice_index numbers end ≡ 0
   pub needed : 0 < end → slice_index old (end - 1) ≢ slice_index row (end - 1)
+
+-- a number falls to the next one by what a run costs where that ends, and not where it goes on; of two equal bytes, which may
+-- be literal bytes too, the number may fall to the one behind both
+pub record FallsByRun (row numbers : List ℕ) (place : ℕ) : Type 0 where
+  pub one : slice_index row place ≢ slice_index row (place + 1) → slice_index numbers place ≤ 2 + slice_index numbers (place + 1)
+  pub two : slice_index row place ≡ slice_index row (place + 1) → slice_index row (place + 1) ≢ slice_index row (place + 2)
+      → slice_index numbers place ≤ max (slice_index numbers (place + 1)) (2 + slice_index numbers (place + 2))
+  pub more : slice_index row place ≡ slice_index row (place + 1) → slice_index row (place + 1) ≡ slice_index row (place + 2)
+      → slice_index numbers place ≤ slice_index numbers (place + 1)
+
+-- a number is at most a byte and what is least behind it where the bytes differ, and at most the next one where they don't
+pub record FallsByStart (old row numbers least : List ℕ) (place : ℕ) : Type 0 where
+  pub same : slice_index old place ≡ slice_index row place → slice_index numbers place ≤ slice_index numbers (place + 1)
+  pub differs : slice_index old place ≢ slice_index row place
+      → place + slice_index numbers place ≤ 1 + slice_index least (place + 1)
 
 -- for each place at most each sum of a number and its place, of so many places from it on
 abbrev pub AreLeastSums : List ℕ → ℕ → List ℕ → Type 0

@@ -1,17 +1,18 @@
-//! Tests that suffice for numbers that never grow along a row, as least numbers don't. Who isn't told yes here may have
-//! good numbers all the same.
+//! Tests that suffice for numbers that never grow along a row, as least numbers don't: whose table passes is a row table.
+//! One that doesn't may be a row table all the same.
 //!
 //! Where numbers never grow, of elements that cost the same the one that stops farthest undercuts a number most. So of each
-//! place and each cost one element is tested, and of the places from the first 0 on none is.
+//! place and each cost one element is tested, and of the places from the first 0 on none is: these need no data. Most rows
+//! pass a test of each place beside the next one, which has no branch.
 
-ghost use Rattle.std.specs.Prelude.{◌≡◌, ℕ, ◌+◌, ◌-◌, ◌<◌, ◌≤◌, min, length, slice_index, IsTrue};
+ghost use Rattle.std.specs.Prelude.{◌≡◌, ◌≢◌, ℕ, ◌+◌, ◌-◌, ◌<◌, ◌≤◌, length, slice_index, IsTrue};
 ghost use Rattle.pcl_check.specs.PlacePasses.{IsGoodByte, AreGoodRuns, AreGoodLiterals, AreGoodReplacements};
-ghost use Rattle.pcl_check.specs.SteadyNumbers.{IsSteady, IsNeedEnd, AreLeastSums, TakesBehind, IsKeptBefore, IsGoodFor};
+ghost use Rattle.pcl_check.specs.SteadyNumbers.{IsSteady, IsNeedEnd, FallsByRun, FallsByStart, AreLeastSums, TakesBehind, IsKeptBefore, IsGoodFor};
 
 use super::PLACES;
 use pcl_base::Method;
 
-/// Whether no number of a row is bad, by tests that suffice where no number is above one before it.
+/// Whether all numbers of a row are good, over the row before its data comes. False says nothing.
 pub fn is_steady_table(method: Method, old: &[u8], row: &[u8], numbers: &[u16]) -> bool
     requires same { length old.now ≡ length row.now }
     requires small { length row.now ≤ 600 }
@@ -32,7 +33,7 @@ pub fn is_steady_table(method: Method, old: &[u8], row: &[u8], numbers: &[u16]) 
     }
 }
 
-/// How many numbers aren't 0.
+/// How many numbers aren't 0: where none grows, the place of the first 0.
 fn count_above_zero(numbers: &[u16]) -> usize
     requires { length numbers.now ≤ 601 }
     ensures { result ≤ length numbers.now }
@@ -46,7 +47,7 @@ fn count_above_zero(numbers: &[u16]) -> usize
     usize::from(count)
 }
 
-/// Whether the number of a place is 0, and the byte before it has to be given.
+/// Whether the number of a place is 0, and the byte before it differs from that of the row before.
 fn is_need_end(old: &[u8], row: &[u8], numbers: &[u16], end: usize) -> bool
     requires same { length old.now ≡ length row.now }
     requires size { length numbers.now ≡ length row.now + 1 }
@@ -55,7 +56,7 @@ fn is_need_end(old: &[u8], row: &[u8], numbers: &[u16], end: usize) -> bool
     end <= row.len() && numbers[end] == 0 && (end == 0 || old[end - 1] != row[end - 1])
 }
 
-/// Whether no number is above one before it, or above what least numbers can be.
+/// Whether no number is above one before it, or above what least numbers can be: two bytes for each of 600.
 fn is_steady(numbers: &[u16]) -> bool
     requires { 0 < length numbers.now }
     ensures { IsTrue result → IsSteady numbers.now }
@@ -89,7 +90,8 @@ fn greatest_fall(numbers: &[u16]) -> u16
     fall
 }
 
-/// Whether no run of at most `most` equal bytes undercuts a number.
+/// Whether no run of at most `most` equal bytes undercuts a number: at the last two places that need data, and at all where
+/// the numbers don't fall by what runs cost, by the stop that is farthest.
 fn are_good_runs(row: &[u8], numbers: &[u16], end: usize, most: usize) -> bool
     requires size { length numbers.now ≡ length row.now + 1 }
     requires end { (end ≤ length row.now) × (slice_index numbers.now end ≡ 0) }
@@ -97,8 +99,14 @@ fn are_good_runs(row: &[u8], numbers: &[u16], end: usize, most: usize) -> bool
     requires small { (length row.now ≤ 600) × (most ≤ 256) }
     ensures { IsTrue result → (place : ℕ) → AreGoodRuns row.now numbers.now most place }
 {
+    let inner = end.saturating_sub(2);
+    let from = if fall_by_runs(row, numbers, inner) {
+        inner
+    } else {
+        0
+    };
     let mut stop = end;
-    for place in (0..end).rev() {
+    for place in (from..end).rev() {
         if place + 1 < end && row[place] != row[place + 1] {
             stop = place + 1;
         }
@@ -109,7 +117,36 @@ fn are_good_runs(row: &[u8], numbers: &[u16], end: usize, most: usize) -> bool
     true
 }
 
-/// Method 2: whether no literal undercuts a number.
+/// Whether each number before an end is at most the next one, or the one behind that, and what a run costs that ends there:
+/// with two equal bytes left, the number behind both counts, since they may be literal bytes too. This tests runs of any
+/// length, and says no where a run is longer than one element can be.
+fn fall_by_runs(row: &[u8], numbers: &[u16], end: usize) -> bool
+    requires size { length numbers.now ≡ length row.now + 1 }
+    requires end { end ≤ length row.now - 2 }
+    requires steady { IsSteady numbers.now }
+    ensures { IsTrue result → (place : ℕ) → place < end → FallsByRun row.now numbers.now place }
+{
+    let mut excess = 0u16;
+    for place in 0..end {
+        let next = numbers[place + 1] + run_cost(row[place], row[place + 1]);
+        let behind = numbers[place + 2] + run_cost(row[place + 1], row[place + 2]);
+        let least = next.max(behind);
+        excess = excess.max(numbers[place].saturating_sub(least));
+    }
+    excess == 0
+}
+
+/// What a run costs that ends between two bytes, if it does.
+#[inline(always)]
+fn run_cost(byte: u8, next: u8) -> u16
+    ensures ends { byte ≢ next → result ≡ 2 }
+    ensures goes_on { byte ≡ next → result ≡ 0 }
+{
+    if byte == next { 0 } else { 2 }
+}
+
+/// Method 2: whether no literal undercuts a number. The least sum of a number and its place among 128 places comes from
+/// those among 8, 16, 32 and 64.
 fn are_good_literals(numbers: &[u16]) -> bool
     requires size { (0 < length numbers.now) × (length numbers.now ≤ 601) }
     requires small { (place : ℕ) → slice_index numbers.now place ≤ 1200 }
@@ -166,7 +203,8 @@ fn take_behind(least: &mut [u16], count: usize)
     }
 }
 
-/// Method 3: whether no replacement undercuts a number.
+/// Method 3: whether no replacement undercuts a number. Of each count of bytes of a command, the start is tested that is
+/// farthest: it is at the first byte that differs, or before it.
 fn are_good_replacements(old: &[u8], row: &[u8], numbers: &[u16], end: usize) -> bool
     requires same { length old.now ≡ length row.now }
     requires small { length row.now ≤ 600 }
@@ -178,6 +216,9 @@ fn are_good_replacements(old: &[u8], row: &[u8], numbers: &[u16], end: usize) ->
     let mut room = [0; PLACES];
     let least = &mut room[..end + 1];
     fill_least_of_eight(&numbers[..end + 1], least);
+    if fall_by_starts(old, row, numbers, least, end) {
+        return true;
+    }
     let mut start = end;
     for place in (0..end).rev() {
         if old[place] != row[place] {
@@ -188,6 +229,31 @@ fn are_good_replacements(old: &[u8], row: &[u8], numbers: &[u16], end: usize) ->
         }
     }
     true
+}
+
+/// Whether the numbers before an end fall by at most what replacements cost: not at a byte that stays, since a replacement
+/// that starts behind it may also be tried at the next place, and at a byte that differs by one that starts there. This says
+/// no where an offset takes bytes of its own.
+fn fall_by_starts(old: &[u8], row: &[u8], numbers: &[u16], least: &[u16], end: usize) -> bool
+    requires same { length old.now ≡ length row.now }
+    requires size { length numbers.now ≡ length row.now + 1 }
+    requires end { (end ≤ length row.now) × (length least.now ≡ end + 1) }
+    requires small { (length row.now ≤ 600) × ((place : ℕ) → slice_index numbers.now place ≤ 1200) }
+    ensures { IsTrue result → (place : ℕ) → place < end → FallsByStart old.now row.now numbers.now least.now place }
+{
+    let mut excess = 0u16;
+    for place in 0..end {
+        let sum = place as u16 + numbers[place];
+        let kept = place as u16 + numbers[place + 1];
+        let replaced = least[place + 1].saturating_add(1);
+        let bound = if old[place] == row[place] {
+            kept
+        } else {
+            replaced
+        };
+        excess = excess.max(sum.saturating_sub(bound));
+    }
+    excess == 0
 }
 
 /// Whether no replacement that starts up to a place undercuts a number. One byte spells offsets up to 30, two up to 285,

@@ -1,5 +1,7 @@
 use crate::first_bad_place;
 use pcl_base::Method;
+use pcl_coders::{Delta, Packed, Plain, RowCoder, Runs};
+use std::process::Abort;
 use std::test::Fail;
 
 /// A row of one dot below a white row, and a white row below that one: their least numbers are row tables, and a number that is
@@ -92,6 +94,76 @@ fn far_stops(rt: HostRuntime) -> Result<(), Fail> {
     starts[0] = 7;
     assert_eq!(rt;
         first_bad_place(Method::Delta, &far, &white, &starts),
+        Some(0)
+    );
+    Ok(())
+}
+
+/// A row of literal bytes and repeats over another one, at whose ends white rows stand.
+fn mixed_row() -> [u8; 300] {
+    let mut row = [0; 300];
+    for place in 3..290 {
+        row[place] = match place {
+            20..=30 => 0x55,
+            40..=41 => 0xaa,
+            60..=250 => 0xff,
+            _ => (place % 251 + 1) as u8,
+        };
+    }
+    row
+}
+
+/// Numbers of coders never grow, and are row tables by each method. One that is raised by 1 is the first bad one, at the first
+/// place, in the middle, and at the last places; so is one that is raised to more than the one before it, or behind all that is
+/// needed.
+#[test]
+fn raised_numbers(rt: HostRuntime) -> Result<(), Fail> {
+    let row = mixed_row();
+    let seed = [0; 300];
+    assert_raised(&rt, &Plain, &row, &seed);
+    assert_raised(&rt, &Runs, &row, &seed);
+    assert_raised(&rt, &Packed, &row, &seed);
+    assert_raised(&rt, &Delta, &row, &seed);
+    Ok(())
+}
+
+/// Raises the numbers of a row at some places, one at a time.
+fn assert_raised<C: RowCoder>(rt: &impl Abort, coder: &C, row: &[u8; 300], seed: &[u8; 300]) {
+    let mut numbers = [0; 301];
+    coder.places(row, seed, &mut numbers);
+    assert_eq!(rt; first_bad_place(coder.method(), row, seed, &numbers), None);
+    for place in [0, 1, 30, 40, 41, 122, 123, 249, 288, 289, 290, 300] {
+        for more in [1, 1000] {
+            let mut raised = numbers;
+            raised[place] = numbers[place].saturating_add(more);
+            assert_eq!(rt;
+                first_bad_place(coder.method(), row, seed, &raised),
+                Some(place)
+            );
+        }
+    }
+}
+
+/// Lower numbers may be row tables too, whether they grow along the row or not.
+#[test]
+fn lowered_numbers(rt: HostRuntime) -> Result<(), Fail> {
+    let row = mixed_row();
+    let seed = [0; 300];
+    let mut numbers = [0; 301];
+    Packed.places(&row, &seed, &mut numbers);
+    numbers[0] = numbers[0].saturating_sub(1);
+    assert_eq!(rt;
+        first_bad_place(Method::Packed, &row, &seed, &numbers),
+        None
+    );
+    numbers[1] = numbers[1].saturating_sub(1);
+    assert_eq!(rt;
+        first_bad_place(Method::Packed, &row, &seed, &numbers),
+        None
+    );
+    numbers[2] = numbers[2].saturating_sub(3);
+    assert_eq!(rt;
+        first_bad_place(Method::Packed, &row, &seed, &numbers),
         Some(0)
     );
     Ok(())

@@ -1,8 +1,8 @@
-use Rattle.std.proofs.Common.{◌≡◌, ◌≢◌, ℕ, ◌+◌, ◌-◌, ◌<◌, ◌≤◌, length, sym, ap, subst, ◌∙◌, inl, inr, arith}
+use Rattle.std.proofs.Common.{◌≡◌, ◌≢◌, ℕ, ◌+◌, ◌-◌, ◌<◌, ◌≤◌, sym, ap, subst, ◌∙◌, inl, inr, arith}
 use Rattle.std.specs.Prelude.{slice_index}
 use Rattle.std.proofs.lemmas.Bool.{cases_lt}
 use Rattle.pcl_check.specs.PlacePasses.{AreGoodReplacements}
-use Rattle.pcl_check.proofs.SteadyPlaces.{replacements_by_start}
+use Rattle.pcl_check.proofs.SteadyPlaces.{replacements_by_start, replacements_past, replacements_from}
 use Rattle.pcl_check.proofs.places.steady.are_good_replacements.Goals as goal
 use Rattle.pcl_check.proofs.places.steady.are_good_replacements.Goals.{then-old-place, else-old-place}
 
@@ -39,7 +39,7 @@ loop-place-preserved c =
             subst (λ (n : ℕ). slice_index old n ≢ slice_index row n) same (c.loop-place.invariant.differs before),
           )
     ] in
-    let here = replacements_by_start old row c.fill_least_of_eight.new.least c.requires.steady
+    let here = replacements_by_start old row numbers c.fill_least_of_eight.new.least end place start c.requires.steady
     c.requires.end.none (omega (arith, c.requires.end.within, c.requires.size)) c.fill_least_of_eight.ensures.sums is.0 is.1 is.2
     (c.is_kept_before.ensures c.if-not-is_kept_before.false) in
     record {
@@ -52,3 +52,14 @@ loop-place-preserved c =
             | inr at ↦ let same : place ≡ k = omega arith in subst (AreGoodReplacements old row numbers) same here
           ];
     }
+
+pub returns-then-fall_by_starts : goal.returns-then-fall_by_starts
+returns-then-fall_by_starts c said =
+    let old = c.args.old.now in
+    let row = c.args.row.now in
+    let numbers = c.args.numbers.now in
+    let end = c.args.end in
+    let none = c.requires.end.none in
+    replacements_from old row numbers c.fill_least_of_eight.new.least end end none (omega (arith, c.requires.end.within, c.requires.size))
+    c.fill_least_of_eight.ensures.sums (omega arith) (c.fall_by_starts.ensures c.if-fall_by_starts.true)
+    (λ k past. replacements_past old row numbers end k c.requires.steady none past)

@@ -2,9 +2,10 @@ use Rattle.std.proofs.Common.{◌≡◌, ◌≢◌, ℕ, ◌+◌, ◌-◌, ◌<�
 use Rattle.std.specs.Prelude.{slice_index}
 use Rattle.std.proofs.lemmas.Bool.{cases_lt}
 use Rattle.pcl_check.specs.PlacePasses.{AreGoodRuns}
-use Rattle.pcl_check.proofs.SteadyPlaces.{runs_by_stop}
+use Rattle.pcl_check.specs.SteadyNumbers.{FallsByRun}
+use Rattle.pcl_check.proofs.SteadyPlaces.{runs_by_stop, runs_from}
 use Rattle.pcl_check.proofs.places.steady.are_good_runs.Goals as goal
-use Rattle.pcl_check.proofs.places.steady.are_good_runs.Goals.{then-place-end+then-row-place, else-place-end}
+use Rattle.pcl_check.proofs.places.steady.are_good_runs.Goals.{then-place-end+then-row-place, else-place-end, then-fall_by_runs, else-fall_by_runs}
 
 pub loop-place-preserved : goal.loop-place-preserved
 loop-place-preserved c =
@@ -31,7 +32,7 @@ loop-place-preserved c =
     ] in
     let kept : slice_index numbers place ≤ 2 + slice_index numbers (min stop (place + c.args.most)) =
     omega (arith, c.if-numbers-place.false, ap (slice_index numbers) c.min.ensures) in
-    let here = runs_by_stop row stop c.requires.steady c.requires.end.1 is.0 is.1 is.2 kept in
+    let here = runs_by_stop row numbers c.args.most c.args.end stop place c.requires.steady c.requires.end.1 is.0 is.1 is.2 kept in
     record {
       order = omega (arith, is.0);
       within = is.1;
@@ -42,3 +43,16 @@ loop-place-preserved c =
             | inr at ↦ let same : place ≡ k = omega arith in subst (AreGoodRuns row numbers c.args.most) same here
           ];
     }
+
+pub returns : goal.returns
+returns c said =
+    let row = c.args.row.now in
+    let numbers = c.args.numbers.now in
+    let from : ℕ = c.if-fall_by_runs.from in
+    let falls : (k : ℕ) → k < from → FallsByRun row numbers k =
+    elim c.if-fall_by_runs.branch [
+      | then-fall_by_runs w ↦ λ k lt. c.fall_by_runs.ensures w.if-fall_by_runs.true k (omega (arith, w.from-is, lt))
+      | else-fall_by_runs w ↦ λ k lt. absurd (omega (arith, w.from-is, lt))
+    ] in
+    runs_from row numbers c.args.most from c.requires.steady falls
+    (λ k low. c.loop-place.invariant.good k (omega (arith, c.loop-place-test.false, low)))

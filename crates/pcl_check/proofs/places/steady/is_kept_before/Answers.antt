@@ -1,5 +1,5 @@
-use Rattle.std.proofs.Common.{ℕ, ◌+◌, ◌≤◌, inl, inr, arith}
-use Rattle.std.proofs.lemmas.Bool.{cases_lt, leb-true}
+use Rattle.std.proofs.Common.{◌+◌, ◌≤◌, inl, inr, arith}
+use Rattle.std.proofs.lemmas.Bool.{cases_lt}
 use Rattle.pcl_check.proofs.SteadyPlaces.{kept_by, one_byte, more_bytes}
 use Rattle.pcl_check.proofs.places.steady.is_kept_before.Goals as goal
 
