@@ -55,86 +55,86 @@ pub record BeginsAs (dpi : Dpi) (text : List ℕ) (copies : ℕ) (size : Size) (
   pub few : copies < 100
   pub text_is : text ≡ start_bytes dpi copies size ++ rest
 
-begins_as : (dpi : Dpi) (text : List ℕ) (copies : ℕ) (size : Size) (rest : List ℕ) → BeginsAs dpi text copies size rest
+begins_as : {dpi : Dpi} {text : List ℕ} {copies : ℕ} {size : Size} {rest : List ℕ} → BeginsAs dpi text copies size rest
     → text ≡ first_bytes ++ (decimal copies ++ 120 ∷ (decimal (code_of size) ++ 97 ∷ (raster_start size dpi ++ rest)))
-begins_as dpi text copies size rest is = is.text_is ∙ start_is dpi copies size rest
+begins_as {dpi} {copies} {size} {rest} is = is.text_is ∙ start_is dpi copies size rest
 
-pub no_copies : (dpi : Dpi) (text front : List ℕ) (copies : ℕ) (size : Size) (rest : List ℕ) → text ≡ first_bytes ++ front
+pub no_copies : (dpi : Dpi) {text front : List ℕ} (copies : ℕ) (size : Size) (rest : List ℕ) → text ≡ first_bytes ++ front
     → ((n : ℕ) (more : List ℕ) → n ≤ 65535 → front ≡ decimal n ++ 120 ∷ more → ⊥) → BeginsAs dpi text copies size rest → ⊥
-no_copies dpi text front copies size rest e none is =
+no_copies dpi {front} copies size rest e none is =
     none copies (decimal (code_of size) ++ 97 ∷ (raster_start size dpi ++ rest)) (omega (arith, is.few))
     (append_cancel_left first_bytes front (decimal copies ++ 120 ∷ (decimal (code_of size) ++ 97 ∷ (raster_start size dpi ++ rest)))
-    (sym e ∙ begins_as dpi text copies size rest is))
+    (sym e ∙ begins_as is))
 
-pub copies_read : (dpi : Dpi) (text : List ℕ) (n : ℕ) (more : List ℕ) (copies : ℕ) (size : Size) (rest : List ℕ) → IsCopies text n more
+pub copies_read : {dpi : Dpi} {text : List ℕ} {n : ℕ} {more : List ℕ} {copies : ℕ} {size : Size} {rest : List ℕ} → IsCopies text n more
     → BeginsAs dpi text copies size rest
     → (n ≡ copies) × (more ≡ decimal (code_of size) ++ 97 ∷ (raster_start size dpi ++ rest))
-copies_read dpi text n more copies size rest read is =
+copies_read {dpi} {n} {more} {copies} {size} {rest} read is =
     same_front n copies 120 more (decimal (code_of size) ++ 97 ∷ (raster_start size dpi ++ rest)) read.few (omega (arith, is.few)) refl
     (append_cancel_left first_bytes (decimal n ++ 120 ∷ more)
     (decimal copies ++ 120 ∷ (decimal (code_of size) ++ 97 ∷ (raster_start size dpi ++ rest)))
-    (sym read.text_is ∙ begins_as dpi text copies size rest is))
+    (sym read.text_is ∙ begins_as is))
 
-pub no_code : (dpi : Dpi) (text : List ℕ) (n : ℕ) (more : List ℕ) (copies : ℕ) (size : Size) (rest : List ℕ) → IsCopies text n more
+pub no_code : (dpi : Dpi) {text : List ℕ} {n : ℕ} {more : List ℕ} (copies : ℕ) (size : Size) (rest : List ℕ) → IsCopies text n more
     → ((code : ℕ) (behind : List ℕ) → code ≤ 65535 → more ≡ decimal code ++ 97 ∷ behind → ⊥) → BeginsAs dpi text copies size rest → ⊥
-no_code dpi text n more copies size rest read none is =
-    none (code_of size) (raster_start size dpi ++ rest) (code_small size) (copies_read dpi text n more copies size rest read is).1
+no_code dpi copies size rest read none is =
+    none (code_of size) (raster_start size dpi ++ rest) (code_small size) (copies_read read is).1
 
 pub record IsRead (dpi : Dpi) (n code : ℕ) (more : List ℕ) (copies : ℕ) (size : Size) (rest : List ℕ) : Type 0 where
   pub copies_are : n ≡ copies
   pub code_is : code ≡ code_of size
   pub more_is : more ≡ raster_start size dpi ++ rest
 
-pub size_read : (dpi : Dpi) (text : List ℕ) (n code : ℕ) (more : List ℕ) (copies : ℕ) (size : Size) (rest : List ℕ)
+pub size_read : {dpi : Dpi} {text : List ℕ} {n code : ℕ} {more : List ℕ} {copies : ℕ} {size : Size} {rest : List ℕ}
     → IsSize text n code more → BeginsAs dpi text copies size rest → IsRead dpi n code more copies size rest
-size_read dpi text n code more copies size rest read is =
-    let first = copies_read dpi text n (decimal code ++ 97 ∷ more) copies size rest
+size_read {dpi} {code} {more} {size} {rest} read is =
+    let first = copies_read
     (record { few = read.few; text_is = read.text_is }) is in
     let second = same_front code (code_of size) 97 more (raster_start size dpi ++ rest) read.small
     (let small = code_small size in omega arith) refl first.1 in
     record { copies_are = first.0; code_is = second.0; more_is = second.1 }
 
-pub no_size : (dpi : Dpi) (text : List ℕ) (n code : ℕ) (more : List ℕ) (copies : ℕ) (size : Size) (rest : List ℕ)
+pub no_size : (dpi : Dpi) {text : List ℕ} {n code : ℕ} {more : List ℕ} (copies : ℕ) (size : Size) (rest : List ℕ)
     → IsSize text n code more → size_with_code code ≡ None → BeginsAs dpi text copies size rest → ⊥
-no_size dpi text n code more copies size rest read none is =
-    let found = size_read dpi text n code more copies size rest read is in
+no_size dpi copies size rest read none is =
+    let found = size_read read is in
     let some : Some size ≡ None = sym (size_coded size) ∙ ap size_with_code (sym found.code_is) ∙ none in cc
 
-pub same_size : (dpi : Dpi) (text : List ℕ) (n code : ℕ) (more : List ℕ) (copies : ℕ) (size found : Size) (rest : List ℕ)
+pub same_size : {dpi : Dpi} {text : List ℕ} {n code : ℕ} {more : List ℕ} {copies : ℕ} {size found : Size} {rest : List ℕ}
     → IsSize text n code more → size_with_code code ≡ Some found → BeginsAs dpi text copies size rest → size ≡ found
-same_size dpi text n code more copies size found rest read some is =
-    let parts = size_read dpi text n code more copies size rest read is in
+same_size {size} {found} read some is =
+    let parts = size_read read is in
     let same : Some size ≡ Some found = sym (size_coded size) ∙ ap size_with_code (sym parts.code_is) ∙ some in cc
 
-pub no_raster : (dpi : Dpi) (text : List ℕ) (n code : ℕ) (more : List ℕ) (copies : ℕ) (size found : Size) (rest : List ℕ)
+pub no_raster : (dpi : Dpi) {text : List ℕ} {n code : ℕ} {more : List ℕ} (copies : ℕ) (size : Size) {found : Size} (rest : List ℕ)
     → IsSize text n code more → size_with_code code ≡ Some found → ((behind : List ℕ) → more ≡ raster_start found dpi ++ behind → ⊥)
     → BeginsAs dpi text copies size rest → ⊥
-no_raster dpi text n code more copies size found rest read some none is =
-    let parts = size_read dpi text n code more copies size rest read is in
+no_raster dpi copies size rest read some none is =
+    let parts = size_read read is in
     none rest (parts.more_is ∙ ap (λ (s : Size). raster_start s dpi ++ rest)
-    (same_size dpi text n code more copies size found rest read some is))
+    (same_size read some is))
 
 -- the number of a size that is found is its own
-found_by : (code : ℕ) (found : Size) (a b c d : Bool) → (code == 1) ≡ a → (code == 2) ≡ b → (code == 3) ≡ c → (code == 26) ≡ d
+found_by : {code : ℕ} {found : Size} (a b c d : Bool) → (code == 1) ≡ a → (code == 2) ≡ b → (code == 3) ≡ c → (code == 26) ≡ d
     → (if a then Some Executive else (if b then Some Letter else (if c then Some Legal else (if d then Some A4 else None)))) ≡ Some found
     → code ≡ code_of found
-found_by code found true b c d one two three last e =
+found_by {code} {found} true b c d one two three last e =
     let same : Executive ≡ found = cc in let is : code ≡ 1 = grind (arith, nat_tests) in is ∙ ap code_of same
-found_by code found false true c d one two three last e =
+found_by {code} {found} false true c d one two three last e =
     let same : Letter ≡ found = cc in let is : code ≡ 2 = grind (arith, nat_tests) in is ∙ ap code_of same
-found_by code found false false true d one two three last e =
+found_by {code} {found} false false true d one two three last e =
     let same : Legal ≡ found = cc in let is : code ≡ 3 = grind (arith, nat_tests) in is ∙ ap code_of same
-found_by code found false false false true one two three last e =
+found_by {code} {found} false false false true one two three last e =
     let same : A4 ≡ found = cc in let is : code ≡ 26 = grind (arith, nat_tests) in is ∙ ap code_of same
-found_by code found false false false false one two three last e = absurd cc
+found_by false false false false one two three last e = absurd cc
 
-found_code : (code : ℕ) (found : Size) → size_with_code code ≡ Some found → code ≡ code_of found
-found_code code found e = found_by code found (code == 1) (code == 2) (code == 3) (code == 26) refl refl refl refl e
+found_code : {code : ℕ} {found : Size} → size_with_code code ≡ Some found → code ≡ code_of found
+found_code {code} e = found_by (code == 1) (code == 2) (code == 3) (code == 26) refl refl refl refl e
 
 -- a size and a resolution that are known
-pub raster_at : (bytes : List ℕ) (size known : Size) (dpi fine : Dpi) → size ≡ known → dpi ≡ fine → bytes ≡ raster_start known fine
+pub raster_at : {bytes : List ℕ} {size known : Size} {dpi fine : Dpi} → size ≡ known → dpi ≡ fine → bytes ≡ raster_start known fine
     → bytes ≡ raster_start size dpi
-raster_at bytes size known dpi fine s d e =
+raster_at {size} {fine} s d e =
     e ∙ sym (ap (λ (z : Size). raster_start z fine) s) ∙ sym (ap (λ (z : Dpi). raster_start size z) d)
 
 pub begun : (dpi : Dpi) (text : List ℕ) (n code : ℕ) (more : List ℕ) (found : Size) (rest : List ℕ) → IsSize text n code more
@@ -142,5 +142,5 @@ pub begun : (dpi : Dpi) (text : List ℕ) (n code : ℕ) (more : List ℕ) (foun
 begun dpi text n code more found rest read some e =
     read.text_is
     ∙ ap (λ (z : List ℕ). first_bytes ++ (decimal n ++ 120 ∷ z))
-    (ap (λ (k : ℕ). decimal k ++ 97 ∷ more) (found_code code found some) ∙ ap (λ (z : List ℕ). decimal (code_of found) ++ 97 ∷ z) e)
+    (ap (λ (k : ℕ). decimal k ++ 97 ∷ more) (found_code some) ∙ ap (λ (z : List ℕ). decimal (code_of found) ++ 97 ∷ z) e)
     ∙ sym (start_is dpi n found rest)

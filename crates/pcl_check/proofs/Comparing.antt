@@ -18,31 +18,31 @@ use Rattle.pcl_check.proofs.Outside.{end_only, end_prints}
 pub both : (may test outcome : Bool) (P : Type 0) → (IsTrue test ↔ P) → may ≡ true → outcome ≡ test → IsTrue outcome ↔ (IsTrue may × P)
 both may test outcome P says m o = (λ yes. (m, says.0 (sym o ∙ yes)), λ h. o ∙ says.1 h.1)
 
-pub neither : (may outcome : Bool) (P : Type 0) → may ≡ false → outcome ≡ may → IsTrue outcome ↔ (IsTrue may × P)
-neither may outcome P m o = (λ yes. absurd cc, λ h. let yes : may ≡ true = h.0 in absurd cc)
+pub neither : {may outcome : Bool} (P : Type 0) → may ≡ false → outcome ≡ may → IsTrue outcome ↔ (IsTrue may × P)
+neither {may} P m o = (λ yes. absurd cc, λ h. let yes : may ≡ true = h.0 in absurd cc)
 
 -- ---- rows in two parts
 
 -- a list begins with two others where it begins with the first and goes on with the second
-pub parts_of : (a b all : List (List ℕ)) → a ++ b ≡ take (length (a ++ b)) all
+pub parts_of : (a : List (List ℕ)) {b : List (List ℕ)} (all : List (List ℕ)) → a ++ b ≡ take (length (a ++ b)) all
     → (a ≡ take (length a) all) × (b ≡ take (length b) (drop (length a) all))
-parts_of [] b all e = (refl, e)
-parts_of (row ∷ a) b [] e = absurd cc
-parts_of (row ∷ a) b (first ∷ all) e =
+parts_of [] all e = (refl, e)
+parts_of (row ∷ a) [] e = absurd cc
+parts_of (row ∷ a) {b} (first ∷ all) e =
     let head : row ≡ first = cc in
     let rest : a ++ b ≡ take (length (a ++ b)) all = cc in
-    let parts = parts_of a b all rest in
+    let parts = parts_of a all rest in
     let front : a ≡ take (length a) all = parts.0 in
     (cc, parts.1)
 
-pub of_parts : (a b all : List (List ℕ)) → a ≡ take (length a) all → b ≡ take (length b) (drop (length a) all)
+pub of_parts : (a : List (List ℕ)) {b : List (List ℕ)} (all : List (List ℕ)) → a ≡ take (length a) all → b ≡ take (length b) (drop (length a) all)
     → a ++ b ≡ take (length (a ++ b)) all
-of_parts [] b all p q = q
-of_parts (row ∷ a) b [] p q = absurd cc
-of_parts (row ∷ a) b (first ∷ all) p q =
+of_parts [] all p q = q
+of_parts (row ∷ a) [] p q = absurd cc
+of_parts (row ∷ a) {b} (first ∷ all) p q =
     let head : row ≡ first = cc in
     let front : a ≡ take (length a) all = cc in
-    let rest : a ++ b ≡ take (length (a ++ b)) all = of_parts a b all front q in
+    let rest : a ++ b ≡ take (length (a ++ b)) all = of_parts a all front q in
     cc
 
 -- ---- moves one after the other
@@ -50,9 +50,9 @@ of_parts (row ∷ a) b (first ∷ all) p q =
 joined : (a b c : List (List ℕ)) → (a ++ b) ++ c ≡ a ++ (b ++ c)
 joined a b c = simp append_assoc
 
-pub becomes_trans : (size : Size) (dpi : Dpi) (a : LeftOver) (given : List (List ℕ)) (b : LeftOver) (more : List (List ℕ)) (c : LeftOver)
+pub becomes_trans : {size : Size} {dpi : Dpi} {a : LeftOver} {given : List (List ℕ)} {b : LeftOver} {more : List (List ℕ)} {c : LeftOver}
     → GivesRows size dpi a given b → GivesRows size dpi b more c → GivesRows size dpi a (given ++ more) c
-becomes_trans size dpi a given b more c first second = record {
+becomes_trans {size} {dpi} {a} {given} {more} first second = record {
   splits = λ rows p.
       let one = first.splits rows p in
       let two = second.splits one.0 one.2 in (
@@ -64,8 +64,8 @@ becomes_trans size dpi a given b more c first second = record {
       subst (RestPrints size dpi a) (sym (joined given more rows)) (first.joins (more ++ rows) (second.joins rows p));
 }
 
-pub becomes_same : (size : Size) (dpi : Dpi) (a b : LeftOver) → a ≡ b → GivesRows size dpi a [] b
-becomes_same size dpi a b e =
+pub becomes_same : {size : Size} {dpi : Dpi} {a b : LeftOver} → a ≡ b → GivesRows size dpi a [] b
+becomes_same {size} {dpi} e =
     record {
       splits = λ rows p. (rows, refl, subst (λ (z : LeftOver). RestPrints size dpi z rows) e p);
       joins = λ rows p. subst (λ (z : LeftOver). RestPrints size dpi z rows) (sym e) p;
@@ -79,17 +79,15 @@ pub record IsBodyReadTo (picture : Picture) (size : Size) (text : List ℕ) (may
   pub within : place.row ≤ page_height size picture.dpi
   pub same : IsTrue place.is_same ↔ (IsTrue may_be × AreRowsAt picture 0 given)
 
-pub read_on : (picture : Picture) (size : Size) (text : List ℕ) (may_be : Bool) (place : Place) (above : List ℕ) (next : Place)
-    (below : List ℕ) → IsBodyReadTo picture size text may_be place above → Advances picture size place above next below
+pub read_on : {picture : Picture} {size : Size} {text : List ℕ} {may_be : Bool} {place : Place} {above : List ℕ} {next : Place}
+    {below : List ℕ} → IsBodyReadTo picture size text may_be place above → Advances picture size place above next below
     → IsBodyReadTo picture size text may_be next below
-read_on picture size text may_be place above next below read advances =
+read_on {picture} {place} read advances =
     let all = bitmap_rows picture in
     let place_is : place.row ≡ length read.given = read.row_is in
     record {
       given = read.given ++ advances.given;
-      becomes = becomes_trans size picture.dpi (body_of size picture.dpi text) read.given (left_at size picture.dpi place above)
-          advances.given
-          (left_at size picture.dpi next below) read.becomes advances.becomes;
+      becomes = becomes_trans read.becomes advances.becomes;
       row_is = omega (arith, length-append read.given advances.given, read.row_is, advances.row_is);
       within = advances.within;
       same = (
@@ -98,9 +96,9 @@ read_on picture size text may_be place above next below read advances =
             let before = read.same.0 now.0 in
             let later : advances.given ≡ take (length advances.given) (drop (length read.given) all) =
             subst (λ (y : ℕ). advances.given ≡ take (length advances.given) (drop y all)) place_is now.1 in
-            (before.0, of_parts read.given advances.given all before.1 later),
+            (before.0, of_parts read.given all before.1 later),
         λ h.
-            let parts = parts_of read.given advances.given all h.1 in
+            let parts = parts_of read.given all h.1 in
             advances.same.1 (
               read.same.1 (h.0, parts.0),
               subst (λ (y : ℕ). advances.given ≡ take (length advances.given) (drop y all)) (sym place_is) parts.1,
@@ -109,30 +107,30 @@ read_on picture size text may_be place above next below read advances =
     }
 
 -- at the end of the text the other rows are white
-pub read_all : (picture : Picture) (size : Size) (text : List ℕ) (may_be : Bool) (place : Place) (above : List ℕ) (outcome : Bool)
+pub read_all : {picture : Picture} {size : Size} {text : List ℕ} {may_be : Bool} {place : Place} {above : List ℕ} {outcome : Bool}
     → IsBodyReadTo picture size text may_be place above → place.inside ≡ false → place.text.now ≡ end_bytes
     → (IsTrue outcome ↔ (IsTrue place.is_same × AreRowsAt picture place.row
     (white_rows size picture.dpi (page_height size picture.dpi - place.row))))
     → IsOnlyPrinted picture size text may_be outcome
-read_all picture size text may_be place above outcome read outside ended same =
+read_all {picture} {size} {place} {above} read outside ended same =
     let all = bitmap_rows picture in
     let white = white_rows size picture.dpi (page_height size picture.dpi - place.row) in
     let left = left_at size picture.dpi place above in
     record {
       rows = read.given ++ white;
-      printed = read.becomes.joins white (end_prints size picture.dpi left outside ended);
+      printed = read.becomes.joins white (end_prints outside ended);
       only = λ other p.
           let parts = read.becomes.splits other p in
-          parts.1 ∙ ap (λ (z : List (List ℕ)). read.given ++ z) (end_only size picture.dpi left parts.0 outside ended parts.2);
+          parts.1 ∙ ap (λ (z : List (List ℕ)). read.given ++ z) (end_only outside ended parts.2);
       same = (
         λ yes.
             let now = same.0 yes in
             let before = read.same.0 now.0 in
             let later : white ≡ take (length white) (drop (length read.given) all) =
             subst (λ (y : ℕ). white ≡ take (length white) (drop y all)) read.row_is now.1 in
-            (before.0, of_parts read.given white all before.1 later),
+            (before.0, of_parts read.given all before.1 later),
         λ h.
-            let parts = parts_of read.given white all h.1 in
+            let parts = parts_of read.given all h.1 in
             same.1 (
               read.same.1 (h.0, parts.0),
               subst (λ (y : ℕ). white ≡ take (length white) (drop y all)) (sym read.row_is) parts.1,
@@ -141,10 +139,10 @@ read_all picture size text may_be place above outcome read outside ended same =
     }
 
 -- a test of white rows, by their count
-pub white_test : (picture : Picture) (size : Size) (y n count : ℕ) (test : Bool) → n ≡ count
+pub white_test : (picture : Picture) (size : Size) (y : ℕ) {n count : ℕ} {test : Bool} → n ≡ count
     → (IsTrue test ↔ (white_rows size picture.dpi n ≡ take n (drop y (bitmap_rows picture))))
     → IsTrue test ↔ AreRowsAt picture y (white_rows size picture.dpi count)
-white_test picture size y n count test e says =
+white_test picture size y {count} {test} e says =
     let white = white_rows size picture.dpi in
     let many : length (white count) ≡ count = length-replicate count (replicate (page_row_bytes size picture.dpi) 0) in
     let counted = subst (λ (k : ℕ). IsTrue test ↔ (white k ≡ take k (drop y (bitmap_rows picture)))) e says in

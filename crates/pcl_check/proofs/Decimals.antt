@@ -30,9 +30,9 @@ pub record IsCutAt (text front : List ℕ) (byte : ℕ) (rest : List ℕ) : Type
   pub no_digit : is_digit byte ≡ false
   pub spelled : text ≡ front ++ byte ∷ rest
 
-pub digits_cut : (text front behind : List ℕ) (byte : ℕ) (rest : List ℕ) → front ≡ take (prefix_len is_digit text) text
+pub digits_cut : {text front behind : List ℕ} {byte : ℕ} {rest : List ℕ} → front ≡ take (prefix_len is_digit text) text
     → behind ≡ drop (prefix_len is_digit text) text → behind ≡ byte ∷ rest → IsCutAt text front byte rest
-digits_cut text front behind byte rest f b e =
+digits_cut {text} {front} {byte} {rest} f b e =
     let split = front_split is_digit text in
     let back : drop (prefix_len is_digit text) text ≡ byte ∷ rest = sym b ∙ e in
     let stops : StopsAt is_digit (byte ∷ rest) = subst (StopsAt is_digit) back split.stops in
@@ -45,36 +45,36 @@ digits_cut text front behind byte rest f b e =
 
 -- ---- decimals
 
-pub decimal_digits : (n : ℕ) → n ≤ 65536 → AreDigits (decimal n)
-decimal_digits n le = (decimal_spelled n (omega arith)).0
+pub decimal_digits : {n : ℕ} → n ≤ 65536 → AreDigits (decimal n)
+decimal_digits {n} le = (decimal_spelled n (omega arith)).0
 
-pub decimal_number : (n : ℕ) → n ≤ 65536 → number_of (decimal n) ≡ n
-decimal_number n le = (decimal_spelled n (omega arith)).1
+pub decimal_number : {n : ℕ} → n ≤ 65536 → number_of (decimal n) ≡ n
+decimal_number {n} le = (decimal_spelled n (omega arith)).1
 
-pub same_decimal : (m n : ℕ) → m ≤ 65536 → n ≤ 65536 → decimal m ≡ decimal n → m ≡ n
-same_decimal m n a b e = sym (decimal_number m a) ∙ ap number_of e ∙ decimal_number n b
+pub same_decimal : {m n : ℕ} → m ≤ 65536 → n ≤ 65536 → decimal m ≡ decimal n → m ≡ n
+same_decimal a b e = sym (decimal_number a) ∙ ap number_of e ∙ decimal_number b
 
 -- decimals with the same byte behind them
 pub same_front : (m n byte : ℕ) (x y : List ℕ) → m ≤ 65536 → n ≤ 65536 → is_digit byte ≡ false
     → decimal m ++ byte ∷ x ≡ decimal n ++ byte ∷ y → (m ≡ n) × (x ≡ y)
 same_front m n byte x y a b off e =
-    let parts = one_split is_digit (decimal m) (decimal n) byte byte x y (decimal_digits m a) (decimal_digits n b) off off e in
-    (same_decimal m n a b parts.0, parts.2)
+    let parts = one_split is_digit (decimal m) (decimal n) (decimal_digits a) (decimal_digits b) off off e in
+    (same_decimal a b parts.0, parts.2)
 
-pub no_decimal : (text : List ℕ) (n byte : ℕ) (rest : List ℕ) → AreDigits text → is_digit byte ≡ false
+pub no_decimal : {text : List ℕ} (n byte : ℕ) (rest : List ℕ) → AreDigits text → is_digit byte ≡ false
     → text ≡ decimal n ++ byte ∷ rest → ⊥
-no_decimal text n byte rest are off e = no_split is_digit text (decimal n) byte rest are off e
+no_decimal {text} n byte rest are off e = no_split is_digit text (decimal n) rest are off e
 
 -- a number that is spelled as a decimal is one without leading zeros
 pub record IsDecimal (found : Parameter) (byte n : ℕ) : Type 0 where
   pub digits : decimal found.number ≡ found.digits.now
   pub letter : found.letter ≡ byte
 
-pub decimal_found : (text : List ℕ) (found : Parameter) (byte n : ℕ) (rest : List ℕ) → IsParameter text found → is_digit byte ≡ false
+pub decimal_found : {text : List ℕ} {found : Parameter} {byte n : ℕ} (rest : List ℕ) → IsParameter text found → is_digit byte ≡ false
     → n ≤ 65535 → text ≡ decimal n ++ byte ∷ rest → IsDecimal found byte n
-decimal_found text found byte n rest is off le e =
-    let parts = one_split is_digit found.digits.now (decimal n) found.letter byte found.rest.now rest is.are_digits
-    (decimal_digits n (omega arith)) is.no_digit off (sym is.spelled ∙ e) in
-    let number : number_of found.digits.now ≡ n = ap number_of parts.0 ∙ decimal_number n (omega arith) in
+decimal_found {found} {n} rest is off le e =
+    let parts = one_split is_digit found.digits.now (decimal n) is.are_digits
+    (decimal_digits (omega arith)) is.no_digit off (sym is.spelled ∙ e) in
+    let number : number_of found.digits.now ≡ n = ap number_of parts.0 ∙ decimal_number (omega arith) in
     let same : found.number ≡ n = omega (arith, is.number_is, number) in
     record { digits = ap decimal same ∙ sym parts.0; letter = parts.1 }

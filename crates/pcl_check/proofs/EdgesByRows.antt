@@ -11,9 +11,9 @@ use Rattle.pcl_check.specs.EdgePasses.{At, Both, AreRunEnds, IsGoodStart, IsGood
 
 -- ---- starts
 
-outside_of_start : (rows : List (List ℕ)) (ends : List ℕ) (number : Node → ℕ) (method : Method) (row : ℕ) → AreRunEnds rows ends 0
+outside_of_start : {rows : List (List ℕ)} {ends : List ℕ} {number : Node → ℕ} {method : Method} {row : ℕ} → AreRunEnds rows ends 0
     → row ≤ length rows → IsGoodStart ends number method row → IsGoodOutside rows number method row
-outside_of_start rows ends number method row are le good =
+outside_of_start {rows} {ends} {row} are le good =
     let is = are.runs row (omega arith) le in
     record {
       opens = good.0;
@@ -24,9 +24,9 @@ outside_of_start rows ends number method row are le good =
           ];
     }
 
-start_of_outside : (rows : List (List ℕ)) (ends : List ℕ) (number : Node → ℕ) (method : Method) (row : ℕ) → AreRunEnds rows ends 0
+start_of_outside : {rows : List (List ℕ)} {ends : List ℕ} {number : Node → ℕ} {method : Method} {row : ℕ} → AreRunEnds rows ends 0
     → row ≤ length rows → IsGoodOutside rows number method row → IsGoodStart ends number method row
-start_of_outside rows ends number method row are le good =
+start_of_outside {rows} {ends} {row} are le good =
     let is = are.runs row (omega arith) le in (
       good.opens,
       λ end. good.ends (white_to_end rows row (slice_index ends row - row) is.1 (omega (arith, is.0, end, are.size))),
@@ -34,38 +34,38 @@ start_of_outside rows ends number method row are le good =
 
 -- ---- skips
 
-skips_of_ends : (rows : List (List ℕ)) (ends : List ℕ) (number : Node → ℕ) (method : Method) (row : ℕ) → AreRunEnds rows ends 0
+skips_of_ends : {rows : List (List ℕ)} {ends : List ℕ} (number : Node → ℕ) {method : Method} {row : ℕ} → AreRunEnds rows ends 0
     → row ≤ length rows → AreGoodSkipsTo ends number method row → AreGoodSkips rows number method row
-skips_of_ends rows ends number method row are le good = λ count inside some within white.
+skips_of_ends {rows} {ends} number {row} are le good = λ count inside some within white.
     let is = are.runs row (omega arith) le in
     let can = skippable_within rows row (slice_index ends row - row) count is.1 (some, within, white) in
     good count inside some (omega (arith, can, is.0))
 
-ends_of_skips : (rows : List (List ℕ)) (ends : List ℕ) (number : Node → ℕ) (method : Method) (row : ℕ) → AreRunEnds rows ends 0
+ends_of_skips : {rows : List (List ℕ)} {ends : List ℕ} (number : Node → ℕ) {method : Method} {row : ℕ} → AreRunEnds rows ends 0
     → row ≤ length rows → AreGoodSkips rows number method row → AreGoodSkipsTo ends number method row
-ends_of_skips rows ends number method row are le good = λ count inside some within.
+ends_of_skips {rows} {ends} number {row} are le good = λ count inside some within.
     let is = are.runs row (omega arith) le in
     good count inside some (omega (arith, is.1.within, is.0))
     (white_front (slice_index ends row - row) count (drop row rows) is.1.white (omega (arith, within)))
 
 -- ---- all steps
 
-pub good_by_rows : (rows : List (List ℕ)) (ends : List ℕ) (Counts : ℕ → Method → ℕ → Type 0) (number : Node → ℕ) (row : ℕ) (method : Method)
+pub good_by_rows : {rows : List (List ℕ)} {ends : List ℕ} (Counts : ℕ → Method → ℕ → Type 0) (number : Node → ℕ) {row : ℕ} (method : Method)
     (inside : Bool) → AreRunEnds rows ends 0 → row ≤ length rows → IsGoodBy ends (length rows) Counts number row method inside
     → IsGoodNumber rows Counts number row method inside
-good_by_rows rows ends Counts number row method false are le good = outside_of_start rows ends number method row are le good
-good_by_rows rows ends Counts number row method true are le good = record {
+good_by_rows Counts number method false are le good = outside_of_start are le good
+good_by_rows Counts number method true are le good = record {
   switches = good.0;
-  skips = skips_of_ends rows ends number method row are le good.2;
+  skips = skips_of_ends number are le good.2;
   sends = good.1;
 }
 
-pub good_by_ends : (rows : List (List ℕ)) (ends : List ℕ) (Counts : ℕ → Method → ℕ → Type 0) (number : Node → ℕ) (row : ℕ) (method : Method)
+pub good_by_ends : {rows : List (List ℕ)} {ends : List ℕ} (Counts : ℕ → Method → ℕ → Type 0) (number : Node → ℕ) {row : ℕ} (method : Method)
     (inside : Bool) → AreRunEnds rows ends 0 → row ≤ length rows → IsGoodNumber rows Counts number row method inside
     → IsGoodBy ends (length rows) Counts number row method inside
-good_by_ends rows ends Counts number row method false are le good = start_of_outside rows ends number method row are le good
-good_by_ends rows ends Counts number row method true are le good =
-    (good.switches, good.sends, ends_of_skips rows ends number method row are le good.skips)
+good_by_ends Counts number method false are le good = start_of_outside are le good
+good_by_ends Counts number method true are le good =
+    (good.switches, good.sends, ends_of_skips number are le good.skips)
 
 -- ---- one kind after the other
 
@@ -74,28 +74,28 @@ InParts ends last Counts number method =
     Both (Both (At method false (IsGoodStart ends number method)) (At method true (AreGoodSwitches number method)))
     (Both (At method true (IsGoodSending last Counts number method)) (At method true (AreGoodSkipsTo ends number method)))
 
-pub good_of_parts : (ends : List ℕ) (last : ℕ) (Counts : ℕ → Method → ℕ → Type 0) (number : Node → ℕ) (method : Method) (row : ℕ)
-    (current : Method) (inside : Bool) → InParts ends last Counts number method row current inside
+pub good_of_parts : (ends : List ℕ) {last : ℕ} (Counts : ℕ → Method → ℕ → Type 0) (number : Node → ℕ) {method : Method} {row : ℕ}
+    {current : Method} (inside : Bool) → InParts ends last Counts number method row current inside
     → IsGoodIn ends last Counts number method row current inside
-good_of_parts ends last Counts number method row current false parts = λ same.
+good_of_parts ends Counts number {row} false parts = λ same.
     subst (λ (m : Method). IsGoodStart ends number m row) (sym same) (parts.0.0 same refl)
-good_of_parts ends last Counts number method row current true parts = λ same. (
+good_of_parts ends {last} Counts number {row} true parts = λ same. (
   subst (λ (m : Method). AreGoodSwitches number m row) (sym same) (parts.0.1 same refl),
   subst (λ (m : Method). IsGoodSending last Counts number m row) (sym same) (parts.1.0 same refl),
   subst (λ (m : Method). AreGoodSkipsTo ends number m row) (sym same) (parts.1.1 same refl),
 )
 
-pub parts_of_good : (ends : List ℕ) (last : ℕ) (Counts : ℕ → Method → ℕ → Type 0) (number : Node → ℕ) (method : Method) (row : ℕ)
-    (current : Method) (inside : Bool) → IsGoodIn ends last Counts number method row current inside
+pub parts_of_good : (ends : List ℕ) {last : ℕ} (Counts : ℕ → Method → ℕ → Type 0) (number : Node → ℕ) {method : Method} {row : ℕ}
+    {current : Method} (inside : Bool) → IsGoodIn ends last Counts number method row current inside
     → InParts ends last Counts number method row current inside
-parts_of_good ends last Counts number method row current false good = (
+parts_of_good ends Counts number {row} false good = (
   (
     λ same here. subst (λ (m : Method). IsGoodStart ends number m row) same (good same),
     λ same here. (let no : false ≡ true = here in absurd cc),
   ),
   (λ same here. (let no : false ≡ true = here in absurd cc), λ same here. (let no : false ≡ true = here in absurd cc)),
 )
-parts_of_good ends last Counts number method row current true good = (
+parts_of_good ends {last} Counts number {row} true good = (
   (
     λ same here. (let no : true ≡ false = here in absurd cc),
     λ same here. subst (λ (m : Method). AreGoodSwitches number m row) same (good same).0,
@@ -120,6 +120,6 @@ good_of_methods ends last Counts number row Runs inside all = all.0.1 refl
 good_of_methods ends last Counts number row Packed inside all = all.1.0 refl
 good_of_methods ends last Counts number row Delta inside all = all.1.1 refl
 
-pub methods_of_good : (ends : List ℕ) (last : ℕ) (Counts : ℕ → Method → ℕ → Type 0) (number : Node → ℕ) (row : ℕ) (method : Method)
+pub methods_of_good : (ends : List ℕ) (last : ℕ) (Counts : ℕ → Method → ℕ → Type 0) (number : Node → ℕ) (row : ℕ) {method : Method}
     (inside : Bool) → IsGoodBy ends last Counts number row method inside → InMethods ends last Counts number row method inside
-methods_of_good ends last Counts number row method inside good = ((λ _. good, λ _. good), (λ _. good, λ _. good))
+methods_of_good ends last Counts number row inside good = ((λ _. good, λ _. good), (λ _. good, λ _. good))

@@ -19,15 +19,15 @@ pub row_before : (row other : ℕ) (method next : Method) (inside is_open : Bool
 row_before row other method next inside is_open lt = omega (arith, lt, method_small next, inside_small is_open)
 
 -- both facts at once
-chosen : (One Other : ℕ → Method → Bool → Type 0) (last : ℕ) (one other : BadNumber) (t : Bool)
+chosen : (One Other : ℕ → Method → Bool → Type 0) {last : ℕ} {one other : BadNumber} (t : Bool)
     → (t ≡ true → found_place other < found_place one) → (t ≡ false → found_place one ≤ found_place other)
     → IsFirstBad One last one → IsFirstBad Other last other → FindsBad (Both One Other) last (if t then Some other else Some one)
-chosen One Other last one other true less more a b = record {
+chosen One Other true less more a b = record {
   within = b.within;
   is_bad = λ both. b.is_bad both.1;
   first = λ row method inside before. (a.first row method inside (omega (arith, before, less refl)), b.first row method inside before);
 }
-chosen One Other last one other false less more a b = record {
+chosen One Other false less more a b = record {
   within = a.within;
   is_bad = λ both. a.is_bad both.0;
   first = λ row method inside before. (a.first row method inside before, b.first row method inside (omega (arith, before, more refl)));
@@ -53,16 +53,16 @@ first_finds One Other last (Some bad) None a b = record {
   );
 }
 first_finds One Other last (Some one) (Some other) a b =
-    chosen One Other last one other (nat_lt (found_place other) (found_place one)) (ltb-true (found_place other) (found_place one))
+    chosen One Other (nat_lt (found_place other) (found_place one)) (ltb-true (found_place other) (found_place one))
     (ltb-false (found_place other) (found_place one)) a b
 
 -- another fact that says the same
-pub finds_too : (One Other : ℕ → Method → Bool → Type 0) (last : ℕ) (found : Option BadNumber)
+pub finds_too : (One Other : ℕ → Method → Bool → Type 0) {last : ℕ} (found : Option BadNumber)
     → ((row : ℕ) (method : Method) (inside : Bool) → row ≤ last → One row method inside → Other row method inside)
     → ((row : ℕ) (method : Method) (inside : Bool) → row ≤ last → Other row method inside → One row method inside)
     → FindsBad One last found → FindsBad Other last found
-finds_too One Other last None to back found = λ row method inside le. to row method inside le (found row method inside le)
-finds_too One Other last (Some bad) to back found = record {
+finds_too One Other None to back found = λ row method inside le. to row method inside le (found row method inside le)
+finds_too One Other (Some bad) to back found = record {
   within = found.within;
   is_bad = λ other. found.is_bad (back bad.row bad.method bad.inside found.within other);
   first = λ row method inside before.
@@ -71,9 +71,9 @@ finds_too One Other last (Some bad) to back found = record {
 }
 
 -- a fact of rows, asked of the nodes of one method
-pub first_at : (Good : ℕ → Type 0) (last row : ℕ) (method : Method) (inside : Bool) → row ≤ last → (Good row → ⊥)
+pub first_at : (Good : ℕ → Type 0) {last row : ℕ} {method : Method} {inside : Bool} → row ≤ last → (Good row → ⊥)
     → ((k : ℕ) → k < row → Good k) → IsFirstBad (At method inside Good) last (record { row = row; method = method; inside = inside })
-first_at Good last row method inside within bad before = record {
+first_at Good within bad before = record {
   within = within;
   is_bad = λ good. bad (good refl refl);
   first = λ k current is_open first same here.

@@ -66,7 +66,7 @@ pub same_front : (digits spelled : List ℕ) (byte sent : ℕ) (rest bytes token
     → digits ++ byte ∷ rest ≡ ((spelled ++ (sent ∷ bytes)) ++ tokens) ++ end
     → (digits ≡ spelled) × (byte ≡ sent) × (rest ≡ bytes ++ (tokens ++ end))
 same_front digits spelled byte sent rest bytes tokens end p q s t e =
-    one_split is_digit digits spelled byte sent rest (bytes ++ (tokens ++ end)) p q s t (e ∙ regroup spelled sent bytes tokens end)
+    one_split is_digit digits spelled p q s t (e ∙ regroup spelled sent bytes tokens end)
 
 pub all_drop : (size : Size) (dpi : Dpi) (count : ℕ) (rows : List (List ℕ)) → AllByRecursion (IsRowOf size dpi) rows
     → AllByRecursion (IsRowOf size dpi) (drop count rows)
@@ -85,21 +85,21 @@ white_front size dpi (suc count) (row ∷ rows) are le white =
     ap (λ (r : List ℕ). r ∷ rows) first ∙ ap (λ (rs : List (List ℕ)). replicate (page_row_bytes size dpi) 0 ∷ rs) rest
 
 -- what is at the front, by the tokens
-front_by : (size : Size) (dpi : Dpi) (current : Method) (above : List ℕ) (left : ℕ) (digits : List ℕ) (byte : ℕ) (rest : List ℕ)
+front_by : {size : Size} {dpi : Dpi} {current : Method} {above : List ℕ} {left : ℕ} (digits : List ℕ) {byte : ℕ} {rest : List ℕ}
     → AreDigits digits → is_digit byte ≡ false → (tokens : List Token) (rows : List (List ℕ))
     → digits ++ byte ∷ rest ≡ flat_map token_bytes tokens ++ end_bytes → length rows ≡ left
     → AllByRecursion (IsRowOf size dpi) rows → PrintsRows true current above tokens rows
     → Foremost size dpi current above left (number_of digits) byte rest rows
 unfolding PrintsRows
-front_by size dpi current above left digits byte rest are off [] rows e n all p = absurd p
-front_by size dpi current above left digits byte rest are off (opening ∷ tokens) rows e n all p = absurd p
-front_by size dpi current above left digits byte rest are off (method spelled next ends ∷ tokens) rows e n all p =
+front_by digits are off [] rows e n all p = absurd p
+front_by digits are off (opening ∷ tokens) rows e n all p = absurd p
+front_by digits {byte} {rest} are off (method spelled next ends ∷ tokens) rows e n all p =
     let more = flat_map token_bytes tokens in
     let same = same_front digits spelled byte (letter_code 77 ends) rest [] more end_bytes are p.0.0 off (no_digit_77 ends)
     (e ∙ ap (λ (l : List ℕ). ((spelled ++ l) ++ more) ++ end_bytes) (letter_is 77 ends)) in
     is_method next ends same.1 (ap number_of same.0 ∙ p.0.1)
     (record { count = n; rows_are = all; tokens = tokens; spelled = same.2; prints = p.1 })
-front_by size dpi current above left digits byte rest are off (skip spelled count ends ∷ tokens) rows e n all p =
+front_by {size} {dpi} {current} {above} {left} digits {byte} {rest} are off (skip spelled count ends ∷ tokens) rows e n all p =
     let more = flat_map token_bytes tokens in
     let same = same_front digits spelled byte (letter_code 89 ends) rest [] more end_bytes are p.0.0 off (no_digit_89 ends)
     (e ∙ ap (λ (l : List ℕ). ((spelled ++ l) ++ more) ++ end_bytes) (letter_is 89 ends)) in
@@ -113,18 +113,18 @@ front_by size dpi current above left digits byte rest are off (skip spelled coun
       spelled = same.2;
       prints = p.4;
     }))
-front_by size dpi current above left digits byte rest are off (send spelled bytes ∷ tokens) [] e n all p = absurd p
-front_by size dpi current above left digits byte rest are off (send spelled bytes ∷ tokens) (first ∷ rows) e n all p =
+front_by digits are off (send spelled bytes ∷ tokens) [] e n all p = absurd p
+front_by digits {byte} {rest} are off (send spelled bytes ∷ tokens) (first ∷ rows) e n all p =
     let more = flat_map token_bytes tokens in
     let same = same_front digits spelled byte 87 rest bytes more end_bytes are p.0.0 off refl e in
     is_send bytes (more ++ end_bytes) first rows same.1 (ap number_of same.0 ∙ p.0.1) same.2 (omega arith) refl all.0 p.1
     (record { count = omega arith; rows_are = all.1; tokens = tokens; spelled = refl; prints = p.2 })
 
 -- what is at the front of what is left
-pub front_of : (size : Size) (dpi : Dpi) (left : LeftOver) (digits : List ℕ) (byte : ℕ) (rest : List ℕ) (rows : List (List ℕ))
+pub front_of : {size : Size} {dpi : Dpi} {left : LeftOver} (digits : List ℕ) {byte : ℕ} {rest : List ℕ} {rows : List (List ℕ)}
     → left.inside ≡ true → AreDigits digits → is_digit byte ≡ false → left.text ≡ digits ++ byte ∷ rest
     → RestPrints size dpi left rows → Foremost size dpi left.method left.above left.rows (number_of digits) byte rest rows
-front_of size dpi left digits byte rest rows inside are off text printed =
-    front_by size dpi left.method left.above left.rows digits byte rest are off printed.tokens rows (sym text ∙ printed.spelled)
+front_of {left} digits {rows} inside are off text printed =
+    front_by digits are off printed.tokens rows (sym text ∙ printed.spelled)
     printed.count printed.rows_are
     (subst (λ (i : Bool). PrintsRows i left.method left.above printed.tokens rows) inside printed.prints)

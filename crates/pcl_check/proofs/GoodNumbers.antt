@@ -28,17 +28,17 @@ AreGoodSends width rows number = (row : ℕ) (current : Method) (bytes : List �
     → IsRowData current (row_above width rows row) (row_at rows row) bytes
     → number_at number row current true ≤ row_cost (length bytes) + number_at number (row + 1) current false
 
-steps_from : (width : ℕ) (rows : List (List ℕ)) (Counts : ℕ → Method → ℕ → Type 0) (number : Node → ℕ) (row : ℕ) → length rows ≤ 65535
+steps_from : (width : ℕ) (rows : List (List ℕ)) (Counts : ℕ → Method → ℕ → Type 0) (number : Node → ℕ) {row : ℕ} → length rows ≤ 65535
     → AreGoodSends width rows number
-    → (current : Method) (is_open : Bool) (token : Token) (b : Node) → IsGoodNumber rows Counts number row current is_open
+    → {current : Method} (is_open : Bool) (token : Token) (b : Node) → IsGoodNumber rows Counts number row current is_open
     → Leads width rows (node row current is_open) token b
     → number (node row current is_open) ≤ cost token + number b
-steps_from width rows Counts number row few sends current true opening b good l = let no : true ≡ false = l.0 in absurd cc
-steps_from width rows Counts number row few sends current false opening b good l =
+steps_from width rows Counts number few sends true opening b good l = let no : true ≡ false = l.0 in absurd cc
+steps_from width rows Counts number few sends false opening b good l =
     omega (arith, good.opens, cost_opening, ap number l.1)
-steps_from width rows Counts number row few sends current false (method digits next ends) b good l =
+steps_from width rows Counts number few sends false (method digits next ends) b good l =
     let no : false ≡ true = l.0 in absurd cc
-steps_from width rows Counts number row few sends current true (method digits next ends) b good l =
+steps_from width rows Counts number few sends true (method digits next ends) b good l =
     omega (
       arith,
       good.switches next (not ends),
@@ -46,9 +46,9 @@ steps_from width rows Counts number row few sends current true (method digits ne
       spelled_long digits (method_code next) l.1 (omega (arith, method_small next)),
       ap number l.2,
     )
-steps_from width rows Counts number row few sends current false (skip digits count ends) b good l =
+steps_from width rows Counts number few sends false (skip digits count ends) b good l =
     let no : false ≡ true = l.0 in absurd cc
-steps_from width rows Counts number row few sends current true (skip digits count ends) b good l =
+steps_from width rows Counts number few sends true (skip digits count ends) b good l =
     omega (
       arith,
       good.skips count (not ends) l.2 l.3 l.4,
@@ -56,9 +56,9 @@ steps_from width rows Counts number row few sends current true (skip digits coun
       spelled_long digits count l.1 (omega (arith, l.3, few)),
       ap number l.5,
     )
-steps_from width rows Counts number row few sends current false (send digits bytes) b good l =
+steps_from width rows Counts number few sends false (send digits bytes) b good l =
     let no : false ≡ true = l.0 in absurd cc
-steps_from width rows Counts number row few sends current true (send digits bytes) b good l =
+steps_from width rows Counts number {row} few sends {current} true (send digits bytes) b good l =
     omega (
       arith,
       sends row current bytes l.2 l.3,
@@ -67,10 +67,10 @@ steps_from width rows Counts number row few sends current true (send digits byte
       ap number l.4,
     )
 
-end_from : (rows : List (List ℕ)) (Counts : ℕ → Method → ℕ → Type 0) (number : Node → ℕ) (row : ℕ) (current : Method) (is_open : Bool)
+end_from : (rows : List (List ℕ)) (Counts : ℕ → Method → ℕ → Type 0) (number : Node → ℕ) {row : ℕ} {current : Method} (is_open : Bool)
     → IsGoodNumber rows Counts number row current is_open → Ends rows (node row current is_open) → number (node row current is_open) ≡ 0
-end_from rows Counts number row current true good end = let no : true ≡ false = end.0 in absurd cc
-end_from rows Counts number row current false good end = good.ends end.1
+end_from rows Counts number true good end = let no : true ≡ false = end.0 in absurd cc
+end_from rows Counts number false good end = good.ends end.1
 
 -- behind more rows than a table has, its numbers are 0
 none_in : (current : Method) (is_open : Bool) → number_in no_numbers current is_open ≡ 0
@@ -87,21 +87,21 @@ number_past : (table : List RowNumbers) (a : Node) → length table ≤ a.row �
 number_past table a past =
     ap (λ (numbers : RowNumbers). number_in numbers a.method a.inside) (get_or_past table a.row no_numbers past) ∙ none_in a.method a.inside
 
-feasible_by_sends : (width : ℕ) (rows : List (List ℕ)) (table : List RowNumbers) (Counts : ℕ → Method → ℕ → Type 0) → length rows ≤ 65535
+feasible_by_sends : (width : ℕ) {rows : List (List ℕ)} (table : List RowNumbers) (Counts : ℕ → Method → ℕ → Type 0) → length rows ≤ 65535
     → length table ≡ length rows + 1 → AreGoodSends width rows (node_number table) → AreGoodNumbers rows Counts (node_number table)
     → IsFeasible (Leads width rows) (Ends rows) cost (node_number table)
-feasible_by_sends width rows table Counts few size sends good = record {
+feasible_by_sends width {rows} table Counts few size sends good = record {
   steps = λ a token b l.
       elim (cases_lt (length rows) a.row) [
         | inl past ↦ omega (arith, number_past table a (omega (arith, size)))
         | inr within ↦
-            steps_from width rows Counts (node_number table) a.row few sends a.method a.inside token b
+            steps_from width rows Counts (node_number table) few sends a.inside token b
             (good a.row a.method a.inside within) l
       ];
   ends = λ a end.
       elim (cases_lt (length rows) a.row) [
         | inl past ↦ number_past table a (omega (arith, size))
-        | inr within ↦ end_from rows Counts (node_number table) a.row a.method a.inside (good a.row a.method a.inside within) end
+        | inr within ↦ end_from rows Counts (node_number table) a.inside (good a.row a.method a.inside within) end
       ];
 }
 
@@ -116,7 +116,7 @@ pub numbers_by_bounds : (width : ℕ) (rows : List (List ℕ)) (table : List Row
     → length table ≡ length rows + 1 → BoundData width rows lengths → AreGoodNumbers rows (IsGiven lengths) (node_number table)
     → IsFeasible (Leads width rows) (Ends rows) cost (node_number table)
 numbers_by_bounds width rows table lengths few size bound good =
-    feasible_by_sends width rows table (IsGiven lengths) few size
+    feasible_by_sends width table (IsGiven lengths) few size
     (λ row current bytes inside whole.
     omega (
       arith,
@@ -126,12 +126,12 @@ numbers_by_bounds width rows table lengths few size bound good =
     good
 
 -- least lengths: shorter data would undercut more, so the least data that undercuts is least data
-sends_by_least : (width : ℕ) (rows : List (List ℕ)) (number : Node → ℕ) → AreGoodNumbers rows (IsLeastOfRow width rows) number
-    → (most : ℕ) (row : ℕ) (current : Method) (bytes : List ℕ) → length bytes < most → row < length rows
+sends_by_least : (width : ℕ) {rows : List (List ℕ)} {number : Node → ℕ} → AreGoodNumbers rows (IsLeastOfRow width rows) number
+    → (most : ℕ) {row : ℕ} {current : Method} {bytes : List ℕ} → length bytes < most → row < length rows
     → IsRowData current (row_above width rows row) (row_at rows row) bytes
     → number_at number row current true ≤ row_cost (length bytes) + number_at number (row + 1) current false
-sends_by_least width rows number good zero row current bytes short inside coded = absurd (omega arith)
-sends_by_least width rows number good (suc most) row current bytes short inside coded =
+sends_by_least width good zero short inside coded = absurd (omega arith)
+sends_by_least width {rows} {number} good (suc most) {row} {current} {bytes} short inside coded =
     let n : ℕ = number_at number row current true in
     let rest : ℕ = number_at number (row + 1) current false in
     elim (cases_lt (row_cost (length bytes) + rest) n) [
@@ -145,7 +145,7 @@ sends_by_least width rows number good (suc most) row current bytes short inside 
                   | inl shorter ↦
                       absurd (omega (
                         arith,
-                        sends_by_least width rows number good most row current other (omega arith) inside whole,
+                        sends_by_least width good most (omega arith) inside whole,
                         row_cost_grows (length other) (length bytes) (omega arith) (omega (arith, coded.fits)),
                       ))
                 ];
@@ -157,9 +157,9 @@ pub good_feasible : (width : ℕ) (rows : List (List ℕ)) (table : List RowNumb
     → length table ≡ length rows + 1 → AreGoodNumbers rows (IsLeastOfRow width rows) (node_number table)
     → IsFeasible (Leads width rows) (Ends rows) cost (node_number table)
 good_feasible width rows table few size good =
-    feasible_by_sends width rows table (IsLeastOfRow width rows) few size
+    feasible_by_sends width table (IsLeastOfRow width rows) few size
     (λ row current bytes inside whole.
-    sends_by_least width rows (node_number table) good (length bytes + 1) row current bytes (omega arith) inside whole)
+    sends_by_least width good (length bytes + 1) (omega arith) inside whole)
     good
 
 -- ---- to good numbers

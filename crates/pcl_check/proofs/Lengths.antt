@@ -8,9 +8,9 @@ use Rattle.pcl_base.specs.declared.method.Method.{Method}
 use Rattle.pcl_base.specs.Size.{page_height}
 use Rattle.pcl_coders.specs.Coding.{IsLeastLength}
 
-pub least_alone : (method : Method) (seed row : List ℕ) (one other : ℕ) → IsLeastLength method seed row one
+pub least_alone : {method : Method} {seed row : List ℕ} {one other : ℕ} → IsLeastLength method seed row one
     → IsLeastLength method seed row other → one ≡ other
-least_alone method seed row one other a b =
+least_alone a b =
     omega (arith, a.attained.2, b.attained.2, a.shortest b.attained.0 b.attained.1, b.shortest a.attained.0 a.attained.1)
 
 -- no page has more rows than a count of four digits

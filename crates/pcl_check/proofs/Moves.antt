@@ -97,26 +97,26 @@ pub record Told (left : LeftOver) (digits : List ℕ) (byte : ℕ) (rest : List 
   pub no_digit : is_digit byte ≡ false
   pub text : left.text ≡ digits ++ byte ∷ rest
 
-front_at : (size : Size) (dpi : Dpi) (left : LeftOver) (digits : List ℕ) (byte : ℕ) (rest : List ℕ) (rows : List (List ℕ))
+front_at : {size : Size} {dpi : Dpi} {left : LeftOver} {digits : List ℕ} {byte : ℕ} {rest : List ℕ} {rows : List (List ℕ)}
     → Told left digits byte rest → RestPrints size dpi left rows
     → Foremost size dpi left.method left.above left.rows (number_of digits) byte rest rows
-front_at size dpi left digits byte rest rows told printed =
-    front_of size dpi left digits byte rest rows told.inside told.are_digits told.no_digit told.text printed
+front_at {digits} told printed =
+    front_of digits told.inside told.are_digits told.no_digit told.text printed
 
 -- a token in front of others
-spelled_by : (text digits : List ℕ) (byte : ℕ) (rest : List ℕ) (sent : ℕ) (bytes tokens end : List ℕ) → text ≡ digits ++ byte ∷ rest
+spelled_by : {text : List ℕ} (digits : List ℕ) {byte : ℕ} {rest : List ℕ} {sent : ℕ} (bytes tokens end : List ℕ) → text ≡ digits ++ byte ∷ rest
     → byte ≡ sent → rest ≡ bytes ++ (tokens ++ end) → text ≡ ((digits ++ (sent ∷ bytes)) ++ tokens) ++ end
-spelled_by text digits byte rest sent bytes tokens end e b r =
+spelled_by digits {rest} {sent} bytes tokens end e b r =
     e ∙ ap (λ (c : ℕ). digits ++ c ∷ rest) b ∙ ap (λ (more : List ℕ). digits ++ sent ∷ more) r ∙ sym (regroup digits sent bytes tokens end)
 
 -- ---- a method
 
-pub method_becomes : (size : Size) (dpi : Dpi) (left : LeftOver) (digits : List ℕ) (byte : ℕ) (rest : List ℕ) (next : Method) (ends : Bool)
+pub method_becomes : {size : Size} {dpi : Dpi} {left : LeftOver} {digits : List ℕ} {byte : ℕ} {rest : List ℕ} {next : Method} (ends : Bool)
     → Told left digits byte rest → byte ≡ letter_code 77 ends → number_of digits ≡ method_code next
     → GivesRows size dpi left [] (left_over (not ends) next left.above left.rows rest)
 unfolding PrintsRows
-method_becomes size dpi left digits byte rest next ends told b n = record {
-  splits = λ rows printed. elim (front_at size dpi left digits byte rest rows told printed) [
+method_becomes {size} {dpi} {left} {digits} {rest} {next} ends told b n = record {
+  splits = λ rows printed. elim (front_at told printed) [
     | is_method other last c m p ↦ (
       rows,
       refl,
@@ -132,7 +132,7 @@ method_becomes size dpi left digits byte rest next ends told b n = record {
     count = printed.count;
     rows_are = printed.rows_are;
     tokens = method digits next ends ∷ printed.tokens;
-    spelled = spelled_by left.text digits byte rest (letter_code 77 ends) [] (flat_map token_bytes printed.tokens) end_bytes told.text b
+    spelled = spelled_by digits [] (flat_map token_bytes printed.tokens) end_bytes told.text b
         printed.spelled
         ∙ ap (λ (l : List ℕ). ((digits ++ l) ++ flat_map token_bytes printed.tokens) ++ end_bytes) (sym (letter_is 77 ends));
     prints = subst (λ (i : Bool). PrintsRows i left.method left.above (method digits next ends ∷ printed.tokens) rows) (sym told.inside)
@@ -142,13 +142,13 @@ method_becomes size dpi left digits byte rest next ends told b n = record {
 
 -- ---- rows that are skipped
 
-pub skip_becomes : (size : Size) (dpi : Dpi) (left : LeftOver) (digits : List ℕ) (byte : ℕ) (rest : List ℕ) (ends : Bool)
+pub skip_becomes : {size : Size} {dpi : Dpi} {left : LeftOver} {digits : List ℕ} {byte : ℕ} {rest : List ℕ} (ends : Bool)
     → Told left digits byte rest → byte ≡ letter_code 89 ends → 0 < number_of digits → number_of digits ≤ left.rows
     → GivesRows size dpi left (white_rows size dpi (number_of digits))
     (left_over (not ends) left.method (replicate (length left.above) 0) (left.rows - number_of digits) rest)
 unfolding PrintsRows
-skip_becomes size dpi left digits byte rest ends told b some few = record {
-  splits = λ rows printed. elim (front_at size dpi left digits byte rest rows told printed) [
+skip_becomes {size} {dpi} {left} {digits} {rest} ends told b some few = record {
+  splits = λ rows printed. elim (front_at told printed) [
     | is_method other last c m p ↦ absurd (letters_77_89 last ends (sym c ∙ b))
     | is_skip last others c positive within r p ↦ (
       others,
@@ -174,7 +174,7 @@ skip_becomes size dpi left digits byte rest ends told b some few = record {
         count = all;
         rows_are = white_before size dpi count rows printed.rows_are;
         tokens = skip digits count ends ∷ printed.tokens;
-        spelled = spelled_by left.text digits byte rest (letter_code 89 ends) [] (flat_map token_bytes printed.tokens) end_bytes told.text b
+        spelled = spelled_by digits [] (flat_map token_bytes printed.tokens) end_bytes told.text b
             printed.spelled
             ∙ ap (λ (l : List ℕ). ((digits ++ l) ++ flat_map token_bytes printed.tokens) ++ end_bytes) (sym (letter_is 89 ends));
         prints = subst (λ (i : Bool). PrintsRows i left.method left.above (skip digits count ends ∷ printed.tokens) (white ++ rows))
@@ -185,13 +185,13 @@ skip_becomes size dpi left digits byte rest ends told b some few = record {
 
 -- ---- a row that is sent
 
-pub send_becomes : (size : Size) (dpi : Dpi) (left : LeftOver) (digits : List ℕ) (byte : ℕ) (rest bytes more first : List ℕ)
+pub send_becomes : {size : Size} {dpi : Dpi} {left : LeftOver} {digits : List ℕ} {byte : ℕ} {rest bytes more first : List ℕ}
     → Told left digits byte rest → byte ≡ 87 → number_of digits ≡ length bytes → rest ≡ bytes ++ more → 0 < left.rows
     → IsRowOf size dpi first → IsRowData left.method left.above first bytes
     → GivesRows size dpi left (first ∷ []) (left_over false left.method first (left.rows - 1) more)
 unfolding PrintsRows
-send_becomes size dpi left digits byte rest bytes more first told b n parts some is_row is_data = record {
-  splits = λ rows printed. elim (front_at size dpi left digits byte rest rows told printed) [
+send_becomes {size} {dpi} {left} {digits} {bytes} {more} {first} told b n parts some is_row is_data = record {
+  splits = λ rows printed. elim (front_at told printed) [
     | is_method other last c m p ↦ absurd (letters_77_87 last (sym c ∙ b))
     | is_skip last others c positive within r p ↦ absurd (letters_89_87 last (sym c ∙ b))
     | is_send sent behind painted others c m r positive f row row_data p ↦
@@ -213,7 +213,7 @@ send_becomes size dpi left digits byte rest bytes more first told b n parts some
     count = omega (arith, printed.count);
     rows_are = (is_row, printed.rows_are);
     tokens = send digits bytes ∷ printed.tokens;
-    spelled = spelled_by left.text digits byte rest 87 bytes (flat_map token_bytes printed.tokens) end_bytes told.text b
+    spelled = spelled_by digits bytes (flat_map token_bytes printed.tokens) end_bytes told.text b
         (parts ∙ ap (λ (z : List ℕ). bytes ++ z) printed.spelled);
     prints = subst (λ (i : Bool). PrintsRows i left.method left.above (send digits bytes ∷ printed.tokens) (first ∷ rows))
         (sym told.inside)
@@ -224,71 +224,71 @@ send_becomes size dpi left digits byte rest bytes more first told b n parts some
 -- ---- what no token begins
 
 -- a method that there is none of
-pub no_method : (size : Size) (dpi : Dpi) (left : LeftOver) (digits : List ℕ) (byte : ℕ) (rest : List ℕ) (ends : Bool)
-    (rows : List (List ℕ))
+pub no_method : {size : Size} {dpi : Dpi} {left : LeftOver} {digits : List ℕ} {byte : ℕ} {rest : List ℕ} (ends : Bool)
+    {rows : List (List ℕ)}
     → Told left digits byte rest → byte ≡ letter_code 77 ends → ((next : Method) → number_of digits ≡ method_code next → ⊥)
     → RestPrints size dpi left rows → ⊥
-no_method size dpi left digits byte rest ends rows told b none printed = elim (front_at size dpi left digits byte rest rows told printed) [
+no_method ends told b none printed = elim (front_at told printed) [
   | is_method other last c m p ↦ none other m
   | is_skip last others c some few r p ↦ letters_77_89 ends last (sym b ∙ c)
   | is_send bytes more first others c m r some f row row_data p ↦ letters_77_87 ends (sym b ∙ c)
 ]
 
 -- no row is skipped, or too many are
-pub no_skip : (size : Size) (dpi : Dpi) (left : LeftOver) (digits : List ℕ) (byte : ℕ) (rest : List ℕ) (ends : Bool) (rows : List (List ℕ))
+pub no_skip : {size : Size} {dpi : Dpi} {left : LeftOver} {digits : List ℕ} {byte : ℕ} {rest : List ℕ} (ends : Bool) {rows : List (List ℕ)}
     → Told left digits byte rest → byte ≡ letter_code 89 ends → (0 < number_of digits → number_of digits ≤ left.rows → ⊥)
     → RestPrints size dpi left rows → ⊥
-no_skip size dpi left digits byte rest ends rows told b none printed = elim (front_at size dpi left digits byte rest rows told printed) [
+no_skip ends told b none printed = elim (front_at told printed) [
   | is_method other last c m p ↦ letters_77_89 last ends (sym c ∙ b)
   | is_skip last others c some few r p ↦ none some few
   | is_send bytes more first others c m r some f row row_data p ↦ letters_89_87 ends (sym b ∙ c)
 ]
 
 -- what is sent isn't there, or paints no row of the size
-pub no_send : (size : Size) (dpi : Dpi) (left : LeftOver) (digits : List ℕ) (byte : ℕ) (rest : List ℕ) (rows : List (List ℕ))
+pub no_send : {size : Size} {dpi : Dpi} {left : LeftOver} {digits : List ℕ} {byte : ℕ} {rest : List ℕ} {rows : List (List ℕ)}
     → Told left digits byte rest → byte ≡ 87
     → ((bytes more first : List ℕ) → number_of digits ≡ length bytes → rest ≡ bytes ++ more → 0 < left.rows → IsRowOf size dpi first
     → IsRowData left.method left.above first bytes → ⊥)
     → RestPrints size dpi left rows → ⊥
-no_send size dpi left digits byte rest rows told b none printed = elim (front_at size dpi left digits byte rest rows told printed) [
+no_send told b none printed = elim (front_at told printed) [
   | is_method other last c m p ↦ letters_77_87 last (sym c ∙ b)
   | is_skip last others c some few r p ↦ letters_89_87 last (sym c ∙ b)
   | is_send bytes more first others c m r some f row row_data p ↦ none bytes more first m r some row row_data
 ]
 
 -- no letter of the grammar
-pub no_letter : (size : Size) (dpi : Dpi) (left : LeftOver) (digits : List ℕ) (byte : ℕ) (rest : List ℕ) (rows : List (List ℕ))
+pub no_letter : {size : Size} {dpi : Dpi} {left : LeftOver} {digits : List ℕ} {byte : ℕ} {rest : List ℕ} {rows : List (List ℕ)}
     → Told left digits byte rest → ((ends : Bool) → byte ≡ letter_code 77 ends → ⊥) → ((ends : Bool) → byte ≡ letter_code 89 ends → ⊥)
     → (byte ≡ 87 → ⊥)
     → RestPrints size dpi left rows → ⊥
-no_letter size dpi left digits byte rest rows told m y w printed = elim (front_at size dpi left digits byte rest rows told printed) [
+no_letter told m y w printed = elim (front_at told printed) [
   | is_method other last c n p ↦ m last c
   | is_skip last others c some few r p ↦ y last c
   | is_send bytes more first others c n r some f row row_data p ↦ w c
 ]
 
 -- only digits are left inside a sequence
-digits_only : (current : Method) (above text : List ℕ) → AreDigits text → (tokens : List Token) (rows : List (List ℕ))
+digits_only : (current : Method) (above : List ℕ) {text : List ℕ} → AreDigits text → (tokens : List Token) (rows : List (List ℕ))
     → text ≡ flat_map token_bytes tokens ++ end_bytes → PrintsRows true current above tokens rows → ⊥
 unfolding PrintsRows
-digits_only current above text are [] rows e p = p
-digits_only current above text are (opening ∷ tokens) rows e p = p
-digits_only current above text are (method spelled next ends ∷ tokens) rows e p =
+digits_only current above are [] rows e p = p
+digits_only current above are (opening ∷ tokens) rows e p = p
+digits_only current above {text} are (method spelled next ends ∷ tokens) rows e p =
     let more = flat_map token_bytes tokens in
-    no_split is_digit text spelled (letter_code 77 ends) (more ++ end_bytes) are (no_digit_77 ends)
+    no_split is_digit text spelled (more ++ end_bytes) are (no_digit_77 ends)
     (e ∙ ap (λ (l : List ℕ). ((spelled ++ l) ++ more) ++ end_bytes) (letter_is 77 ends)
     ∙ regroup spelled (letter_code 77 ends) [] more end_bytes)
-digits_only current above text are (skip spelled count ends ∷ tokens) rows e p =
+digits_only current above {text} are (skip spelled count ends ∷ tokens) rows e p =
     let more = flat_map token_bytes tokens in
-    no_split is_digit text spelled (letter_code 89 ends) (more ++ end_bytes) are (no_digit_89 ends)
+    no_split is_digit text spelled (more ++ end_bytes) are (no_digit_89 ends)
     (e ∙ ap (λ (l : List ℕ). ((spelled ++ l) ++ more) ++ end_bytes) (letter_is 89 ends)
     ∙ regroup spelled (letter_code 89 ends) [] more end_bytes)
-digits_only current above text are (send spelled bytes ∷ tokens) rows e p =
+digits_only current above {text} are (send spelled bytes ∷ tokens) rows e p =
     let more = flat_map token_bytes tokens in
-    no_split is_digit text spelled 87 (bytes ++ (more ++ end_bytes)) are refl (e ∙ regroup spelled 87 bytes more end_bytes)
+    no_split is_digit text spelled (bytes ++ (more ++ end_bytes)) are refl (e ∙ regroup spelled 87 bytes more end_bytes)
 
-pub no_byte : (size : Size) (dpi : Dpi) (left : LeftOver) (rows : List (List ℕ)) → left.inside ≡ true → AreDigits left.text
+pub no_byte : {size : Size} {dpi : Dpi} {left : LeftOver} {rows : List (List ℕ)} → left.inside ≡ true → AreDigits left.text
     → RestPrints size dpi left rows → ⊥
-no_byte size dpi left rows inside are printed =
-    digits_only left.method left.above left.text are printed.tokens rows printed.spelled
+no_byte {left} {rows} inside are printed =
+    digits_only left.method left.above are printed.tokens rows printed.spelled
     (subst (λ (i : Bool). PrintsRows i left.method left.above printed.tokens rows) inside printed.prints)

@@ -41,17 +41,17 @@ run_ends_known row ends small are = record {
       ];
 }
 
-pub runs_by_window : (row numbers ends : List ℕ) (most place : ℕ) → AreRunStops row ends 0
+pub runs_by_window : {row : List ℕ} (numbers : List ℕ) {ends : List ℕ} {most place : ℕ} → AreRunStops row ends 0
     → IsNotUndercut numbers numbers ends 2 most place → AreGoodRuns row numbers most place
-runs_by_window row numbers ends most place are kept = λ count byte some few within alike.
+runs_by_window {row} numbers {ends} {place} are kept = λ count byte some few within alike.
     let is = are.runs place (omega arith) (omega arith) in
     let run = run_len_of row place (slice_index ends place) (slice_index ends place - place) is (omega (arith, is.after)) in
     let le = run.longest count byte (omega (arith, length-drop place row)) alike in
     kept (place + count) (omega arith) (omega arith) (omega (arith, le, is.after))
 
-pub window_by_runs : (row numbers ends : List ℕ) (most place : ℕ) → AreRunStops row ends 0 → place ≤ length row
+pub window_by_runs : {row : List ℕ} (numbers : List ℕ) {ends : List ℕ} {most place : ℕ} → AreRunStops row ends 0 → place ≤ length row
     → AreGoodRuns row numbers most place → IsNotUndercut numbers numbers ends 2 most place
-window_by_runs row numbers ends most place are le good = λ stop past few within.
+window_by_runs {row} numbers {ends} {place} are le good = λ stop past few within.
     elim (cases_lt place (length row)) [
       | inr last ↦
           let at : length row ≡ place = omega arith in absurd (omega (arith, are.last, ap (slice_index ends) at))
@@ -80,10 +80,10 @@ all_ends_known ends some small all = record {
   grow = λ place lt. omega (arith, all place (omega arith), all (place + 1) (omega arith));
 }
 
-pub literals_by_window : (numbers sums ends : List ℕ) (place : ℕ) → ArePlaced numbers sums → length ends ≡ length numbers
+pub literals_by_window : (numbers sums ends : List ℕ) {place : ℕ} → ArePlaced numbers sums → length ends ≡ length numbers
     → ((k : ℕ) → k < length ends → slice_index ends k ≡ length ends - 1) → IsNotUndercut sums sums ends 1 128 place
     → AreGoodLiterals numbers place
-literals_by_window numbers sums ends place placed size all kept = λ count some few within.
+literals_by_window numbers sums ends {place} placed size all kept = λ count some few within.
     omega (
       arith,
       kept (place + count) (omega arith) (omega arith) (omega (arith, all place (omega (arith, size)), size)),
@@ -91,10 +91,10 @@ literals_by_window numbers sums ends place placed size all kept = λ count some 
       placed (place + count) within,
     )
 
-pub window_by_literals : (numbers sums ends : List ℕ) (place : ℕ) → ArePlaced numbers sums → length ends ≡ length numbers
+pub window_by_literals : (numbers sums ends : List ℕ) {place : ℕ} → ArePlaced numbers sums → length ends ≡ length numbers
     → ((k : ℕ) → k < length ends → slice_index ends k ≡ length ends - 1) → place < length numbers → AreGoodLiterals numbers place
     → IsNotUndercut sums sums ends 1 128 place
-window_by_literals numbers sums ends place placed size all inside good = λ stop past few within.
+window_by_literals numbers sums ends {place} placed size all inside good = λ stop past few within.
     let end = all place (omega (arith, size)) in
     let there : place + (stop - place) ≡ stop = omega arith in
     omega (
@@ -159,9 +159,9 @@ start_within old row ends place offset len are some within alike =
     ]
 
 -- what comes before such a start is the same
-same_before_start : (old row ends : List ℕ) (place offset : ℕ) → length old ≡ length row → AreStartEnds old row ends 0
+same_before_start : {old row ends : List ℕ} {place : ℕ} (offset : ℕ) → length old ≡ length row → AreStartEnds old row ends 0
     → place < length row → place + offset + 1 ≤ slice_index ends place → take offset (drop place row) ≡ take offset (drop place old)
-same_before_start old row ends place offset size are inside within =
+same_before_start {old} {row} {place} offset size are inside within =
     let is = are.starts place (omega arith) inside in
     let one : length (take offset (drop place row)) ≡ offset =
     length-take-le offset (drop place row) (omega (arith, length-drop place row, is.within)) in
@@ -182,10 +182,10 @@ pub record AreKeptStarts (numbers sums ends : List ℕ) (place : ℕ) : Type 0 w
   pub four : IsNotUndercut numbers sums ends 4 796 place
 
 -- what a start costs at least
-start_cost : (numbers sums ends : List ℕ) (place offset : ℕ) → AreKeptStarts numbers sums ends place → offset < 600
+start_cost : {numbers sums ends : List ℕ} {place : ℕ} (offset : ℕ) → AreKeptStarts numbers sums ends place → offset < 600
     → place + offset + 1 ≤ slice_index ends place
     → slice_index numbers place ≤ replacement_bytes offset + slice_index sums (place + offset + 1)
-start_cost numbers sums ends place offset kept small within =
+start_cost {place} offset kept small within =
     elim (cases_lt offset 31) [
       | inl near ↦ omega (arith, kept.one (place + offset + 1) (omega arith) (omega arith) within, near_bytes offset near)
       | inr far ↦
@@ -199,10 +199,10 @@ start_cost numbers sums ends place offset kept small within =
           ]
     ]
 
-pub replacements_by_windows : (old row numbers sums ends : List ℕ) (place : ℕ) → length row ≤ 600 → length numbers ≡ length row + 1
+pub replacements_by_windows : {old row numbers sums ends : List ℕ} {place : ℕ} → length row ≤ 600 → length numbers ≡ length row + 1
     → AreStartEnds old row ends 0 → AreBehindStarts numbers sums → AreKeptStarts numbers sums ends place
     → AreGoodReplacements old row numbers place
-replacements_by_windows old row numbers sums ends place small size are behind kept = λ offset len some few within alike.
+replacements_by_windows {old} {row} {numbers} {ends} {place} small size are behind kept = λ offset len some few within alike.
     let start : ℕ = place + offset in
     let reach = start_within old row ends place offset len are some within alike in
     let b = behind start (omega (arith, size)) in
@@ -210,17 +210,17 @@ replacements_by_windows old row numbers sums ends place small size are behind ke
     let there : start + len ≡ place + (offset + len) = omega arith in
     omega (
       arith,
-      start_cost numbers sums ends place offset kept (omega arith) reach,
+      start_cost offset kept (omega arith) reach,
       low,
       get_or-drop start numbers len 0,
       ap (slice_index numbers) there,
     )
 
-pub window_by_replacements : (old row numbers sums ends : List ℕ) (cost most place : ℕ) → length old ≡ length row
+pub window_by_replacements : {old row numbers : List ℕ} (sums : List ℕ) {ends : List ℕ} {cost most place : ℕ} → length old ≡ length row
     → length numbers ≡ length row + 1 → AreStartEnds old row ends 0 → AreBehindStarts numbers sums → place ≤ length row
     → ((offset : ℕ) → offset < most → replacement_bytes offset ≤ cost) → AreGoodReplacements old row numbers place
     → IsNotUndercut numbers sums ends cost most place
-window_by_replacements old row numbers sums ends cost most place same size are behind le spelled good = λ stop past few within.
+window_by_replacements {row} {numbers} sums {ends} {place} same size are behind le spelled good = λ stop past few within.
     elim (cases_lt place (length row)) [
       | inr last ↦ let at : length row ≡ place = omega arith in absurd (omega (arith, are.last, ap (slice_index ends) at))
       | inl inside ↦
@@ -231,7 +231,7 @@ window_by_replacements old row numbers sums ends cost most place same size are b
           let b = behind start (omega (arith, is.within, size)) in
           let len : ℕ = b.0 in
           let there : start + len ≡ place + (offset + len) = omega arith in
-          let alike = same_before_start old row ends place offset same are inside (omega arith) in
+          let alike = same_before_start offset same are inside (omega arith) in
           omega (
             arith,
             good offset len (omega (arith, b.1.above)) (omega (arith, b.1.below)) (omega (arith, b.1.below, size, is.within)) alike,
@@ -254,15 +254,15 @@ far_cost offset most cost far two =
       | inr above ↦ omega (arith, far_bytes offset above)
     ]
 
-pub kept_starts : (old row numbers sums ends : List ℕ) (place : ℕ) → length old ≡ length row
+pub kept_starts : {old row numbers sums ends : List ℕ} {place : ℕ} → length old ≡ length row
     → length numbers ≡ length row + 1 → AreStartEnds old row ends 0 → AreBehindStarts numbers sums → place ≤ length row
     → AreGoodReplacements old row numbers place → AreKeptStarts numbers sums ends place
-kept_starts old row numbers sums ends place same size are behind le good = record {
-  one = window_by_replacements old row numbers sums ends 1 31 place same size are behind le near_cost good;
-  two = window_by_replacements old row numbers sums ends 2 286 place same size are behind le
+kept_starts {sums} same size are behind le good = record {
+  one = window_by_replacements sums same size are behind le near_cost good;
+  two = window_by_replacements sums same size are behind le
       (λ offset below. far_cost offset 286 2 (omega arith) (omega arith)) good;
-  three = window_by_replacements old row numbers sums ends 3 541 place same size are behind le
+  three = window_by_replacements sums same size are behind le
       (λ offset below. far_cost offset 541 3 (omega arith) (omega arith)) good;
-  four = window_by_replacements old row numbers sums ends 4 796 place same size are behind le
+  four = window_by_replacements sums same size are behind le
       (λ offset below. far_cost offset 796 4 (omega arith) (omega arith)) good;
 }

@@ -21,10 +21,10 @@ use Rattle.std.specs.Prelude.{Option, Some, None}
 -- ---- from kinds to elements
 
 -- copies of one byte that agree with the row
-copies_front : (wanted : List ℕ) (e : Element) (least most : ℕ) → (r : IsRepeat e.head e.bytes least most) → offset_of e.head ≡ 0
+copies_front : (wanted : List ℕ) {e : Element} {least most : ℕ} → (r : IsRepeat e.head e.bytes least most) → offset_of e.head ≡ 0
     → given e ≡ take (length (given e)) (drop (offset_of e.head) wanted)
     → (length (given e) ≡ r.count) × (take r.count wanted ≡ replicate r.count r.byte)
-copies_front wanted e least most r none gives =
+copies_front wanted {e} r none gives =
     let size : length (given e) ≡ r.count = ap length r.given_is ∙ length-replicate r.count r.byte in (
       size,
       sym (gives ∙ ap (λ (n : ℕ). take n (drop (offset_of e.head) wanted)) size ∙ ap (λ (n : ℕ). take r.count (drop n wanted)) none)
@@ -32,13 +32,13 @@ copies_front wanted e least most r none gives =
     )
 
 -- where an element that gives something leads
-next_number : (old row numbers : List ℕ) (method : Method) (place : ℕ) (e : Element) (next count : ℕ) → Leads method old row place e next
+next_number : {old row : List ℕ} (numbers : List ℕ) {method : Method} {place : ℕ} {e : Element} {next count : ℕ} → Leads method old row place e next
     → stop e ≡ count → slice_index numbers next ≡ slice_index numbers (place + count)
-next_number old row numbers method place e next count l stops = ap (slice_index numbers) (omega (arith, l.next_is, stops))
+next_number numbers l stops = ap (slice_index numbers) (omega (arith, l.next_is, stops))
 
-pub steps_plain : (old row numbers : List ℕ) (place : ℕ) → length old ≡ length row → length numbers ≡ length row + 1 → place ≤ length row
+pub steps_plain : {old row : List ℕ} (numbers : List ℕ) {place : ℕ} → length old ≡ length row → length numbers ≡ length row + 1 → place ≤ length row
     → IsGoodByte numbers place → AreGoodSteps Plain old row numbers place
-steps_plain old row numbers place same size le good = λ e next l.
+steps_plain {old} {row} numbers {place} same size le good = λ e next l.
     let wanted : List ℕ = drop place row in
     let s = plain_shape e.head e.bytes l.element.head_is.method_is l.element.complete in
     let g = agrees_gives Plain (drop place old) wanted e (omega (arith, length-drop place old, length-drop place row)) l.element l.agrees in
@@ -49,27 +49,27 @@ steps_plain old row numbers place same size le good = λ e next l.
       s.1.bytes_are,
       s.1.above,
       s.1.below,
-      next_number old row numbers Plain place e next 1 l one,
+      next_number numbers l one,
     )
 
-pub steps_runs : (old row numbers : List ℕ) (place : ℕ) → length old ≡ length row → place ≤ length row
+pub steps_runs : {old row : List ℕ} (numbers : List ℕ) {place : ℕ} → length old ≡ length row → place ≤ length row
     → AreGoodRuns row numbers 256 place → AreGoodSteps Runs old row numbers place
-steps_runs old row numbers place same le good = λ e next l.
+steps_runs {old} {row} numbers {place} same le good = λ e next l.
     let wanted : List ℕ = drop place row in
     let s = runs_shape e.head e.bytes l.element.head_is.method_is l.element.head_is.in_range l.element.complete in
     let g = agrees_gives Runs (drop place old) wanted e (omega (arith, length-drop place old, length-drop place row)) l.element l.agrees in
-    let f = copies_front wanted e 1 256 s.1 s.0 g.2 in
+    let f = copies_front wanted s.1 s.0 g.2 in
     let stops : stop e ≡ s.1.count = omega (arith, s.0, f.0) in
     omega (
       arith,
       good s.1.count s.1.byte (omega (arith, s.1.above)) s.1.below (omega (arith, g.0, stops, length-drop place row)) f.1,
       s.1.bytes_are,
-      next_number old row numbers Runs place e next s.1.count l stops,
+      next_number numbers l stops,
     )
 
-pub steps_packed : (old row numbers : List ℕ) (place : ℕ) → length old ≡ length row → length numbers ≡ length row + 1 → place ≤ length row
+pub steps_packed : {old row : List ℕ} (numbers : List ℕ) {place : ℕ} → length old ≡ length row → length numbers ≡ length row + 1 → place ≤ length row
     → AreGoodLiterals numbers place → AreGoodRuns row numbers 128 place → AreGoodSteps Packed old row numbers place
-steps_packed old row numbers place same size le literals runs = λ e next l.
+steps_packed {old} {row} numbers {place} same size le literals runs = λ e next l.
     let wanted : List ℕ = drop place row in
     let sizes : length (drop place old) ≡ length wanted = omega (arith, length-drop place old, length-drop place row) in
     let g = agrees_gives Packed (drop place old) wanted e sizes l.element l.agrees in
@@ -80,13 +80,13 @@ steps_packed old row numbers place same size le literals runs = λ e next l.
           let s = packed_shape e.head e.bytes l.element.head_is.method_is l.element.head_is.in_range l.element.complete some in
           elim s.1 [
             | inl r ↦
-                let f = copies_front wanted e 2 128 r s.0 g.2 in
+                let f = copies_front wanted r s.0 g.2 in
                 let stops : stop e ≡ r.count = omega (arith, s.0, f.0) in
                 omega (
                   arith,
                   runs r.count r.byte (omega (arith, r.above)) r.below (omega (arith, g.0, stops, length-drop place row)) f.1,
                   r.bytes_are,
-                  next_number old row numbers Packed place e next r.count l stops,
+                  next_number numbers l stops,
                 )
             | inr b ↦
                 let stops : stop e ≡ length (given e) = omega (arith, s.0) in
@@ -94,14 +94,14 @@ steps_packed old row numbers place same size le literals runs = λ e next l.
                   arith,
                   literals (length (given e)) (omega (arith, b.above)) b.below (omega (arith, g.0, stops, length-drop place row, size)),
                   b.bytes_are,
-                  next_number old row numbers Packed place e next (length (given e)) l stops,
+                  next_number numbers l stops,
                 )
           ]
     ]
 
-pub steps_delta : (old row numbers : List ℕ) (place : ℕ) → length old ≡ length row → place ≤ length row
+pub steps_delta : {old row : List ℕ} (numbers : List ℕ) {place : ℕ} → length old ≡ length row → place ≤ length row
     → AreGoodReplacements old row numbers place → AreGoodSteps Delta old row numbers place
-steps_delta old row numbers place same le good = λ e next l.
+steps_delta {old} {row} numbers {place} same le good = λ e next l.
     let wanted : List ℕ = drop place row in
     let s = delta_shape e.head e.bytes l.element.head_is.method_is l.element.head_is.in_range l.element.complete in
     let g = agrees_gives Delta (drop place old) wanted e (omega (arith, length-drop place old, length-drop place row)) l.element l.agrees in
@@ -111,16 +111,16 @@ steps_delta old row numbers place same le good = λ e next l.
       arith,
       good offset len (omega (arith, s.above)) s.below (omega (arith, g.0, length-drop place row)) g.1,
       s.bytes_are,
-      next_number old row numbers Delta place e next (offset + len) l refl,
+      next_number numbers l refl,
     )
 
 -- ---- from elements to kinds
 
 -- an element of a shape undercuts no number
-shape_kept : (method : Method) (old row numbers : List ℕ) (place : ℕ) (shape : Shape) (bytes : ℕ)
+shape_kept : {method : Method} {old row : List ℕ} (numbers : List ℕ) {place : ℕ} {shape : Shape} {bytes : ℕ}
     → IsShapeElement method (drop place old) (drop place row) shape bytes → AreGoodSteps method old row numbers place
     → slice_index numbers place ≤ bytes + slice_index numbers (place + shape_stop shape)
-shape_kept method old row numbers place shape bytes is good =
+shape_kept {row} numbers {place} {shape} is good =
     let e : Element = element_of shape (drop place row) in
     let there : place + stop e ≡ place + shape_stop shape = ap (λ (n : ℕ). place + n) is.stop_is in
     omega (
@@ -130,57 +130,57 @@ shape_kept method old row numbers place shape bytes is good =
       ap (slice_index numbers) there,
     )
 
-pub bytes_of_steps : (old row numbers : List ℕ) (place : ℕ) → length numbers ≡ length row + 1 → AreGoodSteps Plain old row numbers place
+pub bytes_of_steps : (old : List ℕ) {row : List ℕ} (numbers : List ℕ) {place : ℕ} → length numbers ≡ length row + 1 → AreGoodSteps Plain old row numbers place
     → IsGoodByte numbers place
-bytes_of_steps old row numbers place size good = λ inside.
-    shape_kept Plain old row numbers place SingleByte 1
+bytes_of_steps old {row} numbers {place} size good = λ inside.
+    shape_kept numbers
     (byte_step (drop place old) (drop place row) (omega (arith, length-drop place row, size))) good
 
 -- the byte of a run is its first one
-first_of_run : (wanted : List ℕ) (count byte : ℕ) → 0 < count → take count wanted ≡ replicate count byte
+first_of_run : (wanted : List ℕ) {count : ℕ} (byte : ℕ) → 0 < count → take count wanted ≡ replicate count byte
     → take count wanted ≡ replicate count (slice_index wanted 0)
-first_of_run wanted count byte some alike =
+first_of_run wanted {count} byte some alike =
     let first : byte ≡ slice_index wanted 0 =
     sym (get_or-replicate count 0 byte 0 some) ∙ ap (λ (bytes : List ℕ). get_or bytes 0 0) (sym alike) ∙ get_or-take count wanted 0 0 some
     in
     alike ∙ ap (replicate count) first
 
-pub runs_of_steps : (old row numbers : List ℕ) (place : ℕ) → AreGoodSteps Runs old row numbers place → AreGoodRuns row numbers 256 place
-runs_of_steps old row numbers place good = λ count byte some few within alike.
-    shape_kept Runs old row numbers place (Run count) 2
+pub runs_of_steps : (old : List ℕ) {row : List ℕ} (numbers : List ℕ) {place : ℕ} → AreGoodSteps Runs old row numbers place → AreGoodRuns row numbers 256 place
+runs_of_steps old {row} numbers {place} good = λ count byte some few within alike.
+    shape_kept numbers
     (run_step (drop place old) (drop place row) count (omega arith) few (omega (arith, length-drop place row))
-    (first_of_run (drop place row) count byte some alike)) good
+    (first_of_run (drop place row) byte some alike)) good
 
-pub literals_of_steps : (old row numbers : List ℕ) (place : ℕ) → length numbers ≡ length row + 1 → AreGoodSteps Packed old row numbers place
+pub literals_of_steps : {old row : List ℕ} (numbers : List ℕ) {place : ℕ} → length numbers ≡ length row + 1 → AreGoodSteps Packed old row numbers place
     → AreGoodLiterals numbers place
-literals_of_steps old row numbers place size good = λ count some few within.
-    shape_kept Packed old row numbers place (LiteralRun count) (1 + count)
+literals_of_steps {old} {row} numbers {place} size good = λ count some few within.
+    shape_kept numbers
     (literal_step (drop place old) (drop place row) count (omega arith) few (omega (arith, length-drop place row, size))) good
 
 -- a literal of one byte costs as much as its repeat would
-pub repeats_of_steps : (old row numbers : List ℕ) (place : ℕ) → length numbers ≡ length row + 1 → AreGoodSteps Packed old row numbers place
+pub repeats_of_steps : {old row : List ℕ} (numbers : List ℕ) {place : ℕ} → length numbers ≡ length row + 1 → AreGoodSteps Packed old row numbers place
     → AreGoodRuns row numbers 128 place
-repeats_of_steps old row numbers place size good = λ count byte some few within alike.
+repeats_of_steps {old} {row} numbers {place} size good = λ count byte some few within alike.
     elim (cases_lt 1 count) [
       | inl more ↦
-          shape_kept Packed old row numbers place (RepeatRun count) 2
+          shape_kept numbers
           (repeat_step (drop place old) (drop place row) count (omega arith) few (omega (arith, length-drop place row))
-          (first_of_run (drop place row) count byte some alike)) good
+          (first_of_run (drop place row) byte some alike)) good
       | inr one ↦
-          omega (arith, literals_of_steps old row numbers place size good count some few (omega (arith, size)), one)
+          omega (arith, literals_of_steps numbers size good count some few (omega (arith, size)), one)
     ]
 
-pub replacements_of_steps : (old row numbers : List ℕ) (place : ℕ) → AreGoodSteps Delta old row numbers place
+pub replacements_of_steps : {old row : List ℕ} (numbers : List ℕ) {place : ℕ} → AreGoodSteps Delta old row numbers place
     → AreGoodReplacements old row numbers place
-replacements_of_steps old row numbers place good = λ offset len some few within alike.
-    shape_kept Delta old row numbers place (Replace offset len) (replacement_bytes offset + len)
+replacements_of_steps {old} {row} numbers {place} good = λ offset len some few within alike.
+    shape_kept numbers
     (replace_step (drop place old) (drop place row) offset len (omega arith) few (omega (arith, length-drop place row)) alike) good
 
 -- ---- row tables
 
-pub table_of_good : (method : Method) (seed row numbers : List ℕ) → length numbers ≡ length row + 1
+pub table_of_good : {method : Method} {seed row numbers : List ℕ} → length numbers ≡ length row + 1
     → ((place : ℕ) → place ≤ length row → IsGoodPlace method seed row numbers place) → IsRowTable method seed row numbers
-table_of_good method seed row numbers size good = record {
+table_of_good {row} {numbers} size good = record {
   size = size;
   feasible = record {
     steps = λ place e next l.
@@ -200,12 +200,12 @@ table_of_good method seed row numbers size good = record {
 pub table_of_zeros : (method : Method) (seed row numbers : List ℕ) → length numbers ≡ length row + 1
     → ((k : ℕ) → k < length numbers → slice_index numbers k ≡ 0) → IsRowTable method seed row numbers
 table_of_zeros method seed row numbers size zeros =
-    table_of_good method seed row numbers size
+    table_of_good size
     (λ place le.
     let none = zeros place (omega (arith, size)) in
     record { steps = λ e next l. omega (arith, none); ends = λ end. none })
 
 pub finds_table : (method : Method) (seed row numbers : List ℕ) (found : Option ℕ) → length numbers ≡ length row + 1
     → FindsPlace (IsGoodPlace method seed row numbers) (length row) found → FindsBadPlace method seed row numbers found
-finds_table method seed row numbers None size found = table_of_good method seed row numbers size found
+finds_table method seed row numbers None size found = table_of_good size found
 finds_table method seed row numbers (Some bad) size found = found

@@ -10,24 +10,24 @@ use Rattle.pcl_check.specs.PlacePasses.{IsNotUndercut}
 use Rattle.pcl_check.proofs.Values.{length_values, value_in}
 use Rattle.pcl_check.proofs.StepWindows.{last_of}
 
-pub no_step : (numbers sums ends : List ℕ) (cost most place : ℕ) → last_of ends most place ≤ place → 0 < most
+pub no_step : (numbers sums ends : List ℕ) (cost : ℕ) {most place : ℕ} → last_of ends most place ≤ place → 0 < most
     → IsNotUndercut numbers sums ends cost most place
-no_step numbers sums ends cost most place none some = λ stop past few within. absurd (omega (arith, none))
+no_step numbers sums ends cost none some = λ stop past few within. absurd (omega (arith, none))
 
-pub kept_by_window : (numbers sums ends : List ℕ) (cost most place least : ℕ)
+pub kept_by_window : (numbers sums ends : List ℕ) (cost most : ℕ) {place least : ℕ}
     → IsLeastOf (values (slice_index sums) (place + 1) (last_of ends most place - place)) least
     → slice_index numbers place ≤ cost + least → IsNotUndercut numbers sums ends cost most place
-kept_by_window numbers sums ends cost most place least is le = λ stop past few within.
+kept_by_window numbers sums ends cost most {place} is le = λ stop past few within.
     let size = length_values (slice_index sums) (place + 1) (last_of ends most place - place) in
     let k : ℕ = stop - (place + 1) in
     let at = value_in (slice_index sums) (place + 1) (last_of ends most place - place) k (omega arith) in
     let there : place + 1 + k ≡ stop = omega arith in
     omega (arith, le, is.below k (omega (arith, size)), at, ap (slice_index sums) there)
 
-pub window_by_kept : (numbers sums ends : List ℕ) (cost most place least : ℕ)
+pub window_by_kept : (numbers sums ends : List ℕ) (cost most : ℕ) {place least : ℕ}
     → IsLeastOf (values (slice_index sums) (place + 1) (last_of ends most place - place)) least
     → IsNotUndercut numbers sums ends cost most place → slice_index numbers place ≤ cost + least
-window_by_kept numbers sums ends cost most place least is kept =
+window_by_kept numbers sums ends cost most {place} is kept =
     let k : ℕ = is.among.0 in
     let size = length_values (slice_index sums) (place + 1) (last_of ends most place - place) in
     let inside : k < last_of ends most place - place = omega (arith, is.among.1, size) in
@@ -40,11 +40,11 @@ abbrev pub IsBehindStart : List ℕ → List ℕ → ℕ → Type 0
 IsBehindStart numbers sums start =
     (len : ℕ) × IsLeastLen (drop start numbers) 1 (min (length numbers - 1 - start) 8) 0 1 len (slice_index sums (start + 1))
 
-pub behind_more : (numbers sums : List ℕ) (start least : ℕ) → start + 1 < length sums
+pub behind_more : {numbers : List ℕ} (sums : List ℕ) {start least : ℕ} → start + 1 < length sums
     → ((k : ℕ) → k < start → IsBehindStart numbers sums k)
     → (len : ℕ) × IsLeastLen (drop start numbers) 1 (min (length (drop start numbers) - 1) 8) 0 1 len least
     → (k : ℕ) → k < start + 1 → IsBehindStart numbers (set sums (start + 1) least) k
-behind_more numbers sums start least inside before here = λ k lt.
+behind_more {numbers} sums {start} {least} inside before here = λ k lt.
     elim (cases_lt k start) [
       | inl less ↦
           let is = before k less in

@@ -43,10 +43,10 @@ finds_both One Other last (Some x) (Some y) a b =
     ]
 
 -- another fact that says the same
-pub finds_place_too : (One Other : ℕ → Type 0) (last : ℕ) (found : Option ℕ) → ((place : ℕ) → place ≤ last → One place → Other place)
+pub finds_place_too : (One Other : ℕ → Type 0) {last : ℕ} (found : Option ℕ) → ((place : ℕ) → place ≤ last → One place → Other place)
     → ((place : ℕ) → place ≤ last → Other place → One place) → FindsPlace One last found → FindsPlace Other last found
-finds_place_too One Other last None to back found = λ place le. to place le (found place le)
-finds_place_too One Other last (Some bad) to back found = record {
+finds_place_too One Other None to back found = λ place le. to place le (found place le)
+finds_place_too One Other (Some bad) to back found = record {
   within = found.within;
   is_bad = λ other. found.is_bad (back bad found.within other);
   first = λ before lt. to before (omega (arith, lt, found.within)) (found.first before lt);
@@ -65,14 +65,14 @@ abbrev pub FindsFrom : (ℕ → Type 0) → ℕ → ℕ → Option ℕ → Type 
 FindsFrom Good from last found =
     MatchOption found ((place : ℕ) → from ≤ place → place ≤ last → Good place) (IsFirstFrom Good from last)
 
-pub found_good : (Good : ℕ → Type 0) (place last : ℕ) (found : Option ℕ) → Good place → FindsFrom Good (place + 1) last found
+pub found_good : (Good : ℕ → Type 0) {place : ℕ} (last : ℕ) (found : Option ℕ) → Good place → FindsFrom Good (place + 1) last found
     → FindsFrom Good place last found
-found_good Good place last None here found = λ k from within.
+found_good Good {place} last None here found = λ k from within.
     elim (cases_lt place k) [
       | inl past ↦ found k (omega arith) within
       | inr at ↦ let same : place ≡ k = omega arith in subst Good same here
     ]
-found_good Good place last (Some bad) here found = record {
+found_good Good {place} last (Some bad) here found = record {
   order = omega (arith, found.order);
   within = found.within;
   is_bad = found.is_bad;
@@ -83,8 +83,8 @@ found_good Good place last (Some bad) here found = record {
       ];
 }
 
-pub found_bad : (Good : ℕ → Type 0) (place last : ℕ) → place ≤ last → (Good place → ⊥) → FindsFrom Good place last (Some place)
-found_bad Good place last within bad = record {
+pub found_bad : (Good : ℕ → Type 0) {place last : ℕ} → place ≤ last → (Good place → ⊥) → FindsFrom Good place last (Some place)
+found_bad Good within bad = record {
   order = omega arith;
   within = within;
   is_bad = bad;
@@ -92,11 +92,11 @@ found_bad Good place last within bad = record {
 }
 
 -- all places before are good
-pub found_all : (Good : ℕ → Type 0) (from last : ℕ) (found : Option ℕ) → ((k : ℕ) → k < from → Good k) → FindsFrom Good from last found
+pub found_all : (Good : ℕ → Type 0) {from : ℕ} (last : ℕ) (found : Option ℕ) → ((k : ℕ) → k < from → Good k) → FindsFrom Good from last found
     → FindsPlace Good last found
-found_all Good from last None good found = λ k within.
+found_all Good {from} last None good found = λ k within.
     elim (cases_lt k from) [ inl before ↦ good k before | inr behind ↦ found k behind within ]
-found_all Good from last (Some bad) good found = record {
+found_all Good {from} last (Some bad) good found = record {
   within = found.within;
   is_bad = found.is_bad;
   first = λ k lt. elim (cases_lt k from) [ inl before ↦ good k before | inr behind ↦ found.first k behind lt ];

@@ -11,9 +11,9 @@ use Rattle.pcl_plan.proofs.Filled.{white_below, run_more, run_none, run_end}
 use Rattle.pcl_check.specs.EdgePasses.{AreRunEnds, AreEnds}
 
 -- the white rows from a row end no earlier where they begin a row later
-ends_grow : (rows : List (List ℕ)) (ends : List ℕ) (row : ℕ) → AreRunEnds rows ends 0 → row < length rows
+ends_grow : {rows : List (List ℕ)} {ends : List ℕ} (row : ℕ) → AreRunEnds rows ends 0 → row < length rows
     → slice_index ends row ≤ slice_index ends (row + 1)
-ends_grow rows ends row are lt =
+ends_grow {rows} {ends} row are lt =
     let here = are.runs row (omega arith) (omega arith) in
     let next = are.runs (row + 1) (omega arith) (omega arith) in
     let end : ℕ = slice_index ends row in
@@ -26,20 +26,20 @@ ends_grow rows ends row are lt =
           absurd (next.1.longest (omega (arith, next.0, here.0, here.1.within)) (subst (λ (y : ℕ). IsWhite (row_at rows y)) there white))
     ]
 
-pub ends_known : (rows : List (List ℕ)) (ends : List ℕ) (last : ℕ) → length rows ≡ last → last ≤ 9999 → AreRunEnds rows ends 0
+pub ends_known : {rows : List (List ℕ)} {ends : List ℕ} {last : ℕ} → length rows ≡ last → last ≤ 9999 → AreRunEnds rows ends 0
     → AreEnds ends last
-ends_known rows ends last count few are = record {
+ends_known count few are = record {
   size = omega (arith, are.size, count);
   few = few;
   above = λ row le. (are.runs row (omega arith) (omega (arith, count))).0;
   within = λ row le. let is = are.runs row (omega arith) (omega (arith, count)) in omega (arith, is.0, is.1.within, count);
-  grow = λ row lt. ends_grow rows ends row are (omega (arith, count));
+  grow = λ row lt. ends_grow row are (omega (arith, count));
 }
 
 -- the end of the rows
-pub ends_begin : (rows : List (List ℕ)) (ends : List ℕ) (last : ℕ) → length rows ≡ last → length ends ≡ last + 1
+pub ends_begin : {rows : List (List ℕ)} (ends : List ℕ) {last : ℕ} → length rows ≡ last → length ends ≡ last + 1
     → AreRunEnds rows (set ends last last) last
-ends_begin rows ends last count size =
+ends_begin {rows} ends {last} count size =
     let inside : last < length ends = omega arith in
     let at : slice_index (set ends last last) last ≡ last = get_or-set_same ends last last 0 inside in
     record {
@@ -54,9 +54,9 @@ ends_begin rows ends last count size =
     }
 
 -- a row more
-pub ends_more : (rows : List (List ℕ)) (ends : List ℕ) (row end : ℕ) → row < length rows → AreRunEnds rows ends (row + 1)
+pub ends_more : {rows : List (List ℕ)} {ends : List ℕ} {row end : ℕ} → row < length rows → AreRunEnds rows ends (row + 1)
     → row ≤ end → IsWhiteRun rows row (end - row) → AreRunEnds rows (set ends row end) row
-ends_more rows ends row end lt are order run =
+ends_more {rows} {ends} {row} {end} lt are order run =
     let inside : row < length ends = omega (arith, are.size) in
     let at : slice_index (set ends row end) row ≡ end = get_or-set_same ends row end 0 inside in
     record {
@@ -74,15 +74,15 @@ ends_more rows ends row end lt are order run =
           ];
     }
 
-pub white_more : (rows : List (List ℕ)) (ends : List ℕ) (row : ℕ) → row < length rows → AreRunEnds rows ends (row + 1)
+pub white_more : {rows : List (List ℕ)} {ends : List ℕ} {row : ℕ} → row < length rows → AreRunEnds rows ends (row + 1)
     → IsWhite (row_at rows row)
     → (row ≤ slice_index ends (row + 1)) × IsWhiteRun rows row (slice_index ends (row + 1) - row)
-white_more rows ends row lt are white =
+white_more {rows} {ends} {row} lt are white =
     let next = are.runs (row + 1) (omega arith) (omega arith) in
     let count : slice_index ends (row + 1) - (row + 1) + 1 ≡ slice_index ends (row + 1) - row = omega (arith, next.0) in (
       omega (arith, next.0),
       subst (IsWhiteRun rows row) count (run_more rows row (slice_index ends (row + 1) - (row + 1)) lt next.1 white),
     )
 
-pub inked_more : (rows : List (List ℕ)) (row : ℕ) → row < length rows → (IsWhite (row_at rows row) → ⊥) → IsWhiteRun rows row (row - row)
-inked_more rows row lt inked = let none : 0 ≡ row - row = omega arith in subst (IsWhiteRun rows row) none (run_none rows row lt inked)
+pub inked_more : {rows : List (List ℕ)} {row : ℕ} → row < length rows → (IsWhite (row_at rows row) → ⊥) → IsWhiteRun rows row (row - row)
+inked_more {rows} {row} lt inked = let none : 0 ≡ row - row = omega arith in subst (IsWhiteRun rows row) none (run_none rows row lt inked)

@@ -13,14 +13,14 @@ use Rattle.pcl_check.proofs.Values.{length_values, value_in}
 use Rattle.pcl_check.proofs.StepWindows.{last_of}
 
 -- no row to skip
-pub none_to_skip : (ends : List ℕ) (number : Node → ℕ) (method : Method) (digits most row : ℕ) → last_of ends most row ≤ row → 0 < most
+pub none_to_skip : (ends : List ℕ) (number : Node → ℕ) {method : Method} (digits : ℕ) {most row : ℕ} → last_of ends most row ≤ row → 0 < most
     → AreGoodSkipsOf ends number method digits most row
-none_to_skip ends number method digits most row none some = λ count inside one few within. absurd (omega (arith, none))
+none_to_skip ends number digits none some = λ count inside one few within. absurd (omega (arith, none))
 
-pub skips_by_window : (ends : List ℕ) (number : Node → ℕ) (method : Method) (digits most row least : ℕ)
+pub skips_by_window : (ends : List ℕ) (number : Node → ℕ) {method : Method} (digits : ℕ) {most row least : ℕ}
     → IsLeastOf (rests number method (row + 1) (last_of ends most row - row)) least
     → number_at number row method true ≤ digits + 1 + least → AreGoodSkipsOf ends number method digits most row
-skips_by_window ends number method digits most row least is le = λ count inside some few within.
+skips_by_window ends number {method} digits {most} {row} is le = λ count inside some few within.
     let size = length_values (λ y. rest number y method) (row + 1) (last_of ends most row - row) in
     let at = value_in (λ y. rest number y method) (row + 1) (last_of ends most row - row) (count - 1) (omega arith) in
     let there : row + 1 + (count - 1) ≡ row + count = omega arith in
@@ -33,10 +33,10 @@ skips_by_window ends number method digits most row least is le = λ count inside
       rest_below number (row + count) method inside,
     )
 
-pub window_by_skips : (ends : List ℕ) (number : Node → ℕ) (method : Method) (digits most row least : ℕ)
+pub window_by_skips : (ends : List ℕ) (number : Node → ℕ) {method : Method} (digits : ℕ) {most row least : ℕ}
     → IsLeastOf (rests number method (row + 1) (last_of ends most row - row)) least
     → AreGoodSkipsOf ends number method digits most row → number_at number row method true ≤ digits + 1 + least
-window_by_skips ends number method digits most row least is good =
+window_by_skips ends number {method} digits {most} {row} is good =
     let k : ℕ = is.among.0 in
     let size = length_values (λ y. rest number y method) (row + 1) (last_of ends most row - row) in
     let inside : k < last_of ends most row - row = omega (arith, is.among.1, size) in
@@ -56,9 +56,9 @@ window_by_skips ends number method digits most row least is good =
 -- ---- all counts
 
 -- counts of few digits, tried as if they had more
-short_skips : (ends : List ℕ) (number : Node → ℕ) (method : Method) (row digits most : ℕ) → most < 10 ^ digits → most ≤ 9999
+short_skips : (ends : List ℕ) (number : Node → ℕ) {method : Method} {row : ℕ} (digits : ℕ) {most : ℕ} → most < 10 ^ digits → most ≤ 9999
     → AreGoodSkipsTo ends number method row → AreGoodSkipsOf ends number method digits most row
-short_skips ends number method row digits most short few good = λ count inside some le within.
+short_skips ends number digits short few good = λ count inside some le within.
     omega (arith, good count inside some within, count_le digits count (omega (arith, short)) (omega arith))
 
 -- the four counts of digits
@@ -71,10 +71,10 @@ pub record AreGoodByDigits (ends : List ℕ) (number : Node → ℕ) (method : M
 pub by_digits : (ends : List ℕ) (number : Node → ℕ) (method : Method) (row : ℕ) → AreGoodSkipsTo ends number method row
     → AreGoodByDigits ends number method row
 by_digits ends number method row good = record {
-  one = short_skips ends number method row 1 9 (omega arith) (omega arith) good;
-  two = short_skips ends number method row 2 99 (omega arith) (omega arith) good;
-  three = short_skips ends number method row 3 999 (omega arith) (omega arith) good;
-  four = short_skips ends number method row 4 9999 (omega arith) (omega arith) good;
+  one = short_skips ends number 1 (omega arith) (omega arith) good;
+  two = short_skips ends number 2 (omega arith) (omega arith) good;
+  three = short_skips ends number 3 (omega arith) (omega arith) good;
+  four = short_skips ends number 4 (omega arith) (omega arith) good;
 }
 
 pub all_digits : (ends : List ℕ) (last : ℕ) (number : Node → ℕ) (method : Method) (row : ℕ) → AreEnds ends last → row ≤ last

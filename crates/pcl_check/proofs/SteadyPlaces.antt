@@ -23,9 +23,9 @@ falls_on numbers falls place (suc gap) =
       | inr past ↦ omega (arith, get_or_past numbers (place + gap + 1) 0 past, ap (slice_index numbers) next)
     ]
 
-pub steady_by : (numbers : List ℕ) → slice_index numbers 0 ≤ 1200
+pub steady_by : {numbers : List ℕ} → slice_index numbers 0 ≤ 1200
     → ((k : ℕ) → k + 1 < length numbers → slice_index numbers (k + 1) ≤ slice_index numbers k) → IsSteady numbers
-steady_by numbers small falls =
+steady_by {numbers} small falls =
     let on : (place later : ℕ) → place ≤ later → slice_index numbers later ≤ slice_index numbers place =
     λ place later le.
     let at : place + (later - place) ≡ later = omega arith in
@@ -34,9 +34,9 @@ steady_by numbers small falls =
     record { falls = on; small = λ place. omega (arith, on 0 place (omega arith), small) }
 
 -- no more data is needed only where the number is 0
-pub end_of_need : (old row numbers : List ℕ) (end place : ℕ) → IsSteady numbers → IsNeedEnd old row numbers end
+pub end_of_need : {old row numbers : List ℕ} {end : ℕ} (place : ℕ) → IsSteady numbers → IsNeedEnd old row numbers end
     → IsGoodEnd old row numbers place
-end_of_need old row numbers end place steady need = λ ends.
+end_of_need {old} {row} {end} place steady need = λ ends.
     elim (cases_lt place end) [
       | inl before ↦ absurd (need.needed (omega arith) (sym (ends_at old row place (end - 1) ends (omega arith))))
       | inr past ↦ omega (arith, steady.falls end place past, need.none)
@@ -52,10 +52,10 @@ run_byte row place count byte k alike lt =
     ∙ get_or-replicate count k byte 0 lt
 
 -- a run that begins before a place where the bytes change ends there or before it
-pub runs_by_stop : (row numbers : List ℕ) (most end stop place : ℕ) → IsSteady numbers → slice_index numbers end ≡ 0 → place < stop
+pub runs_by_stop : (row : List ℕ) {numbers : List ℕ} {most end : ℕ} (stop : ℕ) {place : ℕ} → IsSteady numbers → slice_index numbers end ≡ 0 → place < stop
     → stop ≤ end → (stop < end → slice_index row (stop - 1) ≢ slice_index row stop)
     → slice_index numbers place ≤ 2 + slice_index numbers (min stop (place + most)) → AreGoodRuns row numbers most place
-runs_by_stop row numbers most end stop place steady none after within breaks kept = λ count byte some few inside alike.
+runs_by_stop row {numbers} {most} {end} stop {place} steady none after within breaks kept = λ count byte some few inside alike.
     elim (cases_lt stop (place + count)) [
       | inr reaches ↦ omega (arith, kept, steady.falls (place + count) (min stop (place + most)) (omega arith))
       | inl passes ↦
@@ -78,9 +78,9 @@ runs_past row numbers most end place steady none past = λ count byte some few i
 
 -- ---- literals
 
-pub sums_more : (numbers old new : List ℕ) (count : ℕ) → length old ≡ length numbers → AreLeastSums numbers count old
+pub sums_more : (numbers : List ℕ) {old new : List ℕ} {count : ℕ} → length old ≡ length numbers → AreLeastSums numbers count old
     → TakesBehind count old new → AreLeastSums numbers (count + count) new
-sums_more numbers old new count size sums takes = λ place stop after before inside.
+sums_more numbers {count} size sums takes = λ place stop after before inside.
     elim (cases_lt stop (place + count)) [
       | inl near ↦ omega (arith, takes.here place, sums place stop after near inside)
       | inr far ↦
@@ -93,9 +93,9 @@ literals_by_sums numbers least place sums kept = λ count some few within.
     omega (arith, kept (omega arith), sums (place + 1) (place + count) (omega arith) (omega arith) within)
 
 -- a literal that goes on where no more is needed
-pub literals_of_front : (numbers : List ℕ) (end place : ℕ) → IsSteady numbers → slice_index numbers end ≡ 0 → end < length numbers
+pub literals_of_front : {numbers : List ℕ} {end : ℕ} (place : ℕ) → IsSteady numbers → slice_index numbers end ≡ 0 → end < length numbers
     → AreGoodLiterals (take (end + 1) numbers) place → AreGoodLiterals numbers place
-literals_of_front numbers end place steady none inside good = λ count some few within.
+literals_of_front {numbers} {end} place steady none inside good = λ count some few within.
     let size : length (take (end + 1) numbers) ≡ end + 1 = length-take-le (end + 1) numbers (omega arith) in
     elim (cases_lt place end) [
       | inr past ↦ omega (arith, steady.falls end place past, none)
@@ -159,20 +159,20 @@ start_within old row place start offset order differs alike =
     ]
 
 -- the least sum of a front, where the numbers are 0 behind it
-front_sums : (numbers least : List ℕ) (end place stop : ℕ) → end < length numbers → AreLeastSums (take (end + 1) numbers) 8 least
+front_sums : (numbers least : List ℕ) {end : ℕ} (place stop : ℕ) → end < length numbers → AreLeastSums (take (end + 1) numbers) 8 least
     → place ≤ stop → stop < place + 8 → stop ≤ end → slice_index least place ≤ stop + slice_index numbers stop
-front_sums numbers least end place stop inside sums low high within =
+front_sums numbers least {end} place stop inside sums low high within =
     omega (
       arith,
       sums place stop low high (omega (arith, length-take-le (end + 1) numbers (omega arith))),
       get_or-take (end + 1) numbers stop 0 (omega arith),
     )
 
-pub replacements_by_start : (old row numbers least : List ℕ) (end place start : ℕ) → IsSteady numbers → slice_index numbers end ≡ 0
+pub replacements_by_start : (old row : List ℕ) {numbers : List ℕ} (least : List ℕ) {end place start : ℕ} → IsSteady numbers → slice_index numbers end ≡ 0
     → end < length numbers → AreLeastSums (take (end + 1) numbers) 8 least → place ≤ start → start < end
     → slice_index old start ≢ slice_index row start → IsKeptBefore (slice_index numbers place) least place start
     → AreGoodReplacements old row numbers place
-replacements_by_start old row numbers least end place start steady none inside sums order before differs kept =
+replacements_by_start old row {numbers} least {end} {place} {start} steady none inside sums order before differs kept =
     λ offset len some few within alike.
     let k = kept offset (start_within old row place start offset order differs alike) in
     let far : ℕ = k.0 in
@@ -181,29 +181,29 @@ replacements_by_start old row numbers least end place start steady none inside s
           omega (
             arith,
             k.3,
-            front_sums numbers least end (far + 1) (far + len) inside sums (omega arith) (omega arith) le,
+            front_sums numbers least (far + 1) (far + len) inside sums (omega arith) (omega arith) le,
             steady.falls (place + (offset + len)) (far + len) (omega (arith, k.1)),
           )
       | inl lt ↦
           omega (
             arith,
             k.3,
-            front_sums numbers least end (far + 1) end inside sums (omega (arith, k.2)) (omega arith) (omega arith),
+            front_sums numbers least (far + 1) end inside sums (omega (arith, k.2)) (omega arith) (omega arith),
             none,
           )
     ]
 
-pub replacements_past : (old row numbers : List ℕ) (end place : ℕ) → IsSteady numbers → slice_index numbers end ≡ 0 → end ≤ place
+pub replacements_past : (old row : List ℕ) {numbers : List ℕ} {end place : ℕ} → IsSteady numbers → slice_index numbers end ≡ 0 → end ≤ place
     → AreGoodReplacements old row numbers place
-replacements_past old row numbers end place steady none past = λ offset len some few within alike.
+replacements_past old row {end} {place} steady none past = λ offset len some few within alike.
     omega (arith, steady.falls end place past, none)
 
 -- ---- from a place to the one before
 
 -- the first bytes of a run, and the run from its second byte on
-rest_of_run : (row : List ℕ) (place count byte : ℕ) → take (suc count) (drop place row) ≡ replicate (suc count) byte
+rest_of_run : (row : List ℕ) (place count : ℕ) {byte : ℕ} → take (suc count) (drop place row) ≡ replicate (suc count) byte
     → take count (drop (place + 1) row) ≡ replicate count byte
-rest_of_run row place count byte alike =
+rest_of_run row place count {byte} alike =
     let size : length (take (suc count) (drop place row)) ≡ suc count = ap length alike ∙ length-replicate (suc count) byte in
     let fits : suc count ≤ length (drop place row) = omega (arith, size, length-take (suc count) (drop place row)) in
     let one : length (take count (drop (place + 1) row)) ≡ count =
@@ -215,10 +215,10 @@ rest_of_run row place count byte alike =
     ∙ run_byte row place (suc count) byte (k + 1) alike (omega arith) ∙ sym (get_or-replicate count k byte 0 lt))
 
 -- a run of some bytes at the place before
-runs_before : (row numbers : List ℕ) (most place : ℕ) → IsSteady numbers → FallsByRun row numbers place
+runs_before : {row numbers : List ℕ} {most place : ℕ} → IsSteady numbers → FallsByRun row numbers place
     → AreGoodRuns row numbers most (place + 1) → AreGoodRuns row numbers most place
-runs_before row numbers most place steady falls next zero byte some few inside alike = absurd (omega arith)
-runs_before row numbers most place steady falls next (suc zero) byte some few inside alike =
+runs_before steady falls next zero byte some few inside alike = absurd (omega arith)
+runs_before {row} {place} steady falls next (suc zero) byte some few inside alike =
     elim (cases_eq (slice_index row place) (slice_index row (place + 1))) [
       | inr differs ↦ falls.one differs
       | inl same ↦
@@ -227,7 +227,7 @@ runs_before row numbers most place steady falls next (suc zero) byte some few in
             | inr differs ↦ omega (arith, falls.two same differs, steady.falls (place + 1) (place + 2) (omega arith))
           ]
     ]
-runs_before row numbers most place steady falls next (suc (suc more)) byte some few inside alike =
+runs_before {row} {numbers} {place} steady falls next (suc (suc more)) byte some few inside alike =
     let count : ℕ = suc more in
     let at : place + 0 ≡ place = omega arith in
     let there : place + 1 + count ≡ place + suc count = omega arith in
@@ -239,7 +239,7 @@ runs_before row numbers most place steady falls next (suc (suc more)) byte some 
           omega (
             arith,
             falls.more (first ∙ sym second) third,
-            next count byte (omega arith) (omega (arith, few)) (omega (arith, inside)) (rest_of_run row place count byte alike),
+            next count byte (omega arith) (omega (arith, few)) (omega (arith, inside)) (rest_of_run row place count alike),
             ap (slice_index numbers) there,
           )
       | inr differs ↦
@@ -253,25 +253,25 @@ runs_before row numbers most place steady falls next (suc (suc more)) byte some 
                   arith,
                   falls.two (first ∙ sym second) differs,
                   next 1 byte (omega arith) (omega (arith, few)) (omega (arith, inside))
-                      (subst (λ (n : ℕ). take n (drop (place + 1) row) ≡ replicate n byte) one (rest_of_run row place count byte alike)),
+                      (subst (λ (n : ℕ). take n (drop (place + 1) row) ≡ replicate n byte) one (rest_of_run row place count alike)),
                   ap (slice_index numbers) two,
                   ap (slice_index numbers) last,
                 )
           ]
     ]
 
-pub runs_from : (row numbers : List ℕ) (most from : ℕ) → IsSteady numbers → ((k : ℕ) → k < from → FallsByRun row numbers k)
+pub runs_from : {row numbers : List ℕ} {most : ℕ} (from : ℕ) → IsSteady numbers → ((k : ℕ) → k < from → FallsByRun row numbers k)
     → ((k : ℕ) → from ≤ k → AreGoodRuns row numbers most k) → (k : ℕ) → AreGoodRuns row numbers most k
-runs_from row numbers most zero steady falls good k = good k (omega arith)
-runs_from row numbers most (suc from) steady falls good k =
-    runs_from row numbers most from steady (λ j lt. falls j (omega arith)) (λ j low.
+runs_from zero steady falls good k = good k (omega arith)
+runs_from {row} {numbers} {most} (suc from) steady falls good k =
+    runs_from from steady (λ j lt. falls j (omega arith)) (λ j low.
     elim (cases_lt from j) [
       | inl past ↦ good j past
       | inr at ↦
           let same : from ≡ j = omega arith in
           let next : suc from ≡ from + 1 = omega arith in
           subst (AreGoodRuns row numbers most) same
-          (runs_before row numbers most from steady (falls from (omega arith)) (subst (AreGoodRuns row numbers most) next (good (suc from) (omega arith))))
+          (runs_before steady (falls from (omega arith)) (subst (AreGoodRuns row numbers most) next (good (suc from) (omega arith))))
     ]) k
 
 -- what is the same from a place on, from the next place on
@@ -292,15 +292,15 @@ bytes_grow offset = elim (cases_lt (1 + offset) 31) [
 ]
 
 -- a replacement that starts at a place that differs
-replaced_here : (numbers least : List ℕ) (end place len : ℕ) → slice_index numbers end ≡ 0 → end < length numbers
+replaced_here : (numbers least : List ℕ) {end : ℕ} (place len : ℕ) → slice_index numbers end ≡ 0 → end < length numbers
     → AreLeastSums (take (end + 1) numbers) 8 least → place < end → 0 < len → len ≤ 8
     → place + slice_index numbers place ≤ 1 + slice_index least (place + 1)
     → slice_index numbers place ≤ 1 + len + slice_index numbers (place + len)
-replaced_here numbers least end place len none inside sums before some few kept =
+replaced_here numbers least {end} place len none inside sums before some few kept =
     elim (cases_lt end (place + len)) [
-      | inr le ↦ omega (arith, kept, front_sums numbers least end (place + 1) (place + len) inside sums (omega arith) (omega arith) le)
+      | inr le ↦ omega (arith, kept, front_sums numbers least (place + 1) (place + len) inside sums (omega arith) (omega arith) le)
       | inl lt ↦
-          omega (arith, kept, front_sums numbers least end (place + 1) end inside sums (omega arith) (omega arith) (omega arith), none)
+          omega (arith, kept, front_sums numbers least (place + 1) end inside sums (omega arith) (omega arith) (omega arith), none)
     ]
 
 -- one that starts at the next place or behind it undercuts more
@@ -337,10 +337,10 @@ replaced_same old row numbers place len falls next some few within =
     ]
 
 -- replacements at the place before
-replacements_before : (old row numbers least : List ℕ) (end place : ℕ) → slice_index numbers end ≡ 0
+replacements_before : {old row numbers least : List ℕ} {end place : ℕ} → slice_index numbers end ≡ 0
     → end < length numbers → AreLeastSums (take (end + 1) numbers) 8 least → place < end → FallsByStart old row numbers least place
     → AreGoodReplacements old row numbers (place + 1) → AreGoodReplacements old row numbers place
-replacements_before old row numbers least end place none inside sums before falls next zero len some few within alike =
+replacements_before {old} {row} {numbers} {least} {place} none inside sums before falls next zero len some few within alike =
     let at : place + len ≡ place + (0 + len) = omega arith in
     elim (cases_eq (slice_index old place) (slice_index row place)) [
       | inl same ↦
@@ -353,12 +353,12 @@ replacements_before old row numbers least end place none inside sums before fall
       | inr differs ↦
           omega (
             arith,
-            replaced_here numbers least end place len none inside sums before some few (falls.differs differs),
+            replaced_here numbers least place len none inside sums before some few (falls.differs differs),
             one_byte 0,
             ap (slice_index numbers) at,
           )
     ]
-replacements_before old row numbers least end place none inside sums before falls next (suc offset) len some few within alike =
+replacements_before {old} {row} {numbers} {place} none inside sums before falls next (suc offset) len some few within alike =
     let more : suc offset ≡ 1 + offset = omega arith in
     let here : place + 0 ≡ place = omega arith in
     let same : slice_index old place ≡ slice_index row place =
@@ -367,19 +367,19 @@ replacements_before old row numbers least end place none inside sums before fall
     (replaced_next old row numbers place offset len (falls.same same) next some few (omega (arith, within))
     (subst (λ (n : ℕ). take n (drop place row) ≡ take n (drop place old)) more alike))
 
-pub replacements_from : (old row numbers least : List ℕ) (end from : ℕ) → slice_index numbers end ≡ 0
+pub replacements_from : {old row numbers least : List ℕ} {end : ℕ} (from : ℕ) → slice_index numbers end ≡ 0
     → end < length numbers → AreLeastSums (take (end + 1) numbers) 8 least → from ≤ end
     → ((k : ℕ) → k < from → FallsByStart old row numbers least k)
     → ((k : ℕ) → from ≤ k → AreGoodReplacements old row numbers k) → (k : ℕ) → AreGoodReplacements old row numbers k
-replacements_from old row numbers least end zero none inside sums le falls good k = good k (omega arith)
-replacements_from old row numbers least end (suc from) none inside sums le falls good k =
-    replacements_from old row numbers least end from none inside sums (omega arith) (λ j lt. falls j (omega arith)) (λ j low.
+replacements_from zero none inside sums le falls good k = good k (omega arith)
+replacements_from {old} {row} {numbers} (suc from) none inside sums le falls good k =
+    replacements_from from none inside sums (omega arith) (λ j lt. falls j (omega arith)) (λ j low.
     elim (cases_lt from j) [
       | inl past ↦ good j past
       | inr at ↦
           let same : from ≡ j = omega arith in
           let next : suc from ≡ from + 1 = omega arith in
           subst (AreGoodReplacements old row numbers) same
-          (replacements_before old row numbers least end from none inside sums (omega arith) (falls from (omega arith))
+          (replacements_before none inside sums (omega arith) (falls from (omega arith))
           (subst (AreGoodReplacements old row numbers) next (good (suc from) (omega arith))))
     ]) k

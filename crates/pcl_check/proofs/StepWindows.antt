@@ -18,22 +18,22 @@ pub record IsStepWindow (ends : List ℕ) (value : ℕ → ℕ) (most : ℕ) (nu
   pub before : place < length ends → stop ≤ slice_index ends place + 1
   pub numbers_are : numbers ≡ values value place (stop - place)
 
-pub window_begins : (ends : List ℕ) (value : ℕ → ℕ) (most : ℕ) (numbers : List ℕ) → numbers ≡ [] → IsStepWindow ends value most numbers 0 0
-window_begins ends value most numbers none = record {
+pub window_begins : {ends : List ℕ} {value : ℕ → ℕ} {most : ℕ} {numbers : List ℕ} → numbers ≡ [] → IsStepWindow ends value most numbers 0 0
+window_begins {value} none = record {
   order = omega arith;
   near = omega arith;
   within = omega arith;
   before = λ some. omega arith;
-  numbers_are = none ∙ sym (no_values value 0 (0 - 0) (omega arith));
+  numbers_are = none ∙ sym (no_values value 0 (omega arith));
 }
 
 -- where it goes on to
-pub window_next : (ends : List ℕ) (last : ℕ) (value : ℕ → ℕ) (most : ℕ) (numbers filled taken : List ℕ) (place stop : ℕ)
+pub window_next : {ends : List ℕ} {last : ℕ} {value : ℕ → ℕ} {most : ℕ} {numbers filled taken : List ℕ} {place stop : ℕ}
     → AreEnds ends last → place ≤ last → 0 < most → IsStepWindow ends value most numbers place stop
     → filled ≡ numbers ++ values value stop (last_of ends most place + 1 - stop) → taken ≡ drop 1 filled
     → (0 < length filled) × (taken ≡ values value (place + 1) (last_of ends most place - place))
     × IsStepWindow ends value most taken (place + 1) (last_of ends most place + 1)
-window_next ends last value most numbers filled taken place stop are le some is put took =
+window_next {ends} {value} {most} {filled} {taken} {place} {stop} are le some is put took =
     let end : ℕ = last_of ends most place + 1 in
     let above = are.above place le in
     let room : stop ≤ end = omega (arith, is.before (omega (arith, are.size)), is.near) in
@@ -59,10 +59,10 @@ window_next ends last value most numbers filled taken place stop are le some is 
     )
 
 -- what is put in before a place
-pub window_put : (ends : List ℕ) (last : ℕ) (value : ℕ → ℕ) (most : ℕ) (numbers : List ℕ) (place stop : ℕ)
+pub window_put : {ends : List ℕ} {last : ℕ} {value : ℕ → ℕ} {most : ℕ} {numbers : List ℕ} {place stop : ℕ}
     → AreEnds ends last → place ≤ last → IsStepWindow ends value most numbers place stop
     → (stop ≤ last_of ends most place + 1) × (last_of ends most place + 1 ≤ length ends)
-window_put ends last value most numbers place stop are le is = (
+window_put {place} are le is = (
   omega (arith, is.before (omega (arith, are.size)), is.near),
   omega (arith, are.within place le, are.size),
 )

@@ -34,10 +34,10 @@ shorter text parameter is =
     omega (arith, ap length is.spelled, length-append parameter.digits.now (parameter.letter ∷ parameter.rest.now))
 
 -- a letter with its case
-cased : (capital byte : ℕ) → (byte ≡ capital) ⊎ (byte ≡ capital + 32) → (ends : Bool) × (byte ≡ letter_code capital ends)
+cased : {capital byte : ℕ} → (byte ≡ capital) ⊎ (byte ≡ capital + 32) → (ends : Bool) × (byte ≡ letter_code capital ends)
     × ((byte == capital + 32) ≡ not ends)
-cased capital byte (inl e) = (true, e, grind (arith, nat_tests))
-cased capital byte (inr e) = (false, e, grind (arith, nat_tests))
+cased (inl e) = (true, e, grind (arith, nat_tests))
+cased (inr e) = (false, e, grind (arith, nat_tests))
 
 -- ---- methods
 
@@ -55,27 +55,27 @@ none_past n lt =
     let d : (n == 3) ≡ false = grind (arith, nat_tests) in
     rw (a, b, c, d) refl
 
-of_code : (number : ℕ) (m : Method) → method_with_code number ≡ Some m → number ≡ method_code m
-of_code zero m e = let same : ◌≡◌ {A = Option Method} (Some Plain) (Some m) = e in let is : Plain ≡ m = cc in ap method_code is
-of_code (suc zero) m e = let same : ◌≡◌ {A = Option Method} (Some Runs) (Some m) = e in let is : Runs ≡ m = cc in ap method_code is
-of_code (suc (suc zero)) m e =
+of_code : (number : ℕ) {m : Method} → method_with_code number ≡ Some m → number ≡ method_code m
+of_code zero {m} e = let same : ◌≡◌ {A = Option Method} (Some Plain) (Some m) = e in let is : Plain ≡ m = cc in ap method_code is
+of_code (suc zero) {m} e = let same : ◌≡◌ {A = Option Method} (Some Runs) (Some m) = e in let is : Runs ≡ m = cc in ap method_code is
+of_code (suc (suc zero)) {m} e =
     let same : ◌≡◌ {A = Option Method} (Some Packed) (Some m) = e in let is : Packed ≡ m = cc in ap method_code is
-of_code (suc (suc (suc zero))) m e =
+of_code (suc (suc (suc zero))) {m} e =
     let same : ◌≡◌ {A = Option Method} (Some Delta) (Some m) = e in let is : Delta ≡ m = cc in ap method_code is
-of_code (suc (suc (suc (suc n)))) m e =
+of_code (suc (suc (suc (suc n)))) {m} e =
     let same : ◌≡◌ {A = Option Method} None (Some m) = sym (none_past (suc (suc (suc (suc n)))) (omega arith)) ∙ e in absurd cc
 
 -- a small number isn't cut
 small_is : (number spelled : ℕ) → number ≡ min spelled 65536 → number ≤ 65535 → spelled ≡ number
 small_is number spelled e le = omega arith
 
-pub no_switch : (picture : Picture) (size : Size) (above : List ℕ) (place : Place) (parameter : Parameter) → place.inside ≡ true
+pub no_switch : (picture : Picture) {size : Size} {above : List ℕ} (place : Place) {parameter : Parameter} → place.inside ≡ true
     → IsParameter place.text.now parameter → (parameter.letter ≡ 77) ⊎ (parameter.letter ≡ 109)
     → method_with_code parameter.number ≡ None
     → IsStep picture size place above None above
-no_switch picture size above place parameter inside is letter none = λ rows printed.
-    let signed = cased 77 parameter.letter letter in
-    no_method size picture.dpi (left_at size picture.dpi place above) parameter.digits.now parameter.letter parameter.rest.now signed.0 rows
+no_switch picture {size} {above} place {parameter} inside is letter none = λ rows printed.
+    let signed = cased letter in
+    no_method signed.0
     (told picture size above place parameter inside is) signed.1
     (λ next e.
     let le = few_codes next in
@@ -84,7 +84,7 @@ no_switch picture size above place parameter inside is letter none = λ rows pri
     absurd cc)
     printed
 
-pub switched : (picture : Picture) (size : Size) (above : List ℕ) (place : Place) (parameter : Parameter) (next : Method)
+pub switched : {picture : Picture} {size : Size} {above : List ℕ} {place : Place} {parameter : Parameter} {next : Method}
     → place.inside ≡ true → IsParameter place.text.now parameter → (parameter.letter ≡ 77) ⊎ (parameter.letter ≡ 109)
     → method_with_code parameter.number ≡ Some next → place.row ≤ page_height size picture.dpi
     → IsStep picture size place above (Some record {
@@ -94,9 +94,9 @@ pub switched : (picture : Picture) (size : Size) (above : List ℕ) (place : Pla
       inside = parameter.letter == 109;
       is_same = place.is_same;
     }) above
-switched picture size above place parameter next inside is letter some within =
-    let signed = cased 77 parameter.letter letter in
-    let number = of_code parameter.number next some in
+switched {picture} {size} {above} {place} {parameter} {next} inside is letter some within =
+    let signed = cased letter in
+    let number = of_code parameter.number some in
     let le = few_codes next in
     let spelled : number_of parameter.digits.now ≡ method_code next = omega (arith, is.number_is, number) in
     let left = left_at size picture.dpi place above in (
@@ -104,7 +104,7 @@ switched picture size above place parameter next inside is letter some within =
         given = [];
         becomes = subst (λ (b : Bool). GivesRows size picture.dpi left [] (left_over b next above left.rows parameter.rest.now))
             (sym signed.2)
-            (method_becomes size picture.dpi left parameter.digits.now parameter.letter parameter.rest.now next signed.0
+            (method_becomes signed.0
             (told picture size above place parameter inside is) signed.1 spelled);
         row_is = omega arith;
         within = within;
@@ -125,22 +125,22 @@ heights Letter Dpi600 = lit≤ tt
 heights Legal Dpi600 = lit≤ tt
 heights A4 Dpi600 = lit≤ tt
 
-pub becomes_to : (size : Size) (dpi : Dpi) (old : LeftOver) (given : List (List ℕ)) (inside outcome : Bool) (current : Method)
-    (above below : List ℕ) (rows left : ℕ) (text : List ℕ) → inside ≡ outcome → above ≡ below → rows ≡ left
+pub becomes_to : {size : Size} {dpi : Dpi} {old : LeftOver} {given : List (List ℕ)} {inside outcome : Bool} {current : Method}
+    {above below : List ℕ} {rows left : ℕ} {text : List ℕ} → inside ≡ outcome → above ≡ below → rows ≡ left
     → GivesRows size dpi old given (left_over inside current above rows text)
     → GivesRows size dpi old given (left_over outcome current below left text)
-becomes_to size dpi old given inside outcome current above below rows left text i a r b =
+becomes_to {size} {dpi} {old} {given} {outcome} {current} {above} {below} {rows} {text} i a r b =
     subst (λ (z : ℕ). GivesRows size dpi old given (left_over outcome current below z text)) r
     (subst (λ (z : List ℕ). GivesRows size dpi old given (left_over outcome current z rows text)) a
     (subst (λ (z : Bool). GivesRows size dpi old given (left_over z current above rows text)) i b))
 
-pub too_many : (picture : Picture) (size : Size) (above : List ℕ) (place : Place) (parameter : Parameter) (rows : List (List ℕ))
+pub too_many : (picture : Picture) {size : Size} {above : List ℕ} (place : Place) {parameter : Parameter} {rows : List (List ℕ)}
     → place.inside ≡ true → IsParameter place.text.now parameter → (parameter.letter ≡ 89) ⊎ (parameter.letter ≡ 121)
     → (0 < parameter.number → parameter.number ≤ page_height size picture.dpi - place.row → ⊥)
     → RestPrints size picture.dpi (left_at size picture.dpi place above) rows → ⊥
-too_many picture size above place parameter rows inside is letter none printed =
-    let signed = cased 89 parameter.letter letter in
-    no_skip size picture.dpi (left_at size picture.dpi place above) parameter.digits.now parameter.letter parameter.rest.now signed.0 rows
+too_many picture {size} {above} place {parameter} inside is letter none printed =
+    let signed = cased letter in
+    no_skip signed.0
     (told picture size above place parameter inside is) signed.1
     (λ some few. none (omega (arith, is.number_is)) (omega (arith, is.number_is))) printed
 
@@ -157,13 +157,13 @@ pub skipped : (picture : Picture) (size : Size) (above below : List ℕ) (place 
       is_same = is_same;
     }) below
 skipped picture size above below place parameter is_same inside is letter some few white same =
-    let signed = cased 89 parameter.letter letter in
+    let signed = cased letter in
     let high = heights size picture.dpi in
     let number : number_of parameter.digits.now ≡ parameter.number = omega (arith, is.number_is) in
     let left = left_at size picture.dpi place above in
     let given = white_rows size picture.dpi parameter.number in
     let many : length given ≡ parameter.number = length-replicate parameter.number (replicate (page_row_bytes size picture.dpi) 0) in
-    let moved = skip_becomes size picture.dpi left parameter.digits.now parameter.letter parameter.rest.now signed.0
+    let moved = skip_becomes signed.0
     (told picture size above place parameter inside is) signed.1 (omega (arith, number)) (omega (arith, number)) in
     let counted = subst (λ (n : ℕ). GivesRows size picture.dpi left (white_rows size picture.dpi n)
     (left_over (not signed.0) place.method (replicate (length above) 0) (left.rows - n) parameter.rest.now)) number moved in
@@ -174,8 +174,7 @@ skipped picture size above below place parameter is_same inside is letter some f
     λ e. subst (λ (n : ℕ). given ≡ take n (drop place.row (bitmap_rows picture))) many e in (
       record {
         given = given;
-        becomes = becomes_to size picture.dpi left given (not signed.0) (parameter.letter == 121) place.method (replicate (length above) 0)
-            below (left.rows - parameter.number) (page_height size picture.dpi - (place.row + parameter.number)) parameter.rest.now
+        becomes = becomes_to
             (sym signed.2) (sym white) (omega arith) counted;
         row_is = omega (arith, many);
         within = omega (arith, some, few);
@@ -187,18 +186,18 @@ skipped picture size above below place parameter is_same inside is letter some f
 -- ---- rows that are sent
 
 -- so many bytes at the front are the same bytes
-same_bytes : (a b x y : List ℕ) → a ++ x ≡ b ++ y → length a ≡ length b → (a ≡ b) × (x ≡ y)
-same_bytes a b x y e n = (
+same_bytes : {a b x y : List ℕ} → a ++ x ≡ b ++ y → length a ≡ length b → (a ≡ b) × (x ≡ y)
+same_bytes {a} {b} {x} {y} e n = (
   sym (take_at a x (length b) n) ∙ ap (take (length b)) e ∙ take_at b y (length b) refl,
   sym (drop_at a x (length b) n) ∙ ap (drop (length b)) e ∙ drop_at b y (length b) refl,
 )
 
-pub few_bytes : (picture : Picture) (size : Size) (above : List ℕ) (place : Place) (parameter : Parameter)
+pub few_bytes : (picture : Picture) {size : Size} {above : List ℕ} (place : Place) {parameter : Parameter}
     → place.inside ≡ true → IsParameter place.text.now parameter → parameter.letter ≡ 87
     → (parameter.number ≤ 65535 → length parameter.rest.now < parameter.number)
     → IsStep picture size place above None above
-few_bytes picture size above place parameter inside is letter none = λ rows printed.
-    no_send size picture.dpi (left_at size picture.dpi place above) parameter.digits.now parameter.letter parameter.rest.now rows
+few_bytes picture {size} {above} place {parameter} inside is letter none = λ rows printed.
+    no_send
     (told picture size above place parameter inside is) letter
     (λ bytes more first n parts some row row_data.
     let fits = row_data.fits in
@@ -207,18 +206,18 @@ few_bytes picture size above place parameter inside is letter none = λ rows pri
     omega (arith, lacks, number, ap length parts, length-append bytes more))
     printed
 
-pub no_row : (picture : Picture) (size : Size) (above : List ℕ) (place : Place) (parameter : Parameter) (bytes more : List ℕ)
-    (rows : List (List ℕ))
+pub no_row : (picture : Picture) {size : Size} {above : List ℕ} (place : Place) {parameter : Parameter} {bytes : List ℕ} (more : List ℕ)
+    {rows : List (List ℕ)}
     → place.inside ≡ true → IsParameter place.text.now parameter → parameter.letter ≡ 87 → parameter.number ≤ 65535
     → length bytes ≡ parameter.number → parameter.rest.now ≡ bytes ++ more
     → (0 < page_height size picture.dpi - place.row → (other : List ℕ) → IsRowOf size picture.dpi other
     → IsRowData place.method above other bytes → ⊥)
     → RestPrints size picture.dpi (left_at size picture.dpi place above) rows → ⊥
-no_row picture size above place parameter bytes more rows inside is letter le n parts none printed =
-    no_send size picture.dpi (left_at size picture.dpi place above) parameter.digits.now parameter.letter parameter.rest.now rows
+no_row picture {size} {above} place {parameter} more inside is letter le n parts none printed =
+    no_send
     (told picture size above place parameter inside is) letter
     (λ sent behind first m joined some row row_data.
-    let same = same_bytes sent bytes behind more (sym joined ∙ parts) (omega (arith, is.number_is, m, n)) in
+    let same = same_bytes (sym joined ∙ parts) (omega (arith, is.number_is, m, n)) in
     none some first row (subst (λ (z : List ℕ). IsRowData place.method above first z) same.0 row_data))
     printed
 
@@ -241,9 +240,8 @@ sent picture size above below place parameter bytes more is_same inside is lette
     let fewer = shorter place.text.now parameter is in (
       record {
         given = below ∷ [];
-        becomes = becomes_to size picture.dpi left (below ∷ []) false false place.method below below (left.rows - 1)
-            (page_height size picture.dpi - (place.row + 1)) more.now refl refl (omega arith)
-            (send_becomes size picture.dpi left parameter.digits.now parameter.letter parameter.rest.now bytes more.now below
+        becomes = becomes_to refl refl (omega arith)
+            (send_becomes
             (told picture size above place parameter inside is) letter number parts (omega (arith, lt)) row row_data);
         row_is = refl;
         within = omega (arith, lt);
@@ -259,7 +257,7 @@ pub neither_letter : (capital byte : ℕ) → (byte ≡ capital → ⊥) → (by
 neither_letter capital byte large small true e = large e
 neither_letter capital byte large small false e = small e
 
-pub sequence_opened : (picture : Picture) (size : Size) (above : List ℕ) (place : Place) (rest : Bor (List ℕ)) → place.inside ≡ false
+pub sequence_opened : {picture : Picture} {size : Size} {above : List ℕ} {place : Place} {rest : Bor (List ℕ)} → place.inside ≡ false
     → place.text.now ≡ opening_bytes ++ rest.now → place.row ≤ page_height size picture.dpi
     → IsStep picture size place above (Some record {
       text = rest;
@@ -268,10 +266,10 @@ pub sequence_opened : (picture : Picture) (size : Size) (above : List ℕ) (plac
       inside = true;
       is_same = place.is_same;
     }) above
-sequence_opened picture size above place rest outside e within = (
+sequence_opened {rest} outside e within = (
   record {
     given = [];
-    becomes = opening_becomes size picture.dpi (left_at size picture.dpi place above) rest.now outside e;
+    becomes = opening_becomes outside e;
     row_is = omega arith;
     within = within;
     same = (λ yes. (yes, refl), λ h. h.0);

@@ -14,39 +14,39 @@ pub record AreRests (number : Node → ℕ) (row plain others : ℕ) : Type 0 wh
   pub plain_is : plain ≡ rest number row Plain
   pub others_are : others ≡ min (min (rest number row Runs) (rest number row Packed)) (rest number row Delta)
 
-rest_within : (number : Node → ℕ) (row plain others n : ℕ) (next : Method) → AreRests number row plain others → n ≤ 1 + plain
+rest_within : {number : Node → ℕ} {row plain others : ℕ} (n : ℕ) (next : Method) → AreRests number row plain others → n ≤ 1 + plain
     → n ≤ 2 + others → n ≤ switch_cost next + rest number row next
-rest_within number row plain others n Plain are p o = omega (arith, are.plain_is)
-rest_within number row plain others n Runs are p o = omega (arith, are.others_are)
-rest_within number row plain others n Packed are p o = omega (arith, are.others_are)
-rest_within number row plain others n Delta are p o = omega (arith, are.others_are)
+rest_within n Plain are p o = omega (arith, are.plain_is)
+rest_within n Runs are p o = omega (arith, are.others_are)
+rest_within n Packed are p o = omega (arith, are.others_are)
+rest_within n Delta are p o = omega (arith, are.others_are)
 
-pub switches_good : (number : Node → ℕ) (row plain others : ℕ) (method : Method) → AreRests number row plain others
+pub switches_good : {number : Node → ℕ} {row plain others : ℕ} {method : Method} → AreRests number row plain others
     → number_at number row method true ≤ 1 + plain → number_at number row method true ≤ 2 + others → AreGoodSwitches number method row
-switches_good number row plain others method are p o = λ next inside.
+switches_good {number} {row} {method} are p o = λ next inside.
     omega (
       arith,
-      rest_within number row plain others (number_at number row method true) next are p o,
+      rest_within (number_at number row method true) next are p o,
       switching_is next,
       rest_below number row next inside,
     )
 
-switch_within : (number : Node → ℕ) (row : ℕ) (method next : Method) → AreGoodSwitches number method row
+switch_within : (number : Node → ℕ) {row : ℕ} {method : Method} (next : Method) → AreGoodSwitches number method row
     → number_at number row method true ≤ switch_cost next + rest number row next
-switch_within number row method next good =
+switch_within number {row} next good =
     let best = best_end number row next in omega (arith, good next (not best.0), switching_is next, best.1)
 
-pub plain_good : (number : Node → ℕ) (row plain others : ℕ) (method : Method) → AreRests number row plain others
+pub plain_good : {number : Node → ℕ} {row plain others : ℕ} {method : Method} → AreRests number row plain others
     → AreGoodSwitches number method row → number_at number row method true ≤ 1 + plain
-plain_good number row plain others method are good = omega (arith, are.plain_is, switch_within number row method Plain good)
+plain_good {number} are good = omega (arith, are.plain_is, switch_within number Plain good)
 
-pub others_good : (number : Node → ℕ) (row plain others : ℕ) (method : Method) → AreRests number row plain others
+pub others_good : {number : Node → ℕ} {row plain others : ℕ} {method : Method} → AreRests number row plain others
     → AreGoodSwitches number method row → number_at number row method true ≤ 2 + others
-others_good number row plain others method are good =
+others_good {number} are good =
     omega (
       arith,
       are.others_are,
-      switch_within number row method Runs good,
-      switch_within number row method Packed good,
-      switch_within number row method Delta good,
+      switch_within number Runs good,
+      switch_within number Packed good,
+      switch_within number Delta good,
     )

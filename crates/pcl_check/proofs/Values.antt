@@ -33,9 +33,9 @@ unfolding values
 values_rest value from zero some = absurd (omega arith)
 values_rest value from (suc count) some = let same : count ≡ suc count - 1 = omega arith in ap (values value (from + 1)) same
 
-pub no_values : (value : ℕ → ℕ) (from count : ℕ) → count ≡ 0 → values value from count ≡ []
+pub no_values : (value : ℕ → ℕ) (from : ℕ) {count : ℕ} → count ≡ 0 → values value from count ≡ []
 unfolding values
-no_values value from count none = ap (values value from) none
+no_values value from none = ap (values value from) none
 
 -- one value more
 pub values_more : (value : ℕ → ℕ) (from count : ℕ) → values value from (count + 1) ≡ values value from count ++ value (from + count) ∷ []

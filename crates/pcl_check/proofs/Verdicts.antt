@@ -23,9 +23,9 @@ use Rattle.pcl_check.proofs.Beginnings.{start_is, code_small, size_coded, size_r
 joined : (a b c : List ℕ) → a ++ (b ++ c) ≡ (a ++ b) ++ c
 joined a b c = simp append_assoc
 
-pub printed_text : (dpi : Dpi) (size : Size) (copies : ℕ) (rows : List (List ℕ)) (text rest : List ℕ) → 0 < copies → copies < 100
+pub printed_text : {dpi : Dpi} {size : Size} {copies : ℕ} {rows : List (List ℕ)} {text rest : List ℕ} → 0 < copies → copies < 100
     → text ≡ start_bytes dpi copies size ++ rest → RestPrints size dpi (body_of size dpi rest) rows → IsPageText dpi size copies rows text
-printed_text dpi size copies rows text rest some few e p = record {
+printed_text {dpi} {size} {copies} some few e p = record {
   some_copies = some;
   few_copies = few;
   count = p.count;
@@ -37,9 +37,9 @@ printed_text dpi size copies rows text rest some few e p = record {
 }
 
 -- the body behind the begin of a page text
-pub text_body : (dpi : Dpi) (size : Size) (copies : ℕ) (rows : List (List ℕ)) (text : List ℕ) → IsPageText dpi size copies rows text
+pub text_body : {dpi : Dpi} {size : Size} {copies : ℕ} {rows : List (List ℕ)} {text : List ℕ} → IsPageText dpi size copies rows text
     → (rest : List ℕ) × (text ≡ start_bytes dpi copies size ++ rest) × RestPrints size dpi (body_of size dpi rest) rows
-text_body dpi size copies rows text is = (
+text_body {dpi} {size} {copies} is = (
   flat_map token_bytes is.tokens ++ end_bytes,
   is.spelled ∙ sym (joined (start_bytes dpi copies size) (flat_map token_bytes is.tokens) end_bytes),
   record { count = is.count; rows_are = is.rows_are; tokens = is.tokens; spelled = refl; prints = is.prints },
@@ -51,14 +51,14 @@ pub record IsSameStart (copies other : ℕ) (size other_size : Size) (rest behin
   pub size_is : size ≡ other_size
   pub rest_is : rest ≡ behind
 
-pub one_start : (dpi : Dpi) (text : List ℕ) (copies other : ℕ) (size other_size : Size) (rest behind : List ℕ) → copies < 100 → other < 100
+pub one_start : (dpi : Dpi) {text : List ℕ} {copies other : ℕ} {size other_size : Size} {rest behind : List ℕ} → copies < 100 → other < 100
     → text ≡ start_bytes dpi copies size ++ rest → text ≡ start_bytes dpi other other_size ++ behind
     → IsSameStart copies other size other_size rest behind
-one_start dpi text copies other size other_size rest behind few less e f =
+one_start dpi {text} {copies} {size} {other_size} {rest} {behind} few less e f =
     let small = code_small size in
     let read : IsSize text copies (code_of size) (raster_start size dpi ++ rest) =
     record { few = omega arith; small = omega arith; text_is = e ∙ start_is dpi copies size rest } in
-    let found = size_read dpi text copies (code_of size) (raster_start size dpi ++ rest) other other_size behind read
+    let found = size_read read
     (record { few = less; text_is = f }) in
     let coded : Some size ≡ Some other_size = sym (size_coded size) ∙ ap size_with_code found.code_is ∙ size_coded other_size in
     let same : size ≡ other_size = cc in
@@ -71,33 +71,33 @@ one_start dpi text copies other size other_size rest behind few less e f =
 
 -- ---- verdicts
 
-pub no_start : (dpi : Dpi) (text : List ℕ) → IsStart dpi text None → IsSomePageText dpi text → ⊥
-no_start dpi text none is =
+pub no_start : {dpi : Dpi} {text : List ℕ} → IsStart dpi text None → IsSomePageText dpi text → ⊥
+no_start none is =
     let found = is.3 in
-    let body = text_body dpi is.0 is.1 is.2 text found in none is.1 is.0 body.0 found.some_copies found.few_copies body.1
+    let body = text_body found in none is.1 is.0 body.0 found.some_copies found.few_copies body.1
 
 -- the body of a page text that begins so
-body_at : (dpi : Dpi) (text : List ℕ) (start : Start) (size : Size) (copies : ℕ) (rows : List (List ℕ)) → IsStart dpi text (Some start)
+body_at : {dpi : Dpi} {text : List ℕ} (start : Start) {size : Size} {copies : ℕ} {rows : List (List ℕ)} → IsStart dpi text (Some start)
     → IsPageText dpi size copies rows text
     → (start.copies ≡ copies) × (start.size ≡ size) × RestPrints start.size dpi (body_of start.size dpi start.rest.now) rows
-body_at dpi text start size copies rows begun is =
-    let body = text_body dpi size copies rows text is in
-    let same = one_start dpi text start.copies copies start.size size start.rest.now body.0 begun.1 is.few_copies begun.2 body.1 in (
+body_at {dpi} start {size} {rows} begun is =
+    let body = text_body is in
+    let same = one_start dpi begun.1 is.few_copies begun.2 body.1 in (
       same.copies_is,
       same.size_is,
       subst (λ (z : Size). RestPrints z dpi (body_of z dpi start.rest.now) rows) (sym same.size_is)
           (subst (λ (z : List ℕ). RestPrints size dpi (body_of size dpi z) rows) (sym same.rest_is) body.2),
     )
 
-pub no_body : (picture : Picture) (text : List ℕ) (start : Start) (may_be : Bool) → IsStart picture.dpi text (Some start)
+pub no_body : (picture : Picture) {text : List ℕ} (start : Start) (may_be : Bool) → IsStart picture.dpi text (Some start)
     → IsBodyVerdict picture start.size start.rest.now may_be None → IsSomePageText picture.dpi text → ⊥
-no_body picture text start may_be begun none is =
-    none is.2 (body_at picture.dpi text start is.0 is.1 is.2 begun is.3).2
+no_body picture start may_be begun none is =
+    none is.2 (body_at start begun is.3).2
 
 -- rows of a page's size that begin its rows are all of them
-whole_page : (picture : Picture) (rows : List (List ℕ)) → length rows ≡ page_height picture.size picture.dpi
+whole_page : (picture : Picture) {rows : List (List ℕ)} → length rows ≡ page_height picture.size picture.dpi
     → rows ≡ take (length rows) (bitmap_rows picture) → rows ≡ bitmap_rows picture
-whole_page picture rows n e =
+whole_page picture {rows} n e =
     let all = bitmap_rows picture in
     let many : length all ≡ length rows =
     length_rows (page_height picture.size picture.dpi) (page_row_bytes picture.size picture.dpi) picture.bytes ∙ sym n in
@@ -107,35 +107,35 @@ whole_page picture rows n e =
 abbrev pub MayBe : Picture → ℕ → Start → Bool → Type 0
 MayBe picture copies start may_be = IsTrue may_be ↔ ((start.size ≡ picture.size) × (start.copies ≡ copies))
 
-pub same_page : (picture : Picture) (copies : ℕ) (text : List ℕ) (start : Start) (may_be : Bool) → IsStart picture.dpi text (Some start)
+pub same_page : {picture : Picture} {copies : ℕ} {text : List ℕ} (start : Start) {may_be : Bool} → IsStart picture.dpi text (Some start)
     → MayBe picture copies start may_be → IsBodyVerdict picture start.size start.rest.now may_be (Some true)
     → IsPageText picture.dpi picture.size copies (bitmap_rows picture) text
-same_page picture copies text start may_be begun may only =
+same_page {picture} {copies} {text} start begun may only =
     let same = only.same.0 refl in
     let is = may.0 same.0 in
     let count : length only.rows ≡ page_height picture.size picture.dpi =
     only.printed.count ∙ ap (λ (z : Size). page_height z picture.dpi) is.0 in
-    let all = whole_page picture only.rows count same.1 in
-    let printed = printed_text picture.dpi start.size start.copies only.rows text start.rest.now begun.0 begun.1 begun.2 only.printed in
+    let all = whole_page picture count same.1 in
+    let printed = printed_text begun.0 begun.1 begun.2 only.printed in
     subst (λ (z : List (List ℕ)). IsPageText picture.dpi picture.size copies z text) all
     (subst (λ (z : ℕ). IsPageText picture.dpi picture.size z only.rows text) is.1
     (subst (λ (z : Size). IsPageText picture.dpi z start.copies only.rows text) is.0 printed))
 
-pub some_page : (picture : Picture) (text : List ℕ) (start : Start) (may_be is_same : Bool) → IsStart picture.dpi text (Some start)
+pub some_page : {picture : Picture} {text : List ℕ} (start : Start) {may_be is_same : Bool} → IsStart picture.dpi text (Some start)
     → IsBodyVerdict picture start.size start.rest.now may_be (Some is_same) → IsSomePageText picture.dpi text
-some_page picture text start may_be is_same begun only = (
+some_page start begun only = (
   start.size,
   start.copies,
   only.rows,
-  printed_text picture.dpi start.size start.copies only.rows text start.rest.now begun.0 begun.1 begun.2 only.printed,
+  printed_text begun.0 begun.1 begun.2 only.printed,
 )
 
-pub other_page : (picture : Picture) (copies : ℕ) (text : List ℕ) (start : Start) (may_be : Bool) → IsStart picture.dpi text (Some start)
+pub other_page : {picture : Picture} {copies : ℕ} {text : List ℕ} (start : Start) {may_be : Bool} → IsStart picture.dpi text (Some start)
     → MayBe picture copies start may_be → IsBodyVerdict picture start.size start.rest.now may_be (Some false)
     → IsPageText picture.dpi picture.size copies (bitmap_rows picture) text → ⊥
-other_page picture copies text start may_be begun may only is =
+other_page {picture} start begun may only is =
     let all = bitmap_rows picture in
-    let body = body_at picture.dpi text start picture.size copies all begun is in
+    let body = body_at start begun is in
     let same : all ≡ only.rows = only.only all body.2 in
     let front : only.rows ≡ take (length only.rows) all =
     subst (λ (z : List (List ℕ)). z ≡ take (length z) all) same (sym (take_all (length all) all (omega arith))) in
@@ -168,5 +168,5 @@ size_itself Letter = refl
 size_itself Legal = refl
 size_itself A4 = refl
 
-pub sizes_same : (a b : Size) → a ≡ b → sameb the_type a b ≡ true
-sizes_same a b e = subst (λ (z : Size). sameb the_type a z ≡ true) e (size_itself a)
+pub sizes_same : {a b : Size} → a ≡ b → sameb the_type a b ≡ true
+sizes_same {a} e = subst (λ (z : Size). sameb the_type a z ≡ true) e (size_itself a)

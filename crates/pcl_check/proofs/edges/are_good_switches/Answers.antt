@@ -19,11 +19,11 @@ returns-then-is_within c =
       );
     } in (
       λ is.
-          switches_good number c.args.row c.rest-plain.result others c.args.method are
+          switches_good are
           (omega (arith, c.number-number.ensures, c.is_within.ensures.0 c.if-is_within.true))
           (omega (arith, c.number-number.ensures, c.is_within-then-is_within.ensures.0 is)),
       λ good. c.is_within-then-is_within.ensures.1
-          (omega (arith, c.number-number.ensures, others_good number c.args.row c.rest-plain.result others c.args.method are good)),
+          (omega (arith, c.number-number.ensures, others_good are good)),
     )
 
 pub returns-else-is_within : goal.returns-else-is_within
@@ -36,5 +36,5 @@ returns-else-is_within c =
     } in (
       λ is. (let no : true ≡ false = sym is ∙ c.if-is_within.false in absurd cc),
       λ good. c.is_within.ensures.1
-          (omega (arith, c.number-number.ensures, plain_good number c.args.row c.rest-plain.result others c.args.method are good)),
+          (omega (arith, c.number-number.ensures, plain_good are good)),
     )

@@ -20,7 +20,7 @@ loop-row-init c =
     let height : c.height-height.result ≡ page_height picture.size picture.dpi =
     c.height-height.ensures ∙ ap (λ (z : Size). page_height z c.dpi.result) c.size.ensures.value ∙ ap
     (λ (d : Dpi). page_height picture.size d) c.dpi.ensures.value in
-    ends_begin (bitmap_rows picture) c.args.ends.now c.height-height.result
+    ends_begin c.args.ends.now
     (length_rows (page_height picture.size picture.dpi) (page_row_bytes picture.size picture.dpi) picture.bytes ∙ sym height)
     (omega (arith, c.requires, height))
 
@@ -43,13 +43,13 @@ loop-row-preserved c =
       | then-is_blank w ↦
           let white : IsWhite (row_at rows row) =
           subst IsWhite (sym bytes) (recursion_from_All (λ (byte : ℕ). byte ≡ 0) _ (c.is_blank.ensures.bytes.0 w.if-is_blank.true)) in
-          let is = white_more rows c.loop-row.ends row inside behind white in
+          let is = white_more inside behind white in
           subst (λ (end : ℕ). AreRunEnds rows (set c.loop-row.ends row end) row) (sym w.ends-is)
-          (ends_more rows c.loop-row.ends row (slice_index c.loop-row.ends (row + 1)) inside behind is.0 is.1)
+          (ends_more inside behind is.0 is.1)
       | else-is_blank w ↦
           let inked : IsWhite (row_at rows row) → ⊥ = λ white.
           iff_false c.is_blank.ensures.bytes w.if-is_blank.false
           (All-from_recursion (λ (byte : ℕ). byte ≡ 0) _ (subst IsWhite bytes white)) in
           subst (λ (end : ℕ). AreRunEnds rows (set c.loop-row.ends row end) row) (sym w.ends-is)
-          (ends_more rows c.loop-row.ends row row inside behind (omega arith) (inked_more rows row inside inked))
+          (ends_more inside behind (omega arith) (inked_more inside inked))
     ]

@@ -25,21 +25,21 @@ rows_of_page page =
     length_rows (page_height picture.size picture.dpi) (page_row_bytes picture.size picture.dpi) picture.bytes
     ∙ ap (λ (z : Size). page_height z picture.dpi) page.size_is ∙ ap (λ (d : Dpi). page_height page.size d) page.dpi_is
 
-ends_of_page : (page : Page) (ends : List ℕ) → AreRunEnds (bitmap_rows page.bitmap) ends 0 → AreEnds ends (page_height page.size page.dpi)
-ends_of_page page ends are =
-    ends_known (bitmap_rows page.bitmap) ends (page_height page.size page.dpi) (rows_of_page page) (height_small page.size page.dpi) are
+ends_of_page : (page : Page) {ends : List ℕ} → AreRunEnds (bitmap_rows page.bitmap) ends 0 → AreEnds ends (page_height page.size page.dpi)
+ends_of_page page are =
+    ends_known (rows_of_page page) (height_small page.size page.dpi) are
 
 pub first_bad_in-plain-requires-clause-ends : goal.first_bad_in-plain-requires-clause-ends
-first_bad_in-plain-requires-clause-ends g c = ends_of_page c.args.page.now c.fill_run_ends.new.ends c.fill_run_ends.ensures
+first_bad_in-plain-requires-clause-ends g c = ends_of_page c.args.page.now c.fill_run_ends.ensures
 
 pub first_bad_in-runs-requires-clause-ends : goal.first_bad_in-runs-requires-clause-ends
-first_bad_in-runs-requires-clause-ends g c = ends_of_page c.args.page.now c.fill_run_ends.new.ends c.fill_run_ends.ensures
+first_bad_in-runs-requires-clause-ends g c = ends_of_page c.args.page.now c.fill_run_ends.ensures
 
 pub first_bad_in-packed-requires-clause-ends : goal.first_bad_in-packed-requires-clause-ends
-first_bad_in-packed-requires-clause-ends g c = ends_of_page c.args.page.now c.fill_run_ends.new.ends c.fill_run_ends.ensures
+first_bad_in-packed-requires-clause-ends g c = ends_of_page c.args.page.now c.fill_run_ends.ensures
 
 pub first_bad_in-delta-requires-clause-ends : goal.first_bad_in-delta-requires-clause-ends
-first_bad_in-delta-requires-clause-ends g c = ends_of_page c.args.page.now c.fill_run_ends.new.ends c.fill_run_ends.ensures
+first_bad_in-delta-requires-clause-ends g c = ends_of_page c.args.page.now c.fill_run_ends.ensures
 
 pub returns : goal.returns
 returns g c =
@@ -62,13 +62,13 @@ returns g c =
     c.first_of-3.ensures ∙ ap (λ (a : Option BadNumber). first_found a c.first_of-2.result) c.first_of.ensures
     ∙ ap (first_found one) c.first_of-2.ensures in
     subst (FindsBad (IsGoodNumber rows Counts number) last) (sym found)
-    (finds_too (InMethods ends last Counts number) (IsGoodNumber rows Counts number) last (first_found one other)
+    (finds_too (InMethods ends last Counts number) (IsGoodNumber rows Counts number) (first_found one other)
     (λ row method inside le good.
-    good_by_rows rows ends Counts number row method inside c.fill_run_ends.ensures (omega (arith, count))
+    good_by_rows Counts number method inside c.fill_run_ends.ensures (omega (arith, count))
     (subst (λ (n : ℕ). IsGoodBy ends n Counts number row method inside) (sym count)
     (good_of_methods ends last Counts number row method inside good)))
     (λ row method inside le good.
-    methods_of_good ends last Counts number row method inside
+    methods_of_good ends last Counts number row inside
     (subst (λ (n : ℕ). IsGoodBy ends n Counts number row method inside) count
-    (good_by_ends rows ends Counts number row method inside c.fill_run_ends.ensures (omega (arith, count)) good)))
+    (good_by_ends Counts number method inside c.fill_run_ends.ensures (omega (arith, count)) good)))
     all)

@@ -35,6 +35,6 @@ returns g c =
     c.first_of-3.ensures ∙ ap (λ (a : Option BadNumber). first_found a c.first_of-2.result) c.first_of.ensures
     ∙ ap (first_found one) c.first_of-2.ensures in
     subst (FindsBad (IsGoodIn ends last Counts number method) last) (sym found)
-    (finds_too (InParts ends last Counts number method) (IsGoodIn ends last Counts number method) last (first_found one other)
-    (λ row current inside le. good_of_parts ends last Counts number method row current inside)
-    (λ row current inside le. parts_of_good ends last Counts number method row current inside) all)
+    (finds_too (InParts ends last Counts number method) (IsGoodIn ends last Counts number method) (first_found one other)
+    (λ row current inside le. good_of_parts ends Counts number inside)
+    (λ row current inside le. parts_of_good ends Counts number inside) all)

@@ -12,7 +12,7 @@ returns-then-old-place c =
     let old = c.args.old.now in
     let row = c.args.row.now in
     let place : ℕ = c.loop-place.place in
-    found_all (IsGoodEnd old row c.args.numbers.now) place (length row) c.loop-place.found
+    found_all (IsGoodEnd old row c.args.numbers.now) (length row) c.loop-place.found
     (λ k lt end. absurd (c.if-old-place.true (sym (ends_at old row k (place - 1) end (omega arith))))) c.loop-place.invariant.found
 
 pub loop-place-preserved-then-numbers-place-gt0 : goal.loop-place-preserved-then-numbers-place-gt0
@@ -33,7 +33,7 @@ loop-place-preserved-then-numbers-place-gt0 c =
     ] in
     let end : Ends old row place = ends_by old row place c.requires.same same.same in
     record {
-      found = found_bad (IsGoodEnd old row numbers) place (length row) within
+      found = found_bad (IsGoodEnd old row numbers) within
           (λ good. absurd (omega (arith, good end, c.if-numbers-place-gt0.true)));
       same = λ _. same;
     }
@@ -57,7 +57,7 @@ loop-place-preserved c =
     ] in
     let none : slice_index numbers place ≡ 0 = omega (arith, c.if-numbers-place-gt0.false) in
     record {
-      found = found_good (IsGoodEnd old row numbers) place (length row) c.loop-place.found (λ end. none)
+      found = found_good (IsGoodEnd old row numbers) (length row) c.loop-place.found (λ end. none)
           (subst (λ (from : ℕ). FindsFrom (IsGoodEnd old row numbers) from (length row) c.loop-place.found) after
           c.loop-place.invariant.found);
       same = λ _. same;
@@ -65,5 +65,5 @@ loop-place-preserved c =
 
 pub returns : goal.returns
 returns c =
-    found_all (IsGoodEnd c.args.old.now c.args.row.now c.args.numbers.now) c.loop-place.place (length c.args.row.now) c.loop-place.found
+    found_all (IsGoodEnd c.args.old.now c.args.row.now c.args.numbers.now) (length c.args.row.now) c.loop-place.found
     (λ k lt. absurd (omega (arith, c.loop-place-test.false))) c.loop-place.invariant.found

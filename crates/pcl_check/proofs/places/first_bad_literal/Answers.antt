@@ -14,8 +14,8 @@ returns c =
     let wide : length sums - 1 ≡ length numbers - 1 = omega (arith, c.add_places.auto.sums, c.requires.room) in
     let found = subst (λ (n : ℕ). FindsPlace (IsNotUndercut sums sums ends 1 128) n c.first_undercut.result) wide
     c.first_undercut.ensures in
-    finds_place_too (IsNotUndercut sums sums ends 1 128) (AreGoodLiterals numbers) (length numbers - 1) c.first_undercut.result
-    (λ place le. literals_by_window numbers sums ends place c.add_places.ensures size c.fill_ends.ensures)
+    finds_place_too (IsNotUndercut sums sums ends 1 128) (AreGoodLiterals numbers) c.first_undercut.result
+    (λ place le. literals_by_window numbers sums ends c.add_places.ensures size c.fill_ends.ensures)
     (λ place le.
-    window_by_literals numbers sums ends place c.add_places.ensures size c.fill_ends.ensures (omega (arith, le, c.requires.some)))
+    window_by_literals numbers sums ends c.add_places.ensures size c.fill_ends.ensures (omega (arith, le, c.requires.some)))
     found

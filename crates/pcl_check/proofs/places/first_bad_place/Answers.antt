@@ -13,7 +13,7 @@ returns-then-is_steady_table c =
     let seed = c.args.seed.now in
     let row = c.args.row.now in
     let numbers = c.args.numbers.now in
-    table_of_good method seed row numbers c.requires.size
+    table_of_good c.requires.size
     (λ place le.
     let good = subst (λ (old : List ℕ). IsGoodFor method old row numbers place) c.base_row-old.ensures
     (c.is_steady_table.ensures c.if-is_steady_table.true place le) in
@@ -34,7 +34,7 @@ returns c =
     (subst (λ (old : List ℕ). FindsPlace (Steps old) (length row) step) c.base_row-old.ensures c.first_bad_step-step.ensures) in
     finds_table method seed row numbers c.first_place.result c.requires.size
     (subst (FindsPlace (IsGoodPlace method seed row numbers) (length row)) (sym c.first_place.ensures)
-    (finds_place_too (And (End (base method seed)) (Steps (base method seed))) (IsGoodPlace method seed row numbers) (length row)
+    (finds_place_too (And (End (base method seed)) (Steps (base method seed))) (IsGoodPlace method seed row numbers)
     (first_found_place end step)
     (λ place le good. record { steps = good.1; ends = good.0 })
     (λ place le good. (good.ends, good.steps)) both))

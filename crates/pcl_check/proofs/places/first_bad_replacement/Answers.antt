@@ -35,13 +35,13 @@ returns c =
     c.first_place-3.ensures ∙ ap (λ (a : Option ℕ). first_found_place a c.first_place-2.result) c.first_place.ensures
     ∙ ap (first_found_place (first_found_place one two)) c.first_place-2.ensures in
     subst (FindsPlace (AreGoodReplacements old row numbers) (length row)) (sym found)
-    (finds_place_too (And (And (Kept 1 31) (Kept 2 286)) (And (Kept 3 541) (Kept 4 796))) (AreGoodReplacements old row numbers) (length row)
+    (finds_place_too (And (And (Kept 1 31) (Kept 2 286)) (And (Kept 3 541) (Kept 4 796))) (AreGoodReplacements old row numbers)
     (first_found_place (first_found_place one two) (first_found_place three four))
     (λ place le kept.
-    replacements_by_windows old row numbers sums ends place c.requires.small c.requires.size c.fill_start_ends.ensures
+    replacements_by_windows c.requires.small c.requires.size c.fill_start_ends.ensures
     c.fill_behind_starts.ensures (record { one = kept.0.0; two = kept.0.1; three = kept.1.0; four = kept.1.1 }))
     (λ place le good.
-    let kept = kept_starts old row numbers sums ends place c.requires.same c.requires.size c.fill_start_ends.ensures
+    let kept = kept_starts c.requires.same c.requires.size c.fill_start_ends.ensures
     c.fill_behind_starts.ensures le good in
     ((kept.one, kept.two), (kept.three, kept.four)))
     all)

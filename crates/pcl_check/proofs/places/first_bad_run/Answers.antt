@@ -17,6 +17,6 @@ returns c =
     subst (λ (n : ℕ). FindsPlace (IsNotUndercut numbers numbers ends 2 most) n c.first_undercut.result) last
     (subst (λ (wide : List ℕ). FindsPlace (IsNotUndercut wide wide ends 2 most) (length wide - 1) c.first_undercut.result) c.widen.ensures
     c.first_undercut.ensures) in
-    finds_place_too (IsNotUndercut numbers numbers ends 2 most) (AreGoodRuns row numbers most) (length row) c.first_undercut.result
-    (λ place le. runs_by_window row numbers ends most place stops)
-    (λ place le. window_by_runs row numbers ends most place stops le) found
+    finds_place_too (IsNotUndercut numbers numbers ends 2 most) (AreGoodRuns row numbers most) c.first_undercut.result
+    (λ place le. runs_by_window numbers stops)
+    (λ place le. window_by_runs numbers stops le) found

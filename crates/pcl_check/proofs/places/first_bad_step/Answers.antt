@@ -15,9 +15,9 @@ returns-in-Plain c =
     let found = c.first_bad_byte.result in
     let last : length numbers - 1 ≡ length row = omega (arith, c.requires.size) in
     subst (λ (m : Method). FindsPlace (AreGoodSteps m old row numbers) (length row) found) (sym c.in-Plain.is)
-    (finds_place_too (IsGoodByte numbers) (AreGoodSteps Plain old row numbers) (length row) found
-    (λ place le. steps_plain old row numbers place c.requires.same c.requires.size le)
-    (λ place le. bytes_of_steps old row numbers place c.requires.size)
+    (finds_place_too (IsGoodByte numbers) (AreGoodSteps Plain old row numbers) found
+    (λ place le. steps_plain numbers c.requires.same c.requires.size le)
+    (λ place le. bytes_of_steps old numbers c.requires.size)
     (subst (λ (n : ℕ). FindsPlace (IsGoodByte numbers) n found) last c.first_bad_byte.ensures))
 
 pub returns-in-Runs : goal.returns-in-Runs
@@ -27,9 +27,9 @@ returns-in-Runs c =
     let numbers = c.args.numbers.now in
     let found = c.first_bad_run.result in
     subst (λ (m : Method). FindsPlace (AreGoodSteps m old row numbers) (length row) found) (sym c.in-Runs.is)
-    (finds_place_too (AreGoodRuns row numbers 256) (AreGoodSteps Runs old row numbers) (length row) found
-    (λ place le. steps_runs old row numbers place c.requires.same le)
-    (λ place le. runs_of_steps old row numbers place) c.first_bad_run.ensures)
+    (finds_place_too (AreGoodRuns row numbers 256) (AreGoodSteps Runs old row numbers) found
+    (λ place le. steps_runs numbers c.requires.same le)
+    (λ place le. runs_of_steps old numbers) c.first_bad_run.ensures)
 
 pub returns-in-Packed : goal.returns-in-Packed
 returns-in-Packed c =
@@ -43,11 +43,11 @@ returns-in-Packed c =
     (subst (λ (n : ℕ). FindsPlace (AreGoodLiterals numbers) n one) last c.first_bad_literal.ensures) c.first_bad_run-in-Packed.ensures in
     subst (λ (m : Method). FindsPlace (AreGoodSteps m old row numbers) (length row) c.first_place.result) (sym c.in-Packed.is)
     (subst (FindsPlace (AreGoodSteps Packed old row numbers) (length row)) (sym c.first_place.ensures)
-    (finds_place_too (And (AreGoodLiterals numbers) (AreGoodRuns row numbers 128)) (AreGoodSteps Packed old row numbers) (length row)
+    (finds_place_too (And (AreGoodLiterals numbers) (AreGoodRuns row numbers 128)) (AreGoodSteps Packed old row numbers)
     (first_found_place one other)
-    (λ place le good. steps_packed old row numbers place c.requires.same c.requires.size le good.0 good.1)
+    (λ place le good. steps_packed numbers c.requires.same c.requires.size le good.0 good.1)
     (λ place le good.
-    (literals_of_steps old row numbers place c.requires.size good, repeats_of_steps old row numbers place c.requires.size good)) both))
+    (literals_of_steps numbers c.requires.size good, repeats_of_steps numbers c.requires.size good)) both))
 
 pub returns-in-Delta : goal.returns-in-Delta
 returns-in-Delta c =
@@ -56,6 +56,6 @@ returns-in-Delta c =
     let numbers = c.args.numbers.now in
     let found = c.first_bad_replacement.result in
     subst (λ (m : Method). FindsPlace (AreGoodSteps m old row numbers) (length row) found) (sym c.in-Delta.is)
-    (finds_place_too (AreGoodReplacements old row numbers) (AreGoodSteps Delta old row numbers) (length row) found
-    (λ place le. steps_delta old row numbers place c.requires.same le)
-    (λ place le. replacements_of_steps old row numbers place) c.first_bad_replacement.ensures)
+    (finds_place_too (AreGoodReplacements old row numbers) (AreGoodSteps Delta old row numbers) found
+    (λ place le. steps_delta numbers c.requires.same le)
+    (λ place le. replacements_of_steps numbers) c.first_bad_replacement.ensures)

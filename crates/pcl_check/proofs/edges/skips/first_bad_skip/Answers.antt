@@ -29,7 +29,7 @@ returns c =
     c.first_of-3.ensures ∙ ap (λ (a : Option BadNumber). first_found a c.first_of-2.result) c.first_of.ensures
     ∙ ap (first_found (first_found c.first_bad_skip_of-one.result c.first_bad_skip_of-two.result)) c.first_of-2.ensures in
     subst (FindsBad (At method true (AreGoodSkipsTo ends number method)) last) (sym found)
-    (finds_too (Both (Both (Of 1 9) (Of 2 99)) (Both (Of 3 999) (Of 4 9999))) (At method true (AreGoodSkipsTo ends number method)) last
+    (finds_too (Both (Both (Of 1 9) (Of 2 99)) (Both (Of 3 999) (Of 4 9999))) (At method true (AreGoodSkipsTo ends number method))
     (first_found (first_found c.first_bad_skip_of-one.result c.first_bad_skip_of-two.result)
     (first_found c.first_bad_skip_of-three.result c.first_bad_skip_of-four.result))
     (λ row current inside le parts same here.

@@ -14,7 +14,7 @@ use Rattle.pcl_check.proofs.edges.skips.first_bad_skip_of.Goals.{else-last-row-v
 pub loop-row-init : goal.loop-row-init
 loop-row-init c = record {
   good = λ k lt. absurd (omega arith);
-  window = window_begins c.args.ends.now (λ y. rest (node_number c.args.table.now) y c.args.method) c.args.most c.new-window.result.numbers
+  window = window_begins
       c.new-window.ensures.numbers;
   room = omega (arith, c.new-window.ensures.room, c.requires.room);
 }
@@ -30,7 +30,7 @@ take-requires c =
     let put : filled ≡ before ++ rests number c.args.method c.loop-row.stop (last_of ends c.args.most row + 1 - c.loop-row.stop) =
     c.put_rests.ensures.numbers ∙ ap (λ (n : ℕ). before ++ rests number c.args.method c.loop-row.stop (n + 1 - c.loop-row.stop))
     c.min-last.ensures in
-    (window_next ends (length c.args.table.now - 1) value c.args.most before filled (drop 1 filled) row c.loop-row.stop
+    (window_next
     c.requires.ends (omega (arith, c.loop-row-test.true, c.requires.size)) c.requires.most.0 c.loop-row.invariant.window put refl).0
 
 pub least-requires : goal.least-requires
@@ -44,8 +44,7 @@ least-requires c =
     let put : filled ≡ before ++ rests number c.args.method c.loop-row.stop (last_of ends c.args.most row + 1 - c.loop-row.stop) =
     c.put_rests.ensures.numbers ∙ ap (λ (n : ℕ). before ++ rests number c.args.method c.loop-row.stop (n + 1 - c.loop-row.stop))
     c.min-last.ensures in
-    let next = window_next ends (length c.args.table.now - 1) value c.args.most before filled c.take.new.self.numbers row
-    c.loop-row.stop
+    let next = window_next
     c.requires.ends (omega (arith, c.loop-row-test.true, c.requires.size)) c.requires.most.0 c.loop-row.invariant.window put
     c.take.ensures.numbers in
     omega (
@@ -68,15 +67,14 @@ returns-then-not-is_within c =
     c.put_rests.ensures.numbers ∙ ap (λ (n : ℕ). before ++ rests number c.args.method c.loop-row.stop (n + 1 - c.loop-row.stop))
     c.min-last.ensures in
     let le : row ≤ length c.args.table.now - 1 = omega (arith, c.loop-row-test.true, c.requires.size) in
-    let next = window_next ends (length c.args.table.now - 1) value c.args.most before filled c.take.new.self.numbers row
-    c.loop-row.stop c.requires.ends le c.requires.most.0 c.loop-row.invariant.window put c.take.ensures.numbers in
+    let next = window_next c.requires.ends le c.requires.most.0 c.loop-row.invariant.window put c.take.ensures.numbers in
     let least = subst (λ (numbers : List ℕ). IsLeastOf numbers c.least.result) next.1 c.least.ensures in
-    first_at (AreGoodSkipsOf ends number c.args.method c.args.digits c.args.most) (length c.args.table.now - 1) row c.args.method true le
+    first_at (AreGoodSkipsOf ends number c.args.method c.args.digits c.args.most) le
     (λ good. iff_false c.is_within.ensures c.if-not-is_within.true
     (omega (
       arith,
       c.number.ensures,
-      window_by_skips ends number c.args.method c.args.digits c.args.most row c.least.result least good,
+      window_by_skips ends number c.args.digits least good,
     )))
     c.loop-row.invariant.good
 
@@ -92,16 +90,15 @@ loop-row-preserved c =
     c.put_rests.ensures.numbers ∙ ap (λ (n : ℕ). before ++ rests number c.args.method c.loop-row.stop (n + 1 - c.loop-row.stop))
     c.min-last.ensures in
     let le : row ≤ length c.args.table.now - 1 = omega (arith, c.loop-row-test.true, c.requires.size) in
-    let next = window_next ends (length c.args.table.now - 1) value c.args.most before filled c.take.new.self.numbers row
-    c.loop-row.stop c.requires.ends le c.requires.most.0 c.loop-row.invariant.window put c.take.ensures.numbers in
+    let next = window_next c.requires.ends le c.requires.most.0 c.loop-row.invariant.window put c.take.ensures.numbers in
     let here : AreGoodSkipsOf ends number c.args.method c.args.digits c.args.most row =
     elim c.else-last-row.branch [
       | else-last-row-via-then-last-row+else-not-is_within w ↦
           let least = subst (λ (numbers : List ℕ). IsLeastOf numbers w.least.result) next.1 w.least.ensures in
-          skips_by_window ends number c.args.method c.args.digits c.args.most row w.least.result least
+          skips_by_window ends number c.args.digits least
           (omega (arith, w.number.ensures, w.is_within.ensures.0 w.if-not-is_within.false))
       | else-last-row-via-else-last-row w ↦
-          none_to_skip ends number c.args.method c.args.digits c.args.most row (omega (arith, c.min-last.ensures, w.if-last-row.false))
+          none_to_skip ends number c.args.digits (omega (arith, c.min-last.ensures, w.if-last-row.false))
           c.requires.most.0
     ] in
     record {
@@ -114,7 +111,7 @@ loop-row-preserved c =
         c.put_rests.ensures.room,
         c.loop-row.invariant.room,
         c.min-last.ensures,
-        (window_put ends (length c.args.table.now - 1) value c.args.most before row c.loop-row.stop c.requires.ends le
+        (window_put c.requires.ends le
             c.loop-row.invariant.window).0,
       );
     }

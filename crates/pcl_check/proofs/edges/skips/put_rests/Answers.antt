@@ -12,7 +12,7 @@ loop-row-init c =
     let value : ℕ → ℕ = λ y. rest (node_number c.args.table.now) y c.args.method in
     record {
       numbers = sym (append-nil before) ∙ ap (λ (more : List ℕ). before ++ more)
-          (sym (no_values value c.args.from (c.args.from - c.args.from) (omega arith)));
+          (sym (no_values value c.args.from (omega arith)));
       room = omega arith;
     }
 

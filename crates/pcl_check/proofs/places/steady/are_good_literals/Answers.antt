@@ -16,9 +16,9 @@ returns c few place =
     let three : length half ≡ length numbers = omega (arith, c.take_behind-2.ensures.size, two) in
     let four : length most ≡ length numbers = omega (arith, c.take_behind-3.ensures.size, three) in
     literals_by_sums numbers all place
-    (sums_more numbers most all 64 four
-    (sums_more numbers half most 32 three
-    (sums_more numbers sixteen half 16 two (sums_more numbers eight sixteen 8 one c.fill_least_of_eight.ensures.sums c.take_behind.ensures)
+    (sums_more numbers four
+    (sums_more numbers three
+    (sums_more numbers two (sums_more numbers one c.fill_least_of_eight.ensures.sums c.take_behind.ensures)
     c.take_behind-2.ensures)
     c.take_behind-3.ensures)
     c.take_behind-4.ensures)

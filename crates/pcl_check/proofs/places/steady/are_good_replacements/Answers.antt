@@ -39,7 +39,7 @@ loop-place-preserved c =
             subst (λ (n : ℕ). slice_index old n ≢ slice_index row n) same (c.loop-place.invariant.differs before),
           )
     ] in
-    let here = replacements_by_start old row numbers c.fill_least_of_eight.new.least end place start c.requires.steady
+    let here = replacements_by_start old row c.fill_least_of_eight.new.least c.requires.steady
     c.requires.end.none (omega (arith, c.requires.end.within, c.requires.size)) c.fill_least_of_eight.ensures.sums is.0 is.1 is.2
     (c.is_kept_before.ensures c.if-not-is_kept_before.false) in
     record {
@@ -60,6 +60,6 @@ returns-then-fall_by_starts c said =
     let numbers = c.args.numbers.now in
     let end = c.args.end in
     let none = c.requires.end.none in
-    replacements_from old row numbers c.fill_least_of_eight.new.least end end none (omega (arith, c.requires.end.within, c.requires.size))
+    replacements_from end none (omega (arith, c.requires.end.within, c.requires.size))
     c.fill_least_of_eight.ensures.sums (omega arith) (c.fall_by_starts.ensures c.if-fall_by_starts.true)
-    (λ k past. replacements_past old row numbers end k c.requires.steady none past)
+    (λ k past. replacements_past old row c.requires.steady none past)

@@ -32,7 +32,7 @@ loop-place-preserved c =
     ] in
     let kept : slice_index numbers place ≤ 2 + slice_index numbers (min stop (place + c.args.most)) =
     omega (arith, c.if-numbers-place.false, ap (slice_index numbers) c.min.ensures) in
-    let here = runs_by_stop row numbers c.args.most c.args.end stop place c.requires.steady c.requires.end.1 is.0 is.1 is.2 kept in
+    let here = runs_by_stop row stop c.requires.steady c.requires.end.1 is.0 is.1 is.2 kept in
     record {
       order = omega (arith, is.0);
       within = is.1;
@@ -54,5 +54,5 @@ returns c said =
       | then-fall_by_runs w ↦ λ k lt. c.fall_by_runs.ensures w.if-fall_by_runs.true k (omega (arith, w.from-is, lt))
       | else-fall_by_runs w ↦ λ k lt. absurd (omega (arith, w.from-is, lt))
     ] in
-    runs_from row numbers c.args.most from c.requires.steady falls
+    runs_from from c.requires.steady falls
     (λ k low. c.loop-place.invariant.good k (omega (arith, c.loop-place-test.false, low)))

@@ -5,5 +5,5 @@ use Rattle.pcl_check.proofs.places.steady.is_steady.Goals as goal
 
 pub returns-then-numbers-le1200 : goal.returns-then-numbers-le1200
 returns-then-numbers-le1200 c none =
-    steady_by c.args.numbers.now c.if-numbers-le1200.true
+    steady_by c.if-numbers-le1200.true
     (λ k inside. omega (arith, c.greatest_rise.ensures k inside, eqb-true c.greatest_rise.result 0 none))

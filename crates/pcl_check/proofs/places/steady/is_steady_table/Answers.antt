@@ -16,8 +16,8 @@ returns-in-Plain c said place le =
     let steady = c.is_steady.ensures c.if-not-is_steady.false in
     subst (λ (m : Method). IsGoodFor m old row numbers place) (sym c.in-Plain.is)
     (record {
-      ends = end_of_need old row numbers end place steady need;
-      steps = steps_plain old row numbers place c.requires.same c.requires.size le
+      ends = end_of_need place steady need;
+      steps = steps_plain numbers c.requires.same c.requires.size le
           (λ inside. omega (arith, c.greatest_fall.ensures place inside, leb-true c.greatest_fall.result 1 said));
     })
 
@@ -31,8 +31,8 @@ returns-in-Runs c said place le =
     let steady = c.is_steady.ensures c.if-not-is_steady.false in
     subst (λ (m : Method). IsGoodFor m old row numbers place) (sym c.in-Runs.is)
     (record {
-      ends = end_of_need old row numbers end place steady need;
-      steps = steps_runs old row numbers place c.requires.same le (c.are_good_runs.ensures said place);
+      ends = end_of_need place steady need;
+      steps = steps_runs numbers c.requires.same le (c.are_good_runs.ensures said place);
     })
 
 pub returns-then-are_good_runs : goal.returns-then-are_good_runs
@@ -45,9 +45,9 @@ returns-then-are_good_runs c said place le =
     let steady = c.is_steady.ensures c.if-not-is_steady.false in
     subst (λ (m : Method). IsGoodFor m old row numbers place) (sym c.in-Packed.is)
     (record {
-      ends = end_of_need old row numbers end place steady need;
-      steps = steps_packed old row numbers place c.requires.same c.requires.size le
-          (literals_of_front numbers end place steady need.none (omega (arith, need.within, c.requires.size))
+      ends = end_of_need place steady need;
+      steps = steps_packed numbers c.requires.same c.requires.size le
+          (literals_of_front place steady need.none (omega (arith, need.within, c.requires.size))
           (c.are_good_literals.ensures said place))
           (c.are_good_runs-in-Packed.ensures c.if-are_good_runs.true place);
     })
@@ -62,6 +62,6 @@ returns-in-Delta c said place le =
     let steady = c.is_steady.ensures c.if-not-is_steady.false in
     subst (λ (m : Method). IsGoodFor m old row numbers place) (sym c.in-Delta.is)
     (record {
-      ends = end_of_need old row numbers end place steady need;
-      steps = steps_delta old row numbers place c.requires.same le (c.are_good_replacements.ensures said place);
+      ends = end_of_need place steady need;
+      steps = steps_delta numbers c.requires.same le (c.are_good_replacements.ensures said place);
     })

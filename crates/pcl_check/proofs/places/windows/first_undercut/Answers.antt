@@ -13,7 +13,7 @@ use Rattle.pcl_check.proofs.places.windows.first_undercut.Goals.{else-last-place
 pub loop-place-init : goal.loop-place-init
 loop-place-init c = record {
   good = λ k lt. absurd (omega arith);
-  window = window_begins c.args.ends.now (slice_index c.args.sums.now) c.args.most c.new-window.result.numbers c.new-window.ensures.numbers;
+  window = window_begins c.new-window.ensures.numbers;
   room = omega (arith, c.new-window.ensures.room);
 }
 
@@ -26,7 +26,7 @@ take-requires c =
     let filled = c.put_sums.new.window.numbers in
     let put : filled ≡ before ++ values value c.loop-place.stop (last_of ends c.args.most place + 1 - c.loop-place.stop) =
     c.put_sums.ensures.numbers ∙ ap (λ (n : ℕ). before ++ values value c.loop-place.stop (n + 1 - c.loop-place.stop)) c.min-last.ensures in
-    (window_next ends (length c.args.numbers.now - 1) value c.args.most before filled (drop 1 filled) place c.loop-place.stop
+    (window_next
     c.requires.ends (omega (arith, c.loop-place-test.true)) c.requires.most.0 c.loop-place.invariant.window put refl).0
 
 pub least-requires : goal.least-requires
@@ -38,8 +38,7 @@ least-requires c =
     let filled = c.put_sums.new.window.numbers in
     let put : filled ≡ before ++ values value c.loop-place.stop (last_of ends c.args.most place + 1 - c.loop-place.stop) =
     c.put_sums.ensures.numbers ∙ ap (λ (n : ℕ). before ++ values value c.loop-place.stop (n + 1 - c.loop-place.stop)) c.min-last.ensures in
-    let next = window_next ends (length c.args.numbers.now - 1) value c.args.most before filled c.take.new.self.numbers place
-    c.loop-place.stop c.requires.ends (omega (arith, c.loop-place-test.true)) c.requires.most.0 c.loop-place.invariant.window put
+    let next = window_next c.requires.ends (omega (arith, c.loop-place-test.true)) c.requires.most.0 c.loop-place.invariant.window put
     c.take.ensures.numbers in
     omega (
       arith,
@@ -59,13 +58,12 @@ returns-then-not-is_within c =
     let put : filled ≡ before ++ values value c.loop-place.stop (last_of ends c.args.most place + 1 - c.loop-place.stop) =
     c.put_sums.ensures.numbers ∙ ap (λ (n : ℕ). before ++ values value c.loop-place.stop (n + 1 - c.loop-place.stop)) c.min-last.ensures in
     let le : place ≤ length c.args.numbers.now - 1 = omega (arith, c.loop-place-test.true) in
-    let next = window_next ends (length c.args.numbers.now - 1) value c.args.most before filled c.take.new.self.numbers place
-    c.loop-place.stop c.requires.ends le c.requires.most.0 c.loop-place.invariant.window put c.take.ensures.numbers in
+    let next = window_next c.requires.ends le c.requires.most.0 c.loop-place.invariant.window put c.take.ensures.numbers in
     let least = subst (λ (numbers : List ℕ). IsLeastOf numbers c.least.result) next.1 c.least.ensures in
     record {
       within = le;
       is_bad = λ kept. iff_false c.is_within.ensures c.if-not-is_within.true
-          (window_by_kept c.args.numbers.now c.args.sums.now ends c.args.cost c.args.most place c.least.result least kept);
+          (window_by_kept c.args.numbers.now c.args.sums.now ends c.args.cost c.args.most least kept);
       first = c.loop-place.invariant.good;
     }
 
@@ -81,16 +79,15 @@ loop-place-preserved c =
     let put : filled ≡ before ++ values value c.loop-place.stop (last_of ends c.args.most place + 1 - c.loop-place.stop) =
     c.put_sums.ensures.numbers ∙ ap (λ (n : ℕ). before ++ values value c.loop-place.stop (n + 1 - c.loop-place.stop)) c.min-last.ensures in
     let le : place ≤ length c.args.numbers.now - 1 = omega (arith, c.loop-place-test.true) in
-    let next = window_next ends (length c.args.numbers.now - 1) value c.args.most before filled c.take.new.self.numbers place
-    c.loop-place.stop c.requires.ends le c.requires.most.0 c.loop-place.invariant.window put c.take.ensures.numbers in
+    let next = window_next c.requires.ends le c.requires.most.0 c.loop-place.invariant.window put c.take.ensures.numbers in
     let here : IsNotUndercut numbers sums ends c.args.cost c.args.most place =
     elim c.else-last-place.branch [
       | else-last-place-via-then-last-place+else-not-is_within w ↦
           let least = subst (λ (ns : List ℕ). IsLeastOf ns w.least.result) next.1 w.least.ensures in
-          kept_by_window numbers sums ends c.args.cost c.args.most place w.least.result least
+          kept_by_window numbers sums ends c.args.cost c.args.most least
           (w.is_within.ensures.0 w.if-not-is_within.false)
       | else-last-place-via-else-last-place w ↦
-          no_step numbers sums ends c.args.cost c.args.most place (omega (arith, c.min-last.ensures, w.if-last-place.false))
+          no_step numbers sums ends c.args.cost (omega (arith, c.min-last.ensures, w.if-last-place.false))
           c.requires.most.0
     ] in
     record {
@@ -103,7 +100,7 @@ loop-place-preserved c =
         c.put_sums.ensures.room,
         c.loop-place.invariant.room,
         c.min-last.ensures,
-        (window_put ends (length c.args.numbers.now - 1) value c.args.most before place c.loop-place.stop c.requires.ends le
+        (window_put c.requires.ends le
             c.loop-place.invariant.window).0,
       );
     }

@@ -11,7 +11,7 @@ loop-place-init c =
     let value : ℕ → ℕ = slice_index c.args.sums.now in
     record {
       numbers = sym (append-nil before) ∙ ap (λ (more : List ℕ). before ++ more)
-          (sym (no_values value c.args.from (c.args.from - c.args.from) (omega arith)));
+          (sym (no_values value c.args.from (omega arith)));
       room = omega arith;
     }
 

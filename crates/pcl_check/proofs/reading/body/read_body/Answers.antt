@@ -23,10 +23,8 @@ loop-place-init c =
     let small = row_small size dpi in
     record {
       given = [];
-      becomes = becomes_to size dpi body [] false false Plain (replicate width 0)
-          (take c.row_bytes.result (replicate 600 0)) (page_height size dpi) (page_height size dpi - 0)
-          c.args.text.now refl (sym (take-replicate c.row_bytes.result 600 0 (omega (arith, small, c.row_bytes.ensures))
-          ∙ ap (λ (n : ℕ). replicate n 0) c.row_bytes.ensures)) (omega arith) (becomes_same size dpi body body refl);
+      becomes = becomes_to refl (sym (take-replicate c.row_bytes.result 600 0 (omega (arith, small, c.row_bytes.ensures))
+          ∙ ap (λ (n : ℕ). replicate n 0) c.row_bytes.ensures)) (omega arith) (becomes_same refl);
       row_is = refl;
       within = omega arith;
       same = (λ yes. (yes, refl), λ h. h.0);
@@ -40,8 +38,7 @@ returns-in_err-place c =
 
 pub loop-place-preserved : goal.loop-place-preserved
 loop-place-preserved c =
-    read_on c.args.comparison.bitmap.now c.args.comparison.size c.args.text.now c.args.is_same c.loop-place.place c.loop-place.above
-    c.in_ok-place.place c.step.new.above c.loop-place.invariant c.in_ok-place.ensures.0
+    read_on c.loop-place.invariant c.in_ok-place.ensures.0
 
 -- the text isn't other than the end
 true_of : (b : Bool) → not b ≡ false → b ≡ true
@@ -57,10 +54,10 @@ returns-then-place-2 c =
     let size = c.args.comparison.size in
     let place = c.loop-place.place in
     let left : ℕ = page_height size picture.dpi - place.row in
-    read_all picture size c.args.text.now c.args.is_same place c.loop-place.above c.has_white_rows.result c.loop-place.invariant
+    read_all c.loop-place.invariant
     c.if-place.false (ended place.text.now (sym c.ne.ensures ∙ c.if-ne.false))
     (both place.is_same c.has_white_rows.result c.has_white_rows.result (AreRowsAt picture place.row (white_rows size picture.dpi left))
-    (white_test picture size place.row (c.height.result - place.row) left c.has_white_rows.result
+    (white_test picture size place.row
     (ap (λ (n : ℕ). n - place.row) c.height.ensures) c.has_white_rows.ensures)
     c.if-place-2.true refl)
 
@@ -70,6 +67,6 @@ returns-else-place-2 c =
     let size = c.args.comparison.size in
     let place = c.loop-place.place in
     let left : ℕ = page_height size picture.dpi - place.row in
-    read_all picture size c.args.text.now c.args.is_same place c.loop-place.above place.is_same c.loop-place.invariant c.if-place.false
+    read_all c.loop-place.invariant c.if-place.false
     (ended place.text.now (sym c.ne.ensures ∙ c.if-ne.false))
-    (neither place.is_same place.is_same (AreRowsAt picture place.row (white_rows size picture.dpi left)) c.if-place-2.false refl)
+    (neither (AreRowsAt picture place.row (white_rows size picture.dpi left)) c.if-place-2.false refl)

@@ -10,13 +10,13 @@ pub returns-in_err-bytes : goal.returns-in_err-bytes
 returns-in_err-bytes c =
     subst (λ result. IsStep c.args.comparison.bitmap.now c.args.comparison.size c.args.place c.args.above.now result c.args.above.now)
     (sym c.from_residual.ensures)
-    (few_bytes c.args.comparison.bitmap.now c.args.comparison.size c.args.above.now c.args.place c.args.parameter c.requires.inside
+    (few_bytes c.args.comparison.bitmap.now c.args.place c.requires.inside
     c.requires.parameter c.requires.letter c.in_err-bytes.ensures)
 
 pub returns-then-place-height : goal.returns-then-place-height
 returns-then-place-height c = λ rows printed.
-    no_row c.args.comparison.bitmap.now c.args.comparison.size c.args.above.now c.args.place c.args.parameter c.in_ok-bytes.bytes.now
-    c.in_ok-bytes.rest.now rows c.requires.inside c.requires.parameter c.requires.letter c.in_ok-bytes.ensures.0 c.in_ok-bytes.ensures.1
+    no_row c.args.comparison.bitmap.now c.args.place
+    c.in_ok-bytes.rest.now c.requires.inside c.requires.parameter c.requires.letter c.in_ok-bytes.ensures.0 c.in_ok-bytes.ensures.1
     c.in_ok-bytes.ensures.2
     (λ some other row row_data. elim c.then-place-height.branch [
       | then-place-height-via-then-place-height w ↦ let last = w.if-place-height.true in omega (arith, c.height.ensures)
@@ -36,6 +36,6 @@ returns c =
     (elim c.if-place.branch [
       | then-place w ↦ both place.is_same w.has_row.result c.if-place.result
           (c.paint.new.above ∷ [] ≡ take 1 (drop place.row (bitmap_rows picture))) w.has_row.ensures w.if-place.true w.result-is
-      | else-place w ↦ neither place.is_same c.if-place.result
+      | else-place w ↦ neither
           (c.paint.new.above ∷ [] ≡ take 1 (drop place.row (bitmap_rows picture))) w.if-place.false w.result-is
     ])

@@ -8,7 +8,7 @@ use Rattle.pcl_check.proofs.reading.body.skip.Goals.{then-count-eq0-via-then-cou
 
 pub returns-then-count-eq0 : goal.returns-then-count-eq0
 returns-then-count-eq0 c = λ rows printed.
-    too_many c.args.comparison.bitmap.now c.args.comparison.size c.args.above.now c.args.place c.args.parameter rows c.requires.inside
+    too_many c.args.comparison.bitmap.now c.args.place c.requires.inside
     c.requires.parameter c.requires.letter
     (λ some few. elim c.then-count-eq0.branch [
       | then-count-eq0-via-then-count-eq0 w ↦ let none = w.if-count-eq0.true in omega arith
@@ -29,7 +29,7 @@ returns c =
           (white_rows c.args.comparison.size picture.dpi c.args.parameter.number
           ≡ take c.args.parameter.number (drop place.row (bitmap_rows picture)))
           w.has_white_rows.ensures w.if-place.true w.result-is
-      | else-place w ↦ neither place.is_same c.if-place.result
+      | else-place w ↦ neither
           (white_rows c.args.comparison.size picture.dpi c.args.parameter.number
           ≡ take c.args.parameter.number (drop place.row (bitmap_rows picture)))
           w.if-place.false w.result-is

@@ -13,14 +13,12 @@ returns-in_err-text c =
     let none = strip_prefix_is Decides-eqb c.args.place.text.now opening_bytes None c.in_err-text.ensures.cases in
     subst (λ result. IsStep picture c.args.comparison.size c.args.place c.args.above.now result c.args.above.now)
     (sym c.from_residual.ensures)
-    (λ rows printed. no_opening c.args.comparison.size picture.dpi
-    (left_at c.args.comparison.size picture.dpi c.args.place c.args.above.now)
-    rows
+    (λ rows printed. no_opening
     c.if-not-place.true none (c.requires.goes_on c.if-not-place.true) printed)
 
 pub returns-then-not-place : goal.returns-then-not-place
 returns-then-not-place c =
-    sequence_opened c.args.comparison.bitmap.now c.args.comparison.size c.args.above.now c.args.place c.in_ok-text.text c.if-not-place.true
+    sequence_opened c.if-not-place.true
     (strip_prefix_is Decides-eqb c.args.place.text.now opening_bytes (Some c.in_ok-text.text) c.in_ok-text.ensures.cases) c.requires.row
 
 pub returns-in_err-parameter : goal.returns-in_err-parameter
@@ -28,8 +26,7 @@ returns-in_err-parameter c =
     let picture = c.args.comparison.bitmap.now in
     subst (λ result. IsStep picture c.args.comparison.size c.args.place c.args.above.now result c.args.above.now)
     (sym c.from_residual-in_err-parameter.ensures)
-    (λ rows printed. no_byte c.args.comparison.size picture.dpi (left_at c.args.comparison.size picture.dpi c.args.place c.args.above.now)
-    rows
+    (λ rows printed. no_byte
     c.if-not-place.false c.in_err-parameter.ensures printed)
 
 pub returns-in_default : goal.returns-in_default
@@ -41,8 +38,6 @@ returns-in_default c = λ rows printed.
     let d : parameter.letter ≡ 89 → ⊥ = search rules in
     let e : parameter.letter ≡ 121 → ⊥ = search rules in
     let f : parameter.letter ≡ 87 → ⊥ = search rules in
-    no_letter c.args.comparison.size picture.dpi (left_at c.args.comparison.size picture.dpi c.args.place c.args.above.now)
-    parameter.digits.now
-    parameter.letter parameter.rest.now rows
+    no_letter
     (told picture c.args.comparison.size c.args.above.now c.args.place parameter c.if-not-place.false c.in_ok-parameter.ensures)
     (neither_letter 77 parameter.letter a b) (neither_letter 89 parameter.letter d e) f printed

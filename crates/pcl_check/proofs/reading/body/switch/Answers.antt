@@ -6,10 +6,10 @@ use Rattle.pcl_check.proofs.reading.body.switch.Goals as goal
 pub returns-in_err-method : goal.returns-in_err-method
 returns-in_err-method c = λ picture size above within.
     subst (λ result. IsStep picture size c.args.place above result above) (sym c.from_residual.ensures)
-    (no_switch picture size above c.args.place c.args.parameter c.requires.inside c.requires.parameter c.requires.letter
+    (no_switch picture c.args.place c.requires.inside c.requires.parameter c.requires.letter
     (sym c.in_err-method.ensures))
 
 pub returns : goal.returns
 returns c = λ picture size above within.
-    switched picture size above c.args.place c.args.parameter c.in_ok-method.method c.requires.inside c.requires.parameter c.requires.letter
+    switched c.requires.inside c.requires.parameter c.requires.letter
     (sym c.in_ok-method.ensures) within

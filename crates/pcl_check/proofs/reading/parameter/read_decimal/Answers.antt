@@ -11,11 +11,11 @@ returns-in_err-parameter c =
     subst (λ result. MatchOption result ((n : ℕ) (rest : List ℕ) → n ≤ 65535 → c.args.text.now ≡ decimal n ++ c.args.letter ∷ rest → ⊥)
     (λ found. (c.args.text.now ≡ decimal found.0 ++ c.args.letter ∷ found.1.now) × (found.0 ≤ 65536)))
     (sym c.from_residual.ensures)
-    (λ n rest le e. no_decimal c.args.text.now n c.args.letter rest c.in_err-parameter.ensures c.requires e)
+    (λ n rest le e. no_decimal n c.args.letter rest c.in_err-parameter.ensures c.requires e)
 
 pub returns-else-is_shortest : goal.returns-else-is_shortest
 returns-else-is_shortest c = λ n rest le e.
-    let found = decimal_found c.args.text.now c.in_ok-parameter.parameter c.args.letter n rest c.in_ok-parameter.ensures c.requires le e in
+    let found = decimal_found rest c.in_ok-parameter.ensures c.requires le e in
     let digits = c.as_bytes.ensures.value ∙ c.format.ensures.text ∙ found.digits in
     let equal : c.eq-is_shortest.result ≡ true =
     (slice_eq-Decides Decides-eqb c.as_bytes.result.now c.in_ok-parameter.parameter.digits.now c.eq-is_shortest.result

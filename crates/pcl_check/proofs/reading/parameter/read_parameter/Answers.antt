@@ -14,7 +14,7 @@ returns-in_err-letter c =
 pub returns : goal.returns
 returns c =
     let text = c.args.text.now in
-    let cut = digits_cut text c.split_at.result.0.now c.split_at.result.1.now c.in_ok-letter.letter.now c.in_ok-letter.rest.now
+    let cut = digits_cut
     (c.split_at.ensures.front ∙ ap (λ (n : ℕ). take n text) c.digit_count.ensures.count)
     (c.split_at.ensures.back ∙ ap (λ (n : ℕ). drop n text) c.digit_count.ensures.count) c.in_ok-letter.ensures.cases.0 in
     record { are_digits = cut.are_digits; no_digit = cut.no_digit; spelled = cut.spelled; number_is = c.number.ensures }

@@ -5,32 +5,32 @@ use Rattle.pcl_check.proofs.reading.start.raster_start.Goals as goal
 
 pub returns-in-Executive-Dpi300 : goal.returns-in-Executive-Dpi300
 unfolding digits
-returns-in-Executive-Dpi300 c = raster_at _ c.args.size _ c.args.dpi _ c.in-Executive-Dpi300.is-0 c.in-Executive-Dpi300.is-1 refl
+returns-in-Executive-Dpi300 c = raster_at c.in-Executive-Dpi300.is-0 c.in-Executive-Dpi300.is-1 refl
 
 pub returns-in-Executive-Dpi600 : goal.returns-in-Executive-Dpi600
 unfolding digits
-returns-in-Executive-Dpi600 c = raster_at _ c.args.size _ c.args.dpi _ c.in-Executive-Dpi600.is-0 c.in-Executive-Dpi600.is-1 refl
+returns-in-Executive-Dpi600 c = raster_at c.in-Executive-Dpi600.is-0 c.in-Executive-Dpi600.is-1 refl
 
 pub returns-in-Letter-Dpi300 : goal.returns-in-Letter-Dpi300
 unfolding digits
-returns-in-Letter-Dpi300 c = raster_at _ c.args.size _ c.args.dpi _ c.in-Letter-Dpi300.is-0 c.in-Letter-Dpi300.is-1 refl
+returns-in-Letter-Dpi300 c = raster_at c.in-Letter-Dpi300.is-0 c.in-Letter-Dpi300.is-1 refl
 
 pub returns-in-Letter-Dpi600 : goal.returns-in-Letter-Dpi600
 unfolding digits
-returns-in-Letter-Dpi600 c = raster_at _ c.args.size _ c.args.dpi _ c.in-Letter-Dpi600.is-0 c.in-Letter-Dpi600.is-1 refl
+returns-in-Letter-Dpi600 c = raster_at c.in-Letter-Dpi600.is-0 c.in-Letter-Dpi600.is-1 refl
 
 pub returns-in-Legal-Dpi300 : goal.returns-in-Legal-Dpi300
 unfolding digits
-returns-in-Legal-Dpi300 c = raster_at _ c.args.size _ c.args.dpi _ c.in-Legal-Dpi300.is-0 c.in-Legal-Dpi300.is-1 refl
+returns-in-Legal-Dpi300 c = raster_at c.in-Legal-Dpi300.is-0 c.in-Legal-Dpi300.is-1 refl
 
 pub returns-in-Legal-Dpi600 : goal.returns-in-Legal-Dpi600
 unfolding digits
-returns-in-Legal-Dpi600 c = raster_at _ c.args.size _ c.args.dpi _ c.in-Legal-Dpi600.is-0 c.in-Legal-Dpi600.is-1 refl
+returns-in-Legal-Dpi600 c = raster_at c.in-Legal-Dpi600.is-0 c.in-Legal-Dpi600.is-1 refl
 
 pub returns-in-A4-Dpi300 : goal.returns-in-A4-Dpi300
 unfolding digits
-returns-in-A4-Dpi300 c = raster_at _ c.args.size _ c.args.dpi _ c.in-A4-Dpi300.is-0 c.in-A4-Dpi300.is-1 refl
+returns-in-A4-Dpi300 c = raster_at c.in-A4-Dpi300.is-0 c.in-A4-Dpi300.is-1 refl
 
 pub returns-in-A4-Dpi600 : goal.returns-in-A4-Dpi600
 unfolding digits
-returns-in-A4-Dpi600 c = raster_at _ c.args.size _ c.args.dpi _ c.in-A4-Dpi600.is-0 c.in-A4-Dpi600.is-1 refl
+returns-in-A4-Dpi600 c = raster_at c.in-A4-Dpi600.is-0 c.in-A4-Dpi600.is-1 refl

@@ -12,7 +12,7 @@ returns-in_err-copies c =
     let text = c.args.text.now in
     let front = strip_prefix_is Decides-eqb text first_bytes (Some c.in_ok-strip_prefix.field-0) c.in_ok-strip_prefix.ensures.cases in
     subst (IsStart c.args.dpi text) (sym c.from_residual-in_err-copies.ensures)
-    (λ copies size rest some few e. no_copies c.args.dpi text c.in_ok-strip_prefix.field-0.now copies size rest front
+    (λ copies size rest some few e. no_copies c.args.dpi copies size rest front
     c.in_err-copies.ensures (record { few = few; text_is = e }))
 
 pub returns-in_err-code : goal.returns-in_err-code
@@ -24,7 +24,7 @@ returns-in_err-code c =
       text_is = front ∙ ap (λ (z : List ℕ). first_bytes ++ z) c.in_ok-copies.ensures.0;
     } in
     subst (IsStart c.args.dpi text) (sym c.from_residual-in_err-code.ensures)
-    (λ copies size rest some few e. no_code c.args.dpi text c.in_ok-copies.copies c.in_ok-copies.rest.now copies size rest read
+    (λ copies size rest some few e. no_code c.args.dpi copies size rest read
     c.in_err-code.ensures (record { few = few; text_is = e }))
 
 pub returns-in_err-size : goal.returns-in_err-size
@@ -38,7 +38,7 @@ returns-in_err-size c =
           ∙ ap (λ (z : List ℕ). decimal c.in_ok-copies.copies ++ 120 ∷ z) c.in_ok-code.ensures.0);
     } in
     subst (IsStart c.args.dpi text) (sym c.from_residual-in_err-size.ensures)
-    (λ copies size rest some few e. no_size c.args.dpi text c.in_ok-copies.copies c.in_ok-code.code c.in_ok-code.rest.now copies size rest
+    (λ copies size rest some few e. no_size c.args.dpi copies size rest
     read (sym c.in_err-size.ensures) (record { few = few; text_is = e }))
 
 pub returns-in_err-rest : goal.returns-in_err-rest
@@ -53,8 +53,7 @@ returns-in_err-rest c =
     } in
     let none = strip_prefix_is Decides-eqb c.in_ok-code.rest.now c.raster_start.result.now None c.in_err-rest.ensures.cases in
     subst (IsStart c.args.dpi text) (sym c.from_residual-in_err-rest.ensures)
-    (λ copies size rest some few e. no_raster c.args.dpi text c.in_ok-copies.copies c.in_ok-code.code c.in_ok-code.rest.now copies size
-    c.in_ok-size.size rest read (sym c.in_ok-size.ensures)
+    (λ copies size rest some few e. no_raster c.args.dpi copies size rest read (sym c.in_ok-size.ensures)
     (λ behind is. none behind (is ∙ ap (λ (z : List ℕ). z ++ behind) (sym c.raster_start.ensures)))
     (record { few = few; text_is = e }))
 
@@ -68,7 +67,7 @@ returns-then-copies-eq0 c = λ copies size rest some few e.
       text_is = front ∙ ap (λ (z : List ℕ). first_bytes ++ z) (c.in_ok-copies.ensures.0
           ∙ ap (λ (z : List ℕ). decimal c.in_ok-copies.copies ++ 120 ∷ z) c.in_ok-code.ensures.0);
     } in
-    let found = size_read c.args.dpi text c.in_ok-copies.copies c.in_ok-code.code c.in_ok-code.rest.now copies size rest read
+    let found = size_read read
     (record { few = few; text_is = e }) in
     elim c.then-copies-eq0.branch [
       | then-copies-eq0-via-then-copies-eq0 w ↦ let none = w.if-copies-eq0.true in omega (arith, found.copies_are)

@@ -14,10 +14,10 @@ use Rattle.pcl_check.proofs.Lengths.{least_alone}
 use Rattle.pcl_check.proofs.edges.lengths.LeastByCodersRowLengths.length.Goals as goal
 
 -- a least length for the bytes of the bitmap's rows is one for the page's rows
-least_of_page : (page : Page) (method : Method) (seed row : List ℕ) (y least : ℕ) → y < page_height page.size page.dpi
+least_of_page : (page : Page) {method : Method} {seed row : List ℕ} {y least : ℕ} → y < page_height page.size page.dpi
     → seed ≡ row_above (page_row_bytes page.bitmap.size page.bitmap.dpi) (bitmap_rows page.bitmap) y → row ≡ row_of page.bitmap y
     → IsLeastLength method seed row least → IsLeastOfRow (page_row_bytes page.size page.dpi) (bitmap_rows page.bitmap) y method least
-least_of_page page method seed row y least lt s r is =
+least_of_page page {method} {seed} {row} {y} {least} lt s r is =
     let picture = page.bitmap in
     let inside : y < page_height picture.size picture.dpi =
     subst (λ (n : ℕ). y < n) (sym (ap (λ (z : Size). page_height z picture.dpi) page.size_is ∙ ap (λ (d : Dpi). page_height page.size d)
@@ -33,13 +33,12 @@ least_of_page page method seed row y least lt s r is =
 
 pub returns-clause-counts : goal.returns-clause-counts
 returns-clause-counts c =
-    least_of_page c.args.page.now c.args.method c.row_above-seed.result.now c.row.result.now c.args.row c.least_length.result
+    least_of_page c.args.page.now
     c.requires.row c.row_above-seed.ensures.row c.row.ensures.bytes c.least_length.ensures
 
 pub returns-clause-alone : goal.returns-clause-alone
 returns-clause-alone c = λ bytes is.
     let page = c.args.page.now in
-    least_alone c.args.method (row_above (page_row_bytes page.size page.dpi) (bitmap_rows page.bitmap) c.args.row)
-    (row_at (bitmap_rows page.bitmap) c.args.row) bytes c.least_length.result is
-    (least_of_page page c.args.method c.row_above-seed.result.now c.row.result.now c.args.row c.least_length.result c.requires.row
+    least_alone is
+    (least_of_page page c.requires.row
     c.row_above-seed.ensures.row c.row.ensures.bytes c.least_length.ensures)

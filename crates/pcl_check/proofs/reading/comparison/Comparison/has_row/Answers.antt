@@ -8,7 +8,7 @@ use Rattle.pcl_check.proofs.reading.comparison.Comparison.has_row.Goals as goal
 pub returns-then-y-page_height : goal.returns-then-y-page_height
 returns-then-y-page_height c =
     let picture = c.args.self.now.bitmap.now in
-    let first = first_row picture c.args.y (omega (arith, c.page_height.ensures)) in
+    let first = first_row picture (omega (arith, c.page_height.ensures)) in
     let equal = slice_eq-Decides Decides-eqb c.row.result.now c.args.row.now c.eq.result c.eq.ensures in (
       λ yes. ap (λ (z : List ℕ). z ∷ []) (sym (equal.0 yes) ∙ c.row.ensures.bytes) ∙ sym first,
       λ e. let same : c.args.row.now ≡ row_of picture c.args.y = (let both = e ∙ first in cc) in equal.1 (c.row.ensures.bytes ∙ sym same),
@@ -17,7 +17,7 @@ returns-then-y-page_height c =
 pub returns-else-y-page_height : goal.returns-else-y-page_height
 returns-else-y-page_height c =
     let picture = c.args.self.now.bitmap.now in
-    let past = past_rows picture c.args.y (omega (arith, c.page_height.ensures)) in (
+    let past = past_rows picture (omega (arith, c.page_height.ensures)) in (
       λ yes. absurd (grind (arith, nat_tests)),
       λ e. let both = e ∙ past in absurd cc,
     )

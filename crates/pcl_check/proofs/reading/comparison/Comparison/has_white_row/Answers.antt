@@ -9,14 +9,14 @@ use Rattle.pcl_check.proofs.reading.comparison.Comparison.has_white_row.Goals as
 
 pub returns-then-y-page_height : goal.returns-then-y-page_height
 returns-then-y-page_height c =
-    let past = past_rows c.args.self.now.bitmap.now c.args.y (omega (arith, c.page_height.ensures)) in
+    let past = past_rows c.args.self.now.bitmap.now (omega (arith, c.page_height.ensures)) in
     (λ yes. absurd cc, λ e. let both = e ∙ past in absurd cc)
 
 pub returns-then-row-row_bytes : goal.returns-then-row-row_bytes
 returns-then-row-row_bytes c =
     let picture = c.args.self.now.bitmap.now in
     let width = page_row_bytes c.args.self.now.size picture.dpi in
-    let first = first_row picture c.args.y (omega (arith, c.page_height.ensures)) in
+    let first = first_row picture (omega (arith, c.page_height.ensures)) in
     let wide : length (row_of picture c.args.y) ≡ width =
     ap length (sym c.row.ensures.bytes) ∙ c.if-row-row_bytes.true ∙ c.row_bytes.ensures in (
       λ yes.
@@ -31,7 +31,7 @@ pub returns-else-row-row_bytes : goal.returns-else-row-row_bytes
 returns-else-row-row_bytes c =
     let picture = c.args.self.now.bitmap.now in
     let width = page_row_bytes c.args.self.now.size picture.dpi in
-    let first = first_row picture c.args.y (omega (arith, c.page_height.ensures)) in (
+    let first = first_row picture (omega (arith, c.page_height.ensures)) in (
       λ yes. absurd (grind (arith, nat_tests)),
       λ e.
           let same : replicate width 0 ≡ row_of picture c.args.y = (let both = e ∙ first in cc) in

@@ -15,7 +15,7 @@ returns-then-not-has_white_row c =
       λ yes. absurd cc,
       λ e. absurd
           (let no : false ≡ true = c.if-not-has_white_row.ensures.1
-          (one_row n c.args.count white (drop c.args.y rows) (omega arith) e ∙ ap (take 1) at) in cc),
+          (one_row n c.args.count (drop c.args.y rows) (omega arith) e ∙ ap (take 1) at) in cc),
     )
 
 pub loop-row-preserved : goal.loop-row-preserved
@@ -27,4 +27,4 @@ loop-row-preserved c =
     drop-drop n c.args.y rows ∙ (let same : c.args.y + n ≡ c.loop-row.row = omega arith in ap (λ (y : ℕ). drop y rows) same) in
     let more : suc n ≡ c.loop-row.row + 1 - c.args.y = omega arith in
     subst (λ (k : ℕ). replicate k white ≡ take k (drop c.args.y rows)) more
-    (more_rows n white (drop c.args.y rows) c.loop-row.invariant (c.if-not-has_white_row.ensures.0 refl ∙ ap (take 1) (sym at)))
+    (more_rows n (drop c.args.y rows) c.loop-row.invariant (c.if-not-has_white_row.ensures.0 refl ∙ ap (take 1) (sym at)))
