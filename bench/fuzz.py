@@ -192,8 +192,8 @@ def right_job(draw):
     parts = [part_of(draw, draw.choice(PARTS), has_font) for _ in range(draw.randint(1, draw.choice([4, 12, 30])))]
     if draw.random() < 0.03:
         parts.insert(draw.randint(0, len(parts)), spelled(draw, draw.choice(FORMS["unknown"])))
-    if draw.random() < 0.002:
-        parts.insert(draw.randint(0, len(parts)), b"\f" * draw.choice([200, 254, 255, 256, 257]))
+    if draw.random() < 0.004:
+        parts.insert(draw.randint(0, len(parts)), b"\f" * draw.choice([254, 255, 256, 257]))
     return begin + (FONT if has_font else b"") + b"".join(parts)
 
 

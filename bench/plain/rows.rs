@@ -1,6 +1,9 @@
 //! Row data: the methods 0 to 3.
 
 /// Writes the row of some data over a seed row; both have the same length.
+///
+/// It isn't inlined, since its loops are slower among all that performing does.
+#[inline(never)]
 pub fn decode(method: u32, bytes: &[u8], seed: &[u8], row: &mut [u8]) {
     if method == 3 {
         row.copy_from_slice(seed);
