@@ -70,9 +70,12 @@ LINES = [b"@PJL SET X=1\r\n", b"@PJL\n", b"@PJL COMMENT \x1bE\n", b"@PJL ENTER L
 WRONG_LINES = [b"@PJL ENTER LANGUAGE=PCLXL\n", b"@PJL ENTER LANGUAGE=\n", b"@pjl x\n", b" @PJL\n"]
 PARTS = (["settings"] * 3 + ["moves"] * 4 + ["rasters"] * 3 + ["rows"] * 4 + ["rectangles"] * 3 + ["fonts"] * 2
          + ["header", "character"] * 2 + ["text"] * 2 + ["transparent"] + ["codes"] * 2 + ["body"] * 3 + ["macros"] * 3
-         + ["parameters"] * 2 + ["ends", "others", "others"])
+         + ["parameters"] * 2 + ["ends", "others", "others", "chain", "chain", "kept", "stack"] + ["show"] * 4)
 BODY_PARTS = ["settings", "moves", "rasters", "rectangles", "rows", "codes", "fonts", "macros", "runs", "runs", "text", "transparent",
-              "parameters", "character", "others"]
+              "parameters", "character", "others", "show", "show"]
+# What shows where the cursor and the settings are.
+SHOWS = [ESC + b"*cP", ESC + b"*c3a2b0P", ESC + b"*r1A" + ESC + b"*b2W\xff\x81", ESC + b"*b1W\x80", b"\n" + ESC + b"*c2a2b0P",
+         b"\t" + ESC + b"*c1a1b0P", ESC + b"*c1P"]
 
 
 def number(draw):
@@ -156,6 +159,43 @@ def body(draw, has_font):
     return ESC + begin % draw.randint(0, 3) + parts + ESC + draw.choice([b"&f1X"] * 20 + [b"&f1x2X", b"&f1x3X", b"E"])
 
 
+def parts_of(draw, most, has_font):
+    """What stands in a macro and is seldom refused."""
+    kinds = ["moves", "moves", "rasters", "rows", "show", "show", "rectangles", "settings"]
+    return b"".join(part_of(draw, draw.choice(kinds), has_font) for _ in range(draw.randint(0, most)))
+
+
+def macro_of(number, content):
+    return ESC + b"&f%dy0X" % number + content + ESC + b"&f1X"
+
+
+def chain(draw, has_font):
+    """Macros each of which runs the next one, and the first is run."""
+    macros = []
+    last = draw.choice([1, 2, 2, 2, 2, 3])
+    for number in range(last + 1):
+        runs = ESC + b"&f%dy%dX" % (number + 1, draw.randint(2, 3)) if number < last else b""
+        macros.append(macro_of(number, parts_of(draw, 2, has_font) + runs + parts_of(draw, 2, has_font)))
+    draw.shuffle(macros)
+    return b"".join(macros) + parts_of(draw, 2, has_font) + ESC + b"&f0y%dX" % draw.randint(2, 3) + draw.choice(SHOWS)
+
+
+def kept(draw, has_font):
+    """Macros that are temporary or permanent, deleted or not, and then run."""
+    definitions = b"".join(macro_of(number, parts_of(draw, 1, has_font) + draw.choice(SHOWS)) + draw.choice([b"", ESC + b"&f10X"])
+                           for number in range(2))
+    ends = [ESC + b"E", ESC + b"%-12345X", ESC + b"&f7X", ESC + b"&f8X", ESC + b"&f6X", ESC + b"&f9X" + ESC + b"E"]
+    return definitions + draw.choice(ends) + b"".join(ESC + b"&f%dy%dX" % (number, draw.randint(2, 3)) for number in range(2))
+
+
+def stack(draw):
+    """Positions that are pushed and popped."""
+    pushes = b"".join(ESC + b"*p+%dx+%dY" % (draw.randint(0, 90), draw.randint(0, 90)) + ESC + b"&f0S"
+                      for _ in range(draw.choice([1, 3, 19, 20, 21])))
+    size = ESC + b"&l%dA" % draw.choice([1, 2, 3, 26]) if draw.random() < 0.5 else b""
+    return pushes + size + (ESC + b"&f1S" + draw.choice(SHOWS)) * draw.choice([1, 3, 20, 22])
+
+
 def part_of(draw, part, has_font):
     """One command, or some that belong together."""
     if part == "rows":
@@ -173,6 +213,14 @@ def part_of(draw, part, has_font):
         return with_data(b"(s", b"W", character(draw))
     if part == "body":
         return body(draw, has_font)
+    if part == "show":
+        return draw.choice(SHOWS)
+    if part == "chain":
+        return chain(draw, has_font)
+    if part == "kept":
+        return kept(draw, has_font)
+    if part == "stack":
+        return stack(draw)
     if part == "runs":
         return ESC + b"&f%dy%dX" % (draw.randint(0, 3), draw.randint(2, 3))
     if part == "parameters":
@@ -194,6 +242,8 @@ def right_job(draw):
         parts.insert(draw.randint(0, len(parts)), spelled(draw, draw.choice(FORMS["unknown"])))
     if draw.random() < 0.004:
         parts.insert(draw.randint(0, len(parts)), b"\f" * draw.choice([254, 255, 256, 257]))
+    if draw.random() < 0.6:
+        parts.append(draw.choice(SHOWS))
     return begin + (FONT if has_font else b"") + b"".join(parts)
 
 

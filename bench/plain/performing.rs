@@ -35,6 +35,7 @@ pub fn perform(job: &[u8], task: Task, dpi: u32) -> Result<Done, Refusal> {
     let mut reader = Reader::new(job);
     loop {
         match reader.next_command() {
+            // Borrowed where the reader leaves it: to move each command would take a part of the time that a row takes.
             Ok(Some(ref command)) => {
                 if let Err(refusal) = performer.perform(command) {
                     return Err(reader.read_out().err().unwrap_or(refusal));
