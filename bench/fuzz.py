@@ -1,16 +1,26 @@
 #!/usr/bin/env python3
-"""Compares pclmin with the second model of the language (reference.py) on random and mutated jobs.
+"""Compares pclmin with the plain program (plain/), and with the second model (reference.py), on random and mutated jobs.
 
-    python3 bench/fuzz.py PCLMIN COUNT SEED [FOLDER]
+    python3 bench/fuzz.py PCLMIN PLAIN COUNT SEED [--model] [--workers N] [--folder FOLDER]
 
-Each job is made of random commands of every part of docs/LANGUAGE.md, with values at and near their bounds, and every fourth
-one is then changed in some of its bytes, cut, or joined from two. At a resolution that is drawn too, the status, the line on
-standard error and the image of a page have to be those of the model: of one page of the job, and of the page behind its last
-one. Every twentieth job, where it is accepted, is written again, and read by the model the written job has to have the same
-pages; every two hundredth is also written with a certificate of each format, and checked. A job on which the two differ is kept in
-FOLDER (build/fuzz) as NUMBER.pcl, with a line on standard output, and the status is then 1.
+Each job is made of random commands of every part of docs/LANGUAGE.md, with values at and near their bounds, and every
+fourth one is then changed in some of its bytes, cut, or joined from two. At a resolution that is drawn too, both programs
+have to give the same status, the same bytes on standard output, and the same line on standard error: of a job that is
+refused once, of one that is accepted for a page of it, and of every fourth for the page behind its last one. Every
+twentieth accepted job is also written again by both; every two hundredth is written with a certificate of each format,
+and checked.
+
+With --model the status, the line of a refusal and the image of a page also have to be those of reference.py, and a job
+that was written again has to have the same pages by it. The model takes most of the time then.
+
+A job on which the two differ is kept in FOLDER (build/fuzz) as SEED-NUMBER.pcl, with a line on standard output, and the
+status is then 1. The number of workers is 1 if it isn't given; the jobs don't depend on it.
 """
 
+import argparse
+import collections
+import fcntl
+import multiprocessing
 import os
 import random
 import subprocess
@@ -21,21 +31,51 @@ import reference
 
 ESC = b"\x1b"
 REVERSED = bytes(int(format(byte, "08b")[::-1], 2) for byte in range(256))
-LETTERS = {"settings": [b"&l%sA", b"&l%sX", b"&l%sC", b"&l%sD", b"&l%sE", b"&l%sF", b"&l%sL", b"&u%sD", b"&k%sH", b"&k%sG",
-                        b"&a%sL", b"&f%sS", b"9"],
-           "moves": [b"*p%sX", b"*p%sY", b"&a%sH", b"&a%sV", b"&a%sC", b"&a%sR", b"=", b"&f%sS"],
-           "rasters": [b"*t%sR", b"*r%sT", b"*r%sS", b"*r%sA", b"*b%sM", b"*b%sY", b"*rB", b"*rC", b"*r%sF"],
-           "rectangles": [b"*c%sA", b"*c%sB", b"*c%sH", b"*c%sV", b"*c%sP", b"*c0P", b"*v%sN", b"*v%sT"],
-           "fonts": [b"*c%sD", b"*c%sE", b"*c%sF", b"(%sX", b")%sX"],
-           "macros": [b"&f%sY"] * 6 + [b"&f2X", b"&f3X", b"&f%sX"] * 4 + [b"&f0X", b"&f1X"],
-           "ends": [b"E", b"%%-12345X@PJL SET X=1\r\n@PJL ENTER LANGUAGE = PCL\r\n", b"&l0O", b"&s1C", b"(s1P", b")3@"]}
-VALUES = {b"&l%sA": ["1", "2", "3", "26"] * 8 + ["5"], b"&l%sX": ["1", "2", "3", "99"] * 8 + ["100", "0"], b"&u%sD": ["300", "600", "96", "7200"],
-          b"&k%sG": ["0", "1", "2", "3"] * 8 + ["4"], b"&f%sS": ["0", "1", "2"], b"&l%sL": ["0", "1"] * 8 + ["2"],
-          b"&l%sD": ["6", "8", "1", "48"] * 8 + ["5", "0"], b"*t%sR": ["75", "100", "150", "300"] * 6 + ["200", "600"], b"*b%sM": ["0", "1", "2", "3"] * 12 + ["4", "9"],
-          b"*r%sA": ["0", "1"] * 20 + ["2", "3"], b"*r%sF": ["0", "3"] * 8 + ["1"], b"*v%sN": ["0"] * 20 + ["1"], b"*v%sT": ["0"] * 20 + ["1"], b"*c%sP": ["0", "1"] * 20 + ["2"],
-          b"*c%sF": ["0", "1", "2", "3", "4", "5"] * 8 + ["6"], b"&f%sY": ["0", "1", "2", "3"], b"*c%sD": ["0", "1", "2"], b"*c%sE": ["32", "65", "66", "200"],
-          b"(%sX": ["0", "1", "2"], b")%sX": ["0", "1", "2"], b"&f%sX": ["2", "3", "6", "7", "8", "9", "10"] * 6 + ["0", "1", "4", "11", "-0.5"],
-          b"*b%sY": ["0", "1", "2", "30"], b"*r%sT": ["0", "1", "5", "40"], b"*r%sS": ["0", "1", "4", "9", "2400", "40"]}
+MOST_PAGES = 256
+
+# What stands behind ESC, by the part of the language; %s is a value.
+FORMS = {
+    "settings": [b"&l%sA", b"&l%sX", b"&l%sC", b"&l%sD", b"&l%sE", b"&l%sF", b"&l%sL", b"&u%sD", b"&k%sH", b"&k%sG", b"&a%sL", b"9"],
+    "moves": [b"*p%sX", b"*p%sY", b"&a%sH", b"&a%sV", b"&a%sC", b"&a%sR", b"=", b"&f%sS"],
+    "rasters": [b"*t%sR", b"*r%sT", b"*r%sS", b"*r%sA", b"*b%sM", b"*b%sY", b"*rB", b"*rC", b"*r%sF"],
+    "rectangles": [b"*c%sA", b"*c%sB", b"*c%sH", b"*c%sV", b"*c%sP", b"*c0P"],
+    "fonts": [b"*c%sD", b"*c%sE", b"*c%sF", b"(%sX", b")%sX"],
+    "macros": [b"&f%sY"] * 6 + [b"&f2X", b"&f3X"] * 2 + [b"&f%sX"] * 4 + [b"&f0X", b"&f1X"],
+    "ends": [b"E", b"%%-12345X", b"&l%sH", b"&a%sG"],
+    "others": [b"&l%sO", b"&l%sU", b"&l%sZ", b"&a%sP", b"*v%sN", b"*v%sT", b"%%%sA", b"&l%sS", b"&l%sG", b"&l%sM", b"&l%sP", b"&a%sM",
+               b"&s%sC", b"&d%s@", b"*v%sO", b"*c%sG", b"(s%sP", b")s%sH", b"(s%sV", b")s%sS", b"(s%sB", b")s%sT", b"(%sU", b")%s@"],
+    "unknown": [b"e", b"Y", b"z", b"&q%sQ", b"*q%sX", b"*b%sL", b"*r%sU", b"%%%sX", b"%%a%sX", b"&f%sZ", b"(s%sX", b"!a%sA", b"*%sE"],
+}
+# The parts whose commands are also put together into one sequence, and what such sequences begin with.
+COMBINED = ["settings", "moves", "rasters", "rectangles", "fonts", "macros"]
+PREFIXES = [b"*p", b"&a", b"&l", b"&f", b"*r", b"*b", b"*c"]
+
+# What a value mostly is. Where many stand for one, the others are refused.
+ONLY_ZERO = ["0"] * 20 + ["1"]
+VALUES = {
+    b"&l%sA": ["1", "2", "3", "26"] * 8 + ["5"], b"&l%sX": ["1", "2", "3", "99"] * 8 + ["100", "0"], b"&l%sL": ["0", "1"] * 8 + ["2"],
+    b"&l%sD": ["6", "8", "1", "48"] * 8 + ["5", "0"], b"&u%sD": ["300", "600", "96", "7200", "1200", "225"] * 6 + ["97", "0"],
+    b"&k%sG": ["0", "1", "2", "3"] * 8 + ["4"], b"&f%sS": ["0", "1"] * 10 + ["2"],
+    b"*t%sR": ["75", "100", "150", "300"] * 6 + ["200", "600"], b"*b%sM": ["0", "1", "2", "3"] * 12 + ["4", "9"],
+    b"*b%sY": ["0", "1", "2", "30"], b"*r%sA": ["0", "1"] * 20 + ["2", "3"], b"*r%sF": ["0", "3"] * 8 + ["1"],
+    b"*r%sT": ["0", "1", "5", "40"], b"*r%sS": ["0", "1", "4", "9", "2400", "40"],
+    b"*c%sP": ["0", "1"] * 20 + ["2", "5"], b"*c%sF": ["0", "1", "2", "3", "4", "5"] * 8 + ["6"],
+    b"*c%sD": ["0", "1", "2"] * 8 + ["32767", "32768"], b"*c%sE": ["32", "65", "66", "200"] * 8 + ["255", "256"],
+    b"(%sX": ["0", "1", "2"], b")%sX": ["0", "1", "2"], b"&f%sY": ["0", "1", "2", "3"] * 8 + ["32767", "32768"],
+    b"&f%sX": ["2", "3", "2", "3", "6", "7", "8", "9", "10"] * 6 + ["0", "1", "4", "11", "-0.5"],
+    b"&l%sO": ONLY_ZERO, b"&l%sU": ONLY_ZERO, b"&l%sZ": ONLY_ZERO, b"&a%sP": ONLY_ZERO, b"*v%sN": ONLY_ZERO, b"*v%sT": ONLY_ZERO,
+}
+LINES = [b"@PJL SET X=1\r\n", b"@PJL\n", b"@PJL COMMENT \x1bE\n", b"@PJL ENTER LANGUAGE = PCL\r\n", b"@PJL enter language=pcl\n",
+         b"@PJLENTER\tLANGUAGE=PCL"]
+WRONG_LINES = [b"@PJL ENTER LANGUAGE=PCLXL\n", b"@PJL ENTER LANGUAGE=\n", b"@pjl x\n", b" @PJL\n"]
+PARTS = (["settings"] * 3 + ["moves"] * 4 + ["rasters"] * 3 + ["rows"] * 4 + ["rectangles"] * 3 + ["fonts"] * 2
+         + ["header", "character"] * 2 + ["text"] * 2 + ["transparent"] + ["codes"] * 2 + ["body"] * 3 + ["macros"] * 3
+         + ["parameters"] * 2 + ["ends", "others", "others", "chain", "chain", "kept", "stack"] + ["show"] * 4)
+BODY_PARTS = ["settings", "moves", "rasters", "rectangles", "rows", "codes", "fonts", "macros", "runs", "runs", "text", "transparent",
+              "parameters", "character", "others", "show", "show"]
+# What shows where the cursor and the settings are.
+SHOWS = [ESC + b"*cP", ESC + b"*c3a2b0P", ESC + b"*r1A" + ESC + b"*b2W\xff\x81", ESC + b"*b1W\x80", b"\n" + ESC + b"*c2a2b0P",
+         b"\t" + ESC + b"*c1a1b0P", ESC + b"*c1P"]
 
 
 def number(draw):
@@ -50,32 +90,30 @@ def number(draw):
 
 
 def value(draw, form):
-    if form in VALUES and draw.random() < 0.97:
-        return draw.choice(VALUES[form])
-    return number(draw)
+    return (draw.choice(VALUES[form]) if form in VALUES and draw.random() < 0.97 else number(draw)).encode()
 
 
 def data(draw, most):
     """Bytes as row data have them: runs, counts and bits."""
-    kinds = [lambda: draw.randint(0, 255), lambda: draw.choice([0, 1, 2, 31, 32, 127, 128, 129, 254, 255, 0x80, 0x81])]
-    kind = draw.choice(kinds)
-    return bytes(kind() for _ in range(draw.randint(0, most)))
+    count = draw.randint(0, most)
+    if draw.random() < 0.5:
+        return draw.randbytes(count)
+    return bytes(draw.choices([0, 1, 2, 31, 32, 127, 128, 129, 254, 255, 0x80, 0x81], k=count))
 
 
 def header(draw):
     size = draw.choice([64] * 20 + [65, 63])
     head = bytearray(size)
     head[:2] = draw.choice([64] * 30 + [size, 63, 70]).to_bytes(2, "big")
-    if size > 17:
-        head[3], head[13] = draw.choice([0, 1, 2] * 10 + [3]), draw.choice([0, 1] * 15 + [2])
-        head[16:18] = draw.choice([0, 8, 50, 120, 400]).to_bytes(2, "big")
+    head[3], head[13] = draw.choice([0, 1, 2] * 10 + [3]), draw.choice([0, 1] * 15 + [2])
+    head[16:18] = draw.choice([0, 8, 50, 120, 400, 65535]).to_bytes(2, "big")
     return bytes(head)
 
 
 def character(draw):
     width, height = draw.randint(0, 19), draw.randint(0, 9)
     fields = [draw.randint(-20, 20), draw.randint(-20, 20), width, height, draw.choice([-9, 0, 12, 80, 400])]
-    bits = bytes(draw.randint(0, 255) for _ in range((width + 7) // 8 * height))
+    bits = draw.randbytes((width + 7) // 8 * height)
     head = bytes([4, 0, 14, 1, 0, draw.choice([0, 0, 7])]) + b"".join(field.to_bytes(2, "big", signed=True) for field in fields)
     if draw.random() < 0.01:
         head = head[:draw.randint(0, 16)]
@@ -86,45 +124,127 @@ def with_data(prefix, letter, content):
     return ESC + prefix + str(len(content)).encode() + letter + content
 
 
-def token(draw, kind, has_fonts=True):
+def spelled(draw, form):
+    """A command of a form."""
+    command = ESC + (form % value(draw, form) if b"%s" in form else form.replace(b"%%", b"%"))
+    if form != b"%%-12345X" or draw.random() < 0.5:
+        return command
+    lines = [draw.choice(LINES if draw.random() < 0.98 else WRONG_LINES) for _ in range(draw.randint(0, 3))]
+    return command + b"".join(lines)
+
+
+def parameters(draw):
+    """Some parameters of one sequence."""
+    prefix = draw.choice(PREFIXES)
+    forms = [form for part in COMBINED for form in FORMS[part] if form[:2] == prefix]
+    chosen = [draw.choice(forms) for _ in range(draw.randint(2, 4))]
+    said = [form[2:] % value(draw, form) if b"%s" in form else form[2:] for form in chosen]
+    return ESC + prefix + b"".join(said[:-1]).lower() + said[-1]
+
+
+def codes(draw, has_font):
+    """The codes of a run of text, and of control codes in it."""
+    common = [32, 65, 66, 200, 33, 9, 10, 13] if has_font else [32, 1, 9, 10, 13]
+    if draw.random() < 0.02:
+        common = common + [65]
+    return bytes(draw.choices(common, k=draw.randint(1, 8)))
+
+
+def body(draw, has_font):
+    """The definition of a macro, mostly without what definitions refuse."""
+    parts = b"".join(part_of(draw, draw.choice(BODY_PARTS), has_font) for _ in range(draw.randint(0, 5)))
+    if draw.random() < 0.95:
+        parts = parts.replace(b"&f0X", b"&f2X").replace(b"&f1X", b"&f3X")
+    begin = draw.choice([b"&f%dy0X", b"&f%dY\x1b&fX", b"&f%dy0x2X"])
+    return ESC + begin % draw.randint(0, 3) + parts + ESC + draw.choice([b"&f1X"] * 20 + [b"&f1x2X", b"&f1x3X", b"E"])
+
+
+def parts_of(draw, most, has_font):
+    """What stands in a macro and is seldom refused."""
+    kinds = ["moves", "moves", "rasters", "rows", "show", "show", "rectangles", "settings"]
+    return b"".join(part_of(draw, draw.choice(kinds), has_font) for _ in range(draw.randint(0, most)))
+
+
+def macro_of(number, content):
+    return ESC + b"&f%dy0X" % number + content + ESC + b"&f1X"
+
+
+def chain(draw, has_font):
+    """Macros each of which runs the next one, and the first is run."""
+    macros = []
+    last = draw.choice([1, 2, 2, 2, 2, 3])
+    for number in range(last + 1):
+        runs = ESC + b"&f%dy%dX" % (number + 1, draw.randint(2, 3)) if number < last else b""
+        macros.append(macro_of(number, parts_of(draw, 2, has_font) + runs + parts_of(draw, 2, has_font)))
+    draw.shuffle(macros)
+    return b"".join(macros) + parts_of(draw, 2, has_font) + ESC + b"&f0y%dX" % draw.randint(2, 3) + draw.choice(SHOWS)
+
+
+def kept(draw, has_font):
+    """Macros that are temporary or permanent, deleted or not, and then run."""
+    definitions = b"".join(macro_of(number, parts_of(draw, 1, has_font) + draw.choice(SHOWS)) + draw.choice([b"", ESC + b"&f10X"])
+                           for number in range(2))
+    ends = [ESC + b"E", ESC + b"%-12345X", ESC + b"&f7X", ESC + b"&f8X", ESC + b"&f6X", ESC + b"&f9X" + ESC + b"E"]
+    return definitions + draw.choice(ends) + b"".join(ESC + b"&f%dy%dX" % (number, draw.randint(2, 3)) for number in range(2))
+
+
+def stack(draw):
+    """Positions that are pushed and popped."""
+    pushes = b"".join(ESC + b"*p+%dx+%dY" % (draw.randint(0, 90), draw.randint(0, 90)) + ESC + b"&f0S"
+                      for _ in range(draw.choice([1, 3, 19, 20, 21])))
+    size = ESC + b"&l%dA" % draw.choice([1, 2, 3, 26]) if draw.random() < 0.5 else b""
+    return pushes + size + (ESC + b"&f1S" + draw.choice(SHOWS)) * draw.choice([1, 3, 20, 22])
+
+
+def part_of(draw, part, has_font):
     """One command, or some that belong together."""
-    if kind == "rows":
-        return b"".join(with_data(b"*b", b"W", data(draw, draw.choice([2, 5, 40, 300]))) for _ in range(draw.randint(1, 4)))
-    if kind == "text":
-        return bytes(draw.choice([32, 65, 66, 200, 33, 9, 10, 13] if has_fonts else [32, 1, 9, 10, 13, 65][:5 + (draw.random() < 0.02)]) for _ in range(draw.randint(1, 8)))
-    if kind == "codes":
-        return bytes([draw.choice([7, 0, 9, 10, 11, 12, 13, 14, 15, 26] * 6 + [8])])
-    if kind == "header":
+    if part == "rows":
+        rows = [data(draw, draw.choice([2, 5, 40, 300])) for _ in range(draw.randint(1, 4))]
+        return b"".join(with_data(b"*b", b"W", row) for row in rows)
+    if part == "text":
+        return codes(draw, has_font)
+    if part == "transparent":
+        return with_data(b"&p", b"X", codes(draw, has_font))
+    if part == "codes":
+        return bytes([draw.choice([7, 0, 9, 10, 11, 12, 13, 14, 15, 26] * 12 + [8])])
+    if part == "header":
         return with_data(b")s", b"W", header(draw))
-    if kind == "character":
+    if part == "character":
         return with_data(b"(s", b"W", character(draw))
-    if kind == "body":
-        return (ESC + b"&f%dy0X" % draw.randint(0, 3)
-                + b"".join(token(draw, draw.choice(["settings", "moves", "rasters", "rectangles", "rows", "codes", "macros", "text"]), has_fonts)
-                           for _ in range(draw.randint(0, 4))).replace(b"&f0X", b"&f2X") + ESC + b"&f1X")
-    if kind == "parameters":
-        forms = [form for form in LETTERS[draw.choice(["rasters", "moves", "rectangles"])] if b"%s" in form]
-        prefix = draw.choice(forms)[:2]
-        forms = [form for form in forms if form[:2] == prefix]
-        chosen = [draw.choice(forms) for _ in range(draw.randint(2, 4))]
-        spelled = [form[2:] % value(draw, form).encode() for form in chosen]
-        return ESC + prefix + b"".join(part.lower() for part in spelled[:-1]) + spelled[-1]
-    form = draw.choice(LETTERS[kind])
-    return ESC + (form % value(draw, form).encode() if b"%s" in form else form.replace(b"%%", b"%"))
+    if part == "body":
+        return body(draw, has_font)
+    if part == "show":
+        return draw.choice(SHOWS)
+    if part == "chain":
+        return chain(draw, has_font)
+    if part == "kept":
+        return kept(draw, has_font)
+    if part == "stack":
+        return stack(draw)
+    if part == "runs":
+        return ESC + b"&f%dy%dX" % (draw.randint(0, 3), draw.randint(2, 3))
+    if part == "parameters":
+        return parameters(draw)
+    return spelled(draw, draw.choice(FORMS[part]))
 
 
-KINDS = (["settings"] * 3 + ["moves"] * 4 + ["rasters"] * 3 + ["rows"] * 4 + ["rectangles"] * 3 + ["fonts"] * 2 + ["header", "character"] * 2
-         + ["text"] * 2 + ["codes"] * 2 + ["body"] * 2 + ["macros"] * 3 + ["parameters"] * 2 + ["ends"])
+FONT = (ESC + b"*c0D" + with_data(b")s", b"W", bytes([0, 64, 0, 2]) + bytes(13) + b"\x30" + bytes(46))
+        + ESC + b"*c65E" + with_data(b"(s", b"W", bytes([4, 0, 14, 1, 0, 0, 0, 1, 0, 2, 0, 9, 0, 3, 0, 40]) + bytes([0x81, 0x80] * 3))
+        + ESC + b"(0X")
 
 
-def valid_job(draw):
+def right_job(draw):
+    """A job that is mostly accepted."""
     begin = draw.choice([b"", ESC + b"E", ESC + b"&l0E", ESC + b"&l0E" + ESC + b"*p0x0Y" + ESC + b"*t300R"])
-    fonts = b""
-    if draw.random() < 0.5:
-        fonts = (ESC + b"*c0D" + with_data(b")s", b"W", bytes([0, 64, 0, draw.choice([0, 1, 2])]) + bytes(13) + b"\x30" + bytes(46))
-                 + ESC + b"*c65E" + with_data(b"(s", b"W", bytes([4, 0, 14, 1, 0, 0, 0, 1, 0, 2, 0, 9, 0, 3, 0, 40]) + bytes([0x81, 0x80] * 3))
-                 + ESC + b"(0X")
-    return begin + fonts + b"".join(token(draw, draw.choice(KINDS), bool(fonts)) for _ in range(draw.randint(1, draw.choice([4, 12, 30]))))
+    has_font = draw.random() < 0.5
+    parts = [part_of(draw, draw.choice(PARTS), has_font) for _ in range(draw.randint(1, draw.choice([4, 12, 30])))]
+    if draw.random() < 0.03:
+        parts.insert(draw.randint(0, len(parts)), spelled(draw, draw.choice(FORMS["unknown"])))
+    if draw.random() < 0.004:
+        parts.insert(draw.randint(0, len(parts)), b"\f" * draw.choice([254, 255, 256, 257]))
+    if draw.random() < 0.6:
+        parts.append(draw.choice(SHOWS))
+    return begin + (FONT if has_font else b"") + b"".join(parts)
 
 
 def mutated(draw, job):
@@ -144,10 +264,45 @@ def mutated(draw, job):
 
 
 def job_of(draw):
-    job = valid_job(draw)
+    job = right_job(draw)
     if draw.random() < 0.25:
-        job = mutated(draw, job if draw.random() < 0.7 else job + valid_job(draw))
+        job = mutated(draw, job if draw.random() < 0.7 else job + right_job(draw))
     return job
+
+
+class Program:
+    """A program that is started for each job, with its streams in files of memory."""
+
+    def __init__(self, path):
+        self.path = os.path.abspath(path)
+        self.files = [os.memfd_create(name) for name in ("input", "output", "errors")]
+
+    def run(self, words, job):
+        """The status, and what it wrote to standard output and to standard error."""
+        source = self.files[0]
+        os.ftruncate(source, 0)
+        os.pwrite(source, job, 0)
+        for file in self.files:
+            os.lseek(file, 0, os.SEEK_SET)
+        streams = [(os.POSIX_SPAWN_DUP2, file, stream) for stream, file in enumerate(self.files)]
+        child = os.posix_spawn(self.path, [self.path] + words, os.environ, file_actions=streams)
+        status = os.waitstatus_to_exitcode(os.waitpid(child, 0)[1])
+        return (status, *(os.pread(file, os.lseek(file, 0, os.SEEK_CUR), 0) for file in self.files[1:]))
+
+
+class Plain:
+    """The plain program, which answers all jobs in one run."""
+
+    def __init__(self, path):
+        self.child = subprocess.Popen([path, "jobs"], stdin=subprocess.PIPE, stdout=subprocess.PIPE)
+        fcntl.fcntl(self.child.stdout, fcntl.F_SETPIPE_SZ, 1 << 20)
+
+    def run(self, words, job):
+        """As of a program that is started for the job, and how many pages the job has."""
+        self.child.stdin.write(b"%s %d\n" % (" ".join(words).encode(), len(job)) + job)
+        self.child.stdin.flush()
+        status, pages, written, said = map(int, self.child.stdout.readline().split())
+        return (status, self.child.stdout.read(written), self.child.stdout.read(said)), pages
 
 
 def image(page, dpi):
@@ -160,12 +315,7 @@ def image(page, dpi):
     return b"P4\n%d %d\n" % (width, height) + b"".join(rows)
 
 
-def run(program, job, words):
-    done = subprocess.run([program] + words, input=job, stdout=subprocess.PIPE, stderr=subprocess.PIPE)
-    return done.returncode, done.stdout, done.stderr
-
-
-def expected(job, dpi):
+def modelled(job, dpi):
     """The pages of a job by the model, or the line of its refusal."""
     try:
         return reference.pages_of(job, dpi), None
@@ -173,56 +323,121 @@ def expected(job, dpi):
         return None, b"pclmin: refused: %s\n" % str(refused).encode()
 
 
-def fault_of(program, job, dpi, pages, line, number, draw, folder):
-    """What is wrong with the program's answers on a job, if anything is."""
-    at = ["--dpi", str(dpi)]
-    if pages is None:
-        came = run(program, job, draw.choice([["min"], ["pbm", "--page", "1"]]) + at)
-        return None if came == (1, b"", line) else "min: %s" % came[2][:80]
-    for page in {draw.randint(1, len(pages)) if pages else 1, min(len(pages) + 1, 256)}:
-        status, written, said = run(program, job, ["pbm", "--page", str(page)] + at)
-        wanted = (0, image(pages[page - 1], dpi), b"") if page <= len(pages) else (1, b"", b"pclmin: no page %d\n" % page)
-        if (status, written, said) != wanted:
-            return "page %d: status %d %s" % (page, status, said[:80])
-    if number % 20 == 0:
-        status, written, said = run(program, job, ["min"] + at)
-        if status != 0 or said or expected(written, dpi)[0] != pages:
-            return "min: status %d %s" % (status, said[:80])
-    if number % 200 == 0:
-        for form in ("1", "2"):
-            names = [os.path.join(folder, name) for name in ("in", "out", "cert")]
-            status, written, said = run(program, job, ["min", "--cert", names[2], "--format", form] + at)
-            for name, content in zip(names, (job, written)):
-                with open(name, "wb") as out:
-                    out.write(content)
-            if run(program, b"", ["check"] + at + names) != (0, b"proved\n", b""):
-                return "check of format " + form
-    return None
+class Comparison:
+    """The programs that are compared, and where the jobs come from."""
 
+    def __init__(self, asked):
+        self.pclmin, self.plain = Program(asked.pclmin), Plain(asked.plain)
+        self.seed, self.folder, self.has_model = asked.seed, asked.folder, asked.model
 
-def main(words):
-    if len(words) not in (3, 4):
-        sys.exit(__doc__)
-    program, count, seed = words[0], int(words[1]), int(words[2])
-    folder = words[3] if len(words) == 4 else "build/fuzz"
-    os.makedirs(folder, exist_ok=True)
-    accepted = differing = 0
-    kinds = {}
-    for number in range(count):
-        draw = random.Random("%d %d" % (seed, number))
+    def compare(self, number):
+        """What became of a job: a kind of refusal or `accepted`, and what differs, if anything does."""
+        draw = random.Random("%d %d" % (self.seed, number))
         job, dpi = job_of(draw), draw.choice([300] * 5 + [600])
-        pages, line = expected(job, dpi)
-        accepted += line is None
-        kind = line.split()[2].decode() if line else "accepted"
-        kinds[kind] = kinds.get(kind, 0) + 1
-        fault = fault_of(program, job, dpi, pages, line, number, draw, folder)
+        at = ["--dpi", str(dpi)]
+        first, pages = self.plain.run(["pbm", "--page", "1"] + at, job)
+        is_refused = first[2].startswith(b"pclmin: refused: ")
+        kind = first[2].split()[2].decode() if is_refused else "accepted"
+        if is_refused:
+            words = draw.choice([["min"], ["pbm", "--page", "1"]]) + at
+            came = self.pclmin.run(words, job)
+            fault = None if came == first else "%s: pclmin %s, plain %s" % (words[0], told(came), told(first))
+        else:
+            fault = self.page_fault(job, at, pages, draw) or self.written_fault(number, job, at)
+        if self.has_model:
+            fault = fault or self.model_fault(number, job, dpi, pages, first, draw)
         if fault:
-            differing += 1
-            with open(os.path.join(folder, "%d.pcl" % number), "wb") as out:
+            with open(os.path.join(self.folder, "%d-%d.pcl" % (self.seed, number)), "wb") as out:
                 out.write(job)
-            print("job %d at %d: %s, where the model has %s" % (number, dpi, fault, line or "%d pages" % len(pages)), flush=True)
-    print("%d jobs, %d accepted, %d differ; %s" % (count, accepted, differing, kinds))
+            fault = "job %d at %d: %s" % (number, dpi, fault)
+        return kind, fault
+
+    def page_fault(self, job, at, pages, draw):
+        asked = {draw.randint(1, pages) if pages else 1}
+        if draw.random() < 0.25:
+            asked.add(min(pages + 1, MOST_PAGES))
+        for page in asked:
+            words = ["pbm", "--page", str(page)] + at
+            came, wanted = self.pclmin.run(words, job), self.plain.run(words, job)[0]
+            if came != wanted:
+                return "page %d: pclmin %s, plain %s" % (page, told(came), told(wanted))
+        return None
+
+    def written_fault(self, number, job, at):
+        if number % 20 == 0:
+            came, wanted = self.pclmin.run(["min"] + at, job), self.plain.run(["min"] + at, job)[0]
+            if came != wanted:
+                return "min: pclmin %s, plain %s" % (told(came), told(wanted))
+        if number % 200 == 0:
+            for form in ("1", "2"):
+                names = [os.path.join(self.folder, "%d-%s" % (os.getpid(), name)) for name in ("in", "out", "cert")]
+                written = self.pclmin.run(["min", "--cert", names[2], "--format", form] + at, job)[1]
+                for name, content in zip(names, (job, written)):
+                    with open(name, "wb") as out:
+                        out.write(content)
+                came = self.pclmin.run(["check"] + at + names, b"")
+                if came != (0, b"proved\n", b""):
+                    return "check of format %s: %s" % (form, told(came))
+                for name in names:
+                    os.remove(name)
+        return None
+
+    def model_fault(self, number, job, dpi, count, first, draw):
+        """What differs from the model, where both programs answer the same."""
+        pages, line = modelled(job, dpi)
+        if pages is None:
+            return None if first == (1, b"", line) else "%s, where the model has %s" % (told(first), line)
+        if len(pages) != count or first[2].startswith(b"pclmin: refused: "):
+            return "%s, where the model has %d pages" % (told(first), len(pages))
+        if pages:
+            page = draw.randint(1, count)
+            words = ["pbm", "--page", str(page), "--dpi", str(dpi)]
+            if self.pclmin.run(words, job) != (0, image(pages[page - 1], dpi), b""):
+                return "page %d isn't the model's" % page
+        if number % 20 == 0:
+            written = self.pclmin.run(["min", "--dpi", str(dpi)], job)[1]
+            if modelled(written, dpi)[0] != pages:
+                return "the written job has other pages by the model"
+        return None
+
+
+def told(came):
+    """A program's answer, in short."""
+    status, written, said = came
+    return "status %d, %d bytes, %s" % (status, len(written), said.decode(errors="replace").strip() or "no line")
+
+
+def begin(asked):
+    """Makes the comparison of this worker."""
+    global comparison
+    comparison = Comparison(asked)
+
+
+def compare(number):
+    return comparison.compare(number)
+
+
+def main():
+    parser = argparse.ArgumentParser(description=__doc__, formatter_class=argparse.RawDescriptionHelpFormatter)
+    parser.add_argument("pclmin")
+    parser.add_argument("plain")
+    parser.add_argument("count", type=int)
+    parser.add_argument("seed", type=int)
+    parser.add_argument("--model", action="store_true")
+    parser.add_argument("--workers", type=int, default=1)
+    parser.add_argument("--folder", default="build/fuzz")
+    asked = parser.parse_args()
+    os.makedirs(asked.folder, exist_ok=True)
+    kinds, differing = collections.Counter(), 0
+    with multiprocessing.Pool(asked.workers, begin, [asked]) as pool:
+        for kind, fault in pool.imap(compare, range(asked.count), chunksize=50):
+            kinds[kind] += 1
+            if fault:
+                differing += 1
+                print(fault, flush=True)
+    print("seed %d: %d jobs, %d differ; %s" % (asked.seed, asked.count, differing, dict(kinds.most_common())))
     sys.exit(differing > 0)
 
 
-main(sys.argv[1:])
+if __name__ == "__main__":
+    main()
