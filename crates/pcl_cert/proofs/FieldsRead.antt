@@ -29,26 +29,26 @@ pub record Splits (bytes text rest : List ℕ) : Type 0 where
   pub rest_are : AreBytes rest
 
 pub splits_both : {a x b y c : List ℕ} → Splits a x b → Splits b y c → Splits a (x ++ y) c
-splits_both {a} {x} {b} {y} {c} p q =
+splits_both {x} {y} {c} p q =
     record { joined = p.joined ∙ ap (λ (t : List ℕ). x ++ t) q.joined ∙ sym (append_assoc x y c); rest_are = q.rest_are }
 
 -- ---- steps of reading that didn't fail
 
-pub step_ok : {A B : Type 0} (r : Result A CertFault) (f : A → Result B CertFault) (y : B) → (r >>= f) ≡ Ok y
+pub step_ok : {A B : Type 0} (r : Result A CertFault) {f : A → Result B CertFault} {y : B} → (r >>= f) ≡ Ok y
     → (x : A) × (r ≡ Ok x) × (f x ≡ Ok y)
-step_ok (Ok x) f y e = (x, refl, e)
-step_ok (Err fault) f y e = absurd cc
+step_ok (Ok x) e = (x, refl, e)
+step_ok (Err fault) e = absurd cc
 
-pub passed : {A : Type 0} (b : Bool) (fault : CertFault) (r : Result A CertFault) (y : A) → cond b (Err fault) r ≡ Ok y
+pub passed : {A : Type 0} (b : Bool) (fault : CertFault) {r : Result A CertFault} {y : A} → cond b (Err fault) r ≡ Ok y
     → (b ≡ false) × (r ≡ Ok y)
-passed true fault r y e = absurd cc
-passed false fault r y e = (refl, e)
+passed true fault e = absurd cc
+passed false fault e = (refl, e)
 
 abbrev answered : {A : Type 0} → A → Result A CertFault
 answered x = Ok x
 
-pub same_ok : {A : Type 0} (x y : A) → answered x ≡ answered y → x ≡ y
-same_ok x y e = cc
+pub same_ok : {A : Type 0} {x y : A} → answered x ≡ answered y → x ≡ y
+same_ok e = cc
 
 -- ---- numbers of two and of four bytes
 
@@ -75,31 +75,31 @@ four_bytes = record {
 }
 
 -- a number's bytes are the front that it is read from
-pub front_spelled : (w : Width) (limit : ℕ) → IsNumberWidth w limit → (bytes : List ℕ) → AreBytes bytes → byte_len w ≤ length bytes
+pub front_spelled : {w : Width} {limit : ℕ} → IsNumberWidth w limit → (bytes : List ℕ) → AreBytes bytes → byte_len w ≤ length bytes
     → to_be_bytes w (from_be_bytes w (take (byte_len w) bytes)) ≡ take (byte_len w) bytes
-front_spelled w limit is bytes are long =
+front_spelled {w} is bytes are long =
     is.spelled (take (byte_len w) bytes) (omega (arith, length-take (byte_len w) bytes)) (front_bytes (byte_len w) bytes are)
 
-pub number_found : (w : Width) (limit : ℕ) → IsNumberWidth w limit → (bytes : List ℕ) (n : ℕ) (rest : List ℕ) → AreBytes bytes
+pub number_found : {w : Width} {limit : ℕ} → IsNumberWidth w limit → {bytes : List ℕ} {n : ℕ} {rest : List ℕ} → AreBytes bytes
     → number_at w bytes ≡ Ok (n, rest) → Splits bytes (to_be_bytes w n) rest × (n < limit)
-number_found w limit is bytes n rest are e =
+number_found {w} {limit} is {bytes} {n} {rest} are e =
     let front : List ℕ = take (byte_len w) bytes in
     let read : ℕ × List ℕ = (from_be_bytes w front, drop (byte_len w) bytes) in
-    let test = passed (ltb (length bytes) (byte_len w)) Short (Ok read) (n, rest) e in
+    let test = passed (ltb (length bytes) (byte_len w)) Short e in
     let long : byte_len w ≤ length bytes = ltb-false _ _ test.0 in
-    let made : read ≡ (n, rest) = same_ok read (n, rest) test.1 in
+    let made : read ≡ (n, rest) = same_ok test.1 in
     subst (λ (x : ℕ × List ℕ). Splits bytes (to_be_bytes w x.0) x.1 × (x.0 < limit)) made (
       record {
-        joined = sym (ap (λ (t : List ℕ). t ++ drop (byte_len w) bytes) (front_spelled w limit is bytes are long)
+        joined = sym (ap (λ (t : List ℕ). t ++ drop (byte_len w) bytes) (front_spelled is bytes are long)
             ∙ take-append-drop (byte_len w) bytes);
         rest_are = rest_bytes (byte_len w) bytes are;
       },
       is.below front (front_bytes (byte_len w) bytes are),
     )
 
-pub number_again : (w : Width) (limit : ℕ) → IsNumberWidth w limit → (n : ℕ) (rest : List ℕ) → n < limit
+pub number_again : {w : Width} {limit : ℕ} → IsNumberWidth w limit → (n : ℕ) (rest : List ℕ) → n < limit
     → number_at w (to_be_bytes w n ++ rest) ≡ Ok (n, rest)
-number_again w limit is n rest lt =
+number_again {w} is n rest lt =
     let text : List ℕ = to_be_bytes w n in
     let long : ltb (length (text ++ rest)) (byte_len w) ≡ false = le-ltb _ _ (omega (arith, length-append text rest, is.len n)) in
     rw (long, take_at text rest (byte_len w) (is.len n), drop_at text rest (byte_len w) (is.len n), is.again n lt) refl

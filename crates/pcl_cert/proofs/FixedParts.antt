@@ -25,13 +25,13 @@ raster_length Letter Dpi600 = refl
 raster_length Legal Dpi600 = refl
 raster_length A4 Dpi600 = refl
 
-pub one_digit : (n : ℕ) → n < 10 → length (decimal n) ≡ 1
-one_digit n lt = ap length (decimal_digit n lt)
+pub one_digit : {n : ℕ} → n < 10 → length (decimal n) ≡ 1
+one_digit {n} lt = ap length (decimal_digit n lt)
 
-pub two_digits : (n : ℕ) → 10 ≤ n → n < 100 → length (decimal n) ≡ 2
-two_digits n le lt =
+pub two_digits : {n : ℕ} → 10 ≤ n → n < 100 → length (decimal n) ≡ 2
+two_digits {n} le lt =
     ap length (decimal_step n le (omega arith)) ∙ length-append (decimal (n / 10)) ((48 + n % 10) ∷ [])
-    ∙ ap (λ (k : ℕ). k + 1) (one_digit (n / 10) (omega arith))
+    ∙ ap (λ (k : ℕ). k + 1) (one_digit (omega arith))
 
 pub fixed_length : (dpi : Dpi) (size : Size) (copies : ℕ) → fixed_bytes dpi size copies
     ≡ 36 + length (decimal copies) + length (decimal (code_of size))

@@ -38,8 +38,8 @@ table_length n list =
       length-replicate n zero_number,
     )
 
-pub table_number : (n : ℕ) (list : List ℕ) (k : ℕ) → k < n → get_or (table_of n list) k 0 ≡ get_or list k 0
-table_number n list k lt =
+pub table_number : {n : ℕ} (list : List ℕ) {k : ℕ} → k < n → get_or (table_of n list) k 0 ≡ get_or list k 0
+table_number {n} list {k} lt =
     get_or-take n (list ++ replicate n 0) k 0 lt ∙ elim (cases_lt k (length list)) [
       | inl within ↦ get_or_append_left list (replicate n 0) 0 k within
       | inr past ↦
@@ -54,7 +54,7 @@ pub one_place_more : (n : ℕ) (list out : List ℕ) (k number : ℕ) → k < n 
 one_place_more n list out k number lt size so_far is =
     take_more_set out k number (omega (arith, size))
     ∙ ap (λ (front : List ℕ). front ++ number ∷ []) so_far
-    ∙ ap (λ (m : ℕ). take k (table_of n list) ++ m ∷ []) (is ∙ sym (table_number n list k lt))
+    ∙ ap (λ (m : ℕ). take k (table_of n list) ++ m ∷ []) (is ∙ sym (table_number list lt))
     ∙ sym (take_more (table_of n list) k 0 (omega (arith, table_length n list)))
 
 -- ---- numbers without the zeros at their end
@@ -70,10 +70,10 @@ end_of_front (n ∷ m ∷ numbers) (suc (suc len)) some within =
     end_of_front (m ∷ numbers) (suc len) (omega arith) (omega arith)
     ∙ ap (λ (k : ℕ). nat_eq (get_or (n ∷ m ∷ numbers) k 0) 0) place
 
-pub trimmed_is : (numbers : List ℕ) (len : ℕ) → len ≤ length numbers
+pub trimmed_is : {numbers : List ℕ} {len : ℕ} → len ≤ length numbers
     → ((k : ℕ) → len ≤ k → k < length numbers → get_or numbers k 0 ≡ 0) → (0 < len → nat_eq (get_or numbers (len - 1) 0) 0 ≡ false)
     → IsTrimmed numbers (take len numbers)
-trimmed_is numbers len within zeros ends = record {
+trimmed_is {numbers} {len} within zeros ends = record {
   len = len;
   within = within;
   front = refl;
@@ -87,11 +87,11 @@ trimmed_is numbers len within zeros ends = record {
 }
 
 -- a trimmed list stands for the numbers
-pub table_of_trimmed : (numbers list : List ℕ) → IsTrimmed numbers list → table_of (length numbers) list ≡ numbers
-table_of_trimmed numbers list is =
+pub table_of_trimmed : {numbers list : List ℕ} → IsTrimmed numbers list → table_of (length numbers) list ≡ numbers
+table_of_trimmed {numbers} {list} is =
     ext_get_or 0 (table_of (length numbers) list) numbers (table_length (length numbers) list) (λ k lt.
     let in_numbers : k < length numbers = omega (arith, table_length (length numbers) list) in
-    table_number (length numbers) list k in_numbers ∙ ap (λ (l : List ℕ). get_or l k 0) is.front ∙ elim (cases_lt k is.len) [
+    table_number list in_numbers ∙ ap (λ (l : List ℕ). get_or l k 0) is.front ∙ elim (cases_lt k is.len) [
       | inl within ↦ get_or-take is.len numbers k 0 within
       | inr past ↦ get_or_past (take is.len numbers) k 0 (omega (arith, length-take is.len numbers)) ∙ sym (is.zeros k past in_numbers)
     ])
@@ -107,8 +107,8 @@ pub record Stays (bytes more : List ℕ) (start : ℕ) : Type 0 where
   pub same : list_from (drop start (bytes ++ more)) ≡ list_from (drop start bytes)
   pub whole : IsListAt (bytes ++ more) start
 
-list_stays : (bytes more : List ℕ) (start : ℕ) → IsListAt bytes start → Stays bytes more start
-list_stays bytes more start is =
+list_stays : {bytes more : List ℕ} {start : ℕ} → IsListAt bytes start → Stays bytes more start
+list_stays {bytes} {more} {start} is =
     let list : List ℕ = drop start bytes in
     let room : 2 + 2 * count_of list ≤ length list = omega (arith, is.whole, length-drop start bytes) in
     let moved : drop start (bytes ++ more) ≡ list ++ more = drop-append-le start bytes more (omega (arith, is.whole)) in
@@ -128,16 +128,16 @@ lists_stay : (bytes more starts : List ℕ) → AllByRecursion (IsListAt bytes) 
     → (lists_within (bytes ++ more) starts ≡ lists_within bytes starts) × AllByRecursion (IsListAt (bytes ++ more)) starts
 lists_stay bytes more [] whole = (refl, tt)
 lists_stay bytes more (start ∷ starts) whole =
-    let first = list_stays bytes more start whole.0 in
+    let first = list_stays whole.0 in
     let others = lists_stay bytes more starts whole.1 in (
       ap (λ (list : List ℕ). list ∷ lists_within (bytes ++ more) starts) first.same
           ∙ ap (λ (lists : List (List ℕ)). list_from (drop start bytes) ∷ lists) others.0,
       (first.whole, others.1),
     )
 
-list_at_front : (list : List ℕ) → length list < 2 ^ 16 → AllByRecursion (λ n. n < 2 ^ 16) list
+list_at_front : {list : List ℕ} → length list < 2 ^ 16 → AllByRecursion (λ n. n < 2 ^ 16) list
     → (count_of (list_bytes list) ≡ length list) × (list_from (list_bytes list) ≡ list)
-list_at_front list few small =
+list_at_front {list} few small =
     let text : List ℕ = flat_map (to_be_bytes w16) list in
     let count : count_of (list_bytes list) ≡ length list = two_bytes.again (length list) few in (
       count,
@@ -154,17 +154,17 @@ all_and_one : {X : Type 0} (P : X → Type 0) (xs : List X) (x : X) → AllByRec
 all_and_one P [] x all one = (one, tt)
 all_and_one P (y ∷ xs) x all one = (all.0, all_and_one P xs x all.1 one)
 
-pub list_more : (old new : Lists) (numbers list : List ℕ) → AreWhole old → length numbers < 2 ^ 16
+pub list_more : {old new : Lists} {numbers list : List ℕ} → AreWhole old → length numbers < 2 ^ 16
     → ((k : ℕ) → get_or numbers k 0 < 2 ^ 16) → IsTrimmed numbers list → new.bytes.items ≡ old.bytes.items ++ list_bytes list
     → new.starts.items ≡ old.starts.items ++ length old.bytes.items ∷ [] → HasListMore old new numbers
-list_more old new numbers list whole few small is bytes_are starts_are =
+list_more {old} {new} {numbers} {list} whole few small is bytes_are starts_are =
     let bytes : List ℕ = old.bytes.items in
     let text : List ℕ = list_bytes list in
     let start : ℕ = length bytes in
     let size : length list ≤ length numbers = omega (arith, ap length is.front, length-take is.len numbers) in
     let small_list : AllByRecursion (λ n. n < 2 ^ 16) list =
     subst (AllByRecursion (λ n. n < 2 ^ 16)) (sym is.front) (small_front numbers is.len small) in
-    let at_front = list_at_front list (omega (arith, size, few)) small_list in
+    let at_front = list_at_front (omega (arith, size, few)) small_list in
     let there : drop start (bytes ++ text) ≡ text = drop_at bytes text start refl in
     let stay = lists_stay bytes text old.starts.items whole in
     let text_size : length text ≡ 2 + 2 * length list =
@@ -191,10 +191,10 @@ list_more old new numbers list whole few small is bytes_are starts_are =
 
 -- ---- a row's list more
 
-pub row_more : (method : Method) (seed row : List ℕ) (old new : Lists) (numbers : List ℕ) → length seed ≡ length row
+pub row_more : {method : Method} {seed row : List ℕ} {old new : Lists} {numbers : List ℕ} → length seed ≡ length row
     → IsLeastTable method seed row numbers → HasListMore old new numbers
     → HasRowMore method seed row old new
-row_more method seed row old new numbers same least more =
+row_more {method} {seed} {row} {numbers} same least more =
     let is = more.trimmed in
     let list : List ℕ = more.list in
     let size : length numbers ≡ length row + 1 = least.table_is.size in
@@ -219,7 +219,7 @@ row_more method seed row old new numbers same least more =
         ends = is.ends;
       };
       least = subst (IsLeastTable method seed row)
-          (sym (ap (λ (n : ℕ). table_of n list) (sym size) ∙ table_of_trimmed numbers list is)) least;
+          (sym (ap (λ (n : ℕ). table_of n list) (sym size) ∙ table_of_trimmed is)) least;
     }
 
 -- ---- rows
@@ -248,7 +248,7 @@ abbrev four_lists : {seed row : List ℕ} {old new : Lists} → HasFourMore seed
 four_lists more = more.plain.list ∷ more.runs.list ∷ more.packed.list ∷ more.delta.list ∷ []
 
 four_listed : {seed row : List ℕ} {old new : Lists} (more : HasFourMore seed row old new) → listed new ≡ listed old ++ four_lists more
-four_listed {seed} {row} {old} {new} more =
+four_listed more =
     more.delta.lists ∙ ap (λ (l : List (List ℕ)). l ++ more.delta.list ∷ []) (more.packed.lists
     ∙ ap (λ (l : List (List ℕ)). l ++ more.packed.list ∷ []) (more.runs.lists
     ∙ ap (λ (l : List (List ℕ)). l ++ more.runs.list ∷ []) more.plain.lists))
@@ -264,10 +264,10 @@ four_least more Delta = more.delta.least
 listed_length : (lists : Lists) → length (listed lists) ≡ length lists.starts.items
 listed_length lists = length-map lists.starts.items (λ (s : ℕ). list_from (drop s lists.bytes.items))
 
-pub one_row_more : (width : ℕ) (rows : List (List ℕ)) (done : ℕ) (old new : Lists) → HoldsRows width rows done old
+pub one_row_more : {width : ℕ} {rows : List (List ℕ)} {done : ℕ} {old new : Lists} → HoldsRows width rows done old
     → length (row_at rows done) ≡ width → HasFourMore (row_above width rows done) (row_at rows done) old new
     → HoldsRows width rows (done + 1) new
-one_row_more width rows done old new holds wide more =
+one_row_more {width} {rows} {done} {old} {new} holds wide more =
     let four : List (List ℕ) = four_lists more in
     let all : listed new ≡ listed old ++ four = four_listed more in
     let before : length (listed old) ≡ 4 * done = listed_length old ∙ holds.size in
@@ -303,10 +303,10 @@ one_row_more width rows done old new holds wide more =
     }
 
 -- all rows are there
-pub all_rows : (picture : Picture) (done : ℕ) (lists : Lists) → HoldsRowsOf picture done lists
+pub all_rows : (picture : Picture) {done : ℕ} {lists : Lists} → HoldsRowsOf picture done lists
     → done ≡ page_height picture.size picture.dpi
     → AreLeastTables (page_row_bytes picture.size picture.dpi) (bitmap_rows picture) (listed lists)
-all_rows picture done lists holds all =
+all_rows picture {lists} holds all =
     let count : length (bitmap_rows picture) ≡ page_height picture.size picture.dpi =
     length_rows (page_height picture.size picture.dpi) (page_row_bytes picture.size picture.dpi) picture.bytes in
     record {

@@ -27,12 +27,12 @@ pub record StandsInLists (count most done : ℕ) (bytes rest : List ℕ) (starts
 
 pub behind_ok : {X : Type 0} (read : Result (X × List ℕ) CertFault) (rest : List ℕ) → behind read ≡ Ok rest
     → (x : X) × (read ≡ Ok (x, rest))
-behind_ok {X} (Ok x) rest e = (x.0, ap (λ (bytes : List ℕ). Ok (x.0, bytes)) (same_ok x.1 rest e))
+behind_ok (Ok x) rest e = (x.0, ap (λ (bytes : List ℕ). Ok (x.0, bytes)) (same_ok e))
 behind_ok (Err fault) rest e = absurd cc
 
 behind_err : {X : Type 0} (fault : CertFault) (read : Result (X × List ℕ) CertFault) → behind read ≡ Err fault → read ≡ Err fault
-behind_err {X} fault (Ok x) e = absurd cc
-behind_err {X} fault (Err other) e = cc
+behind_err fault (Ok x) e = absurd cc
+behind_err fault (Err other) e = cc
 
 pub behind_fails : {X : Type 0} (fault : CertFault) (read : Result (X × List ℕ) CertFault) → Fails fault (behind read) → Fails fault read
 behind_fails Memory read e = tt
@@ -48,12 +48,12 @@ behind_either true numbers rest = refl
 behind_either false numbers rest = refl
 
 -- what is found where the count is good and the numbers are there
-pub list_checked : (most : ℕ) (bytes : List ℕ) (count : ℕ) (rest : List ℕ) → number_at w16 bytes ≡ Ok (count, rest)
+pub list_checked : {most : ℕ} (bytes : List ℕ) {count : ℕ} {rest : List ℕ} → number_at w16 bytes ≡ Ok (count, rest)
     → count ≤ most → 2 * count ≤ length rest
     → behind (list_at most bytes)
     ≡ (if ends_in_zero (numbers_from count (take (2 * count) rest)) then Err Places else Ok (drop (2 * count) rest))
 unfolding list_at
-list_checked most bytes count rest read few long =
+list_checked {most} bytes {count} {rest} read few long =
     let good : nat_lt most count ≡ false = le-ltb _ _ few in
     let there : nat_lt (length rest) (2 * count) ≡ false = le-ltb _ _ long in
     rw (read, good, there, numbers_of_front count rest)
@@ -75,12 +75,12 @@ end_of_list count =
 abbrev rest_of_list : ℕ × List ℕ → Result (List ℕ × List ℕ) CertFault
 rest_of_list count = if nat_lt (length count.1) (2 * count.0) then Err Short else end_of_list count
 
-found_at : (most : ℕ) (bytes : List ℕ) (count : ℕ) (behind_count numbers rest : List ℕ) → count_of bytes ≡ count →
+found_at : {most : ℕ} {bytes : List ℕ} {count : ℕ} {behind_count numbers rest : List ℕ} → count_of bytes ≡ count →
     drop 2 bytes ≡ behind_count
     → 2 ≤ length bytes → 2 * count ≤ length behind_count → numbers_from count behind_count ≡ numbers
     → drop (2 * count) behind_count ≡ rest → count ≤ most → ends_in_zero (numbers_from count behind_count) ≡ false
     → IsFound most bytes numbers rest
-found_at most bytes count behind_count numbers rest counted behind_it two long numbers_are rest_is few ends = record {
+found_at {bytes} {count} counted behind_it two long numbers_are rest_is few ends = record {
   numbers_are = sym numbers_are ∙ ap (numbers_from count) (sym behind_it) ∙ ap (λ (n : ℕ). numbers_from n (drop 2 bytes)) (sym counted);
   whole = omega (arith, counted, ap length behind_it, length-drop 2 bytes);
   rest_is = sym rest_is ∙ ap (drop (2 * count)) (sym behind_it) ∙ ap (λ (n : ℕ). drop (2 * n) (drop 2 bytes)) (sym counted)
@@ -89,20 +89,19 @@ found_at most bytes count behind_count numbers rest counted behind_it two long n
   ends = ap ends_in_zero (sym numbers_are) ∙ ends;
 }
 
-pub list_found : (most : ℕ) (bytes numbers rest : List ℕ) → list_at most bytes ≡ Ok (numbers, rest)
+pub list_found : {most : ℕ} {bytes numbers rest : List ℕ} → list_at most bytes ≡ Ok (numbers, rest)
     → IsFound most bytes numbers rest
 unfolding list_at
-list_found most bytes numbers rest e =
-    let first = step_ok (number_at w16 bytes) (list_behind most) (numbers, rest) e in
+list_found {most} {bytes} e =
+    let first = step_ok (number_at w16 bytes) e in
     let count = first.0 in
-    let read = passed (nat_lt (length bytes) 2) Short (Ok (count_of bytes, drop 2 bytes)) count first.1 in
-    let count_is = same_ok (count_of bytes, drop 2 bytes) count read.1 in
-    let few = passed (nat_lt most count.0) Places (rest_of_list count) (numbers, rest) first.2 in
-    let there = passed (nat_lt (length count.1) (2 * count.0)) Short (end_of_list count) (numbers, rest) few.1 in
-    let ends = passed (ends_in_zero (numbers_from count.0 count.1)) Places (Ok (numbers_from count.0 count.1, drop (2 * count.0) count.1))
-    (numbers, rest) there.1 in
-    let made = same_ok (numbers_from count.0 count.1, drop (2 * count.0) count.1) (numbers, rest) ends.1 in
-    found_at most bytes count.0 count.1 numbers rest (ap (λ (x : ℕ × List ℕ). x.0) count_is) (ap (λ (x : ℕ × List ℕ). x.1) count_is)
+    let read = passed (nat_lt (length bytes) 2) Short first.1 in
+    let count_is = same_ok read.1 in
+    let few = passed (nat_lt most count.0) Places first.2 in
+    let there = passed (nat_lt (length count.1) (2 * count.0)) Short few.1 in
+    let ends = passed (ends_in_zero (numbers_from count.0 count.1)) Places there.1 in
+    let made = same_ok ends.1 in
+    found_at (ap (λ (x : ℕ × List ℕ). x.0) count_is) (ap (λ (x : ℕ × List ℕ). x.1) count_is)
     (ltb-false _ _ read.0) (ltb-false _ _ there.0) (ap (λ (x : List ℕ × List ℕ). x.0) made) (ap (λ (x : List ℕ × List ℕ). x.1) made)
     (ltb-false _ _ few.0) ends.0
 
@@ -118,7 +117,7 @@ pub next_list : {count most done : ℕ} {bytes rest starts : List ℕ} (numbers 
     → StandsInLists count most (done + 1) bytes after (starts ++ (length bytes - length rest) ∷ [])
 next_list {count} {most} {done} {bytes} {rest} {starts} numbers after lt read stands =
     let start : ℕ = length bytes - length rest in
-    let found = list_found most rest numbers after read in
+    let found = list_found read in
     let there : length (drop start bytes) ≡ length rest = ap length (sym stands.suffix) in
     let is_list : list_from (drop start bytes) ≡ numbers = ap list_from (sym stands.suffix) ∙ sym found.numbers_are in
     let counted : count_of (drop start bytes) ≡ count_of rest = ap count_of (sym stands.suffix) in
@@ -139,7 +138,7 @@ next_list {count} {most} {done} {bytes} {rest} {starts} numbers after lt read st
     }
 
 pub no_lists : {count most : ℕ} {bytes : List ℕ} → StandsInLists count most 0 bytes bytes []
-no_lists {count} {most} {bytes} =
+no_lists {bytes} =
     let none : 0 ≡ length bytes - length bytes = omega arith in
     record {
       read = begins;

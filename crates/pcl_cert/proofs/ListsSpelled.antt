@@ -52,10 +52,10 @@ numbers_again (n ∷ numbers) rest small =
 
 -- ---- one list
 
-list_again : (most : ℕ) (numbers rest : List ℕ) → most < 2 ^ 16 → IsList most numbers
+list_again : {most : ℕ} {numbers rest : List ℕ} → most < 2 ^ 16 → IsList most numbers
     → list_at most (list_bytes numbers ++ rest) ≡ Ok (numbers, rest)
 unfolding list_at
-list_again most numbers rest few is =
+list_again {most} {numbers} {rest} few is =
     let count : ℕ = length numbers in
     let text : List ℕ = flat_map (to_be_bytes w16) numbers in
     let joined : list_bytes numbers ++ rest ≡ to_be_bytes w16 count ++ (text ++ rest) = append_assoc (to_be_bytes w16 count) text rest in
@@ -64,7 +64,7 @@ list_again most numbers rest few is =
     le-ltb _ _ (omega (arith, length-append text rest, text_len numbers)) in
     ap (list_at most) joined
     ∙ rw (
-      number_again w16 (2 ^ 16) two_bytes count (text ++ rest) (omega (arith, is.short)),
+      number_again two_bytes count (text ++ rest) (omega (arith, is.short)),
       short,
       there,
       numbers_again numbers rest is.small,
@@ -72,10 +72,10 @@ list_again most numbers rest few is =
       drop_at text rest (2 * count) (text_len numbers),
     ) refl
 
-pub list_spells : (most : ℕ) → most < 2 ^ 16 → Spells (list_at most) list_bytes (IsList most)
-list_spells most few = record {
+pub list_spells : {most : ℕ} → most < 2 ^ 16 → Spells (list_at most) list_bytes (IsList most)
+list_spells few = record {
   found = λ bytes x are e.
-      let found = list_found most bytes x.0 x.1 e in
+      let found = list_found e in
       let text : list_bytes x.0 ≡ take (2 + 2 * count_of bytes) bytes =
       ap list_bytes found.numbers_are ∙ list_spelled bytes are found.whole in (
         record {
@@ -91,36 +91,36 @@ list_spells most few = record {
           ends = found.ends;
         },
       );
-  again = λ numbers rest is. list_again most numbers rest few is;
+  again = λ numbers rest is. list_again few is;
 }
 
 -- ---- the lists of a page
 
-two_again : (rows most : ℕ) → most < 2 ^ 16 → (places : Option (List (List ℕ))) (rest : List ℕ) → HasLists Two rows most places
+two_again : (rows : ℕ) {most : ℕ} → most < 2 ^ 16 → (places : Option (List (List ℕ))) (rest : List ℕ) → HasLists Two rows most places
     → places_at Two rows most (lists_bytes places ++ rest) ≡ Ok (places, rest)
 unfolding places_at
-two_again rows most few None rest is = absurd is
-two_again rows most few (Some lists) rest is =
-    let spell = many_spell (4 * rows) (lists_are_many most) (list_spells most few) in
+two_again rows few None rest is = absurd is
+two_again rows {most} few (Some lists) rest is =
+    let spell = many_spell (4 * rows) (lists_are_many most) (list_spells few) in
     rw (spell.again lists rest is) refl
 
-pub places_spell : (format : Format) (rows most : ℕ) → most < 2 ^ 16
+pub places_spell : (format : Format) (rows : ℕ) {most : ℕ} → most < 2 ^ 16
     → Spells (places_at format rows most) lists_bytes (HasLists format rows most)
 unfolding places_at
-places_spell One rows most few = record {
+places_spell One rows {most} few = record {
   found = λ bytes x are e.
       subst (λ (y : Option (List (List ℕ)) × List ℕ). Splits bytes (lists_bytes y.0) y.1 × HasLists One rows most y.0)
-      (same_ok (None, bytes) x e) (record { joined = refl; rest_are = are }, refl);
+      (same_ok e) (record { joined = refl; rest_are = are }, refl);
   again = λ places rest is. ap (λ (p : Option (List (List ℕ))). places_at One rows most (lists_bytes p ++ rest)) is
       ∙ ap (λ (p : Option (List (List ℕ))). Ok (p, rest)) (sym is);
 }
-places_spell Two rows most few =
-    let lists = many_spell (4 * rows) (lists_are_many most) (list_spells most few) in
+places_spell Two rows {most} few =
+    let lists = many_spell (4 * rows) (lists_are_many most) (list_spells few) in
     record {
       found = λ bytes x are e.
-          let a = step_ok (lists_at (4 * rows) most bytes) _ x e in
+          let a = step_ok (lists_at (4 * rows) most bytes) e in
           let found = lists.found bytes a.0 are a.1 in
           subst (λ (y : Option (List (List ℕ)) × List ℕ). Splits bytes (lists_bytes y.0) y.1 × HasLists Two rows most y.0)
-          (same_ok (Some a.0.0, a.0.1) x a.2) found;
-      again = two_again rows most few;
+          (same_ok a.2) found;
+      again = two_again rows few;
     }

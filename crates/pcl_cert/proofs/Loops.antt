@@ -33,7 +33,7 @@ unread (Ok x) = refl
 unread (Err fault) = refl
 
 pub begins : {X : Type 0} {many : ℕ → Reader (List X)} {count : ℕ} {bytes : List ℕ} → Stands many count 0 bytes bytes []
-begins {X} {many} {count} {bytes} =
+begins {many} {count} {bytes} =
     let all : count - 0 ≡ count = omega arith in
     record { so_far = ap (λ (n : ℕ). behind_front [] (many n bytes)) all ∙ unread (many count bytes) }
 
@@ -41,14 +41,14 @@ one_more : {X : Type 0} {one : Reader X} {many : ℕ → Reader (List X)} {count
     → IsMany one many → done < count → Stands many count done bytes rest front
     → behind_front front (one rest >>= λ first. many (count - (done + 1)) first.1 >>= λ others. Ok (first.0 ∷ others.0, others.1))
     ≡ many count bytes
-one_more {X} {one} {many} {count} {done} {bytes} {rest} {front} is lt stands =
+one_more {many} {count} {done} {rest} {front} is lt stands =
     let left : suc (count - (done + 1)) ≡ count - done = omega arith in
     ap (behind_front front) (sym (is.more (count - (done + 1)) rest) ∙ ap (λ (n : ℕ). many n rest) left) ∙ stands.so_far
 
 pub goes_on : {X : Type 0} {one : Reader X} {many : ℕ → Reader (List X)} {count done : ℕ} {bytes rest : List ℕ} {front : List X}
     (x : X) (after : List ℕ) → IsMany one many → done < count → one rest ≡ Ok (x, after) → Stands many count done bytes rest front
     → Stands many count (done + 1) bytes after (front ++ x ∷ [])
-goes_on {X} {one} {many} {count} {done} {bytes} {rest} {front} x after is lt read stands = record {
+goes_on {X} {many} {count} {done} {front} x after is lt read stands = record {
   so_far = sym (regrouped front x (many (count - (done + 1)) after))
       ∙ ap (λ (r : Result (X × List ℕ) CertFault). behind_front front
       (r >>= λ first. many (count - (done + 1)) first.1 >>= λ others. Ok (first.0 ∷ others.0, others.1))) (sym read)
@@ -58,7 +58,7 @@ goes_on {X} {one} {many} {count} {done} {bytes} {rest} {front} x after is lt rea
 pub stops : {X : Type 0} {one : Reader X} {many : ℕ → Reader (List X)} {count done : ℕ} {bytes rest : List ℕ} {front : List X}
     (fault : CertFault) → IsMany one many → done < count → one rest ≡ Err fault → Stands many count done bytes rest front
     → many count bytes ≡ Err fault
-stops {X} {one} {many} {count} {done} {bytes} {rest} {front} fault is lt read stands =
+stops {X} {many} {count} {done} {front} fault is lt read stands =
     sym (ap (λ (r : Result (X × List ℕ) CertFault). behind_front front
     (r >>= λ first. many (count - (done + 1)) first.1 >>= λ others. Ok (first.0 ∷ others.0, others.1))) (sym read)
     ∙ one_more is lt stands)
@@ -75,7 +75,7 @@ fails Places is lt read stands = stops Places is lt read stands
 
 pub ends : {X : Type 0} {one : Reader X} {many : ℕ → Reader (List X)} {count done : ℕ} {bytes rest : List ℕ} {front : List X}
     → IsMany one many → count ≤ done → Stands many count done bytes rest front → many count bytes ≡ Ok (front, rest)
-ends {X} {one} {many} {count} {done} {bytes} {rest} {front} is le stands =
+ends {X} {many} {count} {done} {rest} {front} is le stands =
     let none : count - done ≡ 0 = omega arith in
     sym (sym (ap (λ (all : List X). Ok (all, rest)) (append-nil front))
     ∙ ap (behind_front front) (sym (is.none rest) ∙ ap (λ (n : ℕ). many n rest) (sym none)) ∙ stands.so_far)

@@ -68,7 +68,7 @@ numbers_spelled (suc n) bytes are long =
     let first : ℕ = from_be_bytes w16 (take 2 bytes) in
     let others : List ℕ = numbers_from n (drop 2 bytes) in
     flat_map-cons (to_be_bytes w16) first others
-    ∙ ap (λ (text : List ℕ). text ++ flat_map (to_be_bytes w16) others) (front_spelled w16 (2 ^ 16) two_bytes bytes are (omega arith))
+    ∙ ap (λ (text : List ℕ). text ++ flat_map (to_be_bytes w16) others) (front_spelled two_bytes bytes are (omega arith))
     ∙ ap (λ (rest : List ℕ). take 2 bytes ++ rest)
     (numbers_spelled n (drop 2 bytes) (rest_bytes 2 bytes are) (omega (arith, length-drop 2 bytes)))
     ∙ sym (take-add 2 (2 * n) bytes)
@@ -82,7 +82,7 @@ list_spelled bytes are long =
     let rest : List ℕ = drop 2 bytes in
     ap (λ (n : ℕ). to_be_bytes w16 n ++ flat_map (to_be_bytes w16) (list_from bytes)) (length_numbers count rest)
     ∙ ap (λ (text : List ℕ). text ++ flat_map (to_be_bytes w16) (list_from bytes))
-    (front_spelled w16 (2 ^ 16) two_bytes bytes are (omega arith))
+    (front_spelled two_bytes bytes are (omega arith))
     ∙ ap (λ (text : List ℕ). take 2 bytes ++ text)
     (numbers_spelled count rest (rest_bytes 2 bytes are) (omega (arith, length-drop 2 bytes)))
     ∙ sym (take-add 2 (2 * count) bytes)

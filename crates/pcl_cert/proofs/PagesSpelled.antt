@@ -35,17 +35,17 @@ abbrev AreBoth : ℕ × ℕ → Type 0
 AreBoth p = (p.0 < 2 ^ 32) × (p.1 < 2 ^ 32)
 
 four : Spells (number_at w32) (to_be_bytes w32) (λ n. n < 2 ^ 32)
-four = number_spells w32 (2 ^ 32) four_bytes
+four = number_spells four_bytes
 
 pairs_spell : Spells pair_at both_bytes AreBoth
 unfolding pair_at
 pairs_spell = record {
   found = λ bytes x are e.
-      let a = step_ok (number_at w32 bytes) _ x e in
-      let b = step_ok (number_at w32 a.0.1) _ x a.2 in
+      let a = step_ok (number_at w32 bytes) e in
+      let b = step_ok (number_at w32 a.0.1) a.2 in
       let outside = four.found bytes a.0 are a.1 in
       let inside = four.found a.0.1 b.0 outside.0.rest_are b.1 in
-      subst (λ (y : (ℕ × ℕ) × List ℕ). Splits bytes (both_bytes y.0) y.1 × AreBoth y.0) (same_ok ((a.0.0, b.0.0), b.0.1) x b.2)
+      subst (λ (y : (ℕ × ℕ) × List ℕ). Splits bytes (both_bytes y.0) y.1 × AreBoth y.0) (same_ok b.2)
       (splits_both outside.0 inside.0, (outside.1, inside.1));
   again = λ p rest fits.
       let joined : both_bytes p ++ rest ≡ to_be_bytes w32 p.0 ++ (to_be_bytes w32 p.1 ++ rest) =
@@ -57,10 +57,10 @@ row_spells : Spells row_at row_bytes AreSmall
 unfolding row_at
 row_spells = record {
   found = λ bytes x are e.
-      let plain = step_ok (pair_at bytes) _ x e in
-      let runs = step_ok (pair_at plain.0.1) _ x plain.2 in
-      let packed = step_ok (pair_at runs.0.1) _ x runs.2 in
-      let delta = step_ok (pair_at packed.0.1) _ x packed.2 in
+      let plain = step_ok (pair_at bytes) e in
+      let runs = step_ok (pair_at plain.0.1) plain.2 in
+      let packed = step_ok (pair_at runs.0.1) runs.2 in
+      let delta = step_ok (pair_at packed.0.1) packed.2 in
       let a = pairs_spell.found bytes plain.0 are plain.1 in
       let b = pairs_spell.found plain.0.1 runs.0 a.0.rest_are runs.1 in
       let c = pairs_spell.found runs.0.1 packed.0 b.0.rest_are packed.1 in
@@ -72,7 +72,7 @@ row_spells = record {
         },
         delta.0.1,
       ) in
-      subst (λ (y : RowNumbers × List ℕ). Splits bytes (row_bytes y.0) y.1 × AreSmall y.0) (same_ok made x delta.2)
+      subst (λ (y : RowNumbers × List ℕ). Splits bytes (row_bytes y.0) y.1 × AreSmall y.0) (same_ok delta.2)
       (splits_both a.0 (splits_both b.0 (splits_both c.0 d.0)), (a.1.0, a.1.1, b.1.0, b.1.1, c.1.0, c.1.1, d.1.0, d.1.1));
   again = λ n rest fits.
       let plain : ℕ × ℕ = (n.outside.plain, n.inside.plain) in
@@ -98,32 +98,32 @@ table_spells n = many_spell n tables_are_many row_spells
 -- ---- pages
 
 two : Spells (number_at w16) (to_be_bytes w16) (λ n. n < 2 ^ 16)
-two = number_spells w16 (2 ^ 16) two_bytes
+two = number_spells two_bytes
 
 -- a size is found by its height, and has it
-first_or_other : (b : Bool) (first size : Size) (other : Option Size) → sized (if b then Some first else other) ≡ Ok size
+first_or_other : (b : Bool) {first size : Size} (other : Option Size) → sized (if b then Some first else other) ≡ Ok size
     → ((b ≡ true) × (first ≡ size)) ⊎ (sized other ≡ Ok size)
-first_or_other true first size other e = inl (refl, same_ok first size e)
-first_or_other false first size other e = inr e
+first_or_other true other e = inl (refl, same_ok e)
+first_or_other false other e = inr e
 
-size_or_other : (dpi : Dpi) (rows : ℕ) (first size : Size) (other : Option Size)
+size_or_other : (dpi : Dpi) {rows : ℕ} (first : Size) {size : Size} (other : Option Size)
     → sized (if rows == page_height first dpi then Some first else other) ≡ Ok size
     → (page_height size dpi ≡ rows) ⊎ (sized other ≡ Ok size)
-size_or_other dpi rows first size other e =
-    elim (first_or_other (eqb rows (page_height first dpi)) first size other e) [
+size_or_other dpi {rows} first other e =
+    elim (first_or_other (eqb rows (page_height first dpi)) other e) [
       | inl is ↦ inl (ap (λ (s : Size). page_height s dpi) (sym is.1) ∙ sym (eqb-true _ _ is.0))
       | inr later ↦ inr later
     ]
 
-size_found : (dpi : Dpi) (rows : ℕ) (size : Size) → sized (size_with_height dpi rows) ≡ Ok size → page_height size dpi ≡ rows
-size_found dpi rows size e =
-    elim (size_or_other dpi rows Executive size _ e) [
+size_found : (dpi : Dpi) {rows : ℕ} {size : Size} → sized (size_with_height dpi rows) ≡ Ok size → page_height size dpi ≡ rows
+size_found dpi e =
+    elim (size_or_other dpi Executive _ e) [
       | inl is ↦ is
-      | inr e ↦ elim (size_or_other dpi rows Letter size _ e) [
+      | inr e ↦ elim (size_or_other dpi Letter _ e) [
         | inl is ↦ is
-        | inr e ↦ elim (size_or_other dpi rows Legal size _ e) [
+        | inr e ↦ elim (size_or_other dpi Legal _ e) [
           | inl is ↦ is
-          | inr e ↦ elim (size_or_other dpi rows A4 size _ e) [
+          | inr e ↦ elim (size_or_other dpi A4 _ e) [
             | inl is ↦ is
             | inr e ↦ absurd cc
           ]
@@ -154,24 +154,24 @@ height_small A4 Dpi600 = lit≤ tt
 row_bytes_small : (size : Size) (dpi : Dpi) → page_row_bytes size dpi < 2 ^ 16
 row_bytes_small size dpi = omega (arith, row_small size dpi)
 
-proof_spells : (dpi : Dpi) (format : Format) → Spells (proof_at dpi format) proof_bytes (IsProof dpi format)
+proof_spells : {dpi : Dpi} {format : Format} → Spells (proof_at dpi format) proof_bytes (IsProof dpi format)
 unfolding proof_at
-proof_spells dpi format = record {
+proof_spells {dpi} {format} = record {
   found = λ bytes x are e.
-      let text_len = step_ok (number_at w32 bytes) _ x e in
-      let rows = step_ok (number_at w16 text_len.0.1) _ x text_len.2 in
-      let size = step_ok (sized (size_with_height dpi rows.0.0)) _ x rows.2 in
-      let table = step_ok (table_at (rows.0.0 + 1) rows.0.1) _ x size.2 in
-      let places = step_ok (places_at format rows.0.0 (page_row_bytes size.0 dpi) table.0.1) _ x table.2 in
+      let text_len = step_ok (number_at w32 bytes) e in
+      let rows = step_ok (number_at w16 text_len.0.1) text_len.2 in
+      let size = step_ok (sized (size_with_height dpi rows.0.0)) rows.2 in
+      let table = step_ok (table_at (rows.0.0 + 1) rows.0.1) size.2 in
+      let places = step_ok (places_at format rows.0.0 (page_row_bytes size.0 dpi) table.0.1) table.2 in
       let a = four.found bytes text_len.0 are text_len.1 in
       let b = two.found text_len.0.1 rows.0 a.0.rest_are rows.1 in
-      let height : page_height size.0 dpi ≡ rows.0.0 = size_found dpi rows.0.0 size.0 size.1 in
+      let height : page_height size.0 dpi ≡ rows.0.0 = size_found dpi size.1 in
       let c = (table_spells (rows.0.0 + 1)).found rows.0.1 table.0 b.0.rest_are table.1 in
-      let d = (places_spell format rows.0.0 (page_row_bytes size.0 dpi) (row_bytes_small size.0 dpi)).found table.0.1
+      let d = (places_spell format rows.0.0 (row_bytes_small size.0 dpi)).found table.0.1
       places.0 c.0.rest_are places.1 in
       let made : PageProof × List ℕ = (record { text_len = text_len.0.0; table = table.0.0; places = places.0.0 }, places.0.1) in
       let rows_are : rows.0.0 ≡ rows_in table.0.0 = omega (arith, c.1.0) in
-      subst (λ (y : PageProof × List ℕ). Splits bytes (proof_bytes y.0) y.1 × IsProof dpi format y.0) (same_ok made x places.2) (
+      subst (λ (y : PageProof × List ℕ). Splits bytes (proof_bytes y.0) y.1 × IsProof dpi format y.0) (same_ok places.2) (
         subst (λ (n : ℕ). Splits bytes (to_be_bytes w32 text_len.0.0 ++ to_be_bytes w16 n ++ table_bytes table.0.0 ++
             lists_bytes places.0.0) places.0.1)
             rows_are (splits_both a.0 (splits_both b.0 (splits_both c.0 d.0))),
@@ -203,50 +203,50 @@ proof_spells dpi format = record {
         two.again rows table small,
         found,
         (table_spells (rows + 1)).again proof.table lists (count, is.numbers),
-        (places_spell format rows (page_row_bytes is.size dpi) (row_bytes_small is.size dpi)).again proof.places rest has,
+        (places_spell format rows (row_bytes_small is.size dpi)).again proof.places rest has,
       ) refl;
 }
 
 -- ---- certificates
 
-which_format : (one two : Bool) (rest : List ℕ) (x : Format × List ℕ)
+which_format : (one two : Bool) {rest : List ℕ} {x : Format × List ℕ}
     → (if one then Ok (One, rest) else (if two then Ok (Two, rest) else Err BadMagic)) ≡ Ok x
     → ((one ≡ true) × ((One, rest) ≡ x)) ⊎ ((two ≡ true) × ((Two, rest) ≡ x))
-which_format true two rest x e = inl (refl, same_ok (One, rest) x e)
-which_format false true rest x e = inr (refl, same_ok (Two, rest) x e)
-which_format false false rest x e = absurd cc
+which_format true two e = inl (refl, same_ok e)
+which_format false true e = inr (refl, same_ok e)
+which_format false false e = absurd cc
 
-begins_with : (format : Format) (bytes : List ℕ) (x : Format × List ℕ) → AreBytes bytes → magic format ≡ take 8 bytes
+begins_with : {format : Format} {bytes : List ℕ} {x : Format × List ℕ} → AreBytes bytes → magic format ≡ take 8 bytes
     → (format, drop 8 bytes) ≡ x → Splits bytes (magic x.0) x.1
-begins_with format bytes x are is made =
+begins_with {bytes} are is made =
     subst (λ (y : Format × List ℕ). Splits bytes (magic y.0) y.1) made (record {
       joined = sym (take-append-drop 8 bytes) ∙ ap (λ (t : List ℕ). t ++ drop 8 bytes) (sym is);
       rest_are = rest_bytes 8 bytes are;
     })
 
-format_found : (bytes : List ℕ) (x : Format × List ℕ) → AreBytes bytes → format_at bytes ≡ Ok x → Splits bytes (magic x.0) x.1
-format_found bytes x are e =
-    elim (which_format (starts_with nat_eq bytes (magic One)) (starts_with nat_eq bytes (magic Two)) (drop 8 bytes) x e) [
-      | inl is ↦ begins_with One bytes x are (same_text (magic One) (take 8 bytes) (sym is.0)) is.1
-      | inr is ↦ begins_with Two bytes x are (same_text (magic Two) (take 8 bytes) (sym is.0)) is.1
+format_found : {bytes : List ℕ} {x : Format × List ℕ} → AreBytes bytes → format_at bytes ≡ Ok x → Splits bytes (magic x.0) x.1
+format_found {bytes} are e =
+    elim (which_format (starts_with nat_eq bytes (magic One)) (starts_with nat_eq bytes (magic Two)) e) [
+      | inl is ↦ begins_with are (same_text (magic One) (take 8 bytes) (sym is.0)) is.1
+      | inr is ↦ begins_with are (same_text (magic Two) (take 8 bytes) (sym is.0)) is.1
     ]
 
-ended : {A : Type 0} (b : Bool) (fault : CertFault) (x y : A) → cond b (Ok x) (Err fault) ≡ Ok y → (b ≡ true) × (x ≡ y)
-ended true fault x y e = (refl, same_ok x y e)
-ended false fault x y e = absurd cc
+ended : {A : Type 0} (b : Bool) (fault : CertFault) {x y : A} → cond b (Ok x) (Err fault) ≡ Ok y → (b ≡ true) × (x ≡ y)
+ended true fault e = (refl, same_ok e)
+ended false fault e = absurd cc
 
-pub certificate_found : (dpi : Dpi) (bytes : List ℕ) (x : Format × List PageProof) → AreBytes bytes → certificate_at dpi bytes ≡ Ok x
+pub certificate_found : (dpi : Dpi) {bytes : List ℕ} {x : Format × List PageProof} → AreBytes bytes → certificate_at dpi bytes ≡ Ok x
     → AreProofs dpi x.0 x.1 × (bytes ≡ certificate_bytes x.0 x.1)
 unfolding certificate_at
-certificate_found dpi bytes x are e =
-    let format = step_ok (format_at bytes) _ x e in
-    let count = step_ok (number_at w32 format.0.1) _ x format.2 in
-    let proofs = step_ok (proofs_at count.0.0 dpi format.0.0 count.0.1) _ x count.2 in
-    let a = format_found bytes format.0 are format.1 in
+certificate_found dpi {bytes} are e =
+    let format = step_ok (format_at bytes) e in
+    let count = step_ok (number_at w32 format.0.1) format.2 in
+    let proofs = step_ok (proofs_at count.0.0 dpi format.0.0 count.0.1) count.2 in
+    let a = format_found are format.1 in
     let b = four.found format.0.1 count.0 a.rest_are count.1 in
-    let pages = many_spell count.0.0 (proofs_are_many dpi format.0.0) (proof_spells dpi format.0.0) in
+    let pages = many_spell count.0.0 (proofs_are_many dpi format.0.0) (proof_spells) in
     let c = pages.found count.0.1 proofs.0 b.0.rest_are proofs.1 in
-    let end = ended (eqb (length proofs.0.1) 0) Extra (format.0.0, proofs.0.0) x proofs.2 in
+    let end = ended (eqb (length proofs.0.1) 0) Extra proofs.2 in
     let none : proofs.0.1 ≡ [] = nil_from_length proofs.0.1 (eqb-true _ _ end.0) in
     let text : List ℕ = to_be_bytes w32 count.0.0 ++ flat_map proof_bytes proofs.0.0 in
     let all : bytes ≡ magic format.0.0 ++ text =
@@ -258,23 +258,23 @@ certificate_found dpi bytes x are e =
           ∙ ap (λ (n : ℕ). magic format.0.0 ++ to_be_bytes w32 n ++ flat_map proof_bytes proofs.0.0) (sym c.1.0),
     )
 
-pages_again : (dpi : Dpi) (format : Format) (proofs : List PageProof) → AreProofs dpi format proofs
+pages_again : (dpi : Dpi) (format : Format) {proofs : List PageProof} → AreProofs dpi format proofs
     → proofs_at (length proofs) dpi format (flat_map proof_bytes proofs) ≡ Ok (proofs, [])
-pages_again dpi format proofs are =
+pages_again dpi format {proofs} are =
     ap (proofs_at (length proofs) dpi format) (sym (append-nil (flat_map proof_bytes proofs)))
-    ∙ (many_spell (length proofs) (proofs_are_many dpi format) (proof_spells dpi format)).again proofs [] (refl, are.1)
+    ∙ (many_spell (length proofs) (proofs_are_many dpi format) (proof_spells)).again proofs [] (refl, are.1)
 
 pub certificate_again : (dpi : Dpi) (format : Format) (proofs : List PageProof) → AreProofs dpi format proofs
     → certificate_at dpi (certificate_bytes format proofs) ≡ Ok (format, proofs)
 unfolding certificate_at
 certificate_again dpi One proofs are =
-    rw (four.again (length proofs) (flat_map proof_bytes proofs) are.0, pages_again dpi One proofs are) refl
+    rw (four.again (length proofs) (flat_map proof_bytes proofs) are.0, pages_again dpi One are) refl
 certificate_again dpi Two proofs are =
-    rw (four.again (length proofs) (flat_map proof_bytes proofs) are.0, pages_again dpi Two proofs are) refl
+    rw (four.again (length proofs) (flat_map proof_bytes proofs) are.0, pages_again dpi Two are) refl
 
 -- what a call gives that reads all of the bytes
 pub is_found : (dpi : Dpi) (bytes : List ℕ) (read : Result (Format × Vec PageProof) CertFault) → AreBytes bytes
     → Gives contents_of read (certificate_at dpi bytes)
     → IfOk read (λ r. AreProofs dpi r.0 r.1.items × (bytes ≡ certificate_bytes r.0 r.1.items))
-is_found dpi bytes (Ok read) are gives = certificate_found dpi bytes (contents_of read) are gives
+is_found dpi bytes (Ok read) are gives = certificate_found dpi are gives
 is_found dpi bytes (Err fault) are gives = tt

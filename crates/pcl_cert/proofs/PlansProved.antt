@@ -35,10 +35,10 @@ use Rattle.pcl_cert.proofs.SmallNumbers.{number_small, numbers_small}
 -- ---- the text
 
 -- a least text has its fixed part and the number of the first node
-text_length : (page : Page) (text : List ℕ) (plan : StepsAndTable) → IsPlanOf page plan → PrintsPage page text
+text_length : (page : Page) {text : List ℕ} {plan : StepsAndTable} → IsPlanOf page plan → PrintsPage page text
     → IsLeastText page.dpi page.size page.copies (bitmap_rows page.bitmap) (length text)
     → length text ≡ fixed_bytes page.dpi page.size page.copies + node_number plan.table start
-text_length page text plan planned printed least =
+text_length page {text} {plan} planned printed least =
     let other = text_of_least page.dpi page.size page.copies (bitmap_rows page.bitmap) (node_number plan.table start)
     printed.some_copies printed.few_copies printed.count printed.rows_are (planned.least start (omega arith)) in
     omega (arith, other.shortest text printed, least.shortest other.attained.0 other.attained.1, other.attained.2)
@@ -46,12 +46,12 @@ text_length page text plan planned printed least =
 few_digits : (n : ℕ) → n < 100 → length (decimal n) ≤ 2
 few_digits n few =
     elim (cases_lt n 10) [
-      | inl lt ↦ omega (arith, one_digit n lt)
-      | inr le ↦ omega (arith, two_digits n le few)
+      | inl lt ↦ omega (arith, one_digit lt)
+      | inr le ↦ omega (arith, two_digits le few)
     ]
 
-fixed_small : (page : Page) (text : List ℕ) → PrintsPage page text → fixed_bytes page.dpi page.size page.copies ≤ 40
-fixed_small page text printed =
+fixed_small : (page : Page) {text : List ℕ} → PrintsPage page text → fixed_bytes page.dpi page.size page.copies ≤ 40
+fixed_small page printed =
     omega (
       arith,
       fixed_length page.dpi page.size page.copies,
@@ -67,17 +67,17 @@ of_page page text plan None planned printed least = planned.size ∙ ap (λ (n :
 of_page page text plan (Some lists) planned printed least =
     (planned.size ∙ ap (λ (n : ℕ). n + 1) printed.count, least.size ∙ ap (λ (n : ℕ). 4 * n) printed.count)
 
-places_good : (page : Page) (text : List ℕ) (tables : Tables) → PrintsPage page text → AreLeastOf page tables → ArePlacesGood page tables
-places_good page text None printed least = tt
-places_good page text (Some lists) printed least = λ row method place within in_row.
+places_good : (page : Page) {text : List ℕ} (tables : Tables) → PrintsPage page text → AreLeastOf page tables → ArePlacesGood page tables
+places_good page None printed least = tt
+places_good page (Some lists) printed least = λ row method place within in_row.
     let feasible = (least.least row method (omega (arith, printed.count))).table_is.feasible in
     record { steps = λ e next leads. feasible.steps place e next leads; ends = λ ends. feasible.ends place ends }
 
 -- the length that a row is counted with is the least one
-first_least : (page : Page) (text : List ℕ) (lists : List (List ℕ)) → PrintsPage page text → AreLeastTablesOf page lists
-    → (row : ℕ) (method : Method) (bytes : ℕ) → row < length (bitmap_rows page.bitmap) → bytes ≡ number_at_place lists row method 0
+first_least : (page : Page) {text : List ℕ} {lists : List (List ℕ)} → PrintsPage page text → AreLeastTablesOf page lists
+    → {row : ℕ} {method : Method} {bytes : ℕ} → row < length (bitmap_rows page.bitmap) → bytes ≡ number_at_place lists row method 0
     → IsLeastOfRow (page_row_bytes page.size page.dpi) (bitmap_rows page.bitmap) row method bytes
-first_least page text lists printed least row method bytes within counted =
+first_least page {lists} printed least {row} {method} within counted =
     let width : ℕ = page_row_bytes page.size page.dpi in
     let rows = bitmap_rows page.bitmap in
     let are = widths page.size page.dpi rows printed.rows_are in
@@ -97,19 +97,19 @@ good_of page text plan planned printed =
     feasible_good (page_row_bytes page.size page.dpi) (bitmap_rows page.bitmap) (node_number plan.table)
     (omega (arith, printed.count, height_small page.size page.dpi)) planned.feasible
 
-edges_good : (page : Page) (text : List ℕ) (plan : StepsAndTable) (tables : Tables) → IsPlanOf page plan → PrintsPage page text
+edges_good : (page : Page) {text : List ℕ} {plan : StepsAndTable} (tables : Tables) → IsPlanOf page plan → PrintsPage page text
     → AreLeastOf page tables → AreEdgesGood page plan.table tables
-edges_good page text plan None planned printed least row method inside within =
+edges_good page {text} {plan} None planned printed least row method inside within =
     good_of page text plan planned printed row method inside (omega (arith, printed.count))
-edges_good page text plan (Some lists) planned printed least row method false within =
+edges_good page {text} {plan} (Some lists) planned printed least row method false within =
     good_of page text plan planned printed row method false (omega (arith, printed.count))
-edges_good page text plan (Some lists) planned printed least row method true within =
+edges_good page {text} {plan} (Some lists) planned printed least row method true within =
     let good = good_of page text plan planned printed row method true (omega (arith, printed.count)) in
     record {
       switches = good.switches;
       skips = good.skips;
       sends = λ bytes inside counted. good.sends bytes inside
-          (first_least page text lists.now printed least row method bytes inside counted);
+          (first_least page printed least inside counted);
     }
 
 -- ---- the verdict
@@ -120,19 +120,19 @@ pub plan_proved : (page : Page) (text : List ℕ) (plan : StepsAndTable) (tables
 plan_proved page text plan tables planned printed short least = (
   printed,
   of_page page text plan tables planned printed least,
-  places_good page text tables printed least,
-  edges_good page text plan tables planned printed least,
-  text_length page text plan planned printed short,
+  places_good page tables printed least,
+  edges_good page tables planned printed least,
+  text_length page planned printed short,
 )
 
 -- ---- what a certificate says of it
 
-lists_of : (page : Page) (text : List ℕ) (format : Format) (places : Option (List (List ℕ))) → PrintsPage page text
+lists_of : (page : Page) {text : List ℕ} (format : Format) (places : Option (List (List ℕ))) → PrintsPage page text
     → HasLeastLists page format places
     → HasLists format (page_height page.size page.dpi) (page_row_bytes page.size page.dpi) places
-lists_of page text One places printed has = has
-lists_of page text Two None printed has = has
-lists_of page text Two (Some lists) printed has = (has.size ∙ ap (λ (n : ℕ). 4 * n) printed.count, has.lists_are)
+lists_of page One places printed has = has
+lists_of page Two None printed has = has
+lists_of page Two (Some lists) printed has = (has.size ∙ ap (λ (n : ℕ). 4 * n) printed.count, has.lists_are)
 
 pub plan_certified : (page : Page) (text : List ℕ) (plan : StepsAndTable) (format : Format) (places : Option (List (List ℕ)))
     → IsPlanOf page plan → PrintsPage page text
@@ -149,11 +149,11 @@ plan_certified page text plan format places planned printed short has =
       text_len =
           omega (
             arith,
-            text_length page text plan planned printed short,
-            fixed_small page text printed,
-            number_small width rows (node_number plan.table) are narrow few planned.feasible 0 start.method false (omega arith),
+            text_length page planned printed short,
+            fixed_small page printed,
+            number_small are narrow few planned.feasible 0 start.method false (omega arith),
           );
       height = planned.size ∙ ap (λ (n : ℕ). n + 1) printed.count;
       numbers = numbers_small width rows plan.table are narrow few planned.size planned.feasible;
-      lists = lists_of page text format places printed has;
+      lists = lists_of page format places printed has;
     }

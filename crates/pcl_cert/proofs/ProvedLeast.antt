@@ -44,13 +44,13 @@ past_end [] n le = refl
 past_end (number ∷ numbers) zero le = absurd (omega arith)
 past_end (number ∷ numbers) (suc n) le = past_end numbers n (omega arith)
 
-padded_length : (n : ℕ) (list : List ℕ) → length (table_of n list) ≡ n
-padded_length n list =
+padded_length : {n : ℕ} (list : List ℕ) → length (table_of n list) ≡ n
+padded_length {n} list =
     length-take-le n (list ++ replicate n 0) (omega (arith, length-append list (replicate n 0), length-replicate {A = ℕ} n 0))
 
-table_of_good : (method : Method) (seed row numbers : List ℕ) → length numbers ≡ length row + 1
+table_of_good : {method : Method} {seed row numbers : List ℕ} → length numbers ≡ length row + 1
     → ((place : ℕ) → place ≤ length row → IsGoodPlace method seed row numbers place) → IsRowTable method seed row numbers
-table_of_good method seed row numbers size good = record {
+table_of_good {row} {numbers} size good = record {
   size = size;
   feasible = record {
     steps = λ place e next leads. elim (le_or place (length row)) [
@@ -65,12 +65,12 @@ table_of_good method seed row numbers size good = record {
 }
 
 -- no data is shorter than the first number of its row table
-bound_data : (page : Page) (lists : List (List ℕ)) (text : List ℕ) → PrintsPage page text
+bound_data : (page : Page) (lists : List (List ℕ)) {text : List ℕ} → PrintsPage page text
     → ((row : ℕ) (method : Method) → row < page_height page.size page.dpi
     → IsRowTable method (row_above (page_row_bytes page.size page.dpi) (bitmap_rows page.bitmap) row) (row_at (bitmap_rows page.bitmap) row)
     (table_of (page_row_bytes page.size page.dpi + 1) (list_of lists row method)))
     → BoundData (page_row_bytes page.size page.dpi) (bitmap_rows page.bitmap) (λ row method. number_at_place lists row method 0)
-bound_data page lists text printed good = λ row method whole lt has.
+bound_data page lists printed good = λ row method whole lt has.
     let width : ℕ = page_row_bytes page.size page.dpi in
     let rows = bitmap_rows page.bitmap in
     let are = widths page.size page.dpi rows printed.rows_are in
@@ -81,32 +81,32 @@ bound_data page lists text printed good = λ row method whole lt has.
     (good row method (omega (arith, printed.count))) has in
     omega (arith, bound, number_first width (list_of lists row method))
 
-feasible_of : (page : Page) (text : List ℕ) (table : List RowNumbers) (tables : Tables) → PrintsPage page text → AreOfPage page table tables
+feasible_of : (page : Page) {text : List ℕ} (table : List RowNumbers) (tables : Tables) → PrintsPage page text → AreOfPage page table tables
     → ArePlacesGood page tables → AreEdgesGood page table tables
     → IsFeasible (Leads (page_row_bytes page.size page.dpi) (bitmap_rows page.bitmap)) (Ends (bitmap_rows page.bitmap)) cost
     (node_number table)
-feasible_of page text table None printed size places good =
+feasible_of page table None printed size places good =
     let high = height_small page.size page.dpi in
     good_feasible (page_row_bytes page.size page.dpi) (bitmap_rows page.bitmap) table (omega (arith, printed.count))
     (size ∙ ap (λ (n : ℕ). n + 1) (sym printed.count)) (λ row method inside le. good row method inside (omega (arith, printed.count)))
-feasible_of page text table (Some lists) printed size places good =
+feasible_of page table (Some lists) printed size places good =
     let high = height_small page.size page.dpi in
     numbers_by_bounds (page_row_bytes page.size page.dpi) (bitmap_rows page.bitmap) table
     (λ row method. number_at_place lists.now row method 0) (omega (arith, printed.count))
     (size.0 ∙ ap (λ (n : ℕ). n + 1) (sym printed.count))
-    (bound_data page lists.now text printed (λ row method lt.
+    (bound_data page lists.now printed (λ row method lt.
     let width : ℕ = page_row_bytes page.size page.dpi in
     let rows = bitmap_rows page.bitmap in
     let are = widths page.size page.dpi rows printed.rows_are in
     let wide = row_width width rows row are (omega (arith, printed.count)) in
-    table_of_good method (row_above width rows row) (row_at rows row) (table_of (width + 1) (list_of lists.now row method))
-    (padded_length (width + 1) (list_of lists.now row method) ∙ ap (λ (n : ℕ). n + 1) (sym wide))
+    table_of_good
+    (padded_length (list_of lists.now row method) ∙ ap (λ (n : ℕ). n + 1) (sym wide))
     (λ place le. places row method place lt (omega (arith, wide)))))
     (λ row method inside le. good row method inside (omega (arith, printed.count)))
 
 pub proved_least : (page : Page) (text other : List ℕ) (table : List RowNumbers) (tables : Tables)
     → IsVerdict page text table tables verdicts.Proved → PrintsPage page other → length text ≤ length other
 proved_least page text other table tables is printed =
-    let feasible = feasible_of page text table tables is.0 is.1 is.2 is.3 in
+    let feasible = feasible_of page table tables is.0 is.1 is.2 is.3 in
     let bound = text_bounded page.dpi page.size page.copies (bitmap_rows page.bitmap) other (node_number table) feasible printed in
     omega (arith, bound, is.4)

@@ -17,12 +17,12 @@ use Rattle.pcl_check.specs.Places.{IsGoodPlace, IsFirstPlace, FindsPlace, FindsB
 use Rattle.pcl_cert.specs.Checking.{IsGoodIn, Tables, FindsBadBelow, FindsBadIn, IsFirstBadInRow, IsFirstBadIn}
 use Rattle.pcl_cert.specs.PageTables.{table_of}
 
-split_or : (a b : ℕ) → a < b + 1 → (a < b) ⊎ (a ≡ b)
-split_or a b lt = let le : a ≤ b = omega arith in elim (eq-or-lt_of_le le) [ inl e ↦ inr e | inr h ↦ inl h ]
+split_or : {a b : ℕ} → a < b + 1 → (a < b) ⊎ (a ≡ b)
+split_or {a} {b} lt = let le : a ≤ b = omega arith in elim (eq-or-lt_of_le le) [ inl e ↦ inr e | inr h ↦ inl h ]
 
-good_places : (method : Method) (seed row numbers : List ℕ) → IsRowTable method seed row numbers → (place : ℕ)
+good_places : {method : Method} {seed row numbers : List ℕ} → IsRowTable method seed row numbers → {place : ℕ}
     → IsGoodPlace method seed row numbers place
-good_places method seed row numbers is place =
+good_places is {place} =
     record { steps = λ e next leads. is.feasible.steps place e next leads; ends = λ ends. is.feasible.ends place ends }
 
 -- what is found of a row's numbers, as those of the page's row
@@ -32,10 +32,10 @@ pub record IsRowOfTables (page : Page) (lists : List (List ℕ)) (row : ℕ) (me
   pub numbers_are : numbers ≡ table_of (page_row_bytes page.size page.dpi + 1) (list_of lists row method)
   pub width : length bytes ≡ page_row_bytes page.size page.dpi
 
-pub good_in : (page : Page) (lists : List (List ℕ)) (row : ℕ) (method : Method) (seed bytes numbers : List ℕ) (place : ℕ)
+pub good_in : {page : Page} {lists : List (List ℕ)} {row : ℕ} {method : Method} {seed bytes numbers : List ℕ} {place : ℕ}
     → IsRowOfTables page lists row method seed bytes numbers → IsGoodPlace method seed bytes numbers place
     → IsGoodIn page lists row method place
-good_in page lists row method seed bytes numbers place is good =
+good_in {page} {row} {method} {bytes} {numbers} {place} is good =
     let width = page_row_bytes page.size page.dpi in
     let rows = bitmap_rows page.bitmap in
     subst (λ (z : List ℕ). IsGoodPlace method (row_above width rows row) (row_at rows row) z place) is.numbers_are
@@ -52,20 +52,20 @@ good_of page lists row method seed bytes numbers place is good =
     (subst (λ (z : List ℕ). IsGoodPlace method (row_above width rows row) z numbers place) (sym is.bytes_are)
     (subst (λ (z : List ℕ). IsGoodPlace method (row_above width rows row) (row_at rows row) z place) (sym is.numbers_are) good))
 
-pub none_bad : (page : Page) (lists : List (List ℕ)) (row : ℕ) (method : Method) (seed bytes numbers : List ℕ)
+pub none_bad : {page : Page} {lists : List (List ℕ)} {row : ℕ} {method : Method} {seed bytes numbers : List ℕ}
     → IsRowOfTables page lists row method seed bytes numbers → IsRowTable method seed bytes numbers
     → FindsPlace (IsGoodIn page lists row method) (page_row_bytes page.size page.dpi) None
-none_bad page lists row method seed bytes numbers is table = λ place le.
-    good_in page lists row method seed bytes numbers place is (good_places method seed bytes numbers table place)
+none_bad is table = λ place le.
+    good_in is (good_places table)
 
-pub some_bad : (page : Page) (lists : List (List ℕ)) (row : ℕ) (method : Method) (seed bytes numbers : List ℕ) (place : ℕ)
+pub some_bad : {page : Page} {lists : List (List ℕ)} {row : ℕ} {method : Method} {seed bytes numbers : List ℕ} {place : ℕ}
     → IsRowOfTables page lists row method seed bytes numbers
     → IsFirstPlace (IsGoodPlace method seed bytes numbers) (length bytes) place
     → FindsPlace (IsGoodIn page lists row method) (page_row_bytes page.size page.dpi) (Some place)
-some_bad page lists row method seed bytes numbers place is bad = record {
+some_bad {page} {lists} {row} {method} {seed} {bytes} {numbers} {place} is bad = record {
   within = subst (λ (n : ℕ). place ≤ n) is.width bad.within;
   is_bad = λ good. bad.is_bad (good_of page lists row method seed bytes numbers place is good);
-  first = λ before lt. good_in page lists row method seed bytes numbers before is (bad.first before lt);
+  first = λ before lt. good_in is (bad.first before lt);
 }
 
 -- ---- the methods of a row
@@ -79,7 +79,7 @@ few_codes Delta = lit< tt
 pub none_below : (page : Page) (lists : List (List ℕ)) (row : ℕ) (method : Method) → FindsBadBelow page lists row (method_code method) None
     → FindsPlace (IsGoodIn page lists row method) (page_row_bytes page.size page.dpi) None
     → FindsBadBelow page lists row (method_code method + 1) None
-none_below page lists row method before none = λ other place below le. elim (split_or (method_code other) (method_code method) below) [
+none_below page lists row method before none = λ other place below le. elim (split_or below) [
   | inl lt ↦ before other place lt le
   | inr e ↦ subst (λ (m : Method). IsGoodIn page lists row m place) (same_method method other (sym e)) (none place le)
 ]
@@ -100,19 +100,19 @@ some_below page lists row method place before some = record {
 
 -- ---- the rows of a page
 
-pub no_row_bad : (page : Page) (lists : List (List ℕ)) (row : ℕ)
+pub no_row_bad : (page : Page) (lists : List (List ℕ)) {row : ℕ}
     → ((r : ℕ) (m : Method) (p : ℕ) → r < row → p ≤ page_row_bytes page.size page.dpi → IsGoodIn page lists r m p)
     → FindsBadBelow page lists row 4 None → (r : ℕ) (m : Method) (p : ℕ) → r < row + 1 → p ≤ page_row_bytes page.size page.dpi
     → IsGoodIn page lists r m p
-no_row_bad page lists row above here r m p lt le = elim (split_or r row lt) [
+no_row_bad page lists above here r m p lt le = elim (split_or lt) [
   | inl below ↦ above r m p below le
   | inr e ↦ subst (λ (z : ℕ). IsGoodIn page lists z m p) (sym e) (here m p (few_codes m) le)
 ]
 
-pub row_bad : (page : Page) (lists : List (List ℕ)) (row : ℕ) (bad : BadPlace) → row < page_height page.size page.dpi
+pub row_bad : {page : Page} {lists : List (List ℕ)} {row : ℕ} {bad : BadPlace} → row < page_height page.size page.dpi
     → ((r : ℕ) (m : Method) (p : ℕ) → r < row → p ≤ page_row_bytes page.size page.dpi → IsGoodIn page lists r m p)
     → IsFirstBadInRow page lists row bad → IsFirstBadIn page lists bad
-row_bad page lists row bad lt above here = record {
+row_bad {page} {lists} lt above here = record {
   row_within = omega (arith, here.row_is);
   place_within = here.place_within;
   is_bad = here.is_bad;
@@ -126,13 +126,13 @@ pub rows_on : (page : Page) (lists : List (List ℕ)) (row : ℕ) (found : Optio
     → ((r : ℕ) (m : Method) (p : ℕ) → r < row → p ≤ page_row_bytes page.size page.dpi → IsGoodIn page lists r m p)
     → FindsBadBelow page lists row 4 found → is_some found ≡ false → (r : ℕ) (m : Method) (p : ℕ) → r < row + 1
     → p ≤ page_row_bytes page.size page.dpi → IsGoodIn page lists r m p
-rows_on page lists row None above here none = no_row_bad page lists row above here
+rows_on page lists row None above here none = no_row_bad page lists above here
 rows_on page lists row (Some bad) above here none = absurd cc
 
-pub rows_end : (page : Page) (tables : Tables) (lists : Bor (List (List ℕ))) (row : ℕ) (found : Option BadPlace) → tables ≡ Some lists
+pub rows_end : (page : Page) {tables : Tables} {lists : Bor (List (List ℕ))} {row : ℕ} (found : Option BadPlace) → tables ≡ Some lists
     → row < page_height page.size page.dpi
     → ((r : ℕ) (m : Method) (p : ℕ) → r < row → p ≤ page_row_bytes page.size page.dpi → IsGoodIn page lists.now r m p)
     → FindsBadBelow page lists.now row 4 found → is_some found ≡ true → FindsBadIn page tables found
-rows_end page tables lists row None e lt above here some = absurd cc
-rows_end page tables lists row (Some bad) e lt above here some =
-    subst (λ (t : Tables). FindsBadIn page t (Some bad)) (sym e) (row_bad page lists.now row bad lt above here)
+rows_end page None e lt above here some = absurd cc
+rows_end page (Some bad) e lt above here some =
+    subst (λ (t : Tables). FindsBadIn page t (Some bad)) (sym e) (row_bad lt above here)

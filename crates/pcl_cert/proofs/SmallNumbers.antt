@@ -26,8 +26,8 @@ use Rattle.pcl_cert.specs.Certificates.{AreSmall}
 -- ---- plain data
 
 -- a row is whole data for itself
-plain_row : (seed row : List ℕ) → IsCodable seed row → IsRowData Plain seed row row
-plain_row seed row codable =
+plain_row : {seed row : List ℕ} → IsCodable seed row → IsRowData Plain seed row row
+plain_row {seed} {row} codable =
     let old : List ℕ = base Plain seed in
     let same : length old ≡ length row = length-base Plain seed ∙ codable.same_size in
     let laid : overlaid old 0 row ≡ row =
@@ -43,10 +43,10 @@ plain_row seed row codable =
 
 -- ---- numbers of nodes
 
-sent_plain : (width : ℕ) (rows : List (List ℕ)) (number : Node → ℕ) → AreOfWidth width rows → width ≤ 600
+sent_plain : {width : ℕ} {rows : List (List ℕ)} {number : Node → ℕ} → AreOfWidth width rows → width ≤ 600
     → IsFeasible (Leads width rows) (Ends rows) cost number → (row : ℕ) → row < length rows
     → number (node row Plain true) ≤ 65541 + number (node (row + 1) Plain false)
-sent_plain width rows number are narrow feasible row within =
+sent_plain {width} {rows} are narrow feasible row within =
     let bytes : List ℕ = row_at rows row in
     let long : length bytes ≡ width = row_width width rows row are within in
     let codable : IsCodable (row_above width rows row) bytes = record {
@@ -57,23 +57,23 @@ sent_plain width rows number are narrow feasible row within =
     omega (
       arith,
       feasible.steps (node row Plain true) (send (least_spelling (length bytes)) bytes) (node (row + 1) Plain false)
-          (refl, s.0, within, plain_row (row_above width rows row) bytes codable, refl),
+          (refl, s.0, within, plain_row codable, refl),
       cost_send (least_spelling (length bytes)) bytes,
       s.1,
       sending_small (length bytes) (omega (arith, long)),
     )
 
 -- outside a sequence, where so many rows are left
-outside_small : (width : ℕ) (rows : List (List ℕ)) (number : Node → ℕ) → AreOfWidth width rows → width ≤ 600
+outside_small : {width : ℕ} {rows : List (List ℕ)} {number : Node → ℕ} → AreOfWidth width rows → width ≤ 600
     → IsFeasible (Leads width rows) (Ends rows) cost number → (left row : ℕ) (current : Method) → row + left ≡ length rows
     → number (node row current false) ≤ 65546 * left
-outside_small width rows number are narrow feasible zero row current all =
+outside_small {rows} are narrow feasible zero row current all =
     omega (
       arith,
       feasible.ends (node row current false)
           (refl, subst AreWhite (sym (drop_all row rows (omega (arith, all)))) tt),
     )
-outside_small width rows number are narrow feasible (suc left) row current all =
+outside_small are narrow feasible (suc left) row current all =
     let s = spelled_cost (method_code Plain) (omega (arith, method_small Plain)) in
     omega (
       arith,
@@ -81,22 +81,22 @@ outside_small width rows number are narrow feasible (suc left) row current all =
       cost_opening,
       feasible.steps (node row current true) (method (least_spelling 0) Plain false) (node row Plain true) (refl, s.0, refl),
       cost_method (least_spelling 0) Plain false,
-      sent_plain width rows number are narrow feasible row (omega (arith, all)),
-      outside_small width rows number are narrow feasible left (row + 1) Plain (omega (arith, all)),
+      sent_plain are narrow feasible row (omega (arith, all)),
+      outside_small are narrow feasible left (row + 1) Plain (omega (arith, all)),
     )
 
-pub number_small : (width : ℕ) (rows : List (List ℕ)) (number : Node → ℕ) → AreOfWidth width rows → width ≤ 600 → length rows ≤ 9999
+pub number_small : {width : ℕ} {rows : List (List ℕ)} {number : Node → ℕ} → AreOfWidth width rows → width ≤ 600 → length rows ≤ 9999
     → IsFeasible (Leads width rows) (Ends rows) cost number → (row : ℕ) (current : Method) (is_open : Bool) → row ≤ length rows
     → number (node row current is_open) ≤ 655394455
-number_small width rows number are narrow few feasible row current false within =
-    omega (arith, outside_small width rows number are narrow feasible (length rows - row) row current (omega arith))
-number_small width rows number are narrow few feasible row current true within =
+number_small {rows} are narrow few feasible row current false within =
+    omega (arith, outside_small are narrow feasible (length rows - row) row current (omega arith))
+number_small {rows} are narrow few feasible row current true within =
     let s = spelled_cost (method_code Plain) (omega (arith, method_small Plain)) in
     omega (
       arith,
       feasible.steps (node row current true) (method (least_spelling 0) Plain true) (node row Plain false) (refl, s.0, refl),
       cost_method (least_spelling 0) Plain true,
-      outside_small width rows number are narrow feasible (length rows - row) row Plain (omega arith),
+      outside_small are narrow feasible (length rows - row) row Plain (omega arith),
     )
 
 -- ---- numbers of a table
@@ -113,7 +113,7 @@ numbers_small width rows table are narrow few size feasible =
     each_small table (λ row within.
     let le : row ≤ length rows = omega (arith, size) in
     let at : (current : Method) (is_open : Bool) → node_number table (node row current is_open) < 2 ^ 32 =
-    λ current is_open. omega (arith, number_small width rows (node_number table) are narrow few feasible row current is_open le) in (
+    λ current is_open. omega (arith, number_small are narrow few feasible row current is_open le) in (
       at Plain false,
       at Plain true,
       at Runs false,

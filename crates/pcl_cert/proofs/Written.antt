@@ -17,68 +17,68 @@ use Rattle.pcl_cert.specs.RowTables.{count_of, list_from, list_of, lists_within,
 use Rattle.pcl_cert.proofs.Numbers.{length_numbers, number_within}
 
 -- the front stays where more is appended behind something that begins with it
-pub front_stays : (front text new : List ℕ) → take (length (front ++ text)) new ≡ front ++ text
+pub front_stays : {front : List ℕ} (text new : List ℕ) → take (length (front ++ text)) new ≡ front ++ text
     → take (length front) new ≡ front
-front_stays front text new e =
+front_stays {front} text new e =
     let shorter : length front ≤ length (front ++ text) = omega (arith, length-append front text) in
     sym (take-take (length front) (length (front ++ text)) new shorter) ∙ ap (take (length front)) e ∙ take_at front
     text (length front) refl
 
 -- a flat_map of one element more
-pub flat_more : {X : Type 0} (f : X → List ℕ) (xs : List X) (i : ℕ) (d : X) → i < length xs
+pub flat_more : {X : Type 0} (f : X → List ℕ) (xs : List X) {i : ℕ} (d : X) → i < length xs
     → flat_map f (take (i + 1) xs) ≡ flat_map f (take i xs) ++ f (get_or xs i d)
-flat_more f xs i d lt =
+flat_more f xs {i} d lt =
     ap (flat_map f) (take_more xs i d lt) ∙ flat_map-append f (take i xs) (get_or xs i d ∷ [])
     ∙ ap (λ (t : List ℕ). flat_map f (take i xs) ++ t) (flat_map-cons f (get_or xs i d) [] ∙ append-nil (f (get_or xs i d)))
 
 -- ---- pages
 
-proof_at_index : (dpi : Dpi) (format : Format) (proofs : List PageProof) (i : ℕ) (d : PageProof)
+proof_at_index : {dpi : Dpi} {format : Format} (proofs : List PageProof) (i : ℕ) (d : PageProof)
     → AllByRecursion (IsProof dpi format) (proofs_in format proofs) → i < length proofs
     → IsProof dpi format (proof_in format (get_or proofs i d))
-proof_at_index dpi format [] i d are lt = absurd (omega arith)
-proof_at_index dpi format (proof ∷ proofs) zero d are lt = are.0
-proof_at_index dpi format (proof ∷ proofs) (suc i) d are lt = proof_at_index dpi format proofs i d are.1 (omega arith)
+proof_at_index [] i d are lt = absurd (omega arith)
+proof_at_index (proof ∷ proofs) zero d are lt = are.0
+proof_at_index (proof ∷ proofs) (suc i) d are lt = proof_at_index proofs i d are.1 (omega arith)
 
-pub proof_is : (dpi : Dpi) (format : Format) (proofs : List PageProof) (i : ℕ) (d : PageProof) → AreProofs dpi format
+pub proof_is : {dpi : Dpi} {format : Format} (proofs : List PageProof) {i : ℕ} (d : PageProof) → AreProofs dpi format
     (proofs_in format proofs)
     → i < length proofs → IsProof dpi format (proof_in format (get_or proofs i d))
-proof_is dpi format proofs i d are lt = proof_at_index dpi format proofs i d are.1 lt
+proof_is proofs {i} d are lt = proof_at_index proofs i d are.1 lt
 
 -- ---- numbers of lists
 
 -- the number of a place of the list that begins at a place of bytes
-pub listed_number : (bytes starts : List ℕ) (k start : ℕ) → k < length starts → start ≡ get_or starts k start
+pub listed_number : (bytes starts : List ℕ) (k : ℕ) {start : ℕ} → k < length starts → start ≡ get_or starts k start
     → get_or (lists_within bytes starts) k [] ≡ list_from (drop start bytes)
-listed_number bytes (s ∷ starts) zero start lt is = ap (λ (p : ℕ). list_from (drop p bytes)) (sym is)
-listed_number bytes (s ∷ starts) (suc k) start lt is = listed_number bytes starts k start (omega arith) is
-listed_number bytes [] k start lt is = absurd (omega arith)
+listed_number bytes (s ∷ starts) zero lt is = ap (λ (p : ℕ). list_from (drop p bytes)) (sym is)
+listed_number bytes (s ∷ starts) (suc k) lt is = listed_number bytes starts k (omega arith) is
+listed_number bytes [] k lt is = absurd (omega arith)
 
 -- the number of a place, and 0 behind the list
-pub number_there : (bytes starts : List ℕ) (k start place : ℕ) → k < length starts → start ≡ get_or starts k start
+pub number_there : (bytes starts : List ℕ) {k start place : ℕ} → k < length starts → start ≡ get_or starts k start
     → place < count_of (drop start bytes)
     → get_or (get_or (lists_within bytes starts) k []) place 0 ≡ from_be_bytes w16 (take 2 (drop (start + 2 + 2 * place) bytes))
-number_there bytes starts k start place lt is within =
+number_there bytes starts {k} {start} {place} lt is within =
     let list : List ℕ = drop start bytes in
     let from_start : start + (2 + 2 * place) ≡ start + 2 + 2 * place = omega arith in
-    ap (λ (numbers : List ℕ). get_or numbers place 0) (listed_number bytes starts k start lt is)
+    ap (λ (numbers : List ℕ). get_or numbers place 0) (listed_number bytes starts k lt is)
     ∙ number_within (count_of list) place (drop 2 list) within
     ∙ ap (λ (rest : List ℕ). from_be_bytes w16 (take 2 rest))
     (drop-drop (2 * place) 2 list ∙ drop-drop (2 + 2 * place) start bytes ∙ ap (λ (m : ℕ). drop m bytes) from_start)
 
-pub number_past : (bytes starts : List ℕ) (k start place : ℕ) → k < length starts → start ≡ get_or starts k start
+pub number_past : (bytes starts : List ℕ) {k start place : ℕ} → k < length starts → start ≡ get_or starts k start
     → count_of (drop start bytes) ≤ place → get_or (get_or (lists_within bytes starts) k []) place 0 ≡ 0
-number_past bytes starts k start place lt is past =
+number_past bytes starts {k} {start} {place} lt is past =
     let list : List ℕ = drop start bytes in
-    ap (λ (numbers : List ℕ). get_or numbers place 0) (listed_number bytes starts k start lt is)
+    ap (λ (numbers : List ℕ). get_or numbers place 0) (listed_number bytes starts k lt is)
     ∙ get_or_past (list_from list) place 0 (omega (arith, length_numbers (count_of list) (drop 2 list)))
 
 -- a list of row tables is whole
-pub list_there : (bytes starts : List ℕ) (k : ℕ) → AllByRecursion (IsListAt bytes) starts → k < length starts
+pub list_there : {bytes : List ℕ} (starts : List ℕ) (k : ℕ) → AllByRecursion (IsListAt bytes) starts → k < length starts
     → (d : ℕ) → IsListAt bytes (get_or starts k d)
-list_there bytes [] k whole lt d = absurd (omega arith)
-list_there bytes (s ∷ starts) zero whole lt d = whole.0
-list_there bytes (s ∷ starts) (suc k) whole lt d = list_there bytes starts k whole.1 (omega arith) d
+list_there [] k whole lt d = absurd (omega arith)
+list_there (s ∷ starts) zero whole lt d = whole.0
+list_there (s ∷ starts) (suc k) whole lt d = list_there starts k whole.1 (omega arith) d
 
 code_small : (method : Method) → method_code method < 4
 code_small Plain = lit≤ tt
@@ -87,32 +87,32 @@ code_small Packed = lit≤ tt
 code_small Delta = lit≤ tt
 
 -- a method's list is one of four
-pub list_within : (self : List (List ℕ)) (bytes starts : List ℕ) (row : ℕ) (method : Method) (code : ℕ) → self ≡ lists_within bytes starts
+pub list_within : {self : List (List ℕ)} (bytes starts : List ℕ) (row : ℕ) (method : Method) {code : ℕ} → self ≡ lists_within bytes starts
     → 4 * row + 4 ≤ length self → code ≡ method_code method → 4 * row + code < length starts
-list_within self bytes starts row method code view there is =
+list_within bytes starts row method view there is =
     omega (arith, ap length view, length-map starts (λ (s : ℕ). list_from (drop s bytes)), there, is, code_small method)
 
 -- the list of a row and a method, by the place where it begins
-pub list_kept : (self : List (List ℕ)) (bytes starts : List ℕ) (row : ℕ) (method : Method) (code start : ℕ) → self ≡ lists_within bytes starts
+pub list_kept : {self : List (List ℕ)} (bytes starts : List ℕ) (row : ℕ) (method : Method) {code start : ℕ} → self ≡ lists_within bytes starts
     → 4 * row + 4 ≤ length self → code ≡ method_code method → start ≡ get_or starts (4 * row + code) start
     → list_of self row method ≡ list_from (drop start bytes)
-list_kept self bytes starts row method code start view there is at =
+list_kept bytes starts row method {code} view there is at =
     ap (λ (lists : List (List ℕ)). list_of lists row method) view
     ∙ ap (λ (c : ℕ). get_or (lists_within bytes starts) (4 * row + c) []) (sym is)
-    ∙ listed_number bytes starts (4 * row + code) start (list_within self bytes starts row method code view there is) at
+    ∙ listed_number bytes starts (4 * row + code) (list_within bytes starts row method view there is) at
 
 -- ---- proofs of pages in the format that they were read in
 
-proof_of_format : (dpi : Dpi) (format : Format) (proof : PageProof) → IsProof dpi format proof → IsProof dpi format (proof_in format proof)
-proof_of_format dpi One proof is =
+proof_of_format : {dpi : Dpi} (format : Format) {proof : PageProof} → IsProof dpi format proof → IsProof dpi format (proof_in format proof)
+proof_of_format One is =
     record { size = is.size; text_len = is.text_len; height = is.height; numbers = is.numbers; lists = refl }
-proof_of_format dpi Two proof is = is
+proof_of_format Two is = is
 
 proofs_of_format : (dpi : Dpi) (format : Format) (proofs : List PageProof) → AllByRecursion (IsProof dpi format) proofs
     → AllByRecursion (IsProof dpi format) (proofs_in format proofs)
 proofs_of_format dpi format [] are = tt
 proofs_of_format dpi format (proof ∷ proofs) are =
-    (proof_of_format dpi format proof are.0, proofs_of_format dpi format proofs are.1)
+    (proof_of_format format are.0, proofs_of_format dpi format proofs are.1)
 
 -- what is read can be written again
 pub can_be_written : (dpi : Dpi) (format : Format) (proofs : List PageProof) → AreProofs dpi format proofs

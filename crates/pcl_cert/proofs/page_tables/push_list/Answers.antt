@@ -4,5 +4,4 @@ use Rattle.pcl_cert.proofs.page_tables.push_list.Goals as goal
 
 pub returns : goal.returns
 returns g c =
-    on_ok_weaker c.push.result (λ more. row_more (g.C.RowCoder.of c.args.coder.now) c.args.seed.now c.args.row.now c.args.lists.now
-    c.push.new.self c.places.new.out c.requires.codable.same_size c.places.ensures more) c.push.ensures
+    on_ok_weaker c.push.result (λ more. row_more c.requires.codable.same_size c.places.ensures more) c.push.ensures

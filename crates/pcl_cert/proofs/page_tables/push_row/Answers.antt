@@ -14,7 +14,7 @@ returns c =
     let row_is : c.row-bytes.result.now ≡ row_at (bitmap_rows picture) c.args.row =
     c.row-bytes.ensures.bytes ∙ sym (row_of_bytes c.args.row (page_height picture.size picture.dpi) width picture.bytes c.requires.row) in
     let seed_is = c.row_above-seed.ensures.row in
-    on_ok_weaker c.push_list-4.result (λ delta. one_row_more _ _ c.args.row c.args.lists.now c.push_list-4.new.lists c.requires.holds
+    on_ok_weaker c.push_list-4.result (λ delta. one_row_more c.requires.holds
     (ap length (sym row_is) ∙ c.row-bytes.ensures.len) (record {
       first = c.push_list.new.lists;
       second = c.push_list-2.new.lists;

@@ -20,5 +20,5 @@ returns c =
     c.height-row-end.ensures ∙ ap (λ (z : Size). page_height z c.dpi.result) c.size.ensures.value
     ∙ ap (λ (d : Dpi). page_height page.bitmap.size d) c.dpi.ensures.value in
     rw c.within.ensures (as_page page (λ z d. AreLeastTables (page_row_bytes z d) (bitmap_rows page.bitmap) (listed c.loop-row.lists))
-    (all_rows page.bitmap c.loop-row.row c.loop-row.lists c.loop-row.invariant
+    (all_rows page.bitmap c.loop-row.invariant
     (omega (arith, c.loop-row-test.false, c.loop-row.auto.row-end, height))))

@@ -11,7 +11,7 @@ returns-then-ends_in_zero c =
     let count : ℕ = c.in_ok-count.count in
     let rest : List ℕ = c.in_ok-count.rest.now in
     let ends : ends_in_zero (numbers_from count (take (2 * count) rest)) ≡ true = cc in
-    list_checked c.args.most c.args.bytes.now count rest c.in_ok-count.ensures (omega arith) (omega arith)
+    list_checked c.args.bytes.now c.in_ok-count.ensures (omega arith) (omega arith)
     ∙ ap (λ b. if b then Err Places else Ok (drop (2 * count) rest)) ends
 
 pub returns : goal.returns
@@ -20,5 +20,5 @@ returns c =
     let rest : List ℕ = c.in_ok-count.rest.now in
     let ends : ends_in_zero (numbers_from count (take (2 * count) rest)) ≡ false = cc in
     let back : drop (2 * count) rest ≡ c.split_at.result.1.now = cc in
-    list_checked c.args.most c.args.bytes.now count rest c.in_ok-count.ensures (omega arith) (omega arith)
+    list_checked c.args.bytes.now c.in_ok-count.ensures (omega arith) (omega arith)
     ∙ ap (λ b. if b then Err Places else Ok (drop (2 * count) rest)) ends ∙ ap (λ bytes. Ok bytes) back

@@ -8,9 +8,9 @@ use Rattle.pcl_cert.proofs.KeptLists.{table_length, table_number}
 use Rattle.pcl_cert.proofs.tables.copy_numbers.Goals as goal
 
 -- a number more is the list's
-number_more : (list out : List ℕ) (place number : ℕ) → place < length out → ((k : ℕ) → k < place → get_or out k 0 ≡ get_or list k 0)
+number_more : (list out : List ℕ) {place number : ℕ} → place < length out → ((k : ℕ) → k < place → get_or out k 0 ≡ get_or list k 0)
     → number ≡ get_or list place 0 → (k : ℕ) → k < place + 1 → get_or (set out place number) k 0 ≡ get_or list k 0
-number_more list out place number inside same is k lt =
+number_more list out {place} {number} inside same is k lt =
     elim (cases_lt k place) [
       | inl before ↦ get_or-set_other out place k number 0 (λ e. absurd (omega arith)) ∙ same k before
       | inr at ↦
@@ -26,7 +26,7 @@ loop-place-preserved c =
     let count : ℕ = length bytes / 2 in
     record {
       size = length-set out place c.word.result ∙ c.loop-place.invariant.size;
-      same = number_more (numbers_from count bytes) out place c.word.result
+      same = number_more (numbers_from count bytes) out
           (omega (arith, c.loop-place-test.true, c.min-count.ensures, c.loop-place.invariant.size))
           c.loop-place.invariant.same
           (c.word.ensures ∙ sym (number_within count place bytes (omega (arith, c.loop-place-test.true, c.min-count.ensures))));
@@ -42,7 +42,7 @@ loop-place-2-preserved c =
     omega (arith, c.loop-place-2.auto.place, c.loop-place-2-test.true, c.loop-place.invariant.size, c.min-count.ensures) in
     record {
       size = length-set out place 0 ∙ c.loop-place-2.invariant.size;
-      same = number_more (numbers_from count bytes) out place 0
+      same = number_more (numbers_from count bytes) out
           (omega (arith, c.loop-place-2-test.true, c.loop-place.invariant.size, c.loop-place-2.invariant.size)) c.loop-place-2.invariant.same
           (sym (get_or_past (numbers_from count bytes) place 0 (omega (arith, length_numbers count bytes, past))));
     }
@@ -54,4 +54,4 @@ returns c =
     let n : ℕ = length c.args.out.now in
     let list : List ℕ = numbers_from (length bytes / 2) bytes in
     ext_get_or 0 out (table_of n list) (c.loop-place-2.invariant.size ∙ sym (table_length n list)) (λ k lt.
-    c.loop-place-2.invariant.same k (omega (arith, c.loop-place-2-test.false)) ∙ sym (table_number n list k (omega (arith, c.loop-place-2.invariant.size))))
+    c.loop-place-2.invariant.same k (omega (arith, c.loop-place-2-test.false)) ∙ sym (table_number list (omega (arith, c.loop-place-2.invariant.size))))

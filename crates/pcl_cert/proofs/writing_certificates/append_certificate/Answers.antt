@@ -8,7 +8,7 @@ use Rattle.pcl_cert.proofs.writing_certificates.append_certificate.Goals as goal
 pub append_proof-requires : goal.append_proof-requires
 append_proof-requires c = (
   c.requires.0,
-  rw c.proof-item.is (proof_is c.requires.0 c.args.format c.args.proofs.now c.loop-proof.proof-index
+  rw c.proof-item.is (proof_is c.args.proofs.now
       _ c.requires.1 c.loop-proof-test.true),
 )
 
@@ -17,4 +17,4 @@ returns-in_err-append_proof-clause-front c =
     let head : List ℕ = magic c.args.format ++ to_be_bytes w32 (length c.args.proofs.now) in
     let pages : List ℕ = flat_map proof_bytes (proofs_in c.args.format (take c.loop-proof.proof-index c.args.proofs.now)) in
     let joined : c.loop-proof.out.items ≡ c.args.out.now.items ++ (head ++ pages) = c.loop-proof.invariant ∙ simp append_assoc in
-    front_stays c.args.out.now.items (head ++ pages) c.append_proof.new.out.items (rw (← joined) c.append_proof.ensures.front)
+    front_stays (head ++ pages) c.append_proof.new.out.items (rw (← joined) c.append_proof.ensures.front)

@@ -6,7 +6,7 @@ use Rattle.pcl_cert.proofs.writing_certificates.append_table.Goals as goal
 
 pub returns-in_err-append_row-clause-front : goal.returns-in_err-append_row-clause-front
 returns-in_err-append_row-clause-front c =
-    front_stays c.args.out.now.items (table_bytes (take c.loop-row.row c.args.table.now)) c.append_row.new.out.items
+    front_stays (table_bytes (take c.loop-row.row c.args.table.now)) c.append_row.new.out.items
     (rw (← c.loop-row.invariant) c.append_row.ensures.front)
 
 pub loop-row-preserved : goal.loop-row-preserved
@@ -14,4 +14,4 @@ loop-row-preserved c =
     rw (c.in_ok-append_row.ensures.ok, c.loop-row.invariant, c.row.ensures) (
     append_assoc c.args.out.now.items (table_bytes (take c.loop-row.row c.args.table.now)) _
     ∙ ap (λ text. c.args.out.now.items ++ text)
-    (sym (flat_more row_bytes c.args.table.now c.loop-row.row no_numbers (omega (arith, c.loop-row-test.true, c.rows-row-end.ensures)))))
+    (sym (flat_more row_bytes c.args.table.now no_numbers (omega (arith, c.loop-row-test.true, c.rows-row-end.ensures)))))

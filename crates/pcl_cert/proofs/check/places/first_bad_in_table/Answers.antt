@@ -52,8 +52,7 @@ returns-in_err-place c =
     omega (arith, c.row-bytes.ensures.len, small, length-replicate {A = ℕ} 601 0))) in
     subst (FindsPlace (IsGoodIn page c.args.tables.now c.args.row c.args.method) (page_row_bytes page.size page.dpi))
     (sym c.from_residual.ensures)
-    (none_bad page c.args.tables.now c.args.row c.args.method c.row_above-seed.result.now c.row-bytes.result.now
-    c.copy_table.new.out is c.in_err-place.ensures)
+    (none_bad is c.in_err-place.ensures)
 
 pub returns : goal.returns
 returns c =
@@ -63,5 +62,4 @@ returns c =
     c.copy_table.ensures
     (length-take-le _ _ (let small = row_small page.bitmap.size page.bitmap.dpi in
     omega (arith, c.row-bytes.ensures.len, small, length-replicate {A = ℕ} 601 0))) in
-    some_bad page c.args.tables.now c.args.row c.args.method c.row_above-seed.result.now c.row-bytes.result.now
-    c.copy_table.new.out c.in_ok-place.place is c.in_ok-place.ensures
+    some_bad is c.in_ok-place.ensures

@@ -4,7 +4,7 @@ use Rattle.pcl_cert.proofs.check.places.first_bad_row_place.Goals as goal
 
 pub returns-then-is_some : goal.returns-then-is_some
 returns-then-is_some c =
-    rows_end c.args.page.now c.args.tables c.in_ok-tables.tables c.loop-row.row c.first_bad_in_row-found.result
+    rows_end c.args.page.now c.first_bad_in_row-found.result
     c.in_ok-tables.was (let below = c.loop-row-test.true in omega (arith, c.height-row-end.ensures)) c.loop-row.invariant
     c.first_bad_in_row-found.ensures (sym c.is_some.ensures ∙ c.if-is_some.true)
 

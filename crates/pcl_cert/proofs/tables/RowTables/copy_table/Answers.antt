@@ -7,7 +7,7 @@ use Rattle.pcl_cert.proofs.tables.RowTables.copy_table.Goals as goal
 pub returns : goal.returns
 returns c =
     let start : ℕ = c.index.result.now in
-    let list = list_kept c.args.self.now (contents c.self.inside.bytes) c.self.inside.starts.items c.args.row c.args.method c.code.result start
+    let list = list_kept (contents c.self.inside.bytes) c.self.inside.starts.items c.args.row c.args.method
     (sym c.self.view_is) c.requires.row c.code.ensures c.index.ensures in
     c.copy_numbers.ensures
     ∙ ap (table_of (length c.args.out.now))

@@ -14,12 +14,12 @@ returns-then-place-from c =
     let within : c.args.place < count_of (drop start bytes) =
     subst (λ (b : List ℕ). c.args.place < count_of (drop start b)) slice
     (omega (arith, c.if-place-from.true, c.from.ensures, c.word.ensures)) in
-    let lt = list_within c.args.self.now bytes starts c.args.row c.args.method c.code.result (sym c.self.view_is)
+    let lt = list_within bytes starts c.args.row c.args.method (sym c.self.view_is)
     c.requires c.code.ensures in
     rw (← c.self.view_is) (
     c.word-then-place-from.ensures
     ∙ ap (λ (b : List ℕ). from_be_bytes w16 (take 2 (drop (start + 2 + 2 * c.args.place) b))) slice
-    ∙ sym (number_there bytes starts k start c.args.place lt c.index-start.ensures within)
+    ∙ sym (number_there bytes starts lt c.index-start.ensures within)
     ∙ ap (λ (code : ℕ). get_or (get_or (lists_within bytes starts) (4 * c.args.row + code) []) c.args.place 0) c.code.ensures)
 
 pub returns-else-place-from : goal.returns-else-place-from
@@ -32,8 +32,8 @@ returns-else-place-from c =
     let past : count_of (drop start bytes) ≤ c.args.place =
     subst (λ (b : List ℕ). count_of (drop start b) ≤ c.args.place) slice
     (omega (arith, c.if-place-from.false, c.from.ensures, c.word.ensures)) in
-    let lt = list_within c.args.self.now bytes starts c.args.row c.args.method c.code.result (sym c.self.view_is)
+    let lt = list_within bytes starts c.args.row c.args.method (sym c.self.view_is)
     c.requires c.code.ensures in
     rw (← c.self.view_is) (
-    sym (number_past bytes starts k start c.args.place lt c.index-start.ensures past)
+    sym (number_past bytes starts lt c.index-start.ensures past)
     ∙ ap (λ (code : ℕ). get_or (get_or (lists_within bytes starts) (4 * c.args.row + code) []) c.args.place 0) c.code.ensures)
