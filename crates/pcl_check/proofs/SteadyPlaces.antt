@@ -155,7 +155,8 @@ start_within old row place start offset order differs alike =
       | inl past ↦
           let at : place + (start - place) ≡ start = omega arith in
           absurd (differs
-          (ap (slice_index old) (sym at) ∙ sym (alike_at old row place offset (start - place) alike (omega arith)) ∙ ap (slice_index row) at))
+          (ap (slice_index old) (sym at) ∙ sym (alike_at old row place offset (start - place) alike (omega arith))
+          ∙ ap (slice_index row) at))
     ]
 
 -- the least sum of a front, where the numbers are 0 behind it
@@ -271,7 +272,8 @@ runs_from row numbers most (suc from) steady falls good k =
           let same : from ≡ j = omega arith in
           let next : suc from ≡ from + 1 = omega arith in
           subst (AreGoodRuns row numbers most) same
-          (runs_before row numbers most from steady (falls from (omega arith)) (subst (AreGoodRuns row numbers most) next (good (suc from) (omega arith))))
+          (runs_before row numbers most from steady (falls from (omega arith))
+          (subst (AreGoodRuns row numbers most) next (good (suc from) (omega arith))))
     ]) k
 
 -- what is the same from a place on, from the next place on
