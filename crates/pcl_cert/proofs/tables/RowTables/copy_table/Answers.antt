@@ -7,8 +7,8 @@ use Rattle.pcl_cert.proofs.tables.RowTables.copy_table.Goals as goal
 pub returns : goal.returns
 returns c =
     let start : ℕ = c.index.result.now in
-    let list = list_kept c.args.self.now (contents c.self.inside.bytes) c.self.inside.starts.items c.args.row c.args.method c.code.result start
-    (sym c.self.view_is) c.requires.row c.code.ensures c.index.ensures in
+    let list = list_kept c.args.self.now (contents c.self.inside.bytes) c.self.inside.starts.items c.args.row c.args.method
+    c.code.result start (sym c.self.view_is) c.requires.row c.code.ensures c.index.ensures in
     c.copy_numbers.ensures
     ∙ ap (table_of (length c.args.out.now))
     (c.numbers_at.ensures.numbers ∙ ap (λ (bytes : List ℕ). list_from (drop start bytes)) c.as_slice.ensures ∙ sym list)

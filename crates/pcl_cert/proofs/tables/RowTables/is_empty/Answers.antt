@@ -14,11 +14,10 @@ pub returns : goal.returns
 returns c =
     let start : ℕ = c.index.result.now in
     let numbers = c.numbers_at.result.now in
-    let list = list_kept c.args.self.now (contents c.self.inside.bytes) c.self.inside.starts.items c.args.row c.args.method c.code.result start
-    (sym c.self.view_is) c.requires c.code.ensures c.index.ensures in
+    let list = list_kept c.args.self.now (contents c.self.inside.bytes) c.self.inside.starts.items c.args.row c.args.method
+    c.code.result start (sym c.self.view_is) c.requires c.code.ensures c.index.ensures in
     let same : list_of c.args.self.now c.args.row c.args.method ≡ numbers_from (length numbers / 2) numbers =
-    list ∙ ap (λ (bytes : List ℕ). list_from (drop start bytes)) (sym c.as_slice.ensures) ∙ sym c.numbers_at.ensures.numbers in
-    (
+    list ∙ ap (λ (bytes : List ℕ). list_from (drop start bytes)) (sym c.as_slice.ensures) ∙ sym c.numbers_at.ensures.numbers in (
       λ said. same ∙ no_numbers numbers (nil_from_length numbers (eqb-true (length numbers) 0 (sym c.is_empty.ensures ∙ said))),
       λ none. c.is_empty.ensures
           ∙ eq-eqb (length numbers) 0
