@@ -196,15 +196,6 @@ table_of_good method seed row numbers size good = record {
   };
 }
 
--- numbers that are all 0 are a row table
-pub table_of_zeros : (method : Method) (seed row numbers : List ℕ) → length numbers ≡ length row + 1
-    → ((k : ℕ) → k < length numbers → slice_index numbers k ≡ 0) → IsRowTable method seed row numbers
-table_of_zeros method seed row numbers size zeros =
-    table_of_good method seed row numbers size
-    (λ place le.
-    let none = zeros place (omega (arith, size)) in
-    record { steps = λ e next l. omega (arith, none); ends = λ end. none })
-
 pub finds_table : (method : Method) (seed row numbers : List ℕ) (found : Option ℕ) → length numbers ≡ length row + 1
     → FindsPlace (IsGoodPlace method seed row numbers) (length row) found → FindsBadPlace method seed row numbers found
 finds_table method seed row numbers None size found = table_of_good method seed row numbers size found
