@@ -155,7 +155,8 @@ start_within old row place start offset order differs alike =
       | inl past ↦
           let at : place + (start - place) ≡ start = omega arith in
           absurd (differs
-          (ap (slice_index old) (sym at) ∙ sym (alike_at old row place offset (start - place) alike (omega arith)) ∙ ap (slice_index row) at))
+          (ap (slice_index old) (sym at) ∙ sym (alike_at old row place offset (start - place) alike (omega arith))
+          ∙ ap (slice_index row) at))
     ]
 
 -- the least sum of a front, where the numbers are 0 behind it

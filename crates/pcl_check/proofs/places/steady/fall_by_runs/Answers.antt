@@ -22,7 +22,8 @@ loop-place-preserved c =
           omega (arith, here, falls, c.run_cost.ensures.ends differs, c.run_cost-in-loop-place.ensures.goes_on goes_on)
       | inr ends ↦ omega (arith, here, falls, c.run_cost.ensures.ends differs, c.run_cost-in-loop-place.ensures.ends ends)
     ] in
-    let two : Two place = λ same differs. omega (arith, here, c.run_cost.ensures.goes_on same, c.run_cost-in-loop-place.ensures.ends differs) in
+    let two : Two place =
+    λ same differs. omega (arith, here, c.run_cost.ensures.goes_on same, c.run_cost-in-loop-place.ensures.ends differs) in
     let more : More place =
     λ same third. omega (arith, here, falls, c.run_cost.ensures.goes_on same, c.run_cost-in-loop-place.ensures.goes_on third) in
     record {
