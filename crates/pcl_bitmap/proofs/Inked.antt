@@ -161,7 +161,8 @@ no_run a k =
     ]
 
 -- a run between places where a byte begins, or an empty one, is that of the bytes
-pub whole_run : {a b : ℕ} (k : ℕ) → ((a ≡ b → ⊥) → (8 * (a / 8) ≡ a) × (8 * (b / 8) ≡ b)) → in_run (8 * (a / 8)) (8 * (b / 8)) k ≡ in_run a b k
+pub whole_run : {a b : ℕ} (k : ℕ) → ((a ≡ b → ⊥) → (8 * (a / 8) ≡ a) × (8 * (b / 8) ≡ b))
+    → in_run (8 * (a / 8)) (8 * (b / 8)) k ≡ in_run a b k
 whole_run {a} {b} k h =
     elim (cases_eq a b) [
       | inl same ↦

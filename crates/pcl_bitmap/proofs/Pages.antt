@@ -11,7 +11,8 @@ use Rattle.pcl_bitmap.specs.Bitmap.{bit_of_byte, dot_of_row}
 use Rattle.pcl_bitmap.proofs.Bytes.{bit_of_byte-zero, dot_at}
 
 -- a dot of a row is a bit of the page's bytes
-pub dot_in_page : (bs : List ℕ) (r : ℕ) {x : ℕ} (y : ℕ) → x < 8 * r → dot_of_row (take r (drop (y * r) bs)) x ≡ dot_of_row bs (8 * (y * r) + x)
+pub dot_in_page : (bs : List ℕ) (r : ℕ) {x : ℕ} (y : ℕ) → x < 8 * r
+    → dot_of_row (take r (drop (y * r) bs)) x ≡ dot_of_row bs (8 * (y * r) + x)
 dot_in_page bs r {x} y h =
     let within : x / 8 < r = omega arith in
     ap (λ n. bit_of_byte n (x % 8)) (get_or-take r (drop (y * r) bs) (x / 8) 0 within ∙ get_or-drop (y * r) bs (x / 8) 0)

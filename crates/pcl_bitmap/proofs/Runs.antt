@@ -45,7 +45,8 @@ same_test {k} {a} {m} {b} f g =
     ]
 
 -- a run that goes up to a byte past its end is whole
-pub run_dot-whole : (from : ℕ) {end : ℕ} (i : ℕ) (row : List ℕ) (k : ℕ) → end ≤ 8 * i → run_dot from (min end (8 * i)) row k ≡ run_dot from end row k
+pub run_dot-whole : (from : ℕ) {end : ℕ} (i : ℕ) (row : List ℕ) (k : ℕ) → end ≤ 8 * i
+    → run_dot from (min end (8 * i)) row k ≡ run_dot from end row k
 run_dot-whole from {end} i row k h =
     run_dot-end from (min end (8 * i)) end row k (same_test (λ p. omega arith) (λ p. omega arith))
 

@@ -93,7 +93,8 @@ list_within bytes starts row method view there is =
     omega (arith, ap length view, length-map starts (λ (s : ℕ). list_from (drop s bytes)), there, is, code_small method)
 
 -- the list of a row and a method, by the place where it begins
-pub list_kept : {self : List (List ℕ)} (bytes starts : List ℕ) (row : ℕ) (method : Method) {code start : ℕ} → self ≡ lists_within bytes starts
+pub list_kept : {self : List (List ℕ)} (bytes starts : List ℕ) (row : ℕ) (method : Method) {code start : ℕ}
+    → self ≡ lists_within bytes starts
     → 4 * row + 4 ≤ length self → code ≡ method_code method → start ≡ get_or starts (4 * row + code) start
     → list_of self row method ≡ list_from (drop start bytes)
 list_kept bytes starts row method {code} view there is at =

@@ -35,7 +35,8 @@ parts_of (row ∷ a) {b} (first ∷ all) e =
     let front : a ≡ take (length a) all = parts.0 in
     (cc, parts.1)
 
-pub of_parts : (a : List (List ℕ)) {b : List (List ℕ)} (all : List (List ℕ)) → a ≡ take (length a) all → b ≡ take (length b) (drop (length a) all)
+pub of_parts : (a : List (List ℕ)) {b : List (List ℕ)} (all : List (List ℕ)) → a ≡ take (length a) all
+    → b ≡ take (length b) (drop (length a) all)
     → a ++ b ≡ take (length (a ++ b)) all
 of_parts [] all p q = q
 of_parts (row ∷ a) [] p q = absurd cc

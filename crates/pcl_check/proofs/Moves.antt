@@ -104,7 +104,8 @@ front_at {digits} told printed =
     front_of digits told.inside told.are_digits told.no_digit told.text printed
 
 -- a token in front of others
-spelled_by : {text : List ℕ} (digits : List ℕ) {byte : ℕ} {rest : List ℕ} {sent : ℕ} (bytes tokens end : List ℕ) → text ≡ digits ++ byte ∷ rest
+spelled_by : {text : List ℕ} (digits : List ℕ) {byte : ℕ} {rest : List ℕ} {sent : ℕ} (bytes tokens end : List ℕ)
+    → text ≡ digits ++ byte ∷ rest
     → byte ≡ sent → rest ≡ bytes ++ (tokens ++ end) → text ≡ ((digits ++ (sent ∷ bytes)) ++ tokens) ++ end
 spelled_by digits {rest} {sent} bytes tokens end e b r =
     e ∙ ap (λ (c : ℕ). digits ++ c ∷ rest) b ∙ ap (λ (more : List ℕ). digits ++ sent ∷ more) r ∙ sym (regroup digits sent bytes tokens end)

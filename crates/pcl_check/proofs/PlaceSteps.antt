@@ -32,11 +32,13 @@ copies_front wanted {e} r none gives =
     )
 
 -- where an element that gives something leads
-next_number : {old row : List ℕ} (numbers : List ℕ) {method : Method} {place : ℕ} {e : Element} {next count : ℕ} → Leads method old row place e next
+next_number : {old row : List ℕ} (numbers : List ℕ) {method : Method} {place : ℕ} {e : Element} {next count : ℕ}
+    → Leads method old row place e next
     → stop e ≡ count → slice_index numbers next ≡ slice_index numbers (place + count)
 next_number numbers l stops = ap (slice_index numbers) (omega (arith, l.next_is, stops))
 
-pub steps_plain : {old row : List ℕ} (numbers : List ℕ) {place : ℕ} → length old ≡ length row → length numbers ≡ length row + 1 → place ≤ length row
+pub steps_plain : {old row : List ℕ} (numbers : List ℕ) {place : ℕ} → length old ≡ length row → length numbers ≡ length row + 1
+    → place ≤ length row
     → IsGoodByte numbers place → AreGoodSteps Plain old row numbers place
 steps_plain {old} {row} numbers {place} same size le good = λ e next l.
     let wanted : List ℕ = drop place row in
@@ -67,7 +69,8 @@ steps_runs {old} {row} numbers {place} same le good = λ e next l.
       next_number numbers l stops,
     )
 
-pub steps_packed : {old row : List ℕ} (numbers : List ℕ) {place : ℕ} → length old ≡ length row → length numbers ≡ length row + 1 → place ≤ length row
+pub steps_packed : {old row : List ℕ} (numbers : List ℕ) {place : ℕ} → length old ≡ length row → length numbers ≡ length row + 1
+    → place ≤ length row
     → AreGoodLiterals numbers place → AreGoodRuns row numbers 128 place → AreGoodSteps Packed old row numbers place
 steps_packed {old} {row} numbers {place} same size le literals runs = λ e next l.
     let wanted : List ℕ = drop place row in
@@ -130,7 +133,8 @@ shape_kept {row} numbers {place} {shape} is good =
       ap (slice_index numbers) there,
     )
 
-pub bytes_of_steps : (old : List ℕ) {row : List ℕ} (numbers : List ℕ) {place : ℕ} → length numbers ≡ length row + 1 → AreGoodSteps Plain old row numbers place
+pub bytes_of_steps : (old : List ℕ) {row : List ℕ} (numbers : List ℕ) {place : ℕ} → length numbers ≡ length row + 1
+    → AreGoodSteps Plain old row numbers place
     → IsGoodByte numbers place
 bytes_of_steps old {row} numbers {place} size good = λ inside.
     shape_kept numbers
@@ -145,20 +149,23 @@ first_of_run wanted {count} byte some alike =
     in
     alike ∙ ap (replicate count) first
 
-pub runs_of_steps : (old : List ℕ) {row : List ℕ} (numbers : List ℕ) {place : ℕ} → AreGoodSteps Runs old row numbers place → AreGoodRuns row numbers 256 place
+pub runs_of_steps : (old : List ℕ) {row : List ℕ} (numbers : List ℕ) {place : ℕ} → AreGoodSteps Runs old row numbers place
+    → AreGoodRuns row numbers 256 place
 runs_of_steps old {row} numbers {place} good = λ count byte some few within alike.
     shape_kept numbers
     (run_step (drop place old) (drop place row) count (omega arith) few (omega (arith, length-drop place row))
     (first_of_run (drop place row) byte some alike)) good
 
-pub literals_of_steps : {old row : List ℕ} (numbers : List ℕ) {place : ℕ} → length numbers ≡ length row + 1 → AreGoodSteps Packed old row numbers place
+pub literals_of_steps : {old row : List ℕ} (numbers : List ℕ) {place : ℕ} → length numbers ≡ length row + 1
+    → AreGoodSteps Packed old row numbers place
     → AreGoodLiterals numbers place
 literals_of_steps {old} {row} numbers {place} size good = λ count some few within.
     shape_kept numbers
     (literal_step (drop place old) (drop place row) count (omega arith) few (omega (arith, length-drop place row, size))) good
 
 -- a literal of one byte costs as much as its repeat would
-pub repeats_of_steps : {old row : List ℕ} (numbers : List ℕ) {place : ℕ} → length numbers ≡ length row + 1 → AreGoodSteps Packed old row numbers place
+pub repeats_of_steps : {old row : List ℕ} (numbers : List ℕ) {place : ℕ} → length numbers ≡ length row + 1
+    → AreGoodSteps Packed old row numbers place
     → AreGoodRuns row numbers 128 place
 repeats_of_steps {old} {row} numbers {place} size good = λ count byte some few within alike.
     elim (cases_lt 1 count) [
@@ -195,15 +202,6 @@ table_of_good {row} {numbers} size good = record {
         ];
   };
 }
-
--- numbers that are all 0 are a row table
-pub table_of_zeros : (method : Method) (seed row numbers : List ℕ) → length numbers ≡ length row + 1
-    → ((k : ℕ) → k < length numbers → slice_index numbers k ≡ 0) → IsRowTable method seed row numbers
-table_of_zeros method seed row numbers size zeros =
-    table_of_good size
-    (λ place le.
-    let none = zeros place (omega (arith, size)) in
-    record { steps = λ e next l. omega (arith, none); ends = λ end. none })
 
 pub finds_table : (method : Method) (seed row numbers : List ℕ) (found : Option ℕ) → length numbers ≡ length row + 1
     → FindsPlace (IsGoodPlace method seed row numbers) (length row) found → FindsBadPlace method seed row numbers found

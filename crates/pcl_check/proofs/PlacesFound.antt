@@ -92,7 +92,8 @@ found_bad Good within bad = record {
 }
 
 -- all places before are good
-pub found_all : (Good : ℕ → Type 0) {from : ℕ} (last : ℕ) (found : Option ℕ) → ((k : ℕ) → k < from → Good k) → FindsFrom Good from last found
+pub found_all : (Good : ℕ → Type 0) {from : ℕ} (last : ℕ) (found : Option ℕ) → ((k : ℕ) → k < from → Good k)
+    → FindsFrom Good from last found
     → FindsPlace Good last found
 found_all Good {from} last None good found = λ k within.
     elim (cases_lt k from) [ inl before ↦ good k before | inr behind ↦ found k behind within ]

@@ -13,7 +13,8 @@ use Rattle.pcl_check.proofs.Values.{length_values, value_in}
 use Rattle.pcl_check.proofs.StepWindows.{last_of}
 
 -- no row to skip
-pub none_to_skip : (ends : List ℕ) (number : Node → ℕ) {method : Method} (digits : ℕ) {most row : ℕ} → last_of ends most row ≤ row → 0 < most
+pub none_to_skip : (ends : List ℕ) (number : Node → ℕ) {method : Method} (digits : ℕ) {most row : ℕ} → last_of ends most row ≤ row
+    → 0 < most
     → AreGoodSkipsOf ends number method digits most row
 none_to_skip ends number digits none some = λ count inside one few within. absurd (omega (arith, none))
 

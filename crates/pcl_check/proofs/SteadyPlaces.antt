@@ -52,7 +52,8 @@ run_byte row place count byte k alike lt =
     ∙ get_or-replicate count k byte 0 lt
 
 -- a run that begins before a place where the bytes change ends there or before it
-pub runs_by_stop : (row : List ℕ) {numbers : List ℕ} {most end : ℕ} (stop : ℕ) {place : ℕ} → IsSteady numbers → slice_index numbers end ≡ 0 → place < stop
+pub runs_by_stop : (row : List ℕ) {numbers : List ℕ} {most end : ℕ} (stop : ℕ) {place : ℕ} → IsSteady numbers → slice_index numbers end ≡ 0
+    → place < stop
     → stop ≤ end → (stop < end → slice_index row (stop - 1) ≢ slice_index row stop)
     → slice_index numbers place ≤ 2 + slice_index numbers (min stop (place + most)) → AreGoodRuns row numbers most place
 runs_by_stop row {numbers} {most} {end} stop {place} steady none after within breaks kept = λ count byte some few inside alike.
@@ -169,7 +170,8 @@ front_sums numbers least {end} place stop inside sums low high within =
       get_or-take (end + 1) numbers stop 0 (omega arith),
     )
 
-pub replacements_by_start : (old row : List ℕ) {numbers : List ℕ} (least : List ℕ) {end place start : ℕ} → IsSteady numbers → slice_index numbers end ≡ 0
+pub replacements_by_start : (old row : List ℕ) {numbers : List ℕ} (least : List ℕ) {end place start : ℕ} → IsSteady numbers
+    → slice_index numbers end ≡ 0
     → end < length numbers → AreLeastSums (take (end + 1) numbers) 8 least → place ≤ start → start < end
     → slice_index old start ≢ slice_index row start → IsKeptBefore (slice_index numbers place) least place start
     → AreGoodReplacements old row numbers place

@@ -88,7 +88,8 @@ abbrev given_by_copies : ℕ → List ℕ → List ℕ
 given_by_copies k new = flat_map (λ byte. replicate k byte) new
 
 -- the front of a run
-run_part : (wanted : List ℕ) {run len : ℕ} (byte : ℕ) → len ≤ run → take run wanted ≡ replicate run byte → take len wanted ≡ replicate len byte
+run_part : (wanted : List ℕ) {run len : ℕ} (byte : ℕ) → len ≤ run → take run wanted ≡ replicate run byte
+    → take len wanted ≡ replicate len byte
 run_part wanted {run} {len} byte part all = sym (take-take len run wanted part) ∙ ap (take len) all ∙ take-replicate len run byte part
 
 pub first_byte : (wanted : List ℕ) → 0 < length wanted → take 1 wanted ≡ slice_index wanted 0 ∷ []

@@ -52,7 +52,8 @@ pub number_behind : (table : List ℕ) (at number place : ℕ) → at < place �
 number_behind table at number place behind = let other : place ≢ at = omega arith in get_or-set_other table at place number 0 other
 
 -- what is right stays right where a number before it is set
-pub number_stays : {method : Method} {old row table : List ℕ} {at : ℕ} (number : ℕ) {place : ℕ} → at < place → IsPlaceNumber method old row table place
+pub number_stays : {method : Method} {old row table : List ℕ} {at : ℕ} (number : ℕ) {place : ℕ} → at < place
+    → IsPlaceNumber method old row table place
     → IsPlaceNumber method old row (set table at number) place
 number_stays {table} {at} number {place} behind is =
     let here = number_behind table at number place behind in

@@ -36,7 +36,8 @@ pub begun_right : {method : Method} {old row table : List ℕ} {end : ℕ} → I
 begun_right {old} {row} begun q low high =
     number_zero (begun.zeros q low) (ends_on old row begun.first_end.ends low)
 
-pub place_at : {old row first : List ℕ} (table : List ℕ) {end place : ℕ} → IsBegun old row first end → length table ≡ length row + 1 → place < end
+pub place_at : {old row first : List ℕ} (table : List ℕ) {end place : ℕ} → IsBegun old row first end → length table ≡ length row + 1
+    → place < end
     → IsPlace (drop place row) (drop place table)
 place_at {row} table {place} begun size inside = record {
   size = omega (arith, begun.first_end.within, length-drop place row, length-drop place table);
@@ -60,7 +61,8 @@ place_done {old} {row} {first} {table} {place} {sum} begun size inside behind c 
 
 -- ---- method 0
 
-pub plain_place : {old row first : List ℕ} (table : List ℕ) {end place : ℕ} → IsBegun old row first end → length table ≡ length row + 1 → place < end
+pub plain_place : {old row first : List ℕ} (table : List ℕ) {end place : ℕ} → IsBegun old row first end → length table ≡ length row + 1
+    → place < end
     → IsShapeChoice Plain (drop place old) (drop place row) (drop place table) SingleByte (slice_index table (place + 1) + 1)
 plain_place {old} {row} table {place} begun size inside =
     let at : 1 + slice_index (drop place table) 1 ≡ slice_index table (place + 1) + 1 = omega (arith, get_or-drop place table 1 0) in

@@ -41,7 +41,8 @@ record IsLatestStep (old row : List ℕ) (place start len : ℕ) (e : Element) :
   pub leads : Leads Delta old row place e (start + len)
   pub cost_is : cost e ≡ replacement_bytes (start - place) + len
 
-latest_step : {old row : List ℕ} {place start : ℕ} (len : ℕ) → length old ≡ length row → IsLatestStart old row place start → 1 ≤ len → len ≤ 8
+latest_step : {old row : List ℕ} {place start : ℕ} (len : ℕ) → length old ≡ length row → IsLatestStart old row place start → 1 ≤ len
+    → len ≤ 8
     → start + len ≤ length row → (e : Element) × IsLatestStep old row place start len e
 latest_step {old} {row} {place} {start} len size is some few fits =
     let last : ℕ = start - place in

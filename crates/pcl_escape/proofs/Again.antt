@@ -172,7 +172,8 @@ ungrouped_front None bytes n = n
 ungrouped_front (Some group) bytes n = tt
 
 -- a sequence begins with a middle parameter or its last one
-whole_on : (n : ℕ) {prefix : Prefix} (at : ℕ) (middle : List Parameter) {end : Parameter} {sent : List ℕ} (behind : List ℕ) → IsPrefix prefix
+whole_on : (n : ℕ) {prefix : Prefix} (at : ℕ) (middle : List Parameter) {end : Parameter} {sent : List ℕ} (behind : List ℕ)
+    → IsPrefix prefix
     → AllByRecursion (IsMiddle prefix) middle → IsEnd prefix end sent
     → outcome (suc n) None at (27 ∷ (prefix_bytes prefix ++ (sequence_bytes middle end sent ++ behind)))
     ≡ steps_in n prefix at (first_place at prefix) (sequence_bytes middle end sent ++ behind)
@@ -253,7 +254,8 @@ piece_again (text []) (suc n) at bytes is h gives = absurd is
 piece_again (text (byte ∷ more)) (suc n) at bytes is h gives =
     piece_on (text (byte ∷ more)) at (omega arith)
     (text_again is) h gives
-piece_again (two_character byte) (suc n) at bytes is h gives = piece_on (two_character byte) at (omega arith) (two_again at byte bytes is.0 is.1) h gives
+piece_again (two_character byte) (suc n) at bytes is h gives = piece_on (two_character byte) at (omega arith)
+    (two_again at byte bytes is.0 is.1) h gives
 piece_again (combined prefix middle end sent) (suc n) at bytes {read} is h gives =
     let place : at + length (spelling (combined prefix middle end sent)) ≡ first_place at prefix + length
     (sequence_bytes middle end sent) = sym (place_prefixed at prefix (sequence_bytes middle end sent)) in
@@ -312,7 +314,8 @@ pieces_again : (pieces : List Piece) {n : ℕ} (at : ℕ) {behind : List ℕ} {l
     → Last (at + length (flat_map spelling pieces)) behind last
     → length (flat_map spelling pieces ++ behind) < n → outcome n None at (flat_map spelling pieces ++ behind)
     ≡ with_front (commands_of at pieces) last
-pieces_again [] {n} at {behind} {last} each ends h = last_again n at behind last (subst (λ (k : ℕ). Last k behind last) (add-zero at) ends) h
+pieces_again [] {n} at {behind} {last} each ends h = last_again n at behind last
+    (subst (λ (k : ℕ). Last k behind last) (add-zero at) ends) h
     ∙ sym (no_front last)
 pieces_again (piece ∷ pieces) {n} at {behind} {last} each ends h =
     let next = at + length (spelling piece) in

@@ -71,7 +71,11 @@ record IsSignFront (bytes : List ℕ) (parts : Sign × List ℕ) : Type 0 where
 sign_by : {byte : ℕ} {bytes : List ℕ} (plus minus : Bool) → eqb byte 43 ≡ plus → eqb byte 45 ≡ minus
     → IsSignFront (byte ∷ bytes) (sign_at (byte ∷ bytes))
 sign_by {byte} {bytes} true minus p m = rw p (record { joined = ap (λ (b : ℕ). b ∷ bytes) (eqb-true byte 43 p); stops = λ e. absurd cc })
-sign_by {byte} {bytes} false true p m = rw (p, m) (record { joined = ap (λ (b : ℕ). b ∷ bytes) (eqb-true byte 45 m); stops = λ e. absurd cc })
+sign_by {byte} {bytes} false true p m = rw (p, m) (record {
+  joined = ap (λ (b : ℕ). b ∷ bytes)
+      (eqb-true byte 45 m);
+  stops = λ e. absurd cc;
+})
 sign_by false false p m = rw (p, m) (record { joined = refl; stops = λ e. rw (p, m) refl })
 
 -- the sign that is read is the one at the front

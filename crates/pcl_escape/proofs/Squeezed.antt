@@ -40,7 +40,8 @@ squeezed_other : (line : List ℕ) (byte : ℕ) → false ≡ is_blank byte
     → squeezed (line ++ byte ∷ []) ≡ squeezed line ++ to_ascii_uppercase byte ∷ []
 squeezed_other line byte e = squeezed_more line byte ∙ rw (sym e) refl
 
-pub full_step : {front : List ℕ} (line : List ℕ) (byte : ℕ) → front ≡ take 22 (squeezed line) → false ≡ is_blank byte → true ≡ (length front == 22)
+pub full_step : {front : List ℕ} (line : List ℕ) (byte : ℕ) → front ≡ take 22 (squeezed line) → false ≡ is_blank byte
+    → true ≡ (length front == 22)
     → front ≡ take 22 (squeezed (line ++ byte ∷ []))
 full_step {front} line byte so_far e full =
     let long : length (take 22 (squeezed line)) ≡ 22 = ap length (sym so_far) ∙ eqb-true (length front) 22 (sym full) in
@@ -50,7 +51,8 @@ full_step {front} line byte so_far e full =
 has_room : {n m : ℕ} → false ≡ (n == m) → n ≤ m → n < m
 has_room e h = grind (arith, nat_tests)
 
-pub push_step : {front : List ℕ} (line : List ℕ) (byte : ℕ) → front ≡ take 22 (squeezed line) → false ≡ is_blank byte → false ≡ (length front == 22)
+pub push_step : {front : List ℕ} (line : List ℕ) (byte : ℕ) → front ≡ take 22 (squeezed line) → false ≡ is_blank byte
+    → false ≡ (length front == 22)
     → length front ≤ 22 → front ++ to_ascii_uppercase byte ∷ [] ≡ take 22 (squeezed (line ++ byte ∷ []))
 push_step line byte so_far e other within =
     let room = has_room other within in

@@ -251,7 +251,8 @@ start_by : {at byte : ℕ} {rest : List ℕ} (quiet escape code : Bool) → is_s
     escape then sequence_at at rest else (if code then named_at at byte rest else text_at at (byte ∷ rest))))
 unfolding named_at
 start_by {byte} {rest} true escape code s e c = whole_piece (silent byte) rest None s (omega arith) refl
-start_by {at} {byte} {rest} false true code s e c = subst (λ (b : ℕ). Outside at (b ∷ rest) (sequence_at at rest)) (sym (eqb-true byte 27 e))
+start_by {at} {byte} {rest} false true code s e c = subst (λ (b : ℕ). Outside at (b ∷ rest) (sequence_at at rest))
+    (sym (eqb-true byte 27 e))
     (sequence_step rest)
 start_by {byte} false false true s e c = control_named (operation_of (One byte)) refl c s
 start_by false false false s e c = text_run (rw (s, c, e) refl)

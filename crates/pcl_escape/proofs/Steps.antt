@@ -280,7 +280,8 @@ pub last_again : (prefix : Prefix) (at : ℕ) (parameter : Parameter) (bytes res
 last_again prefix at parameter bytes rest m =
     let letter = parameter.letter in
     let l : IsTrue (is_letter prefix letter) = or_left (is_last letter) (may_go_on prefix letter) m.letter in
-    let again = (checks_take (parameter_name prefix letter) letter (field_value parameter.field) m.checks).again (length (bytes ++ rest)) (omega (arith, length-append bytes rest)) in
+    let again = (checks_take (parameter_name prefix letter) letter (field_value parameter.field) m.checks).again (length (bytes ++ rest))
+    (omega (arith, length-append bytes rest)) in
     let stops : goes_on letter ≡ false = last_stops letter m.letter in
     let front : take (length bytes) (bytes ++ rest) ≡ bytes = take_at bytes rest (length bytes) refl in
     let behind : drop (length bytes) (bytes ++ rest) ≡ rest = drop_at bytes rest (length bytes) refl in

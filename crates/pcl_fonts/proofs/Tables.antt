@@ -244,7 +244,8 @@ follows_mark {es} {fs} {id} {code} e f {permanent} m history h = marked permanen
         }
 
 -- what isn't there is left alone
-absent : {A : Type 0} (t : Bool) (x : Option A) {y : Option A} → (t ≡ true → y ≡ None) → (f : Option A → Option A) → f None ≡ None → cond t (f y) y ≡ y
+absent : {A : Type 0} (t : Bool) (x : Option A) {y : Option A} → (t ≡ true → y ≡ None) → (f : Option A → Option A) → f None ≡ None
+    → cond t (f y) y ≡ y
 absent true x none f stays = ap f (none refl) ∙ stays ∙ sym (none refl)
 absent false x none f stays = refl
 

@@ -107,7 +107,8 @@ record IsQuiet (operation : Operation) (value : Value) (s next : Situation) : Ty
   performed : next.performed ≡ s.performed
   pages : next.pages ≡ s.pages
 
-same_quiet : {operation : Operation} {value : Value} {s : Situation} (now : Situation) {next : Situation} → ◌≡◌ {A = Result Situation Kind} (Ok now) (Ok next)
+same_quiet : {operation : Operation} {value : Value} {s : Situation} (now : Situation) {next : Situation}
+    → ◌≡◌ {A = Result Situation Kind} (Ok now) (Ok next)
     → IsQuiet operation value s now → IsQuiet operation value s next
 same_quiet {operation} {value} {s} now {next} e q =
     let same : now ≡ next = cc in subst (λ (z : Situation). IsQuiet operation value s z) same q
@@ -152,7 +153,8 @@ leads_counts dpi (d ∷ deeds) s later a =
 
 -- ---- commands that are deeds
 
-not_refused : (dpi : Dpi) (command : Said) {operation : Operation} (s : Situation) {next : Situation} → operation_of command.name ≡ Some operation
+not_refused : (dpi : Dpi) (command : Said) {operation : Operation} (s : Situation) {next : Situation}
+    → operation_of command.name ≡ Some operation
     → after dpi operation command s ≡ Ok next → page_refusal next ≡ None → s.performed < 100000000 → command_refusal dpi command s ≡ None
 not_refused dpi command s named done fits few =
     let under : nat_le command_limit s.performed ≡ false = grind (arith, nat_tests) in
@@ -195,7 +197,8 @@ command_done {dpi} place command {d} {s} {next} is done fits few none =
 
 -- performing commands that are deeds leads where the deeds do
 pub commands_done : (dpi : Dpi) (f : Said → Run → Situation → Performance) (place : ℕ) (commands : List Said) (deeds : List Deed)
-    (s : Situation) {later : Situation} → AreSaid commands deeds → Leads dpi deeds s later → s.performed + length deeds ≤ 100000000 → s.begun ≡ None
+    (s : Situation) {later : Situation} → AreSaid commands deeds → Leads dpi deeds s later → s.performed + length deeds ≤ 100000000
+    → s.begun ≡ None
     → (in_order (step dpi f) place commands s ≡ done later) × (later.begun ≡ None)
 commands_done dpi f place [] [] s a l few none =
     (ap done (sym l), ap (λ (z : Situation). z.begun) l ∙ none)

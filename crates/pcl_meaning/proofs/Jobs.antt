@@ -168,7 +168,8 @@ pub record AreTextsTaken (dpi : Dpi) (meant : List Sheet) (texts : List ℕ) (fr
   pub same_many : length again ≡ length meant
   pub few : length deeds ≤ 25210 * length meant
 
-rows_dot : {size : Size} {dpi : Dpi} (page : Page) (x : ℕ) {y : ℕ} → page.bitmap.size ≡ size → page.bitmap.dpi ≡ dpi → y < page_height size dpi
+rows_dot : {size : Size} {dpi : Dpi} (page : Page) (x : ℕ) {y : ℕ} → page.bitmap.size ≡ size → page.bitmap.dpi ≡ dpi
+    → y < page_height size dpi
     → dot_of_rows (bitmap_rows page.bitmap) x y ≡ dot page.bitmap x y
 rows_dot {size} {dpi} page x {y} s d below =
     let height : page_height size dpi ≡ page_height page.bitmap.size page.bitmap.dpi =

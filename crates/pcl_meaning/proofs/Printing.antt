@@ -84,7 +84,8 @@ prepared_is dpi true = refl
 prepared_is dpi false = refl
 
 -- a command that sets something between texts
-drawn_between : (dpi : Dpi) (operation : Operation) (value : Value) (t : Settings) {t' : Settings} {effect : Effect} {pages : List Sheet} (n : ℕ)
+drawn_between : (dpi : Dpi) (operation : Operation) (value : Value) (t : Settings) {t' : Settings} {effect : Effect} {pages : List Sheet}
+    (n : ℕ)
     → outcome dpi operation value false t ≡ Some (t', effect) → ejects effect false ≡ false
     → ((s : Situation) → drawn_on dpi operation (said_of (deed operation value [])) s ≡ Ok s)
     → after dpi operation (said_of (deed operation value [])) (between t pages n) ≡ Ok (between t' pages (n + 1))
@@ -100,7 +101,8 @@ drawn_between dpi operation value t {t'} {pages} n o e d =
     (record at { settings = t' }))) e
     ∙ d (between t' pages (n + 1))
 
-set_between : (dpi : Dpi) (operation : Operation) (value : Value) (t : Settings) {t' : Settings} {effect : Effect} {pages : List Sheet} (n : ℕ)
+set_between : (dpi : Dpi) (operation : Operation) (value : Value) (t : Settings) {t' : Settings} {effect : Effect} {pages : List Sheet}
+    (n : ℕ)
     → outcome dpi operation value false t ≡ Some (t', effect) → ejects effect false ≡ false
     → ((s : Situation) → drawn_on dpi operation (said_of (deed operation value [])) s ≡ Ok s)
     → ((s : Situation) → quietly operation value s ≡ Ok s)
@@ -368,7 +370,8 @@ skip_after size dpi t {m} count k seed {marks} {pages} n =
 abbrev sent_mark : Size → Dpi → ℕ → List ℕ → List ℕ → Mark
 sent_mark size dpi k seed row = row_mark row (body_raster size dpi k seed)
 
-row_after : (size : Size) (dpi : Dpi) (t : Settings) {m : Method} (k : ℕ) (seed : List ℕ) {row : List ℕ} (bytes : List ℕ) {marks : List Mark}
+row_after : (size : Size) (dpi : Dpi) (t : Settings) {m : Method} (k : ℕ) (seed : List ℕ) {row : List ℕ} (bytes : List ℕ)
+    {marks : List Mark}
     {pages : List Sheet} (n : ℕ)
     → row_sent m bytes (body_raster size dpi k seed) ≡ row
     → does dpi (deed RasterRow (number_value (length bytes)) bytes) (in_body size dpi t m k seed marks pages n)

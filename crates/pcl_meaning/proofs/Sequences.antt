@@ -361,7 +361,8 @@ page_read : {copies : ℕ} (size : Size) → copies ≤ 65535
 page_read {copies} size le =
     let c = copies_setting le in
     let s = size_setting size in
-    reads_sequence (number_parameter (decimal copies) 120 ∷ number_parameter (decimal (code_of size)) 97 ∷ []) (set_to Copies copies ∷ set_to PageSize (code_of size) ∷ []) (refl, refl)
+    reads_sequence (number_parameter (decimal copies) 120 ∷ number_parameter (decimal (code_of size)) 97 ∷ [])
+    (set_to Copies copies ∷ set_to PageSize (code_of size) ∷ []) (refl, refl)
     (setting_middle refl c, (setting_middle refl s, tt))
     (setting_meant c, (setting_meant s, tt))
     (setting_end refl margin_setting) (setting_meant margin_setting)

@@ -93,7 +93,8 @@ control_by dpi command s false e =
     control_done dpi command (outcome dpi ControlMacros command.value (is_marked before) before.settings) before refl e
     ∙ prepared_pages dpi true (counted s)
 
-control_pages : (dpi : Dpi) (command : Said) (s : Situation) {later : Situation} → after dpi ControlMacros command s ≡ Ok later → later.pages ≡ s.pages
+control_pages : (dpi : Dpi) (command : Said) (s : Situation) {later : Situation} → after dpi ControlMacros command s ≡ Ok later
+    → later.pages ≡ s.pages
 unfolding after
 control_pages dpi command s e = control_by dpi command s (is_ignored ControlMacros s) e
 
@@ -282,7 +283,8 @@ begun_none : (begun : Option Begun) → is_some begun ≡ false → begun ≡ No
 begun_none None e = refl
 begun_none (Some d) e = absurd cc
 
-pub end_acted : {dpi : Dpi} (place : ℕ) {s : Situation} {old : Interpreter} (new : Interpreter) (result : Result (Unit {0}) CallFault) → IsAt dpi s old
+pub end_acted : {dpi : Dpi} (place : ℕ) {s : Situation} {old : Interpreter} (new : Interpreter) (result : Result (Unit {0}) CallFault)
+    → IsAt dpi s old
     → new.performer ≡ old.performer → new.running ≡ old.running → HasEnd place result old.macros new.macros
     → IsActed dpi (acted place (Some End) s) (run_by (Some End)) result old new
 end_acted {dpi} place {s} {old} new (Ok unit) at same run h =
@@ -313,7 +315,8 @@ end_acted place {s} new (Err Memory) at same run h =
     (record s { macros = defined d.0.id d.0.from place ∷ s.macros; begun = None }, ended_is s d.1)
 
 -- a macro begins to run
-pub enter_acted : {dpi : Dpi} (run_after : Situation → Option Run) (run : Option Run) {s : Situation} {old : Interpreter} (new : Interpreter)
+pub enter_acted : {dpi : Dpi} (run_after : Situation → Option Run) (run : Option Run) {s : Situation} {old : Interpreter}
+    (new : Interpreter)
     (result : Result (Unit {0}) CallFault) → IsAt dpi s old → run ≡ run_after s → IsEntered run result old new
     → IsActed dpi (Ok s) run_after result old new
 enter_acted {dpi} run_after run {s} {old} new (Ok unit) at e h = (
@@ -336,14 +339,16 @@ macro_found : {dpi : Dpi} {id : ℕ} {s : Situation} {old : Interpreter} → IsA
 macro_found {id} {s} at i =
     at.macros id ∙ ap (λ (n : ℕ). body_after s.macros n) (i ∙ ap (λ (t : Settings). t.macro_id) at.is_in.settings)
 
-pub execute_acted : {dpi : Dpi} {id : ℕ} {s : Situation} {old : Interpreter} (new : Interpreter) (result : Result (Unit {0}) CallFault) → IsAt dpi s old
+pub execute_acted : {dpi : Dpi} {id : ℕ} {s : Situation} {old : Interpreter} (new : Interpreter) (result : Result (Unit {0}) CallFault)
+    → IsAt dpi s old
     → id ≡ old.performer.environment.macro_id → IsEntered (option_map (run_with None) (macro_at old.macros id)) result old new
     → IsActed dpi (Ok s) (run_by (Some Execute)) result old new
 execute_acted {id} {old} new result at i h =
     enter_acted (run_by (Some Execute)) (option_map (run_with None) (macro_at old.macros id)) new result at
     (ap (λ (o : Option MacroBody). option_map (run_with None) o) (macro_found at i)) h
 
-pub call_acted : {dpi : Dpi} {id : ℕ} {saved : Settings} {s : Situation} {old : Interpreter} (new : Interpreter) (result : Result (Unit {0}) CallFault)
+pub call_acted : {dpi : Dpi} {id : ℕ} {saved : Settings} {s : Situation} {old : Interpreter} (new : Interpreter)
+    (result : Result (Unit {0}) CallFault)
     → IsAt dpi s old → id ≡ old.performer.environment.macro_id → saved ≡ kept old.performer.environment
     → IsEntered (option_map (run_with (Some saved)) (macro_at old.macros id)) result old new
     → IsActed dpi (Ok s) (run_by (Some Call)) result old new

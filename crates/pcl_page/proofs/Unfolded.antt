@@ -97,7 +97,8 @@ begun_refused dpi all place command running {s} e =
     ap (λ (p : Performance). then_on p (resumed macro_limit dpi all running))
     (stepped dpi (runs (macro_limit - length running) dpi all) place command s e)
 
-begun_run : (dpi : Dpi) (all : List Said) (place : ℕ) (command : Said) (running : List Running) (s : Situation) {later : Situation} {run : Option Run}
+begun_run : (dpi : Dpi) (all : List Said) (place : ℕ) (command : Said) (running : List Running) (s : Situation) {later : Situation}
+    {run : Option Run}
     → after_command dpi place command s ≡ Ok later → run_of command s later ≡ run
     → begun_among dpi all place command running s
     ≡ then_on (and_run (runs (macro_limit - length running) dpi all command) run later) (resumed macro_limit dpi all running)
@@ -107,7 +108,8 @@ begun_run dpi all place command running s {later} e r =
     ∙ ap (λ (o : Option Run). then_on (and_run (f command) o later) (resumed macro_limit dpi all running)) r
 
 -- one that would run a macro too deep
-pub begun_deep : (dpi : Dpi) (all : List Said) (place : ℕ) (command : Said) (running : List Running) (s : Situation) {later : Situation} {run : Run}
+pub begun_deep : (dpi : Dpi) (all : List Said) (place : ℕ) (command : Said) (running : List Running) (s : Situation) {later : Situation}
+    {run : Run}
     → after_command dpi place command s ≡ Ok later → run_of command s later ≡ Some run → length running ≡ 3
     → begun_among dpi all place command running s ≡ stopped MacroDepth command later
 begun_deep dpi all place command running s {later} {run} e r full =

@@ -189,7 +189,8 @@ walk_from {width} {rows} {number} {row} is current false =
 -- ---- a white row may be left out
 
 -- the rest of skippable rows is skippable
-skippable_rest : (rows : List (List ℕ)) (row : ℕ) {count : ℕ} → AreSkippable rows row (suc (suc count)) → AreSkippable rows (row + 1) (suc count)
+skippable_rest : (rows : List (List ℕ)) (row : ℕ) {count : ℕ} → AreSkippable rows row (suc (suc count))
+    → AreSkippable rows (row + 1) (suc count)
 skippable_rest rows row {count} can =
     let first : drop row rows ≡ row_at rows row ∷ drop (row + 1) rows = drop_more rows row [] (omega (arith, can.1)) in
     let white : AreWhite (take (suc (suc count)) (row_at rows row ∷ drop (row + 1) rows)) = subst

@@ -41,7 +41,8 @@ rest_is : {width : ℕ} {rows : List (List ℕ)} {table : List RowNumbers} {row 
     → IsRightTable width rows table → row ≤ length rows
     → (is_open ≡ true → 0 < outside (node_number table) row current) → (is_open ≡ false → outside (node_number table) row current ≡ 0)
     → rest (node_number table) row current ≡ node_number table (node row current is_open)
-rest_is {width} {rows} {table} {row} current true is within some none = omega (arith, opens width rows table row current is within (some refl))
+rest_is {width} {rows} {table} {row} current true is within some none = omega
+    (arith, opens width rows table row current is within (some refl))
 rest_is current false is within some none = omega (arith, none refl)
 
 -- ---- the token of a step

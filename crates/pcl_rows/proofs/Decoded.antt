@@ -169,7 +169,8 @@ pub data FarCut (offset full last count : ℕ) (rest : List ℕ) : Type 0 where
   gives_some : further offset count rest ≡ record { offset = offset + 255 * full + last; given = drop (full + 1) rest; rest = [] }
       → FarCut offset full last count rest
 
-far_cut : (full offset : ℕ) {last : ℕ} (count : ℕ) (rest missing padding : List ℕ) → last < 255 → length padding ≡ count → 0 < length missing
+far_cut : (full offset : ℕ) {last : ℕ} (count : ℕ) (rest missing padding : List ℕ) → last < 255 → length padding ≡ count
+    → 0 < length missing
     → rest ++ missing ≡ (replicate full 255 ++ last ∷ []) ++ padding → FarCut offset full last count rest
 far_cut full offset count [] missing padding lt n some e = gives_none refl refl (drop-nil (full + 1))
 far_cut zero offset {last} count (byte ∷ rest) missing padding lt n some e =

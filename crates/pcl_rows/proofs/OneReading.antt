@@ -11,7 +11,8 @@ use Rattle.pcl_rows.proofs.Spellings.{same_elements, cut_is_not_whole, same_head
 use Rattle.pcl_rows.proofs.Readings.{after_none}
 
 -- bytes that hold the whole head of a cut element
-with_head : (d : Element) {shown : List ℕ} (missing : List ℕ) → shown ++ missing ≡ element_bytes d → length (head_bytes d.head) ≤ length shown
+with_head : (d : Element) {shown : List ℕ} (missing : List ℕ) → shown ++ missing ≡ element_bytes d
+    → length (head_bytes d.head) ≤ length shown
     → (tail : List ℕ) × (shown ≡ head_bytes d.head ++ tail)
 with_head d {shown} missing lacking long =
     let n : ℕ = length (head_bytes d.head) in
@@ -58,7 +59,8 @@ one_is_longer {e} es missing rest p q m some same =
     (same ∙ append_assoc (element_bytes e) (flat_map element_bytes es) rest)
 
 -- two readings treat a row alike
-readings_agree : (method : Method) (bytes : List ℕ) (whole whole' : List Element) {cut cut' : Element} {shown shown' : List ℕ} (old : List ℕ)
+readings_agree : (method : Method) (bytes : List ℕ) (whole whole' : List Element) {cut cut' : Element} {shown shown' : List ℕ}
+    (old : List ℕ)
     → IsCutIntoElements method bytes whole cut shown → IsCutIntoElements method bytes whole' cut' shown'
     → treated whole cut shown old ≡ treated whole' cut' shown' old
 readings_agree method bytes [] [] {cut'} {shown} {shown'} old r r' =

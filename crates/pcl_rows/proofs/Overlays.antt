@@ -41,7 +41,8 @@ pub overlaid-nil : (old : List ℕ) (place : ℕ) → place ≤ length old → o
 overlaid-nil old place within = overlaid_within old place [] (omega arith) ∙ (rw add-zero (take-append-drop place old))
 
 -- copies that are cut at the end of the list
-pub overlaid_copies : (old : List ℕ) {place : ℕ} (copies : ℕ) {fitting : ℕ} (byte : ℕ) → place ≤ length old → fitting ≡ min copies (length old - place)
+pub overlaid_copies : (old : List ℕ) {place : ℕ} (copies : ℕ) {fitting : ℕ} (byte : ℕ) → place ≤ length old
+    → fitting ≡ min copies (length old - place)
     → overlaid old place (replicate copies byte) ≡ take place old ++ (replicate fitting byte ++ drop (place + fitting) old)
 overlaid_copies old {place} copies {fitting} byte within e =
     elim (cases_lt (length old) (place + copies)) [
@@ -152,7 +153,8 @@ copied_more copies {i} bytes within =
     ∙ ap (λ (bs : List ℕ). copied copies i bytes ++ bs) (append-nil (replicate copies (get_or bytes i 0)))
 
 -- one more byte
-pub put_more : (old : List ℕ) {row : List ℕ} {start place : ℕ} (copies : ℕ) {i : ℕ} (bytes : List ℕ) {new : List ℕ} {end : ℕ} → start ≤ length old → i < length bytes
+pub put_more : (old : List ℕ) {row : List ℕ} {start place : ℕ} (copies : ℕ) {i : ℕ} (bytes : List ℕ) {new : List ℕ} {end : ℕ}
+    → start ≤ length old → i < length bytes
     → row ≡ overlaid old start (copied copies i bytes) → place ≡ min (length old) (start + length (copied copies i bytes))
     → new ≡ overlaid row place (replicate copies (get_or bytes i 0)) → end ≡ min (length row) (place + copies)
     → (new ≡ overlaid old start (copied copies (i + 1) bytes)) × (end ≡ min (length old) (start + length (copied copies (i + 1) bytes)))

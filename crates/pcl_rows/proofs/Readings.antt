@@ -168,7 +168,8 @@ pub treated_more : {method : Method} {bytes old rest : List ℕ} (row : List ℕ
     → row' ≡ overlaid row start (flat_map (λ byte. replicate copies byte) new)
     → place' ≡ min (length row) (start + length (flat_map (λ byte. replicate copies byte) new))
     → IsTreatedTo method bytes old rest row place → IsTreatedTo method bytes old rest' row' place'
-treated_more {method} {old} {rest} row {place} {start} {offset} {copies} {new} {rest'} {whole} {row'} {place'} size within start-is front row-is place-is
+treated_more {method} {old} {rest} row {place} {start} {offset} {copies} {new} {rest'} {whole} {row'}
+    {place'} size within start-is front row-is place-is
     so_far made f =
     let n : ℕ = length old in
     let h : Head = front.head in

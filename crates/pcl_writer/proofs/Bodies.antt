@@ -36,7 +36,8 @@ use Rattle.pcl_writer.specs.Steps.{width_of, above, IsBitmapPlan, IsWritable, Ha
 pub front_is : {old new : List ℕ} (more : List ℕ) → new ≡ old ++ more → take (length old) new ≡ old
 front_is {old} more e = ap (take (length old)) e ∙ take_at old more (length old) refl
 
-pub page_joined : (old : List ℕ) {one two three : List ℕ} (start body tail : List ℕ) → one ≡ old ++ start → two ≡ one ++ body → three ≡ two ++ tail → three
+pub page_joined : (old : List ℕ) {one two three : List ℕ} (start body tail : List ℕ) → one ≡ old ++ start → two ≡ one ++ body
+    → three ≡ two ++ tail → three
     ≡ old ++ (start ++ body ++ tail)
 page_joined old start body tail a b c =
     c ∙ ap (λ (t : List ℕ). t ++ tail) (b ∙ ap (λ (t : List ℕ). t ++ body) a) ∙ simp append_assoc

@@ -43,7 +43,8 @@ loop-place-2-preserved c =
     record {
       size = length-set out place 0 ∙ c.loop-place-2.invariant.size;
       same = number_more (numbers_from count bytes) out
-          (omega (arith, c.loop-place-2-test.true, c.loop-place.invariant.size, c.loop-place-2.invariant.size)) c.loop-place-2.invariant.same
+          (omega (arith, c.loop-place-2-test.true, c.loop-place.invariant.size, c.loop-place-2.invariant.size))
+          c.loop-place-2.invariant.same
           (sym (get_or_past (numbers_from count bytes) place 0 (omega (arith, length_numbers count bytes, past))));
     }
 
@@ -54,4 +55,5 @@ returns c =
     let n : ℕ = length c.args.out.now in
     let list : List ℕ = numbers_from (length bytes / 2) bytes in
     ext_get_or 0 out (table_of n list) (c.loop-place-2.invariant.size ∙ sym (table_length n list)) (λ k lt.
-    c.loop-place-2.invariant.same k (omega (arith, c.loop-place-2-test.false)) ∙ sym (table_number list (omega (arith, c.loop-place-2.invariant.size))))
+    c.loop-place-2.invariant.same k (omega (arith, c.loop-place-2-test.false))
+    ∙ sym (table_number list (omega (arith, c.loop-place-2.invariant.size))))

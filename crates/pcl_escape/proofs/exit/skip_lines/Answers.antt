@@ -57,4 +57,5 @@ loop-line-preserved c =
     }
 
 pub returns : goal.returns
-returns c = sym c.loop-line.invariant.same ∙ at_other_bytes (c.args.place + (length c.args.bytes.now - length c.loop-line.rest.now)) c.loop-line-test.ensures.value
+returns c = sym c.loop-line.invariant.same ∙ at_other_bytes (c.args.place + (length c.args.bytes.now - length c.loop-line.rest.now))
+    c.loop-line-test.ensures.value

@@ -15,7 +15,8 @@ append_row-requires-clause-row c =
     let w = subst (IsWritable picture c.args.row c.args.method) c.in-Row.is c.requires in
     omega (arith, w.0, length_rows (page_height picture.size picture.dpi) (width_of picture) picture.bytes)
 
-setting_is : (old : List ℕ) {new : List ℕ} (tail : List ℕ) {number same : ℕ} → new ≡ old ++ (least_spelling number ++ tail) → number ≡ same → new
+setting_is : (old : List ℕ) {new : List ℕ} (tail : List ℕ) {number same : ℕ} → new ≡ old ++ (least_spelling number ++ tail) → number ≡ same
+    → new
     ≡ old ++ (least_spelling same ++ tail)
 setting_is old tail e n = e ∙ ap (λ (m : ℕ). old ++ (least_spelling m ++ tail)) n
 
