@@ -43,43 +43,42 @@ proved_length dpi (sheet ∷ sheets) texts (proof ∷ proofs) p =
 
 -- ---- texts that are cut at the same place
 
-cut_same : (a b c d : List ℕ) → length a ≡ length c → a ++ b ≡ c ++ d → (a ≡ c) × (b ≡ d)
-cut_same [] b [] d n e = (refl, e)
-cut_same [] b (y ∷ c) d n e = absurd (omega arith)
-cut_same (x ∷ a) b [] d n e = absurd (omega arith)
-cut_same (x ∷ a) b (y ∷ c) d n e =
+cut_same : (a : List ℕ) {b : List ℕ} (c : List ℕ) {d : List ℕ} → length a ≡ length c → a ++ b ≡ c ++ d → (a ≡ c) × (b ≡ d)
+cut_same [] {b} [] {d} n e = (refl, e)
+cut_same [] {b} (y ∷ c) {d} n e = absurd (omega arith)
+cut_same (x ∷ a) {b} [] {d} n e = absurd (omega arith)
+cut_same (x ∷ a) {b} (y ∷ c) {d} n e =
     let heads : x ≡ y = cc in
     let tails : a ++ b ≡ c ++ d = cc in
-    let rest = cut_same a b c d (omega (arith, n)) tails in
+    let rest = cut_same a c (omega (arith, n)) tails in
     (ap (λ (z : ℕ). z ∷ a) heads ∙ ap (λ (l : List ℕ). y ∷ l) rest.0, rest.1)
 
 -- what stands behind pages and texts that are proved
-proved_behind : (dpi : Dpi) (before : List Sheet) (sheet : Sheet) (behind : List Sheet) (proofs_before : List PageProof) (proof : PageProof)
-    (proofs_behind : List PageProof) (texts texts_before rest : List ℕ) → AreProved dpi before texts_before proofs_before
+proved_behind : {dpi : Dpi} (before : List Sheet) {sheet : Sheet} (behind : List Sheet) (proofs_before : List PageProof) (proof : PageProof)
+    (proofs_behind : List PageProof) {texts : List ℕ} (texts_before : List ℕ) {rest : List ℕ} → AreProved dpi before texts_before proofs_before
     → texts ≡ texts_before ++ rest → AreProved dpi (before ++ sheet ∷ behind) texts (proofs_before ++ proof ∷ proofs_behind)
     → AreProved dpi (sheet ∷ behind) rest (proof ∷ proofs_behind)
-proved_behind dpi [] sheet behind [] proof proofs_behind texts texts_before rest none e p =
+proved_behind {dpi} [] {sheet} behind [] proof proofs_behind {texts} texts_before {rest} none e p =
     subst (λ (t : List ℕ). AreProved dpi (sheet ∷ behind) t (proof ∷ proofs_behind))
     (e ∙ ap (λ (t : List ℕ). t ++ rest) none) p
-proved_behind dpi [] sheet behind (one ∷ proofs_before) proof proofs_behind texts texts_before rest none e p = absurd none
-proved_behind dpi (first ∷ before) sheet behind [] proof proofs_behind texts texts_before rest none e p = absurd none
-proved_behind dpi (first ∷ before) sheet behind (one ∷ proofs_before) proof proofs_behind texts texts_before rest b e p =
+proved_behind {dpi} [] {sheet} behind (one ∷ proofs_before) proof proofs_behind {texts} texts_before {rest} none e p = absurd none
+proved_behind {dpi} (first ∷ before) {sheet} behind [] proof proofs_behind {texts} texts_before {rest} none e p = absurd none
+proved_behind {dpi} (first ∷ before) {sheet} behind (one ∷ proofs_before) proof proofs_behind {texts} texts_before {rest} b e p =
     let whole : p.1 ++ p.2 ≡ b.1 ++ (b.2 ++ rest) =
     sym p.4 ∙ e ∙ ap (λ (t : List ℕ). t ++ rest) b.4 ∙ append_assoc b.1 b.2 rest in
-    let cut = cut_same p.1 p.2 b.1 (b.2 ++ rest) (p.5 ∙ sym b.5) whole in
-    proved_behind dpi before sheet behind proofs_before proof proofs_behind p.2 b.2 rest b.7 cut.1 p.7
+    let cut = cut_same p.1 b.1 (p.5 ∙ sym b.5) whole in
+    proved_behind before behind proofs_before proof proofs_behind b.2 b.7 cut.1 p.7
 
-pub none_fails : (dpi : Dpi) (pages : List Sheet) (texts : List ℕ) (proofs : List PageProof) (number : ℕ) (verdict : Verdict)
+pub none_fails : {dpi : Dpi} {pages : List Sheet} {texts : List ℕ} {proofs : List PageProof} {number : ℕ} {verdict : Verdict}
     → AreProved dpi pages texts proofs → IsFirstFailure dpi pages texts proofs number verdict → ⊥
-none_fails dpi pages texts proofs number verdict p f =
+none_fails {dpi} {pages} {texts} {proofs} {number} {verdict} p f =
     let whole : AreProved dpi (f.pages_before ++ f.sheet ∷ f.pages_behind) texts (f.proofs_before ++ f.proof ∷ f.proofs_behind) =
     subst (λ (ps : List PageProof). AreProved dpi (f.pages_before ++ f.sheet ∷ f.pages_behind) texts ps) f.proofs_are
     (subst (λ (ss : List Sheet). AreProved dpi ss texts proofs) f.pages_are p) in
-    let here = proved_behind dpi f.pages_before f.sheet f.pages_behind f.proofs_before f.proof f.proofs_behind texts f.texts_before
-    (f.text ++ f.texts_behind) f.proved_before f.texts_are whole in
-    let cut = cut_same f.text f.texts_behind here.1 here.2 (f.as_long ∙ sym here.5) here.4 in
+    let here = proved_behind f.pages_before f.pages_behind f.proofs_before f.proof f.proofs_behind f.texts_before f.proved_before f.texts_are whole in
+    let cut = cut_same f.text here.1 (f.as_long ∙ sym here.5) here.4 in
     f.not_proved
-    (verdict_again here.0 f.page f.text f.proof.table (tables_of f.proof.places) verdict
+    (verdict_again f.proof.table (tables_of f.proof.places) verdict
     (pages_same dpi here.0 f.page f.sheet here.3 f.shows)
     (subst (λ (t : List ℕ). IsVerdict here.0 t f.proof.table (tables_of f.proof.places) Proved) (sym cut.0) here.6) f.verdict_is)
 
@@ -94,9 +93,9 @@ again dpi input output certificate i = ap (certificate_at dpi) i.certificate_is 
 abbrev pub OnePages : Type 0
 OnePages = (dpi : Dpi) (input : List ℕ) (pages others : List Sheet) → HasPages dpi input pages → HasPages dpi input others → pages ≡ others
 
-compared_same : OnePages → (dpi : Dpi) (input output certificate : List ℕ) (i : IsCertifiedBy dpi input output certificate)
+compared_same : OnePages → {dpi : Dpi} {input output certificate : List ℕ} (i : IsCertifiedBy dpi input output certificate)
     (compared : AreCompared dpi input certificate) → AreProved dpi compared.pages i.texts compared.proofs
-compared_same one dpi input output certificate i compared =
+compared_same one {dpi} {input} {output} {certificate} i compared =
     let read : (i.format, i.proofs) ≡ (compared.format, compared.proofs) =
     let both : Ok (i.format, i.proofs) ≡ Ok (compared.format, compared.proofs) = sym (again dpi input output certificate i)
     ∙ compared.certified in cc in
@@ -105,45 +104,45 @@ compared_same one dpi input output certificate i compared =
     (subst (λ (ss : List Sheet). AreProved dpi ss i.texts i.proofs) (one dpi input i.pages compared.pages i.meaning compared.meaning)
     i.proved)
 
-texts_same : (output texts others : List ℕ) → output ≡ frame_bytes ++ texts ++ frame_bytes → output ≡ frame_bytes ++ others ++ frame_bytes
+texts_same : {output texts others : List ℕ} → output ≡ frame_bytes ++ texts ++ frame_bytes → output ≡ frame_bytes ++ others ++ frame_bytes
     → texts ≡ others
-texts_same output texts others e f =
+texts_same {output} {texts} {others} e f =
     append_cancel_right texts others frame_bytes
     (append_cancel_left frame_bytes (texts ++ frame_bytes) (others ++ frame_bytes) (sym e ∙ f))
 
-no_fault : (read : Result (Format × List PageProof) CertFault) (found : Format × List PageProof) (fault : CertFault) → read ≡ Ok found
+no_fault : {read : Result (Format × List PageProof) CertFault} {found : Format × List PageProof} {fault : CertFault} → read ≡ Ok found
     → read ≡ Err fault → ⊥
-no_fault read found fault e f = let both : Ok found ≡ Err fault = sym e ∙ f in cc
+no_fault {read} {found} {fault} e f = let both : Ok found ≡ Err fault = sym e ∙ f in cc
 
 -- the certificate is one
-fault_refused : (dpi : Dpi) (input output certificate : List ℕ) (fault : CertFault) → IsCertifiedBy dpi input output certificate
+fault_refused : {dpi : Dpi} {input output certificate : List ℕ} {fault : CertFault} → IsCertifiedBy dpi input output certificate
     → certificate_at dpi certificate ≡ Err fault → job.Certificate fault ≡ job.Proved
-fault_refused dpi input output certificate fault i e =
-    absurd (no_fault (certificate_at dpi certificate) (i.format, i.proofs) fault (again dpi input output certificate i) e)
+fault_refused {dpi} {input} {output} {certificate} {fault} i e =
+    absurd (no_fault (again dpi input output certificate i) e)
 
 pub certified_proved : OnePages → (dpi : Dpi) (input output certificate : List ℕ) (verdict : JobVerdict)
     → IsCertifiedBy dpi input output certificate → IsJobVerdict dpi input output certificate verdict → verdict ≡ job.Proved
-certified_proved one dpi input output certificate (job.Certificate BadMagic) i v = fault_refused dpi input output certificate BadMagic i v.2
-certified_proved one dpi input output certificate (job.Certificate Short) i v = fault_refused dpi input output certificate Short i v.2
-certified_proved one dpi input output certificate (job.Certificate Extra) i v = fault_refused dpi input output certificate Extra i v.2
-certified_proved one dpi input output certificate (job.Certificate Rows) i v = fault_refused dpi input output certificate Rows i v.2
-certified_proved one dpi input output certificate (job.Certificate Places) i v = fault_refused dpi input output certificate Places i v.2
+certified_proved one dpi input output certificate (job.Certificate BadMagic) i v = fault_refused i v.2
+certified_proved one dpi input output certificate (job.Certificate Short) i v = fault_refused i v.2
+certified_proved one dpi input output certificate (job.Certificate Extra) i v = fault_refused i v.2
+certified_proved one dpi input output certificate (job.Certificate Rows) i v = fault_refused i v.2
+certified_proved one dpi input output certificate (job.Certificate Places) i v = fault_refused i v.2
 certified_proved one dpi input output certificate (job.Certificate Memory) i v = absurd v
 certified_proved one dpi input output certificate job.PageCount i v =
-    absurd (v.1 (proved_count dpi v.0.pages i.texts v.0.proofs (compared_same one dpi input output certificate i v.0)))
+    absurd (v.1 (proved_count dpi v.0.pages i.texts v.0.proofs (compared_same one i v.0)))
 certified_proved one dpi input output certificate job.Frame i v =
-    let p = compared_same one dpi input output certificate i v.0 in
+    let p = compared_same one i v.0 in
     absurd (v.2 i.texts (record { spelled = i.spelled; as_long = proved_length dpi v.0.pages i.texts v.0.proofs p }))
 certified_proved one dpi input output certificate (job.Page number verdict) i v =
-    let p = compared_same one dpi input output certificate i v.0 in
-    let same = texts_same output i.texts v.2 i.spelled v.3.spelled in
-    absurd (none_fails dpi v.0.pages v.2 v.0.proofs number verdict
+    let p = compared_same one i v.0 in
+    let same = texts_same i.spelled v.3.spelled in
+    absurd (none_fails
     (subst (λ (t : List ℕ). AreProved dpi v.0.pages t v.0.proofs) same p) v.4)
 certified_proved one dpi input output certificate job.Proved i v = refl
 
-pub written_certified : (dpi : Dpi) (format : Format) (input output certificate : List ℕ)
+pub written_certified : {dpi : Dpi} {format : Format} {input output certificate : List ℕ}
     → IsCertifiedJobOf dpi format input output certificate → IsCertifiedBy dpi input output certificate
-written_certified dpi format input output certificate w = record {
+written_certified {dpi} {format} {input} {output} {certificate} w = record {
   pages = w.written.pages;
   meaning = w.written.meaning;
   texts = w.written.texts;

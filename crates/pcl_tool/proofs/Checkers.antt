@@ -35,9 +35,9 @@ wrong_stays job.PageCount proof old new page wrong f = f
 wrong_stays job.Frame proof old new page wrong f = f
 
 -- the proofs that are left behind the next one
-next_left : (k : ℕ) (all : List PageProof) (proof : PageProof) (later : List PageProof) → drop k all ≡ proof ∷ later
+next_left : (k : ℕ) (all : List PageProof) {proof : PageProof} {later : List PageProof} → drop k all ≡ proof ∷ later
     → drop (k + 1) all ≡ later
-next_left k all proof later e =
+next_left k all {proof} {later} e =
     sym (drop-drop 1 k all) ∙ ap (drop 1) e
 
 -- a page that takes a proof
@@ -52,7 +52,7 @@ step proof later old new page e t =
     let next = subst (λ (proofs : List PageProof). TakesNext proofs old page new) e t in
     record {
       left = ap (λ (k : ℕ). drop k new.proofs.now) next.1 ∙ ap (λ (ps : List PageProof). drop (old.taken + 1) ps) next.0
-          ∙ next_left old.taken old.proofs.now proof later e;
+          ∙ next_left old.taken old.proofs.now e;
       taken = next.1;
       finds = next.2;
     }
@@ -167,14 +167,14 @@ Follows dpi sheets texts proofs taken old new =
     (old.found ≡ job.Proved) → (old.taken ≡ taken) → AreLeft texts proofs old → length sheets ≡ length proofs
     → Hands takes dpi sheets old new → (proofs_left new ≡ []) × IsOutcome dpi sheets texts proofs taken new.found
 
-at_page : (dpi : Dpi) (sheet : Sheet) (sheets : List Sheet) (texts : List ℕ) (proof : PageProof) (proofs : List PageProof) (taken : ℕ)
-    (page : Page) (middle new : Checker) (found : JobVerdict) → found ≡ middle.found
+at_page : {dpi : Dpi} {sheet : Sheet} (sheets : List Sheet) (texts : List ℕ) (proof : PageProof) {proofs : List PageProof} (taken : ℕ)
+    {page : Page} {middle : Checker} (new : Checker) (found : JobVerdict) → found ≡ middle.found
     → IsFound page (take proof.text_len texts) proof (taken + 1) found
     → Shows dpi page sheet → proofs_left middle ≡ proofs → middle.taken ≡ taken + 1 → middle.texts.now ≡ drop proof.text_len texts
     → length texts ≡ proof.text_len + text_bytes proofs → length sheets ≡ length proofs → Hands takes dpi sheets middle new
     → ((rest : List ℕ) → Follows dpi sheets rest proofs (taken + 1) middle new)
     → (proofs_left new ≡ []) × IsOutcome dpi (sheet ∷ sheets) texts (proof ∷ proofs) taken new.found
-at_page dpi sheet sheets texts proof proofs taken page middle new job.Proved f is shows e n t long same h follows =
+at_page {dpi} {sheet} sheets texts proof {proofs} taken {page} {middle} new job.Proved f is shows e n t long same h follows =
     let text = take proof.text_len texts in
     let rest = drop proof.text_len texts in
     let room : proof.text_len ≤ length texts = omega (arith, long) in
@@ -185,7 +185,7 @@ at_page dpi sheet sheets texts proof proofs taken page middle new job.Proved f i
       o.0,
       behind dpi sheet sheets texts text rest proof proofs taken new.found proved (sym (take-append-drop proof.text_len texts)) o.1,
     )
-at_page dpi sheet sheets texts proof proofs taken page middle new (job.Page place verdict) f is shows e n t long same h follows =
+at_page {dpi} {sheet} sheets texts proof {proofs} taken {page} {middle} new (job.Page place verdict) f is shows e n t long same h follows =
     let text = take proof.text_len texts in
     let rest = drop proof.text_len texts in
     let room : proof.text_len ≤ length texts = omega (arith, long) in
@@ -218,28 +218,28 @@ at_page dpi sheet sheets texts proof proofs taken page middle new (job.Page plac
         },
       ),
     )
-at_page dpi sheet sheets texts proof proofs taken page middle new (job.Certificate fault) f is shows e n t long same h follows = absurd is
-at_page dpi sheet sheets texts proof proofs taken page middle new job.PageCount f is shows e n t long same h follows = absurd is
-at_page dpi sheet sheets texts proof proofs taken page middle new job.Frame f is shows e n t long same h follows = absurd is
+at_page {dpi} {sheet} sheets texts proof {proofs} taken {page} {middle} new (job.Certificate fault) f is shows e n t long same h follows = absurd is
+at_page {dpi} {sheet} sheets texts proof {proofs} taken {page} {middle} new job.PageCount f is shows e n t long same h follows = absurd is
+at_page {dpi} {sheet} sheets texts proof {proofs} taken {page} {middle} new job.Frame f is shows e n t long same h follows = absurd is
 
 empty_texts : (texts : List ℕ) → length texts ≡ 0 → texts ≡ []
 empty_texts [] e = refl
 empty_texts (byte ∷ texts) e = absurd (omega arith)
 
-pub outcome : (dpi : Dpi) (sheets : List Sheet) (texts : List ℕ) (proofs : List PageProof) (taken : ℕ) (old new : Checker)
+pub outcome : (dpi : Dpi) (sheets : List Sheet) {texts : List ℕ} (proofs : List PageProof) {taken : ℕ} {old : Checker} (new : Checker)
     → Follows dpi sheets texts proofs taken old new
-outcome dpi [] texts [] taken old new = λ f n left same h. (
+outcome dpi [] {texts} [] {taken} {old} new = λ f n left same h. (
   ap proofs_left h ∙ left.proofs_are,
   subst (IsOutcome dpi [] texts [] taken) (sym (ap (λ (c : Checker). c.found) h ∙ f)) (empty_texts texts left.as_long),
 )
-outcome dpi [] texts (proof ∷ proofs) taken old new = λ f n left same h. absurd (omega (arith, same))
-outcome dpi (sheet ∷ sheets) texts [] taken old new = λ f n left same h. absurd (omega (arith, same))
-outcome dpi (sheet ∷ sheets) texts (proof ∷ proofs) taken old new = λ f n left same h.
+outcome dpi [] {texts} (proof ∷ proofs) {taken} {old} new = λ f n left same h. absurd (omega (arith, same))
+outcome dpi (sheet ∷ sheets) {texts} [] {taken} {old} new = λ f n left same h. absurd (omega (arith, same))
+outcome dpi (sheet ∷ sheets) {texts} (proof ∷ proofs) {taken} {old} new = λ f n left same h.
     let t = step proof proofs old h.1 h.0 left.proofs_are h.3 in
     let next = subst (λ (v : JobVerdict). FindsNext v proof old h.0 h.1) f t.finds in
     let found : IsFound h.0 (take proof.text_len texts) proof (taken + 1) h.1.found =
     subst (λ (ts : List ℕ). IsFound h.0 (take proof.text_len ts) proof (taken + 1) h.1.found) left.texts_are
     (subst (λ (k : ℕ). IsFound h.0 (take proof.text_len old.texts.now) proof (k + 1) h.1.found) n next.1) in
-    at_page dpi sheet sheets texts proof proofs taken h.0 h.1 new h.1.found refl found h.2 t.left (t.taken ∙ ap (λ (k : ℕ). k + 1) n)
+    at_page sheets texts proof taken new h.1.found refl found h.2 t.left (t.taken ∙ ap (λ (k : ℕ). k + 1) n)
     (next.0 ∙ ap (drop proof.text_len) left.texts_are) left.as_long (omega (arith, same)) h.4
-    (λ rest. outcome dpi sheets rest proofs (taken + 1) h.1 new)
+    (λ rest. outcome dpi sheets proofs new)

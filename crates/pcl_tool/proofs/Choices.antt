@@ -45,23 +45,23 @@ later : (dpi : Dpi) (sheet : Sheet) (sheets : List Sheet) (place : ℕ) (kept : 
 later dpi sheet sheets place None k = omega arith
 later dpi sheet sheets place (Some picture) k = record { sheet = k.sheet; chosen = k.chosen; page = k.page; shows = k.shows; same = k.same }
 
-pub keeps_chosen : (dpi : Dpi) (sheets : List Sheet) (place : ℕ) (old new : Chosen) → old.skip ≡ Some place → old.kept ≡ None
+pub keeps_chosen : (dpi : Dpi) (sheets : List Sheet) (place : ℕ) {old : Chosen} (new : Chosen) → old.skip ≡ Some place → old.kept ≡ None
     → Hands takes dpi sheets old new → Keeps dpi sheets place new.kept
-keeps_chosen dpi [] place old new s k h = subst (Keeps dpi [] place) (sym (ap (λ (c : Chosen). c.kept) h ∙ k)) (omega arith)
-keeps_chosen dpi (sheet ∷ sheets) zero old new s k h =
+keeps_chosen dpi [] place {old} new s k h = subst (Keeps dpi [] place) (sym (ap (λ (c : Chosen). c.kept) h ∙ k)) (omega arith)
+keeps_chosen dpi (sheet ∷ sheets) zero {old} new s k h =
     let mid_is : h.1 ≡ record { skip = None; kept = Some h.0.bitmap } =
     h.3 ∙ ap (λ (skip : Option ℕ). chosen_after skip old h.0.bitmap) s in
     let new_is : new ≡ record { skip = None; kept = Some h.0.bitmap } =
     stays dpi sheets h.1 new (ap (λ (c : Chosen). c.skip) mid_is) h.4 ∙ mid_is in
     subst (Keeps dpi (sheet ∷ sheets) 0) (sym (ap (λ (c : Chosen). c.kept) new_is))
     (record { sheet = sheet; chosen = refl; page = h.0; shows = h.2; same = refl })
-keeps_chosen dpi (sheet ∷ sheets) (suc place) old new s k h =
+keeps_chosen dpi (sheet ∷ sheets) (suc place) {old} new s k h =
     let more : eqb (suc place) 0 ≡ false = grind (arith, nat_tests) in
     let less : chosen_after (Some (suc place)) old h.0.bitmap ≡ record { skip = Some place; kept = old.kept } = rw (more, sub-one) refl in
     let mid_is : h.1 ≡ record { skip = Some place; kept = old.kept } =
     h.3 ∙ ap (λ (skip : Option ℕ). chosen_after skip old h.0.bitmap) s ∙ less in
     later dpi sheet sheets place new.kept
-    (keeps_chosen dpi sheets place h.1 new (ap (λ (c : Chosen). c.skip) mid_is) (ap (λ (c : Chosen). c.kept) mid_is ∙ k) h.4)
+    (keeps_chosen dpi sheets place new (ap (λ (c : Chosen). c.skip) mid_is) (ap (λ (c : Chosen). c.kept) mid_is ∙ k) h.4)
 
 -- ---- previews
 
@@ -74,13 +74,13 @@ pub skips_to : (number : ℕ) (skip : Option ℕ) → SomeIff skip (1 ≤ number
 skips_to number None h = omega arith
 skips_to number (Some place) h = omega arith
 
-pub image_kept : (dpi : Dpi) (job : List ℕ) (number : ℕ) (pages : List Sheet) (skip : Option ℕ) (old new : Chosen) (picture : Picture)
+pub image_kept : {dpi : Dpi} {job : List ℕ} {number : ℕ} {pages : List Sheet} (skip : Option ℕ) {old : Chosen} (new : Chosen) {picture : Picture}
     → HasPages dpi job pages → SkipsTo number skip → old.skip ≡ skip → old.kept ≡ None → Hands takes dpi pages old new
     → new.kept ≡ Some picture → IsImageOf dpi job number (image_of picture)
-image_kept dpi job number pages None old new picture m n s k h e =
+image_kept {dpi} {job} {number} {pages} None {old} new {picture} m n s k h e =
     absurd (let same : None ≡ Some picture = sym k ∙ ap (λ (c : Chosen). c.kept) (sym (stays dpi pages old new s h)) ∙ e in cc)
-image_kept dpi job number pages (Some place) old new picture m n s k h e =
-    let shows : ShowsAt dpi pages place picture = subst (Keeps dpi pages place) e (keeps_chosen dpi pages place old new s k h) in
+image_kept {dpi} {job} {number} {pages} (Some place) {old} new {picture} m n s k h e =
+    let shows : ShowsAt dpi pages place picture = subst (Keeps dpi pages place) e (keeps_chosen dpi pages place new s k h) in
     let before : place ≡ number - 1 = omega arith in
     record {
       pages = pages;
@@ -93,20 +93,20 @@ image_kept dpi job number pages (Some place) old new picture m n s k h e =
       image = ap image_of shows.same;
     }
 
-pub none_kept : (dpi : Dpi) (job : List ℕ) (number : ℕ) (pages : List Sheet) (skip : Option ℕ) (old new : Chosen)
+pub none_kept : {dpi : Dpi} {job : List ℕ} {number : ℕ} {pages : List Sheet} (skip : Option ℕ) {old : Chosen} (new : Chosen)
     → HasPages dpi job pages → SkipsTo number skip → old.skip ≡ skip → old.kept ≡ None → Hands takes dpi pages old new → new.kept ≡ None
     → HasNoPage dpi job number
-none_kept dpi job number pages None old new m n s k h e = record { pages = pages; meaning = m; outside = inl n }
-none_kept dpi job number pages (Some place) old new m n s k h e =
-    let few : length pages ≤ place = subst (Keeps dpi pages place) e (keeps_chosen dpi pages place old new s k h) in
+none_kept {dpi} {job} {number} {pages} None {old} new m n s k h e = record { pages = pages; meaning = m; outside = inl n }
+none_kept {dpi} {job} {number} {pages} (Some place) {old} new m n s k h e =
+    let few : length pages ≤ place = subst (Keeps dpi pages place) e (keeps_chosen dpi pages place new s k h) in
     record { pages = pages; meaning = m; outside = inr (omega arith) }
 
-pub previewed : (dpi : Dpi) (job : List ℕ) (number : ℕ) (old new : Option (List ℕ)) (picture : Picture) (result : Result (Unit {0}) Fault)
+pub previewed : {dpi : Dpi} {job : List ℕ} {number : ℕ} (old new : Option (List ℕ)) (picture : Picture) (result : Result (Unit {0}) Fault)
     → IsImageOf dpi job number (image_of picture) → IsImageWritten old new picture result → IsPreview dpi job number old new result
-previewed dpi job number old new picture (Ok done) i w = (image_of picture, i, w)
-previewed dpi job number old new picture (Err WriteFault) i w = (image_of picture, i, w)
-previewed dpi job number old new picture (Err Memory) i w = w
-previewed dpi job number old new picture (Err (Refused refusal)) i w = absurd w
-previewed dpi job number old new picture (Err ReadFault) i w = w
-previewed dpi job number old new picture (Err TooLong) i w = w
-previewed dpi job number old new picture (Err NoSuchPage) i w = absurd w
+previewed {dpi} {job} {number} old new picture (Ok done) i w = (image_of picture, i, w)
+previewed {dpi} {job} {number} old new picture (Err WriteFault) i w = (image_of picture, i, w)
+previewed {dpi} {job} {number} old new picture (Err Memory) i w = w
+previewed {dpi} {job} {number} old new picture (Err (Refused refusal)) i w = absurd w
+previewed {dpi} {job} {number} old new picture (Err ReadFault) i w = w
+previewed {dpi} {job} {number} old new picture (Err TooLong) i w = w
+previewed {dpi} {job} {number} old new picture (Err NoSuchPage) i w = absurd w

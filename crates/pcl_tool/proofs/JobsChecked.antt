@@ -26,11 +26,11 @@ same_or (suc a) (suc b) = elim (same_or a b) [
 ]
 
 -- what is found of as many pages as there are proofs
-of_outcome : (dpi : Dpi) (input output certificate : List ℕ) (compared : AreCompared dpi input certificate) (texts : List ℕ)
+of_outcome : {dpi : Dpi} {input output certificate : List ℕ} (compared : AreCompared dpi input certificate) {texts : List ℕ}
     → length compared.pages ≡ length compared.proofs → IsFramed output texts compared.proofs → (found : JobVerdict)
     → IsOutcome dpi compared.pages texts compared.proofs 0 found → IsJobVerdict dpi input output certificate found
-of_outcome dpi input output certificate compared texts same framed job.Proved o = (compared, texts, framed, o)
-of_outcome dpi input output certificate compared texts same framed (job.Page place verdict) o =
+of_outcome {dpi} {input} {output} {certificate} compared {texts} same framed job.Proved o = (compared, texts, framed, o)
+of_outcome {dpi} {input} {output} {certificate} compared {texts} same framed (job.Page place verdict) o =
     let number : o.0 ≡ place = omega (arith, o.1) in (
       compared,
       same,
@@ -38,38 +38,38 @@ of_outcome dpi input output certificate compared texts same framed (job.Page pla
       framed,
       subst (λ (n : ℕ). IsFirstFailure dpi compared.pages texts compared.proofs n verdict) number o.2,
     )
-of_outcome dpi input output certificate compared texts same framed (job.Certificate fault) o = absurd o
-of_outcome dpi input output certificate compared texts same framed job.PageCount o = absurd o
-of_outcome dpi input output certificate compared texts same framed job.Frame o = absurd o
+of_outcome {dpi} {input} {output} {certificate} compared {texts} same framed (job.Certificate fault) o = absurd o
+of_outcome {dpi} {input} {output} {certificate} compared {texts} same framed job.PageCount o = absurd o
+of_outcome {dpi} {input} {output} {certificate} compared {texts} same framed job.Frame o = absurd o
 
 -- by what was found before the first page
-of_begin : (dpi : Dpi) (input output certificate : List ℕ) (compared : AreCompared dpi input certificate) (begun new : Checker)
+of_begin : {dpi : Dpi} {input : List ℕ} (output : List ℕ) {certificate : List ℕ} (compared : AreCompared dpi input certificate) (begun new : Checker)
     (found : JobVerdict) → found ≡ begun.found → proofs_left begun ≡ compared.proofs → begun.taken ≡ 0
     → BeginsWith output compared.proofs begun.texts.now found → length compared.pages ≡ length compared.proofs
     → Hands takes dpi compared.pages begun new → (proofs_left new ≡ []) × IsJobVerdict dpi input output certificate new.found
-of_begin dpi input output certificate compared begun new job.Proved f e n b same h =
-    let o = outcome dpi compared.pages begun.texts.now compared.proofs 0 begun new (sym f) n
+of_begin {dpi} {input} output {certificate} compared begun new job.Proved f e n b same h =
+    let o = outcome dpi compared.pages compared.proofs new (sym f) n
     (record { texts_are = refl; proofs_are = e; as_long = b.as_long }) same h in
-    (o.0, of_outcome dpi input output certificate compared begun.texts.now same b new.found o.1)
-of_begin dpi input output certificate compared begun new job.Frame f e n b same h =
+    (o.0, of_outcome compared same b new.found o.1)
+of_begin {dpi} {input} output {certificate} compared begun new job.Frame f e n b same h =
     let wrong : job.Frame ≡ job.Proved → ⊥ = λ (p : job.Frame ≡ job.Proved). cc in
     let s = stays dpi compared.pages compared.proofs job.Frame begun new wrong (sym f) e same h in
     (s.0, subst (IsJobVerdict dpi input output certificate) (sym s.1) (compared, same, b))
-of_begin dpi input output certificate compared begun new (job.Page place verdict) f e n b same h = absurd b
-of_begin dpi input output certificate compared begun new (job.Certificate fault) f e n b same h = absurd b
-of_begin dpi input output certificate compared begun new job.PageCount f e n b same h = absurd b
+of_begin {dpi} {input} output {certificate} compared begun new (job.Page place verdict) f e n b same h = absurd b
+of_begin {dpi} {input} output {certificate} compared begun new (job.Certificate fault) f e n b same h = absurd b
+of_begin {dpi} {input} output {certificate} compared begun new job.PageCount f e n b same h = absurd b
 
 -- the answer of a checker that has taken the pages of an accepted job
-pub job_answered : (dpi : Dpi) (input output certificate : List ℕ) (format : Format) (proofs : List PageProof) (pages : List Sheet)
-    (begun new : Checker) → HasPages dpi input pages → certificate_at dpi certificate ≡ Ok (format, proofs) → IsBegun output proofs begun
+pub job_answered : {dpi : Dpi} {input output : List ℕ} (certificate : List ℕ) {format : Format} {proofs : List PageProof} {pages : List Sheet}
+    {begun : Checker} (new : Checker) → HasPages dpi input pages → certificate_at dpi certificate ≡ Ok (format, proofs) → IsBegun output proofs begun
     → Hands takes dpi pages begun new → IsJobVerdict dpi input output certificate (answer (proofs_left new) new.found)
-job_answered dpi input output certificate format proofs pages begun new meaning certified b h =
+job_answered {dpi} {input} {output} certificate {format} {proofs} {pages} {begun} new meaning certified b h =
     let compared : AreCompared dpi input certificate =
     record { pages = pages; meaning = meaning; format = format; proofs = proofs; certified = certified } in
     let left : proofs_left begun ≡ proofs = ap (λ (k : ℕ). drop k begun.proofs.now) b.none_taken ∙ b.proofs_are in
     elim (same_or (length pages) (length proofs)) [
       | inl same ↦
-          let o = of_begin dpi input output certificate compared begun new begun.found refl left b.none_taken b.begins same h in
+          let o = of_begin output compared begun new begun.found refl left b.none_taken b.begins same h in
           subst (λ (left : List PageProof). IsJobVerdict dpi input output certificate (answer left new.found)) (sym o.0) o.1
       | inr other ↦
           subst (IsJobVerdict dpi input output certificate) (sym (miscounted dpi pages proofs begun new left other h))
@@ -77,12 +77,12 @@ job_answered dpi input output certificate format proofs pages begun new meaning 
     ]
 
 -- the answer where the certificate is none
-pub certificate_refused : (dpi : Dpi) (input output certificate : List ℕ) (fault : CertFault) (pages : List Sheet)
+pub certificate_refused : {dpi : Dpi} {input : List ℕ} (output certificate : List ℕ) (fault : CertFault) {pages : List Sheet}
     → (fault ≡ Memory → ⊥) → HasPages dpi input pages → Fails fault (certificate_at dpi certificate)
     → IsJobVerdict dpi input output certificate (job.Certificate fault)
-certificate_refused dpi input output certificate BadMagic pages other meaning e = (pages, meaning, e)
-certificate_refused dpi input output certificate Short pages other meaning e = (pages, meaning, e)
-certificate_refused dpi input output certificate Extra pages other meaning e = (pages, meaning, e)
-certificate_refused dpi input output certificate Rows pages other meaning e = (pages, meaning, e)
-certificate_refused dpi input output certificate Places pages other meaning e = (pages, meaning, e)
-certificate_refused dpi input output certificate Memory pages other meaning e = absurd (other refl)
+certificate_refused {dpi} {input} output certificate BadMagic {pages} other meaning e = (pages, meaning, e)
+certificate_refused {dpi} {input} output certificate Short {pages} other meaning e = (pages, meaning, e)
+certificate_refused {dpi} {input} output certificate Extra {pages} other meaning e = (pages, meaning, e)
+certificate_refused {dpi} {input} output certificate Rows {pages} other meaning e = (pages, meaning, e)
+certificate_refused {dpi} {input} output certificate Places {pages} other meaning e = (pages, meaning, e)
+certificate_refused {dpi} {input} output certificate Memory {pages} other meaning e = absurd (other refl)

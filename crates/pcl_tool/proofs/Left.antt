@@ -11,8 +11,8 @@ answer_more zero (proof ∷ proofs) found lt = refl
 answer_more (suc k) [] found lt = absurd (omega arith)
 answer_more (suc k) (proof ∷ proofs) found lt = answer_more k proofs found (omega arith)
 
-pub answer_none : (k : ℕ) (proofs : List PageProof) (found : JobVerdict) → length proofs ≤ k → answer (drop k proofs) found ≡ found
-answer_none zero [] found le = refl
-answer_none zero (proof ∷ proofs) found le = absurd (omega arith)
-answer_none (suc k) [] found le = refl
-answer_none (suc k) (proof ∷ proofs) found le = answer_none k proofs found (omega arith)
+pub answer_none : (k : ℕ) (proofs : List PageProof) {found : JobVerdict} → length proofs ≤ k → answer (drop k proofs) found ≡ found
+answer_none zero [] {found} le = refl
+answer_none zero (proof ∷ proofs) {found} le = absurd (omega arith)
+answer_none (suc k) [] {found} le = refl
+answer_none (suc k) (proof ∷ proofs) {found} le = answer_none k proofs (omega arith)

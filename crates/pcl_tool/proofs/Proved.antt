@@ -64,8 +64,8 @@ pub record Gathered (dpi : Dpi) (sheets : List Sheet) (old new : SoFar) : Type 0
   pub can_be_said : AllByRecursion (IsProof dpi old.format) proofs
   pub proved : AreProved dpi sheets texts proofs
 
-pub gathered : (dpi : Dpi) (sheets : List Sheet) (old new : SoFar) → Hands TakesProved dpi sheets old new → Gathered dpi sheets old new
-gathered dpi [] old new h = record {
+pub gathered : {dpi : Dpi} (sheets : List Sheet) {old new : SoFar} → Hands TakesProved dpi sheets old new → Gathered dpi sheets old new
+gathered {dpi} [] {old} {new} h = record {
   texts = [];
   bytes = ap (λ (s : SoFar). s.bytes) h ∙ sym (append-nil old.bytes);
   print = refl;
@@ -75,8 +75,8 @@ gathered dpi [] old new h = record {
   can_be_said = tt;
   proved = refl;
 }
-gathered dpi (sheet ∷ sheets) old new h =
-    let rest = gathered dpi sheets h.1 new h.4 in
+gathered {dpi} (sheet ∷ sheets) {old} {new} h =
+    let rest = gathered sheets h.4 in
     let t = h.3 in
     record {
       texts = t.text ++ rest.texts;
@@ -94,51 +94,51 @@ gathered dpi (sheet ∷ sheets) old new h =
     }
 
 -- what a certificate says in its format is said whole
-proof_said : (dpi : Dpi) (format : Format) (proof : PageProof) → IsProof dpi format proof → proof_in format proof ≡ proof
-proof_said dpi One proof is = ap (λ (places : Option (List (List ℕ))). record proof { places = places }) (sym is.lists)
-proof_said dpi Two proof is = refl
+proof_said : {dpi : Dpi} (format : Format) {proof : PageProof} → IsProof dpi format proof → proof_in format proof ≡ proof
+proof_said {dpi} One {proof} is = ap (λ (places : Option (List (List ℕ))). record proof { places = places }) (sym is.lists)
+proof_said {dpi} Two {proof} is = refl
 
 proofs_said : (dpi : Dpi) (format : Format) (proofs : List PageProof) → AllByRecursion (IsProof dpi format) proofs
     → proofs_in format proofs ≡ proofs
 proofs_said dpi format [] are = refl
 proofs_said dpi format (proof ∷ proofs) are =
-    ap (λ (p : PageProof). p ∷ proofs_in format proofs) (proof_said dpi format proof are.0)
+    ap (λ (p : PageProof). p ∷ proofs_in format proofs) (proof_said format are.0)
     ∙ ap (λ (ps : List PageProof). proof ∷ ps) (proofs_said dpi format proofs are.1)
 
 -- ---- a whole job
 
 -- all that is said of a job's pages
 all_said : (dpi : Dpi) (pages : List Sheet) (old new : SoFar) → old.proofs ≡ [] → (h : Hands TakesProved dpi pages old new)
-    → proofs_in old.format new.proofs ≡ (gathered dpi pages old new h).proofs
+    → proofs_in old.format new.proofs ≡ (gathered pages h).proofs
 all_said dpi pages old new none h =
-    let g = gathered dpi pages old new h in
+    let g = gathered pages h in
     ap (proofs_in old.format) (g.behind ∙ ap (λ (ps : List PageProof). ps ++ g.proofs) none)
     ∙ proofs_said dpi old.format g.proofs g.can_be_said
 
-are_proofs : (dpi : Dpi) (job : List ℕ) (pages : List Sheet) (old new : SoFar) → HasPages dpi job pages
-    → (h : Hands TakesProved dpi pages old new) → AreProofs dpi old.format (gathered dpi pages old new h).proofs
-are_proofs dpi job pages old new meaning h =
-    let g = gathered dpi pages old new h in
+are_proofs : {dpi : Dpi} {job : List ℕ} {pages : List Sheet} (old new : SoFar) → HasPages dpi job pages
+    → (h : Hands TakesProved dpi pages old new) → AreProofs dpi old.format (gathered pages h).proofs
+are_proofs {dpi} {job} {pages} old new meaning h =
+    let g = gathered pages h in
     (omega (arith, g.count, job_fits dpi job pages meaning), g.can_be_said)
 
-pub can_be_written : (dpi : Dpi) (format : Format) (job : List ℕ) (pages : List Sheet) (old new : SoFar) → HasPages dpi job pages
+pub can_be_written : {dpi : Dpi} {format : Format} {job : List ℕ} {pages : List Sheet} (old new : SoFar) → HasPages dpi job pages
     → old.format ≡ format → old.proofs ≡ [] → Hands TakesProved dpi pages old new → AreProofs dpi format (proofs_in format new.proofs)
-can_be_written dpi format job pages old new meaning same none h =
+can_be_written {dpi} {format} {job} {pages} old new meaning same none h =
     subst (λ (f : Format). AreProofs dpi f (proofs_in f new.proofs)) same
-    (subst (AreProofs dpi old.format) (sym (all_said dpi pages old new none h)) (are_proofs dpi job pages old new meaning h))
+    (subst (AreProofs dpi old.format) (sym (all_said dpi pages old new none h)) (are_proofs old new meaning h))
 
-pub certified_job : (dpi : Dpi) (format : Format) (job output certificate : List ℕ) (pages : List Sheet) (old new : SoFar)
+pub certified_job : {dpi : Dpi} {format : Format} {job output certificate : List ℕ} {pages : List Sheet} {old : SoFar} (new : SoFar)
     → HasPages dpi job pages → old.format ≡ format → old.bytes ≡ frame_bytes → old.proofs ≡ [] → Hands TakesProved dpi pages old new
     → output ≡ new.bytes ++ frame_bytes → certificate ≡ certificate_bytes format (proofs_in format new.proofs)
     → IsCertifiedJobOf dpi format job output certificate
 unfolding job_of_texts
-certified_job dpi format job output certificate pages old new meaning same opened none h closed spelled =
-    let g = gathered dpi pages old new h in
+certified_job {dpi} {format} {job} {output} {certificate} {pages} {old} new meaning same opened none h closed spelled =
+    let g = gathered pages h in
     record {
       written = job_of_texts dpi job old.bytes new.bytes output g.texts pages meaning opened g.print g.bytes closed;
       certified = record {
         proofs = g.proofs;
-        can_be_said = subst (λ (f : Format). AreProofs dpi f g.proofs) same (are_proofs dpi job pages old new meaning h);
+        can_be_said = subst (λ (f : Format). AreProofs dpi f g.proofs) same (are_proofs old new meaning h);
         spelled = spelled
             ∙ ap (λ (f : Format). certificate_bytes f (proofs_in f new.proofs)) (sym same)
             ∙ ap (certificate_bytes old.format) (all_said dpi pages old new none h)

@@ -12,12 +12,12 @@ use Rattle.pcl_meaning.specs.Alike.{PrintSheets}
 use Rattle.pcl_meaning.proofs.Jobs.{written_again}
 use Rattle.pcl_tool.specs.Minimizing.{IsJobOf}
 
-pub texts_gathered : (dpi : Dpi) (sheets : List Sheet) (old new : List ℕ)
+pub texts_gathered : (dpi : Dpi) (sheets : List Sheet) (old : List ℕ) {new : List ℕ}
     → Hands (λ (o : List ℕ) (page : Page) (n : List ℕ). AppendsPage page o n) dpi sheets old new
     → (texts : List ℕ) × PrintSheets dpi sheets texts × (new ≡ old ++ texts)
-texts_gathered dpi [] old new h = ([], refl, h ∙ sym (append-nil old))
-texts_gathered dpi (sheet ∷ sheets) old new h =
-    let rest = texts_gathered dpi sheets h.1 new h.4 in
+texts_gathered dpi [] old {new} h = ([], refl, h ∙ sym (append-nil old))
+texts_gathered dpi (sheet ∷ sheets) old {new} h =
+    let rest = texts_gathered dpi sheets h.1 h.4 in
     let text = h.3.0 in (
       text ++ rest.0,
       (h.0, text, rest.0, h.2, h.3.2, refl, rest.1),
@@ -44,9 +44,9 @@ job_of_texts dpi job start body output texts pages meaning opened print joined c
       alike = w.2;
     }
 
-pub job_written : (dpi : Dpi) (job start body output : List ℕ) (pages : List Sheet) → HasPages dpi job pages → start ≡ frame_bytes
+pub job_written : {dpi : Dpi} {job start : List ℕ} (body : List ℕ) {output : List ℕ} {pages : List Sheet} → HasPages dpi job pages → start ≡ frame_bytes
     → Hands (λ (o : List ℕ) (page : Page) (n : List ℕ). AppendsPage page o n) dpi pages start body → output ≡ body ++ frame_bytes
     → IsJobOf dpi job output
-job_written dpi job start body output pages meaning opened handed closed =
-    let t = texts_gathered dpi pages start body handed in
+job_written {dpi} {job} {start} body {output} {pages} meaning opened handed closed =
+    let t = texts_gathered dpi pages start handed in
     job_of_texts dpi job start body output t.0 pages meaning opened t.1 t.2 closed

@@ -4,4 +4,4 @@ use Rattle.pcl_tool.proofs.checking.check_fault.Goals as goal
 pub returns-in_ok-perform_watched-in_default : goal.returns-in_ok-perform_watched-in_default
 returns-in_ok-perform_watched-in_default g c = λ output certificate fails.
     let h = c.in_ok-perform_watched-in_default.ensures in
-    certificate_refused c.args.dpi c.args.input.now output certificate c.args.fault h.0 c.in_default.not-Memory h.1 fails
+    certificate_refused output certificate c.args.fault c.in_default.not-Memory h.1 fails

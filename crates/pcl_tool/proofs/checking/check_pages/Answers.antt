@@ -8,5 +8,5 @@ pub returns : goal.returns
 returns g c = λ certificate format e.
     let h = c.in_ok-checker.ensures in
     subst (IsJobVerdict c.args.dpi c.args.input.now c.args.output.now certificate) (sym c.verdict.ensures)
-    (job_answered c.args.dpi c.args.input.now c.args.output.now certificate format c.args.proofs.now h.0 _ _ h.1 e
+    (job_answered certificate _ h.1 e
     c.new-begun.ensures h.2)

@@ -6,30 +6,27 @@ use Rattle.pcl_tool.specs.Image.{header_of}
 use Rattle.pcl_tool.proofs.Writes.{stopped_in_header, stopped_in_rows, not_flushed}
 use Rattle.pcl_tool.proofs.image.write_image.Goals as goal
 
-header_is : (text items : List ℕ) (size same_size : Size) (dpi same_dpi : Dpi) → text ≡ items → items ≡ header_of size dpi
+header_is : {text items : List ℕ} {size same_size : Size} {dpi same_dpi : Dpi} → text ≡ items → items ≡ header_of size dpi
     → size ≡ same_size → dpi ≡ same_dpi → text ≡ header_of same_size same_dpi
-header_is text items size same_size dpi same_dpi t i s d =
+header_is {text} {items} {size} {same_size} {dpi} {same_dpi} t i s d =
     t ∙ i ∙ ap (λ (z : Size). header_of z dpi) s ∙ ap (λ (x : Dpi). header_of same_size x) d
 
 pub returns-in_err-write_bytes : goal.returns-in_err-write_bytes
 returns-in_err-write_bytes g c =
     let p = err_from_is_err_and c.from_residual-in_err-write_bytes.result c.from_residual-in_err-write_bytes.ensures.1 in
-    let text = header_is c.deref.result.now c.in_ok-header.header.items c.size.result c.args.bitmap.now.size c.dpi.result
-    c.args.bitmap.now.dpi c.deref.ensures.value c.in_ok-header.ensures c.size.ensures.value c.dpi.ensures.value in
-    rw (p.1, p.2) (stopped_in_header _ _ c.args.bitmap.now c.deref.result.now _ text c.in_err-write_bytes.ensures)
+    let text = header_is c.deref.ensures.value c.in_ok-header.ensures c.size.ensures.value c.dpi.ensures.value in
+    rw (p.1, p.2) (stopped_in_header _ _ c.args.bitmap.now _ text c.in_err-write_bytes.ensures)
 
 pub returns-in_err-write_bytes-2 : goal.returns-in_err-write_bytes-2
 returns-in_err-write_bytes-2 g c =
     let p = err_from_is_err_and c.from_residual-in_err-write_bytes-2.result c.from_residual-in_err-write_bytes-2.ensures.1 in
-    let text = header_is c.deref.result.now c.in_ok-header.header.items c.size.result c.args.bitmap.now.size c.dpi.result
-    c.args.bitmap.now.dpi c.deref.ensures.value c.in_ok-header.ensures c.size.ensures.value c.dpi.ensures.value in
+    let text = header_is c.deref.ensures.value c.in_ok-header.ensures c.size.ensures.value c.dpi.ensures.value in
     rw (p.1, p.2)
-    (stopped_in_rows _ _ _ c.args.bitmap.now c.deref.result.now c.bytes.result.now _ text c.bytes.ensures.bytes
+    (stopped_in_rows _ _ _ c.args.bitmap.now _ text c.bytes.ensures.bytes
     c.in_ok-write_bytes.ensures c.in_err-write_bytes-2.ensures)
 
 pub returns : goal.returns
 returns g c =
-    let text = header_is c.deref.result.now c.in_ok-header.header.items c.size.result c.args.bitmap.now.size c.dpi.result
-    c.args.bitmap.now.dpi c.deref.ensures.value c.in_ok-header.ensures c.size.ensures.value c.dpi.ensures.value in
-    not_flushed _ _ _ _ c.args.bitmap.now c.deref.result.now c.bytes.result.now text c.bytes.ensures.bytes c.in_ok-write_bytes.ensures
+    let text = header_is c.deref.ensures.value c.in_ok-header.ensures c.size.ensures.value c.dpi.ensures.value in
+    not_flushed _ _ _ _ c.args.bitmap.now text c.bytes.ensures.bytes c.in_ok-write_bytes.ensures
     c.in_ok-write_bytes-2.ensures c.in-Err.ensures.bytes

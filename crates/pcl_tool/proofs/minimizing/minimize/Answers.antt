@@ -12,7 +12,7 @@ write_certificate-requires g c =
       c.args.dpi,
       subst (λ (proofs : List PageProof). AreProofs c.args.dpi c.args.format (proofs_in c.args.format proofs))
           (sym (ap (λ (s : SoFar). s.proofs) c.certified.view_is) ∙ sym c.deref.ensures.value)
-          (can_be_written c.args.dpi c.args.format c.args.job.now h.0 _ _ h.1 refl c.new.ensures.items
+          (can_be_written _ _ h.1 refl c.new.ensures.items
           h.2),
     )
 
@@ -21,7 +21,7 @@ returns g c =
     let h = c.in_ok-certified.ensures in
     let f = c.in_ok-write_frame.ensures in
     let n = c.in_ok-write_frame-2.ensures in
-    certified_job c.args.dpi c.args.format c.args.job.now _ _ h.0 _ _ h.1 refl
+    certified_job _ h.1 refl
     (f ∙ ap (λ (b : List ℕ). b ++ frame_bytes) c.new-bytes.ensures.items) c.new.ensures.items h.2
     (n ∙ ap (λ (s : SoFar). s.bytes ++ frame_bytes) c.certified.view_is)
     (c.in_ok-write_certificate.ensures.ok

@@ -7,7 +7,7 @@ use Rattle.pcl_tool.proofs.page_checks.verdict_on.Goals as goal
 
 pub returns-in-Proved : goal.returns-in-Proved
 returns-in-Proved c =
-    verdict_anywhere c.args.page.now c.args.text.now c.args.proof.now.table c.as_ref.result c.args.proof.now.places Proved
+    verdict_anywhere c.args.page.now c.args.text.now c.args.proof.now.table c.as_ref.result Proved
     c.as_ref.ensures.value
     (subst (λ (v : Verdict). IsVerdict c.args.page.now c.args.text.now c.args.proof.now.table c.as_ref.result v) c.in-Proved.is
     c.in_ok-verdict.ensures)
@@ -15,7 +15,7 @@ returns-in-Proved c =
 pub returns-in_default : goal.returns-in_default
 returns-in_default c = (
   refl,
-  verdict_anywhere c.args.page.now c.args.text.now c.args.proof.now.table c.as_ref.result c.args.proof.now.places c.in_ok-verdict.verdict
+  verdict_anywhere c.args.page.now c.args.text.now c.args.proof.now.table c.as_ref.result c.in_ok-verdict.verdict
       c.as_ref.ensures.value c.in_ok-verdict.ensures,
   c.in_default.not-Proved,
 )
