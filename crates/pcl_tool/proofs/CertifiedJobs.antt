@@ -44,9 +44,9 @@ proved_length dpi (sheet ∷ sheets) texts (proof ∷ proofs) p =
 -- ---- texts that are cut at the same place
 
 cut_same : (a : List ℕ) {b : List ℕ} (c : List ℕ) {d : List ℕ} → length a ≡ length c → a ++ b ≡ c ++ d → (a ≡ c) × (b ≡ d)
-cut_same [] {b} [] {d} n e = (refl, e)
-cut_same [] {b} (y ∷ c) {d} n e = absurd (omega arith)
-cut_same (x ∷ a) {b} [] {d} n e = absurd (omega arith)
+cut_same [] [] n e = (refl, e)
+cut_same [] (y ∷ c) n e = absurd (omega arith)
+cut_same (x ∷ a) [] n e = absurd (omega arith)
 cut_same (x ∷ a) {b} (y ∷ c) {d} n e =
     let heads : x ≡ y = cc in
     let tails : a ++ b ≡ c ++ d = cc in
@@ -58,12 +58,12 @@ proved_behind : {dpi : Dpi} (before : List Sheet) {sheet : Sheet} (behind : List
     (proofs_behind : List PageProof) {texts : List ℕ} (texts_before : List ℕ) {rest : List ℕ} → AreProved dpi before texts_before proofs_before
     → texts ≡ texts_before ++ rest → AreProved dpi (before ++ sheet ∷ behind) texts (proofs_before ++ proof ∷ proofs_behind)
     → AreProved dpi (sheet ∷ behind) rest (proof ∷ proofs_behind)
-proved_behind {dpi} [] {sheet} behind [] proof proofs_behind {texts} texts_before {rest} none e p =
+proved_behind {dpi} [] {sheet} behind [] proof proofs_behind texts_before {rest} none e p =
     subst (λ (t : List ℕ). AreProved dpi (sheet ∷ behind) t (proof ∷ proofs_behind))
     (e ∙ ap (λ (t : List ℕ). t ++ rest) none) p
-proved_behind {dpi} [] {sheet} behind (one ∷ proofs_before) proof proofs_behind {texts} texts_before {rest} none e p = absurd none
-proved_behind {dpi} (first ∷ before) {sheet} behind [] proof proofs_behind {texts} texts_before {rest} none e p = absurd none
-proved_behind {dpi} (first ∷ before) {sheet} behind (one ∷ proofs_before) proof proofs_behind {texts} texts_before {rest} b e p =
+proved_behind [] behind (one ∷ proofs_before) proof proofs_behind texts_before none e p = absurd none
+proved_behind (first ∷ before) behind [] proof proofs_behind texts_before none e p = absurd none
+proved_behind (first ∷ before) behind (one ∷ proofs_before) proof proofs_behind texts_before {rest} b e p =
     let whole : p.1 ++ p.2 ≡ b.1 ++ (b.2 ++ rest) =
     sym p.4 ∙ e ∙ ap (λ (t : List ℕ). t ++ rest) b.4 ∙ append_assoc b.1 b.2 rest in
     let cut = cut_same p.1 b.1 (p.5 ∙ sym b.5) whole in
@@ -71,7 +71,7 @@ proved_behind {dpi} (first ∷ before) {sheet} behind (one ∷ proofs_before) pr
 
 pub none_fails : {dpi : Dpi} {pages : List Sheet} {texts : List ℕ} {proofs : List PageProof} {number : ℕ} {verdict : Verdict}
     → AreProved dpi pages texts proofs → IsFirstFailure dpi pages texts proofs number verdict → ⊥
-none_fails {dpi} {pages} {texts} {proofs} {number} {verdict} p f =
+none_fails {dpi} {texts} {proofs} {verdict} p f =
     let whole : AreProved dpi (f.pages_before ++ f.sheet ∷ f.pages_behind) texts (f.proofs_before ++ f.proof ∷ f.proofs_behind) =
     subst (λ (ps : List PageProof). AreProved dpi (f.pages_before ++ f.sheet ∷ f.pages_behind) texts ps) f.proofs_are
     (subst (λ (ss : List Sheet). AreProved dpi ss texts proofs) f.pages_are p) in
@@ -106,18 +106,18 @@ compared_same one {dpi} {input} {output} {certificate} i compared =
 
 texts_same : {output texts others : List ℕ} → output ≡ frame_bytes ++ texts ++ frame_bytes → output ≡ frame_bytes ++ others ++ frame_bytes
     → texts ≡ others
-texts_same {output} {texts} {others} e f =
+texts_same {texts} {others} e f =
     append_cancel_right texts others frame_bytes
     (append_cancel_left frame_bytes (texts ++ frame_bytes) (others ++ frame_bytes) (sym e ∙ f))
 
 no_fault : {read : Result (Format × List PageProof) CertFault} {found : Format × List PageProof} {fault : CertFault} → read ≡ Ok found
     → read ≡ Err fault → ⊥
-no_fault {read} {found} {fault} e f = let both : Ok found ≡ Err fault = sym e ∙ f in cc
+no_fault {found} {fault} e f = let both : Ok found ≡ Err fault = sym e ∙ f in cc
 
 -- the certificate is one
 fault_refused : {dpi : Dpi} {input output certificate : List ℕ} {fault : CertFault} → IsCertifiedBy dpi input output certificate
     → certificate_at dpi certificate ≡ Err fault → job.Certificate fault ≡ job.Proved
-fault_refused {dpi} {input} {output} {certificate} {fault} i e =
+fault_refused {dpi} {input} {output} {certificate} i e =
     absurd (no_fault (again dpi input output certificate i) e)
 
 pub certified_proved : OnePages → (dpi : Dpi) (input output certificate : List ℕ) (verdict : JobVerdict)
@@ -142,7 +142,7 @@ certified_proved one dpi input output certificate job.Proved i v = refl
 
 pub written_certified : {dpi : Dpi} {format : Format} {input output certificate : List ℕ}
     → IsCertifiedJobOf dpi format input output certificate → IsCertifiedBy dpi input output certificate
-written_certified {dpi} {format} {input} {output} {certificate} w = record {
+written_certified {format} w = record {
   pages = w.written.pages;
   meaning = w.written.meaning;
   texts = w.written.texts;

@@ -37,7 +37,7 @@ wrong_stays job.Frame proof old new page wrong f = f
 -- the proofs that are left behind the next one
 next_left : (k : ℕ) (all : List PageProof) {proof : PageProof} {later : List PageProof} → drop k all ≡ proof ∷ later
     → drop (k + 1) all ≡ later
-next_left k all {proof} {later} e =
+next_left k all e =
     sym (drop-drop 1 k all) ∙ ap (drop 1) e
 
 -- a page that takes a proof
@@ -174,7 +174,7 @@ at_page : {dpi : Dpi} {sheet : Sheet} (sheets : List Sheet) (texts : List ℕ) (
     → length texts ≡ proof.text_len + text_bytes proofs → length sheets ≡ length proofs → Hands takes dpi sheets middle new
     → ((rest : List ℕ) → Follows dpi sheets rest proofs (taken + 1) middle new)
     → (proofs_left new ≡ []) × IsOutcome dpi (sheet ∷ sheets) texts (proof ∷ proofs) taken new.found
-at_page {dpi} {sheet} sheets texts proof {proofs} taken {page} {middle} new job.Proved f is shows e n t long same h follows =
+at_page {dpi} {sheet} sheets texts proof {proofs} taken {page} new job.Proved f is shows e n t long same h follows =
     let text = take proof.text_len texts in
     let rest = drop proof.text_len texts in
     let room : proof.text_len ≤ length texts = omega (arith, long) in
@@ -218,9 +218,9 @@ at_page {dpi} {sheet} sheets texts proof {proofs} taken {page} {middle} new (job
         },
       ),
     )
-at_page {dpi} {sheet} sheets texts proof {proofs} taken {page} {middle} new (job.Certificate fault) f is shows e n t long same h follows = absurd is
-at_page {dpi} {sheet} sheets texts proof {proofs} taken {page} {middle} new job.PageCount f is shows e n t long same h follows = absurd is
-at_page {dpi} {sheet} sheets texts proof {proofs} taken {page} {middle} new job.Frame f is shows e n t long same h follows = absurd is
+at_page sheets texts proof taken new (job.Certificate fault) f is shows e n t long same h follows = absurd is
+at_page sheets texts proof taken new job.PageCount f is shows e n t long same h follows = absurd is
+at_page sheets texts proof taken new job.Frame f is shows e n t long same h follows = absurd is
 
 empty_texts : (texts : List ℕ) → length texts ≡ 0 → texts ≡ []
 empty_texts [] e = refl
@@ -228,12 +228,12 @@ empty_texts (byte ∷ texts) e = absurd (omega arith)
 
 pub outcome : (dpi : Dpi) (sheets : List Sheet) {texts : List ℕ} (proofs : List PageProof) {taken : ℕ} {old : Checker} (new : Checker)
     → Follows dpi sheets texts proofs taken old new
-outcome dpi [] {texts} [] {taken} {old} new = λ f n left same h. (
+outcome dpi [] {texts} [] {taken} new = λ f n left same h. (
   ap proofs_left h ∙ left.proofs_are,
   subst (IsOutcome dpi [] texts [] taken) (sym (ap (λ (c : Checker). c.found) h ∙ f)) (empty_texts texts left.as_long),
 )
-outcome dpi [] {texts} (proof ∷ proofs) {taken} {old} new = λ f n left same h. absurd (omega (arith, same))
-outcome dpi (sheet ∷ sheets) {texts} [] {taken} {old} new = λ f n left same h. absurd (omega (arith, same))
+outcome dpi [] (proof ∷ proofs) new = λ f n left same h. absurd (omega (arith, same))
+outcome dpi (sheet ∷ sheets) [] new = λ f n left same h. absurd (omega (arith, same))
 outcome dpi (sheet ∷ sheets) {texts} (proof ∷ proofs) {taken} {old} new = λ f n left same h.
     let t = step proof proofs old h.1 h.0 left.proofs_are h.3 in
     let next = subst (λ (v : JobVerdict). FindsNext v proof old h.0 h.1) f t.finds in

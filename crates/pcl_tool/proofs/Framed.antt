@@ -16,24 +16,24 @@ pub framed_is : {output rest : List ℕ} (texts : Option (Bor (List ℕ))) → o
     → MatchOption texts ((front : List ℕ) → rest ≢ front ++ frame_bytes) (λ t. rest ≡ t.now ++ frame_bytes)
     → MatchOption texts ((others : List ℕ) → output ≡ frame_bytes ++ others ++ frame_bytes → ⊥)
     (λ t. output ≡ frame_bytes ++ t.now ++ frame_bytes)
-framed_is {output} {rest} None e m = λ others f. m others (append_cancel_left frame_bytes rest (others ++ frame_bytes) (sym e ∙ f))
-framed_is {output} {rest} (Some texts) e m = e ∙ ap (λ (r : List ℕ). frame_bytes ++ r) m
+framed_is {rest} None e m = λ others f. m others (append_cancel_left frame_bytes rest (others ++ frame_bytes) (sym e ∙ f))
+framed_is (Some texts) e m = e ∙ ap (λ (r : List ℕ). frame_bytes ++ r) m
 
 -- a verdict doesn't depend on where the row tables lie
 pub verdict_anywhere : (page : Page) (text : List ℕ) (table : List RowNumbers) (tables : Option (Bor (List (List ℕ))))
     {places : Option (List (List ℕ))} (verdict : Verdict) → option_copied tables ≡ places → IsVerdict page text table tables verdict
     → IsVerdict page text table (tables_of places) verdict
-verdict_anywhere page text table None {places} verdict e v =
+verdict_anywhere page text table None verdict e v =
     subst (λ (p : Option (List (List ℕ))). IsVerdict page text table (tables_of p) verdict) e v
-verdict_anywhere page text table (Some lists) {places} NotGrammar e v = v
-verdict_anywhere page text table (Some lists) {places} OtherPage e v = v
-verdict_anywhere page text table (Some lists) {places} Rows e v =
+verdict_anywhere page text table (Some lists) NotGrammar e v = v
+verdict_anywhere page text table (Some lists) OtherPage e v = v
+verdict_anywhere page text table (Some lists) Rows e v =
     subst (λ (p : Option (List (List ℕ))). IsVerdict page text table (tables_of p) Rows) e v
-verdict_anywhere page text table (Some lists) {places} (Place row method place) e v =
+verdict_anywhere page text table (Some lists) (Place row method place) e v =
     subst (λ (p : Option (List (List ℕ))). IsVerdict page text table (tables_of p) (Place row method place)) e v
-verdict_anywhere page text table (Some lists) {places} (Edge row method inside) e v =
+verdict_anywhere page text table (Some lists) (Edge row method inside) e v =
     subst (λ (p : Option (List (List ℕ))). IsVerdict page text table (tables_of p) (Edge row method inside)) e v
-verdict_anywhere page text table (Some lists) {places} Length e v =
+verdict_anywhere page text table (Some lists) Length e v =
     subst (λ (p : Option (List (List ℕ))). IsVerdict page text table (tables_of p) Length) e v
-verdict_anywhere page text table (Some lists) {places} Proved e v =
+verdict_anywhere page text table (Some lists) Proved e v =
     subst (λ (p : Option (List (List ℕ))). IsVerdict page text table (tables_of p) Proved) e v

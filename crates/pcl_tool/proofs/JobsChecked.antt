@@ -29,8 +29,8 @@ same_or (suc a) (suc b) = elim (same_or a b) [
 of_outcome : {dpi : Dpi} {input output certificate : List ℕ} (compared : AreCompared dpi input certificate) {texts : List ℕ}
     → length compared.pages ≡ length compared.proofs → IsFramed output texts compared.proofs → (found : JobVerdict)
     → IsOutcome dpi compared.pages texts compared.proofs 0 found → IsJobVerdict dpi input output certificate found
-of_outcome {dpi} {input} {output} {certificate} compared {texts} same framed job.Proved o = (compared, texts, framed, o)
-of_outcome {dpi} {input} {output} {certificate} compared {texts} same framed (job.Page place verdict) o =
+of_outcome compared {texts} same framed job.Proved o = (compared, texts, framed, o)
+of_outcome {dpi} compared {texts} same framed (job.Page place verdict) o =
     let number : o.0 ≡ place = omega (arith, o.1) in (
       compared,
       same,
@@ -38,16 +38,16 @@ of_outcome {dpi} {input} {output} {certificate} compared {texts} same framed (jo
       framed,
       subst (λ (n : ℕ). IsFirstFailure dpi compared.pages texts compared.proofs n verdict) number o.2,
     )
-of_outcome {dpi} {input} {output} {certificate} compared {texts} same framed (job.Certificate fault) o = absurd o
-of_outcome {dpi} {input} {output} {certificate} compared {texts} same framed job.PageCount o = absurd o
-of_outcome {dpi} {input} {output} {certificate} compared {texts} same framed job.Frame o = absurd o
+of_outcome compared same framed (job.Certificate fault) o = absurd o
+of_outcome compared same framed job.PageCount o = absurd o
+of_outcome compared same framed job.Frame o = absurd o
 
 -- by what was found before the first page
 of_begin : {dpi : Dpi} {input : List ℕ} (output : List ℕ) {certificate : List ℕ} (compared : AreCompared dpi input certificate) (begun new : Checker)
     (found : JobVerdict) → found ≡ begun.found → proofs_left begun ≡ compared.proofs → begun.taken ≡ 0
     → BeginsWith output compared.proofs begun.texts.now found → length compared.pages ≡ length compared.proofs
     → Hands takes dpi compared.pages begun new → (proofs_left new ≡ []) × IsJobVerdict dpi input output certificate new.found
-of_begin {dpi} {input} output {certificate} compared begun new job.Proved f e n b same h =
+of_begin {dpi} output compared begun new job.Proved f e n b same h =
     let o = outcome dpi compared.pages compared.proofs new (sym f) n
     (record { texts_are = refl; proofs_are = e; as_long = b.as_long }) same h in
     (o.0, of_outcome compared same b new.found o.1)
@@ -55,9 +55,9 @@ of_begin {dpi} {input} output {certificate} compared begun new job.Frame f e n b
     let wrong : job.Frame ≡ job.Proved → ⊥ = λ (p : job.Frame ≡ job.Proved). cc in
     let s = stays dpi compared.pages compared.proofs job.Frame begun new wrong (sym f) e same h in
     (s.0, subst (IsJobVerdict dpi input output certificate) (sym s.1) (compared, same, b))
-of_begin {dpi} {input} output {certificate} compared begun new (job.Page place verdict) f e n b same h = absurd b
-of_begin {dpi} {input} output {certificate} compared begun new (job.Certificate fault) f e n b same h = absurd b
-of_begin {dpi} {input} output {certificate} compared begun new job.PageCount f e n b same h = absurd b
+of_begin output compared begun new (job.Page place verdict) f e n b same h = absurd b
+of_begin output compared begun new (job.Certificate fault) f e n b same h = absurd b
+of_begin output compared begun new job.PageCount f e n b same h = absurd b
 
 -- the answer of a checker that has taken the pages of an accepted job
 pub job_answered : {dpi : Dpi} {input output : List ℕ} (certificate : List ℕ) {format : Format} {proofs : List PageProof} {pages : List Sheet}
@@ -80,9 +80,9 @@ job_answered {dpi} {input} {output} certificate {format} {proofs} {pages} {begun
 pub certificate_refused : {dpi : Dpi} {input : List ℕ} (output certificate : List ℕ) (fault : CertFault) {pages : List Sheet}
     → (fault ≡ Memory → ⊥) → HasPages dpi input pages → Fails fault (certificate_at dpi certificate)
     → IsJobVerdict dpi input output certificate (job.Certificate fault)
-certificate_refused {dpi} {input} output certificate BadMagic {pages} other meaning e = (pages, meaning, e)
-certificate_refused {dpi} {input} output certificate Short {pages} other meaning e = (pages, meaning, e)
-certificate_refused {dpi} {input} output certificate Extra {pages} other meaning e = (pages, meaning, e)
-certificate_refused {dpi} {input} output certificate Rows {pages} other meaning e = (pages, meaning, e)
-certificate_refused {dpi} {input} output certificate Places {pages} other meaning e = (pages, meaning, e)
-certificate_refused {dpi} {input} output certificate Memory {pages} other meaning e = absurd (other refl)
+certificate_refused output certificate BadMagic {pages} other meaning e = (pages, meaning, e)
+certificate_refused output certificate Short {pages} other meaning e = (pages, meaning, e)
+certificate_refused output certificate Extra {pages} other meaning e = (pages, meaning, e)
+certificate_refused output certificate Rows {pages} other meaning e = (pages, meaning, e)
+certificate_refused output certificate Places {pages} other meaning e = (pages, meaning, e)
+certificate_refused output certificate Memory other meaning e = absurd (other refl)

@@ -12,7 +12,7 @@ answer_more (suc k) [] found lt = absurd (omega arith)
 answer_more (suc k) (proof ∷ proofs) found lt = answer_more k proofs found (omega arith)
 
 pub answer_none : (k : ℕ) (proofs : List PageProof) {found : JobVerdict} → length proofs ≤ k → answer (drop k proofs) found ≡ found
-answer_none zero [] {found} le = refl
-answer_none zero (proof ∷ proofs) {found} le = absurd (omega arith)
-answer_none (suc k) [] {found} le = refl
-answer_none (suc k) (proof ∷ proofs) {found} le = answer_none k proofs (omega arith)
+answer_none zero [] le = refl
+answer_none zero (proof ∷ proofs) le = absurd (omega arith)
+answer_none (suc k) [] le = refl
+answer_none (suc k) (proof ∷ proofs) le = answer_none k proofs (omega arith)

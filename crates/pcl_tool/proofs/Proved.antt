@@ -65,7 +65,7 @@ pub record Gathered (dpi : Dpi) (sheets : List Sheet) (old new : SoFar) : Type 0
   pub proved : AreProved dpi sheets texts proofs
 
 pub gathered : {dpi : Dpi} (sheets : List Sheet) {old new : SoFar} → Hands TakesProved dpi sheets old new → Gathered dpi sheets old new
-gathered {dpi} [] {old} {new} h = record {
+gathered [] {old} h = record {
   texts = [];
   bytes = ap (λ (s : SoFar). s.bytes) h ∙ sym (append-nil old.bytes);
   print = refl;
@@ -75,7 +75,7 @@ gathered {dpi} [] {old} {new} h = record {
   can_be_said = tt;
   proved = refl;
 }
-gathered {dpi} (sheet ∷ sheets) {old} {new} h =
+gathered {dpi} (sheet ∷ sheets) {old} h =
     let rest = gathered sheets h.4 in
     let t = h.3 in
     record {
@@ -95,8 +95,8 @@ gathered {dpi} (sheet ∷ sheets) {old} {new} h =
 
 -- what a certificate says in its format is said whole
 proof_said : {dpi : Dpi} (format : Format) {proof : PageProof} → IsProof dpi format proof → proof_in format proof ≡ proof
-proof_said {dpi} One {proof} is = ap (λ (places : Option (List (List ℕ))). record proof { places = places }) (sym is.lists)
-proof_said {dpi} Two {proof} is = refl
+proof_said One {proof} is = ap (λ (places : Option (List (List ℕ))). record proof { places = places }) (sym is.lists)
+proof_said Two is = refl
 
 proofs_said : (dpi : Dpi) (format : Format) (proofs : List PageProof) → AllByRecursion (IsProof dpi format) proofs
     → proofs_in format proofs ≡ proofs
@@ -123,7 +123,7 @@ are_proofs {dpi} {job} {pages} old new meaning h =
 
 pub can_be_written : {dpi : Dpi} {format : Format} {job : List ℕ} {pages : List Sheet} (old new : SoFar) → HasPages dpi job pages
     → old.format ≡ format → old.proofs ≡ [] → Hands TakesProved dpi pages old new → AreProofs dpi format (proofs_in format new.proofs)
-can_be_written {dpi} {format} {job} {pages} old new meaning same none h =
+can_be_written {dpi} {format} {pages} old new meaning same none h =
     subst (λ (f : Format). AreProofs dpi f (proofs_in f new.proofs)) same
     (subst (AreProofs dpi old.format) (sym (all_said dpi pages old new none h)) (are_proofs old new meaning h))
 
@@ -132,7 +132,7 @@ pub certified_job : {dpi : Dpi} {format : Format} {job output certificate : List
     → output ≡ new.bytes ++ frame_bytes → certificate ≡ certificate_bytes format (proofs_in format new.proofs)
     → IsCertifiedJobOf dpi format job output certificate
 unfolding job_of_texts
-certified_job {dpi} {format} {job} {output} {certificate} {pages} {old} new meaning same opened none h closed spelled =
+certified_job {dpi} {format} {job} {output} {pages} {old} new meaning same opened none h closed spelled =
     let g = gathered pages h in
     record {
       written = job_of_texts dpi job old.bytes new.bytes output g.texts pages meaning opened g.print g.bytes closed;

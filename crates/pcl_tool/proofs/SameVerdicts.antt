@@ -22,7 +22,7 @@ use Rattle.pcl_cert.specs.Checking.{Tables, AreOfPage, AreGoodIn, AreEdgesGood, 
 use Rattle.pcl_meaning.proofs.SamePages.{AreSame, moved, prints_same}
 
 some_text : (page : Page) {text : List ℕ} → PrintsPage page text → IsSomePageText page.dpi text
-some_text page {text} printed = (page.size, page.copies, bitmap_rows page.bitmap, printed)
+some_text page printed = (page.size, page.copies, bitmap_rows page.bitmap, printed)
 
 of_page : {page other : Page} (table : List RowNumbers) (tables : Tables) → AreSame page other → AreOfPage page table tables
     → AreOfPage other table tables
@@ -55,13 +55,13 @@ of_length text table same e =
 
 pub verdict_again : {page other : Page} {text : List ℕ} (table : List RowNumbers) (tables : Tables) (verdict : Verdict) → AreSame page other
     → IsVerdict page text table tables Proved → IsVerdict other text table tables verdict → verdict ≡ Proved
-verdict_again {page} {other} {text} table tables NotGrammar same p v = absurd (v (some_text other (prints_same text same p.0)))
-verdict_again {page} {other} {text} table tables OtherPage same p v = absurd (v.1 (prints_same text same p.0))
-verdict_again {page} {other} {text} table tables Rows same p v = absurd (v.1 (of_page table tables same p.1))
-verdict_again {page} {other} {text} table None (Place row method place) same p v = absurd v.2
-verdict_again {page} {other} {text} table (Some lists) (Place row method place) same p v =
+verdict_again {other} {text} table tables NotGrammar same p v = absurd (v (some_text other (prints_same text same p.0)))
+verdict_again {text} table tables OtherPage same p v = absurd (v.1 (prints_same text same p.0))
+verdict_again table tables Rows same p v = absurd (v.1 (of_page table tables same p.1))
+verdict_again table None (Place row method place) same p v = absurd v.2
+verdict_again table (Some lists) (Place row method place) same p v =
     let bad = v.2 in absurd (bad.is_bad (places_good lists.now same p.2 row method place bad.row_within bad.place_within))
-verdict_again {page} {other} {text} table tables (Edge row method inside) same p v =
+verdict_again table tables (Edge row method inside) same p v =
     let bad = v.3 in absurd (bad.is_bad (edges_good table tables same p.3 row method inside bad.within))
-verdict_again {page} {other} {text} table tables Length same p v = absurd (v.4 (of_length text table same p.4))
-verdict_again {page} {other} {text} table tables Proved same p v = refl
+verdict_again {text} table tables Length same p v = absurd (v.4 (of_length text table same p.4))
+verdict_again table tables Proved same p v = refl

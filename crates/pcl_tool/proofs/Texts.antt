@@ -15,8 +15,8 @@ use Rattle.pcl_tool.specs.Minimizing.{IsJobOf}
 pub texts_gathered : (dpi : Dpi) (sheets : List Sheet) (old : List ℕ) {new : List ℕ}
     → Hands (λ (o : List ℕ) (page : Page) (n : List ℕ). AppendsPage page o n) dpi sheets old new
     → (texts : List ℕ) × PrintSheets dpi sheets texts × (new ≡ old ++ texts)
-texts_gathered dpi [] old {new} h = ([], refl, h ∙ sym (append-nil old))
-texts_gathered dpi (sheet ∷ sheets) old {new} h =
+texts_gathered dpi [] old h = ([], refl, h ∙ sym (append-nil old))
+texts_gathered dpi (sheet ∷ sheets) old h =
     let rest = texts_gathered dpi sheets h.1 h.4 in
     let text = h.3.0 in (
       text ++ rest.0,

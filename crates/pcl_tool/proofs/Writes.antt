@@ -10,12 +10,12 @@ use Rattle.pcl_tool.specs.Transfer.{AppendsFront, IsWritten}
 use Rattle.pcl_tool.specs.Image.{header_of, image_of, IsImageWritten}
 
 front_of : (old new : Option (List ℕ)) {text : List ℕ} (more : List ℕ) → AppendsFront old new text → AppendsFront old new (text ++ more)
-front_of old new {text} more h =
+front_of old new more h =
     (h.0, h.1 ++ more, ap (λ (t : List ℕ). t ++ more) h.2 ∙ append_assoc h.0 h.1 more, h.3)
 
 front_behind : (old middle new : Option (List ℕ)) (text : List ℕ) {more : List ℕ} → Appends old middle text → AppendsFront middle new more
     → AppendsFront old new (text ++ more)
-front_behind old middle new text {more} a h =
+front_behind old middle new text a h =
     (text ++ h.0, h.1, ap (λ (t : List ℕ). text ++ t) h.2 ∙ sym (append_assoc text h.0 h.1), Appends-trans old middle new text h.0 a h.3)
 
 header_stops : (old new : Option (List ℕ)) (picture : Picture) (fault : Fault)
@@ -29,7 +29,7 @@ header_stops old new picture NoSuchPage h = h
 
 pub stopped_in_header : (old new : Option (List ℕ)) (picture : Picture) {text : List ℕ} (fault : Fault)
     → text ≡ header_of picture.size picture.dpi → IsWritten old new text (Err fault) → IsImageWritten old new picture (Err fault)
-stopped_in_header old new picture {text} fault e h =
+stopped_in_header old new picture fault e h =
     header_stops old new picture fault (subst (λ (t : List ℕ). IsWritten old new t (Err fault)) e h)
 
 rows_stop : (old middle new : Option (List ℕ)) (picture : Picture) (fault : Fault)
@@ -45,7 +45,7 @@ rows_stop old middle new picture NoSuchPage a h = h
 pub stopped_in_rows : (old middle new : Option (List ℕ)) (picture : Picture) {text rows : List ℕ} (fault : Fault)
     → text ≡ header_of picture.size picture.dpi → rows ≡ picture.bytes
     → Appends old middle text → IsWritten middle new rows (Err fault) → IsImageWritten old new picture (Err fault)
-stopped_in_rows old middle new picture {text} {rows} fault e f a h =
+stopped_in_rows old middle new picture fault e f a h =
     rows_stop old middle new picture fault (subst (Appends old middle) e a) (subst (λ (t : List ℕ). IsWritten middle new t (Err fault)) f h)
 
 pub not_flushed : (old middle late new : Option (List ℕ)) (picture : Picture) {text rows : List ℕ}
