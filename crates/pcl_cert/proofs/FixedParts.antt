@@ -1,5 +1,5 @@
 -- The length of the fixed part of a page text.
-use Rattle.std.proofs.Common.{◌≡◌, ℕ, ◌+◌, ◌/◌, ◌%◌, ◌<◌, ◌≤◌, List, [], ◌∷◌, ◌++◌, length, refl, sym, ap, ◌∙◌, arith, lit<}
+use Rattle.std.proofs.Common.{◌≡◌, ℕ, ◌+◌, ◌/◌, ◌%◌, ◌<◌, ◌≤◌, List, [], ◌∷◌, ◌++◌, length, refl, ap, ◌∙◌, arith, lit<}
 use Rattle.std.specs.Prelude.{decimal}
 use Rattle.std.specs.Fmt.{digits}
 use Rattle.std.proofs.lemmas.Fmt.{decimal_digit, decimal_step}
@@ -9,7 +9,7 @@ use Rattle.pcl_base.specs.declared.dpi.Dpi.TheVariants.{Dpi300, Dpi600}
 use Rattle.pcl_base.specs.declared.size.Size.{Size}
 use Rattle.pcl_base.specs.declared.size.Size.TheVariants.{Executive, Letter, Legal, A4}
 use Rattle.pcl_base.specs.Size.{code_of}
-use Rattle.pcl_plan.specs.Tokens.{start_bytes, end_bytes}
+use Rattle.pcl_plan.specs.Tokens.{start_bytes}
 use Rattle.pcl_plan.specs.LeastTexts.{fixed_bytes}
 use Rattle.pcl_check.specs.Reading.{raster_start}
 use Rattle.pcl_check.proofs.Beginnings.{start_is}

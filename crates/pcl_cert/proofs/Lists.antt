@@ -9,7 +9,7 @@ use Rattle.std.specs.Prelude.{nat_lt, if◌then◌else◌}
 use Rattle.pcl_cert.specs.declared.fault.CertFault.{CertFault}
 use Rattle.pcl_cert.specs.declared.fault.CertFault.TheVariants.{BadMagic, Short, Extra, Rows, Places, Memory}
 use Rattle.pcl_cert.specs.Certificates.{ends_in_zero}
-use Rattle.pcl_cert.specs.ReadingCertificates.{Fails, behind, number_at, list_behind, list_at, lists_at}
+use Rattle.pcl_cert.specs.ReadingCertificates.{Fails, behind, number_at, list_at, lists_at}
 use Rattle.pcl_cert.proofs.FieldsRead.{step_ok, passed, same_ok}
 use Rattle.pcl_cert.proofs.Numbers.{numbers_of_front}
 use Rattle.pcl_cert.proofs.Loops.{Stands, begins, goes_on}

@@ -1,6 +1,6 @@
 -- What the planner, the coders and the writer of page texts give is answered Proved, and can be written as a certificate.
-use Rattle.std.proofs.Common.{◌≡◌, ℕ, ◌+◌, ◌*◌, ◌^◌, ◌<◌, ◌≤◌, ◌⊎◌, inl, inr, Bool, true, false, List, Option, Some, None, length, refl, sym, ap, subst, ◌∙◌, arith}
-use Rattle.std.specs.Prelude.{decimal, slice_index}
+use Rattle.std.proofs.Common.{◌≡◌, ℕ, ◌+◌, ◌*◌, ◌^◌, ◌<◌, ◌≤◌, ◌⊎◌, inl, inr, Bool, true, false, List, Option, Some, None, length, sym, ap, subst, ◌∙◌, arith}
+use Rattle.std.specs.Prelude.{decimal}
 use Rattle.std.proofs.lemmas.Bool.{cases_lt}
 use Rattle.std.specs.Borrow.{Bor}
 use Rattle.pcl_base.specs.declared.method.Method.{Method}
@@ -13,7 +13,7 @@ use Rattle.pcl_plan.specs.PageText.{PrintsPage, bitmap_rows}
 use Rattle.pcl_plan.specs.LeastTexts.{IsLeastText, fixed_bytes}
 use Rattle.pcl_plan.specs.PagePlans.{IsPlanOf}
 use Rattle.pcl_plan.specs.Plans.{StepsAndTable}
-use Rattle.pcl_plan.specs.Nodes.{Leads, Ends, cost, start, row_at, row_above}
+use Rattle.pcl_plan.specs.Nodes.{Leads, Ends, start, row_at, row_above}
 use Rattle.pcl_plan.specs.Table.{node_number}
 use Rattle.pcl_plan.proofs.Texts.{widths, text_of_least}
 use Rattle.pcl_plan.proofs.Walking.{row_width, above_width}

@@ -1,5 +1,5 @@
 -- How far deeds bring a situation.
-use Rattle.std.proofs.Common.{◌≡◌, ℕ, ◌+◌, ◌≤◌, ◌<◌, Bool, true, false, cond, nat_le, List, [], ◌∷◌, ◌++◌, length, Option, Some, None, Result, Ok, Err, refl, sym, ap, subst, ◌∙◌, arith}
+use Rattle.std.proofs.Common.{◌≡◌, ℕ, ◌+◌, ◌≤◌, ◌<◌, Bool, false, cond, nat_le, List, [], ◌∷◌, ◌++◌, length, Option, Some, None, Result, Ok, Err, refl, sym, ap, subst, ◌∙◌, arith}
 use Rattle.std.specs.Prelude.{is_some}
 use Rattle.std.proofs.lemmas.Bool.Decides.{nat_tests}
 use Rattle.pcl_base.specs.declared.dpi.Dpi.{Dpi}
@@ -16,7 +16,6 @@ use Rattle.pcl_escape.specs.Said.{Said}
 use Rattle.pcl_env.specs.declared.effect.Effect.{Effect}
 use Rattle.pcl_env.specs.Settings.{Settings}
 use Rattle.pcl_env.specs.Outcome.{Outcome, outcome}
-use Rattle.pcl_page.specs.Raster.{ends_raster}
 use Rattle.pcl_macros.specs.Table.{Begun}
 use Rattle.pcl_page.specs.Situation.{Sheet, Situation, is_marked, turned, drawn, draw_refusal, unless_refused, done_with, counted, prepared, is_ignored, after, page_refusal, refusal_after, operation_refusal, command_refusal}
 use Rattle.pcl_page.specs.Macros.{Run, keeping_of, managed, and_then, after_at, if_not_refused, counting, defining, after_command, run_from, run_of}

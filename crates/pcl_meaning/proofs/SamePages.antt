@@ -1,10 +1,10 @@
 -- Pages that show one sheet are the same in all that a text prints.
-use Rattle.std.proofs.Common.{◌≡◌, ℕ, ◌+◌, ◌<◌, ◌≤◌, List, [], ◌∷◌, ◌++◌, length, refl, sym, ap, subst, ◌∙◌, arith}
+use Rattle.std.proofs.Common.{◌≡◌, ℕ, ◌+◌, ◌<◌, ◌≤◌, List, [], ◌∷◌, ◌++◌, length, sym, ap, subst, ◌∙◌, arith}
 use Rattle.std.proofs.lemmas.List.{length-append}
 use Rattle.pcl_base.specs.declared.dpi.Dpi.{Dpi}
 use Rattle.pcl_base.specs.declared.size.Size.{Size}
 use Rattle.pcl_base.specs.Size.{page_width, page_height}
-use Rattle.pcl_bitmap.specs.Bitmap.{Picture, dot}
+use Rattle.pcl_bitmap.specs.Bitmap.{Picture}
 use Rattle.pcl_bitmap.proofs.Pictures.{same_dots}
 use Rattle.pcl_page.specs.declared.page.Page.{Page}
 use Rattle.pcl_page.specs.Situation.{Sheet}

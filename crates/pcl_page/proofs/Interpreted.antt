@@ -1,5 +1,5 @@
 -- The interpreter follows the situation, command by command.
-use Rattle.std.proofs.Common.{◌≡◌, ℕ, ◌+◌, ◌<◌, ◌≤◌, Bool, true, false, cond, List, [], ◌∷◌, ◌++◌, length, Option, Some, None, Result, Ok, Err, refl, sym, ap, subst, ◌∙◌, append-nil, length-append, arith, inl, inr}
+use Rattle.std.proofs.Common.{◌≡◌, ℕ, ◌+◌, ◌<◌, ◌≤◌, Bool, true, false, cond, List, [], ◌∷◌, ◌++◌, length, Option, Some, None, Result, Ok, Err, refl, sym, ap, subst, ◌∙◌, append-nil, inl, inr}
 use Rattle.std.specs.Prelude.{is_some, ◌⊎◌, ◌&&◌}
 use Rattle.std.specs.Option.{option_map}
 use Rattle.arrayvec.specs.ArrayVec.{ArrayVec}
@@ -13,7 +13,6 @@ use Rattle.pcl_base.specs.declared.kind.Kind.TheVariants.{MacroOpen}
 use Rattle.pcl_base.specs.declared.operation.Operation.{Operation}
 use Rattle.pcl_base.specs.declared.operation.Operation.TheVariants.{Reset, UniversalExit, ControlMacros}
 use Rattle.pcl_base.specs.declared.value.Value.{Value}
-use Rattle.pcl_base.specs.Limits.{macro_limit}
 use Rattle.pcl_base.specs.Operation.{operation_of}
 use Rattle.pcl_base.specs.Value.{is_below_zero}
 use Rattle.pcl_env.specs.declared.effect.Effect.{Effect}
@@ -33,9 +32,9 @@ use Rattle.pcl_page.specs.declared.macros.Action.{Action}
 use Rattle.pcl_page.specs.declared.macros.Action.TheVariants.{Begin, End, Execute, Call, Control}
 use Rattle.pcl_page.specs.declared.macros.Keeping.{Keeping}
 use Rattle.pcl_page.specs.declared.macros.Keeping.TheVariants.{Kept, Ends}
-use Rattle.pcl_page.specs.Raster.{Raster, ends_raster, is_ignored_in_raster}
+use Rattle.pcl_page.specs.Raster.{Raster}
 use Rattle.pcl_page.specs.Situation.{Sheet, Situation, is_marked, turned, done_with, taken, counted, prepared, is_ignored, after, command_refusal, at_end, page_refusal}
-use Rattle.pcl_page.specs.Macros.{Run, action_of, control_keeping, keeping_of, definition_ended, acted, managed, and_then, after_at, if_not_refused, counting, defining, after_command, run_by, run_from, run_of, run_with, macro_now}
+use Rattle.pcl_page.specs.Macros.{Run, definition_ended, acted, managed, and_then, after_at, if_not_refused, counting, run_by, run_from, run_with, macro_now}
 use Rattle.pcl_page.specs.Performing.{Hands, end_refusal}
 use Rattle.pcl_page.specs.Reflecting.{IsIn, HandsMore, IsTried, EndDone}
 use Rattle.pcl_page.specs.Unfolding.{IsAt, Enters, IsStepped, IsActed, IsEntered, InterpreterEnds}

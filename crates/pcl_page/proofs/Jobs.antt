@@ -1,6 +1,5 @@
 -- Performing a job, place by place, up to the whole.
-use Rattle.std.proofs.Common.{◌≡◌, ℕ, ◌+◌, Bool, true, false, cond, List, [], ◌∷◌, ◌++◌, Option, Some, None, Result, Ok, Err, refl, sym, ap, subst, ◌∙◌, append_assoc, append-nil, inr}
-use Rattle.std.specs.Prelude.{is_some}
+use Rattle.std.proofs.Common.{◌≡◌, ℕ, ◌+◌, Bool, List, [], ◌∷◌, ◌++◌, Option, Some, None, Result, Ok, Err, refl, sym, ap, subst, ◌∙◌, append_assoc, append-nil, inr}
 use Rattle.pcl_base.specs.declared.dpi.Dpi.{Dpi}
 use Rattle.pcl_base.specs.declared.fault.JobFault.{JobFault}
 use Rattle.pcl_base.specs.declared.fault.JobFault.TheVariants.{Refused, Memory}
@@ -17,7 +16,7 @@ use Rattle.pcl_page.specs.declared.interpreter.Interpreter.{Interpreter}
 use Rattle.pcl_page.specs.declared.interpreter.Running.{Running}
 use Rattle.pcl_page.specs.Situation.{Sheet, Situation, at_end}
 use Rattle.pcl_page.specs.Jobs.{AllShow, HasPages, IsPerformed, Delivers, performance_of}
-use Rattle.pcl_page.specs.Performing.{Shows, IsSamePage, Hands, Performance, done, unless, then_on, in_order, step, runs, after_all, end_refusal, ended, after_end, pages_of, HandsOver}
+use Rattle.pcl_page.specs.Performing.{Shows, IsSamePage, Hands, Performance, done, unless, then_on, step, runs, after_all, end_refusal, ended, after_end, pages_of, HandsOver}
 use Rattle.pcl_page.specs.Unfolding.{IsAt, resumed, begun_among, GoesOn, InterpreterEnds}
 use Rattle.pcl_page.proofs.Keeping.{end_adds}
 use Rattle.pcl_page.proofs.Sinks.{Onward, stays_there, hands_append, hands_further, goes_from, goes_to}

@@ -14,7 +14,7 @@ use Rattle.pcl_base.specs.Size.{size_with_code, units_wide, units_high}
 use Rattle.pcl_base.specs.Method.{method_with_code}
 use Rattle.pcl_base.specs.Value.{whole_of, is_minus, is_below_zero, scaled_by}
 use Rattle.pcl_env.specs.declared.effect.Effect.TheVariants.{Stay, Eject, EjectMarked}
-use Rattle.pcl_env.specs.Settings.{Position, Settings, put_x, put_y, defaults, with_size}
+use Rattle.pcl_env.specs.Settings.{Position, Settings, put_x, put_y}
 use Rattle.pcl_env.specs.Outcome.{Outcome, stays, stays_if, counted, set_top, set_bottom, set_left, before_feed, return_carriage, feed_limit, feed, move_along, push, pop, popped, set_size, set_rectangle, set_method, unit_of, none_if_zero, is_one_of, line_spacings, units_of_measure, resolutions, outcome}
 
 -- where the page stays, the size does

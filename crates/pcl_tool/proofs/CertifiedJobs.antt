@@ -55,7 +55,8 @@ cut_same (x ∷ a) {b} (y ∷ c) {d} n e =
 
 -- what stands behind pages and texts that are proved
 proved_behind : {dpi : Dpi} (before : List Sheet) {sheet : Sheet} (behind : List Sheet) (proofs_before : List PageProof) (proof : PageProof)
-    (proofs_behind : List PageProof) {texts : List ℕ} (texts_before : List ℕ) {rest : List ℕ} → AreProved dpi before texts_before proofs_before
+    (proofs_behind : List PageProof) {texts : List ℕ} (texts_before : List ℕ) {rest : List ℕ}
+    → AreProved dpi before texts_before proofs_before
     → texts ≡ texts_before ++ rest → AreProved dpi (before ++ sheet ∷ behind) texts (proofs_before ++ proof ∷ proofs_behind)
     → AreProved dpi (sheet ∷ behind) rest (proof ∷ proofs_behind)
 proved_behind {dpi} [] {sheet} behind [] proof proofs_behind texts_before {rest} none e p =
@@ -75,7 +76,8 @@ none_fails {dpi} {texts} {proofs} {verdict} p f =
     let whole : AreProved dpi (f.pages_before ++ f.sheet ∷ f.pages_behind) texts (f.proofs_before ++ f.proof ∷ f.proofs_behind) =
     subst (λ (ps : List PageProof). AreProved dpi (f.pages_before ++ f.sheet ∷ f.pages_behind) texts ps) f.proofs_are
     (subst (λ (ss : List Sheet). AreProved dpi ss texts proofs) f.pages_are p) in
-    let here = proved_behind f.pages_before f.pages_behind f.proofs_before f.proof f.proofs_behind f.texts_before f.proved_before f.texts_are whole in
+    let here = proved_behind f.pages_before f.pages_behind f.proofs_before f.proof f.proofs_behind f.texts_before f.proved_before
+    f.texts_are whole in
     let cut = cut_same f.text here.1 (f.as_long ∙ sym here.5) here.4 in
     f.not_proved
     (verdict_again f.proof.table (tables_of f.proof.places) verdict

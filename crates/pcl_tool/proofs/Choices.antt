@@ -74,7 +74,8 @@ pub skips_to : (number : ℕ) (skip : Option ℕ) → SomeIff skip (1 ≤ number
 skips_to number None h = omega arith
 skips_to number (Some place) h = omega arith
 
-pub image_kept : {dpi : Dpi} {job : List ℕ} {number : ℕ} {pages : List Sheet} (skip : Option ℕ) {old : Chosen} (new : Chosen) {picture : Picture}
+pub image_kept : {dpi : Dpi} {job : List ℕ} {number : ℕ} {pages : List Sheet} (skip : Option ℕ) {old : Chosen} (new : Chosen)
+    {picture : Picture}
     → HasPages dpi job pages → SkipsTo number skip → old.skip ≡ skip → old.kept ≡ None → Hands takes dpi pages old new
     → new.kept ≡ Some picture → IsImageOf dpi job number (image_of picture)
 image_kept {dpi} {pages} None {old} new {picture} m n s k h e =

@@ -10,7 +10,8 @@ use Rattle.pcl_tool.specs.Transfer.{IsWritten}
 use Rattle.pcl_tool.specs.Minimizing.{IsCertifiedJobOf, IsRead, IsFilteredCert}
 
 -- the job wasn't written whole
-pub stopped_in_job : {dpi : Dpi} {format : Format} {given left : Option (List ℕ)} (old new cert : Option (List ℕ)) {job output certificate : List ℕ}
+pub stopped_in_job : {dpi : Dpi} {format : Format} {given left : Option (List ℕ)} (old new cert : Option (List ℕ))
+    {job output certificate : List ℕ}
     (fault : Fault) → IsRead given left job → IsCertifiedJobOf dpi format job output certificate → IsWritten old new output (Err fault)
     → IsFilteredCert dpi format given left old new cert cert (Err fault)
 stopped_in_job old new cert {job} {output} {certificate} WriteFault r j w =

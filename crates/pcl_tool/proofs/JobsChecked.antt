@@ -43,7 +43,8 @@ of_outcome compared same framed job.PageCount o = absurd o
 of_outcome compared same framed job.Frame o = absurd o
 
 -- by what was found before the first page
-of_begin : {dpi : Dpi} {input : List ℕ} (output : List ℕ) {certificate : List ℕ} (compared : AreCompared dpi input certificate) (begun new : Checker)
+of_begin : {dpi : Dpi} {input : List ℕ} (output : List ℕ) {certificate : List ℕ} (compared : AreCompared dpi input certificate)
+    (begun new : Checker)
     (found : JobVerdict) → found ≡ begun.found → proofs_left begun ≡ compared.proofs → begun.taken ≡ 0
     → BeginsWith output compared.proofs begun.texts.now found → length compared.pages ≡ length compared.proofs
     → Hands takes dpi compared.pages begun new → (proofs_left new ≡ []) × IsJobVerdict dpi input output certificate new.found
@@ -60,8 +61,10 @@ of_begin output compared begun new (job.Certificate fault) f e n b same h = absu
 of_begin output compared begun new job.PageCount f e n b same h = absurd b
 
 -- the answer of a checker that has taken the pages of an accepted job
-pub job_answered : {dpi : Dpi} {input output : List ℕ} (certificate : List ℕ) {format : Format} {proofs : List PageProof} {pages : List Sheet}
-    {begun : Checker} (new : Checker) → HasPages dpi input pages → certificate_at dpi certificate ≡ Ok (format, proofs) → IsBegun output proofs begun
+pub job_answered : {dpi : Dpi} {input output : List ℕ} (certificate : List ℕ) {format : Format} {proofs : List PageProof}
+    {pages : List Sheet}
+    {begun : Checker} (new : Checker) → HasPages dpi input pages → certificate_at dpi certificate ≡ Ok (format, proofs)
+    → IsBegun output proofs begun
     → Hands takes dpi pages begun new → IsJobVerdict dpi input output certificate (answer (proofs_left new) new.found)
 job_answered {dpi} {input} {output} certificate {format} {proofs} {pages} {begun} new meaning certified b h =
     let compared : AreCompared dpi input certificate =

@@ -1,4 +1,4 @@
-use Rattle.std.proofs.Common.{◌≤◌, ◌+◌, ◌-◌, true, false, length, take, drop, sym, ap, ◌∙◌, arith}
+use Rattle.std.proofs.Common.{◌≤◌, ◌+◌, ◌-◌, length, take, drop, sym, ap, ◌∙◌, arith}
 use Rattle.pcl_escape.specs.Exit.{lines_at}
 use Rattle.pcl_escape.proofs.Lines.{IsCut, at_other_bytes, at_other_line, at_asking_line, place_later}
 use Rattle.pcl_escape.proofs.Squeezed.{slice_names_language, slice_names_pcl}

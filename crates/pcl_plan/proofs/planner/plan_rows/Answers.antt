@@ -1,4 +1,3 @@
-use Rattle.pcl_plan.specs.Rows.{rows_of}
 use Rattle.pcl_plan.proofs.Planned.{plan_is}
 use Rattle.pcl_plan.proofs.planner.plan_rows.Goals as goal
 

@@ -1,6 +1,6 @@
 use Rattle.std.proofs.Common.{refl}
 use Rattle.std.proofs.KnownBytes.{Keeps-refl}
-use Rattle.pcl_page.proofs.Jobs.{accepted_pages, has_pages}
+use Rattle.pcl_page.proofs.Jobs.{has_pages}
 use Rattle.pcl_tool.proofs.Choices.{SkipsTo, skips_to, image_kept, none_kept, previewed}
 use Rattle.pcl_tool.proofs.page_preview.preview.Goals as goal
 

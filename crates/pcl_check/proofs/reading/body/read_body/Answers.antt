@@ -1,4 +1,4 @@
-use Rattle.std.proofs.Common.{◌≡◌, ◌-◌, [], ℕ, List, take, replicate, sym, ap, subst, ◌∙◌, true, false, refl, arith}
+use Rattle.std.proofs.Common.{◌≡◌, ◌-◌, [], ℕ, List, replicate, sym, ap, subst, ◌∙◌, true, false, refl, arith}
 use Rattle.std.proofs.lemmas.List.{take-replicate}
 use Rattle.pcl_plan.proofs.RowsFrom.{row_small}
 use Rattle.pcl_base.specs.declared.method.Method.TheVariants.{Plain}

@@ -1,7 +1,5 @@
 use Rattle.std.proofs.Common.{rules, refl}
 use Rattle.indexmap.proofs.CallerLemmas.{filter-RetainsPairs}
-use Rattle.std.specs.Option.{option_map}
-use Rattle.pcl_macros.specs.Table.{begun_in}
 use Rattle.pcl_macros.proofs.Tables.{controls_as, controls_temporary}
 use Rattle.pcl_macros.specs.History.{control}
 use Rattle.pcl_macros.specs.declared.table.MacroControl.TheVariants.{Temporary}
