@@ -1,24 +1,22 @@
 -- What the planner, the coders and the writer of page texts give is answered Proved, and can be written as a certificate.
-use Rattle.std.proofs.Common.{◌≡◌, ℕ, ◌+◌, ◌*◌, ◌^◌, ◌<◌, ◌≤◌, ◌⊎◌, inl, inr, Bool, true, false, List, Option, Some, None, length, sym, ap, subst, ◌∙◌, arith}
+use Rattle.std.proofs.Common.{◌≡◌, ℕ, ◌+◌, ◌*◌, ◌<◌, ◌≤◌, inl, inr, true, false, List, Option, Some, None, length, sym, ap, subst, ◌∙◌, arith}
 use Rattle.std.specs.Prelude.{decimal}
 use Rattle.std.proofs.lemmas.Bool.{cases_lt}
-use Rattle.std.specs.Borrow.{Bor}
 use Rattle.pcl_base.specs.declared.method.Method.{Method}
 use Rattle.pcl_base.specs.Size.{page_height, page_row_bytes, code_of}
 use Rattle.pcl_page.specs.declared.page.Page.{Page}
 use Rattle.pcl_coders.specs.Coding.{IsCodable, IsLeastLength}
-use Rattle.pcl_coders.specs.Walks.{IsFeasible}
 use Rattle.pcl_coders.proofs.Filling.{first_is_least}
 use Rattle.pcl_plan.specs.PageText.{PrintsPage, bitmap_rows}
 use Rattle.pcl_plan.specs.LeastTexts.{IsLeastText, fixed_bytes}
 use Rattle.pcl_plan.specs.PagePlans.{IsPlanOf}
 use Rattle.pcl_plan.specs.Plans.{StepsAndTable}
-use Rattle.pcl_plan.specs.Nodes.{Leads, Ends, start, row_at, row_above}
+use Rattle.pcl_plan.specs.Nodes.{start, row_at, row_above}
 use Rattle.pcl_plan.specs.Table.{node_number}
 use Rattle.pcl_plan.proofs.Texts.{widths, text_of_least}
 use Rattle.pcl_plan.proofs.Walking.{row_width, above_width}
 use Rattle.pcl_plan.proofs.RowsFrom.{row_small}
-use Rattle.pcl_check.specs.Edges.{AreGoodNumbers, IsGoodNumber, IsLeastOfRow}
+use Rattle.pcl_check.specs.Edges.{AreGoodNumbers, IsLeastOfRow}
 use Rattle.pcl_check.proofs.GoodNumbers.{feasible_good}
 use Rattle.pcl_check.proofs.Lengths.{height_small}
 use Rattle.pcl_cert.specs.declared.check.Verdict.TheVariants as verdicts

@@ -1,8 +1,7 @@
 -- The checker's yes: no text that prints the page is shorter.
-use Rattle.std.proofs.Common.{◌≡◌, ℕ, zero, suc, ◌+◌, ◌*◌, ◌<◌, ◌≤◌, ◌⊎◌, Bool, inl, inr, List, [], ◌∷◌, ◌++◌, Option, Some, None, length, replicate, refl, sym, ap, ◌∙◌, arith}
+use Rattle.std.proofs.Common.{◌≡◌, ℕ, zero, suc, ◌+◌, ◌<◌, ◌≤◌, ◌⊎◌, inl, inr, List, [], ◌∷◌, ◌++◌, Some, None, length, replicate, refl, sym, ap, ◌∙◌, arith}
 use Rattle.std.specs.Prelude.{slice_index}
 use Rattle.std.proofs.lemmas.List.{length-append, length-replicate, length-take-le}
-use Rattle.std.specs.Borrow.{Bor}
 use Rattle.pcl_base.specs.declared.method.Method.{Method}
 use Rattle.pcl_base.specs.Size.{page_height, page_row_bytes}
 use Rattle.pcl_page.specs.declared.page.Page.{Page}
@@ -19,7 +18,7 @@ use Rattle.pcl_cert.specs.declared.check.Verdict.TheVariants as verdicts
 use Rattle.pcl_cert.specs.RowTables.{list_of, number_at_place}
 use Rattle.pcl_check.specs.Edges.{BoundData}
 use Rattle.pcl_check.specs.Places.{IsGoodPlace}
-use Rattle.pcl_cert.specs.Checking.{Tables, AreOfPage, AreGoodIn, ArePlacesGood, AreEdgesGood, IsVerdict}
+use Rattle.pcl_cert.specs.Checking.{Tables, AreOfPage, ArePlacesGood, AreEdgesGood, IsVerdict}
 use Rattle.pcl_cert.specs.PageTables.{table_of}
 use Rattle.pcl_check.proofs.GoodNumbers.{good_feasible, numbers_by_bounds}
 use Rattle.pcl_check.proofs.Lengths.{height_small}

@@ -13,7 +13,7 @@ use Rattle.pcl_coders.specs.RowWalks.{IsRowTable}
 use Rattle.pcl_plan.specs.PageText.{bitmap_rows}
 use Rattle.pcl_plan.specs.Nodes.{row_at, row_above}
 use Rattle.pcl_cert.specs.RowTables.{list_of}
-use Rattle.pcl_check.specs.Places.{IsGoodPlace, IsFirstPlace, FindsPlace, FindsBadPlace}
+use Rattle.pcl_check.specs.Places.{IsGoodPlace, IsFirstPlace, FindsPlace}
 use Rattle.pcl_cert.specs.Checking.{IsGoodIn, Tables, FindsBadBelow, FindsBadIn, IsFirstBadInRow, IsFirstBadIn}
 use Rattle.pcl_cert.specs.PageTables.{table_of}
 

@@ -3,7 +3,7 @@ use Rattle.std.proofs.Common.{◌≡◌, ℕ, zero, suc, ◌<◌, List, [], ◌�
 use Rattle.std.specs.Int.{Width, to_be_bytes}
 use Rattle.std.specs.List.{flat_map, AllByRecursion}
 use Rattle.std.proofs.lemmas.List.Concat.{flat_map-cons}
-use Rattle.pcl_cert.specs.ReadingCertificates.{◌>>=◌, number_at}
+use Rattle.pcl_cert.specs.ReadingCertificates.{number_at}
 use Rattle.pcl_cert.proofs.FieldsRead.{AreBytes, Splits, splits_both, step_ok, same_ok, IsNumberWidth, number_found, number_again}
 use Rattle.pcl_cert.proofs.Loops.{Reader, IsMany}
 

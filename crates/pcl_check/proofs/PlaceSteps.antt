@@ -8,7 +8,6 @@ use Rattle.pcl_base.specs.declared.method.Method.TheVariants.{Plain, Runs, Packe
 use Rattle.pcl_rows.specs.Heads.{offset_of}
 use Rattle.pcl_rows.specs.Elements.{Element, given, stop}
 use Rattle.pcl_coders.specs.declared.shape.Shape.{Shape}
-use Rattle.pcl_coders.specs.declared.shape.Shape.TheVariants.{SingleByte, Run, LiteralRun, RepeatRun, Replace}
 use Rattle.pcl_coders.specs.RowWalks.{Leads, IsRowTable}
 use Rattle.pcl_coders.specs.Shape.{element_of, shape_stop}
 use Rattle.pcl_coders.proofs.Shapes.{IsRepeat, plain_shape, runs_shape, packed_shape, delta_shape}

@@ -15,7 +15,6 @@ use Rattle.pcl_coders.specs.RowWalks.{Agrees, Leads, Ends, cost, IsRowTable, IsL
 use Rattle.pcl_coders.specs.Coding.{IsCodable, IsLeastLength, AppendsLeast}
 use Rattle.pcl_coders.specs.Filling.{IsPlaceNumber, AreRightFrom, AppendsWalk}
 use Rattle.pcl_coders.specs.declared.shape.Shape.{Shape}
-use Rattle.pcl_coders.specs.declared.shape.Shape.TheVariants.{SingleByte, Run, LiteralRun, Replace}
 use Rattle.pcl_coders.specs.Shape.{element_of, shape_stop, IsShapeChoice}
 use Rattle.pcl_coders.proofs.Walks.{feasible_bounds, attained_is_least}
 use Rattle.pcl_coders.proofs.RowWalks.{length-base, total_is, stop_within, walk_of_data, data_of_walk}

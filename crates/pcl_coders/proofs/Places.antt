@@ -12,7 +12,7 @@ use Rattle.pcl_coders.specs.Choosing.{IsLeastLen, IsPlace}
 use Rattle.pcl_coders.specs.Replacement.{replacement_bytes}
 use Rattle.pcl_coders.specs.Filling.{IsPlaceNumber, AreRightFrom, IsBegun}
 use Rattle.pcl_coders.specs.declared.shape.Shape.{Shape}
-use Rattle.pcl_coders.specs.declared.shape.Shape.TheVariants.{SingleByte, Run, LiteralRun, RepeatRun, Replace}
+use Rattle.pcl_coders.specs.declared.shape.Shape.TheVariants.{SingleByte, Run, Replace}
 use Rattle.pcl_coders.specs.Shape.{element_of, shape_stop, IsShapeChoice}
 use Rattle.pcl_coders.proofs.Shapes.{runs_shape, packed_shape, near_bytes, far_bytes}
 use Rattle.pcl_coders.proofs.Prefixes.{run_len_of, same_len_of}

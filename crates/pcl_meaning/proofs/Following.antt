@@ -13,8 +13,6 @@ use Rattle.pcl_base.specs.declared.value.Value.{Value}
 use Rattle.pcl_base.specs.Limits.{command_limit, page_limit}
 use Rattle.pcl_base.specs.Operation.{operation_of}
 use Rattle.pcl_escape.specs.Said.{Said}
-use Rattle.pcl_env.specs.declared.effect.Effect.{Effect}
-use Rattle.pcl_env.specs.Settings.{Settings}
 use Rattle.pcl_env.specs.Outcome.{Outcome, outcome}
 use Rattle.pcl_macros.specs.Table.{Begun}
 use Rattle.pcl_page.specs.Situation.{Sheet, Situation, is_marked, turned, drawn, draw_refusal, unless_refused, done_with, counted, prepared, is_ignored, after, page_refusal, refusal_after, operation_refusal, command_refusal}

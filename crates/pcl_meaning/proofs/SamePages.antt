@@ -1,5 +1,5 @@
 -- Pages that show one sheet are the same in all that a text prints.
-use Rattle.std.proofs.Common.{◌≡◌, ℕ, ◌+◌, ◌<◌, ◌≤◌, List, [], ◌∷◌, ◌++◌, length, sym, ap, subst, ◌∙◌, arith}
+use Rattle.std.proofs.Common.{◌≡◌, ℕ, ◌<◌, ◌≤◌, List, [], ◌∷◌, ◌++◌, length, sym, ap, subst, ◌∙◌, arith}
 use Rattle.std.proofs.lemmas.List.{length-append}
 use Rattle.pcl_base.specs.declared.dpi.Dpi.{Dpi}
 use Rattle.pcl_base.specs.declared.size.Size.{Size}
@@ -11,7 +11,7 @@ use Rattle.pcl_page.specs.Situation.{Sheet}
 use Rattle.pcl_page.specs.Performing.{Shows}
 use Rattle.pcl_plan.specs.Tokens.{frame_bytes}
 use Rattle.pcl_plan.specs.PageText.{IsPageText, PrintsPage, bitmap_rows}
-use Rattle.pcl_meaning.specs.JobTexts.{PrintInOrder, PrintLeast, IsJobText, IsLeastJobText}
+use Rattle.pcl_meaning.specs.JobTexts.{PrintInOrder, PrintLeast, IsLeastJobText}
 
 -- two pages with the same contents, whatever the proofs that they keep
 pub record AreSame (page other : Page) : Type 0 where

@@ -1,6 +1,6 @@
 -- The interpreter follows the situation, command by command.
-use Rattle.std.proofs.Common.{◌≡◌, ℕ, ◌+◌, ◌<◌, ◌≤◌, Bool, true, false, cond, List, [], ◌∷◌, ◌++◌, length, Option, Some, None, Result, Ok, Err, refl, sym, ap, subst, ◌∙◌, append-nil, inl, inr}
-use Rattle.std.specs.Prelude.{is_some, ◌⊎◌, ◌&&◌}
+use Rattle.std.proofs.Common.{◌≡◌, ℕ, ◌+◌, Bool, true, false, cond, List, ◌∷◌, length, Option, Some, None, Result, Ok, Err, refl, sym, ap, subst, ◌∙◌, append-nil, inl, inr}
+use Rattle.std.specs.Prelude.{is_some}
 use Rattle.std.specs.Option.{option_map}
 use Rattle.arrayvec.specs.ArrayVec.{ArrayVec}
 use Rattle.pcl_base.specs.declared.dpi.Dpi.{Dpi}
@@ -23,16 +23,12 @@ use Rattle.pcl_escape.specs.Said.{Said}
 use Rattle.pcl_macros.specs.declared.table.MacroControl.{MacroControl}
 use Rattle.pcl_macros.specs.declared.table.MacroControl.TheVariants.{Temporary}
 use Rattle.pcl_macros.specs.History.{MacroEvent, MacroBody, defined, control, body_after}
-use Rattle.pcl_macros.specs.Table.{MacroTable, Begun, Holds, Follows, Controls, HasEnd, macro_at, is_begun}
+use Rattle.pcl_macros.specs.Table.{MacroTable, Begun, Holds, Controls, HasEnd, macro_at, is_begun}
 use Rattle.pcl_page.specs.declared.page.Page.{Page}
 use Rattle.pcl_page.specs.declared.performer.Performer.{Performer}
 use Rattle.pcl_page.specs.declared.interpreter.Interpreter.{Interpreter}
 use Rattle.pcl_page.specs.declared.interpreter.Running.{Running}
-use Rattle.pcl_page.specs.declared.macros.Action.{Action}
 use Rattle.pcl_page.specs.declared.macros.Action.TheVariants.{Begin, End, Execute, Call, Control}
-use Rattle.pcl_page.specs.declared.macros.Keeping.{Keeping}
-use Rattle.pcl_page.specs.declared.macros.Keeping.TheVariants.{Kept, Ends}
-use Rattle.pcl_page.specs.Raster.{Raster}
 use Rattle.pcl_page.specs.Situation.{Sheet, Situation, is_marked, turned, done_with, taken, counted, prepared, is_ignored, after, command_refusal, at_end, page_refusal}
 use Rattle.pcl_page.specs.Macros.{Run, definition_ended, acted, managed, and_then, after_at, if_not_refused, counting, run_by, run_from, run_with, macro_now}
 use Rattle.pcl_page.specs.Performing.{Hands, end_refusal}

@@ -1,5 +1,5 @@
 -- Performing a job, place by place, up to the whole.
-use Rattle.std.proofs.Common.{◌≡◌, ℕ, ◌+◌, Bool, List, [], ◌∷◌, ◌++◌, Option, Some, None, Result, Ok, Err, refl, sym, ap, subst, ◌∙◌, append_assoc, append-nil, inr}
+use Rattle.std.proofs.Common.{◌≡◌, ℕ, ◌+◌, List, [], ◌∷◌, ◌++◌, Option, Some, None, Result, Ok, Err, refl, sym, ap, subst, ◌∙◌, append_assoc, append-nil, inr}
 use Rattle.pcl_base.specs.declared.dpi.Dpi.{Dpi}
 use Rattle.pcl_base.specs.declared.fault.JobFault.{JobFault}
 use Rattle.pcl_base.specs.declared.fault.JobFault.TheVariants.{Refused, Memory}
@@ -19,7 +19,7 @@ use Rattle.pcl_page.specs.Jobs.{AllShow, HasPages, IsPerformed, Delivers, perfor
 use Rattle.pcl_page.specs.Performing.{Shows, IsSamePage, Hands, Performance, done, unless, then_on, step, runs, after_all, end_refusal, ended, after_end, pages_of, HandsOver}
 use Rattle.pcl_page.specs.Unfolding.{IsAt, resumed, begun_among, GoesOn, InterpreterEnds}
 use Rattle.pcl_page.proofs.Keeping.{end_adds}
-use Rattle.pcl_page.proofs.Sinks.{Onward, stays_there, hands_append, hands_further, goes_from, goes_to}
+use Rattle.pcl_page.proofs.Sinks.{stays_there, hands_append, hands_further, goes_from, goes_to}
 use Rattle.pcl_page.proofs.Unfolded.{Grows, then_done, then_assoc, then_grows, all_grow}
 
 -- ---- what is still to be performed

@@ -1,33 +1,18 @@
 -- What a command leaves alone.
-use Rattle.std.proofs.Common.{◌≡◌, ℕ, ◌+◌, ◌<◌, ◌≤◌, Bool, true, false, cond, List, [], ◌∷◌, ◌++◌, Option, Some, None, Result, Ok, Err, refl, sym, ap, subst, ◌∙◌, append-nil}
-use Rattle.std.specs.Prelude.{◌&&◌}
+use Rattle.std.proofs.Common.{◌≡◌, ℕ, Bool, true, false, cond, List, [], ◌∷◌, ◌++◌, Option, Some, None, Ok, refl, sym, ap, subst, ◌∙◌, append-nil}
 use Rattle.pcl_base.specs.declared.dpi.Dpi.{Dpi}
-use Rattle.pcl_base.specs.declared.fault.CallFault.{CallFault}
-use Rattle.pcl_base.specs.declared.fault.CallFault.TheVariants.{Refused, Memory}
 use Rattle.pcl_base.specs.declared.kind.Kind.{Kind}
-use Rattle.pcl_base.specs.declared.kind.Kind.TheVariants.{UnsupportedCommand, UnsupportedValue, TooManyCommands, TooManyPages}
 use Rattle.pcl_base.specs.declared.operation.Operation.{Operation}
 use Rattle.pcl_base.specs.declared.operation.Operation.TheVariants.{Reset, UniversalExit, FillRectangle, ControlFonts, DownloadFont, DownloadCharacter, SelectFont, PrintText, StartRaster, RasterOffset, RasterRow}
-use Rattle.pcl_base.specs.declared.size.Size.{Size}
-use Rattle.pcl_base.specs.declared.value.Value.{Value}
-use Rattle.pcl_bitmap.specs.Bitmap.{Picture}
 use Rattle.pcl_fonts.specs.Fields.{Character}
-use Rattle.pcl_fonts.specs.History.{FontEvent}
-use Rattle.pcl_fonts.specs.Table.{FontTable, Holds}
 use Rattle.pcl_escape.specs.Said.{Said}
 use Rattle.pcl_env.specs.declared.effect.Effect.{Effect}
-use Rattle.pcl_env.specs.declared.effect.Effect.TheVariants.{Stay, Eject, EjectMarked}
-use Rattle.pcl_env.specs.declared.effect.Unsupported.{Unsupported}
+use Rattle.pcl_env.specs.declared.effect.Effect.TheVariants.{EjectMarked}
 use Rattle.pcl_env.specs.Settings.{Settings, defaults, font_in_use}
-use Rattle.pcl_env.specs.Outcome.{Outcome, outcome, Answers}
-use Rattle.pcl_page.specs.declared.page.Page.{Page}
-use Rattle.pcl_page.specs.declared.performer.Performer.{Performer}
-use Rattle.pcl_page.specs.Marks.{Mark}
+use Rattle.pcl_env.specs.Outcome.{Outcome, outcome}
 use Rattle.pcl_page.specs.Text.{is_proportional, prints}
-use Rattle.pcl_page.specs.Raster.{Raster, ends_raster}
+use Rattle.pcl_page.specs.Raster.{ends_raster}
 use Rattle.pcl_page.specs.Situation.{Sheet, Situation, with_font, with_character, font_now, code_printed, codes_printed, draw_refusal, unless_refused, end_raster, is_marked, ejects, sheet_of, turned, drawn, done_with, taken, counted, prepared, is_ignored, after, at_end}
-use Rattle.pcl_page.specs.Performing.{Shows, Hands}
-use Rattle.pcl_page.specs.Reflecting.{IsPainted, IsIn, IsWhite, IsFollowed, IsEjected, IsHanded, Takes, IsPrepared, IsDrawn, Draws, HandsMore, IsTurned, IsTried}
 use Rattle.pcl_page.proofs.Turns.{prepared_page}
 
 -- neither pages nor counts, nor what is there of macros, change where something is drawn

@@ -4,12 +4,10 @@ use Rattle.std.specs.Prelude.{◌⊎◌}
 use Rattle.std.proofs.Math.ListN.{drop_of_length-le}
 use Rattle.arrayvec.specs.ArrayVec.{ArrayVec}
 use Rattle.pcl_base.specs.declared.dpi.Dpi.{Dpi}
-use Rattle.pcl_base.specs.declared.fault.CallFault.{CallFault}
 use Rattle.pcl_base.specs.declared.fault.CallFault.TheVariants as call
 use Rattle.pcl_base.specs.declared.fault.JobFault.{JobFault}
 use Rattle.pcl_base.specs.declared.fault.JobFault.TheVariants as job
 use Rattle.pcl_base.specs.declared.kind.Kind.{Kind}
-use Rattle.pcl_base.specs.declared.kind.Kind.TheVariants.{MacroDepth}
 use Rattle.pcl_base.specs.declared.refusal.Refusal.{Refusal}
 use Rattle.pcl_base.specs.Limits.{macro_limit}
 use Rattle.pcl_base.specs.Operation.{operation_of}
@@ -22,13 +20,13 @@ use Rattle.pcl_page.specs.declared.page.Page.{Page}
 use Rattle.pcl_page.specs.declared.performer.Performer.{Performer}
 use Rattle.pcl_page.specs.declared.interpreter.Interpreter.{Interpreter}
 use Rattle.pcl_page.specs.declared.interpreter.Running.{Running}
-use Rattle.pcl_page.specs.Situation.{Sheet, Situation}
+use Rattle.pcl_page.specs.Situation.{Situation}
 use Rattle.pcl_page.specs.Macros.{Run, after_command, run_from, run_of, left}
-use Rattle.pcl_page.specs.Performing.{Hands, Performance, done, stopped, then_on, in_order, step, commands_left, runs}
+use Rattle.pcl_page.specs.Performing.{Performance, done, stopped, then_on, in_order, step, commands_left, runs}
 use Rattle.pcl_page.specs.Reflecting.{IsIn, HandsMore}
-use Rattle.pcl_page.specs.Unfolding.{IsAt, IsSomewhere, run_in, entered, HasLevel, Enters, rest_of, resumed, begun_among, left_in, work_left, HandsFirst, GoesOn, IsStepped}
+use Rattle.pcl_page.specs.Unfolding.{IsAt, run_in, entered, Enters, rest_of, resumed, begun_among, left_in, work_left, GoesOn, IsStepped}
 use Rattle.pcl_page.proofs.Sinks.{no_pages, first_of_more, none_of_more, goes_from, goes_to}
-use Rattle.pcl_page.proofs.Unfolded.{then_assoc, then_same, pushed, begun_refused, begun_deep, begun_entered, KeptOrCounts, command_counts, begun_grow, begun_after}
+use Rattle.pcl_page.proofs.Unfolded.{then_assoc, then_same, pushed, begun_refused, begun_deep, begun_entered, command_counts, begun_grow, begun_after}
 
 -- ---- a command
 

@@ -1,36 +1,28 @@
 -- The performer follows the situation, command by command.
-use Rattle.std.proofs.Common.{◌≡◌, ℕ, ◌+◌, ◌<◌, ◌≤◌, Bool, true, false, cond, nat_le, List, [], ◌∷◌, ◌++◌, length, Option, Some, None, Result, Ok, Err, refl, sym, ap, subst, ◌∙◌, append-nil, length-append, inl, inr, arith}
+use Rattle.std.proofs.Common.{◌≡◌, ℕ, ◌+◌, ◌<◌, ◌≤◌, Bool, true, false, cond, nat_le, List, [], ◌∷◌, ◌++◌, length, Option, Some, None, Ok, Err, refl, sym, ap, subst, ◌∙◌, append-nil, length-append, inl, inr, arith}
 use Rattle.std.specs.Prelude.{is_some, ◌&&◌}
 use Rattle.std.proofs.lemmas.Bool.Decides.{nat_tests}
 use Rattle.pcl_base.specs.declared.dpi.Dpi.{Dpi}
 use Rattle.pcl_base.specs.declared.fault.CallFault.{CallFault}
 use Rattle.pcl_base.specs.declared.fault.CallFault.TheVariants.{Refused, Memory}
 use Rattle.pcl_base.specs.declared.kind.Kind.{Kind}
-use Rattle.pcl_base.specs.declared.kind.Kind.TheVariants.{UnsupportedCommand, UnsupportedValue, TooManyCommands, TooManyPages}
+use Rattle.pcl_base.specs.declared.kind.Kind.TheVariants.{UnsupportedCommand, TooManyCommands, TooManyPages}
 use Rattle.pcl_base.specs.declared.operation.Operation.{Operation}
-use Rattle.pcl_base.specs.declared.operation.Operation.TheVariants.{Reset, UniversalExit, FillRectangle, ControlFonts, DownloadFont, DownloadCharacter, SelectFont, PrintText, StartRaster, RasterOffset, RasterRow}
+use Rattle.pcl_base.specs.declared.operation.Operation.TheVariants.{DownloadFont, DownloadCharacter, PrintText}
 use Rattle.pcl_base.specs.Limits.{command_limit, page_limit}
 use Rattle.pcl_base.specs.Operation.{operation_of}
-use Rattle.pcl_base.specs.declared.size.Size.{Size}
-use Rattle.pcl_base.specs.declared.value.Value.{Value}
-use Rattle.pcl_bitmap.specs.Bitmap.{Picture}
 use Rattle.pcl_base.specs.Value.{is_below_zero}
-use Rattle.pcl_fonts.specs.Fields.{Character}
-use Rattle.pcl_fonts.specs.History.{FontEvent}
-use Rattle.pcl_fonts.specs.Table.{FontTable, Holds}
 use Rattle.pcl_escape.specs.Said.{Said}
 use Rattle.pcl_env.specs.declared.effect.Effect.{Effect}
-use Rattle.pcl_env.specs.declared.effect.Effect.TheVariants.{Stay, Eject, EjectMarked}
-use Rattle.pcl_env.specs.declared.effect.Unsupported.{Unsupported}
+use Rattle.pcl_env.specs.declared.effect.Effect.TheVariants.{Stay}
 use Rattle.pcl_env.specs.Settings.{Settings, defaults}
-use Rattle.pcl_env.specs.Outcome.{Outcome, outcome, stays, Answers}
+use Rattle.pcl_env.specs.Outcome.{Outcome, outcome, stays}
 use Rattle.pcl_page.specs.declared.page.Page.{Page}
 use Rattle.pcl_page.specs.declared.performer.Performer.{Performer}
-use Rattle.pcl_page.specs.Marks.{Mark}
 use Rattle.pcl_page.specs.Raster.{Raster, ends_raster, is_ignored_in_raster}
 use Rattle.pcl_page.specs.Situation.{Sheet, Situation, without_temporary, draw_refusal, unless_refused, drawn_on, settings_below, end_raster, is_marked, sheet_of, turned, drawn, done_with, taken, counted, prepared, is_ignored, after, at_end, page_refusal, refusal_after, operation_refusal, command_refusal}
 use Rattle.pcl_page.specs.Performing.{Shows, Hands}
-use Rattle.pcl_page.specs.Reflecting.{IsPainted, IsIn, IsWhite, IsFollowed, IsEjected, IsHanded, Takes, IsPrepared, IsDrawn, Draws, HandsMore, IsTurned, IsTried}
+use Rattle.pcl_page.specs.Reflecting.{IsIn, Takes, Draws, HandsMore, IsTurned, IsTried}
 use Rattle.pcl_page.proofs.Turns.{holds_same, painted_same, prepared_page, with_settings, turned_page, pages_fit, pages_past, handed_sheet}
 use Rattle.pcl_page.proofs.Keeping.{drawn_keeps}
 

@@ -1,22 +1,16 @@
 -- The performer follows the situation: rasters that end, pages that are turned, and what is drawn.
-use Rattle.std.proofs.Common.{◌≡◌, ℕ, ◌+◌, ◌<◌, ◌≤◌, Bool, true, false, cond, nat_le, List, [], ◌∷◌, ◌++◌, length, Option, Some, None, Result, Ok, Err, refl, sym, ap, subst, ◌∙◌, append-nil, length-append, inl, inr, arith}
-use Rattle.std.specs.Prelude.{◌&&◌}
+use Rattle.std.proofs.Common.{◌≡◌, ℕ, ◌<◌, ◌≤◌, Bool, true, false, cond, nat_le, List, [], ◌∷◌, ◌++◌, length, Option, Some, None, Result, Ok, Err, refl, sym, ap, subst, ◌∙◌, append-nil, length-append, inl, inr, arith}
 use Rattle.std.proofs.lemmas.Bool.Decides.{nat_tests}
 use Rattle.pcl_base.specs.declared.dpi.Dpi.{Dpi}
-use Rattle.pcl_base.specs.declared.fault.CallFault.{CallFault}
 use Rattle.pcl_base.specs.declared.fault.CallFault.TheVariants.{Refused, Memory}
-use Rattle.pcl_base.specs.declared.kind.Kind.{Kind}
-use Rattle.pcl_base.specs.declared.kind.Kind.TheVariants.{UnsupportedCommand, UnsupportedValue, TooManyCommands, TooManyPages}
+use Rattle.pcl_base.specs.declared.kind.Kind.TheVariants.{UnsupportedValue, TooManyPages}
 use Rattle.pcl_base.specs.declared.operation.Operation.{Operation}
-use Rattle.pcl_base.specs.declared.operation.Operation.TheVariants.{Reset, UniversalExit, FillRectangle, ControlFonts, DownloadFont, DownloadCharacter, SelectFont, PrintText, StartRaster, RasterOffset, RasterRow}
 use Rattle.pcl_base.specs.declared.size.Size.{Size}
 use Rattle.pcl_base.specs.declared.value.Value.{Value}
 use Rattle.pcl_base.specs.Size.{page_width, page_height}
 use Rattle.pcl_bitmap.specs.Bitmap.{Picture, dot}
-use Rattle.pcl_fonts.specs.Fields.{Character}
 use Rattle.pcl_fonts.specs.History.{FontEvent}
 use Rattle.pcl_fonts.specs.Table.{FontTable, Holds}
-use Rattle.pcl_escape.specs.Said.{Said}
 use Rattle.pcl_env.specs.declared.effect.Effect.{Effect}
 use Rattle.pcl_env.specs.declared.effect.Effect.TheVariants.{Stay, Eject, EjectMarked}
 use Rattle.pcl_env.specs.declared.effect.Unsupported.{Unsupported}
@@ -27,9 +21,9 @@ use Rattle.pcl_page.specs.declared.performer.Performer.{Performer}
 use Rattle.pcl_bitmap.specs.Dots.{is_black_ink}
 use Rattle.pcl_page.specs.Marks.{Mark, is_black}
 use Rattle.pcl_page.specs.Raster.{Raster, ends_raster}
-use Rattle.pcl_page.specs.Situation.{Sheet, Situation, settings_below, end_raster, is_marked, ejects, sheet_of, turned, taken, prepared, page_refusal}
-use Rattle.pcl_page.specs.Performing.{Shows, Hands}
-use Rattle.pcl_page.specs.Reflecting.{IsPainted, IsIn, IsWhite, IsFollowed, IsEjected, IsHanded, Takes, IsPrepared, IsDrawn, Draws, HandsMore, IsTurned, IsTried}
+use Rattle.pcl_page.specs.Situation.{Sheet, Situation, settings_below, end_raster, is_marked, ejects, sheet_of, turned, prepared, page_refusal}
+use Rattle.pcl_page.specs.Performing.{Shows}
+use Rattle.pcl_page.specs.Reflecting.{IsPainted, IsIn, IsWhite, IsFollowed, IsEjected, IsHanded, Takes, IsPrepared, IsDrawn, HandsMore, IsTurned}
 use Rattle.pcl_page.proofs.Sizes.{size_kept}
 
 -- ---- pages

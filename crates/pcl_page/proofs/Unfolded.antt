@@ -1,5 +1,5 @@
 -- Performances of commands and of macros, unfolded.
-use Rattle.std.proofs.Common.{◌≡◌, ℕ, zero, suc, ◌+◌, ◌-◌, ◌*◌, ◌<◌, ◌≤◌, Bool, true, false, cond, nat_le, List, [], ◌∷◌, ◌++◌, length, Option, Some, None, Result, Ok, Err, refl, sym, ap, subst, ◌∙◌, append-nil, arith, inl, inr}
+use Rattle.std.proofs.Common.{◌≡◌, ℕ, zero, suc, ◌+◌, ◌-◌, ◌<◌, Bool, true, false, cond, nat_le, List, [], ◌∷◌, ◌++◌, length, Option, Some, None, Result, Ok, Err, refl, sym, ap, subst, ◌∙◌, append-nil, arith, inl, inr}
 use Rattle.std.specs.Prelude.{is_some, ◌⊎◌}
 use Rattle.std.proofs.lemmas.Bool.Decides.{nat_tests}
 use Rattle.pcl_base.specs.declared.dpi.Dpi.{Dpi}
@@ -17,10 +17,10 @@ use Rattle.pcl_macros.specs.History.{defined}
 use Rattle.pcl_macros.specs.Table.{Begun}
 use Rattle.pcl_page.specs.declared.interpreter.Running.{Running}
 use Rattle.pcl_page.specs.declared.macros.Action.{Action}
-use Rattle.pcl_page.specs.declared.macros.Action.TheVariants.{Begin, End, Execute, Call, Control}
+use Rattle.pcl_page.specs.declared.macros.Action.TheVariants.{Begin, End, Control}
 use Rattle.pcl_page.specs.declared.macros.Keeping.{Keeping}
 use Rattle.pcl_page.specs.declared.macros.Keeping.TheVariants.{Kept, Ends, Refused}
-use Rattle.pcl_page.specs.Situation.{Sheet, Situation, after, operation_refusal, command_refusal}
+use Rattle.pcl_page.specs.Situation.{Situation, after, operation_refusal, command_refusal}
 use Rattle.pcl_page.specs.Macros.{Run, action_of, keeping_of, definition_ended, acted, managed, and_then, after_at, if_not_refused, counting, defining, after_command, run_of, left}
 use Rattle.pcl_page.specs.Performing.{Performance, done, stopped, unless, then_on, in_order, concluded, and_run, step, commands_left, runs}
 use Rattle.pcl_page.specs.Unfolding.{run_in, entered, HasLevel, rest_of, resumed, begun_among}

@@ -1,5 +1,5 @@
 -- Macros: what an open definition does with a command, what a macro control does, and which macro it runs.
-use Rattle.std.specs.Prelude.{ℕ, ◌+◌, ◌==◌, is_some, Bool, if◌then◌else◌, ◌∷◌, Option, Some, None, Result, Ok, Err}
+use Rattle.std.specs.Prelude.{ℕ, ◌+◌, ◌==◌, is_some, if◌then◌else◌, ◌∷◌, Option, Some, None, Result, Ok, Err}
 use Rattle.std.specs.Option.{option_map}
 use Rattle.pcl_base.specs.declared.dpi.Dpi.{Dpi}
 use Rattle.pcl_base.specs.declared.kind.Kind.{Kind}

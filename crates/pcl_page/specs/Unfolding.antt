@@ -1,5 +1,5 @@
 -- The interpreter, the situation that it is in, and what it has still to perform. Only contracts of private functions cite this.
-use Rattle.std.specs.Prelude.{◌≡◌, ℕ, zero, suc, ◌+◌, ◌-◌, ◌*◌, ◌<◌, ◌≤◌, List, [], ◌∷◌, ◌++◌, length, ◌⊎◌, Option, Some, None, Result, Ok, Err}
+use Rattle.std.specs.Prelude.{◌≡◌, ℕ, zero, suc, ◌+◌, ◌-◌, ◌*◌, ◌<◌, List, [], ◌∷◌, ◌++◌, length, ◌⊎◌, Option, Some, None, Result, Ok, Err}
 use Rattle.pcl_base.specs.declared.dpi.Dpi.{Dpi}
 use Rattle.pcl_base.specs.declared.fault.JobFault.{JobFault}
 use Rattle.pcl_base.specs.declared.fault.JobFault.TheVariants as job
@@ -7,12 +7,9 @@ use Rattle.pcl_base.specs.declared.fault.CallFault.{CallFault}
 use Rattle.pcl_base.specs.declared.fault.CallFault.TheVariants.{Refused, Memory}
 use Rattle.pcl_base.specs.declared.kind.Kind.{Kind}
 use Rattle.pcl_base.specs.declared.kind.Kind.TheVariants.{MacroDepth}
-use Rattle.pcl_base.specs.declared.operation.Operation.{Operation}
-use Rattle.pcl_base.specs.declared.value.Value.{Value}
 use Rattle.pcl_base.specs.declared.name.Name.TheVariants.{Empty}
 use Rattle.pcl_base.specs.Limits.{command_limit, macro_limit}
 use Rattle.pcl_base.specs.Refusal.{refusal}
-use Rattle.pcl_env.specs.Settings.{Settings}
 use Rattle.pcl_escape.specs.Said.{Said}
 use Rattle.pcl_macros.specs.Table.{Holds}
 use Rattle.pcl_page.specs.declared.page.Page.{Page}

@@ -1,5 +1,5 @@
 -- A job whose pages are all answered Proved is.
-use Rattle.std.proofs.Common.{◌≡◌, ℕ, ◌+◌, List, [], ◌∷◌, ◌++◌, length, Result, Ok, Err, refl, sym, ap, subst, ◌∙◌, append_assoc, arith}
+use Rattle.std.proofs.Common.{◌≡◌, ℕ, List, [], ◌∷◌, ◌++◌, length, Result, Ok, Err, refl, sym, ap, subst, ◌∙◌, append_assoc, arith}
 use Rattle.std.proofs.lemmas.List.{length-append, append_cancel_left, append_cancel_right}
 use Rattle.pcl_base.specs.declared.dpi.Dpi.{Dpi}
 use Rattle.pcl_page.specs.Situation.{Sheet}
@@ -20,7 +20,7 @@ use Rattle.pcl_tool.specs.declared.job_verdict.JobVerdict.TheVariants as job
 use Rattle.pcl_tool.specs.Certified.{tables_of, AreProved}
 use Rattle.pcl_tool.specs.Minimizing.{IsCertifiedJobOf}
 use Rattle.pcl_tool.specs.LeastJobs.{IsCertifiedBy}
-use Rattle.pcl_tool.specs.JobVerdicts.{AreCompared, IsFramed, IsFirstFailure, IsJobVerdict, text_bytes}
+use Rattle.pcl_tool.specs.JobVerdicts.{AreCompared, IsFirstFailure, IsJobVerdict, text_bytes}
 use Rattle.pcl_tool.proofs.SameVerdicts.{verdict_again}
 
 -- ---- as many pages as proofs, and texts as long as these say

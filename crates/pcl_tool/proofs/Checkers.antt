@@ -1,22 +1,18 @@
 -- What the checker of pages has found behind the last page.
-use Rattle.std.proofs.Common.{◌≡◌, ℕ, ◌+◌, ◌≤◌, List, [], ◌∷◌, ◌++◌, length, take, drop, refl, sym, ap, subst, ◌∙◌, append_assoc, arith, Ok}
+use Rattle.std.proofs.Common.{◌≡◌, ℕ, ◌+◌, ◌≤◌, List, [], ◌∷◌, ◌++◌, length, take, drop, refl, sym, ap, subst, ◌∙◌, append_assoc, arith}
 use Rattle.std.proofs.lemmas.List.{length-drop, length-take-le, take-append-drop, drop-drop}
 use Rattle.pcl_base.specs.declared.dpi.Dpi.{Dpi}
 use Rattle.pcl_page.specs.declared.page.Page.{Page}
 use Rattle.pcl_page.specs.Situation.{Sheet}
 use Rattle.pcl_page.specs.Performing.{Shows, Hands}
-use Rattle.pcl_page.specs.Jobs.{HasPages}
-use Rattle.pcl_cert.specs.declared.check.Verdict.{Verdict}
 use Rattle.pcl_cert.specs.declared.check.Verdict.TheVariants as verdicts
-use Rattle.pcl_cert.specs.declared.fault.CertFault.{CertFault}
-use Rattle.pcl_cert.specs.declared.format.Format.{Format}
 use Rattle.pcl_cert.specs.declared.page_proof.PageProof.{PageProof}
 use Rattle.pcl_cert.specs.Checking.{IsVerdict}
 use Rattle.pcl_tool.specs.declared.job_verdict.JobVerdict.{JobVerdict}
 use Rattle.pcl_tool.specs.declared.job_verdict.JobVerdict.TheVariants as job
 use Rattle.pcl_tool.specs.declared.page_checks.Checker.{Checker}
 use Rattle.pcl_tool.specs.Certified.{tables_of, AreProved}
-use Rattle.pcl_tool.specs.JobVerdicts.{AreCompared, IsFramed, IsFirstFailure, IsJobVerdict, text_bytes}
+use Rattle.pcl_tool.specs.JobVerdicts.{IsFirstFailure, text_bytes}
 use Rattle.pcl_tool.specs.PageChecks.{IsFound}
 use Rattle.pcl_tool.specs.CheckerSteps.{FindsNext, TakesNext, TakesPage, proofs_left, answer}
 

@@ -1,5 +1,5 @@
 -- What the checker of a job answers behind the last page.
-use Rattle.std.proofs.Common.{◌≡◌, ℕ, zero, suc, ◌+◌, ◌⊎◌, inl, inr, List, [], ◌∷◌, length, drop, refl, sym, ap, subst, ◌∙◌, arith, Ok, Err}
+use Rattle.std.proofs.Common.{◌≡◌, ℕ, zero, suc, ◌⊎◌, inl, inr, List, [], length, drop, refl, sym, ap, subst, ◌∙◌, arith, Ok}
 use Rattle.pcl_base.specs.declared.dpi.Dpi.{Dpi}
 use Rattle.pcl_page.specs.Situation.{Sheet}
 use Rattle.pcl_page.specs.Performing.{Hands}
@@ -14,7 +14,7 @@ use Rattle.pcl_tool.specs.declared.job_verdict.JobVerdict.TheVariants as job
 use Rattle.pcl_tool.specs.declared.page_checks.Checker.{Checker}
 use Rattle.pcl_tool.specs.JobVerdicts.{AreCompared, IsFramed, IsFirstFailure, IsJobVerdict}
 use Rattle.pcl_tool.specs.CheckerSteps.{BeginsWith, IsBegun, proofs_left, answer}
-use Rattle.pcl_tool.proofs.Checkers.{takes, stays, miscounted, IsOutcome, AreLeft, outcome}
+use Rattle.pcl_tool.proofs.Checkers.{takes, stays, miscounted, IsOutcome, outcome}
 
 same_or : (a b : ℕ) → (a ≡ b) ⊎ (a ≡ b → ⊥)
 same_or zero zero = inl refl

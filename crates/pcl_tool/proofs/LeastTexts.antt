@@ -1,5 +1,5 @@
 -- Written page texts are least, and so are those that the checker answers Proved.
-use Rattle.std.proofs.Common.{ℕ, List, [], ◌∷◌, ◌≡◌}
+use Rattle.std.proofs.Common.{ℕ, List, [], ◌∷◌}
 use Rattle.pcl_base.specs.declared.dpi.Dpi.{Dpi}
 use Rattle.pcl_page.specs.Situation.{Sheet}
 use Rattle.pcl_cert.specs.declared.page_proof.PageProof.{PageProof}

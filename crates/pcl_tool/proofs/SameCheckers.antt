@@ -1,5 +1,5 @@
 -- A checker whose fields are put together again.
-use Rattle.std.proofs.Common.{◌≡◌, ℕ, length, drop, Result, Ok, Err, ap}
+use Rattle.std.proofs.Common.{◌≡◌, length, drop, Result, Ok, Err, ap}
 use Rattle.std.specs.Prelude.{OnErr}
 use denote.Struct.Props.{props}
 use Rattle.pcl_tool.specs.declared.job_verdict.JobVerdict.TheVariants as job

@@ -1,10 +1,7 @@
 -- Where a text is answered Proved for one page, it is for each page that shows the same sheet.
-use Rattle.std.proofs.Common.{◌≡◌, ℕ, ◌+◌, ◌*◌, ◌<◌, ◌≤◌, Bool, List, Option, Some, None, length, refl}
-use Rattle.pcl_base.specs.declared.dpi.Dpi.{Dpi}
+use Rattle.std.proofs.Common.{◌≡◌, ℕ, ◌+◌, ◌*◌, ◌<◌, ◌≤◌, Bool, List, Some, None, length, refl}
 use Rattle.pcl_base.specs.declared.method.Method.{Method}
-use Rattle.pcl_base.specs.declared.size.Size.{Size}
 use Rattle.pcl_base.specs.Size.{page_height, page_row_bytes}
-use Rattle.pcl_bitmap.specs.Bitmap.{Picture}
 use Rattle.pcl_page.specs.declared.page.Page.{Page}
 use Rattle.pcl_plan.specs.LeastTexts.{fixed_bytes}
 use Rattle.pcl_plan.specs.Nodes.{row_at, row_above, start}
@@ -18,7 +15,7 @@ use Rattle.pcl_cert.specs.declared.check.Verdict.{Verdict}
 use Rattle.pcl_cert.specs.declared.check.Verdict.TheVariants.{NotGrammar, OtherPage, Rows, Place, Edge, Length, Proved}
 use Rattle.pcl_cert.specs.RowTables.{list_of, number_at_place}
 use Rattle.pcl_cert.specs.PageTables.{table_of}
-use Rattle.pcl_cert.specs.Checking.{Tables, AreOfPage, AreGoodIn, AreEdgesGood, IsGoodOf, IsVerdict}
+use Rattle.pcl_cert.specs.Checking.{Tables, AreOfPage, AreGoodIn, AreEdgesGood, IsVerdict}
 use Rattle.pcl_meaning.proofs.SamePages.{AreSame, moved, prints_same}
 
 some_text : (page : Page) {text : List ℕ} → PrintsPage page text → IsSomePageText page.dpi text

@@ -1,9 +1,7 @@
 -- What the checker of pages finds of one page. Only contracts of private functions cite this.
 use Rattle.std.specs.Prelude.{◌≡◌, ℕ, List}
 use Rattle.pcl_page.specs.declared.page.Page.{Page}
-use Rattle.pcl_cert.specs.declared.check.Verdict.{Verdict}
 use Rattle.pcl_cert.specs.declared.check.Verdict.TheVariants as verdicts
-use Rattle.pcl_cert.specs.declared.fault.CertFault.{CertFault}
 use Rattle.pcl_cert.specs.declared.page_proof.PageProof.{PageProof}
 use Rattle.pcl_cert.specs.Checking.{IsVerdict}
 use Rattle.pcl_tool.specs.declared.job_verdict.JobVerdict.{JobVerdict}

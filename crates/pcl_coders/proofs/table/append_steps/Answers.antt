@@ -1,4 +1,4 @@
-use Rattle.std.proofs.Common.{◌≡◌, ◌+◌, ℕ, List, ◌++◌, ap, ◌∙◌, arith, rules}
+use Rattle.std.proofs.Common.{◌≡◌, ℕ, List, ◌++◌, ap, ◌∙◌, arith, rules}
 use Rattle.std.proofs.lemmas.List.{take_rest}
 use Rattle.pcl_coders.specs.Shape.{element_of}
 use Rattle.std.specs.Prelude.{slice_index}

@@ -1,4 +1,4 @@
-use Rattle.std.proofs.Common.{◌≡◌, ℕ, List, length, drop, sym, ap, ◌∙◌}
+use Rattle.std.proofs.Common.{ℕ, List, length, drop, sym, ap, ◌∙◌}
 use Rattle.pcl_cert.specs.RowTables.{contents, list_from}
 use Rattle.pcl_cert.specs.PageTables.{table_of}
 use Rattle.pcl_cert.proofs.Written.{list_kept}

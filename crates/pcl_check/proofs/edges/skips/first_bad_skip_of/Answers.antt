@@ -1,4 +1,4 @@
-use Rattle.std.proofs.Common.{◌≡◌, ℕ, ◌+◌, ◌-◌, ◌≤◌, true, List, length, refl, sym, ap, subst, ◌∙◌, below_more, arith, ◌++◌}
+use Rattle.std.proofs.Common.{◌≡◌, ℕ, ◌+◌, ◌-◌, ◌≤◌, List, length, refl, sym, ap, subst, ◌∙◌, below_more, arith, ◌++◌}
 use Rattle.std.proofs.lemmas.Bool.{iff_false}
 use Rattle.pcl_coders.specs.Windows.{IsLeastOf}
 use Rattle.pcl_plan.specs.Filling.{rest}

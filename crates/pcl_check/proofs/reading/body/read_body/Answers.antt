@@ -1,7 +1,6 @@
 use Rattle.std.proofs.Common.{◌≡◌, ◌-◌, [], ℕ, List, replicate, sym, ap, subst, ◌∙◌, true, false, refl, arith}
 use Rattle.std.proofs.lemmas.List.{take-replicate}
 use Rattle.pcl_plan.proofs.RowsFrom.{row_small}
-use Rattle.pcl_base.specs.declared.method.Method.TheVariants.{Plain}
 use Rattle.pcl_base.specs.Size.{page_height, page_row_bytes}
 use Rattle.std.specs.Prelude.{Bool, not}
 use Rattle.std.specs.Str.{bytes_eq}

@@ -1,4 +1,4 @@
-use Rattle.std.proofs.Common.{◌≡◌, ◌<◌, ◌≤◌, ◌++◌, ◌∷◌, [], ◌⊎◌, ◌∙◌, ℕ, List, length, Ok, refl, subst, arith, inl, inr, OnOk}
+use Rattle.std.proofs.Common.{◌≤◌, ◌++◌, ◌∷◌, [], ◌⊎◌, List, length, refl, subst, arith, inl, inr, OnOk}
 use Rattle.std.proofs.lemmas.Result.{on_ok_weaker}
 use Rattle.pcl_escape.specs.Said.{views}
 use Rattle.pcl_page.specs.declared.interpreter.Running.{Running}

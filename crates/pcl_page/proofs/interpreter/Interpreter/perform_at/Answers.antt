@@ -1,6 +1,5 @@
-use Rattle.std.proofs.Common.{◌≡◌, Err, subst}
+use Rattle.std.proofs.Common.{Err, subst}
 use Rattle.pcl_base.specs.declared.fault.CallFault.{CallFault}
-use Rattle.pcl_base.specs.declared.fault.CallFault.TheVariants.{Refused, Memory}
 use Rattle.pcl_escape.specs.Said.{view}
 use Rattle.pcl_page.specs.Macros.{after_command, run_of}
 use Rattle.pcl_page.specs.Unfolding.{IsStepped}

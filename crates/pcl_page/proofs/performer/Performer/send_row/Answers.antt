@@ -1,4 +1,4 @@
-use Rattle.std.proofs.Common.{◌≡◌, ◌∙◌, Bool, Option, Some, refl, sym, ap, ◌||◌}
+use Rattle.std.proofs.Common.{◌≡◌, ◌∙◌, Option, Some, refl, sym, ap, ◌||◌}
 use Rattle.pcl_base.specs.declared.method.Method.{Method}
 use Rattle.pcl_bitmap.specs.Bitmap.{dot}
 use Rattle.pcl_page.specs.Raster.{Raster, row_sent, with_row, row_mark}
