@@ -282,6 +282,21 @@ cut_not_whole some is cut w = cut_not_whole_at w.0 some is cut w.1 w.2
 pub whole_none : (method : Method) (room : ℕ) → IsWhole method [] room
 whole_none method room = ([], tt, refl, omega arith)
 
+-- bytes that stand for themselves are whole where they don't pass the row
+plain_fits : (bytes : List ℕ) {room : ℕ} → IsWhole Plain bytes room → length bytes ≤ room
+plain_fits [] w = omega arith
+plain_fits (byte ∷ bytes) w =
+    let one = whole_uncons {h = Itself} {new = byte ∷ []} {rest = bytes} (record { method_is = refl; in_range = tt })
+    (record { complete = refl; joined = refl }) w in
+    omega (arith, one.0, plain_fits bytes one.1)
+
+pub plain_is_whole : (bytes : List ℕ) (room : ℕ) → (length bytes ≤ room) ↔ IsWhole Plain bytes room
+plain_is_whole bytes room =
+    let es = plain_elements bytes in (
+      (λ fits. (es.0, es.1, es.2, omega (arith, es.3))),
+      plain_fits bytes,
+    )
+
 -- ---- what a loop over the elements uses
 
 rest_shorter_at : {method : Method} (bytes : List ℕ) {h : Head} (new rest : List ℕ) (whole : Bool) → 0 < length bytes → IsHead method h

@@ -10,6 +10,19 @@ use pcl_base::Method;
 pub fn is_whole(method: Method, bytes: &[u8], row_bytes: usize) -> bool
     ensures { IsTrue result ↔ IsWhole method bytes.now row_bytes }
 {
+    match method {
+        // Each byte is an element of its own.
+        Method::Plain => bytes.len() <= row_bytes,
+        Method::Runs | Method::Packed | Method::Delta => {
+            are_elements_whole(method, bytes, row_bytes)
+        }
+    }
+}
+
+/// The same, found by a walk over the elements.
+fn are_elements_whole(method: Method, bytes: &[u8], row_bytes: usize) -> bool
+    ensures { IsTrue result ↔ IsWhole method bytes.now row_bytes }
+{
     let mut rest = bytes;
     let mut room = row_bytes as u128;
     while !rest.is_empty() {

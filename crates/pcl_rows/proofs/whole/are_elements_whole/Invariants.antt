@@ -1,6 +1,6 @@
 use Rattle.std.proofs.Common.{◌↔◌, length}
 use Rattle.pcl_rows.specs.Rows.{IsWhole}
-use Rattle.pcl_rows.proofs.whole.is_whole.Given as goal
+use Rattle.pcl_rows.proofs.whole.are_elements_whole.Given as goal
 
 abbrev pub invariant-loop-rest : goal.invariant-loop-rest
 invariant-loop-rest l = IsWhole l.method l.bytes l.row_bytes ↔ IsWhole l.method l.rest l.room
