@@ -23,11 +23,12 @@
 //! A line of the first kind holds for all cases below it, up to the next such line; `job` begins anew.
 
 use crate::notation::{bracketed_bytes_of, bytes_of};
-use crate::table::{TableFault, number, resolution};
+use crate::table::{CasesOfLines, TableFault, number, resolution};
 use pcl_base::Dpi;
 use pcl_cert::Format;
 use pcl_tool::{Fault, Output, Unwatched, check_job, minimize};
 use std::alloc::{AllocError, Global};
+use std::rt::Files;
 
 /// Lengths to which a certificate is cut.
 #[derive(Clone, Copy)]
@@ -65,7 +66,7 @@ pub struct Certificates {
     certificate: Vec<u8>,
     cuts: Option<Cuts>,
     /// The name of the case.
-    pub name: String,
+    name: String,
 }
 
 impl Certificates {
@@ -83,23 +84,6 @@ impl Certificates {
             cuts: None,
             name: String::new(alloc),
         }
-    }
-
-    /// Takes a line. Where it ends a case, what came, if it isn't what is expected.
-    pub(crate) fn take_line(
-        &mut self,
-        alloc: Global,
-        line: &str,
-    ) -> Result<Option<Option<String>>, TableFault> {
-        let (word, rest) = line.split_once(' ').unwrap_or((line, ""));
-        match word {
-            "" | "#" => {}
-            "case" => self.begin_case(alloc, rest)?,
-            "answer" => return Ok(Some(self.fault_of(alloc, rest)?)),
-            "put" | "insert" | "remove" | "cut" => self.change(alloc, word, rest)?,
-            _ => self.set(alloc, word, rest)?,
-        }
-        Ok(None)
     }
 
     /// Takes a line that holds for all cases below it.
@@ -201,6 +185,29 @@ impl Certificates {
             if came.as_str() != expected {
                 return Ok(Some(came));
             }
+        }
+        Ok(None)
+    }
+}
+
+impl CasesOfLines for Certificates {
+    fn name(&self) -> &str {
+        self.name.as_str()
+    }
+
+    fn take_line<F: Files>(
+        &mut self,
+        _files: &F,
+        alloc: Global,
+        line: &str,
+    ) -> Result<Option<Option<String>>, TableFault> {
+        let (word, rest) = line.split_once(' ').unwrap_or((line, ""));
+        match word {
+            "" | "#" => {}
+            "case" => self.begin_case(alloc, rest)?,
+            "answer" => return Ok(Some(self.fault_of(alloc, rest)?)),
+            "put" | "insert" | "remove" | "cut" => self.change(alloc, word, rest)?,
+            _ => self.set(alloc, word, rest)?,
         }
         Ok(None)
     }

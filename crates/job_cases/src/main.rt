@@ -11,6 +11,7 @@
 mod case;
 mod certificates;
 mod check;
+mod commands;
 mod notation;
 mod shown;
 mod table;
@@ -18,10 +19,11 @@ mod table;
 use case::Case;
 use certificates::Certificates;
 use check::fault_of;
+use commands::Commands;
 use std::alloc::Global;
 use std::rt::Files;
 use std::{fs, io};
-use table::{TableFault, cases_of};
+use table::{CasesOfLines, TableFault, cases_of};
 use thiserror::Error;
 
 /// The tables, each a file of `data/`.
@@ -50,6 +52,9 @@ const TABLES: [&str; 20] = [
 
 /// The table of certificates that are changed.
 const CERTIFICATES: &str = "certificates.txt";
+
+/// The table of command lines.
+const COMMANDS: &str = "commands.txt";
 
 /// Why the program ends with a status other than 0.
 #[derive(Debug, Drop, Error)]
@@ -82,41 +87,41 @@ fn main(rt: HostRuntime) -> Result<(), RunFault> {
             }
         }
     }
-    let (certificates, wrong) = check_certificates(&rt, rt.alloc(), folder)?;
-    if failed > 0 || wrong > 0 {
-        return Err(RunFault::Fails {
-            failed: failed.saturating_add(wrong),
-            count: count.saturating_add(certificates),
-        });
+    let changed = Certificates::new(rt.alloc());
+    let (certificates, wrong) = check_lines(&rt, rt.alloc(), folder, CERTIFICATES, changed)?;
+    let words = Commands::new(rt.alloc());
+    let (commands, unlike) = check_lines(&rt, rt.alloc(), folder, COMMANDS, words)?;
+    let failed = failed.saturating_add(wrong).saturating_add(unlike);
+    if failed > 0 {
+        let count = count.saturating_add(certificates).saturating_add(commands);
+        return Err(RunFault::Fails { failed, count });
     }
     println!(rt; "{count} cases hold")?;
     println!(rt; "{certificates} certificates are answered so")?;
+    println!(rt; "{commands} command lines do so")?;
     Ok(())
 }
 
-/// How many certificates there are in their table, and how many of them aren't answered as it says: these are printed.
-fn check_certificates(
+/// How many cases a table of lines has, and how many of them don't hold: these are printed.
+fn check_lines<C: CasesOfLines + Drop>(
     rt: &(impl Files + AllocGlobal + Print),
     alloc: Global,
     folder: &str,
+    name: &'static str,
+    mut cases: C,
 ) -> Result<(usize, usize), RunFault> {
-    let text = read_text(rt, alloc, folder, CERTIFICATES)?;
-    let mut certificates = Certificates::new(alloc);
+    let text = read_text(rt, alloc, folder, name)?;
     let mut line = 0usize;
     let (mut count, mut wrong) = (0usize, 0usize);
     for words in text.lines() {
         line = line.saturating_add(1);
-        let taken = certificates.take_line(alloc, words.trim());
-        let ended = taken.map_err(|fault| RunFault::Table {
-            name: CERTIFICATES,
-            line,
-            fault,
-        })?;
+        let taken = cases.take_line(rt, alloc, words.trim());
+        let ended = taken.map_err(|fault| RunFault::Table { name, line, fault })?;
         if let Some(came) = ended {
             count = count.saturating_add(1);
             if let Some(came) = came {
                 wrong = wrong.saturating_add(1);
-                println!(rt; "{CERTIFICATES}: {}\n  {came}", certificates.name)?;
+                println!(rt; "{name}: {}\n  {came}", cases.name())?;
             }
         }
     }

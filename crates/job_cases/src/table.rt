@@ -25,6 +25,7 @@ use crate::notation::{NotationFault, bracketed_bytes_of, bytes_of};
 use crate::shown::name_of;
 use pcl_base::{Dpi, Size};
 use std::alloc::{AllocError, AllocFailed, Global};
+use std::rt::Files;
 use thiserror::Error;
 
 /// The most bytes of a row, which an A4 page has at 600 dots per inch, rounded up.
@@ -43,6 +44,8 @@ pub enum TableFault {
     Number,
     #[error("a row is longer than a page is wide")]
     Row,
+    #[error("a file can't be made, read or removed")]
+    File,
     #[error(transparent)]
     Notation(NotationFault),
 }
@@ -63,6 +66,20 @@ impl From<NotationFault> for TableFault {
     fn from(fault: NotationFault) -> Self {
         TableFault::Notation(fault)
     }
+}
+
+/// Cases of a table that hold or don't, one line after the other.
+pub(crate) trait CasesOfLines {
+    /// The name of the last case.
+    fn name(&self) -> &str;
+
+    /// Takes a line. Where it ends a case, what came, if it isn't what is expected.
+    fn take_line<F: Files>(
+        &mut self,
+        files: &F,
+        alloc: Global,
+        line: &str,
+    ) -> Result<Option<Option<String>>, TableFault>;
 }
 
 /// The cases of a table, or its first line that is wrong.

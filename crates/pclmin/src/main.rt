@@ -1,16 +1,11 @@
-//! `pclmin`: a print filter for HP PCL 5. The work is done by `pcl_tool`; this is the command line.
+//! `pclmin`: a print filter for HP PCL 5. `pcl_command` does what the words of the command line ask for; this gives it the
+//! words, the files, standard input and standard output.
 #![tactic(auto)]
 
-mod arguments;
-mod checks;
-mod messages;
 mod progress;
-mod run;
-mod verdicts;
 
-use messages::USAGE_STATUS;
+use pcl_command::{Ending, USAGE_STATUS, run};
 use progress::Progress;
-use run::{Ending, run};
 use std::io;
 use std::process::ExitCode;
 use std::rt::Env;
@@ -47,6 +42,3 @@ fn print(rt: &(impl Print + Eprint), ending: &Ending) {
         Ending::Shown(error) => error.print(rt),
     };
 }
-
-#[cfg(test)]
-mod tests;

@@ -2,8 +2,8 @@ use Rattle.std.proofs.Common.{◌≡◌, ◌∙◌, ◌++◌, List, ℕ, Result,
 use Rattle.std.specs.Prelude.{OnOk, is_ok, if◌then◌else◌, decimal, codes}
 use Rattle.std.proofs.lemmas.Result.{on_ok_weaker}
 use Rattle.pcl_tool.specs.declared.job_verdict.JobVerdict.{JobVerdict}
-use Rattle.pclmin.specs.Verdicts.{fault_text, verdict_text, job_text}
-use Rattle.pclmin.proofs.verdicts.append_job.Goals as goal
+use Rattle.pcl_command.specs.Verdicts.{fault_text, verdict_text, job_text}
+use Rattle.pcl_command.proofs.verdicts.append_job.Goals as goal
 
 appended : {T E : Type 0} (result : Result T E) (old new text : List ℕ) → new ≡ (if is_ok result then old ++ text else old)
     → OnOk result (new ≡ old ++ text)

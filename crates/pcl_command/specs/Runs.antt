@@ -8,13 +8,13 @@ use Rattle.pcl_cert.specs.declared.format.Format.{Format}
 use Rattle.pcl_tool.specs.Minimizing.{IsFiltered, IsFilteredCert, IsRead, input_limit}
 use Rattle.pcl_tool.specs.Preview.{IsPreview}
 use Rattle.pcl_tool.specs.Transfer.{GivesAtMost}
-use Rattle.pclmin.specs.Messages.{line_of, status_for}
-use Rattle.pclmin.specs.Checks.{IsCheckRun, verdict_status_for}
-use Rattle.pclmin.specs.declared.arguments.Task.{Task}
-use Rattle.pclmin.specs.declared.arguments.Task.TheVariants.{Minimize, Certify, Preview}
-use Rattle.pclmin.specs.declared.arguments.Usage.{Usage}
-use Rattle.pclmin.specs.declared.run.Ending.{Ending}
-use Rattle.pclmin.specs.declared.run.Ending.TheVariants.{Done, Checked, Failed, NoMemory, Shown}
+use Rattle.pcl_command.specs.Messages.{line_of, status_for}
+use Rattle.pcl_command.specs.Checks.{IsCheckRun, verdict_status_for}
+use Rattle.pcl_command.specs.declared.arguments.Task.{Task}
+use Rattle.pcl_command.specs.declared.arguments.Task.TheVariants.{Minimize, Certify, Preview}
+use Rattle.pcl_command.specs.declared.arguments.Usage.{Usage}
+use Rattle.pcl_command.specs.declared.running.Ending.{Ending}
+use Rattle.pcl_command.specs.declared.running.Ending.TheVariants.{Done, Checked, Failed, NoMemory, Shown}
 
 -- the page that is asked for, 0 where none is
 abbrev pub page_of : Task → ℕ

@@ -1,7 +1,7 @@
 //! A run: what the words of a command line ask for is done, over any reader and writer.
 
 ghost use Rattle.std.specs.Prelude.{◌≡◌, if◌then◌else◌, None, Some};
-ghost use Rattle.pclmin.specs.Runs.{HasDone, HasEnded, HasFailed, IsStatus};
+ghost use Rattle.pcl_command.specs.Runs.{HasDone, HasEnded, HasFailed, IsStatus};
 
 use crate::arguments::{Request, Task, Usage, parse_arguments};
 use crate::checks::check;

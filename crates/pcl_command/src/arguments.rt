@@ -2,7 +2,7 @@
 
 ghost use Rattle.std.specs.Prelude.{◌≡◌, ◌≢◌, MatchOption};
 ghost use Rattle.pcl_base.specs.Dpi.{dots_per_inch};
-ghost use Rattle.pclmin.specs.Runs.{page_of};
+ghost use Rattle.pcl_command.specs.Runs.{page_of};
 
 use crate::checks::CheckedFiles;
 use clap::error::ErrorKind;

@@ -1,7 +1,7 @@
 use Rattle.std.proofs.Common.{inr, sym, subst}
-use Rattle.pclmin.specs.declared.arguments.Task.{Task}
-use Rattle.pclmin.specs.Runs.{HasDoneTask}
-use Rattle.pclmin.proofs.run.carry_out.Goals as goal
+use Rattle.pcl_command.specs.declared.arguments.Task.{Task}
+use Rattle.pcl_command.specs.Runs.{HasDoneTask}
+use Rattle.pcl_command.proofs.running.carry_out.Goals as goal
 
 pub returns-in-Ok : goal.returns-in-Ok
 returns-in-Ok g c =

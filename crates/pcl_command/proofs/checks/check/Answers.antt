@@ -8,9 +8,9 @@ use Rattle.pcl_tool.specs.declared.fault.Fault.{Fault}
 use Rattle.pcl_tool.specs.declared.fault.Fault.TheVariants.{Refused, Memory, ReadFault, TooLong, WriteFault, NoSuchPage}
 use Rattle.pcl_tool.specs.declared.job_verdict.JobVerdict.{JobVerdict}
 use Rattle.pcl_tool.specs.Transfer.{AppendsFront, IsWritten}
-use Rattle.pclmin.specs.Verdicts.{verdict_line_of}
-use Rattle.pclmin.specs.Checks.{IsAnswer, IsCheckRun}
-use Rattle.pclmin.proofs.checks.check.Goals as goal
+use Rattle.pcl_command.specs.Verdicts.{verdict_line_of}
+use Rattle.pcl_command.specs.Checks.{IsAnswer, IsCheckRun}
+use Rattle.pcl_command.proofs.checks.check.Goals as goal
 
 -- a write of the line that fails
 stops : (dpi : Dpi) (old new : Option (List ℕ)) (verdict : JobVerdict) (line : List ℕ) (fault : Fault) → IsAnswer dpi verdict

@@ -1,8 +1,8 @@
 //! What the program says of a checked job.
 
 ghost use Rattle.std.specs.Prelude.{◌≡◌, ◌++◌, IfOk, OnOk};
-ghost use Rattle.pclmin.specs.Checks.{verdict_status_for};
-ghost use Rattle.pclmin.specs.Verdicts.{fault_text, numbers_text, verdict_text, job_text, verdict_line_of};
+ghost use Rattle.pcl_command.specs.Checks.{verdict_status_for};
+ghost use Rattle.pcl_command.specs.Verdicts.{fault_text, numbers_text, verdict_text, job_text, verdict_line_of};
 
 use itoa::Buffer;
 use pcl_base::Method;

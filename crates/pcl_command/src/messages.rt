@@ -1,7 +1,7 @@
 //! What the program says of a fault.
 
 ghost use Rattle.std.specs.Prelude.{◌≡◌, IfOk};
-ghost use Rattle.pclmin.specs.Messages.{line_of, status_for};
+ghost use Rattle.pcl_command.specs.Messages.{line_of, status_for};
 
 use itoa::Buffer;
 use pcl_tool::Fault;

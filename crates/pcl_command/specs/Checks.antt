@@ -10,7 +10,7 @@ use Rattle.pcl_tool.specs.declared.job_verdict.JobVerdict.{JobVerdict}
 use Rattle.pcl_tool.specs.declared.job_verdict.JobVerdict.TheVariants as job
 use Rattle.pcl_tool.specs.JobVerdicts.{IsJobVerdict}
 use Rattle.pcl_tool.specs.Transfer.{AppendsFront}
-use Rattle.pclmin.specs.Verdicts.{verdict_line_of}
+use Rattle.pcl_command.specs.Verdicts.{verdict_line_of}
 
 -- no fault but of reading, length and memory; of a file's bytes nothing is claimed
 abbrev pub IsFileRead : Result (Vec ℕ) Fault → Type 0

@@ -1,6 +1,6 @@
 //! A check: a written job beside its input, by a certificate, each from a file.
 
-ghost use Rattle.pclmin.specs.Checks.{IsCheckRun, IsFileRead};
+ghost use Rattle.pcl_command.specs.Checks.{IsCheckRun, IsFileRead};
 
 use crate::verdicts::verdict_line;
 use pcl_base::Dpi;

@@ -1,0 +1,317 @@
+//! Command lines, and what a run of the program does for each.
+//!
+//! A table of them is lines of a word and what belongs to it; empty lines, and lines that begin with `#`, say nothing.
+//!
+//! ```text
+//! job ESC&l0E ESC*p0x0Y              what standard input gives in the cases below, in the notation that `notation` tells
+//! more ESC*c1a1b0P                   more of it
+//! reader fails                       it can't be read, up to the next job
+//! writer fails                       standard output can't be written, up to the line `writer holds`
+//! file page.pcl ESCE                 a file with these bytes is made; the runs below find it
+//! remove page.pcl                    a file is removed
+//! case a page that isn't there       a case. What is wanted of it, in any order:
+//!   writes 48: ESCE                  how many bytes are written, and how they begin; none where it isn't said
+//!   says pclmin: no page 2           the whole line on standard error; none where nothing is said
+//!   mentions --page <N>              in its place a part of the text of help or of a usage fault
+//!   tells 2 pages, 1 end             how many pages are told of, and how often the end; none where it isn't said
+//!   makes page.cert 12: {PCLCERT1}   the length of a file that was made, and how it begins
+//!   run pclmin pbm --page 2          the words
+//!   status 1                         the status; this ends the case
+//! ```
+
+use crate::notation::bytes_of;
+use crate::table::{CasesOfLines, TableFault, number};
+use pcl_command::{Ending, run};
+use pcl_tool::{INPUT_LIMIT, Watcher, read_all};
+use std::alloc::{AllocError, Global};
+use std::cell::Cell;
+use std::fs;
+use std::io::{self, ErrorKind, Read, Write};
+use std::rt::Files;
+
+/// Standard input: the bytes that are left of it, or none where it can't be read.
+#[derive(Drop)]
+struct Given<'a>(Option<&'a [u8]>);
+
+impl Read for Given<'_> {
+    fn read(&mut self, buf: &mut [u8]) -> io::Result<usize> {
+        match &mut self.0 {
+            Some(bytes) => bytes.read(buf),
+            None => Err(io::Error::from(ErrorKind::BrokenPipe)),
+        }
+    }
+}
+
+/// Standard output: what was written to it, or none where it can't be written.
+#[derive(Drop)]
+struct Taken(Option<Vec<u8>>);
+
+impl Write for Taken {
+    fn write(&mut self, buf: &[u8]) -> io::Result<usize> {
+        match &mut self.0 {
+            Some(bytes) => bytes.extend_from_slice(buf)?,
+            None => return Err(io::Error::from(ErrorKind::BrokenPipe)),
+        }
+        Ok(buf.len())
+    }
+
+    fn flush(&mut self) -> io::Result<()> {
+        Ok(())
+    }
+}
+
+/// Counts what it is told.
+#[derive(Drop)]
+struct Told {
+    /// The number of pages that was told last.
+    pages: Cell<u32>,
+    /// How often pages were told.
+    times: Cell<u32>,
+    /// How often the end was.
+    ends: Cell<u32>,
+}
+
+impl Watcher for &Told {
+    fn pages_done(&self, pages: u32) {
+        self.pages.set(pages);
+        self.times.set(self.times.get().saturating_add(1));
+    }
+
+    fn ended(&self) {
+        self.ends.set(self.ends.get().saturating_add(1));
+    }
+}
+
+/// A length, and the first bytes of what is so long.
+#[derive(Drop)]
+struct Begin {
+    len: usize,
+    bytes: Vec<u8>,
+}
+
+impl Begin {
+    /// As `48: ESCE` says.
+    fn parse(alloc: Global, text: &str) -> Result<Begin, TableFault> {
+        let (len, notation) = text.split_once(':').ok_or(TableFault::Unknown)?;
+        Ok(Begin {
+            len: number(len)?,
+            bytes: bytes_of(alloc, notation)?,
+        })
+    }
+
+    /// Whether bytes are so many and begin so.
+    fn is_of(&self, bytes: &[u8]) -> bool {
+        bytes.len() == self.len && bytes.starts_with(&self.bytes)
+    }
+}
+
+/// What the lines of a table say up to one of them.
+#[derive(Drop)]
+pub struct Commands {
+    /// What standard input gives, where it can be read.
+    job: Option<Vec<u8>>,
+    /// Whether standard output can be written.
+    is_held: bool,
+    /// The name of the case.
+    name: String,
+    /// The words of its command line.
+    line: String,
+    written: Begin,
+    /// What is said, and whether that is all.
+    said: String,
+    is_whole: bool,
+    /// The pages that are told of, and how often the end is.
+    told: (usize, usize),
+    /// The file that is made, and what it begins with.
+    made: Option<(String, Begin)>,
+}
+
+impl Commands {
+    /// Before the first line.
+    pub(crate) fn new(alloc: Global) -> Commands {
+        Commands {
+            job: None,
+            is_held: true,
+            name: String::new(alloc),
+            line: String::new(alloc),
+            written: nothing(alloc),
+            said: String::new(alloc),
+            is_whole: true,
+            told: (0, 0),
+            made: None,
+        }
+    }
+
+    /// Begins a case, of which nothing is wanted so far.
+    fn begin_case(&mut self, alloc: Global, name: &str) -> Result<(), TableFault> {
+        self.name = String::from_str(alloc, name)?;
+        self.written = nothing(alloc);
+        self.said = String::new(alloc);
+        self.is_whole = true;
+        self.told = (0, 0);
+        self.made = None;
+        Ok(())
+    }
+
+    /// Takes a line that says something of a case.
+    fn want(&mut self, alloc: Global, word: &str, rest: &str) -> Result<(), TableFault> {
+        match word {
+            "run" => self.line = String::from_str(alloc, rest)?,
+            "writes" => self.written = Begin::parse(alloc, rest)?,
+            "says" => self.said = format!(in alloc; "{rest}\n")?,
+            "mentions" => {
+                self.said = String::from_str(alloc, rest)?;
+                self.is_whole = false;
+            }
+            "tells" => self.told = counts_of(rest)?,
+            "makes" => {
+                let (file, begin) = rest.split_once(' ').ok_or(TableFault::Unknown)?;
+                self.made = Some((String::from_str(alloc, file)?, Begin::parse(alloc, begin)?));
+            }
+            _ => return Err(TableFault::Unknown),
+        }
+        Ok(())
+    }
+
+    /// Takes a line that holds for all cases below it.
+    fn set<F: Files>(
+        &mut self,
+        files: &F,
+        alloc: Global,
+        word: &str,
+        rest: &str,
+    ) -> Result<(), TableFault> {
+        match (word, rest) {
+            ("job", _) => self.job = Some(bytes_of(alloc, rest)?),
+            ("more", _) => {
+                let more = bytes_of(alloc, rest)?;
+                let job = self.job.as_mut().ok_or(TableFault::Unknown)?;
+                job.extend_from_slice(&more)?;
+            }
+            ("reader", "fails") => self.job = None,
+            ("writer", "fails") => self.is_held = false,
+            ("writer", "holds") => self.is_held = true,
+            ("file", _) => {
+                let (file, notation) = rest.split_once(' ').unwrap_or((rest, ""));
+                let bytes = bytes_of(alloc, notation)?;
+                fs::write(files, file, &bytes).map_err(|_| TableFault::File)?;
+            }
+            ("remove", _) => fs::remove_file(files, rest).map_err(|_| TableFault::File)?,
+            _ => return self.want(alloc, word, rest),
+        }
+        Ok(())
+    }
+
+    /// What came in place of what is wanted; none where the case holds.
+    fn fault_of<F: Files>(
+        &self,
+        files: &F,
+        alloc: Global,
+        status: usize,
+    ) -> Result<Option<String>, TableFault> {
+        let words = self.line.as_str().split(' ').collect::<Vec<&str>>(alloc)?;
+        let mut given = Given(self.job.as_deref());
+        let mut taken = Taken(self.is_held.then_some(Vec::new(alloc)));
+        let told = Told {
+            pages: Cell::new(0),
+            times: Cell::new(0),
+            ends: Cell::new(0),
+        };
+        let ending = run(files, alloc, &words, &mut given, &mut taken, &told);
+        let said = text_of(alloc, &ending)?;
+        let written = taken.0.as_deref().unwrap_or(&[]);
+        let is_right = usize::from(ending.status()) == status
+            && self.written.is_of(written)
+            && self.is_said(&said)
+            && self.is_told(&told)
+            && self.is_made(files, alloc)?;
+        if is_right {
+            return Ok(None);
+        }
+        let came = format!(in alloc;
+            "status {}, {} bytes written, pages told {} in {} times, {} ends: {said}",
+            ending.status(),
+            written.len(),
+            told.pages.get(),
+            told.times.get(),
+            told.ends.get()
+        )?;
+        Ok(Some(came))
+    }
+
+    /// Whether what is said is what is wanted.
+    fn is_said(&self, said: &str) -> bool {
+        if self.is_whole {
+            said == self.said.as_str()
+        } else {
+            said.contains(self.said.as_str())
+        }
+    }
+
+    /// Whether as much was told as is wanted, each page once.
+    fn is_told(&self, told: &Told) -> bool {
+        let (pages, ends) = self.told;
+        told.pages.get() as usize == pages
+            && told.times.get() as usize == pages
+            && told.ends.get() as usize == ends
+    }
+
+    /// Whether the file that is wanted was made.
+    fn is_made<F: Files>(&self, files: &F, alloc: Global) -> Result<bool, TableFault> {
+        let Some((file, begin)) = &self.made else {
+            return Ok(true);
+        };
+        let mut file = fs::open(files, file.as_str()).map_err(|_| TableFault::File)?;
+        match read_all(alloc, &mut file, INPUT_LIMIT) {
+            Ok(bytes) => Ok(begin.is_of(&bytes)),
+            Err(_) => Err(TableFault::File),
+        }
+    }
+}
+
+impl CasesOfLines for Commands {
+    fn name(&self) -> &str {
+        self.name.as_str()
+    }
+
+    fn take_line<F: Files>(
+        &mut self,
+        files: &F,
+        alloc: Global,
+        line: &str,
+    ) -> Result<Option<Option<String>>, TableFault> {
+        let (word, rest) = line.split_once(' ').unwrap_or((line, ""));
+        match word {
+            "" | "#" => {}
+            "case" => self.begin_case(alloc, rest)?,
+            "status" => return Ok(Some(self.fault_of(files, alloc, number(rest)?)?)),
+            _ => self.set(files, alloc, word, rest)?,
+        }
+        Ok(None)
+    }
+}
+
+/// No byte.
+fn nothing(alloc: Global) -> Begin {
+    Begin {
+        len: 0,
+        bytes: Vec::new(alloc),
+    }
+}
+
+/// Numbers of pages and ends, as `2 pages, 1 end`.
+fn counts_of(text: &str) -> Result<(usize, usize), TableFault> {
+    let (pages, ends) = text.split_once(" pages, ").ok_or(TableFault::Unknown)?;
+    let (ends, _) = ends.split_once(' ').ok_or(TableFault::Unknown)?;
+    Ok((number(pages)?, number(ends)?))
+}
+
+/// What the program prints at its end, help and the version too.
+fn text_of(alloc: Global, ending: &Ending) -> Result<String, AllocError> {
+    Ok(match ending {
+        Ending::Done | Ending::Checked(_) => String::new(alloc),
+        Ending::Failed { line, .. } => String::from_utf8_lossy(alloc, line)?,
+        Ending::NoMemory => String::from_str(alloc, "pclmin: out of memory\n")?,
+        Ending::Shown(error) => format!(in alloc; "{error}")?,
+    })
+}
