@@ -19,7 +19,7 @@ returns-then-is_white c =
     let rows = c.args.rows.now in
     let count = length_rows rows.count rows.width rows.bytes.now in
     record {
-      run = run_more (rows_of rows) c.args.row c.args.below (omega (arith, c.requires.row, count)) c.requires.below
+      run = run_more (omega (arith, c.requires.row, count)) c.requires.below
           (c.is_white.ensures.0 c.if-is_white.true);
       within = omega (arith, c.requires.below.within, count);
     }
@@ -29,7 +29,7 @@ returns-else-is_white c =
     let rows = c.args.rows.now in
     let count = length_rows rows.count rows.width rows.bytes.now in
     record {
-      run = run_none (rows_of rows) c.args.row (omega (arith, c.requires.row, count))
+      run = run_none (omega (arith, c.requires.row, count))
           (λ white. (let no : false ≡ true = subst IsTrue c.if-is_white.false (c.is_white.ensures.1 white) in absurd cc));
       within = omega arith;
     }
