@@ -94,7 +94,6 @@ feasible_of page table (Some lists) printed size places good =
     (λ row method. number_at_place lists.now row method 0) (omega (arith, printed.count))
     (size.0 ∙ ap (λ (n : ℕ). n + 1) (sym printed.count))
     (bound_data page lists.now printed (λ row method lt.
-    let width : ℕ = page_row_bytes page.size page.dpi in
     let rows = bitmap_rows page.bitmap in
     let are = widths page.size page.dpi rows printed.rows_are in
     let wide = row_width rows row are (omega (arith, printed.count)) in

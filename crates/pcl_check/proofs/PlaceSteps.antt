@@ -39,7 +39,6 @@ pub steps_plain : {old row : List ℕ} (numbers : List ℕ) {place : ℕ} → le
     → place ≤ length row
     → IsGoodByte numbers place → AreGoodSteps Plain old row numbers place
 steps_plain {old} {row} numbers {place} same size le good = λ e next l.
-    let wanted : List ℕ = drop place row in
     let s = plain_shape e.head l.element.head_is.method_is l.element.complete in
     let g = agrees_gives (drop place old) (omega (arith, length-drop place old, length-drop place row)) l.element l.agrees in
     let one : stop e ≡ 1 = omega (arith, s.0, s.1.above, s.1.below) in
@@ -103,7 +102,6 @@ steps_packed {old} {row} numbers {place} same size le literals runs = λ e next 
 pub steps_delta : {old row : List ℕ} (numbers : List ℕ) {place : ℕ} → length old ≡ length row → place ≤ length row
     → AreGoodReplacements old row numbers place → AreGoodSteps Delta old row numbers place
 steps_delta {old} {row} numbers {place} same le good = λ e next l.
-    let wanted : List ℕ = drop place row in
     let s = delta_shape e.head l.element.head_is.method_is l.element.head_is.in_range l.element.complete in
     let g = agrees_gives (drop place old) (omega (arith, length-drop place old, length-drop place row)) l.element l.agrees in
     let offset : ℕ = offset_of e.head in

@@ -70,7 +70,6 @@ pub record IsDeltaStep (old row : List ℕ) (place start next : ℕ) (e : Elemen
 pub delta_step : {old row : List ℕ} {place start next : ℕ} {e : Element} → length old ≡ length row → IsLatestStart old row place start
     → Leads Delta old row place e next → IsDeltaStep old row place start next e
 delta_step {old} {row} {place} {e} size is l =
-    let wanted : List ℕ = drop place row in
     let long = length-drop place row in
     let s = delta_shape e.head l.element.head_is.method_is l.element.head_is.in_range l.element.complete in
     let g = agrees_gives (drop place old) (omega (arith, long, length-drop place old)) l.element l.agrees in

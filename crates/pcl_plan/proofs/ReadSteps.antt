@@ -11,7 +11,7 @@ use Rattle.pcl_plan.specs.declared.step.Step.{Step}
 use Rattle.pcl_plan.specs.declared.step.Step.TheVariants.{Skip, Switch, Row}
 use Rattle.pcl_plan.specs.declared.steps.Place.{Place}
 use Rattle.pcl_plan.specs.Tokens.{Token, opening, method, skip, send, IsSpelled}
-use Rattle.pcl_plan.specs.Nodes.{Node, start, row_at, row_above, Leads, Ends, cost}
+use Rattle.pcl_plan.specs.Nodes.{Node, start, Leads, Ends, cost}
 use Rattle.pcl_plan.specs.Spelling.{least_spelling}
 use Rattle.pcl_plan.specs.Table.{node_number}
 use Rattle.pcl_plan.specs.Filling.{outside, inside, rest}

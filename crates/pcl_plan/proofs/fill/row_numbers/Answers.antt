@@ -1,5 +1,4 @@
 use Rattle.std.proofs.Common.{◌+◌, ◌≤◌, ◌<◌, ℕ, List, false, arith}
-use Rattle.pcl_plan.specs.Nodes.{row_at, row_above}
 use Rattle.pcl_plan.specs.Table.{by_method}
 use Rattle.pcl_plan.specs.Rows.{rows_of}
 use Rattle.pcl_plan.specs.declared.rows.Rows.{Rows}

@@ -1,6 +1,5 @@
 use Rattle.std.proofs.Common.{◌≡◌, true, false, subst, arith}
 use Rattle.std.specs.Prelude.{IsTrue}
-use Rattle.pcl_plan.specs.Rows.{rows_of}
 use Rattle.pcl_plan.proofs.RowsFrom.{length_rows}
 use Rattle.pcl_plan.proofs.Filled.{run_more, run_none}
 use Rattle.pcl_plan.proofs.fill.white_run.Goals as goal

@@ -16,7 +16,6 @@ right_table rows right = record { few = omega (arith, length_rows rows.count row
 pub best_step-step-requires-clause-row : goal.best_step-step-requires-clause-row
 best_step-step-requires-clause-row g c =
     let rows = c.args.rows.now in
-    let table = c.args.table.now in
     let is = right_table rows c.requires.right in
     let place = c.loop-place.place in
     let r = c.loop-place.invariant in
@@ -37,7 +36,6 @@ behind-place-requires-clause-row g c =
 pub loop-place-smaller : goal.loop-place-smaller
 loop-place-smaller g c =
     let rows = c.args.rows.now in
-    let table = c.args.table.now in
     read_less
     (right_table rows c.requires.right) c.loop-place.invariant
     (omega (arith, c.loop-place-test.true, c.number.ensures)) c.best_step-step.ensures c.behind-place.ensures
@@ -54,6 +52,5 @@ loop-place-preserved g c =
 pub returns : goal.returns
 returns g c =
     let rows = c.args.rows.now in
-    let table = c.args.table.now in
     read_all (right_table rows c.requires.right)
     c.loop-place.invariant (omega (arith, c.loop-place-test.false, c.number.ensures))

@@ -1,6 +1,5 @@
 use Rattle.std.proofs.Common.{◌*◌, arith}
 use Rattle.pcl_rows.proofs.Readings.{treated_none}
-use Rattle.pcl_base.specs.declared.method.Method.TheVariants.{Runs}
 use Rattle.pcl_rows.proofs.Pairs.{pair_more, pairs_all}
 use Rattle.pcl_rows.proofs.decoding.put_runs.Goals as goal
 
