@@ -141,11 +141,11 @@ pub pattern_dot-above : (x y : ℤ) (s w h : ℕ) (rows : List ℕ) (px py : ℕ
 pattern_dot-above x y s w h rows px py e =
     ap (λ t. pattern_bit s w h rows (dots_past x px) t) e ∙ no_row s w h rows (dots_past x px)
 
-left_of : (x y w h px py : ℕ) → px < x → rectangle_dot x y w h px py ≡ false
-left_of x y w h px py less = rw (lt-leb x px less)
+left_of : {x : ℕ} (y w h : ℕ) {px : ℕ} (py : ℕ) → px < x → rectangle_dot x y w h px py ≡ false
+left_of {x} y w h {px} py less = rw (lt-leb x px less)
 
-above_of : (x y w h px py : ℕ) → py < y → rectangle_dot x y w h px py ≡ false
-above_of x y w h px py less = and_left _ _ (and_right (nat_le x px && nat_lt px (x + w)) (nat_le y py) (lt-leb y py less))
+above_of : (x : ℕ) {y : ℕ} (w h px : ℕ) {py : ℕ} → py < y → rectangle_dot x y w h px py ≡ false
+above_of x {y} w h px {py} less = and_left _ _ (and_right (nat_le x px && nat_lt px (x + w)) (nat_le y py) (lt-leb y py less))
 
 both_tests : (a b p d : Bool) → (if true && a && true && b then p || d else d) ≡ ((a && b && p) || d)
 both_tests true true p d = refl
@@ -179,11 +179,11 @@ seen_pattern x y left top skip_x skip_y wide high w h s n width height px py row
     let p : Bool = dot_of_row (drop ((py - top + skip_y) / s * n) rows) ((skip_x + (px - left)) / s) in
     elim (cases_lt px left) [
       | inl before ↦
-          ap (λ t. if t then p || d else d) (left_of left top w h px py before)
+          ap (λ t. if t then p || d else d) (left_of top w h py before)
           ∙ ap (λ t. t || d) (sym (pattern_dot-left x y s width height rows px py (dots_past-out x skip_x before e_x)))
       | inr right ↦ elim (cases_lt py top) [
         | inl above ↦
-            ap (λ t. if t then p || d else d) (above_of left top w h px py above)
+            ap (λ t. if t then p || d else d) (above_of left w h px above)
             ∙ ap (λ t. t || d) (sym (pattern_dot-above x y s width height rows px py (dots_past-out y skip_y above e_y)))
         | inr below ↦
             let across : ℕ = px + skip_x - left in

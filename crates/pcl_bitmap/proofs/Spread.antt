@@ -223,8 +223,8 @@ run_or source r x w i px py d wide within =
           ∙ ap (λ t. if t then s || d else d) (sym (in_run-past from late))
     ]
 
-left_of : (x y w h px py : ℕ) → px < x → rectangle_dot x y w h px py ≡ false
-left_of x y w h px py h' = rw (lt-leb x px h')
+left_of : {x : ℕ} (y w h : ℕ) {px : ℕ} (py : ℕ) → px < x → rectangle_dot x y w h px py ≡ false
+left_of {x} y w h {px} py h' = rw (lt-leb x px h')
 
 -- within a rectangle two sources have the same bits
 pub same_source :
@@ -233,8 +233,8 @@ pub same_source :
 same_source x y w h px py p q d same =
     elim (cases_lt px x) [
       | inl left ↦
-          ap (λ t. if t then p || d else d) (left_of x y w h px py left)
-          ∙ ap (λ t. if t then q || d else d) (sym (left_of x y w h px py left))
+          ap (λ t. if t then p || d else d) (left_of y w h py left)
+          ∙ ap (λ t. if t then q || d else d) (sym (left_of y w h py left))
       | inr since ↦ elim (cases_lt px (x + w)) [
         | inl inside ↦ ap (λ t. if rectangle_dot x y w h px py then t || d else d) (same (omega arith))
         | inr past ↦
@@ -256,8 +256,8 @@ raster-above : (x0 : ℕ) {y0 : ℕ} (scale width : ℕ) (row : List ℕ) (x : �
 raster-above x0 {y0} scale width row x {y} h =
     and_left _ _ (and_left _ _ (and_left _ _ (and_right (nat_le x0 x) (nat_le y0 y) (lt-leb y0 y h))))
 
-above_of : (x y w h px py : ℕ) → py < y → rectangle_dot x y w h px py ≡ false
-above_of x y w h px py less = and_left _ _ (and_right (nat_le x px && nat_lt px (x + w)) (nat_le y py) (lt-leb y py less))
+above_of : (x : ℕ) {y : ℕ} (w h px : ℕ) {py : ℕ} → py < y → rectangle_dot x y w h px py ≡ false
+above_of x {y} w h px {py} less = and_left _ _ (and_right (nat_le x px && nat_lt px (x + w)) (nat_le y py) (lt-leb y py less))
 
 -- the squares of a row of raster data, cut at the page's edges
 pub squares_dot :
@@ -268,10 +268,10 @@ squares_dot wide high x y w h s width px py row d some start top e_w e_h within 
     let p : Bool = dot_of_row row ((px - x) / s) in
     elim (cases_lt px x) [
       | inl left ↦
-          ap (λ t. if t then p || d else d) (left_of x y w h px py left) ∙ ap (λ t. t || d) (sym (raster-left y s width row py left))
+          ap (λ t. if t then p || d else d) (left_of y w h py left) ∙ ap (λ t. t || d) (sym (raster-left y s width row py left))
       | inr right ↦ elim (cases_lt py y) [
         | inl above ↦
-            ap (λ t. if t then p || d else d) (above_of x y w h px py above)
+            ap (λ t. if t then p || d else d) (above_of x w h px above)
             ∙ ap (λ t. t || d) (sym (raster-above x s width row px above))
         | inr below ↦
             let across : nat_lt px (x + w) ≡ nat_lt ((px - x) / s) width =

@@ -150,9 +150,9 @@ small_front [] (suc len) small = tt
 small_front (n ∷ numbers) zero small = tt
 small_front (n ∷ numbers) (suc len) small = (small 0, small_front numbers len (λ k. small (suc k)))
 
-all_and_one : {X : Type 0} (P : X → Type 0) (xs : List X) (x : X) → AllByRecursion P xs → P x → AllByRecursion P (xs ++ x ∷ [])
-all_and_one P [] x all one = (one, tt)
-all_and_one P (y ∷ xs) x all one = (all.0, all_and_one P xs x all.1 one)
+all_and_one : {X : Type 0} (P : X → Type 0) (xs : List X) {x : X} → AllByRecursion P xs → P x → AllByRecursion P (xs ++ x ∷ [])
+all_and_one P [] all one = (one, tt)
+all_and_one P (y ∷ xs) {x} all one = (all.0, all_and_one P xs all.1 one)
 
 pub list_more : {old new : Lists} {numbers list : List ℕ} → AreWhole old → length numbers < 2 ^ 16
     → ((k : ℕ) → get_or numbers k 0 < 2 ^ 16) → IsTrimmed numbers list → new.bytes.items ≡ old.bytes.items ++ list_bytes list
@@ -185,7 +185,7 @@ list_more {old} {new} {numbers} {list} whole few small is bytes_are starts_are =
           ∙ ap (λ (l : List ℕ). lists_within bytes old.starts.items ++ l ∷ []) (ap list_from there ∙ at_front.1);
       whole = subst (λ (b : List ℕ). AllByRecursion (IsListAt b) new.starts.items) (sym bytes_are)
           (subst (AllByRecursion (IsListAt (bytes ++ text))) (sym starts_are)
-          (all_and_one (IsListAt (bytes ++ text)) old.starts.items start stay.1
+          (all_and_one (IsListAt (bytes ++ text)) old.starts.items stay.1
           (record { whole = omega (arith, ap count_of there, at_front.0, length-append bytes text, text_size) })));
     }
 

@@ -107,9 +107,9 @@ list_found {most} {bytes} e =
 
 -- ---- many lists
 
-all_and_one : {X : Type 0} (P : X → Type 0) (xs : List X) (x : X) → AllByRecursion P xs → P x → AllByRecursion P (xs ++ x ∷ [])
-all_and_one P [] x all one = (one, tt)
-all_and_one P (y ∷ xs) x all one = (all.0, all_and_one P xs x all.1 one)
+all_and_one : {X : Type 0} (P : X → Type 0) (xs : List X) {x : X} → AllByRecursion P xs → P x → AllByRecursion P (xs ++ x ∷ [])
+all_and_one P [] all one = (one, tt)
+all_and_one P (y ∷ xs) {x} all one = (all.0, all_and_one P xs all.1 one)
 
 -- one list more was read
 pub next_list : {count most done : ℕ} {bytes rest starts : List ℕ} (numbers after : List ℕ)
@@ -132,7 +132,7 @@ next_list {count} {most} {done} {bytes} {rest} {starts} numbers after lt read st
       suffix = found.rest_is ∙ ap (drop (2 + 2 * count_of rest)) stands.suffix
           ∙ drop-drop (2 + 2 * count_of rest) start bytes ∙ ap (λ (k : ℕ). drop k bytes) place;
       within = omega (arith, taken, stands.within);
-      whole = all_and_one (IsListAt bytes) starts start stands.whole
+      whole = all_and_one (IsListAt bytes) starts stands.whole
           (record { whole = omega (arith, counted, found.whole, stands.within) });
       many = omega (arith, length-append starts (start ∷ []), stands.many);
     }

@@ -264,12 +264,12 @@ pages_again dpi format {proofs} are =
     ap (proofs_at (length proofs) dpi format) (sym (append-nil (flat_map proof_bytes proofs)))
     ∙ (many_spell (length proofs) (proofs_are_many dpi format) (proof_spells)).again proofs [] (refl, are.1)
 
-pub certificate_again : (dpi : Dpi) (format : Format) (proofs : List PageProof) → AreProofs dpi format proofs
+pub certificate_again : (dpi : Dpi) (format : Format) {proofs : List PageProof} → AreProofs dpi format proofs
     → certificate_at dpi (certificate_bytes format proofs) ≡ Ok (format, proofs)
 unfolding certificate_at
-certificate_again dpi One proofs are =
+certificate_again dpi One {proofs} are =
     rw (four.again (length proofs) (flat_map proof_bytes proofs) are.0, pages_again dpi One are) refl
-certificate_again dpi Two proofs are =
+certificate_again dpi Two {proofs} are =
     rw (four.again (length proofs) (flat_map proof_bytes proofs) are.0, pages_again dpi Two are) refl
 
 -- what a call gives that reads all of the bytes

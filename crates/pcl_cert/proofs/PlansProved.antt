@@ -59,10 +59,10 @@ fixed_small page printed =
 
 -- ---- the tables
 
-of_page : (page : Page) (text : List ℕ) (plan : StepsAndTable) (tables : Tables) → IsPlanOf page plan → PrintsPage page text
+of_page : (page : Page) {text : List ℕ} {plan : StepsAndTable} (tables : Tables) → IsPlanOf page plan → PrintsPage page text
     → AreLeastOf page tables → AreOfPage page plan.table tables
-of_page page text plan None planned printed least = planned.size ∙ ap (λ (n : ℕ). n + 1) printed.count
-of_page page text plan (Some lists) planned printed least =
+of_page page None planned printed least = planned.size ∙ ap (λ (n : ℕ). n + 1) printed.count
+of_page page (Some lists) planned printed least =
     (planned.size ∙ ap (λ (n : ℕ). n + 1) printed.count, least.size ∙ ap (λ (n : ℕ). 4 * n) printed.count)
 
 places_good : (page : Page) {text : List ℕ} (tables : Tables) → PrintsPage page text → AreLeastOf page tables → ArePlacesGood page tables
@@ -79,30 +79,30 @@ first_least page {lists} printed least {row} {method} within counted =
     let width : ℕ = page_row_bytes page.size page.dpi in
     let rows = bitmap_rows page.bitmap in
     let are = widths page.size page.dpi rows printed.rows_are in
-    let long = row_width width rows row are within in
+    let long = row_width rows row are within in
     let codable : IsCodable (row_above width rows row) (row_at rows row) = record {
-      same_size = above_width width rows row are (omega arith) ∙ sym long;
+      same_size = above_width rows row are (omega arith) ∙ sym long;
       small = omega (arith, long, row_small page.size page.dpi);
     } in
     subst (IsLeastLength method (row_above width rows row) (row_at rows row)) (number_first width (list_of lists row method) ∙ sym counted)
     (first_is_least method (row_above width rows row) (row_at rows row) (table_of (width + 1) (list_of lists row method)) codable
     (least.least row method within))
 
-good_of : (page : Page) (text : List ℕ) (plan : StepsAndTable) → IsPlanOf page plan → PrintsPage page text
+good_of : (page : Page) {text : List ℕ} {plan : StepsAndTable} → IsPlanOf page plan → PrintsPage page text
     → AreGoodNumbers (bitmap_rows page.bitmap) (IsLeastOfRow (page_row_bytes page.size page.dpi) (bitmap_rows page.bitmap))
     (node_number plan.table)
-good_of page text plan planned printed =
-    feasible_good (page_row_bytes page.size page.dpi) (bitmap_rows page.bitmap) (node_number plan.table)
+good_of page {plan} planned printed =
+    feasible_good (page_row_bytes page.size page.dpi) (node_number plan.table)
     (omega (arith, printed.count, height_small page.size page.dpi)) planned.feasible
 
 edges_good : (page : Page) {text : List ℕ} {plan : StepsAndTable} (tables : Tables) → IsPlanOf page plan → PrintsPage page text
     → AreLeastOf page tables → AreEdgesGood page plan.table tables
 edges_good page {text} {plan} None planned printed least row method inside within =
-    good_of page text plan planned printed row method inside (omega (arith, printed.count))
+    good_of page planned printed row method inside (omega (arith, printed.count))
 edges_good page {text} {plan} (Some lists) planned printed least row method false within =
-    good_of page text plan planned printed row method false (omega (arith, printed.count))
+    good_of page planned printed row method false (omega (arith, printed.count))
 edges_good page {text} {plan} (Some lists) planned printed least row method true within =
-    let good = good_of page text plan planned printed row method true (omega (arith, printed.count)) in
+    let good = good_of page planned printed row method true (omega (arith, printed.count)) in
     record {
       switches = good.switches;
       skips = good.skips;
@@ -117,7 +117,7 @@ pub plan_proved : (page : Page) (text : List ℕ) (plan : StepsAndTable) (tables
     → IsVerdict page text plan.table tables verdicts.Proved
 plan_proved page text plan tables planned printed short least = (
   printed,
-  of_page page text plan tables planned printed least,
+  of_page page tables planned printed least,
   places_good page tables printed least,
   edges_good page tables planned printed least,
   text_length page planned printed short,
@@ -152,6 +152,6 @@ plan_certified page text plan format places planned printed short has =
             number_small are narrow few planned.feasible 0 start.method false (omega arith),
           );
       height = planned.size ∙ ap (λ (n : ℕ). n + 1) printed.count;
-      numbers = numbers_small width rows plan.table are narrow few planned.size planned.feasible;
+      numbers = numbers_small plan.table are narrow few planned.size planned.feasible;
       lists = lists_of page format places printed has;
     }

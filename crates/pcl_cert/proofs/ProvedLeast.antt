@@ -74,7 +74,7 @@ bound_data page lists printed good = λ row method whole lt has.
     let rows = bitmap_rows page.bitmap in
     let are = widths page.size page.dpi rows printed.rows_are in
     let same : length (row_above width rows row) ≡ length (row_at rows row) =
-    above_width width rows row are (omega arith) ∙ sym (row_width width rows row are lt) in
+    above_width rows row are (omega arith) ∙ sym (row_width rows row are lt) in
     let bound = first_bounds method (row_above width rows row) (row_at rows row)
     (table_of (width + 1) (list_of lists row method)) whole same
     (good row method (omega (arith, printed.count))) has in
@@ -86,7 +86,7 @@ feasible_of : (page : Page) {text : List ℕ} (table : List RowNumbers) (tables 
     (node_number table)
 feasible_of page table None printed size places good =
     let high = height_small page.size page.dpi in
-    good_feasible (page_row_bytes page.size page.dpi) (bitmap_rows page.bitmap) table (omega (arith, printed.count))
+    good_feasible (page_row_bytes page.size page.dpi) table (omega (arith, printed.count))
     (size ∙ ap (λ (n : ℕ). n + 1) (sym printed.count)) (λ row method inside le. good row method inside (omega (arith, printed.count)))
 feasible_of page table (Some lists) printed size places good =
     let high = height_small page.size page.dpi in
@@ -94,10 +94,9 @@ feasible_of page table (Some lists) printed size places good =
     (λ row method. number_at_place lists.now row method 0) (omega (arith, printed.count))
     (size.0 ∙ ap (λ (n : ℕ). n + 1) (sym printed.count))
     (bound_data page lists.now printed (λ row method lt.
-    let width : ℕ = page_row_bytes page.size page.dpi in
     let rows = bitmap_rows page.bitmap in
     let are = widths page.size page.dpi rows printed.rows_are in
-    let wide = row_width width rows row are (omega (arith, printed.count)) in
+    let wide = row_width rows row are (omega (arith, printed.count)) in
     table_of_good
     (padded_length (list_of lists.now row method) ∙ ap (λ (n : ℕ). n + 1) (sym wide))
     (λ place le. places row method place lt (omega (arith, wide)))))

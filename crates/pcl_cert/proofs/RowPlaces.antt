@@ -42,10 +42,10 @@ good_in {page} {row} {method} {bytes} {numbers} {place} is good =
     (subst (λ (z : List ℕ). IsGoodPlace method (row_above width rows row) z numbers place) is.bytes_are
     (subst (λ (z : List ℕ). IsGoodPlace method z bytes numbers place) is.seed_is good))
 
-pub good_of : (page : Page) (lists : List (List ℕ)) (row : ℕ) (method : Method) (seed bytes numbers : List ℕ) (place : ℕ)
+pub good_of : {page : Page} {lists : List (List ℕ)} {row : ℕ} {method : Method} {seed bytes numbers : List ℕ} {place : ℕ}
     → IsRowOfTables page lists row method seed bytes numbers → IsGoodIn page lists row method place
     → IsGoodPlace method seed bytes numbers place
-good_of page lists row method seed bytes numbers place is good =
+good_of {page} {row} {method} {bytes} {numbers} {place} is good =
     let width = page_row_bytes page.size page.dpi in
     let rows = bitmap_rows page.bitmap in
     subst (λ (z : List ℕ). IsGoodPlace method z bytes numbers place) (sym is.seed_is)
@@ -64,7 +64,7 @@ pub some_bad : {page : Page} {lists : List (List ℕ)} {row : ℕ} {method : Met
     → FindsPlace (IsGoodIn page lists row method) (page_row_bytes page.size page.dpi) (Some place)
 some_bad {page} {lists} {row} {method} {seed} {bytes} {numbers} {place} is bad = record {
   within = subst (λ (n : ℕ). place ≤ n) is.width bad.within;
-  is_bad = λ good. bad.is_bad (good_of page lists row method seed bytes numbers place is good);
+  is_bad = λ good. bad.is_bad (good_of is good);
   first = λ before lt. good_in is (bad.first before lt);
 }
 
@@ -81,7 +81,7 @@ pub none_below : (page : Page) (lists : List (List ℕ)) (row : ℕ) (method : M
     → FindsBadBelow page lists row (method_code method + 1) None
 none_below page lists row method before none = λ other place below le. elim (split_or below) [
   | inl lt ↦ before other place lt le
-  | inr e ↦ subst (λ (m : Method). IsGoodIn page lists row m place) (same_method method other (sym e)) (none place le)
+  | inr e ↦ subst (λ (m : Method). IsGoodIn page lists row m place) (same_method (sym e)) (none place le)
 ]
 
 pub some_below : (page : Page) (lists : List (List ℕ)) (row : ℕ) (method : Method) (place : ℕ)

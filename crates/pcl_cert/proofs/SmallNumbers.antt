@@ -48,9 +48,9 @@ sent_plain : {width : ℕ} {rows : List (List ℕ)} {number : Node → ℕ} → 
     → number (node row Plain true) ≤ 65541 + number (node (row + 1) Plain false)
 sent_plain {width} {rows} are narrow feasible row within =
     let bytes : List ℕ = row_at rows row in
-    let long : length bytes ≡ width = row_width width rows row are within in
+    let long : length bytes ≡ width = row_width rows row are within in
     let codable : IsCodable (row_above width rows row) bytes = record {
-      same_size = above_width width rows row are (omega arith) ∙ sym long;
+      same_size = above_width rows row are (omega arith) ∙ sym long;
       small = omega (arith, long);
     } in
     let s = spelled_cost (length bytes) (omega (arith, long)) in
@@ -106,10 +106,10 @@ each_small : (table : List RowNumbers) → ((row : ℕ) → row < length table �
 each_small [] small = tt
 each_small (numbers ∷ table) small = (small 0 (omega arith), each_small table (λ row within. small (suc row) (omega arith)))
 
-pub numbers_small : (width : ℕ) (rows : List (List ℕ)) (table : List RowNumbers) → AreOfWidth width rows → width ≤ 600
+pub numbers_small : {width : ℕ} {rows : List (List ℕ)} (table : List RowNumbers) → AreOfWidth width rows → width ≤ 600
     → length rows ≤ 9999 → length table ≡ length rows + 1
     → IsFeasible (Leads width rows) (Ends rows) cost (node_number table) → AllByRecursion AreSmall table
-numbers_small width rows table are narrow few size feasible =
+numbers_small {rows} table are narrow few size feasible =
     each_small table (λ row within.
     let le : row ≤ length rows = omega (arith, size) in
     let at : (current : Method) (is_open : Bool) → node_number table (node row current is_open) < 2 ^ 32 =

@@ -70,7 +70,7 @@ pub copies_read : {dpi : Dpi} {text : List ℕ} {n : ℕ} {more : List ℕ} {cop
     → BeginsAs dpi text copies size rest
     → (n ≡ copies) × (more ≡ decimal (code_of size) ++ 97 ∷ (raster_start size dpi ++ rest))
 copies_read {dpi} {n} {more} {copies} {size} {rest} read is =
-    same_front n copies 120 more (decimal (code_of size) ++ 97 ∷ (raster_start size dpi ++ rest)) read.few (omega (arith, is.few)) refl
+    same_front 120 read.few (omega (arith, is.few)) refl
     (append_cancel_left first_bytes (decimal n ++ 120 ∷ more)
     (decimal copies ++ 120 ∷ (decimal (code_of size) ++ 97 ∷ (raster_start size dpi ++ rest)))
     (sym read.text_is ∙ begins_as is))
@@ -90,7 +90,7 @@ pub size_read : {dpi : Dpi} {text : List ℕ} {n code : ℕ} {more : List ℕ} {
 size_read {dpi} {code} {more} {size} {rest} read is =
     let first = copies_read
     (record { few = read.few; text_is = read.text_is }) is in
-    let second = same_front code (code_of size) 97 more (raster_start size dpi ++ rest) read.small
+    let second = same_front 97 read.small
     (let small = code_small size in omega arith) refl first.1 in
     record { copies_are = first.0; code_is = second.0; more_is = second.1 }
 

@@ -11,7 +11,7 @@ use Rattle.pcl_plan.proofs.RowsFrom.{rows_at, no_rows}
 pub first_row : (picture : Picture) {y : ℕ} → y < page_height picture.size picture.dpi
     → take 1 (drop y (bitmap_rows picture)) ≡ row_of picture y ∷ []
 first_row picture {y} lt =
-    ap (take 1) (rows_at y (page_height picture.size picture.dpi) (page_row_bytes picture.size picture.dpi) picture.bytes lt)
+    ap (take 1) (rows_at (page_row_bytes picture.size picture.dpi) picture.bytes lt)
 
 -- below the last row there is none
 pub past_rows : (picture : Picture) {y : ℕ} → page_height picture.size picture.dpi ≤ y → take 1 (drop y (bitmap_rows picture)) ≡ []

@@ -16,8 +16,8 @@ no_bytes [] e = refl
 no_bytes (byte ∷ bytes) e = absurd (omega arith)
 
 -- nothing is behind the digits
-pub all_digits : (text behind : List ℕ) → behind ≡ drop (prefix_len is_digit text) text → length behind ≡ 0 → AreDigits text
-all_digits text behind e none =
+pub all_digits : (text : List ℕ) {behind : List ℕ} → behind ≡ drop (prefix_len is_digit text) text → length behind ≡ 0 → AreDigits text
+all_digits text {behind} e none =
     let front = front_split is_digit text in
     let no_more : drop (prefix_len is_digit text) text ≡ [] = sym e ∙ no_bytes behind none in
     let whole : text ≡ take (prefix_len is_digit text) text = front.joined
@@ -55,9 +55,9 @@ pub same_decimal : {m n : ℕ} → m ≤ 65536 → n ≤ 65536 → decimal m ≡
 same_decimal a b e = sym (decimal_number a) ∙ ap number_of e ∙ decimal_number b
 
 -- decimals with the same byte behind them
-pub same_front : (m n byte : ℕ) (x y : List ℕ) → m ≤ 65536 → n ≤ 65536 → is_digit byte ≡ false
+pub same_front : {m n : ℕ} (byte : ℕ) {x y : List ℕ} → m ≤ 65536 → n ≤ 65536 → is_digit byte ≡ false
     → decimal m ++ byte ∷ x ≡ decimal n ++ byte ∷ y → (m ≡ n) × (x ≡ y)
-same_front m n byte x y a b off e =
+same_front {m} {n} byte a b off e =
     let parts = one_split is_digit (decimal m) (decimal n) (decimal_digits a) (decimal_digits b) off off e in
     (same_decimal a b parts.0, parts.2)
 

@@ -19,7 +19,7 @@ outside_of_start {rows} {ends} {row} are le good =
       opens = good.0;
       ends = λ white.
           elim (cases_lt (slice_index ends row) (length rows)) [
-            | inl ink ↦ absurd (ink_left rows row (slice_index ends row - row) is.1 (omega (arith, is.0)) white)
+            | inl ink ↦ absurd (ink_left is.1 (omega (arith, is.0)) white)
             | inr past ↦ good.1 (omega (arith, is.0, is.1.within, are.size))
           ];
     }
@@ -29,7 +29,7 @@ start_of_outside : {rows : List (List ℕ)} {ends : List ℕ} {number : Node →
 start_of_outside {rows} {ends} {row} are le good =
     let is = are.runs row (omega arith) le in (
       good.opens,
-      λ end. good.ends (white_to_end rows row (slice_index ends row - row) is.1 (omega (arith, is.0, end, are.size))),
+      λ end. good.ends (white_to_end is.1 (omega (arith, is.0, end, are.size))),
     )
 
 -- ---- skips
@@ -38,7 +38,7 @@ skips_of_ends : {rows : List (List ℕ)} {ends : List ℕ} (number : Node → �
     → row ≤ length rows → AreGoodSkipsTo ends number method row → AreGoodSkips rows number method row
 skips_of_ends {rows} {ends} number {row} are le good = λ count inside some within white.
     let is = are.runs row (omega arith) le in
-    let can = skippable_within rows row (slice_index ends row - row) count is.1 (some, within, white) in
+    let can = skippable_within is.1 (some, within, white) in
     good count inside some (omega (arith, can, is.0))
 
 ends_of_skips : {rows : List (List ℕ)} {ends : List ℕ} (number : Node → ℕ) {method : Method} {row : ℕ} → AreRunEnds rows ends 0

@@ -61,11 +61,11 @@ no_digit_89 true = refl
 no_digit_89 false = refl
 
 -- a text that begins with digits and another byte, and with a token: they are the same
-pub same_front : (digits spelled : List ℕ) (byte sent : ℕ) (rest bytes tokens end : List ℕ)
+pub same_front : {digits spelled : List ℕ} {byte sent : ℕ} {rest : List ℕ} (bytes tokens end : List ℕ)
     → AreDigits digits → AreDigits spelled → is_digit byte ≡ false → is_digit sent ≡ false
     → digits ++ byte ∷ rest ≡ ((spelled ++ (sent ∷ bytes)) ++ tokens) ++ end
     → (digits ≡ spelled) × (byte ≡ sent) × (rest ≡ bytes ++ (tokens ++ end))
-same_front digits spelled byte sent rest bytes tokens end p q s t e =
+same_front {digits} {spelled} {sent} bytes tokens end p q s t e =
     one_split is_digit digits spelled p q s t (e ∙ regroup spelled sent bytes tokens end)
 
 pub all_drop : (size : Size) (dpi : Dpi) (count : ℕ) (rows : List (List ℕ)) → AllByRecursion (IsRowOf size dpi) rows
@@ -95,13 +95,13 @@ front_by digits are off [] rows e n all p = absurd p
 front_by digits are off (opening ∷ tokens) rows e n all p = absurd p
 front_by digits {byte} {rest} are off (method spelled next ends ∷ tokens) rows e n all p =
     let more = flat_map token_bytes tokens in
-    let same = same_front digits spelled byte (letter_code 77 ends) rest [] more end_bytes are p.0.0 off (no_digit_77 ends)
+    let same = same_front [] more end_bytes are p.0.0 off (no_digit_77 ends)
     (e ∙ ap (λ (l : List ℕ). ((spelled ++ l) ++ more) ++ end_bytes) (letter_is 77 ends)) in
     is_method next ends same.1 (ap number_of same.0 ∙ p.0.1)
     (record { count = n; rows_are = all; tokens = tokens; spelled = same.2; prints = p.1 })
 front_by {size} {dpi} {current} {above} {left} digits {byte} {rest} are off (skip spelled count ends ∷ tokens) rows e n all p =
     let more = flat_map token_bytes tokens in
-    let same = same_front digits spelled byte (letter_code 89 ends) rest [] more end_bytes are p.0.0 off (no_digit_89 ends)
+    let same = same_front [] more end_bytes are p.0.0 off (no_digit_89 ends)
     (e ∙ ap (λ (l : List ℕ). ((spelled ++ l) ++ more) ++ end_bytes) (letter_is 89 ends)) in
     let number : number_of digits ≡ count = ap number_of same.0 ∙ p.0.1 in
     subst (λ (k : ℕ). Foremost size dpi current above left k byte rest rows) (sym number)
@@ -116,7 +116,7 @@ front_by {size} {dpi} {current} {above} {left} digits {byte} {rest} are off (ski
 front_by digits are off (send spelled bytes ∷ tokens) [] e n all p = absurd p
 front_by digits {byte} {rest} are off (send spelled bytes ∷ tokens) (first ∷ rows) e n all p =
     let more = flat_map token_bytes tokens in
-    let same = same_front digits spelled byte 87 rest bytes more end_bytes are p.0.0 off refl e in
+    let same = same_front bytes more end_bytes are p.0.0 off refl e in
     is_send bytes (more ++ end_bytes) first rows same.1 (ap number_of same.0 ∙ p.0.1) same.2 (omega arith) refl all.0 p.1
     (record { count = omega arith; rows_are = all.1; tokens = tokens; spelled = refl; prints = p.2 })
 

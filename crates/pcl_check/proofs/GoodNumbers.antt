@@ -43,7 +43,7 @@ steps_from width rows Counts number few sends true (method digits next ends) b g
       arith,
       good.switches next (not ends),
       cost_method digits next ends,
-      spelled_long digits (method_code next) l.1 (omega (arith, method_small next)),
+      spelled_long digits l.1 (omega (arith, method_small next)),
       ap number l.2,
     )
 steps_from width rows Counts number few sends false (skip digits count ends) b good l =
@@ -53,7 +53,7 @@ steps_from width rows Counts number few sends true (skip digits count ends) b go
       arith,
       good.skips count (not ends) l.2 l.3 l.4,
       cost_skip digits count ends,
-      spelled_long digits count l.1 (omega (arith, l.3, few)),
+      spelled_long digits l.1 (omega (arith, l.3, few)),
       ap number l.5,
     )
 steps_from width rows Counts number few sends false (send digits bytes) b good l =
@@ -63,7 +63,7 @@ steps_from width rows Counts number {row} few sends {current} true (send digits 
       arith,
       sends row current bytes l.2 l.3,
       cost_send digits bytes,
-      spelled_long digits (length bytes) l.1 (omega (arith, l.3.fits)),
+      spelled_long digits l.1 (omega (arith, l.3.fits)),
       ap number l.4,
     )
 
@@ -153,10 +153,10 @@ sends_by_least width {rows} {number} good (suc most) {row} {current} {bytes} sho
           (good row current true (omega arith)).sends (length bytes) inside least
     ]
 
-pub good_feasible : (width : ℕ) (rows : List (List ℕ)) (table : List RowNumbers) → length rows ≤ 65535
+pub good_feasible : (width : ℕ) {rows : List (List ℕ)} (table : List RowNumbers) → length rows ≤ 65535
     → length table ≡ length rows + 1 → AreGoodNumbers rows (IsLeastOfRow width rows) (node_number table)
     → IsFeasible (Leads width rows) (Ends rows) cost (node_number table)
-good_feasible width rows table few size good =
+good_feasible width {rows} table few size good =
     feasible_by_sends width table (IsLeastOfRow width rows) few size
     (λ row current bytes inside whole.
     sends_by_least width good (length bytes + 1) (omega arith) inside whole)
@@ -169,13 +169,13 @@ ends_or : (inside : Bool) → not (not inside) ≡ inside
 ends_or true = refl
 ends_or false = refl
 
-pub feasible_good : (width : ℕ) (rows : List (List ℕ)) (number : Node → ℕ) → length rows ≤ 65535
+pub feasible_good : (width : ℕ) {rows : List (List ℕ)} (number : Node → ℕ) → length rows ≤ 65535
     → IsFeasible (Leads width rows) (Ends rows) cost number → AreGoodNumbers rows (IsLeastOfRow width rows) number
-feasible_good width rows number few is row current false within = record {
+feasible_good width number few is row current false within = record {
   opens = omega (arith, is.steps (node row current false) opening (node row current true) (refl, refl), cost_opening);
   ends = λ white. is.ends (node row current false) (refl, white);
 }
-feasible_good width rows number few is row current true within = record {
+feasible_good width {rows} number few is row current true within = record {
   switches = λ next inside.
       let s = spelled_cost (method_code next) (omega (arith, method_small next)) in
       omega (
@@ -196,7 +196,7 @@ feasible_good width rows number few is row current true within = record {
       );
   sends = λ bytes inside least.
       let whole = least.attained in
-      let s = spelled_cost bytes (length_small current (row_above width rows row) (row_at rows row) bytes least) in
+      let s = spelled_cost bytes (length_small least) in
       let spelled : IsSpelled (least_spelling bytes) (length whole.0) = subst (IsSpelled (least_spelling bytes)) (sym whole.2) s.0 in
       omega (
         arith,

@@ -51,8 +51,8 @@ with_code Runs = refl
 with_code Packed = refl
 with_code Delta = refl
 
-pub same_method : (a b : Method) → method_code a ≡ method_code b → a ≡ b
-same_method a b e = let s : Some a ≡ Some b = sym (with_code a) ∙ ap method_with_code e ∙ with_code b in cc
+pub same_method : {a b : Method} → method_code a ≡ method_code b → a ≡ b
+same_method {a} {b} e = let s : Some a ≡ Some b = sym (with_code a) ∙ ap method_with_code e ∙ with_code b in cc
 
 -- ---- white rows
 
@@ -122,7 +122,7 @@ method_becomes {size} {dpi} {left} {digits} {rest} {next} ends told b n = record
       rows,
       refl,
       subst (λ (z : Method). RestPrints size dpi (left_over (not ends) z left.above left.rows rest) rows)
-          (same_method other next (sym m ∙ n))
+          (same_method (sym m ∙ n))
           (subst (λ (z : Bool). RestPrints size dpi (left_over (not z) other left.above left.rows rest) rows)
           (same_case 77 last ends (sym c ∙ b)) p),
     )

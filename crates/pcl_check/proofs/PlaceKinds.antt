@@ -45,7 +45,7 @@ pub runs_by_window : {row : List ℕ} (numbers : List ℕ) {ends : List ℕ} {mo
     → IsNotUndercut numbers numbers ends 2 most place → AreGoodRuns row numbers most place
 runs_by_window {row} numbers {ends} {place} are kept = λ count byte some few within alike.
     let is = are.runs place (omega arith) (omega arith) in
-    let run = run_len_of row place (slice_index ends place) (slice_index ends place - place) is (omega (arith, is.after)) in
+    let run = run_len_of (slice_index ends place - place) is (omega (arith, is.after)) in
     let le = run.longest count byte (omega (arith, length-drop place row)) alike in
     kept (place + count) (omega arith) (omega arith) (omega (arith, le, is.after))
 
@@ -60,7 +60,7 @@ window_by_runs {row} numbers {ends} {place} are le good = λ stop past few withi
           let byte : ℕ = slice_index (drop place row) 0 in
           let count : ℕ = stop - place in
           let there : place + count ≡ stop = omega arith in
-          let run = run_len_of row place (slice_index ends place) (slice_index ends place - place) is (omega (arith, is.after)) in
+          let run = run_len_of (slice_index ends place - place) is (omega (arith, is.after)) in
           let part : count ≤ slice_index ends place - place = omega arith in
           let alike : take count (drop place row) ≡ replicate count byte =
           sym (take-take count (slice_index ends place - place) (drop place row) part) ∙ ap (take count) run.equal
@@ -137,16 +137,16 @@ start_ends_known old row ends small are = record {
 }
 
 -- a byte of two fronts that are the same
-alike_at : (old row : List ℕ) (place offset k : ℕ) → take offset (drop place row) ≡ take offset (drop place old) → k < offset
+alike_at : (old row : List ℕ) (place : ℕ) {offset : ℕ} (k : ℕ) → take offset (drop place row) ≡ take offset (drop place old) → k < offset
     → slice_index row (place + k) ≡ slice_index old (place + k)
-alike_at old row place offset k alike lt =
+alike_at old row place {offset} k alike lt =
     sym (get_or-drop place row k 0) ∙ sym (get_or-take offset (drop place row) k 0 lt) ∙ ap (λ (bytes : List ℕ). get_or bytes k 0) alike
     ∙ get_or-take offset (drop place old) k 0 lt ∙ get_or-drop place old k 0
 
 -- a replacement starts at the first byte that differs, or before it
-start_within : (old row ends : List ℕ) (place offset len : ℕ) → AreStartEnds old row ends 0 → 0 < len → place + offset + len ≤ length row
+start_within : {old row ends : List ℕ} (place offset : ℕ) {len : ℕ} → AreStartEnds old row ends 0 → 0 < len → place + offset + len ≤ length row
     → take offset (drop place row) ≡ take offset (drop place old) → place + offset + 1 ≤ slice_index ends place
-start_within old row ends place offset len are some within alike =
+start_within {old} {row} {ends} place offset are some within alike =
     let is = are.starts place (omega arith) (omega arith) in
     let end : ℕ = slice_index ends place in
     elim (cases_lt (place + offset) end) [
@@ -155,7 +155,7 @@ start_within old row ends place offset len are some within alike =
           let k : ℕ = end - 1 - place in
           let at : place + k ≡ end - 1 = omega (arith, is.after) in
           absurd (is.differs (omega arith)
-          (ap (slice_index old) (sym at) ∙ sym (alike_at old row place offset k alike (omega (arith, is.after))) ∙ ap (slice_index row) at))
+          (ap (slice_index old) (sym at) ∙ sym (alike_at old row place k alike (omega (arith, is.after))) ∙ ap (slice_index row) at))
     ]
 
 -- what comes before such a start is the same
@@ -204,7 +204,7 @@ pub replacements_by_windows : {old row numbers sums ends : List ℕ} {place : �
     → AreGoodReplacements old row numbers place
 replacements_by_windows {old} {row} {numbers} {ends} {place} small size are behind kept = λ offset len some few within alike.
     let start : ℕ = place + offset in
-    let reach = start_within old row ends place offset len are some within alike in
+    let reach = start_within place offset are some within alike in
     let b = behind start (omega (arith, size)) in
     let low = b.1.least len (omega arith) (omega (arith, size)) in
     let there : start + len ≡ place + (offset + len) = omega arith in

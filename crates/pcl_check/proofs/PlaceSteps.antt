@@ -39,9 +39,8 @@ pub steps_plain : {old row : List ℕ} (numbers : List ℕ) {place : ℕ} → le
     → place ≤ length row
     → IsGoodByte numbers place → AreGoodSteps Plain old row numbers place
 steps_plain {old} {row} numbers {place} same size le good = λ e next l.
-    let wanted : List ℕ = drop place row in
-    let s = plain_shape e.head e.bytes l.element.head_is.method_is l.element.complete in
-    let g = agrees_gives Plain (drop place old) wanted e (omega (arith, length-drop place old, length-drop place row)) l.element l.agrees in
+    let s = plain_shape e.head l.element.head_is.method_is l.element.complete in
+    let g = agrees_gives (drop place old) (omega (arith, length-drop place old, length-drop place row)) l.element l.agrees in
     let one : stop e ≡ 1 = omega (arith, s.0, s.1.above, s.1.below) in
     omega (
       arith,
@@ -56,8 +55,8 @@ pub steps_runs : {old row : List ℕ} (numbers : List ℕ) {place : ℕ} → len
     → AreGoodRuns row numbers 256 place → AreGoodSteps Runs old row numbers place
 steps_runs {old} {row} numbers {place} same le good = λ e next l.
     let wanted : List ℕ = drop place row in
-    let s = runs_shape e.head e.bytes l.element.head_is.method_is l.element.head_is.in_range l.element.complete in
-    let g = agrees_gives Runs (drop place old) wanted e (omega (arith, length-drop place old, length-drop place row)) l.element l.agrees in
+    let s = runs_shape e.head l.element.head_is.method_is l.element.head_is.in_range l.element.complete in
+    let g = agrees_gives (drop place old) (omega (arith, length-drop place old, length-drop place row)) l.element l.agrees in
     let f = copies_front wanted s.1 s.0 g.2 in
     let stops : stop e ≡ s.1.count = omega (arith, s.0, f.0) in
     omega (
@@ -73,7 +72,7 @@ pub steps_packed : {old row : List ℕ} (numbers : List ℕ) {place : ℕ} → l
 steps_packed {old} {row} numbers {place} same size le literals runs = λ e next l.
     let wanted : List ℕ = drop place row in
     let sizes : length (drop place old) ≡ length wanted = omega (arith, length-drop place old, length-drop place row) in
-    let g = agrees_gives Packed (drop place old) wanted e sizes l.element l.agrees in
+    let g = agrees_gives (drop place old) sizes l.element l.agrees in
     elim (cases_lt 0 (stop e)) [
       | inr none ↦
           let here : next ≡ place = omega (arith, l.next_is, none) in omega (arith, ap (slice_index numbers) here)
@@ -103,9 +102,8 @@ steps_packed {old} {row} numbers {place} same size le literals runs = λ e next 
 pub steps_delta : {old row : List ℕ} (numbers : List ℕ) {place : ℕ} → length old ≡ length row → place ≤ length row
     → AreGoodReplacements old row numbers place → AreGoodSteps Delta old row numbers place
 steps_delta {old} {row} numbers {place} same le good = λ e next l.
-    let wanted : List ℕ = drop place row in
-    let s = delta_shape e.head e.bytes l.element.head_is.method_is l.element.head_is.in_range l.element.complete in
-    let g = agrees_gives Delta (drop place old) wanted e (omega (arith, length-drop place old, length-drop place row)) l.element l.agrees in
+    let s = delta_shape e.head l.element.head_is.method_is l.element.head_is.in_range l.element.complete in
+    let g = agrees_gives (drop place old) (omega (arith, length-drop place old, length-drop place row)) l.element l.agrees in
     let offset : ℕ = offset_of e.head in
     let len : ℕ = length (given e) in
     omega (
@@ -151,7 +149,7 @@ pub runs_of_steps : (old : List ℕ) {row : List ℕ} (numbers : List ℕ) {plac
     → AreGoodRuns row numbers 256 place
 runs_of_steps old {row} numbers {place} good = λ count byte some few within alike.
     shape_kept numbers
-    (run_step (drop place old) (drop place row) count (omega arith) few (omega (arith, length-drop place row))
+    (run_step (drop place old) (omega arith) few (omega (arith, length-drop place row))
     (first_of_run (drop place row) byte some alike)) good
 
 pub literals_of_steps : {old row : List ℕ} (numbers : List ℕ) {place : ℕ} → length numbers ≡ length row + 1
@@ -169,7 +167,7 @@ repeats_of_steps {old} {row} numbers {place} size good = λ count byte some few 
     elim (cases_lt 1 count) [
       | inl more ↦
           shape_kept numbers
-          (repeat_step (drop place old) (drop place row) count (omega arith) few (omega (arith, length-drop place row))
+          (repeat_step (drop place old) (omega arith) few (omega (arith, length-drop place row))
           (first_of_run (drop place row) byte some alike)) good
       | inr one ↦
           omega (arith, literals_of_steps numbers size good count some few (omega (arith, size)), one)

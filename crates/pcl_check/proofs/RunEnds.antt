@@ -22,7 +22,7 @@ ends_grow {rows} {ends} row are lt =
       | inr grows ↦ grows
       | inl falls ↦
           let there : row + (after - row) ≡ row + 1 + (after - (row + 1)) = omega (arith, next.0) in
-          let white = white_below rows row (end - row) (after - row) here.1.white (omega (arith, next.0)) here.1.within in
+          let white = white_below rows row (after - row) here.1.white (omega (arith, next.0)) here.1.within in
           absurd (next.1.longest (omega (arith, next.0, here.0, here.1.within)) (subst (λ (y : ℕ). IsWhite (row_at rows y)) there white))
     ]
 
@@ -49,7 +49,7 @@ ends_begin {rows} ends {last} count size =
           subst (λ (r : ℕ). (r ≤ slice_index (set ends last last) r) × IsWhiteRun rows r (slice_index (set ends last last) r - r)) same (
             omega (arith, at),
             (let none : 0 ≡ slice_index (set ends last last) last - last = omega (arith, at) in
-                subst (IsWhiteRun rows last) none (run_end rows last (sym count))),
+                subst (IsWhiteRun rows last) none (run_end (sym count))),
           );
     }
 
@@ -81,8 +81,8 @@ white_more {rows} {ends} {row} lt are white =
     let next = are.runs (row + 1) (omega arith) (omega arith) in
     let count : slice_index ends (row + 1) - (row + 1) + 1 ≡ slice_index ends (row + 1) - row = omega (arith, next.0) in (
       omega (arith, next.0),
-      subst (IsWhiteRun rows row) count (run_more rows row (slice_index ends (row + 1) - (row + 1)) lt next.1 white),
+      subst (IsWhiteRun rows row) count (run_more lt next.1 white),
     )
 
 pub inked_more : {rows : List (List ℕ)} {row : ℕ} → row < length rows → (IsWhite (row_at rows row) → ⊥) → IsWhiteRun rows row (row - row)
-inked_more {rows} {row} lt inked = let none : 0 ≡ row - row = omega arith in subst (IsWhiteRun rows row) none (run_none rows row lt inked)
+inked_more {rows} {row} lt inked = let none : 0 ≡ row - row = omega arith in subst (IsWhiteRun rows row) none (run_none lt inked)

@@ -78,9 +78,9 @@ by_digits ends number method row good = record {
   four = short_skips ends number 4 (omega arith) (omega arith) good;
 }
 
-pub all_digits : (ends : List ℕ) (last : ℕ) (number : Node → ℕ) (method : Method) (row : ℕ) → AreEnds ends last → row ≤ last
+pub all_digits : {ends : List ℕ} {last : ℕ} (number : Node → ℕ) (method : Method) {row : ℕ} → AreEnds ends last → row ≤ last
     → AreGoodByDigits ends number method row → AreGoodSkipsTo ends number method row
-all_digits ends last number method row are le good = λ count inside some within.
+all_digits number method {row} are le good = λ count inside some within.
     let few : count ≤ 9999 = omega (arith, are.within row le, are.few) in
     elim (cases_lt count 10) [
       | inl digit ↦

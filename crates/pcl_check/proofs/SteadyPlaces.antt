@@ -38,7 +38,7 @@ pub end_of_need : {old row numbers : List ℕ} {end : ℕ} (place : ℕ) → IsS
     → IsGoodEnd old row numbers place
 end_of_need {old} {row} {end} place steady need = λ ends.
     elim (cases_lt place end) [
-      | inl before ↦ absurd (need.needed (omega arith) (sym (ends_at old row place (end - 1) ends (omega arith))))
+      | inl before ↦ absurd (need.needed (omega arith) (sym (ends_at old row (end - 1) ends (omega arith))))
       | inr past ↦ omega (arith, steady.falls end place past, need.none)
     ]
 
@@ -148,9 +148,9 @@ alike_at old row place offset k alike lt =
     ∙ get_or-take offset (drop place old) k 0 lt ∙ get_or-drop place old k 0
 
 -- a replacement starts at the first byte that differs, or before it
-start_within : (old row : List ℕ) (place start offset : ℕ) → place ≤ start → slice_index old start ≢ slice_index row start
+start_within : (old row : List ℕ) {place start : ℕ} (offset : ℕ) → place ≤ start → slice_index old start ≢ slice_index row start
     → take offset (drop place row) ≡ take offset (drop place old) → place + offset ≤ start
-start_within old row place start offset order differs alike =
+start_within old row {place} {start} offset order differs alike =
     elim (cases_lt start (place + offset)) [
       | inr le ↦ le
       | inl past ↦
@@ -177,7 +177,7 @@ pub replacements_by_start : (old row : List ℕ) {numbers : List ℕ} (least : L
     → AreGoodReplacements old row numbers place
 replacements_by_start old row {numbers} least {end} {place} {start} steady none inside sums order before differs kept =
     λ offset len some few within alike.
-    let k = kept offset (start_within old row place start offset order differs alike) in
+    let k = kept offset (start_within old row offset order differs alike) in
     let far : ℕ = k.0 in
     elim (cases_lt end (far + len)) [
       | inr le ↦

@@ -91,7 +91,7 @@ repeat_of_run : (old : List ℕ) {wanted : List ℕ} {run end : ℕ} → IsRunLe
     → IsShapeElement Packed old wanted (RepeatRun run) 2
 repeat_of_run old {wanted} {run} {end} is run-is more =
     let part : run ≤ end = omega arith in
-    repeat_step old wanted run more (omega arith) (omega (arith, is.within))
+    repeat_step old more (omega arith) (omega (arith, is.within))
     (sym (take-take run end wanted part) ∙ ap (take run) is.equal ∙ take-replicate run end (slice_index wanted 0) part)
 
 pub along_repeat : {old wanted numbers : List ℕ} {run end : ℕ} → AreRightFrom Packed old wanted numbers 0 → IsRunEnd wanted 0 end
@@ -99,7 +99,7 @@ pub along_repeat : {old wanted numbers : List ℕ} {run end : ℕ} → AreRightF
     → IsShapeChoice Packed old wanted numbers (RepeatRun run) (slice_index numbers 0)
 along_repeat {old} {wanted} {end} right is run-is more sum-is =
     along_choice right
-    (repeat_of_run old (run_len_of wanted 0 end end is (omega arith)) run-is more) (omega arith) (omega arith)
+    (repeat_of_run old (run_len_of end is (omega arith)) run-is more) (omega arith) (omega arith)
 
 -- where no literal is best, the longest repeat is
 pub no_literal_repeat : (old wanted numbers : List ℕ) (run end : ℕ) → length old ≡ length wanted → 0 < length wanted
@@ -107,12 +107,12 @@ pub no_literal_repeat : (old wanted numbers : List ℕ) (run end : ℕ) → leng
     → NoLiteral numbers (min (length wanted) 128) → (2 ≤ run) × (slice_index numbers run + 2 ≡ slice_index numbers 0)
 no_literal_repeat old wanted numbers run end size some right needed is run-is none =
     let here = right 0 (omega arith) (omega arith) in
-    let run-len = run_len_of wanted 0 end end is (omega arith) in
+    let run-len = run_len_of end is (omega arith) in
     elim here.attained [
       | inl ends ↦ absurd (omega (arith, here.ends ends))
       | inr next ↦
           let e : Element = next.0 in
-          let g = agrees_gives Packed old wanted e size next.1.element next.1.agrees in
+          let g = agrees_gives old size next.1.element next.1.agrees in
           let s = packed_shape e.head e.bytes next.1.element.head_is.method_is next.1.element.head_is.in_range next.1.element.complete
           next.1.goes_on in
           let at : 0 + stop e ≡ stop e = omega arith in
@@ -173,7 +173,7 @@ walk_bounds {old} {row} {table} (e ∷ es) {place} size right within walk =
 pub along_run : {old wanted numbers : List ℕ} {end len : ℕ} → length old ≡ length wanted → AreRightFrom Runs old wanted numbers 0
     → IsRunEnd wanted 0 end → len ≡ min end 256 → IsShapeChoice Runs old wanted numbers (Run len) (2 + slice_index numbers len)
 along_run {old} {wanted} {numbers} {end} {len} size right is len-is =
-    let run-len = run_len_of wanted 0 end end is (omega arith) in
+    let run-len = run_len_of end is (omega arith) in
     runs_choice size run-len
     (record {
       above = omega (arith, is.after);

@@ -38,11 +38,11 @@ agrees_by old {wanted} e k left gives fits =
     )
 
 -- what an element that agrees leaves and gives
-pub agrees_gives : (method : Method) (old wanted : List ℕ) (e : Element) → length old ≡ length wanted → IsElement method e
+pub agrees_gives : {method : Method} (old : List ℕ) {wanted : List ℕ} {e : Element} → length old ≡ length wanted → IsElement method e
     → Agrees old wanted e
     → (stop e ≤ length wanted) × (take (offset_of e.head) wanted ≡ take (offset_of e.head) old)
     × (given e ≡ take (length (given e)) (drop (offset_of e.head) wanted))
-agrees_gives method old wanted e size is agrees =
+agrees_gives {method} old {wanted} {e} size is agrees =
     let offset : ℕ = offset_of e.head in
     let within : stop e ≤ length wanted = omega (arith, stop_within method old wanted 0 e size is agrees) in
     let left : length (take offset old) ≡ offset = length-take-le offset old (omega arith) in
@@ -114,9 +114,9 @@ byte_step old wanted some =
     }
 
 -- a count and a byte
-pub run_step : (old wanted : List ℕ) (len : ℕ) → 1 ≤ len → len ≤ 256 → len ≤ length wanted
+pub run_step : (old : List ℕ) {wanted : List ℕ} {len : ℕ} → 1 ≤ len → len ≤ 256 → len ≤ length wanted
     → take len wanted ≡ replicate len (slice_index wanted 0) → IsShapeElement Runs old wanted (Run len) 2
-run_step old wanted len some few within run =
+run_step old {wanted} {len} some few within run =
     let size : length (take 1 wanted) ≡ 1 = length-take-le 1 wanted (omega arith) in
     let times : len - 1 + 1 ≡ len = omega arith in
     let gives = given_copies (len - 1 + 1) (first_byte wanted (omega arith))
@@ -131,9 +131,9 @@ run_step old wanted len some few within run =
     }
 
 -- a control and a byte that it repeats
-pub repeat_step : (old wanted : List ℕ) (len : ℕ) → 2 ≤ len → len ≤ 128 → len ≤ length wanted
+pub repeat_step : (old : List ℕ) {wanted : List ℕ} {len : ℕ} → 2 ≤ len → len ≤ 128 → len ≤ length wanted
     → take len wanted ≡ replicate len (slice_index wanted 0) → IsShapeElement Packed old wanted (RepeatRun len) 2
-repeat_step old wanted len some few within run =
+repeat_step old {wanted} {len} some few within run =
     let size : length (take 1 wanted) ≡ 1 = length-take-le 1 wanted (omega arith) in
     let times : 257 - (257 - len) ≡ len = omega arith in
     let gives = given_copies (257 - (257 - len)) (first_byte wanted (omega arith))
@@ -202,7 +202,7 @@ within_run {wanted} {d} is none r fits gives =
 
 pub plain_below : (old : List ℕ) {wanted : List ℕ} (numbers : List ℕ) → IsBelow Plain old wanted numbers (1 + slice_index numbers 1)
 plain_below old numbers d is agrees some =
-    let s = plain_shape d.head d.bytes is.head_is.method_is is.complete in
+    let s = plain_shape d.head is.head_is.method_is is.complete in
     let one : length (given d) ≡ 1 = omega (arith, s.1.above, s.1.below) in
     let stops : stop d ≡ 1 = omega (arith, s.0, one) in
     omega (arith, s.1.bytes_are, one, ap (slice_index numbers) stops)
@@ -210,8 +210,8 @@ plain_below old numbers d is agrees some =
 pub runs_below : (old : List ℕ) {wanted : List ℕ} (numbers : List ℕ) {run sum : ℕ} → length old ≡ length wanted → IsRunLen wanted run
     → ((k : ℕ) → 1 ≤ k → k ≤ min run 256 → sum ≤ 2 + 0 * k + slice_index numbers k) → IsBelow Runs old wanted numbers sum
 runs_below old {wanted} numbers size is best d element agrees some =
-    let s = runs_shape d.head d.bytes element.head_is.method_is element.head_is.in_range element.complete in
-    let g = agrees_gives Runs old wanted d size element agrees in
+    let s = runs_shape d.head element.head_is.method_is element.head_is.in_range element.complete in
+    let g = agrees_gives old size element agrees in
     let w = within_run is s.0 s.1 g.0 g.2 in
     omega (arith, best s.1.count s.1.above (omega (arith, w.0, s.1.below)), s.1.bytes_are, ap (slice_index numbers) w.1)
 
@@ -219,7 +219,7 @@ pub packed_below : (old : List ℕ) {wanted : List ℕ} (numbers : List ℕ) {ru
     → ((k : ℕ) → 1 ≤ k → k ≤ min (length wanted) 128 → sum ≤ 1 + 1 * k + slice_index numbers k)
     → ((k : ℕ) → 2 ≤ k → k ≤ min run 128 → sum ≤ 2 + 0 * k + slice_index numbers k) → IsBelow Packed old wanted numbers sum
 packed_below old {wanted} numbers size is literal repeat d element agrees some =
-    let g = agrees_gives Packed old wanted d size element agrees in
+    let g = agrees_gives old size element agrees in
     let s = packed_shape d.head d.bytes element.head_is.method_is element.head_is.in_range element.complete some in
     elim s.1 [
       | inl r ↦
@@ -234,8 +234,8 @@ pub delta_below : {old wanted : List ℕ} (numbers : List ℕ) {same sum : ℕ} 
     → ((offset k : ℕ) → offset ≤ min same (length wanted - 1) → 1 ≤ k → k ≤ min (length wanted - offset) 8
     → sum ≤ replacement_bytes offset + 1 * k + slice_index (drop offset numbers) k) → IsBelow Delta old wanted numbers sum
 delta_below {old} {wanted} numbers {same} size is best d element agrees some =
-    let s = delta_shape d.head d.bytes element.head_is.method_is element.head_is.in_range element.complete in
-    let g = agrees_gives Delta old wanted d size element agrees in
+    let s = delta_shape d.head element.head_is.method_is element.head_is.in_range element.complete in
+    let g = agrees_gives old size element agrees in
     let offset : ℕ = offset_of d.head in
     let k : ℕ = length (given d) in
     let left : offset ≤ same = is.longest offset (omega (arith, g.0)) g.1 in
@@ -253,7 +253,7 @@ pub runs_choice : {old wanted numbers : List ℕ} {run len sum : ℕ} → length
     → IsLeastLen numbers 1 (min run 256) 2 0 len sum → IsShapeChoice Runs old wanted numbers (Run len) sum
 runs_choice {old} {wanted} {numbers} {run} {len} size is best =
     let front : len ≤ run = omega (arith, best.below) in
-    let e = run_step old wanted len best.above (omega (arith, best.below)) (omega (arith, is.within))
+    let e = run_step old best.above (omega (arith, best.below)) (omega (arith, is.within))
     (run_part wanted (slice_index wanted 0) front is.equal) in
     step_choice e (omega (arith, best.above)) (omega (arith, best.sum_is))
     (runs_below old numbers size is best.least)
@@ -273,7 +273,7 @@ pub repeat_choice : {old wanted numbers : List ℕ} {run len sum : ℕ} → leng
     → IsShapeChoice Packed old wanted numbers (RepeatRun len) sum
 repeat_choice {old} {wanted} {numbers} {run} {len} size is best literals =
     let front : len ≤ run = omega (arith, best.below) in
-    let e = repeat_step old wanted len best.above (omega (arith, best.below)) (omega (arith, is.within))
+    let e = repeat_step old best.above (omega (arith, best.below)) (omega (arith, is.within))
     (run_part wanted (slice_index wanted 0) front is.equal) in
     step_choice e (omega (arith, best.above)) (omega (arith, best.sum_is))
     (packed_below old numbers size is literals best.least)

@@ -14,8 +14,8 @@ ends_by old row place size same =
     (λ k below. get_or-drop place row k 0 ∙ same (place + k) (omega arith) (omega (arith, length-drop place row))
     ∙ sym (get_or-drop place old k 0))
 
-pub ends_at : (old row : List ℕ) (place k : ℕ) → Ends old row place → place ≤ k → get_or row k 0 ≡ get_or old k 0
-ends_at old row place k end low =
+pub ends_at : (old row : List ℕ) {place : ℕ} (k : ℕ) → Ends old row place → place ≤ k → get_or row k 0 ≡ get_or old k 0
+ends_at old row {place} k end low =
     let at : place + (k - place) ≡ k = omega arith in
     ap (λ (n : ℕ). get_or row n 0) (sym at) ∙ sym (get_or-drop place row (k - place) 0) ∙ ap (λ (bs : List ℕ). get_or bs (k - place) 0) end
     ∙ get_or-drop place old (k - place) 0 ∙ ap (λ (n : ℕ). get_or old n 0) at
@@ -36,7 +36,7 @@ first_end_by {old} {row} {len} size within same differs = record {
   first = λ place end.
       elim (cases_lt place len) [
         | inr le ↦ le
-        | inl before ↦ absurd (differs (omega arith) (ends_at old row place (len - 1) end (omega arith)))
+        | inl before ↦ absurd (differs (omega arith) (ends_at old row (len - 1) end (omega arith)))
       ];
 }
 
@@ -67,9 +67,9 @@ pub record AreSameFrom (old row : List ℕ) (len : ℕ) : Type 0 where
 pub same_past : (old row : List ℕ) → AreSameFrom old row (length row)
 same_past old row = record { within = omega arith; same = λ k low high. absurd (omega arith) }
 
-pub same_before : (old row : List ℕ) (len : ℕ) → AreSameFrom old row len → 0 < len → get_or old (len - 1) 0 ≡ get_or row (len - 1) 0
+pub same_before : {old row : List ℕ} {len : ℕ} → AreSameFrom old row len → 0 < len → get_or old (len - 1) 0 ≡ get_or row (len - 1) 0
     → AreSameFrom old row (len - 1)
-same_before old row len from some here = record {
+same_before {old} {row} {len} from some here = record {
   within = omega (arith, from.within);
   same = λ k low high.
       elim (cases_lt k len) [

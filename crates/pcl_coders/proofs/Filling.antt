@@ -38,7 +38,7 @@ one_byte_of {wanted} {shape} s one few = (
 one_byte : (method : Method) (old wanted : List ℕ) → 0 < length wanted → (e : Element) × IsOneByte method old wanted e
 one_byte Plain old wanted some = one_byte_of (byte_step old wanted some) refl (omega arith)
 one_byte Runs old wanted some = one_byte_of
-    (run_step old wanted 1 (omega arith) (omega arith) some (first_byte wanted some)) refl (omega arith)
+    (run_step old (omega arith) (omega arith) some (first_byte wanted some)) refl (omega arith)
 one_byte Packed old wanted some =
     one_byte_of (literal_step old wanted 1 (omega arith) (omega arith) some) refl (omega arith)
 one_byte Delta old wanted some = one_byte_of
@@ -234,7 +234,7 @@ first_bounds method seed row table bytes same is has =
     let w = walk_of_data same has in
     omega (
       arith,
-      feasible_bounds (Leads method (base method seed) row) (Ends (base method seed) row) cost (slice_index table) is.feasible
+      feasible_bounds is.feasible
           0 w.0 w.1,
       w.2,
     )
@@ -280,7 +280,7 @@ first_is_least method seed row table codable is =
 pub numbers_least : (method : Method) (seed row table : List ℕ) (place : ℕ) → IsLeastTable method seed row table → place ≤ length row
     → IsLeastCost (Leads method (base method seed) row) (Ends (base method seed) row) cost place (slice_index table place)
 numbers_least method seed row table place is within =
-    attained_is_least (Leads method (base method seed) row) (Ends (base method seed) row) cost (slice_index table) is.table_is.feasible
+    attained_is_least is.table_is.feasible
     place (is.attained place within)
 
 -- ---- appending
@@ -377,8 +377,8 @@ appended_all {method} {old} {row} {before} {place} right none a =
     }
 
 -- what stood there before still stands in front
-pub front_stays : (before now now' more : List ℕ) → now ≡ before ++ more → take (length now) now' ≡ now → take (length before) now' ≡ before
-front_stays before now now' more joined front =
+pub front_stays : {before now : List ℕ} (now' more : List ℕ) → now ≡ before ++ more → take (length now) now' ≡ now → take (length before) now' ≡ before
+front_stays {before} {now} now' more joined front =
     sym (take-take (length before) (length now) now' (omega (arith, ap length joined, length-append before more)))
     ∙ ap (take (length before)) (front ∙ joined) ∙ take_at before more (length before) refl
 

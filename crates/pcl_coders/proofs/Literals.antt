@@ -151,7 +151,7 @@ packed_place {row} {table} {place} {run_end} {least} {literal} {repeat} {number}
     some number-is =
     let old : List ℕ = drop place (replicate (length row) 0) in
     let wanted : List ℕ = drop place row in
-    let run-len = run_len_of row place run_end (run_end - place) run (omega (arith, run.after)) in
+    let run-len = run_len_of (run_end - place) run (omega (arith, run.after)) in
     let same : length old ≡ length wanted =
     omega (arith, length-drop {A = ℕ} place (replicate (length row) 0), length-drop place row, begun.same_size) in
     let l = (literal_least begun size inside behind w is).1 in

@@ -112,8 +112,8 @@ run_behind wanted {len} byte some alike =
 shorter_run : (old wanted : List ℕ) (e : Element) → length old ≡ length wanted → IsElement Runs e → Agrees old wanted e → 1 < stop e
     → (d : Element) × IsShorter Runs old wanted e d
 shorter_run old wanted e size element agrees more =
-    let s = runs_shape e.head e.bytes element.head_is.method_is element.head_is.in_range element.complete in
-    let g = agrees_gives Runs old wanted e size element agrees in
+    let s = runs_shape e.head element.head_is.method_is element.head_is.in_range element.complete in
+    let g = agrees_gives old size element agrees in
     let count : ℕ = s.1.count in
     let is : length (given e) ≡ count = ap length s.1.given_is ∙ length-replicate count s.1.byte in
     let front : given e ≡ take (length (given e)) wanted = rw s.0 at g.2 in
@@ -122,14 +122,14 @@ shorter_run old wanted e size element agrees more =
     subst (λ (n : ℕ). take n wanted ≡ replicate n s.1.byte) (omega (arith, s.0, is))
     (sym (front ∙ ap (λ (n : ℕ). take n wanted) is) ∙ s.1.given_is) in
     shorter_of e
-    (run_step (drop 1 old) (drop 1 wanted) (count - 1) (omega arith) (omega (arith, s.1.below)) (omega (arith, g.0, length-drop 1 wanted))
+    (run_step (drop 1 old) (omega arith) (omega (arith, s.1.below)) (omega (arith, g.0, length-drop 1 wanted))
     (run_behind wanted s.1.byte (omega arith) alike))
     (sym stops) (omega (arith, s.1.bytes_are))
 
 shorter_packed : (old wanted : List ℕ) (e : Element) → length old ≡ length wanted → IsElement Packed e → Agrees old wanted e → 1 < stop e
     → (d : Element) × IsShorter Packed old wanted e d
 shorter_packed old wanted e size element agrees more =
-    let g = agrees_gives Packed old wanted e size element agrees in
+    let g = agrees_gives old size element agrees in
     let s = packed_shape e.head e.bytes element.head_is.method_is element.head_is.in_range element.complete (omega arith) in
     elim s.1 [
       | inl r ↦
@@ -143,7 +143,7 @@ shorter_packed old wanted e size element agrees more =
           elim (cases_lt 2 count) [
             | inl long ↦
                 shorter_of e
-                (repeat_step (drop 1 old) (drop 1 wanted) (count - 1) (omega arith) (omega (arith, r.below))
+                (repeat_step (drop 1 old) (omega arith) (omega (arith, r.below))
                 (omega (arith, g.0, length-drop 1 wanted)) (run_behind wanted r.byte (omega arith) alike))
                 (sym stops) (omega (arith, r.bytes_are))
             | inr short ↦
@@ -223,7 +223,7 @@ runs_place {old} {row} {table} {place} {run_end} {len} begun size inside behind 
     let sum : ℕ = slice_index table (place + len) + 2 in
     runs_choice
     (omega (arith, length-drop place old, length-drop place row, begun.same_size))
-    (run_len_of row place run_end run is (omega (arith, is.after)))
+    (run_len_of run is (omega (arith, is.after)))
     (record {
       above = omega (arith, is.after);
       below = omega arith;
@@ -275,7 +275,7 @@ run_last {row} {first} {end} {place} begun last = record {
   same = λ k low high. let at : k ≡ place = omega arith in ap (slice_index row) at;
   differs = λ inside alike.
       let zero : slice_index row end ≡ 0 =
-      ends_at (replicate (length row) 0) row end end begun.first_end.ends (omega arith) ∙ white_byte (length row) end in
+      ends_at (replicate (length row) 0) row end begun.first_end.ends (omega arith) ∙ white_byte (length row) end in
       let behind : Ends (replicate (length row) 0) row (place + 1) =
       subst (Ends (replicate (length row) 0) row) (sym last) begun.first_end.ends in
       let here : Ends (replicate (length row) 0) row place = ends_here (replicate (length row) 0) row begun.same_size

@@ -19,8 +19,8 @@ pub record IsSameLen (old wanted : List ℕ) (len : ℕ) : Type 0 where
   pub longest : (k : ℕ) → k ≤ length wanted → take k wanted ≡ take k old → k ≤ len
 
 -- the run at a place, of which the end is known
-pub run_len_of : (row : List ℕ) (from end run : ℕ) → IsRunEnd row from end → end ≡ from + run → IsRunLen (drop from row) run
-run_len_of row from end run is there =
+pub run_len_of : {row : List ℕ} {from end : ℕ} (run : ℕ) → IsRunEnd row from end → end ≡ from + run → IsRunLen (drop from row) run
+run_len_of {row} {from} run is there =
     let at : (k : ℕ) → slice_index (drop from row) k ≡ slice_index row (from + k) = λ k. get_or-drop from row k 0 in
     let first : slice_index (drop from row) 0 ≡ slice_index row from = at 0 ∙ ap (slice_index row) (omega arith) in
     let size : length (take run (drop from row)) ≡ run =
@@ -109,9 +109,9 @@ least_len_stays {to} sum best e worse = record {
 pub least_min_one : (numbers : List ℕ) → (len : ℕ) × IsLeastLen numbers 1 1 0 1 len (slice_index numbers 1 + 1)
 least_min_one numbers = (1, least_len_one refl (omega arith))
 
-pub least_min_next : (numbers : List ℕ) (to best now : ℕ) → 1 ≤ to → (len : ℕ) × IsLeastLen numbers 1 (to - 1) 0 1 len best
+pub least_min_next : {numbers : List ℕ} {to best : ℕ} (now : ℕ) → 1 ≤ to → (len : ℕ) × IsLeastLen numbers 1 (to - 1) 0 1 len best
     → now ≡ min best (slice_index numbers to + to) → (len : ℕ) × IsLeastLen numbers 1 to 0 1 len now
-least_min_next numbers to best now order b now-is =
+least_min_next {numbers} {to} {best} now order b now-is =
     let sum : ℕ = slice_index numbers to + to in
     elim (cases_lt sum best) [
       | inl better ↦

@@ -102,7 +102,7 @@ walk_makes method old row (e ∷ es) place size w =
 -- behind the elements a cut one with no bytes changes nothing
 after_elements_cut : (es : List Element) (h : Head) {none : List ℕ} (old : List ℕ) → none ≡ []
     → after_elements es (after_element h none (λ rest. rest)) old ≡ after_elements es kept old
-after_elements_cut [] h {none} old e = after_none h none old e
+after_elements_cut [] h {none} old e = after_none h old e
 after_elements_cut (d ∷ es) h old e =
     ap (λ (bs : List ℕ). take (offset_of d.head) old ++ (given d ++ bs)) (after_elements_cut es h (drop (stop d) old) e)
 

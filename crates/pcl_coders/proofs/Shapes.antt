@@ -39,14 +39,14 @@ pub record IsLiteral (h : Head) (bytes : List ℕ) (most head : ℕ) : Type 0 wh
   pub below : length (given_by h bytes) ≤ most
   pub bytes_are : length (head_bytes h ++ bytes) ≡ head + length (given_by h bytes)
 
-pub plain_shape : (h : Head) (bytes : List ℕ) → method_of h ≡ Plain → length bytes ≡ new_count h → (offset_of h ≡ 0) × IsLiteral h bytes 1 0
-plain_shape Itself bytes m c = let l =
+pub plain_shape : (h : Head) {bytes : List ℕ} → method_of h ≡ Plain → length bytes ≡ new_count h → (offset_of h ≡ 0) × IsLiteral h bytes 1 0
+plain_shape Itself {bytes} m c = let l =
     ap length (given_once bytes) in (refl, record { above = omega (arith, l); below = omega (arith, l); bytes_are = omega (arith, l) })
-plain_shape h bytes m c = absurd cc
+plain_shape h m c = absurd cc
 
-pub runs_shape : (h : Head) (bytes : List ℕ) → method_of h ≡ Runs → IsInRange h → length bytes ≡ new_count h
+pub runs_shape : (h : Head) {bytes : List ℕ} → method_of h ≡ Runs → IsInRange h → length bytes ≡ new_count h
     → (offset_of h ≡ 0) × IsRepeat h bytes 1 256
-runs_shape (Count n) bytes m r c =
+runs_shape (Count n) {bytes} m r c =
     let b = one_byte bytes c in (
       refl,
       record {
@@ -59,7 +59,7 @@ runs_shape (Count n) bytes m r c =
         bytes_are = omega (arith, c);
       },
     )
-runs_shape h bytes m r c = absurd cc
+runs_shape h m r c = absurd cc
 
 pub packed_shape : (h : Head) (bytes : List ℕ) → method_of h ≡ Packed → IsInRange h → length bytes ≡ new_count h
     → 0 < offset_of h + length (given_by h bytes) → (offset_of h ≡ 0) × (IsRepeat h bytes 2 128 ⊎ IsLiteral h bytes 128 1)
@@ -90,12 +90,12 @@ near_bytes offset below = rw (lt-ltb offset 31 below) refl
 pub far_bytes : (offset : ℕ) → 31 ≤ offset → replacement_bytes offset ≡ 2 + (offset - 31) / 255
 far_bytes offset above = rw (le-ltb offset 31 above) refl
 
-pub delta_shape : (h : Head) (bytes : List ℕ) → method_of h ≡ Delta → IsInRange h → length bytes ≡ new_count h
+pub delta_shape : (h : Head) {bytes : List ℕ} → method_of h ≡ Delta → IsInRange h → length bytes ≡ new_count h
     → IsLiteral h bytes 8 (replacement_bytes (offset_of h))
-delta_shape (Near more offset) bytes m r c =
+delta_shape (Near more offset) {bytes} m r c =
     let l = ap length (given_once bytes) in
     record { above = omega (arith, l, c); below = omega (arith, l, c, r.0); bytes_are = omega (arith, l, near_bytes offset r.1) }
-delta_shape (Far more full last) bytes m r c =
+delta_shape (Far more full last) {bytes} m r c =
     let l = ap length (given_once bytes) in
     let offset : ℕ = 31 + 255 * full + last in
     let last_below : last < 255 = r.1 in
@@ -114,7 +114,7 @@ delta_shape (Far more full last) bytes m r c =
             length-replicate {A = ℕ} full 255,
           );
     }
-delta_shape h bytes m r c = absurd cc
+delta_shape h m r c = absurd cc
 
 -- the head of a replacement
 pub record IsReplacementHead (offset len : ℕ) (h : Head) : Type 0 where

@@ -70,10 +70,9 @@ pub record IsDeltaStep (old row : List ℕ) (place start next : ℕ) (e : Elemen
 pub delta_step : {old row : List ℕ} {place start next : ℕ} {e : Element} → length old ≡ length row → IsLatestStart old row place start
     → Leads Delta old row place e next → IsDeltaStep old row place start next e
 delta_step {old} {row} {place} {e} size is l =
-    let wanted : List ℕ = drop place row in
     let long = length-drop place row in
-    let s = delta_shape e.head e.bytes l.element.head_is.method_is l.element.head_is.in_range l.element.complete in
-    let g = agrees_gives Delta (drop place old) wanted e (omega (arith, long, length-drop place old)) l.element l.agrees in
+    let s = delta_shape e.head l.element.head_is.method_is l.element.head_is.in_range l.element.complete in
+    let g = agrees_gives (drop place old) (omega (arith, long, length-drop place old)) l.element l.agrees in
     record {
       len = length (given e);
       some = s.above;
@@ -87,7 +86,7 @@ delta_step {old} {row} {place} {e} size is l =
 pub latest_is_as_good : (old row : List ℕ) (steps : List Element) (place start : ℕ) → length old ≡ length row
     → IsLatestStart old row place start → Walk (Leads Delta old row) (Ends old row) place steps
     → StartsAt old row place start (total cost steps)
-latest_is_as_good old row [] place start size is walk = absurd (is.differs (sym (ends_at old row place start walk is.order)))
+latest_is_as_good old row [] place start size is walk = absurd (is.differs (sym (ends_at old row start walk is.order)))
 latest_is_as_good old row (e ∷ es) place start size is walk =
     let b : ℕ = walk.0 in
     let last : ℕ = start - place in

@@ -80,7 +80,7 @@ plain_least {seed} {row} {end} codable first =
     ] in
     let right : AreRightFrom Plain old row table 0 = λ place low high. record {
       steps = λ e element agrees.
-          let s = plain_shape e.head e.bytes element.head_is.method_is element.complete in
+          let s = plain_shape e.head element.head_is.method_is element.complete in
           omega (arith, at place, at (place + stop e), s.1.bytes_are, s.1.above, s.1.below, s.0);
       ends = λ ending. omega (arith, at place, first.first place ending);
       attained =
@@ -120,7 +120,7 @@ right_here {row} {place} same is within [] walk total-is = record {
 right_here {method} {seed} {row} {table} {place} same is within (e ∷ es) walk total-is =
     let b : ℕ = walk.0 in
     let next : b ≡ place + stop e = walk.1.next_is in
-    let rest = feasible_bounds (Leads method (base method seed) row) (Ends (base method seed) row) cost (slice_index table) is.feasible b
+    let rest = feasible_bounds is.feasible b
     es walk.2 in
     let some = spelling_has_byte method e walk.1.element in
     let above = is.feasible.steps place e b walk.1 in

@@ -106,15 +106,15 @@ too_long parameter middle bytes behind h =
     (subst (λ (bs : List ℕ). length bs ≤ 0) (append_assoc (flat_map parameter_bytes (parameter ∷ middle)) bytes behind) h)
 
 -- the steps from a whole rest of a sequence on
-whole_again : (middle : List Parameter) (n : ℕ) (prefix : Prefix) (at begin : ℕ) (end : Parameter) (sent behind : List ℕ)
-    (read : Result (List Said) Refusal) → AllByRecursion (IsMiddle prefix) middle → IsEnd prefix end sent
+whole_again : (middle : List Parameter) (n : ℕ) {prefix : Prefix} (at begin : ℕ) {end : Parameter} {sent : List ℕ} (behind : List ℕ)
+    {read : Result (List Said) Refusal} → AllByRecursion (IsMiddle prefix) middle → IsEnd prefix end sent
     → length (sequence_bytes middle end sent ++ behind) ≤ n → Gives (begin + length (sequence_bytes middle end sent)) behind read
     → steps_in n prefix at begin (sequence_bytes middle end sent ++ behind) ≡ with_front
     (parameter_commands prefix at begin middle end sent) read
-whole_again [] n prefix at begin end sent behind read each is h gives = end_on at begin behind is h gives
-whole_again (parameter ∷ middle) zero prefix at begin end sent behind read each is h gives =
+whole_again [] n at begin behind each is h gives = end_on at begin behind is h gives
+whole_again (parameter ∷ middle) zero at begin {end} {sent} behind each is h gives =
     absurd (too_long parameter middle (parameter_bytes end ++ sent) behind h)
-whole_again (parameter ∷ middle) (suc n) prefix at begin end sent behind read each is h gives =
+whole_again (parameter ∷ middle) (suc n) {prefix} at begin {end} {sent} behind {read} each is h gives =
     let next = begin + length (parameter_bytes parameter) in
     let rest = sequence_bytes middle end sent ++ behind in
     let joined : sequence_bytes (parameter ∷ middle) end sent ≡ parameter_bytes parameter ++ sequence_bytes middle end sent =
@@ -128,7 +128,7 @@ whole_again (parameter ∷ middle) (suc n) prefix at begin end sent behind read 
     ap (steps_in (suc n) prefix at begin) all
     ∙ middle_on n at begin rest each.0
     ∙ ap (with_front (command_of prefix at parameter [] ∷ []))
-    (whole_again middle n prefix next next end sent behind read each.1 is fits (subst (λ (k : ℕ). Gives k behind read) place gives))
+    (whole_again middle n next next behind each.1 is fits (subst (λ (k : ℕ). Gives k behind read) place gives))
     ∙ with_fronts (command_of prefix at parameter [] ∷ []) (parameter_commands prefix next next middle end sent) read
 
 -- the steps up to the fault of a parameter
@@ -266,7 +266,7 @@ piece_again (combined prefix middle end sent) (suc n) at bytes {read} is h gives
     length-append (prefix_bytes prefix) (sequence_bytes middle end sent ++ bytes) in omega arith in
     ap (outcome (suc n) None at) joined
     ∙ whole_on n at middle bytes is.0 is.1 is.2
-    ∙ whole_again middle n prefix at (first_place at prefix) end sent bytes read is.1 is.2 fits
+    ∙ whole_again middle n at (first_place at prefix) bytes is.1 is.2 fits
     (subst (λ (k : ℕ). Gives k bytes read) place gives)
 piece_again (exit field lines) (suc n) at bytes is h gives = piece_on (exit field lines) at (omega arith) (exit_again is) h gives
 
@@ -302,19 +302,19 @@ fault_found {n} {at} (in_line {bytes = rest} field lines line f x e each ends l 
     (in_line_again at field lines f x e each ends l p)
 
 -- what stands behind the last piece is read so
-last_again : (n at : ℕ) (behind : List ℕ) (last : Result (List Said) Refusal) → Last at behind last → length behind < n
+last_again : (n : ℕ) {at : ℕ} {behind : List ℕ} {last : Result (List Said) Refusal} → Last at behind last → length behind < n
     → outcome n None at behind ≡ last
 unfolding outcome
-last_again zero at behind last ends h = absurd (omega arith)
-last_again (suc n) at behind last no_more h = refl
-last_again (suc n) at behind last (first_fault {refusal = refusal} f) h = fault_found f h
+last_again zero ends h = absurd (omega arith)
+last_again (suc n) no_more h = refl
+last_again (suc n) (first_fault {refusal = refusal} f) h = fault_found f h
 
 -- pieces and what is behind them are read so
 pieces_again : (pieces : List Piece) {n : ℕ} (at : ℕ) {behind : List ℕ} {last : Result (List Said) Refusal} → ArePieces pieces behind
     → Last (at + length (flat_map spelling pieces)) behind last
     → length (flat_map spelling pieces ++ behind) < n → outcome n None at (flat_map spelling pieces ++ behind)
     ≡ with_front (commands_of at pieces) last
-pieces_again [] {n} at {behind} {last} each ends h = last_again n at behind last
+pieces_again [] {n} at {behind} {last} each ends h = last_again n
     (subst (λ (k : ℕ). Last k behind last) (add-zero at) ends) h
     ∙ sym (no_front last)
 pieces_again (piece ∷ pieces) {n} at {behind} {last} each ends h =

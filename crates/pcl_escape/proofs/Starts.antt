@@ -423,7 +423,7 @@ exit_first at field bytes f x e =
     subst (IsUngrouped None) (sym (parameter_joined field 88 bytes)) (field_apart field 88 bytes f refl) in
     first_again percent at (parameter_bytes (exit_parameter field) ++ bytes) refl apart
     ∙ ap (with_lines (at + 2) (length (parameter_bytes (exit_parameter field) ++ bytes)))
-    (last_again percent at (exit_parameter field) [] bytes last)
+    (last_again at bytes last)
     ∙ exit_reads at field bytes x
 
 pub exit_again : {at : ℕ} {field : Spelled} {lines : List (List ℕ)} {rest : List ℕ} → IsExit field lines rest

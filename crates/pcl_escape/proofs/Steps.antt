@@ -275,9 +275,9 @@ middle_again {prefix} {at} {parameter} {rest} m =
     m.field l ∙ rw (again, on) refl
 
 -- a step reads a last parameter and its data
-pub last_again : (prefix : Prefix) (at : ℕ) (parameter : Parameter) (bytes rest : List ℕ) → IsLast prefix parameter bytes
+pub last_again : {prefix : Prefix} (at : ℕ) {parameter : Parameter} {bytes : List ℕ} (rest : List ℕ) → IsLast prefix parameter bytes
     → parameter_at prefix at (parameter_bytes parameter ++ (bytes ++ rest)) ≡ end_reads prefix at parameter bytes rest
-last_again prefix at parameter bytes rest m =
+last_again {prefix} at {parameter} {bytes} rest m =
     let letter = parameter.letter in
     let l : IsTrue (is_letter prefix letter) = or_left (is_last letter) (may_go_on prefix letter) m.letter in
     let again = (checks_take (parameter_name prefix letter) letter (field_value parameter.field) m.checks).again (length (bytes ++ rest))
@@ -290,7 +290,7 @@ last_again prefix at parameter bytes rest m =
 
 pub end_again : {prefix : Prefix} {at : ℕ} {parameter : Parameter} {bytes rest : List ℕ} → IsEnd prefix parameter bytes
     → parameter_at prefix at (parameter_bytes parameter ++ (bytes ++ rest)) ≡ end_reads prefix at parameter bytes rest
-end_again {prefix} {at} {parameter} {bytes} {rest} m = last_again prefix at parameter bytes rest
+end_again {prefix} {at} {parameter} {bytes} {rest} m = last_again at rest
     (record { field = m.field; letter = m.letter; checks = m.checks })
 
 -- a step finds the fault of a parameter

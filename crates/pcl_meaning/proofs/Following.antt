@@ -134,7 +134,7 @@ done_by : {dpi : Dpi} {d : Deed} {s next : Situation} (o : Result Situation Kind
 done_by (Err kind) e q = absurd cc
 done_by {dpi} {d} {s} (Ok now) e q =
     let is = quiet d.operation q in
-    let a = after_adds dpi d.operation (said_of d) s now e in
+    let a = after_adds dpi d.operation (said_of d) s e in
     record { now = now; drawn_as = e; is_quiet = is; performed = is.performed ∙ a.performed; begun = is.begun ∙ a.begun }
 
 is_done : {dpi : Dpi} {d : Deed} {s next : Situation} → does dpi d s ≡ Ok next → IsDone dpi d s next

@@ -283,17 +283,17 @@ performance_fits : (dpi : Dpi) (end : ℕ) (commands : List Said) → Fits (perf
 performance_fits dpi end commands =
     let first = after_all dpi commands 0 commands at_begin in unless_fits dpi end first.refusal first.situation
 
-pub job_fits : (dpi : Dpi) (job : List ℕ) (pages : List Sheet) → HasPages dpi job pages → length pages ≤ 256
-job_fits dpi job pages h =
+pub job_fits : {dpi : Dpi} {job : List ℕ} {pages : List Sheet} → HasPages dpi job pages → length pages ≤ 256
+job_fits {dpi} {job} h =
     subst (λ (ps : List Sheet). length ps ≤ 256) (sym h.ejected) (performance_fits dpi (length job) h.commands h.accepted)
 
 -- ---- a job that is written again
 
 -- the written job is accepted, and its pages are alike
-pub written_again : (dpi : Dpi) (job texts : List ℕ) (pages : List Sheet) → HasPages dpi job pages → PrintSheets dpi pages texts
+pub written_again : {dpi : Dpi} {job : List ℕ} (texts : List ℕ) {pages : List Sheet} → HasPages dpi job pages → PrintSheets dpi pages texts
     → (again : List Sheet) × HasPages dpi (frame_bytes ++ texts ++ frame_bytes) again × AllAlike dpi pages again
-written_again dpi job texts pages h p =
-    let few = job_fits dpi job pages h in
+written_again {dpi} {job} texts {pages} h p =
+    let few = job_fits h in
     let t = texts_taken pages p (record { method = refl; height = refl }) (omega (arith, few)) in (
       t.again,
       job_accepted t.settings t.count t.read t.leads (omega (arith, t.same_many, few))

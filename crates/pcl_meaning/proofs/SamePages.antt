@@ -28,8 +28,8 @@ within_sheet {n} measure dpi page sheet shows lt =
     (subst (λ (z : Size). n < measure z page.bitmap.dpi) (page.size_is ∙ shows.size) lt)
 
 -- bitmaps with the same dots are the same, since bits past the width are clear
-pub pages_same : (dpi : Dpi) (page other : Page) (sheet : Sheet) → Shows dpi page sheet → Shows dpi other sheet → AreSame page other
-pages_same dpi page other sheet one two =
+pub pages_same : {dpi : Dpi} {page other : Page} {sheet : Sheet} → Shows dpi page sheet → Shows dpi other sheet → AreSame page other
+pages_same {dpi} {page} {other} {sheet} one two =
     let size = one.size ∙ sym two.size in
     let resolution = one.resolution ∙ sym two.resolution in
     record {
@@ -53,8 +53,8 @@ moved P {page} {other} same p =
     (subst (λ (z : Size). P z page.dpi page.copies page.bitmap) same.size p)))
 
 -- a text that prints the one prints the other
-pub prints_same : {page other : Page} (text : List ℕ) → AreSame page other → PrintsPage page text → PrintsPage other text
-prints_same text same printed = moved (λ size dpi copies bitmap. IsPageText dpi size copies (bitmap_rows bitmap) text) same printed
+pub prints_same : {page other : Page} {text : List ℕ} → AreSame page other → PrintsPage page text → PrintsPage other text
+prints_same {text} same printed = moved (λ size dpi copies bitmap. IsPageText dpi size copies (bitmap_rows bitmap) text) same printed
 
 -- ---- texts in order
 
@@ -65,13 +65,13 @@ least_together dpi [] texts others l p = let none : length texts ≡ 0 = ap leng
 least_together dpi (sheet ∷ sheets) texts others l p =
     let rest = least_together dpi sheets l.2 p.2 l.7 p.6 in
     let first : length l.1 ≤ length p.1 =
-    l.5 p.1 (prints_same p.1 (pages_same dpi p.0 l.0 sheet p.3 l.3) p.4) in
+    l.5 p.1 (prints_same (pages_same p.3 l.3) p.4) in
     let texts_are = ap length l.6 ∙ length-append l.1 l.2 in
     let others_are = ap length p.5 ∙ length-append p.1 p.2 in omega (arith, texts_are, others_are, rest, first)
 
-pub least_job : (dpi : Dpi) (sheets : List Sheet) (texts job : List ℕ) → PrintLeast dpi sheets texts
+pub least_job : {dpi : Dpi} {sheets : List Sheet} (texts : List ℕ) {job : List ℕ} → PrintLeast dpi sheets texts
     → job ≡ frame_bytes ++ texts ++ frame_bytes → IsLeastJobText dpi sheets job
-least_job dpi sheets texts job l e = record {
+least_job {dpi} {sheets} texts l e = record {
   texts = texts;
   print = l;
   spelled = e;

@@ -118,7 +118,7 @@ items_same old new e = ap (λ (r : ArrayVec Running). r.items) e
 pub at_tried : {dpi : Dpi} (operation : Operation) (command : Said) {s now : Situation} {old middle : Interpreter} → IsAt dpi s old
     → after dpi operation command s ≡ Ok now → IsIn dpi now middle.performer → middle.macros ≡ old.macros → IsAt dpi now middle
 at_tried {dpi} operation command {s} {now} {middle} at e i same =
-    let a = after_adds dpi operation command s now e in
+    let a = after_adds dpi operation command s e in
     record {
       is_in = i;
       macros = subst (λ (events : List MacroEvent). Holds middle.macros events) (sym a.macros)

@@ -114,12 +114,12 @@ left_next commands newest {command} within got lt =
     ∙ taken_next (newest.end - (newest.next + 1)) newest.next newest.end (drop (newest.next + 1) (views commands))
     (omega arith) refl
 
-rest_next : (levels : ℕ) (dpi : Dpi) (commands : List Command) (newest : Running) (command : Command) (s : Situation)
+rest_next : (levels : ℕ) (dpi : Dpi) (commands : List Command) (newest : Running) {command : Command} (s : Situation)
     → newest.next < length commands → command ≡ get_or commands newest.next command → newest.next < newest.end
     → rest_of levels dpi (views commands) (run_in newest) s
     ≡ then_on (step dpi (runs levels dpi (views commands)) newest.next (view command) s)
     (rest_of levels dpi (views commands) (run_in (advanced newest)))
-rest_next levels dpi commands newest command s within got lt =
+rest_next levels dpi commands newest {command} s within got lt =
     let all = views commands in
     let one = step dpi (runs levels dpi all) in
     ap (λ (cs : List Said). then_on (in_order one newest.next cs s) (λ later. done (left dpi newest.saved later)))
@@ -141,7 +141,7 @@ next_of_macro dpi commands older newest {command} s few within got lt =
     ∙ then_same one
     (λ t. pushed dpi all older (advanced newest) t few)
     ∙ sym (pushed dpi all older newest s few
-    ∙ ap (λ (p : Performance). then_on p (resumed macro_limit dpi all older)) (rest_next k dpi commands newest command s within got lt)
+    ∙ ap (λ (p : Performance). then_on p (resumed macro_limit dpi all older)) (rest_next k dpi commands newest s within got lt)
     ∙ then_assoc one (rest_of k dpi all (run_in (advanced newest))) (resumed macro_limit dpi all older))
 
 -- the end of a macro

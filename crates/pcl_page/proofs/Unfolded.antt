@@ -180,7 +180,7 @@ done_counts : (dpi : Dpi) (place : ℕ) (operation : Operation) (command : Said)
     → Counts s later
 done_counts dpi place operation command (Err kind) e m few = absurd cc
 done_counts dpi place operation command {s} (Ok now) e m few =
-    let a = after_adds dpi operation command s now e in
+    let a = after_adds dpi operation command s e in
     let b = managed_acts place operation command.value m in
     record { onward = (a.more, b.pages ∙ a.pages); performed = b.performed ∙ a.performed; few = few }
 

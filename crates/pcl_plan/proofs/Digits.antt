@@ -71,8 +71,8 @@ unfolding digit_count
 count_of_none = refl
 
 -- no spelling is shorter
-pub spelled_long : (digits : List ℕ) (n : ℕ) → IsSpelled digits n → n < 2 ^ 64 → digit_count n ≤ length digits
-spelled_long digits n s lt =
+pub spelled_long : (digits : List ℕ) {n : ℕ} → IsSpelled digits n → n < 2 ^ 64 → digit_count n ≤ length digits
+spelled_long digits {n} s lt =
     let below = number_below digits 0 s.0 in
     count_le (length digits) n (omega (arith, below, s.1)) lt
 

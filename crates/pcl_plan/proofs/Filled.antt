@@ -23,23 +23,23 @@ white_front (suc run) (suc count) [] w le = tt
 white_front (suc run) (suc count) (row ∷ rows) w le = (w.0, white_front run count rows w.1 (omega arith))
 
 -- a row among white ones
-pub white_below : (rows : List (List ℕ)) (row run place : ℕ) → AreWhite (take run (drop row rows)) → place < run → row + run ≤ length rows
+pub white_below : (rows : List (List ℕ)) (row : ℕ) {run : ℕ} (place : ℕ) → AreWhite (take run (drop row rows)) → place < run → row + run ≤ length rows
     → IsWhite (row_at rows (row + place))
-white_below rows row run place white lt within =
+white_below rows row {run} place white lt within =
     subst IsWhite (get_or-drop row rows place []) (white_at run (drop row rows) place white lt (omega (arith, length-drop row rows)))
 
 -- what can be skipped is within the run
-pub skippable_within : (rows : List (List ℕ)) (row run count : ℕ) → IsWhiteRun rows row run → AreSkippable rows row count → count ≤ run
-skippable_within rows row run count is can =
+pub skippable_within : {rows : List (List ℕ)} {row run count : ℕ} → IsWhiteRun rows row run → AreSkippable rows row count → count ≤ run
+skippable_within {rows} {row} {run} {count} is can =
     elim (cases_lt run count) [
       | inr within ↦ within
-      | inl past ↦ absurd (is.longest (omega (arith, can.1)) (white_below rows row count run can.2 past can.1))
+      | inl past ↦ absurd (is.longest (omega (arith, can.1)) (white_below rows row run can.2 past can.1))
     ]
 
 -- the run of a row that is white, and of one that isn't
-pub run_more : (rows : List (List ℕ)) (row run : ℕ) → row < length rows → IsWhiteRun rows (row + 1) run → IsWhite (row_at rows row)
+pub run_more : {rows : List (List ℕ)} {row run : ℕ} → row < length rows → IsWhiteRun rows (row + 1) run → IsWhite (row_at rows row)
     → IsWhiteRun rows row (run + 1)
-run_more rows row run lt is white =
+run_more {rows} {row} {run} lt is white =
     let there : row + 1 + run ≡ row + (run + 1) = omega arith in
     record {
       within = omega (arith, is.within);
@@ -47,8 +47,8 @@ run_more rows row run lt is white =
       longest = λ before last. is.longest (omega arith) (subst (λ (r : ℕ). IsWhite (row_at rows r)) (sym there) last);
     }
 
-pub run_none : (rows : List (List ℕ)) (row : ℕ) → row < length rows → (IsWhite (row_at rows row) → ⊥) → IsWhiteRun rows row 0
-run_none rows row lt inked =
+pub run_none : {rows : List (List ℕ)} {row : ℕ} → row < length rows → (IsWhite (row_at rows row) → ⊥) → IsWhiteRun rows row 0
+run_none {rows} {row} lt inked =
     let here : row + 0 ≡ row = omega arith in
     record {
       within = omega arith;
@@ -56,19 +56,19 @@ run_none rows row lt inked =
       longest = λ before white. inked (subst (λ (r : ℕ). IsWhite (row_at rows r)) here white);
     }
 
-pub run_end : (rows : List (List ℕ)) (row : ℕ) → row ≡ length rows → IsWhiteRun rows row 0
-run_end rows row e = record { within = omega arith; white = tt; longest = λ before white. absurd (omega arith) }
+pub run_end : {rows : List (List ℕ)} {row : ℕ} → row ≡ length rows → IsWhiteRun rows row 0
+run_end e = record { within = omega arith; white = tt; longest = λ before white. absurd (omega arith) }
 
 -- a run to the end
-pub white_to_end : (rows : List (List ℕ)) (row run : ℕ) → IsWhiteRun rows row run → row + run ≡ length rows → AreWhite (drop row rows)
-white_to_end rows row run is e = subst AreWhite (take_all run (drop row rows) (omega (arith, length-drop row rows))) is.white
+pub white_to_end : {rows : List (List ℕ)} {row run : ℕ} → IsWhiteRun rows row run → row + run ≡ length rows → AreWhite (drop row rows)
+white_to_end {rows} {row} {run} is e = subst AreWhite (take_all run (drop row rows) (omega (arith, length-drop row rows))) is.white
 
 -- ink behind a run
-pub ink_left : (rows : List (List ℕ)) (row run : ℕ) → IsWhiteRun rows row run → row + run < length rows → AreWhite (drop row rows) → ⊥
-ink_left rows row run is lt white =
+pub ink_left : {rows : List (List ℕ)} {row run : ℕ} → IsWhiteRun rows row run → row + run < length rows → AreWhite (drop row rows) → ⊥
+ink_left {rows} {row} {run} is lt white =
     let all : AreWhite (take (run + 1) (drop row rows)) = white_front (length rows) (run + 1) (drop row rows)
     (subst AreWhite (sym (take_all (length rows) (drop row rows) (omega (arith, length-drop row rows)))) white) (omega arith) in
-    is.longest lt (white_below rows row (run + 1) run all (omega arith) (omega arith))
+    is.longest lt (white_below rows row run all (omega arith) (omega arith))
 
 -- ---- what is read of a table
 
@@ -81,7 +81,7 @@ falls_by {table} {row} right is method near zero some within =
 falls_by {rows} {table} {row} {run} right is method near (suc gap) some within =
     let before = falls_by right is method near gap some (omega arith) in
     let place : ℕ = row + (near + gap) in
-    let white = white_below rows row run (near + gap) is.white (omega arith) is.within in
+    let white = white_below rows row (near + gap) is.white (omega arith) is.within in
     let step = (right.right place (omega arith) (omega (arith, is.within))).falls method (omega (arith, is.within)) white in
     let next : place + 1 ≡ row + (near + suc gap) = omega arith in
     omega (arith, before, step, ap (λ (r : ℕ). rest (node_number table) r method) next)
@@ -113,7 +113,7 @@ direct_of_start {rows} {row} {run} {bytes} is length_is start = record {
   bytes = bytes;
   is_length = length_is;
   sent = start.sent;
-  skipped = λ count can. start.skipped count can.0 (skippable_within rows row run count is can);
+  skipped = λ count can. start.skipped count can.0 (skippable_within is can);
   attained =
       elim start.attained [
         | inl sent ↦ inl sent
@@ -218,7 +218,7 @@ put_inked {rows} {row} {run} {numbers} few put right is ink are =
       numbers = numbers;
       inside_page = omega arith;
       few = omega arith;
-      inked = ink_left rows row run is ink;
+      inked = ink_left is ink;
       placed = put.changed;
       switched = are.switched;
       are_direct = λ method.

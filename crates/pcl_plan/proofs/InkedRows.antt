@@ -30,8 +30,8 @@ pub record IsInkedRow (width : ℕ) (rows : List (List ℕ)) (number : Node → 
   pub later : (behind : ℕ) → row < behind → behind ≤ length rows → IsRowRight width rows number behind
 
 -- data of a least length is small
-pub length_small : (current : Method) (seed row : List ℕ) (least : ℕ) → IsLeastLength current seed row least → least ≤ 65535
-length_small current seed row least is = omega (arith, is.attained.1.fits, is.attained.2)
+pub length_small : {current : Method} {seed row : List ℕ} {least : ℕ} → IsLeastLength current seed row least → least ≤ 65535
+length_small is = omega (arith, is.attained.1.fits, is.attained.2)
 
 pub sending_small : (bytes : ℕ) → bytes ≤ 65535 → sending bytes ≤ 65541
 sending_small bytes small = omega (arith, count_le 5 bytes (omega arith) (omega arith))
@@ -39,9 +39,9 @@ sending_small bytes small = omega (arith, count_le 5 bytes (omega arith) (omega 
 -- ---- tokens from the row
 
 -- a sequence is opened
-opens : (width : ℕ) (rows : List (List ℕ)) (number : Node → ℕ) (row : ℕ) (current : Method) → IsInkedRow width rows number row
+opens : {width : ℕ} {rows : List (List ℕ)} {number : Node → ℕ} {row : ℕ} (current : Method) → IsInkedRow width rows number row
     → outside number row current ≡ 3 + inside number row current
-opens width rows number row current is = omega (arith, is.placed current true, is.placed current false, is.switched.opens current)
+opens current is = omega (arith, is.placed current true, is.placed current false, is.switched.opens current)
 
 -- a switch
 switches : (width : ℕ) (rows : List (List ℕ)) (number : Node → ℕ) (row : ℕ) (current next : Method) (is_open : Bool)
@@ -58,7 +58,7 @@ switches width rows number row current next is_open is =
     ] in
     elim is_open as (λ (o : Bool). inside number row current ≤ switching next + number (node row next o)) [
       | true ↦ below
-      | false ↦ omega (arith, below, opens width rows number row next is)
+      | false ↦ omega (arith, below, opens next is)
     ]
 
 -- rows are skipped
@@ -98,14 +98,14 @@ steps_from : {width : ℕ} {rows : List (List ℕ)} {number : Node → ℕ} {row
     → number (node row current is_open) ≤ cost token + number b
 steps_from is current true opening b l = let no : true ≡ false = l.0 in absurd cc
 steps_from {width} {rows} {number} {row} is current false opening b l =
-    omega (arith, opens width rows number row current is, cost_opening, ap number l.1)
+    omega (arith, opens current is, cost_opening, ap number l.1)
 steps_from is current false (method digits next ends) b l = let no : false ≡ true = l.0 in absurd cc
 steps_from {width} {rows} {number} {row} is current true (method digits next ends) b l =
     omega (
       arith,
       switches width rows number row current next (not ends) is,
       cost_method digits next ends,
-      spelled_long digits (method_code next) l.1 (omega (arith, method_small next)),
+      spelled_long digits l.1 (omega (arith, method_small next)),
       ap number l.2,
     )
 steps_from is current false (skip digits count ends) b l = let no : false ≡ true = l.0 in absurd cc
@@ -114,7 +114,7 @@ steps_from {width} {rows} {number} {row} is current true (skip digits count ends
       arith,
       skips width rows number row current count (not ends) is (l.2, l.3, l.4),
       cost_skip digits count ends,
-      spelled_long digits count l.1 (omega (arith, l.3, is.few)),
+      spelled_long digits l.1 (omega (arith, l.3, is.few)),
       ap number l.5,
     )
 steps_from is current false (send digits bytes) b l = let no : false ≡ true = l.0 in absurd cc
@@ -123,7 +123,7 @@ steps_from {width} {rows} {number} {row} is current true (send digits bytes) b l
       arith,
       sends width rows number row current bytes is l.3,
       cost_send digits bytes,
-      spelled_long digits (length bytes) l.1 (omega (arith, l.3.fits)),
+      spelled_long digits l.1 (omega (arith, l.3.fits)),
       ap number l.4,
     )
 
@@ -145,7 +145,7 @@ direct_walk {width} {rows} {number} {row} {current} is =
     elim d.attained [
       | inl sent ↦
           let whole = d.is_length.attained in
-          let s = spelled_cost d.bytes (length_small current (row_above width rows row) (row_at rows row) d.bytes d.is_length) in
+          let s = spelled_cost d.bytes (length_small d.is_length) in
           let spelled : IsSpelled (least_spelling d.bytes) (length whole.0) = subst (IsSpelled (least_spelling d.bytes)) (sym whole.2) s.0
           in
           let behind = (is.later (row + 1) (omega arith) (omega (arith, is.inside_page))).attained (node (row + 1) current false) refl in
@@ -184,7 +184,7 @@ walk_from : {width : ℕ} {rows : List (List ℕ)} {number : Node → ℕ} {row 
 walk_from is current true = inside_walk is
 walk_from {width} {rows} {number} {row} is current false =
     walk_more width opening
-    (refl, refl) (inside_walk is) (omega (arith, opens width rows number row current is, cost_opening))
+    (refl, refl) (inside_walk is) (omega (arith, opens current is, cost_opening))
 
 -- ---- a white row may be left out
 
@@ -253,7 +253,7 @@ falls_from {width} {rows} {number} {row} current is =
             direct_falls next.0 is,
           )
     ] in
-    omega (arith, below, opens width rows number row current is)
+    omega (arith, below, opens current is)
 
 -- ---- the row
 
@@ -263,12 +263,12 @@ small_from : {width : ℕ} {rows : List (List ℕ)} {number : Node → ℕ} {row
 small_from {width} {rows} {number} {row} is current is_open =
     let d = is.are_direct current in
     let behind = (is.later (row + 1) (omega arith) (omega (arith, is.inside_page))).small (node (row + 1) current false) refl in
-    let sent = sending_small d.bytes (length_small current (row_above width rows row) (row_at rows row) d.bytes d.is_length) in
+    let sent = sending_small d.bytes (length_small d.is_length) in
     let low : inside number row current ≤ 65544 * (length rows - row) - 2 = omega
     (arith, is.placed current true, is.switched.stays current, d.sent, behind, sent, is.inside_page) in
     elim is_open as (λ (o : Bool). number (node row current o) ≤ 65544 * (length rows - row) + 1) [
       | true ↦ omega (arith, low)
-      | false ↦ omega (arith, low, opens width rows number row current is, is.inside_page)
+      | false ↦ omega (arith, low, opens current is, is.inside_page)
     ]
 
 pub inked_row_right : {width : ℕ} {rows : List (List ℕ)} {number : Node → ℕ} {row : ℕ} → IsInkedRow width rows number row

@@ -17,12 +17,12 @@ use Rattle.pcl_plan.proofs.RightRows.{cost_method, cost_send, method_small}
 use Rattle.pcl_plan.proofs.InkedRows.{spelled_cost}
 
 -- a token with which a walk of least cost begins costs just what the number falls by
-pub step_is_least : (width : ℕ) (rows : List (List ℕ)) (number : Node → ℕ) → IsFeasible (Leads width rows) (Ends rows) cost number
+pub step_is_least : (width : ℕ) {rows : List (List ℕ)} {number : Node → ℕ} → IsFeasible (Leads width rows) (Ends rows) cost number
     → (a b : Node) (token : Token) (rest : List Token) → Leads width rows a token b
     → Walk (Leads width rows) (Ends rows) b rest → total cost (token ∷ rest) ≡ number a → (number a ≡ cost token + number b)
     × (total cost rest ≡ number b)
-step_is_least width rows number feasible a b token rest l w t =
-    let below = feasible_bounds (Leads width rows) (Ends rows) cost number feasible b rest w in
+step_is_least width {rows} {number} feasible a b token rest l w t =
+    let below = feasible_bounds feasible b rest w in
     let step = feasible.steps a token b l in
     (omega (arith, t, below, step), omega (arith, t, below, step))
 
@@ -48,7 +48,7 @@ few_at : (width : ℕ) {rows : List (List ℕ)} {number : Node → ℕ} → leng
     → AreFewCommands rows number (node row current is_open) tokens
 few_at width few feasible [] is_open w t = record { bound = omega arith; behind_switch = λ first h. omega arith }
 few_at width {rows} {number} few feasible (opening ∷ tokens) {row} {current} is_open w t =
-    let s = step_is_least width rows number feasible (node row current is_open) w.0 opening tokens w.1 w.2 t in
+    let s = step_is_least width feasible (node row current is_open) w.0 opening tokens w.1 w.2 t in
     let at = w.1.1 in
     let r = few_at width few feasible tokens true
     (subst (λ (n : Node). Walk (Leads width rows) (Ends rows) n tokens) at w.2) (s.1 ∙ ap number at) in
@@ -59,9 +59,9 @@ few_at width {rows} {number} few feasible (opening ∷ tokens) {row} {current} i
 few_at width few feasible (method digits next ends ∷ tokens) false w t = let never : false
     ≡ true = w.1.0 in absurd cc
 few_at width {rows} {number} few feasible (method digits next ends ∷ tokens) {row} {current} true w t =
-    let s = step_is_least width rows number feasible (node row current true) w.0 (method digits next ends) tokens w.1 w.2 t in
+    let s = step_is_least width feasible (node row current true) w.0 (method digits next ends) tokens w.1 w.2 t in
     let at = w.1.2 in
-    let digits_long = spelled_long digits (method_code next) w.1.1 (omega (arith, method_small next)) in
+    let digits_long = spelled_long digits w.1.1 (omega (arith, method_small next)) in
     let costs = cost_method digits next ends in
     let r = few_at width few feasible tokens (not ends)
     (subst (λ (n : Node). Walk (Leads width rows) (Ends rows) n tokens) at w.2) (s.1 ∙ ap number at) in
@@ -79,7 +79,7 @@ few_at width {rows} {number} few feasible (method digits next ends ∷ tokens) {
       ));
     }
 few_at width {rows} {number} few feasible (skip digits count ends ∷ tokens) {row} {current} is_open w t =
-    let s = step_is_least width rows number feasible (node row current is_open) w.0 (skip digits count ends) tokens w.1 w.2 t in
+    let s = step_is_least width feasible (node row current is_open) w.0 (skip digits count ends) tokens w.1 w.2 t in
     let at = w.1.5 in
     let r = few_at width few feasible tokens (not ends)
     (subst (λ (n : Node). Walk (Leads width rows) (Ends rows) n tokens) at w.2) (s.1 ∙ ap number at) in
@@ -88,7 +88,7 @@ few_at width {rows} {number} few feasible (skip digits count ends ∷ tokens) {r
       behind_switch = λ first h. omega (arith, r.bound, w.1.2, w.1.3);
     }
 few_at width {rows} {number} few feasible (send digits bytes ∷ tokens) {row} {current} is_open w t =
-    let s = step_is_least width rows number feasible (node row current is_open) w.0 (send digits bytes) tokens w.1 w.2 t in
+    let s = step_is_least width feasible (node row current is_open) w.0 (send digits bytes) tokens w.1 w.2 t in
     let at = w.1.4 in
     let r = few_at width few feasible tokens false
     (subst (λ (n : Node). Walk (Leads width rows) (Ends rows) n tokens) at w.2) (s.1 ∙ ap number at) in
@@ -97,22 +97,22 @@ few_at width {rows} {number} few feasible (send digits bytes ∷ tokens) {row} {
       behind_switch = λ first h. omega (arith, r.bound, w.1.2);
     }
 
-pub few_commands : (width : ℕ) (rows : List (List ℕ)) (number : Node → ℕ) → length rows ≤ 9999
+pub few_commands : (width : ℕ) {rows : List (List ℕ)} {number : Node → ℕ} → length rows ≤ 9999
     → IsFeasible (Leads width rows) (Ends rows) cost number → (tokens : List Token) (row : ℕ) (current : Method) (is_open : Bool)
     → Walk (Leads width rows) (Ends rows) (node row current is_open) tokens → total cost tokens ≡ number (node row current is_open)
     → command_count tokens ≤ 2 * (length rows - row) + 1
-few_commands width rows number few feasible tokens row current is_open w t =
+few_commands width few feasible tokens row current is_open w t =
     (few_at width few feasible tokens is_open w t).bound
 
 -- a row that a walk of least cost sends has data of least length
-pub sent_is_least : (width : ℕ) (rows : List (List ℕ)) (number : Node → ℕ) → IsFeasible (Leads width rows) (Ends rows) cost number
+pub sent_is_least : (width : ℕ) {rows : List (List ℕ)} {number : Node → ℕ} → IsFeasible (Leads width rows) (Ends rows) cost number
     → (row : ℕ) (current : Method) (b : Node) (digits bytes : List ℕ) (rest : List Token)
     → Leads width rows (node row current true) (send digits bytes) b → Walk (Leads width rows) (Ends rows) b rest
     → total cost (send digits bytes ∷ rest) ≡ number (node row current true)
     → IsLeastLength current (row_above width rows row) (row_at rows row) (length bytes)
-sent_is_least width rows number feasible row current b digits bytes rest l w t =
-    let s = step_is_least width rows number feasible (node row current true) b (send digits bytes) rest l w t in
-    let long = spelled_long digits (length bytes) l.1 (omega (arith, l.3.fits)) in
+sent_is_least width {rows} {number} feasible row current b digits bytes rest l w t =
+    let s = step_is_least width feasible (node row current true) b (send digits bytes) rest l w t in
+    let long = spelled_long digits l.1 (omega (arith, l.3.fits)) in
     record {
       attained = (bytes, l.3, refl);
       shortest = λ other whole.

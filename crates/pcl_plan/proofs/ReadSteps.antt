@@ -11,7 +11,7 @@ use Rattle.pcl_plan.specs.declared.step.Step.{Step}
 use Rattle.pcl_plan.specs.declared.step.Step.TheVariants.{Skip, Switch, Row}
 use Rattle.pcl_plan.specs.declared.steps.Place.{Place}
 use Rattle.pcl_plan.specs.Tokens.{Token, opening, method, skip, send, IsSpelled}
-use Rattle.pcl_plan.specs.Nodes.{Node, start, row_at, row_above, Leads, Ends, cost}
+use Rattle.pcl_plan.specs.Nodes.{Node, start, Leads, Ends, cost}
 use Rattle.pcl_plan.specs.Spelling.{least_spelling}
 use Rattle.pcl_plan.specs.Table.{node_number}
 use Rattle.pcl_plan.specs.Filling.{outside, inside, rest}
@@ -27,9 +27,9 @@ use Rattle.pcl_plan.proofs.Reading.{IsRightTable, opens, ends}
 abbrev pub node_of : Place → Node
 node_of place = node place.row place.method place.inside
 
-pub node_is : (row other : ℕ) (current next : Method) (one two : Bool) → row ≡ other → current ≡ next → one ≡ two → node row current one
+pub node_is : {row other : ℕ} {current next : Method} {one two : Bool} → row ≡ other → current ≡ next → one ≡ two → node row current one
     ≡ node other next two
-node_is row other current next one two r m i = ap (λ (x : ℕ). node x current one) r ∙ ap (λ (x : Method). node other x one) m ∙ ap
+node_is {other} {current} {next} {one} r m i = ap (λ (x : ℕ). node x current one) r ∙ ap (λ (x : Method). node other x one) m ∙ ap
     (λ (x : Bool). node other next x) i
 
 not_not : (b : Bool) → b ≡ not (not b)
@@ -42,7 +42,7 @@ rest_is : {width : ℕ} {rows : List (List ℕ)} {table : List RowNumbers} {row 
     → (is_open ≡ true → 0 < outside (node_number table) row current) → (is_open ≡ false → outside (node_number table) row current ≡ 0)
     → rest (node_number table) row current ≡ node_number table (node row current is_open)
 rest_is {width} {rows} {table} {row} current true is within some none = omega
-    (arith, opens width rows table row current is within (some refl))
+    (arith, opens current is within (some refl))
 rest_is current false is within some none = omega (arith, none refl)
 
 -- ---- the token of a step
@@ -75,8 +75,7 @@ next_is {rows} {table} {row} {current} (Skip count) {place} is before best p =
         best.0.0,
         best.0.1,
         best.0.2,
-        node_is place.row (row + count) place.method current place.inside
-            (not (not place.inside)) p.row_is p.method_is (not_not place.inside),
+        node_is p.row_is p.method_is (not_not place.inside),
       );
       number_is = omega (arith, best.1, number, moved, s.1, cost_skip (least_spelling count) count (not place.inside));
       within = there;
@@ -94,14 +93,14 @@ next_is {rows} {table} {row} (Switch next) {place} is before best p =
       leads = (
         refl,
         s.0,
-        node_is place.row row place.method next place.inside (not (not place.inside)) p.row_is p.method_is
+        node_is p.row_is p.method_is
             (not_not place.inside),
       );
       number_is = omega (arith, best, number, moved, s.1, cost_method (least_spelling (method_code next)) next (not place.inside));
       within = there;
     }
 next_is {width} {rows} {table} {row} {current} (Row bytes) {place} is before best p =
-    let s = spelled_cost bytes (length_small current (row_above width rows row) (row_at rows row) bytes best.1) in
+    let s = spelled_cost bytes (length_small best.1) in
     let whole = best.1.attained in
     let spelled : IsSpelled (least_spelling bytes) (length whole.0) = subst (IsSpelled (least_spelling bytes)) (sym whole.2) s.0 in
     let there : place.row ≤ length rows = omega (arith, p.row_is, best.0) in
@@ -109,7 +108,7 @@ next_is {width} {rows} {table} {row} {current} (Row bytes) {place} is before bes
       | true ↦ λ no. (let e : false ≡ true = no refl in absurd cc)
       | false ↦ λ _. refl
     ] (λ goes. (p.goes_on goes).0) in
-    let same = node_is place.row (row + 1) place.method current place.inside false p.row_is p.method_is closed in
+    let same = node_is p.row_is p.method_is closed in
     record {
       token = send (least_spelling bytes) whole.0;
       is_of = (whole.2, refl);
@@ -146,11 +145,11 @@ read_none width rows table place e = record {
 }
 
 -- at the last step it makes no difference whether a sequence is open
-pub spells_any : (one two : Bool) (more : List Step) (behind : List Token) → (is_last more ≡ false → one ≡ two) → Spells one more behind
+pub spells_any : {one two : Bool} (more : List Step) (behind : List Token) → (is_last more ≡ false → one ≡ two) → Spells one more behind
     → Spells two more behind
 unfolding Spells
-spells_any one two [] behind same s = s
-spells_any one two (step ∷ more) behind same s = subst (λ (o : Bool). Spells o (step ∷ more) behind) (same refl) s
+spells_any [] behind same s = s
+spells_any (step ∷ more) behind same s = subst (λ (o : Bool). Spells o (step ∷ more) behind) (same refl) s
 
 -- a step ends its sequence where no other follows
 token_at_end : (step : Step) {one two : Bool} (token : Token) → one ≡ two → IsTokenOf step one token → IsTokenOf step two token
@@ -176,19 +175,19 @@ opened_total : {width : ℕ} {rows : List (List ℕ)} {table : List RowNumbers} 
     → total cost (opened is_open tokens) ≡ node_number table (node row current is_open)
 opened_total current true tokens is within some t = t
 opened_total {width} {rows} {table} {row} current false tokens is within some t = omega
-    (arith, t, cost_opening, opens width rows table row current is within some)
+    (arith, t, cost_opening, opens current is within some)
 
 inside_below : {width : ℕ} {rows : List (List ℕ)} {table : List RowNumbers} (row : ℕ) (current : Method) (is_open : Bool)
     → IsRightTable width rows table → row ≤ length rows
     → 0 < outside (node_number table) row current → inside (node_number table) row current ≤ node_number table (node row current is_open)
 inside_below row current true is within some = omega arith
-inside_below {width} {rows} {table} row current false is within some = omega (arith, opens width rows table row current is within some)
+inside_below {width} {rows} {table} row current false is within some = omega (arith, opens current is within some)
 
 -- ink is left where a step is read
-pub ink_left : (width : ℕ) (rows : List (List ℕ)) (table : List RowNumbers) (steps : List Step) (place : Place)
+pub ink_left : {width : ℕ} {rows : List (List ℕ)} {table : List RowNumbers} {steps : List Step} {place : Place}
     → IsReadTo width rows table steps place → 0 < node_number table (node_of place)
     → 0 < outside (node_number table) place.row place.method
-ink_left width rows table steps place r some =
+ink_left {table} {place} r some =
     elim place.inside as (λ (i : Bool). (i ≡ true → 0 < outside (node_number table) place.row place.method) → 0 < node_number table
     (node place.row place.method i) → 0 < outside (node_number table) place.row place.method) [
       | true ↦ λ inked some. inked refl
@@ -248,7 +247,7 @@ spells_followed : {width : ℕ} {rows : List (List ℕ)} {table : List RowNumber
     {more : List Step} (tail : List Token) → IsFollowed width rows table behind step more
     → IsPlaceBehind (node_number table) row current step behind → Spells behind.inside more tail → Spells (stays_inside step) more tail
 spells_followed {behind} {step} {more} tail f p spells =
-    spells_any behind.inside (stays_inside step) more tail
+    spells_any more tail
     (λ others.
     elim (bool_cases behind.inside) [
       | inl goes ↦ goes ∙ sym (p.goes_on goes).0
@@ -268,7 +267,7 @@ pub read_more : {width : ℕ} {rows : List (List ℕ)} {table : List RowNumbers}
 unfolding Spells
 read_more {width} {rows} {table} {steps} {place} {behind} {step} is r some best p =
     let next = next_is step is r.within best p in
-    let ink = ink_left width rows table steps place r some in
+    let ink = ink_left r some in
     record {
       within = next.within;
       inked = λ goes. (p.goes_on goes).1;
@@ -307,7 +306,7 @@ pub read_less : {width : ℕ} {rows : List (List ℕ)} {table : List RowNumbers}
     → node_number table (node_of behind) < node_number table (node_of place)
 read_less {width} {rows} {table} {steps} {place} {step} is r some best p =
     let next = next_is step is r.within best p in
-    let ink = ink_left width rows table steps place r some in
+    let ink = ink_left r some in
     omega (arith, next.number_is, cost_some next.token, inside_below place.row place.method place.inside is r.within ink)
 
 pub read_all : {width : ℕ} {rows : List (List ℕ)} {table : List RowNumbers} {steps : List Step} {place : Place}

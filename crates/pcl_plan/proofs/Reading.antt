@@ -58,7 +58,7 @@ feasible_table {rows} {table} right = record {
 pub least_table : {width : ℕ} {rows : List (List ℕ)} {table : List RowNumbers} → AreRightFrom width rows table 0 → (a : Node)
     → a.row ≤ length rows → IsLeastCost (Leads width rows) (Ends rows) cost a (node_number table a)
 least_table {width} {rows} {table} right a within =
-    attained_is_least (Leads width rows) (Ends rows) cost (node_number table) (feasible_table right) a
+    attained_is_least (feasible_table right) a
     ((right.right a.row (omega arith) within).attained a refl)
 
 -- ---- what begins the least inside a sequence
@@ -70,7 +70,7 @@ pub record IsRightTable (width : ℕ) (rows : List (List ℕ)) (table : List Row
 
 bounds : (width : ℕ) (rows : List (List ℕ)) (table : List RowNumbers) → IsRightTable width rows table → (a : Node) (es : List Token)
     → Walk (Leads width rows) (Ends rows) a es → node_number table a ≤ total cost es
-bounds width rows table is = feasible_bounds (Leads width rows) (Ends rows) cost (node_number table)
+bounds width rows table is = feasible_bounds
     (feasible_table is.right)
 
 step : (width : ℕ) (rows : List (List ℕ)) (table : List RowNumbers) → IsRightTable width rows table
@@ -103,7 +103,7 @@ pub send_bound : {width : ℕ} {rows : List (List ℕ)} {table : List RowNumbers
     → inside (node_number table) row current ≤ sending bytes + outside (node_number table) (row + 1) current
 send_bound {width} {rows} {table} {row} {current} {bytes} is lt length_is =
     let whole = length_is.attained in
-    let s = spelled_cost bytes (length_small current (row_above width rows row) (row_at rows row) bytes length_is) in
+    let s = spelled_cost bytes (length_small length_is) in
     let spelled : IsSpelled (least_spelling bytes) (length whole.0) = subst (IsSpelled (least_spelling bytes)) (sym whole.2) s.0 in
     let l = step width rows table is (node row current true) (send (least_spelling bytes) whole.0) (node (row + 1) current false)
     (refl, spelled, lt, whole.1, refl) in
@@ -133,7 +133,7 @@ begins_with {width} {rows} {table} {row} {current} is (method digits next ends �
       ap (node_number table) w.1.2,
       rest_below (node_number table) row next (not ends),
       cost_method digits next ends,
-      spelled_long digits (method_code next) w.1.1 (omega (arith, method_small next)),
+      spelled_long digits w.1.1 (omega (arith, method_small next)),
       switch_bound row current next is,
     ))
 begins_with {width} {rows} {table} {row} {current} is (skip digits count ends ∷ es) w t =
@@ -146,7 +146,7 @@ begins_with {width} {rows} {table} {row} {current} is (skip digits count ends �
       ap (node_number table) w.1.5,
       rest_below (node_number table) (row + count) current (not ends),
       cost_skip digits count ends,
-      spelled_long digits count w.1.1 (omega (arith, w.1.3, is.few)),
+      spelled_long digits w.1.1 (omega (arith, w.1.3, is.few)),
       skip_bound row current is can,
     ))
 begins_with {width} {rows} {table} is (send digits bytes ∷ es) w t =
@@ -157,7 +157,7 @@ begins_with {width} {rows} {table} is (send digits bytes ∷ es) w t =
       bounds width rows table is w.0 es w.2,
       ap (node_number table) w.1.4,
       cost_send digits bytes,
-      spelled_long digits (length bytes) w.1.1 (omega (arith, w.1.3.fits)),
+      spelled_long digits w.1.1 (omega (arith, w.1.3.fits)),
     ))
 
 pub begins : (width : ℕ) (rows : List (List ℕ)) (table : List RowNumbers) (row : ℕ) (current : Method) → IsRightTable width rows table
@@ -209,10 +209,10 @@ opens_with row current is (skip digits count ends ∷ es) w t some = let no : fa
 opens_with row current is (send digits bytes ∷ es) w t some = let no : false ≡ true = w.1.0 in absurd cc
 
 -- where the rest isn't white, a sequence is opened
-pub opens : (width : ℕ) (rows : List (List ℕ)) (table : List RowNumbers) (row : ℕ) (current : Method) → IsRightTable width rows table
+pub opens : {width : ℕ} {rows : List (List ℕ)} {table : List RowNumbers} {row : ℕ} (current : Method) → IsRightTable width rows table
     → row ≤ length rows → 0 < outside (node_number table) row current
     → outside (node_number table) row current ≡ 3 + inside (node_number table) row current
-opens width rows table row current is within some =
+opens {row} current is within some =
     let w = (is.right.right row (omega arith) within).attained (node row current false) refl in
     opens_with row current is w.0 w.1 w.2 some
 
@@ -251,7 +251,7 @@ run_inked {rows} {row} current {run} is some white =
       | inr past ↦
           let within = white.within in
           let none = (is.right.right row (omega arith) (omega arith)).ends (node row current false) refl
-          (refl, white_to_end rows row run white (omega arith)) in
+          (refl, white_to_end white (omega arith)) in
           absurd (omega (arith, none))
     ]
 

@@ -30,10 +30,10 @@ drop_rows (suc k) (suc n) width bytes =
     ∙ ap (λ (m : ℕ). rows_from m width (drop (suc k * width) bytes)) same
 
 -- the rows from one that is on the page
-pub rows_at : (y n width : ℕ) (bytes : List ℕ) → y < n → drop y (rows_from n width bytes)
+pub rows_at : {y n : ℕ} (width : ℕ) (bytes : List ℕ) → y < n → drop y (rows_from n width bytes)
     ≡ take width (drop (y * width) bytes) ∷ drop (y + 1) (rows_from n width bytes)
 unfolding rows_from
-rows_at y n width bytes lt =
+rows_at {y} {n} width bytes lt =
     let one : n - y ≡ suc (n - (y + 1)) = omega arith in
     let step : drop width (drop (y * width) bytes) ≡ drop ((y + 1) * width) bytes =
     (let places : y * width + width ≡ (y + 1) * width = grind arith in drop-drop width (y * width) bytes ∙ ap
@@ -66,7 +66,7 @@ row_small A4 Dpi600 = lit≤ tt
 pub row_of_bytes : (y n width : ℕ) (bytes : List ℕ) → y < n → row_at (rows_from n width bytes) y ≡ take width (drop (y * width) bytes)
 row_of_bytes y n width bytes lt =
     row_at_first y (rows_from n width bytes)
-    (rows_at y n width bytes lt)
+    (rows_at width bytes lt)
 
 -- ---- rows of bitmaps
 
@@ -96,8 +96,8 @@ rows_from_are (suc n) k {picture} is e =
     )
 
 -- the rows of a bitmap are rows of its size
-pub bitmap_rows_are : (picture : Picture) → IsPicture picture → AllByRecursion (IsRowOf picture.size picture.dpi) (bitmap_rows picture)
-bitmap_rows_are picture is =
+pub bitmap_rows_are : {picture : Picture} → IsPicture picture → AllByRecursion (IsRowOf picture.size picture.dpi) (bitmap_rows picture)
+bitmap_rows_are {picture} is =
     let width = page_row_bytes picture.size picture.dpi in
     let none : 0 * width ≡ 0 = omega arith in
     subst (λ (bytes : List ℕ). AllByRecursion (IsRowOf picture.size picture.dpi)

@@ -59,7 +59,7 @@ text_bounded dpi size copies rows text number feasible printed =
     omega (
       arith,
       printed_length printed,
-      feasible_bounds (Leads (page_row_bytes size dpi) rows) (Ends rows) cost number feasible start printed.tokens
+      feasible_bounds feasible start printed.tokens
           (printed_walk printed),
     )
 

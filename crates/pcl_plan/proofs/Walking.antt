@@ -23,10 +23,10 @@ row_at_first zero (row ∷ rows) e = cc
 row_at_first (suc y) [] e = absurd cc
 row_at_first (suc y) (row ∷ rows) e = row_at_first y rows e
 
-pub row_width : (width : ℕ) (rows : List (List ℕ)) (y : ℕ) → AreOfWidth width rows → y < length rows → length (row_at rows y) ≡ width
-row_width width [] y are lt = absurd (omega arith)
-row_width width (row ∷ rows) zero are lt = are.0
-row_width width (row ∷ rows) (suc y) are lt = row_width width rows y are.1 (omega arith)
+pub row_width : {width : ℕ} (rows : List (List ℕ)) (y : ℕ) → AreOfWidth width rows → y < length rows → length (row_at rows y) ≡ width
+row_width [] y are lt = absurd (omega arith)
+row_width (row ∷ rows) zero are lt = are.0
+row_width {width} (row ∷ rows) (suc y) are lt = row_width rows y are.1 (omega arith)
 
 -- each of the white rows is white
 pub white_at : (count : ℕ) (rows : List (List ℕ)) (y : ℕ) → AreWhite (take count rows) → y < count → y < length rows
@@ -52,12 +52,12 @@ zeros_above width rows y {count} are some within white =
     (let same : y + last ≡ y + count - 1 = omega arith in ap (row_at rows) same) in
     let is_white : IsWhite (row_at rows (y + count - 1)) = subst IsWhite at (white_at count (drop y rows) last white (omega arith) left) in
     row_above_is width rows (y + count) (omega arith) ∙ white_is_zeros (row_at rows (y + count - 1)) is_white
-    ∙ ap (λ (n : ℕ). replicate n 0) (row_width width rows (y + count - 1) are (omega arith))
+    ∙ ap (λ (n : ℕ). replicate n 0) (row_width rows (y + count - 1) are (omega arith))
 
-pub above_width : (width : ℕ) (rows : List (List ℕ)) (y : ℕ) → AreOfWidth width rows → y ≤ length rows → length (row_above width rows y)
+pub above_width : {width : ℕ} (rows : List (List ℕ)) (y : ℕ) → AreOfWidth width rows → y ≤ length rows → length (row_above width rows y)
     ≡ width
-above_width width rows zero are within = length-replicate width 0
-above_width width rows (suc y) are within = row_width width rows y are (omega arith)
+above_width {width} rows zero are within = length-replicate width 0
+above_width {width} rows (suc y) are within = row_width rows y are (omega arith)
 
 -- ---- tokens are a walk
 
@@ -82,7 +82,7 @@ walk_of_tokens width rows are (skip digits count ends ∷ tokens) true current {
     let room : y + count ≤ length rows = omega (arith, p.1, p.2, ap length l, length-drop y rows) in
     let white : AreWhite (take count (drop y rows)) = subst (λ (rest : List (List ℕ)). AreWhite (take count rest)) (sym l) p.3 in
     let seed_is : replicate (length seed) 0 ≡ row_above width rows (y + count) =
-    ap (λ (n : ℕ). replicate n 0) (ap length s ∙ above_width width rows y are within) ∙ sym
+    ap (λ (n : ℕ). replicate n 0) (ap length s ∙ above_width rows y are within) ∙ sym
     (zeros_above width rows y are p.1 room white) in (
       node (y + count) current (not ends),
       (refl, p.0, p.1, room, white, refl),
@@ -128,7 +128,7 @@ tokens_of_walk width rows are (skip digits count ends ∷ tokens) false current 
 tokens_of_walk width rows are (skip digits count ends ∷ tokens) true current {y} {seed} within s w =
     let l = w.1 in
     let seed_is : replicate (length seed) 0 ≡ row_above width rows (y + count) =
-    ap (λ (n : ℕ). replicate n 0) (ap length s ∙ above_width width rows y are within) ∙ sym
+    ap (λ (n : ℕ). replicate n 0) (ap length s ∙ above_width rows y are within) ∙ sym
     (zeros_above width rows y are l.2 l.3 l.4) in
     let rest = tokens_of_walk width rows are tokens (not ends) current l.3 seed_is
     (subst (λ (b : Node). Walk (Leads width rows) (Ends rows) b tokens) l.5 w.2) in (

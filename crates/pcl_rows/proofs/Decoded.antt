@@ -136,7 +136,7 @@ ends_none : {head : Head} {byte : ℕ} {rest : List ℕ} {front : Front} → fro
     → EndsAs head byte rest front
 ends_none {head} {byte} {rest} {front} n g d = record {
   no_more = n;
-  same = λ old. last_none front g ∙ sym (after_none head (drop (length (head_bytes head)) (byte ∷ rest)) old d);
+  same = λ old. last_none front g ∙ sym (after_none head old d);
 }
 
 -- a front that gives new bytes once, behind the head's offset
@@ -266,7 +266,7 @@ treated_cut : (n : ℕ) {method : Method} {cut : Element} (shown missing old : L
     → treated_by n method shown old ≡ after_element cut.head (drop (length (head_bytes cut.head)) shown) (λ more. more) old
 treated_cut n {method} {cut} [] missing old is e some fits =
     treated_none n method old
-    ∙ sym (after_none cut.head (drop (length (head_bytes cut.head)) []) old (drop-nil (length (head_bytes cut.head))))
+    ∙ sym (after_none cut.head old (drop-nil (length (head_bytes cut.head))))
 treated_cut zero (byte ∷ rest) missing old is e some fits = absurd (omega arith)
 treated_cut (suc n) {method} {cut} (byte ∷ rest) missing old is e some fits =
     let c : IsCut cut.head cut.bytes byte rest missing =

@@ -45,8 +45,8 @@ cuts_agree {d} {e} shown missing missing' old p q m m' =
           elim (cases_lt (length shown) (length (head_bytes e.head))) [
             | inr long' ↦ sym (one_head shown missing' missing old q p m' m long')
             | inl short' ↦
-                after_none d.head (drop (length (head_bytes d.head)) shown) old (drop_all (length (head_bytes d.head)) shown (omega arith))
-                ∙ sym (after_none e.head (drop (length (head_bytes e.head)) shown) old
+                after_none d.head old (drop_all (length (head_bytes d.head)) shown (omega arith))
+                ∙ sym (after_none e.head old
                 (drop_all (length (head_bytes e.head)) shown (omega arith)))
           ]
     ]

@@ -30,8 +30,8 @@ length-copied copies (b ∷ bytes) = length-append (replicate copies b) (flat_ma
     ∙ omega (arith, length-copied copies bytes, length-replicate copies b)
 
 -- an element without new bytes changes nothing
-pub after_none : (h : Head) (new old : List ℕ) → new ≡ [] → after_element h new (λ rest. rest) old ≡ old
-after_none h new old none =
+pub after_none : (h : Head) {new : List ℕ} (old : List ℕ) → new ≡ [] → after_element h new (λ rest. rest) old ≡ old
+after_none h old none =
     ap (λ (bs : List ℕ). after_element h bs (λ rest. rest) old) none ∙ rw add-zero (take-append-drop (offset_of h) old)
 
 -- an element of each method
@@ -55,7 +55,7 @@ Fills-none method old =
       e.0,
       [],
       record { elements = tt; joined = refl; element = e.1; lacking = (element_bytes e.0, refl, spelling_has_byte method e.0 e.1) },
-      sym (after_none e.0.head (drop (length (head_bytes e.0.head)) []) old (drop-nil (length (head_bytes e.0.head)))),
+      sym (after_none e.0.head old (drop-nil (length (head_bytes e.0.head)))),
     )
 
 none_is_nothing : {method : Method} (whole : List Element) {cut : Element} {shown old : List ℕ}
@@ -63,7 +63,7 @@ none_is_nothing : {method : Method} (whole : List Element) {cut : Element} {show
     → treated whole cut shown old ≡ old
 none_is_nothing [] {cut} {shown} {old} r =
     let none : shown ≡ [] = sym r.joined in
-    after_none cut.head (drop (length (head_bytes cut.head)) shown) old
+    after_none cut.head old
     (ap (drop (length (head_bytes cut.head))) none ∙ drop-nil (length (head_bytes cut.head)))
 none_is_nothing {method} (e ∷ es) {shown} r =
     absurd (omega (
@@ -228,8 +228,8 @@ treated_all {method} {old} {row} place size so_far =
     (r.1.0, r.1.1, r.1.2, r.1.3, whole ∙ ap (take (length old)) r.1.4)
 
 -- where none is
-pub treated_none : (method : Method) (bytes old : List ℕ) → IsTreatedTo method bytes old bytes old 0
-treated_none method bytes old made f = (made, f, refl)
+pub treated_none : {method : Method} {bytes old : List ℕ} → IsTreatedTo method bytes old bytes old 0
+treated_none made f = (made, f, refl)
 
 -- ---- whole data
 

@@ -60,17 +60,17 @@ past old new page e t =
       next.2,
     )
 
-pub stays : (dpi : Dpi) (sheets : List Sheet) (proofs : List PageProof) (found : JobVerdict) (old new : Checker)
+pub stays : (dpi : Dpi) (sheets : List Sheet) (proofs : List PageProof) {found : JobVerdict} (old new : Checker)
     → (found ≡ job.Proved → ⊥) → old.found ≡ found → proofs_left old ≡ proofs → length sheets ≡ length proofs
     → Hands takes dpi sheets old new → (proofs_left new ≡ []) × (new.found ≡ found)
-stays dpi [] [] found old new wrong f e same h = (ap proofs_left h ∙ e, ap (λ (c : Checker). c.found) h ∙ f)
-stays dpi [] (proof ∷ proofs) found old new wrong f e same h = absurd (omega arith)
-stays dpi (sheet ∷ sheets) [] found old new wrong f e same h = absurd (omega arith)
-stays dpi (sheet ∷ sheets) (proof ∷ proofs) found old new wrong f e same h =
+stays dpi [] [] old new wrong f e same h = (ap proofs_left h ∙ e, ap (λ (c : Checker). c.found) h ∙ f)
+stays dpi [] (proof ∷ proofs) old new wrong f e same h = absurd (omega arith)
+stays dpi (sheet ∷ sheets) [] old new wrong f e same h = absurd (omega arith)
+stays dpi (sheet ∷ sheets) (proof ∷ proofs) {found} old new wrong f e same h =
     let t = step proof proofs old h.1 h.0 e h.3 in
     let next : h.1.found ≡ found =
     wrong_stays found proof old h.1 h.0 wrong (subst (λ (v : JobVerdict). FindsNext v proof old h.0 h.1) f t.finds) in
-    stays dpi sheets proofs found h.1 new wrong next t.left (omega arith) h.4
+    stays dpi sheets proofs h.1 new wrong next t.left (omega arith) h.4
 
 -- ---- a page or a proof too many
 
@@ -185,7 +185,7 @@ at_page {dpi} {sheet} sheets texts proof {proofs} taken {page} {middle} new (job
     let rest = drop proof.text_len texts in
     let room : proof.text_len ≤ length texts = omega (arith, long) in
     let wrong : job.Page place verdict ≡ job.Proved → ⊥ = λ (p : job.Page place verdict ≡ job.Proved). cc in
-    let s = stays dpi sheets proofs (job.Page place verdict) middle new wrong (sym f) e same h in (
+    let s = stays dpi sheets proofs middle new wrong (sym f) e same h in (
       s.0,
       subst (IsOutcome dpi (sheet ∷ sheets) texts (proof ∷ proofs) taken) (sym s.1) (
         1,

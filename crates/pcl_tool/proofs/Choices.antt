@@ -21,11 +21,11 @@ abbrev pub takes : Chosen → Page → Chosen → Type 0
 takes old page new = new ≡ chosen_after old.skip old page.bitmap
 
 -- a sink that keeps no further page stays as it is
-pub stays : (dpi : Dpi) (sheets : List Sheet) (old new : Chosen) → old.skip ≡ None → Hands takes dpi sheets old new → new ≡ old
-stays dpi [] old new e h = h
-stays dpi (sheet ∷ sheets) old new e h =
+pub stays : (dpi : Dpi) (sheets : List Sheet) {old new : Chosen} → old.skip ≡ None → Hands takes dpi sheets old new → new ≡ old
+stays dpi [] e h = h
+stays dpi (sheet ∷ sheets) {old} {new} e h =
     let mid_is : h.1 ≡ old = h.3 ∙ ap (λ (skip : Option ℕ). chosen_after skip old h.0.bitmap) e in
-    stays dpi sheets h.1 new (ap (λ (c : Chosen). c.skip) mid_is ∙ e) h.4 ∙ mid_is
+    stays dpi sheets (ap (λ (c : Chosen). c.skip) mid_is ∙ e) h.4 ∙ mid_is
 
 -- the kept page shows the sheet at this place
 pub record ShowsAt (dpi : Dpi) (sheets : List Sheet) (place : ℕ) (picture : Picture) : Type 0 where
@@ -52,7 +52,7 @@ keeps_chosen dpi (sheet ∷ sheets) zero {old} new s k h =
     let mid_is : h.1 ≡ record { skip = None; kept = Some h.0.bitmap } =
     h.3 ∙ ap (λ (skip : Option ℕ). chosen_after skip old h.0.bitmap) s in
     let new_is : new ≡ record { skip = None; kept = Some h.0.bitmap } =
-    stays dpi sheets h.1 new (ap (λ (c : Chosen). c.skip) mid_is) h.4 ∙ mid_is in
+    stays dpi sheets (ap (λ (c : Chosen). c.skip) mid_is) h.4 ∙ mid_is in
     subst (Keeps dpi (sheet ∷ sheets) 0) (sym (ap (λ (c : Chosen). c.kept) new_is))
     (record { sheet = sheet; chosen = refl; page = h.0; shows = h.2; same = refl })
 keeps_chosen dpi (sheet ∷ sheets) (suc place) {old} new s k h =
@@ -79,7 +79,7 @@ pub image_kept : {dpi : Dpi} {job : List ℕ} {number : ℕ} {pages : List Sheet
     → HasPages dpi job pages → SkipsTo number skip → old.skip ≡ skip → old.kept ≡ None → Hands takes dpi pages old new
     → new.kept ≡ Some picture → IsImageOf dpi job number (image_of picture)
 image_kept {dpi} {pages} None {old} new {picture} m n s k h e =
-    absurd (let same : None ≡ Some picture = sym k ∙ ap (λ (c : Chosen). c.kept) (sym (stays dpi pages old new s h)) ∙ e in cc)
+    absurd (let same : None ≡ Some picture = sym k ∙ ap (λ (c : Chosen). c.kept) (sym (stays dpi pages s h)) ∙ e in cc)
 image_kept {dpi} {number} {pages} (Some place) new {picture} m n s k h e =
     let shows : ShowsAt dpi pages place picture = subst (Keeps dpi pages place) e (keeps_chosen dpi pages place new s k h) in
     let before : place ≡ number - 1 = omega arith in

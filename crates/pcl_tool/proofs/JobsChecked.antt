@@ -54,7 +54,7 @@ of_begin {dpi} output compared begun new job.Proved f e n b same h =
     (o.0, of_outcome compared same b new.found o.1)
 of_begin {dpi} {input} output {certificate} compared begun new job.Frame f e n b same h =
     let wrong : job.Frame ≡ job.Proved → ⊥ = λ (p : job.Frame ≡ job.Proved). cc in
-    let s = stays dpi compared.pages compared.proofs job.Frame begun new wrong (sym f) e same h in
+    let s = stays dpi compared.pages compared.proofs begun new wrong (sym f) e same h in
     (s.0, subst (IsJobVerdict dpi input output certificate) (sym s.1) (compared, same, b))
 of_begin output compared begun new (job.Page place verdict) f e n b same h = absurd b
 of_begin output compared begun new (job.Certificate fault) f e n b same h = absurd b

@@ -38,7 +38,7 @@ pub written_least : (dpi : Dpi) (input output : List ℕ) → IsJobOf dpi input 
 written_least dpi input output w = record {
   pages = w.pages;
   meaning = w.meaning;
-  is_least = least_job dpi w.pages w.texts output (written_texts dpi w.pages w.texts w.print) w.spelled;
+  is_least = least_job w.texts (written_texts dpi w.pages w.texts w.print) w.spelled;
 }
 
 pub proved_least_job : (dpi : Dpi) (input output certificate : List ℕ) → IsJobVerdict dpi input output certificate job.Proved
@@ -46,5 +46,5 @@ pub proved_least_job : (dpi : Dpi) (input output certificate : List ℕ) → IsJ
 proved_least_job dpi input output certificate v = record {
   pages = v.0.pages;
   meaning = v.0.meaning;
-  is_least = least_job dpi v.0.pages v.1 output (proved_texts dpi v.0.pages v.1 v.0.proofs v.3) v.2.spelled;
+  is_least = least_job v.1 (proved_texts dpi v.0.pages v.1 v.0.proofs v.3) v.2.spelled;
 }

@@ -119,7 +119,7 @@ are_proofs : {dpi : Dpi} {job : List ℕ} {pages : List Sheet} (old new : SoFar)
     → (h : Hands TakesProved dpi pages old new) → AreProofs dpi old.format (gathered pages h).proofs
 are_proofs {dpi} {job} {pages} old new meaning h =
     let g = gathered pages h in
-    (omega (arith, g.count, job_fits dpi job pages meaning), g.can_be_said)
+    (omega (arith, g.count, job_fits meaning), g.can_be_said)
 
 pub can_be_written : {dpi : Dpi} {format : Format} {job : List ℕ} {pages : List Sheet} (old new : SoFar) → HasPages dpi job pages
     → old.format ≡ format → old.proofs ≡ [] → Hands TakesProved dpi pages old new → AreProofs dpi format (proofs_in format new.proofs)

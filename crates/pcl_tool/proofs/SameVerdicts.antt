@@ -52,8 +52,8 @@ of_length text table same e =
 
 pub verdict_again : {page other : Page} {text : List ℕ} (table : List RowNumbers) (tables : Tables) (verdict : Verdict) → AreSame page other
     → IsVerdict page text table tables Proved → IsVerdict other text table tables verdict → verdict ≡ Proved
-verdict_again {other} {text} table tables NotGrammar same p v = absurd (v (some_text other (prints_same text same p.0)))
-verdict_again {text} table tables OtherPage same p v = absurd (v.1 (prints_same text same p.0))
+verdict_again {other} {text} table tables NotGrammar same p v = absurd (v (some_text other (prints_same same p.0)))
+verdict_again {text} table tables OtherPage same p v = absurd (v.1 (prints_same same p.0))
 verdict_again table tables Rows same p v = absurd (v.1 (of_page table tables same p.1))
 verdict_again table None (Place row method place) same p v = absurd v.2
 verdict_again table (Some lists) (Place row method place) same p v =

@@ -32,7 +32,7 @@ job_of_texts dpi job start body output texts pages meaning opened print joined c
     let spelled : output ≡ frame_bytes ++ texts ++ frame_bytes =
     closed ∙ ap (λ (b : List ℕ). b ++ frame_bytes) (joined ∙ ap (λ (s : List ℕ). s ++ texts) opened)
     ∙ append_assoc frame_bytes texts frame_bytes in
-    let w = written_again dpi job texts pages meaning print in
+    let w = written_again texts meaning print in
     record {
       pages = pages;
       meaning = meaning;

@@ -86,7 +86,7 @@ leads_too {picture} {place} {behind} (Skip count) {ends} {token} {written} {b} b
     let led = subst (λ (x : Token). Leads (width_of picture) (bitmap_rows picture) from x b) is l in
     record {
       within = omega (arith, p.row_is, led.3);
-      there = led.5 ∙ sym (node_is behind.row (place.row + count) behind.method place.method behind.inside (not ends) p.row_is p.method_is
+      there = led.5 ∙ sym (node_is p.row_is p.method_is
           p.inside_is);
       leads = subst (λ (x : Token). Leads (width_of picture) (bitmap_rows picture) from x b) same l;
       costs = ap cost (sym same);
@@ -98,7 +98,7 @@ leads_too {picture} {place} {behind} (Switch next) {ends} {token} {written} {b} 
     let led = subst (λ (x : Token). Leads (width_of picture) (bitmap_rows picture) from x b) is l in
     record {
       within = omega (arith, p.row_is, before);
-      there = led.2 ∙ sym (node_is behind.row place.row behind.method next behind.inside (not ends) p.row_is p.method_is p.inside_is);
+      there = led.2 ∙ sym (node_is p.row_is p.method_is p.inside_is);
       leads = subst (λ (x : Token). Leads (width_of picture) (bitmap_rows picture) from x b) same l;
       costs = ap cost (sym same);
     }
@@ -112,7 +112,7 @@ leads_too {picture} {place} {behind} (Row count) {ends} {token} {written} {b} be
     in
     record {
       within = omega (arith, p.row_is, led.2);
-      there = led.4 ∙ sym (node_is behind.row (place.row + 1) behind.method place.method behind.inside false p.row_is p.method_is
+      there = led.4 ∙ sym (node_is p.row_is p.method_is
           p.inside_is);
       leads = subst (λ (x : Token). Leads (width_of picture) (bitmap_rows picture) from x b) (sym other.1)
           (refl, spelled, led.2, whole, led.4);
@@ -146,7 +146,7 @@ opened_is : {picture : Picture} {number : Node → ℕ} → IsFeasible (Leads (w
     → IsOpened picture number row current is_open tokens
 opened_is feasible true w t = record { walk = w; total_is = t; back = λ other v u. (v, u) }
 opened_is {picture} {number} feasible {row} {current} false {tokens} w t =
-    let s = step_is_least (width_of picture) (bitmap_rows picture) number feasible (node row current false) w.0 opening tokens w.1 w.2 t in
+    let s = step_is_least (width_of picture) feasible (node row current false) w.0 opening tokens w.1 w.2 t in
     let at = w.1.1 in
     record {
       walk = subst (λ (n : Node). Walk (Leads (width_of picture) (bitmap_rows picture)) (Ends (bitmap_rows picture)) n tokens) at w.2;
@@ -223,7 +223,7 @@ writable_from {picture} {plan} {place} (Row count) {more} is n =
     let w = subst (λ (t : Token). Walk (Leads (width_of picture) (bitmap_rows picture)) (Ends (bitmap_rows picture)) from (t ∷ n.rest))
     one.1 n.from.walk in
     let t = ap (λ (x : Token). total cost (x ∷ n.rest)) (sym one.1) ∙ n.from.total_is in
-    let least = sent_is_least (width_of picture) (bitmap_rows picture) (node_number plan.table) is.feasible place.row place.method w.0
+    let least = sent_is_least (width_of picture) is.feasible place.row place.method w.0
     (least_spelling count) one.0 n.rest w.1 w.2 t in
     (w.1.2, subst (IsLeastLength place.method (above picture place.row) (row_at (bitmap_rows picture) place.row)) one.2 least)
 
@@ -248,7 +248,7 @@ written_more {picture} {plan} {old} {step} {more} {place} {behind} is w a p =
     let walk = n.from.walk in
     let from = node place.row place.method true in
     let too = leads_too step w.within n.is_of a.1 a.2 p walk.1 in
-    let s = step_is_least (width_of picture) (bitmap_rows picture) (node_number plan.table) is.feasible from walk.0 n.token n.rest walk.1
+    let s = step_is_least (width_of picture) is.feasible from walk.0 n.token n.rest walk.1
     walk.2 n.from.total_is in
     let token : List Token = opened place.inside (a.0 ∷ []) in
     record {
@@ -258,7 +258,7 @@ written_more {picture} {plan} {old} {step} {more} {place} {behind} is w a p =
           (flat_map token_bytes token)
           ∙ ap (λ (t : List ℕ). old ++ t) (sym (flat_map-append token_bytes w.done token));
       left = n.rest;
-      spells = spells_any (stays_inside step) behind.inside more n.rest
+      spells = spells_any more n.rest
           (λ others. goes_on_open step others ∙ sym p.inside_is) n.spells;
       walk = subst (λ (x : Node). Walk (Leads (width_of picture) (bitmap_rows picture)) (Ends (bitmap_rows picture)) x n.rest) too.there
           walk.2;

@@ -8,4 +8,4 @@ returns-clause-found c = is_found c.args.dpi c.args.bytes.now c.read_all.result 
 
 pub returns-clause-only : goal.returns-clause-only
 returns-clause-only c = λ format proofs are e. subst (λ read. Gives contents_of c.read_all.result read)
-    (ap (certificate_at c.args.dpi) e ∙ certificate_again c.args.dpi format proofs are) c.read_all.ensures
+    (ap (certificate_at c.args.dpi) e ∙ certificate_again c.args.dpi format are) c.read_all.ensures

@@ -13,7 +13,7 @@ returns-then-old-place c =
     let row = c.args.row.now in
     let place : ℕ = c.loop-place.place in
     found_all (IsGoodEnd old row c.args.numbers.now) (length row) c.loop-place.found
-    (λ k lt end. absurd (c.if-old-place.true (sym (ends_at old row k (place - 1) end (omega arith))))) c.loop-place.invariant.found
+    (λ k lt end. absurd (c.if-old-place.true (sym (ends_at old row (place - 1) end (omega arith))))) c.loop-place.invariant.found
 
 pub loop-place-preserved-then-numbers-place-gt0 : goal.loop-place-preserved-then-numbers-place-gt0
 loop-place-preserved-then-numbers-place-gt0 c =
@@ -25,7 +25,7 @@ loop-place-preserved-then-numbers-place-gt0 c =
     let same : AreSameFrom old row place =
     elim c.else-place-row.branch [
       | else-place-row-via-then-place-row+else-old-place w ↦
-          same_before old row c.loop-place.place (c.loop-place.invariant.same (omega (arith, w.if-place-row.true))) c.loop-place-test.true
+          same_before (c.loop-place.invariant.same (omega (arith, w.if-place-row.true))) c.loop-place-test.true
           w.if-old-place.false
       | else-place-row-via-else-place-row w ↦
           let last : length row ≡ place = omega (arith, w.if-place-row.false, within) in
@@ -49,7 +49,7 @@ loop-place-preserved c =
     let same : AreSameFrom old row place =
     elim c.else-place-row.branch [
       | else-place-row-via-then-place-row+else-old-place w ↦
-          same_before old row c.loop-place.place (c.loop-place.invariant.same (omega (arith, w.if-place-row.true))) c.loop-place-test.true
+          same_before (c.loop-place.invariant.same (omega (arith, w.if-place-row.true))) c.loop-place-test.true
           w.if-old-place.false
       | else-place-row-via-else-place-row w ↦
           let last : length row ≡ place = omega (arith, w.if-place-row.false, within) in

@@ -11,7 +11,7 @@ use Rattle.pcl_coders.proofs.table.append_steps.Goals as goal
 pub returns-in_err-append-clause-err : goal.returns-in_err-append-clause-err
 returns-in_err-append-clause-err c =
     let a = c.loop-place.invariant in
-    let front = front_stays c.args.out.now.items c.loop-place.out.items c.append.new.out.items (flat_map element_bytes a.done) a.joined
+    let front = front_stays c.append.new.out.items (flat_map element_bytes a.done) a.joined
     c.in_err-append.ensures.err in
     search (rules, front)
 

@@ -8,9 +8,9 @@ use Rattle.pcl_page.proofs.Jobs.{IsReached, rest_of_job, command_stopped, has_be
 use Rattle.pcl_page.proofs.job.run.Goals as goal
 
 -- the next command and those behind it
-next_is : (commands : List Command) (i : ℕ) (default : Command) → i < length commands
+next_is : (commands : List Command) {i : ℕ} (default : Command) → i < length commands
     → views (drop i commands) ≡ view (get_or commands i default) ∷ views (drop (i + 1) commands)
-next_is commands i default lt =
+next_is commands {i} default lt =
     let parts : drop i commands ≡ get_or commands i default ∷ drop (i + 1) commands = rw (add-one, drop-cons commands i default lt) refl in
     ap views parts
 
@@ -18,7 +18,7 @@ pub loop-place-preserved : goal.loop-place-preserved
 loop-place-preserved g c =
     let all = views c.args.commands.now in
     let whole = performance c.args.dpi c.args.end all in
-    let next = next_is c.args.commands.now c.loop-place.place _ c.loop-place-test.true in
+    let next = next_is c.args.commands.now _ c.loop-place-test.true in
     let r = subst (λ (rest : List Said). IsReached g.S.PageSink.takes c.args.dpi whole
     (rest_of_job c.args.dpi c.args.end all c.loop-place.place rest) c.loop-place.interpreter c.args.sink.now c.loop-place.sink) next
     c.loop-place.invariant in
@@ -33,7 +33,7 @@ pub returns-in_err-perform_at : goal.returns-in_err-perform_at
 returns-in_err-perform_at g c =
     let all = views c.args.commands.now in
     let whole = performance c.args.dpi c.args.end all in
-    let next = next_is c.args.commands.now c.loop-place.place _ c.loop-place-test.true in
+    let next = next_is c.args.commands.now _ c.loop-place-test.true in
     let r = subst (λ (rest : List Said). IsReached g.S.PageSink.takes c.args.dpi whole
     (rest_of_job c.args.dpi c.args.end all c.loop-place.place rest) c.loop-place.interpreter c.args.sink.now c.loop-place.sink) next
     c.loop-place.invariant in
@@ -51,7 +51,7 @@ pub returns-in_err-run_macros : goal.returns-in_err-run_macros
 returns-in_err-run_macros g c =
     let all = views c.args.commands.now in
     let whole = performance c.args.dpi c.args.end all in
-    let next = next_is c.args.commands.now c.loop-place.place _ c.loop-place-test.true in
+    let next = next_is c.args.commands.now _ c.loop-place-test.true in
     let r = subst (λ (rest : List Said). IsReached g.S.PageSink.takes c.args.dpi whole
     (rest_of_job c.args.dpi c.args.end all c.loop-place.place rest) c.loop-place.interpreter c.args.sink.now c.loop-place.sink) next
     c.loop-place.invariant in

@@ -21,7 +21,7 @@ loop-row-init g c =
     record {
       right = put_last (sym count) (omega (arith, c.requires, count))
           put (no_rows rows.count rows.count rows.width rows.bytes.now (omega arith));
-      run = run_end (rows_of rows) rows.count (sym count);
+      run = run_end (sym count);
     }
 
 pub loop-row-preserved : goal.loop-row-preserved
@@ -44,7 +44,7 @@ loop-row-preserved g c =
         | then-row-run w ↦
             put_white inside
             (subst (IsPut c.loop-row.table new row) (w.numbers-is ∙ w.at_end-numbers.ensures) put) behind
-            (white_to_end (rows_of rows) row c.white_run-run.result run (w.if-row-run.true ∙ sym count))
+            (white_to_end run (w.if-row-run.true ∙ sym count))
         | else-row-run w ↦
             let ink : row + c.white_run-run.result < length (rows_of rows) = omega
             (arith, count, w.if-row-run.false, c.white_run-run.ensures.within) in

@@ -1,5 +1,4 @@
 use Rattle.std.proofs.Common.{◌+◌, ◌≤◌, ◌<◌, ℕ, List, false, arith}
-use Rattle.pcl_plan.specs.Nodes.{row_at, row_above}
 use Rattle.pcl_plan.specs.Table.{by_method}
 use Rattle.pcl_plan.specs.Rows.{rows_of}
 use Rattle.pcl_plan.specs.declared.rows.Rows.{Rows}
@@ -23,16 +22,14 @@ least_starts-requires-clause-readable g c = readable_rows c.args.rows.now c.requ
 
 pub least_starts-requires-clause-bytes : goal.least_starts-requires-clause-bytes
 least_starts-requires-clause-bytes g c = λ method.
-    length_small method (row_above c.args.rows.now.width (rows_of c.args.rows.now) c.args.row)
-    (row_at (rows_of c.args.rows.now) c.args.row) (by_method c.least_lengths-bytes.result method) (c.least_lengths-bytes.ensures method)
+    length_small (c.least_lengths-bytes.ensures method)
 
 pub from_direct-requires : goal.from_direct-requires
 from_direct-requires g c = λ method.
     let rows = c.args.rows.now in
     let is = readable_rows rows c.requires.right c.requires.run c.requires.ink in
     let bytes : ℕ = by_method c.least_lengths-bytes.result method in
-    let small : bytes ≤ 65535 = length_small method (row_above rows.width (rows_of rows) c.args.row) (row_at (rows_of rows) c.args.row)
-    bytes (c.least_lengths-bytes.ensures method) in
+    let small : bytes ≤ 65535 = length_small (c.least_lengths-bytes.ensures method) in
     omega (
       arith,
       (c.least_starts.ensures method).sent,

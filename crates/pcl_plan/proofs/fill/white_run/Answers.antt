@@ -1,6 +1,5 @@
 use Rattle.std.proofs.Common.{◌≡◌, true, false, subst, arith}
 use Rattle.std.specs.Prelude.{IsTrue}
-use Rattle.pcl_plan.specs.Rows.{rows_of}
 use Rattle.pcl_plan.proofs.RowsFrom.{length_rows}
 use Rattle.pcl_plan.proofs.Filled.{run_more, run_none}
 use Rattle.pcl_plan.proofs.fill.white_run.Goals as goal
@@ -19,7 +18,7 @@ returns-then-is_white c =
     let rows = c.args.rows.now in
     let count = length_rows rows.count rows.width rows.bytes.now in
     record {
-      run = run_more (rows_of rows) c.args.row c.args.below (omega (arith, c.requires.row, count)) c.requires.below
+      run = run_more (omega (arith, c.requires.row, count)) c.requires.below
           (c.is_white.ensures.0 c.if-is_white.true);
       within = omega (arith, c.requires.below.within, count);
     }
@@ -29,7 +28,7 @@ returns-else-is_white c =
     let rows = c.args.rows.now in
     let count = length_rows rows.count rows.width rows.bytes.now in
     record {
-      run = run_none (rows_of rows) c.args.row (omega (arith, c.requires.row, count))
+      run = run_none (omega (arith, c.requires.row, count))
           (λ white. (let no : false ≡ true = subst IsTrue c.if-is_white.false (c.is_white.ensures.1 white) in absurd cc));
       within = omega arith;
     }

@@ -9,15 +9,15 @@ use Rattle.pcl_plan.proofs.Filled.{skippable_within}
 use Rattle.pcl_plan.proofs.Reading.{IsRightTable, readable_run, skippable, skip_bound, small_number, switch_begins}
 use Rattle.pcl_plan.proofs.steps.best_step.Goals as goal
 
-right_table : (rows : Rows) (table : List RowNumbers) → AreRightFrom rows.width (rows_of rows) table 0
+right_table : (rows : Rows) {table : List RowNumbers} → AreRightFrom rows.width (rows_of rows) table 0
     → IsRightTable rows.width (rows_of rows) table
-right_table rows table right = record { few = omega (arith, length_rows rows.count rows.width rows.bytes.now, rows.few); right = right }
+right_table rows right = record { few = omega (arith, length_rows rows.count rows.width rows.bytes.now, rows.few); right = right }
 
 pub beginning_skip-requires-clause-readable : goal.beginning_skip-requires-clause-readable
 beginning_skip-requires-clause-readable g c =
     let rows = c.args.rows.now in
     readable_run c.args.method
-    (right_table rows c.args.table.now c.requires.right) c.requires.ink c.white_run-run.ensures.run
+    (right_table rows c.requires.right) c.requires.ink c.white_run-run.ensures.run
 
 pub beginning_skip-requires-clause-least : goal.beginning_skip-requires-clause-least
 beginning_skip-requires-clause-least g c = λ count some within.
@@ -27,7 +27,7 @@ beginning_skip-requires-clause-least g c = λ count some within.
       arith,
       c.number-least.ensures,
       skip_bound c.args.row c.args.method
-          (right_table rows c.args.table.now c.requires.right) can,
+          (right_table rows c.requires.right) can,
     )
 
 pub returns-in-Some : goal.returns-in-Some
@@ -57,7 +57,7 @@ overflow_add-sending_cost g c =
       c.sending_cost.ensures.small,
       c.number.ensures,
       small_number
-          (node (c.args.row + 1) c.args.method false) (right_table rows c.args.table.now c.requires.right) inside,
+          (node (c.args.row + 1) c.args.method false) (right_table rows c.requires.right) inside,
     )
 
 pub returns-then-sending_cost-number : goal.returns-then-sending_cost-number
@@ -82,7 +82,7 @@ lowest_switch-requires-clause-small g c = λ method.
     omega (
       arith,
       small_number (node c.args.row method false)
-          (right_table rows c.args.table.now c.requires.right) inside,
+          (right_table rows c.requires.right) inside,
     )
 
 pub lowest_switch-requires-clause-some : goal.lowest_switch-requires-clause-some
@@ -90,9 +90,8 @@ lowest_switch-requires-clause-some g c =
     let rows = c.args.rows.now in
     let inside : c.args.row ≤ length (rows_of rows) = omega (arith, c.requires.row, length_rows rows.count rows.width rows.bytes.now) in
     let next = switch_begins
-    (right_table rows c.args.table.now c.requires.right) inside
-    (λ count can. (let more = c.in_default.ensures.none count can.0 (skippable_within (rows_of rows) c.args.row c.white_run-run.result
-    count c.white_run-run.ensures.run can) in omega (arith, more, c.number-least.ensures)))
+    (right_table rows c.requires.right) inside
+    (λ count can. (let more = c.in_default.ensures.none count can.0 (skippable_within c.white_run-run.ensures.run can) in omega (arith, more, c.number-least.ensures)))
     c.least_length-bytes.ensures.least
     (λ same. c.if-sending_cost-number.false (omega (arith, same, c.number-least.ensures, c.sending_cost.ensures.cost, c.number.ensures))) in
     (next.0, c.number-least.ensures ∙ next.1)

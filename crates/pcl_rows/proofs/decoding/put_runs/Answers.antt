@@ -1,11 +1,10 @@
 use Rattle.std.proofs.Common.{◌*◌, arith}
 use Rattle.pcl_rows.proofs.Readings.{treated_none}
-use Rattle.pcl_base.specs.declared.method.Method.TheVariants.{Runs}
 use Rattle.pcl_rows.proofs.Pairs.{pair_more, pairs_all}
 use Rattle.pcl_rows.proofs.decoding.put_runs.Goals as goal
 
 pub loop-pair-init : goal.loop-pair-init
-loop-pair-init c = record { within = omega arith; treated = treated_none Runs c.args.bytes.now c.args.row.now }
+loop-pair-init c = record { within = omega arith; treated = treated_none }
 
 pub loop-pair-preserved : goal.loop-pair-preserved
 loop-pair-preserved c = record {

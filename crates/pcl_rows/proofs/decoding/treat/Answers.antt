@@ -5,7 +5,7 @@ use Rattle.pcl_rows.proofs.Readings.{IsTreatedTo, treated_more, treated_all, tre
 use Rattle.pcl_rows.proofs.decoding.treat.Goals as goal
 
 pub loop-rest-init : goal.loop-rest-init
-loop-rest-init c = record { within = omega arith; treated = treated_none c.args.method c.args.bytes.now c.args.row.now }
+loop-rest-init c = record { within = omega arith; treated = treated_none }
 
 pub loop-rest-preserved : goal.loop-rest-preserved
 loop-rest-preserved c =

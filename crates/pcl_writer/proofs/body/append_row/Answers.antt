@@ -31,8 +31,7 @@ returns-clause-ok c =
 
 pub returns-clause-front : goal.returns-clause-front
 returns-clause-front c =
-    let mid : List ℕ = c.extend_from_slice.new.self.items in
     let joined = c.in_ok-extend_from_slice.ensures.items ∙ ap (λ (t : List ℕ). t ++ 87 ∷ []) c.in_ok-append_spelling.ensures.ok ∙
     append_assoc c.args.out.now.items (least_spelling c.from.result) (87 ∷ []) in
-    front_stays c.args.out.now.items mid c.append_data.new.out.items (least_spelling c.from.result ++ 87 ∷ []) joined
+    front_stays c.append_data.new.out.items (least_spelling c.from.result ++ 87 ∷ []) joined
     c.append_data.ensures.front

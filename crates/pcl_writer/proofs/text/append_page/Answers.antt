@@ -42,14 +42,14 @@ returns-clause-ok c =
     as_page page (λ (z : Size) (d : Dpi). length rows ≡ page_height z d)
     (length_rows (page_height page.bitmap.size page.bitmap.dpi) (page_row_bytes page.bitmap.size page.bitmap.dpi) page.bitmap.bytes) in
     let rows_are = as_page page (λ (z : Size) (d : Dpi). AllByRecursion (IsRowOf z d) rows)
-    (bitmap_rows_are page.bitmap c.size.ensures.picture) in
+    (bitmap_rows_are c.size.ensures.picture) in
     let walk : Walk (Leads width rows) (Ends rows) start body.0 = as_page page
     (λ (z : Size) (d : Dpi). Walk (Leads (page_row_bytes z d) rows) (Ends rows) start body.0) body.2 in
     let height = height_small page.size page.dpi in
     let started : c.append_start.new.out.items ≡ old ++ start_bytes page.dpi page.copies page.size =
     c.in_ok-append_start.ensures.ok ∙ ap (λ (d : Dpi). old ++ start_bytes d page.copies c.size.result) (c.dpi.ensures.value ∙ page.dpi_is)
     ∙ ap (λ (z : Size). old ++ start_bytes page.dpi page.copies z) (c.size.ensures.value ∙ page.size_is) in
-    let few = few_commands width rows (node_number plan.table) (omega (arith, count, height.1)) c.requires.feasible body.0 0 Plain false
+    let few = few_commands width (omega (arith, count, height.1)) c.requires.feasible body.0 0 Plain false
     walk body.3 in
     let text = start_bytes page.dpi page.copies page.size ++ flat_map token_bytes body.0 ++ end_bytes in
     let printed : PrintsPage page text = record {

@@ -23,13 +23,13 @@ heights page = ap (λ (z : Size). page_height z page.bitmap.dpi) page.size_is �
 widths : (page : Page) → page_row_bytes page.bitmap.size page.bitmap.dpi ≡ page_row_bytes page.size page.dpi
 widths page = ap (λ (z : Size). page_row_bytes z page.bitmap.dpi) page.size_is ∙ ap (λ (d : Dpi). page_row_bytes page.size d) page.dpi_is
 
-of_page : (page : Page) (lists : List (List ℕ)) (row : ℕ) (method : Method) (seed bytes numbers : List ℕ) (count : ℕ)
+of_page : (page : Page) {lists : List (List ℕ)} {row : ℕ} {method : Method} {seed bytes numbers : List ℕ} {count : ℕ}
     → row < page_height page.size page.dpi
     → seed ≡ row_above (page_row_bytes page.bitmap.size page.bitmap.dpi) (bitmap_rows page.bitmap) row
     → bytes ≡ row_of page.bitmap row → length bytes ≡ page_row_bytes page.bitmap.size page.bitmap.dpi
     → numbers ≡ table_of count (list_of lists row method) → count ≡ length bytes + 1
     → IsRowOfTables page lists row method seed bytes numbers
-of_page page lists row method seed bytes numbers count lt s b w n e =
+of_page page {lists} {row} {method} {count} lt s b w n e =
     let wide = widths page in
     let high = heights page in
     let height : ℕ = page_height page.bitmap.size page.bitmap.dpi in
@@ -45,8 +45,7 @@ of_page page lists row method seed bytes numbers count lt s b w n e =
 pub returns-in_err-place : goal.returns-in_err-place
 returns-in_err-place c =
     let page = c.args.page.now in
-    let is = of_page page c.args.tables.now c.args.row c.args.method c.row_above-seed.result.now c.row-bytes.result.now
-    c.copy_table.new.out _ c.requires.row c.row_above-seed.ensures.row c.row-bytes.ensures.bytes c.row-bytes.ensures.len
+    let is = of_page page c.requires.row c.row_above-seed.ensures.row c.row-bytes.ensures.bytes c.row-bytes.ensures.len
     c.copy_table.ensures
     (length-take-le _ _ (let small = row_small page.bitmap.size page.bitmap.dpi in
     omega (arith, c.row-bytes.ensures.len, small, length-replicate {A = ℕ} 601 0))) in
@@ -57,8 +56,7 @@ returns-in_err-place c =
 pub returns : goal.returns
 returns c =
     let page = c.args.page.now in
-    let is = of_page page c.args.tables.now c.args.row c.args.method c.row_above-seed.result.now c.row-bytes.result.now
-    c.copy_table.new.out _ c.requires.row c.row_above-seed.ensures.row c.row-bytes.ensures.bytes c.row-bytes.ensures.len
+    let is = of_page page c.requires.row c.row_above-seed.ensures.row c.row-bytes.ensures.bytes c.row-bytes.ensures.len
     c.copy_table.ensures
     (length-take-le _ _ (let small = row_small page.bitmap.size page.bitmap.dpi in
     omega (arith, c.row-bytes.ensures.len, small, length-replicate {A = ℕ} 601 0))) in

@@ -33,7 +33,7 @@ returns c =
     (first_found (first_found c.first_bad_skip_of-one.result c.first_bad_skip_of-two.result)
     (first_found c.first_bad_skip_of-three.result c.first_bad_skip_of-four.result))
     (λ row current inside le parts same here.
-    all_digits ends last number method row c.requires.ends le
+    all_digits number method c.requires.ends le
     (record {
       one = parts.0.0 same here;
       two = parts.0.1 same here;

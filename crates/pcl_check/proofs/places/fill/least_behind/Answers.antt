@@ -6,7 +6,7 @@ use Rattle.pcl_check.proofs.places.fill.least_behind.Goals as goal
 pub loop-len-preserved : goal.loop-len-preserved
 loop-len-preserved c =
     let len : ℕ = c.loop-len.len in
-    let is = least_min_next c.args.numbers.now len c.loop-len.least c.min-least.result (omega (arith, c.loop-len.auto.len))
+    let is = least_min_next c.min-least.result (omega (arith, c.loop-len.auto.len))
     c.loop-len.invariant
     (omega (arith, c.min-least.ensures, c.from.ensures)) in
     let same : len ≡ len + 1 - 1 = omega arith in

@@ -8,7 +8,7 @@ pub returns-in_err-letter : goal.returns-in_err-letter
 returns-in_err-letter c =
     subst (λ result. MatchOption result (AreDigits c.args.text.now) (λ found. IsParameter c.args.text.now found))
     (sym c.from_residual.ensures)
-    (all_digits c.args.text.now c.split_at.result.1.now
+    (all_digits c.args.text.now
     (c.split_at.ensures.back ∙ ap (λ (n : ℕ). drop n c.args.text.now) c.digit_count.ensures.count) c.in_err-letter.ensures.cases)
 
 pub returns : goal.returns

@@ -8,7 +8,7 @@ pub returns-then-beats : goal.returns-then-beats
 returns-then-beats c = λ old size.
     let best = c.among-repeat.result in
     repeat_choice size
-    (run_len_of c.args.wanted.now 0 c.run_end.result c.run_end.result c.run_end.ensures (omega arith))
+    (run_len_of c.run_end.result c.run_end.ensures (omega arith))
     (subst (λ (to : ℕ). IsLeastLen c.args.numbers.now 2 to 2 0 best.len best.sum) c.min-longest.ensures c.among-repeat.ensures)
     (λ k low high. omega (arith, c.among-literal.ensures.least k low (omega (arith, c.min.ensures)), c.beats.ensures.won c.if-beats.true))
 
@@ -16,7 +16,7 @@ pub returns-else-beats : goal.returns-else-beats
 returns-else-beats c = λ old size.
     let best = c.among-literal.result in
     literal_choice size
-    (run_len_of c.args.wanted.now 0 c.run_end.result c.run_end.result c.run_end.ensures (omega arith))
+    (run_len_of c.run_end.result c.run_end.ensures (omega arith))
     (subst (λ (to : ℕ). IsLeastLen c.args.numbers.now 1 to 1 1 best.len best.sum) c.min.ensures c.among-literal.ensures)
     (λ k low high. omega (
       arith,
@@ -28,6 +28,6 @@ pub returns-else-longest-ge2 : goal.returns-else-longest-ge2
 returns-else-longest-ge2 c = λ old size.
     let best = c.among-literal.result in
     literal_choice size
-    (run_len_of c.args.wanted.now 0 c.run_end.result c.run_end.result c.run_end.ensures (omega arith))
+    (run_len_of c.run_end.result c.run_end.ensures (omega arith))
     (subst (λ (to : ℕ). IsLeastLen c.args.numbers.now 1 to 1 1 best.len best.sum) c.min.ensures c.among-literal.ensures)
     (λ k low high. absurd (omega (arith, c.min-longest.ensures)))

@@ -10,10 +10,10 @@ among-best-requires-clause-order c =
       arith,
       c.min-longest.ensures,
       run_some c.requires
-          (run_len_of c.args.wanted.now 0 c.run_end.result c.run_end.result c.run_end.ensures (omega arith)),
+          (run_len_of c.run_end.result c.run_end.ensures (omega arith)),
     )
 
 pub returns : goal.returns
-returns c = λ old size. runs_choice size (run_len_of c.args.wanted.now 0 c.run_end.result c.run_end.result c.run_end.ensures (omega arith))
+returns c = λ old size. runs_choice size (run_len_of c.run_end.result c.run_end.ensures (omega arith))
     (subst (λ (to : ℕ). IsLeastLen c.args.numbers.now 1 to 2 0 c.among-best.result.len c.among-best.result.sum) c.min-longest.ensures
     c.among-best.ensures)

@@ -2,4 +2,4 @@ use Rattle.pcl_tool.proofs.SameCheckers.{again, on_err}
 use Rattle.pcl_tool.proofs.page_checks.CheckerPageSink.page.Goals as goal
 
 pub returns-in_err-self-clause-kept : goal.returns-in_err-self-clause-kept
-returns-in_err-self-clause-kept c = on_err c.from_residual.result (again c.args.self.now _)
+returns-in_err-self-clause-kept c = on_err c.from_residual.result (again _)
