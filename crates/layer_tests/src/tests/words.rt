@@ -1,4 +1,4 @@
-use super::*;
+use pcl_base::{Dpi, Kind, Method, Name, Refusal, Sign, Size, Value};
 use std::alloc::Global;
 use std::process::Abort;
 use std::test::Fail;

@@ -1,5 +1,5 @@
-use super::*;
 use pcl_base::{Dpi, Size};
+use pcl_bitmap::{Bitmap, Ink, same_dots_same_bitmap};
 use std::test::Fail;
 
 // A4 at 300 dots per inch is 2338 dots wide: 292 bytes and 2 dots.

@@ -1,9 +1,9 @@
-use super::*;
 use pcl_base::Axis::{Horizontal, Vertical};
 use pcl_base::Operation::*;
 use pcl_base::Sign::{Absent, Minus, Plus};
 use pcl_base::Unit::{Column, Decipoint, PclUnit};
 use pcl_base::{Dpi, Method, Operation, Side, Sign, Size, Value};
+use pcl_env::{Effect, Env, Unsupported};
 use std::process::Abort;
 
 const STAY: Result<Effect, Unsupported> = Ok(Effect::Stay);

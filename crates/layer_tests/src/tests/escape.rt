@@ -1,5 +1,5 @@
-use super::*;
 use pcl_base::{JobFault, Kind, Name, Refusal, Sign};
+use pcl_escape::{one_outcome, read_job};
 use std::test::Fail;
 
 // Each command with its place, name, sign, magnitude in ten-thousandths, and data.

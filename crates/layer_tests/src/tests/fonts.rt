@@ -1,5 +1,5 @@
-use super::*;
 use pcl_base::{CallFault, Kind};
+use pcl_fonts::{FontControl, Fonts};
 use std::alloc::{AllocError, Global};
 
 /// A header: fixed, of type 0, with a pitch of 8 quarter dots.
