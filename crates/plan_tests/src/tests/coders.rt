@@ -1,5 +1,5 @@
-use super::*;
 use pcl_base::Method;
+use pcl_coders::{Delta, Packed, Plain, RowCoder, Runs, Window};
 use pcl_rows::{decode, is_whole};
 use std::alloc::{AllocError, Global};
 use std::process::Abort;

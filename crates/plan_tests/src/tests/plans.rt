@@ -1,69 +1,104 @@
-use super::*;
-use crate::lengths::Coders;
-use crate::planner::plan_rows;
-use crate::rows::Rows;
 use pcl_base::{Dpi, Method, Size};
 use pcl_bitmap::{Bitmap, Ink};
 use pcl_coders::{Delta, Packed, Plain, RowCoder, Runs};
 use pcl_page::Page;
+use pcl_plan::{
+    Step, Table, feasible_numbers_bound_texts, least_walk_is_least_text, plan, printing_is_walking,
+};
 use std::alloc::{AllocError, Global};
 use std::process::Abort;
 
-/// The plan of a toy page of few rows.
-fn plan_of(
-    rt: &impl Abort,
-    alloc: Global,
-    bytes: &[u8],
-    width: usize,
-    count: u32,
-) -> Result<Plan, AllocError> {
-    assert!(rt; width <= 600 && count <= 9999);
-    assert_eq!(rt; bytes.len(), count as usize * width);
-    let rows = Rows {
-        bytes,
-        width,
-        count,
-    };
-    plan_rows(alloc, &Coders, &rows)
+/// A Letter page at 300 dots per inch, white but for the first bytes of its topmost rows.
+fn page_of(alloc: Global, rows: &[[u8; 2]]) -> Result<Page, AllocError> {
+    let size = Size::Letter;
+    let dpi = Dpi::Dpi300;
+    let mut bitmap = Bitmap::new(alloc, size, dpi)?;
+    for (y, row) in (0..3300).zip(rows) {
+        bitmap.paint_row(0, y, 1, 16, row);
+    }
+    Ok(Page {
+        size,
+        copies: 1,
+        dpi,
+        bitmap,
+    })
 }
 
-/// Pages of rows of one byte, their bodies worked out by hand, and what these cost.
+/// The first bytes of a page's topmost rows, its body worked out by hand, and what that costs.
+type Body = (&'static [[u8; 2]], &'static [Step], u32);
+
+const BODIES: [Body; 9] = [
+    (&[], &[], 0),
+    (&[[0, 0], [0, 0], [0, 0]], &[], 0),
+    (&[[0x80, 0]], &[Step::Row(1)], 6),
+    (&[[0x80, 0], [0x80, 0]], &[Step::Row(1), Step::Row(1)], 12),
+    (
+        &[[0x80, 0], [0x80, 0], [0x80, 0]],
+        &[
+            Step::Row(1),
+            Step::Switch(Method::Delta),
+            Step::Row(0),
+            Step::Row(0),
+        ],
+        16,
+    ),
+    (
+        &[[0x80, 0], [0, 0], [0x80, 0]],
+        &[Step::Row(1), Step::Skip(1), Step::Row(1)],
+        14,
+    ),
+    (
+        &[
+            [0, 0],
+            [0, 0],
+            [0, 0],
+            [0, 0],
+            [0, 0],
+            [0, 0],
+            [0, 0],
+            [0, 0],
+            [0, 0],
+            [1, 0],
+        ],
+        &[Step::Skip(9), Step::Row(1)],
+        8,
+    ),
+    (
+        &[
+            [0, 0],
+            [0, 0],
+            [0, 0],
+            [0, 0],
+            [0, 0],
+            [0, 0],
+            [0, 0],
+            [0, 0],
+            [0, 0],
+            [0, 0],
+            [1, 0],
+        ],
+        &[Step::Skip(10), Step::Row(1)],
+        9,
+    ),
+    (
+        &[[0, 0], [0, 0], [1, 0], [0, 0]],
+        &[Step::Skip(2), Step::Row(1)],
+        8,
+    ),
+];
+
+/// Bodies worked out by hand, and what these cost.
 #[test]
 fn bodies(rt: HostRuntime) -> Result<(), AllocError> {
-    let delta = Step::Switch(Method::Delta);
-    let cases: [(&[u8], &[Step], u32); 9] = [
-        (&[], &[], 0),
-        (&[0, 0, 0], &[], 0),
-        (&[0x80], &[Step::Row(1)], 6),
-        (&[0x80, 0x80], &[Step::Row(1), Step::Row(1)], 12),
-        (
-            &[0x80, 0x80, 0x80],
-            &[Step::Row(1), delta, Step::Row(0), Step::Row(0)],
-            16,
-        ),
-        (
-            &[0x80, 0, 0x80],
-            &[Step::Row(1), Step::Skip(1), Step::Row(1)],
-            14,
-        ),
-        (
-            &[0, 0, 0, 0, 0, 0, 0, 0, 0, 1],
-            &[Step::Skip(9), Step::Row(1)],
-            8,
-        ),
-        (
-            &[0, 0, 0, 0, 0, 0, 0, 0, 0, 0, 1],
-            &[Step::Skip(10), Step::Row(1)],
-            9,
-        ),
-        (&[0, 0, 1, 0], &[Step::Skip(2), Step::Row(1)], 8),
-    ];
-    for (bytes, steps, cost) in cases {
-        let count = bytes.len() as u32;
-        let plan = plan_of(&rt, rt.alloc(), bytes, 1, count)?;
-        assert_eq!(rt; plan.steps(), steps, "{bytes:?}");
-        assert_eq!(rt; plan.cost(), cost, "{bytes:?}");
-        assert_eq!(rt; plan.table().rows(), count);
+    assert_bodies(&rt, rt.alloc(), &BODIES)
+}
+
+fn assert_bodies(rt: &impl Abort, alloc: Global, bodies: &[Body]) -> Result<(), AllocError> {
+    for (rows, steps, cost) in bodies {
+        let plan = plan(alloc, &page_of(alloc, rows)?)?;
+        assert_eq!(rt; plan.steps(), *steps, "{rows:?}");
+        assert_eq!(rt; plan.cost(), *cost, "{rows:?}");
+        assert_eq!(rt; plan.table().rows(), 3300);
     }
     Ok(())
 }
@@ -82,24 +117,44 @@ fn dot_page(alloc: Global, y: u32) -> Result<Page, AllocError> {
     })
 }
 
-/// Whole pages: a dot in the topmost row, and one below white rows.
+/// The numbers of some nodes of the page of a dot in the topmost row: each by its row, its method and whether a sequence is
+/// open.
+const NUMBERS: [(u32, Method, bool, u32); 6] = [
+    (0, Method::Plain, false, 6),
+    (0, Method::Plain, true, 3),
+    (0, Method::Runs, true, 4),
+    (0, Method::Packed, true, 4),
+    (0, Method::Delta, true, 4),
+    (3300, Method::Delta, true, 1),
+];
+
+/// A dot in the topmost row.
 #[test]
-fn pages(rt: HostRuntime) -> Result<(), AllocError> {
+fn topmost_dot(rt: HostRuntime) -> Result<(), AllocError> {
     let page = dot_page(rt.alloc(), 0)?;
-    let first = plan(rt.alloc(), &page)?;
-    assert_eq!(rt; first.steps(), &[Step::Row(1)][..]);
-    let table = first.table();
-    assert_eq!(rt; table.rows(), 3300);
-    assert_eq!(rt; table.number(0, Method::Plain, false), 6);
-    assert_eq!(rt; table.number(0, Method::Plain, true), 3);
-    assert_eq!(rt; table.number(0, Method::Runs, true), 4);
-    assert_eq!(rt; table.number(0, Method::Packed, true), 4);
-    assert_eq!(rt; table.number(0, Method::Delta, true), 4);
-    assert_eq!(rt; table.number(3300, Method::Delta, true), 1);
-    let page = dot_page(rt.alloc(), 100)?;
-    let below = plan(rt.alloc(), &page)?;
-    assert_eq!(rt; below.steps(), &[Step::Skip(100), Step::Row(1)][..]);
-    assert_eq!(rt; below.cost(), 10);
+    let plan = plan(rt.alloc(), &page)?;
+    assert_eq!(rt; plan.steps(), &[Step::Row(1)][..]);
+    assert_eq!(rt; plan.table().rows(), 3300);
+    for (row, method, inside, number) in NUMBERS {
+        assert!(rt; row <= plan.table().rows());
+        assert_eq!(rt;
+            plan.table().number(row, method, inside),
+            number,
+            "{row} {method:?}"
+        );
+    }
+    Ok(())
+}
+
+/// A dot below white rows, and one in the last row.
+#[test]
+fn lower_dots(rt: HostRuntime) -> Result<(), AllocError> {
+    for (y, cost) in [(100u16, 10), (3299, 11)] {
+        let page = dot_page(rt.alloc(), u32::from(y))?;
+        let plan = plan(rt.alloc(), &page)?;
+        assert_eq!(rt; plan.steps(), &[Step::Skip(y), Step::Row(1)][..]);
+        assert_eq!(rt; plan.cost(), cost);
+    }
     Ok(())
 }
 
@@ -212,30 +267,37 @@ fn searched_cost(rows: &[[u8; 2]]) -> u32 {
     search.number(0, 0, false)
 }
 
-/// Pages of up to three rows of two bytes, each byte one of three: no tokens cost less than the plan says.
+/// The byte of a digit in base 3.
+fn byte_of(number: u32) -> u8 {
+    match number % 3 {
+        0 => 0,
+        1 => 0x80,
+        _ => 0xFF,
+    }
+}
+
+/// A row by its number, whose two digits are its bytes.
+fn row_of(number: u32) -> [u8; 2] {
+    [byte_of(number), byte_of(number / 3)]
+}
+
+/// Pages of up to three rows of two bytes, each byte one of three: no tokens cost less than the plan says. A page whose
+/// lower rows are white is also one of fewer rows.
 #[test]
 fn searched(rt: HostRuntime) -> Result<(), AllocError> {
-    let values = [0, 0x80, 0xFF];
-    for page in 0..729u32 {
-        let mut rest = page;
-        let mut bytes = [0u8; 6];
-        for byte in bytes.iter_mut() {
-            *byte = values[rest as usize % 3];
-            rest /= 3;
-        }
-        let rows = [
-            [bytes[0], bytes[1]],
-            [bytes[2], bytes[3]],
-            [bytes[4], bytes[5]],
-        ];
-        for count in 0..4u32 {
-            let some = count as usize;
-            let plan = plan_of(&rt, rt.alloc(), &bytes[..2 * some], 2, count)?;
-            assert_eq!(rt;
-                plan.cost(),
-                searched_cost(&rows[..some]),
-                "{bytes:?} {count}"
-            );
+    for page in 0..729 {
+        let rows = [row_of(page), row_of(page / 9), row_of(page / 81)];
+        assert_searched(&rt, rt.alloc(), &rows)?;
+    }
+    Ok(())
+}
+
+fn assert_searched(rt: &impl Abort, alloc: Global, rows: &[[u8; 2]]) -> Result<(), AllocError> {
+    let cost = plan(alloc, &page_of(alloc, rows)?)?.cost();
+    for count in 0..4 {
+        if rows.iter().skip(count).all(|row| *row == [0, 0]) {
+            let some = rows.get(..count).unwrap_or(&[]);
+            assert_eq!(rt; searched_cost(some), cost, "{some:?}");
         }
     }
     Ok(())
