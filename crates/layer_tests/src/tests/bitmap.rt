@@ -4,6 +4,28 @@ use std::ops::Range;
 use std::process::Abort;
 use std::test::Fail;
 
+/// A byte of a page: its row, its place there, and what it is.
+type Byte = (u32, usize, u8);
+
+const BYTES_AT_300: [Byte; 7] = [
+    (0, 0, 0),
+    (0, 1, 0),
+    (1, 0, 0x9F),
+    (1, 1, 0xFE),
+    (1, 2, 0),
+    (3506, 291, 0x0F),
+    (3506, 292, 0xC0),
+];
+
+fn assert_bytes(rt: &impl Abort, page: &Bitmap, row_bytes: usize, bytes: &[Byte]) {
+    for (y, place, byte) in bytes {
+        assert!(rt; *y < page.size().height(page.dpi()));
+        let row = page.row(*y);
+        assert_eq!(rt; row.len(), row_bytes);
+        assert_eq!(rt; row.get(*place), Some(byte), "row {y}, byte {place}");
+    }
+}
+
 // A4 at 300 dots per inch is 2338 dots wide: 292 bytes and 2 dots.
 #[test]
 fn paints_at_300(rt: HostRuntime) -> Result<(), Fail> {
@@ -15,20 +37,7 @@ fn paints_at_300(rt: HostRuntime) -> Result<(), Fail> {
     page.paint_row(2332, 3506, 1, 16, &[0xFF, 0xFF]);
     page.paint_row(2338, 0, 1, 8, &[0xFF]);
     page.paint_row(0, 3507, 1, 8, &[0xFF]);
-    for (y, place, bytes) in [
-        (0, 0, [0, 0]),
-        (1, 0, [0x9F, 0xFE]),
-        (1, 1, [0xFE, 0]),
-        (3506, 291, [0x0F, 0xC0]),
-    ] {
-        let row = page.row(y);
-        assert_eq!(rt; row.len(), 293);
-        assert_eq!(rt;
-            [row[place], row[place + 1]],
-            bytes,
-            "row {y}, byte {place}"
-        );
-    }
+    assert_bytes(&rt, &page, 293, &BYTES_AT_300);
     assert!(rt; page.is_blank(0));
     assert!(rt; !page.is_blank(1));
     page.clear();
@@ -42,9 +51,7 @@ fn paints_at_600(rt: HostRuntime) -> Result<(), Fail> {
     let mut page = Bitmap::new(rt.alloc(), Size::A4, Dpi::Dpi600)?;
     page.paint_row(4672, 7013, 1, 8, &[0xA5]);
     page.paint_row(0, 7014, 1, 8, &[0xFF]);
-    let row = page.row(7013);
-    assert_eq!(rt; row.len(), 585);
-    assert_eq!(rt; row[584], 0xA0);
+    assert_bytes(&rt, &page, 585, &[(7013, 584, 0xA0)]);
     Ok(())
 }
 
@@ -164,7 +171,9 @@ fn is_black_by_rows(x: u32, y: u32) -> bool {
         let column = square_of(i64::from(x).wrapping_sub(i64::from(left)), scale);
         let down = u64::from(y).checked_sub(top);
         if let (Some(column), Some(down)) = (column, down) {
-            black |= down < u64::from(scale) && column < u64::from(width) && is_bit_set(row, column);
+            black |= down < u64::from(scale)
+                && column < u64::from(width)
+                && is_bit_set(row, column);
         }
     }
     black
