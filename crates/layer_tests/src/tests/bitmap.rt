@@ -1,6 +1,5 @@
 use pcl_base::{Dpi, Size};
 use pcl_bitmap::{Bitmap, Ink, same_dots_same_bitmap};
-use std::ops::Range;
 use std::process::Abort;
 use std::test::Fail;
 
@@ -85,17 +84,17 @@ fn is_set(byte: u8, x: u32) -> bool {
     (byte << (x % 8)) & 0x80 != 0
 }
 
-// Compares the dots of some rows and columns with what is drawn.
-fn assert_dots(rt: &impl Abort, page: &Bitmap, ys: Range<u32>, xs: Range<u32>, drawn: Drawn) {
-    for y in ys {
+// Compares the dots of some rows and columns, each from a first one to before a last one, with what is drawn.
+fn assert_dots(rt: &impl Abort, page: &Bitmap, ys: [u32; 2], xs: [u32; 2], drawn: Drawn) {
+    for y in ys[0]..ys[1] {
         assert!(rt; y < page.size().height(page.dpi()));
-        assert_row(rt, page.row(y), y, xs.clone(), drawn);
+        assert_row(rt, page.row(y), y, xs, drawn);
     }
 }
 
 // The same of one row. Its dots from 2338 on are past the page.
-fn assert_row(rt: &impl Abort, row: &[u8], y: u32, xs: Range<u32>, drawn: Drawn) {
-    for x in xs {
+fn assert_row(rt: &impl Abort, row: &[u8], y: u32, xs: [u32; 2], drawn: Drawn) {
+    for x in xs[0]..xs[1] {
         let expected = x < 2338 && drawn.is_black(x, y);
         assert_eq!(rt; is_black(row, x), expected, "dot ({x}, {y})");
     }
@@ -141,8 +140,8 @@ fn fills_rectangles(rt: HostRuntime) -> Result<(), Fail> {
     for (x, y, width, height, ink) in RECTANGLES {
         page.fill(x, y, width, height, ink);
     }
-    assert_dots(&rt, &page, 0..4, 0..2344, Drawn::Rectangles);
-    assert_dots(&rt, &page, 3504..3507, 0..2344, Drawn::Rectangles);
+    assert_dots(&rt, &page, [0, 4], [0, 2344], Drawn::Rectangles);
+    assert_dots(&rt, &page, [3504, 3507], [0, 2344], Drawn::Rectangles);
     Ok(())
 }
 
@@ -196,9 +195,9 @@ fn paints_squares(rt: HostRuntime) -> Result<(), Fail> {
     for (x, y, scale, width, row) in ROWS {
         page.paint_row(x, y, scale, width, row);
     }
-    for ys in [0..55, 3502..3507] {
-        assert_dots(&rt, &page, ys.clone(), 0..200, Drawn::Rows);
-        assert_dots(&rt, &page, ys, 2300..2344, Drawn::Rows);
+    for ys in [[0, 55], [3502, 3507]] {
+        assert_dots(&rt, &page, ys, [0, 200], Drawn::Rows);
+        assert_dots(&rt, &page, ys, [2300, 2344], Drawn::Rows);
     }
     Ok(())
 }
@@ -243,9 +242,9 @@ fn paints_patterns(rt: HostRuntime) -> Result<(), Fail> {
     for (x, y, width, height, scale, rows) in PATTERNS {
         page.blit(x, y, width, height, rows, scale);
     }
-    for ys in [0..34, 3500..3507] {
-        assert_dots(&rt, &page, ys.clone(), 0..120, Drawn::Patterns);
-        assert_dots(&rt, &page, ys, 2300..2344, Drawn::Patterns);
+    for ys in [[0, 34], [3500, 3507]] {
+        assert_dots(&rt, &page, ys, [0, 120], Drawn::Patterns);
+        assert_dots(&rt, &page, ys, [2300, 2344], Drawn::Patterns);
     }
     Ok(())
 }
