@@ -4,6 +4,20 @@ use pcl_rows::{decode, is_whole};
 use std::alloc::{AllocError, Global};
 use std::process::Abort;
 
+/// A row that begins with some bytes, and has one byte at all places behind them.
+type Row = (&'static [u8], u8);
+
+const WHITE: Row = (&[], 0);
+
+/// The bytes of a row.
+fn row_of(alloc: Global, row: &Row, len: usize) -> Result<Vec<u8>, AllocError> {
+    let mut bytes = vec![in alloc; row.1; len]?;
+    for (slot, byte) in bytes.iter_mut().zip(row.0) {
+        *slot = *byte;
+    }
+    Ok(bytes)
+}
+
 /// What a coder writes for a row. It is whole, decodes to the row, and has the least length.
 fn data_of<C: RowCoder>(
     rt: &impl Abort,
@@ -15,72 +29,140 @@ fn data_of<C: RowCoder>(
     assert!(rt; row.len() == seed.len() && row.len() <= 600);
     let mut bytes = vec![in alloc; 9]?;
     coder.write(row, seed, &mut bytes)?;
+    assert_along(rt, alloc, coder, row, seed, &bytes)?;
+    assert_eq!(rt; bytes.remove(0), 9);
+    assert_eq!(rt; bytes.len(), coder.least(row, seed));
+    assert_decoded(rt, alloc, coder.method(), row, seed, &bytes)?;
+    Ok(bytes)
+}
+
+/// Writing along the numbers of the places appends the same.
+fn assert_along<C: RowCoder>(
+    rt: &impl Abort,
+    alloc: Global,
+    coder: &C,
+    row: &[u8],
+    seed: &[u8],
+    bytes: &[u8],
+) -> Result<(), AllocError> {
+    assert!(rt; row.len() == seed.len() && row.len() <= 600);
     let mut numbers = vec![in alloc; 7; row.len() + 1]?;
     coder.places(row, seed, &mut numbers);
     let mut along = vec![in alloc; 9]?;
     coder.write_along(row, seed, &numbers, &mut along)?;
-    assert_eq!(rt; along.as_slice(), bytes.as_slice());
-    assert_eq!(rt; bytes.remove(0), 9);
-    assert_eq!(rt; bytes.len(), coder.least(row, seed));
-    assert!(rt; is_whole(coder.method(), bytes.as_slice(), row.len()));
-    let mut again = vec![in alloc; 7; seed.len()]?;
-    decode(coder.method(), seed, bytes.as_slice(), again.as_mut_slice());
-    assert_eq!(rt; again.as_slice(), row);
-    Ok(bytes)
+    assert_eq!(rt; along.as_slice(), bytes);
+    Ok(())
 }
 
-/// The lengths of a row's data: plain, runs, packed, delta.
-fn lengths_of(
+/// Data is whole, and makes the row over its seed row.
+fn assert_decoded(
     rt: &impl Abort,
     alloc: Global,
+    method: Method,
     row: &[u8],
     seed: &[u8],
-) -> Result<[usize; 4], AllocError> {
-    Ok([
-        data_of(rt, alloc, &Plain, row, seed)?.len(),
-        data_of(rt, alloc, &Runs, row, seed)?.len(),
-        data_of(rt, alloc, &Packed, row, seed)?.len(),
-        data_of(rt, alloc, &Delta, row, seed)?.len(),
-    ])
+    data: &[u8],
+) -> Result<(), AllocError> {
+    assert!(rt; is_whole(method, data, row.len()));
+    let mut again = vec![in alloc; 7; seed.len()]?;
+    decode(method, seed, data, again.as_mut_slice());
+    assert_eq!(rt; again.as_slice(), row);
+    Ok(())
 }
+
+/// The same by the method's number.
+fn data_by(
+    rt: &impl Abort,
+    alloc: Global,
+    method: Method,
+    row: &[u8],
+    seed: &[u8],
+) -> Result<Vec<u8>, AllocError> {
+    match method {
+        Method::Plain => data_of(rt, alloc, &Plain, row, seed),
+        Method::Runs => data_of(rt, alloc, &Runs, row, seed),
+        Method::Packed => data_of(rt, alloc, &Packed, row, seed),
+        Method::Delta => data_of(rt, alloc, &Delta, row, seed),
+    }
+}
+
+const METHODS: [Method; 4] = [Method::Plain, Method::Runs, Method::Packed, Method::Delta];
+
+/// A row, its seed row, how many bytes both have, and the lengths of its data: plain, runs, packed, delta.
+type Lengths = (Row, Row, usize, [usize; 4]);
+
+const LENGTHS: [Lengths; 8] = [
+    (WHITE, WHITE, 300, [0, 0, 0, 0]),
+    (WHITE, (&[0x80], 0), 300, [0, 0, 0, 2]),
+    (TEXT, WHITE, 300, [4, 6, 5, 5]),
+    ((&[], 255), WHITE, 300, [300, 4, 6, 338]),
+    (WHITE, WHITE, 0, [0, 0, 0, 0]),
+    ((&[1], 0), WHITE, 1, [1, 2, 2, 2]),
+    ((&[], 1), WHITE, 600, [600, 6, 10, 675]),
+    ((&[], 1), (&[], 1), 600, [600, 6, 10, 0]),
+];
+
+const TEXT: Row = (&[0x41, 0x42, 0x42, 0x43], 0);
 
 /// Rows whose least lengths are known.
 #[test]
 fn lengths(rt: HostRuntime) -> Result<(), AllocError> {
-    let zeros = [0; 300];
-    let mut dot = [0; 300];
-    dot[0] = 0x80;
-    assert_eq!(rt; lengths_of(&rt, rt.alloc(), &zeros, &zeros)?, [0, 0, 0, 0]);
-    assert_eq!(rt; lengths_of(&rt, rt.alloc(), &zeros, &dot)?, [0, 0, 0, 2]);
-    let mut text = [0; 300];
-    text[0] = 0x41;
-    text[1] = 0x42;
-    text[2] = 0x42;
-    text[3] = 0x43;
-    assert_eq!(rt; lengths_of(&rt, rt.alloc(), &text, &zeros)?, [4, 6, 5, 5]);
-    assert_eq!(rt;
-        data_of(&rt, rt.alloc(), &Packed, &text, &zeros)?.as_slice(),
-        &[3, 0x41, 0x42, 0x42, 0x43][..]
-    );
-    assert_eq!(rt;
-        data_of(&rt, rt.alloc(), &Delta, &text, &zeros)?.as_slice(),
-        &[0x60, 0x41, 0x42, 0x42, 0x43][..]
-    );
-    assert_eq!(rt;
-        lengths_of(&rt, rt.alloc(), &[255; 300], &zeros)?,
-        [300, 4, 6, 338]
-    );
-    assert_eq!(rt; lengths_of(&rt, rt.alloc(), &[], &[])?, [0, 0, 0, 0]);
-    assert_eq!(rt; lengths_of(&rt, rt.alloc(), &[1], &[0])?, [1, 2, 2, 2]);
-    assert_eq!(rt;
-        lengths_of(&rt, rt.alloc(), &[1; 600], &[0; 600])?,
-        [600, 6, 10, 675]
-    );
-    assert_eq!(rt;
-        lengths_of(&rt, rt.alloc(), &[1; 600], &[1; 600])?,
-        [600, 6, 10, 0]
-    );
+    for (row, seed, len, wanted) in LENGTHS {
+        let row = row_of(rt.alloc(), &row, len)?;
+        let seed = row_of(rt.alloc(), &seed, len)?;
+        assert_lengths(&rt, rt.alloc(), &row, &seed, wanted)?;
+    }
     Ok(())
+}
+
+fn assert_lengths(
+    rt: &impl Abort,
+    alloc: Global,
+    row: &[u8],
+    seed: &[u8],
+    wanted: [usize; 4],
+) -> Result<(), AllocError> {
+    for (method, len) in METHODS.into_iter().zip(wanted) {
+        let data = data_by(rt, alloc, method, row, seed)?;
+        assert_eq!(rt; data.len(), len, "{method:?}");
+    }
+    Ok(())
+}
+
+/// A method, a row, its seed row, how many bytes both have, and the data that is written.
+type Data = (Method, Row, Row, usize, &'static [u8]);
+
+fn assert_data(rt: &impl Abort, alloc: Global, cases: &[Data]) -> Result<(), AllocError> {
+    for (method, row, seed, len, wanted) in cases {
+        let row = row_of(alloc, row, *len)?;
+        let seed = row_of(alloc, seed, *len)?;
+        let data = data_by(rt, alloc, *method, &row, &seed)?;
+        assert_eq!(rt; data.as_slice(), *wanted);
+    }
+    Ok(())
+}
+
+const DATA_OF_TEXT: [Data; 2] = [
+    (
+        Method::Packed,
+        TEXT,
+        WHITE,
+        300,
+        &[3, 0x41, 0x42, 0x42, 0x43],
+    ),
+    (
+        Method::Delta,
+        TEXT,
+        WHITE,
+        300,
+        &[0x60, 0x41, 0x42, 0x42, 0x43],
+    ),
+];
+
+/// The data of a row whose least lengths are known.
+#[test]
+fn data_of_text(rt: HostRuntime) -> Result<(), AllocError> {
+    assert_data(&rt, rt.alloc(), &DATA_OF_TEXT)
 }
 
 /// One byte far from the row's start: the offset is lengthened by bytes 255, and one that is less.
@@ -115,66 +197,60 @@ fn offsets(rt: HostRuntime) -> Result<(), AllocError> {
         data_of(&rt, rt.alloc(), &Delta, &row, &above)?.as_slice(),
         &[31, 255, 0, 255][..]
     );
-    lengths_of(&rt, rt.alloc(), &above, &[0; 300])?;
-    lengths_of(&rt, rt.alloc(), &row, &above)?;
+    for method in METHODS {
+        data_by(&rt, rt.alloc(), method, &above, &[0; 300])?;
+        data_by(&rt, rt.alloc(), method, &row, &above)?;
+    }
     Ok(())
 }
+
+const TIES: [Data; 16] = [
+    (Method::Runs, (&[], 4), WHITE, 257, &[255, 4, 0, 4]),
+    (Method::Packed, (&[], 7), WHITE, 129, &[129, 7, 0, 7]),
+    (Method::Packed, (&[1, 1], 0), WHITE, 2, &[255, 1]),
+    (Method::Packed, (&[1, 1, 2], 0), WHITE, 3, &[2, 1, 1, 2]),
+    (
+        Method::Packed,
+        (&[1, 1, 1, 2], 0),
+        WHITE,
+        4,
+        &[254, 1, 0, 2],
+    ),
+    (
+        Method::Packed,
+        (&[1, 2, 2, 2], 0),
+        WHITE,
+        4,
+        &[0, 1, 254, 2],
+    ),
+    (Method::Packed, (&[1, 2, 2], 0), WHITE, 3, &[2, 1, 2, 2]),
+    (Method::Packed, (&[0, 0, 1], 0), WHITE, 3, &[2, 0, 0, 1]),
+    (Method::Packed, (&[1, 0, 0], 0), WHITE, 3, &[0, 1]),
+    (
+        Method::Packed,
+        (&[1, 1, 2, 2], 0),
+        WHITE,
+        4,
+        &[255, 1, 255, 2],
+    ),
+    (
+        Method::Packed,
+        (&[0x44, 0x44, 0x45, 0x46, 0x47], 255),
+        WHITE,
+        13,
+        &[4, 0x44, 0x44, 0x45, 0x46, 0x47, 0xF9, 255],
+    ),
+    (Method::Delta, (&[1, 0, 2], 0), WHITE, 3, &[0, 1, 1, 2]),
+    (Method::Delta, (&[5, 6], 0), (&[5, 0], 0), 2, &[1, 6]),
+    (Method::Delta, (&[1, 2], 0), WHITE, 2, &[32, 1, 2]),
+    (Method::Delta, (&[7, 1, 7], 0), (&[7, 0, 7], 0), 3, &[1, 1]),
+    (Method::Delta, (&[1, 0, 0, 2], 0), WHITE, 4, &[0, 1, 2, 2]),
+];
 
 /// Which of several least codings is written.
 #[test]
 fn ties(rt: HostRuntime) -> Result<(), AllocError> {
-    let zeros = [0; 16];
-    let mut long = [0; 257];
-    long.fill(4);
-    assert_eq!(rt;
-        data_of(&rt, rt.alloc(), &Runs, &long, &[0; 257])?.as_slice(),
-        &[255, 4, 0, 4][..]
-    );
-    let mut equal = [0; 129];
-    equal.fill(7);
-    assert_eq!(rt;
-        data_of(&rt, rt.alloc(), &Packed, &equal, &[0; 129])?.as_slice(),
-        &[129, 7, 0, 7][..]
-    );
-    let packed: [(&[u8], &[u8]); 9] = [
-        (&[1, 1], &[255, 1]),
-        (&[1, 1, 2], &[2, 1, 1, 2]),
-        (&[1, 1, 1, 2], &[254, 1, 0, 2]),
-        (&[1, 2, 2, 2], &[0, 1, 254, 2]),
-        (&[1, 2, 2], &[2, 1, 2, 2]),
-        (&[0, 0, 1], &[2, 0, 0, 1]),
-        (&[1, 0, 0], &[0, 1]),
-        (&[1, 1, 2, 2], &[255, 1, 255, 2]),
-        (
-            &[
-                0x44, 0x44, 0x45, 0x46, 0x47, 255, 255, 255, 255, 255, 255, 255, 255,
-            ],
-            &[4, 0x44, 0x44, 0x45, 0x46, 0x47, 0xF9, 255],
-        ),
-    ];
-    for (row, want) in packed {
-        let seed = zeros.get(..row.len()).unwrap_or(&[]);
-        assert_eq!(rt;
-            data_of(&rt, rt.alloc(), &Packed, row, seed)?.as_slice(),
-            want,
-            "{row:?}"
-        );
-    }
-    let delta: [(&[u8], &[u8], &[u8]); 5] = [
-        (&[1, 0, 2], &[0, 0, 0], &[0, 1, 1, 2]),
-        (&[5, 6], &[5, 0], &[1, 6]),
-        (&[1, 2], &[0, 0], &[32, 1, 2]),
-        (&[7, 1, 7], &[7, 0, 7], &[1, 1]),
-        (&[1, 0, 0, 2], &[0, 0, 0, 0], &[0, 1, 2, 2]),
-    ];
-    for (row, seed, want) in delta {
-        assert_eq!(rt;
-            data_of(&rt, rt.alloc(), &Delta, row, seed)?.as_slice(),
-            want,
-            "{row:?}"
-        );
-    }
-    Ok(())
+    assert_data(&rt, rt.alloc(), &TIES)
 }
 
 /// The least numbers of all places of a row.
