@@ -26,6 +26,3 @@ pub use operation::{Axis, Operation, Side, Unit};
 pub use refusal::Refusal;
 pub use size::Size;
 pub use value::{Sign, Value};
-
-#[cfg(test)]
-mod tests;

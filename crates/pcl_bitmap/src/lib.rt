@@ -15,8 +15,3 @@ pub use bitmap::Bitmap;
 pub use ink::Ink;
 pub use kernels::{first_difference, run_end, trimmed_len};
 pub use laws::same_dots_same_bitmap;
-
-#[cfg(test)]
-mod kernel_tests;
-#[cfg(test)]
-mod tests;

@@ -23,6 +23,3 @@ pub use page_tables::row_tables;
 pub use reading_certificates::read_certificate;
 pub use tables::RowTables;
 pub use writing_certificates::write_certificate;
-
-#[cfg(test)]
-mod tests;

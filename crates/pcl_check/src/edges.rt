@@ -197,6 +197,3 @@ fn first_bad_sending<L: RowLengths>(
     }
     None
 }
-
-#[cfg(test)]
-mod tests;

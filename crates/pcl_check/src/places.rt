@@ -169,6 +169,3 @@ fn first_bad_replacement(
     let four = first_undercut(wide, sums, ends, 4, 796);
     first_place(first_place(one, two), first_place(three, four))
 }
-
-#[cfg(test)]
-mod tests;

@@ -43,6 +43,3 @@ pub fn read_page_text(page: &Page, text: &[u8]) -> TextVerdict
         Some(true) => TextVerdict::Prints,
     }
 }
-
-#[cfg(test)]
-mod tests;

@@ -7,6 +7,3 @@ mod stack;
 
 pub use effect::{Effect, Unsupported};
 pub use env::{Env, Saved};
-
-#[cfg(test)]
-mod tests;

@@ -9,6 +9,3 @@ mod step;
 
 pub use command::Command;
 pub use job::{one_outcome, read_job};
-
-#[cfg(test)]
-mod tests;

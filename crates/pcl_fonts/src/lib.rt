@@ -10,6 +10,3 @@ mod header;
 pub use fonts::{FontControl, Fonts};
 pub use glyph::Glyph;
 pub use header::FontInfo;
-
-#[cfg(test)]
-mod tests;

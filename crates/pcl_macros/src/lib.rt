@@ -5,6 +5,3 @@
 mod table;
 
 pub use table::{MacroControl, Macros};
-
-#[cfg(test)]
-mod tests;

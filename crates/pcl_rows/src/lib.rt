@@ -10,6 +10,3 @@ mod whole;
 pub use decoding::decode;
 pub use laws::{data_makes_one_row, row_is_decoded};
 pub use whole::is_whole;
-
-#[cfg(test)]
-mod tests;

@@ -1,16 +1,19 @@
-use super::*;
+use pcl_base::{Dpi, Kind, Method, Name, Refusal, Sign, Size, Value};
 use std::alloc::Global;
 use std::process::Abort;
 use std::test::Fail;
 
+// Each size by its number, its width, its height, and the bytes of a row.
+const SIZES: [(u32, u32, u32, usize); 4] = [
+    (1, 2025, 3150, 254),
+    (2, 2400, 3300, 300),
+    (3, 2400, 4200, 300),
+    (26, 2338, 3507, 293),
+];
+
 #[test]
 fn sizes(rt: HostRuntime) {
-    for (code, width, height, row_bytes) in [
-        (1, 2025, 3150, 254),
-        (2, 2400, 3300, 300),
-        (3, 2400, 4200, 300),
-        (26, 2338, 3507, 293),
-    ] {
+    for (code, width, height, row_bytes) in SIZES {
         let size = Size::from_code(code);
         assert!(rt; size.is_some(), "code {code}");
         if let Some(size) = size {
@@ -32,14 +35,16 @@ fn resolutions(rt: HostRuntime) {
     }
 }
 
+const METHODS: [(u32, Method); 4] = [
+    (0, Method::Plain),
+    (1, Method::Runs),
+    (2, Method::Packed),
+    (3, Method::Delta),
+];
+
 #[test]
 fn methods(rt: HostRuntime) {
-    for (code, method) in [
-        (0, Method::Plain),
-        (1, Method::Runs),
-        (2, Method::Packed),
-        (3, Method::Delta),
-    ] {
+    for (code, method) in METHODS {
         assert_eq!(rt; Method::from_code(code), Some(method));
         assert_eq!(rt; method.code(), code);
     }
@@ -48,18 +53,20 @@ fn methods(rt: HostRuntime) {
 }
 
 // Sign, magnitude in ten-thousandths, whole part, and 24 times the magnitude.
+const VALUES: [(Sign, u32, i32, u64); 8] = [
+    (Sign::Absent, 0, 0, 0),
+    (Sign::Minus, 5_000, 0, 12),
+    (Sign::Minus, 10_000, -1, 24),
+    (Sign::Plus, 19_999, 1, 47),
+    (Sign::Absent, 416, 0, 0),
+    (Sign::Absent, 417, 0, 1),
+    (Sign::Minus, 327_670_000, -32_767, 786_408),
+    (Sign::Plus, 655_350_000, 65_535, 1_572_840),
+];
+
 #[test]
 fn values(rt: HostRuntime) {
-    for (sign, parts, whole, scaled) in [
-        (Sign::Absent, 0, 0, 0),
-        (Sign::Minus, 5_000, 0, 12),
-        (Sign::Minus, 10_000, -1, 24),
-        (Sign::Plus, 19_999, 1, 47),
-        (Sign::Absent, 416, 0, 0),
-        (Sign::Absent, 417, 0, 1),
-        (Sign::Minus, 327_670_000, -32_767, 786_408),
-        (Sign::Plus, 655_350_000, 65_535, 1_572_840),
-    ] {
+    for (sign, parts, whole, scaled) in VALUES {
         let value = Value { sign, parts };
         assert_eq!(rt; value.whole(), whole, "{parts}");
         assert_eq!(rt; value.scaled(24), scaled, "{parts}");

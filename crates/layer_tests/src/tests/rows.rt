@@ -1,5 +1,5 @@
-use super::*;
 use pcl_base::Method;
+use pcl_rows::{decode, is_whole};
 use std::alloc::AllocError;
 
 /// Data, a seed row, and the row that the data makes over it.

@@ -1,6 +1,8 @@
-use super::*;
 use pcl_base::{Dpi, Method, Size};
 use pcl_bitmap::{Bitmap, Ink};
+use pcl_cert::{
+    CertFault, Format, Verdict, check_page, read_certificate, row_tables, write_certificate,
+};
 use pcl_page::Page;
 use std::alloc::{AllocError, Global};
 use std::process::Abort;

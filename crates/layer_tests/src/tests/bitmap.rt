@@ -1,6 +1,29 @@
-use super::*;
 use pcl_base::{Dpi, Size};
+use pcl_bitmap::{Bitmap, Ink, same_dots_same_bitmap};
+use std::process::Abort;
 use std::test::Fail;
+
+/// A byte of a page: its row, its place there, and what it is.
+type Byte = (u32, usize, u8);
+
+const BYTES_AT_300: [Byte; 7] = [
+    (0, 0, 0),
+    (0, 1, 0),
+    (1, 0, 0x9F),
+    (1, 1, 0xFE),
+    (1, 2, 0),
+    (3506, 291, 0x0F),
+    (3506, 292, 0xC0),
+];
+
+fn assert_bytes(rt: &impl Abort, page: &Bitmap, row_bytes: usize, bytes: &[Byte]) {
+    for (y, place, byte) in bytes {
+        assert!(rt; *y < page.size().height(page.dpi()));
+        let row = page.row(*y);
+        assert_eq!(rt; row.len(), row_bytes);
+        assert_eq!(rt; row.get(*place), Some(byte), "row {y}, byte {place}");
+    }
+}
 
 // A4 at 300 dots per inch is 2338 dots wide: 292 bytes and 2 dots.
 #[test]
@@ -13,20 +36,7 @@ fn paints_at_300(rt: HostRuntime) -> Result<(), Fail> {
     page.paint_row(2332, 3506, 1, 16, &[0xFF, 0xFF]);
     page.paint_row(2338, 0, 1, 8, &[0xFF]);
     page.paint_row(0, 3507, 1, 8, &[0xFF]);
-    for (y, place, bytes) in [
-        (0, 0, [0, 0]),
-        (1, 0, [0x9F, 0xFE]),
-        (1, 1, [0xFE, 0]),
-        (3506, 291, [0x0F, 0xC0]),
-    ] {
-        let row = page.row(y);
-        assert_eq!(rt; row.len(), 293);
-        assert_eq!(rt;
-            [row[place], row[place + 1]],
-            bytes,
-            "row {y}, byte {place}"
-        );
-    }
+    assert_bytes(&rt, &page, 293, &BYTES_AT_300);
     assert!(rt; page.is_blank(0));
     assert!(rt; !page.is_blank(1));
     page.clear();
@@ -40,19 +50,54 @@ fn paints_at_600(rt: HostRuntime) -> Result<(), Fail> {
     let mut page = Bitmap::new(rt.alloc(), Size::A4, Dpi::Dpi600)?;
     page.paint_row(4672, 7013, 1, 8, &[0xA5]);
     page.paint_row(0, 7014, 1, 8, &[0xFF]);
-    let row = page.row(7013);
-    assert_eq!(rt; row.len(), 585);
-    assert_eq!(rt; row[584], 0xA0);
+    assert_bytes(&rt, &page, 585, &[(7013, 584, 0xA0)]);
     Ok(())
 }
 
-// Whether the dot at (x, y) is black; past the page none is.
-fn is_black(page: &Bitmap, x: u32, y: u32) -> bool {
-    if y >= page.size().height(page.dpi()) {
-        return false;
+/// The tables of what is drawn on an A4 page at 300 dots per inch.
+#[derive(Clone, Copy)]
+enum Drawn {
+    Rectangles,
+    Rows,
+    Patterns,
+}
+
+impl Drawn {
+    /// Whether the dot is black on a page of this alone.
+    fn is_black(self, x: u32, y: u32) -> bool {
+        match self {
+            Drawn::Rectangles => is_black_by_rectangles(x, y),
+            Drawn::Rows => is_black_by_rows(x, y),
+            Drawn::Patterns => is_black_by_patterns(x, y),
+        }
     }
-    let byte = page.row(y).get(x as usize / 8).copied().unwrap_or(0);
+}
+
+// Whether the dot of a row is black; past the row's bytes none is.
+fn is_black(row: &[u8], x: u32) -> bool {
+    let byte = row.get(x as usize / 8).copied().unwrap_or(0);
+    is_set(byte, x)
+}
+
+// Whether the bit of a dot is set in the byte of the dot's eight.
+fn is_set(byte: u8, x: u32) -> bool {
     (byte << (x % 8)) & 0x80 != 0
+}
+
+// Compares the dots of some rows and columns, each from a first one to before a last one, with what is drawn.
+fn assert_dots(rt: &impl Abort, page: &Bitmap, ys: [u32; 2], xs: [u32; 2], drawn: Drawn) {
+    for y in ys[0]..ys[1] {
+        assert!(rt; y < page.size().height(page.dpi()));
+        assert_row(rt, page.row(y), y, xs, drawn);
+    }
+}
+
+// The same of one row. Its dots from 2338 on are past the page.
+fn assert_row(rt: &impl Abort, row: &[u8], y: u32, xs: [u32; 2], drawn: Drawn) {
+    for x in xs[0]..xs[1] {
+        let expected = x < 2338 && drawn.is_black(x, y);
+        assert_eq!(rt; is_black(row, x), expected, "dot ({x}, {y})");
+    }
 }
 
 // Each with its upper left corner, its width and height, and its ink: over the whole page, of no size,
@@ -76,11 +121,17 @@ const RECTANGLES: [(u32, u32, u64, u64, Ink); 12] = [
 fn is_black_by_rectangles(x: u32, y: u32) -> bool {
     let mut black = false;
     for (left, top, width, height, ink) in RECTANGLES {
-        if x >= left && y >= top && u64::from(x - left) < width && u64::from(y - top) < height {
+        if covers(left, width, x) && covers(top, height, y) {
             black = ink == Ink::Black;
         }
     }
     black
+}
+
+// Whether a dot is one of so many from a first one on.
+fn covers(first: u32, count: u64, dot: u32) -> bool {
+    dot.checked_sub(first)
+        .is_some_and(|past| u64::from(past) < count)
 }
 
 #[test]
@@ -89,12 +140,8 @@ fn fills_rectangles(rt: HostRuntime) -> Result<(), Fail> {
     for (x, y, width, height, ink) in RECTANGLES {
         page.fill(x, y, width, height, ink);
     }
-    for y in [0, 1, 2, 3, 3504, 3505, 3506] {
-        for x in 0..2344 {
-            let expected = x < 2338 && is_black_by_rectangles(x, y);
-            assert_eq!(rt; is_black(&page, x, y), expected, "dot ({x}, {y})");
-        }
-    }
+    assert_dots(&rt, &page, [0, 4], [0, 2344], Drawn::Rectangles);
+    assert_dots(&rt, &page, [3504, 3507], [0, 2344], Drawn::Rectangles);
     Ok(())
 }
 
@@ -120,14 +167,26 @@ const ROWS: [(u32, u64, u32, u32, &[u8]); 13] = [
 fn is_black_by_rows(x: u32, y: u32) -> bool {
     let mut black = false;
     for (left, top, scale, width, row) in ROWS {
-        if scale > 0 && x >= left && u64::from(y) >= top {
-            let bit = (x - left) / scale;
-            let byte = row.get(bit as usize / 8).copied().unwrap_or(0);
-            let set = (byte << (bit % 8)) & 0x80 != 0;
-            black |= set && bit < width && u64::from(y) - top < u64::from(scale);
+        let column = square_of(i64::from(x).wrapping_sub(i64::from(left)), scale);
+        let down = u64::from(y).checked_sub(top);
+        if let (Some(column), Some(down)) = (column, down) {
+            black |= down < u64::from(scale)
+                && column < u64::from(width)
+                && is_bit_set(row, column);
         }
     }
     black
+}
+
+// Which square of so many dots a dot is in, as far to the right or down from the first one.
+fn square_of(dots: i64, scale: u32) -> Option<u64> {
+    u64::try_from(dots).ok()?.checked_div(u64::from(scale))
+}
+
+// Whether a bit of a row is set, by its number.
+fn is_bit_set(row: &[u8], bit: u64) -> bool {
+    let byte = row.get(bit as usize / 8).copied().unwrap_or(0);
+    is_set(byte, (bit % 8) as u32)
 }
 
 #[test]
@@ -136,11 +195,9 @@ fn paints_squares(rt: HostRuntime) -> Result<(), Fail> {
     for (x, y, scale, width, row) in ROWS {
         page.paint_row(x, y, scale, width, row);
     }
-    for y in (0..55).chain(3502..3507) {
-        for x in (0..200).chain(2300..2344) {
-            let expected = x < 2338 && is_black_by_rows(x, y);
-            assert_eq!(rt; is_black(&page, x, y), expected, "dot ({x}, {y})");
-        }
+    for ys in [[0, 55], [3502, 3507]] {
+        assert_dots(&rt, &page, ys, [0, 200], Drawn::Rows);
+        assert_dots(&rt, &page, ys, [2300, 2344], Drawn::Rows);
     }
     Ok(())
 }
@@ -168,20 +225,12 @@ const PATTERNS: [(i32, i32, u16, u16, u32, &[u8]); 14] = [
 fn is_black_by_patterns(x: u32, y: u32) -> bool {
     let mut black = false;
     for (left, top, width, height, scale, rows) in PATTERNS {
-        let (across, down) = (
-            i64::from(x) - i64::from(left),
-            i64::from(y) - i64::from(top),
-        );
-        if scale > 0 && across >= 0 && down >= 0 {
-            let (column, row) = (
-                across as u64 / u64::from(scale),
-                down as u64 / u64::from(scale),
-            );
-            if column < u64::from(width) && row < u64::from(height) {
-                let place = row * u64::from(width.div_ceil(8)) + column / 8;
-                let byte = rows.get(place as usize).copied().unwrap_or(0);
-                black |= (byte << (column % 8)) & 0x80 != 0;
-            }
+        let column = square_of(i64::from(x).wrapping_sub(i64::from(left)), scale);
+        let row = square_of(i64::from(y).wrapping_sub(i64::from(top)), scale);
+        if let (Some(column), Some(row)) = (column, row) {
+            let first = row.wrapping_mul(u64::from(width.div_ceil(8)).wrapping_mul(8));
+            let is_inside = column < u64::from(width) && row < u64::from(height);
+            black |= is_inside && is_bit_set(rows, first.wrapping_add(column));
         }
     }
     black
@@ -193,11 +242,9 @@ fn paints_patterns(rt: HostRuntime) -> Result<(), Fail> {
     for (x, y, width, height, scale, rows) in PATTERNS {
         page.blit(x, y, width, height, rows, scale);
     }
-    for y in (0..34).chain(3500..3507) {
-        for x in (0..120).chain(2300..2344) {
-            let expected = x < 2338 && is_black_by_patterns(x, y);
-            assert_eq!(rt; is_black(&page, x, y), expected, "dot ({x}, {y})");
-        }
+    for ys in [[0, 34], [3500, 3507]] {
+        assert_dots(&rt, &page, ys, [0, 120], Drawn::Patterns);
+        assert_dots(&rt, &page, ys, [2300, 2344], Drawn::Patterns);
     }
     Ok(())
 }

@@ -1,9 +1,9 @@
-use super::*;
 use pcl_base::Axis::{Horizontal, Vertical};
 use pcl_base::Operation::*;
 use pcl_base::Sign::{Absent, Minus, Plus};
 use pcl_base::Unit::{Column, Decipoint, PclUnit};
 use pcl_base::{Dpi, Method, Operation, Side, Sign, Size, Value};
+use pcl_env::{Effect, Env, Unsupported};
 use std::process::Abort;
 
 const STAY: Result<Effect, Unsupported> = Ok(Effect::Stay);
@@ -607,14 +607,18 @@ fn assert_settings(
     raster: (u32, Option<u32>, Option<u32>),
     method: Method,
 ) {
-    assert_eq!(rt; env.copies(), numbers.0);
-    assert_eq!(rt; env.macro_id(), numbers.1);
-    assert_eq!(rt; env.font_id(), numbers.2);
-    assert_eq!(rt; env.character_code(), numbers.3);
-    assert_eq!(rt; env.rectangle_width(), rectangle.0);
-    assert_eq!(rt; env.rectangle_height(), rectangle.1);
+    let found = (
+        env.copies(),
+        env.macro_id(),
+        env.font_id(),
+        env.character_code(),
+    );
+    assert_eq!(rt; found, numbers);
+    assert_eq!(rt; (env.rectangle_width(), env.rectangle_height()), rectangle);
     assert_eq!(rt; env.resolution(), raster.0);
-    assert_eq!(rt; env.raster_width(), raster.1);
-    assert_eq!(rt; env.raster_height(), raster.2);
+    assert_eq!(rt;
+        (env.raster_width(), env.raster_height()),
+        (raster.1, raster.2)
+    );
     assert_eq!(rt; env.method(), method);
 }

@@ -1,5 +1,5 @@
-use super::*;
 use pcl_base::{CallFault, Kind};
+use pcl_macros::{MacroControl, Macros};
 use std::alloc::Global;
 
 // Two definitions of an ID: the last one is its body. An end without a begin is refused.

@@ -1,4 +1,4 @@
-use super::*;
+use pcl_bitmap::{first_difference, run_end, trimmed_len};
 use std::process::Abort;
 
 // A row that is zero but for the byte at `place`, beside zeros.

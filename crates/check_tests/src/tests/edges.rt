@@ -1,9 +1,9 @@
-use crate::{
+use pcl_base::{Dpi, Method, Size};
+use pcl_bitmap::{Bitmap, Ink};
+use pcl_check::{
     BadNumber, LeastByCoders, first_bad_number, good_numbers_are_feasible,
     numbers_by_bounds_are_feasible,
 };
-use pcl_base::{Dpi, Method, Size};
-use pcl_bitmap::{Bitmap, Ink};
 use pcl_page::Page;
 use pcl_plan::Table;
 use std::alloc::{AllocError, Global};

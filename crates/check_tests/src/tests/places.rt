@@ -1,5 +1,5 @@
-use crate::first_bad_place;
 use pcl_base::Method;
+use pcl_check::first_bad_place;
 use pcl_coders::{Delta, Packed, Plain, RowCoder, Runs};
 use std::process::Abort;
 use std::test::Fail;

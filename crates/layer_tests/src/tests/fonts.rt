@@ -1,5 +1,5 @@
-use super::*;
 use pcl_base::{CallFault, Kind};
+use pcl_fonts::{FontControl, Fonts};
 use std::alloc::{AllocError, Global};
 
 /// A header: fixed, of type 0, with a pitch of 8 quarter dots.
@@ -28,24 +28,33 @@ fn changed(
     Ok(bytes)
 }
 
+const BAD_HEADER: Result<(), CallFault> = Err(CallFault::Refused(Kind::FontHeader));
+
+const BAD_CHARACTER: Result<(), CallFault> = Err(CallFault::Refused(Kind::CharacterData));
+
+/// How many bytes are left of some data, which place has which byte there, and whether that is taken.
+type Changed = (usize, usize, u8, Result<(), CallFault>);
+
+const HEADERS: [Changed; 13] = [
+    (64, 1, 64, Ok(())),
+    (63, 1, 64, BAD_HEADER),
+    (64, 1, 63, BAD_HEADER),
+    (64, 1, 65, BAD_HEADER),
+    (64, 0, 1, BAD_HEADER),
+    (64, 2, 1, BAD_HEADER),
+    (64, 3, 2, Ok(())),
+    (64, 3, 3, BAD_HEADER),
+    (64, 12, 1, BAD_HEADER),
+    (64, 13, 1, Ok(())),
+    (64, 13, 2, BAD_HEADER),
+    (64, 14, 9, Ok(())),
+    (64, 63, 9, Ok(())),
+];
+
 // Headers: each field at its values and past them, and a byte too few.
 #[test]
 fn headers(rt: HostRuntime) -> Result<(), AllocError> {
-    for (len, place, byte, wanted) in [
-        (64, 1, 64, Ok(())),
-        (63, 1, 64, Err(CallFault::Refused(Kind::FontHeader))),
-        (64, 1, 63, Err(CallFault::Refused(Kind::FontHeader))),
-        (64, 1, 65, Err(CallFault::Refused(Kind::FontHeader))),
-        (64, 0, 1, Err(CallFault::Refused(Kind::FontHeader))),
-        (64, 2, 1, Err(CallFault::Refused(Kind::FontHeader))),
-        (64, 3, 2, Ok(())),
-        (64, 3, 3, Err(CallFault::Refused(Kind::FontHeader))),
-        (64, 12, 1, Err(CallFault::Refused(Kind::FontHeader))),
-        (64, 13, 1, Ok(())),
-        (64, 13, 2, Err(CallFault::Refused(Kind::FontHeader))),
-        (64, 14, 9, Ok(())),
-        (64, 63, 9, Ok(())),
-    ] {
+    for (len, place, byte, wanted) in HEADERS {
         let data = changed(rt.alloc(), &HEADER, len, place, byte)?;
         let taken = Fonts::new(rt.alloc()).header(1, &data);
         assert_eq!(rt; taken, wanted, "byte {place} is {byte}, of {len}");
@@ -53,22 +62,24 @@ fn headers(rt: HostRuntime) -> Result<(), AllocError> {
     Ok(())
 }
 
+const CHARACTERS: [Changed; 11] = [
+    (18, 0, 4, Ok(())),
+    (18, 0, 5, BAD_CHARACTER),
+    (18, 1, 1, BAD_CHARACTER),
+    (18, 2, 15, BAD_CHARACTER),
+    (18, 3, 2, BAD_CHARACTER),
+    (18, 4, 1, BAD_CHARACTER),
+    (18, 13, 3, BAD_CHARACTER),
+    (18, 11, 9, BAD_CHARACTER),
+    (17, 0, 4, BAD_CHARACTER),
+    (15, 13, 0, BAD_CHARACTER),
+    (16, 13, 0, Ok(())),
+];
+
 // Characters: each fixed byte off by one, and data that are cut.
 #[test]
 fn characters(rt: HostRuntime) -> Result<(), AllocError> {
-    for (len, place, byte, wanted) in [
-        (18, 0, 4, Ok(())),
-        (18, 0, 5, Err(CallFault::Refused(Kind::CharacterData))),
-        (18, 1, 1, Err(CallFault::Refused(Kind::CharacterData))),
-        (18, 2, 15, Err(CallFault::Refused(Kind::CharacterData))),
-        (18, 3, 2, Err(CallFault::Refused(Kind::CharacterData))),
-        (18, 4, 1, Err(CallFault::Refused(Kind::CharacterData))),
-        (18, 13, 3, Err(CallFault::Refused(Kind::CharacterData))),
-        (18, 11, 9, Err(CallFault::Refused(Kind::CharacterData))),
-        (17, 0, 4, Err(CallFault::Refused(Kind::CharacterData))),
-        (15, 13, 0, Err(CallFault::Refused(Kind::CharacterData))),
-        (16, 13, 0, Ok(())),
-    ] {
+    for (len, place, byte, wanted) in CHARACTERS {
         let data = changed(rt.alloc(), &CHARACTER, len, place, byte)?;
         let mut fonts = Fonts::new(rt.alloc());
         let _ = fonts.header(0, &HEADER);

@@ -1,0 +1,4 @@
+mod certificates;
+mod edges;
+mod places;
+mod texts;
