@@ -144,8 +144,9 @@ alike_at old row place {offset} k alike lt =
     ∙ get_or-take offset (drop place old) k 0 lt ∙ get_or-drop place old k 0
 
 -- a replacement starts at the first byte that differs, or before it
-start_within : {old row ends : List ℕ} (place offset : ℕ) {len : ℕ} → AreStartEnds old row ends 0 → 0 < len → place + offset + len ≤ length row
-    → take offset (drop place row) ≡ take offset (drop place old) → place + offset + 1 ≤ slice_index ends place
+start_within : {old row ends : List ℕ} (place offset : ℕ) {len : ℕ} → AreStartEnds old row ends 0 → 0 < len
+    → place + offset + len ≤ length row → take offset (drop place row) ≡ take offset (drop place old)
+    → place + offset + 1 ≤ slice_index ends place
 start_within {old} {row} {ends} place offset are some within alike =
     let is = are.starts place (omega arith) (omega arith) in
     let end : ℕ = slice_index ends place in

@@ -377,7 +377,8 @@ appended_all {method} {old} {row} {before} {place} right none a =
     }
 
 -- what stood there before still stands in front
-pub front_stays : {before now : List ℕ} (now' more : List ℕ) → now ≡ before ++ more → take (length now) now' ≡ now → take (length before) now' ≡ before
+pub front_stays : {before now : List ℕ} (now' more : List ℕ) → now ≡ before ++ more → take (length now) now' ≡ now
+    → take (length before) now' ≡ before
 front_stays {before} {now} now' more joined front =
     sym (take-take (length before) (length now) now' (omega (arith, ap length joined, length-append before more)))
     ∙ ap (take (length before)) (front ∙ joined) ∙ take_at before more (length before) refl

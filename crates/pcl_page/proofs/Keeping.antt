@@ -132,8 +132,8 @@ adds_by dpi operation command s {later} false e =
     (adds_drawn dpi operation command (outcome dpi operation command.value (is_marked before) before.settings) e)
 
 -- a command that isn't refused counts one, adds pages, and does nothing to macros
-pub after_adds : (dpi : Dpi) (operation : Operation) (command : Said) (s : Situation) {later : Situation} → after dpi operation command s ≡ Ok later
-    → Adds (counted s) later
+pub after_adds : (dpi : Dpi) (operation : Operation) (command : Said) (s : Situation) {later : Situation}
+    → after dpi operation command s ≡ Ok later → Adds (counted s) later
 unfolding after
 after_adds dpi operation command s e = adds_by dpi operation command s (is_ignored operation s) e
 

@@ -23,8 +23,8 @@ white_front (suc run) (suc count) [] w le = tt
 white_front (suc run) (suc count) (row ∷ rows) w le = (w.0, white_front run count rows w.1 (omega arith))
 
 -- a row among white ones
-pub white_below : (rows : List (List ℕ)) (row : ℕ) {run : ℕ} (place : ℕ) → AreWhite (take run (drop row rows)) → place < run → row + run ≤ length rows
-    → IsWhite (row_at rows (row + place))
+pub white_below : (rows : List (List ℕ)) (row : ℕ) {run : ℕ} (place : ℕ) → AreWhite (take run (drop row rows)) → place < run
+    → row + run ≤ length rows → IsWhite (row_at rows (row + place))
 white_below rows row {run} place white lt within =
     subst IsWhite (get_or-drop row rows place []) (white_at run (drop row rows) place white lt (omega (arith, length-drop row rows)))
 

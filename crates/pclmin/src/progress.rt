@@ -17,7 +17,7 @@ pub struct Progress<'a> {
 
 impl<'a> Progress<'a> {
     /// Of a run that begins now; none where standard error is no terminal, or no clock tells the time.
-    pub fn new(rt: &'a HostRuntime) -> Option<Progress<'a>> {
+    pub(crate) fn new(rt: &'a HostRuntime) -> Option<Progress<'a>> {
         if !rt.stderr().is_terminal() {
             return None;
         }

@@ -91,7 +91,8 @@ lowest_switch-requires-clause-some g c =
     let inside : c.args.row ≤ length (rows_of rows) = omega (arith, c.requires.row, length_rows rows.count rows.width rows.bytes.now) in
     let next = switch_begins
     (right_table rows c.requires.right) inside
-    (λ count can. (let more = c.in_default.ensures.none count can.0 (skippable_within c.white_run-run.ensures.run can) in omega (arith, more, c.number-least.ensures)))
+    (λ count can. (let more = c.in_default.ensures.none count can.0 (skippable_within c.white_run-run.ensures.run can) in
+    omega (arith, more, c.number-least.ensures)))
     c.least_length-bytes.ensures.least
     (λ same. c.if-sending_cost-number.false (omega (arith, same, c.number-least.ensures, c.sending_cost.ensures.cost, c.number.ensures))) in
     (next.0, c.number-least.ensures ∙ next.1)
