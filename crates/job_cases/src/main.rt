@@ -1,11 +1,13 @@
 //! Whole jobs and what becomes of them: a table of named cases in text files, which `table` tells how to write.
 //! Each case is performed, and its pages are compared dot for dot, or its refusal word for word; then the job
-//! is written again, and what was written has to have the same pages.
+//! is written again, and what was written has to have the same pages. Two more tables have certificates that are
+//! changed and what is answered of them, and command lines and what a run does for each (`certificates`, `commands`).
 //!
 //! It prints how many cases hold; `stdout` has how many there are. A case that doesn't is printed with its job and
 //! with what came instead, and the status is then 1. The tables lie in the folder that its argument names, or
 //! where it runs: the gate runs it in `data/`, and beside `src/` it is `rt run -- data`. `bench/reference.py`
-//! checks the same tables without a line of this repository's code.
+//! checks the tables of jobs without a line of this repository's code. The command lines make files where it runs, and
+//! remove them.
 #![tactic(auto)]
 
 mod case;
