@@ -42,6 +42,7 @@ impl<'a> Interpreter<'a> {
     ghost use Rattle.pcl_base.specs.Operation.{operation_of};
     ghost use Rattle.pcl_escape.specs.Said.{Said, view, views};
     ghost use Rattle.pcl_macros.specs.Table.{is_begun, macro_at};
+    ghost use Rattle.pcl_page.specs.Performing.{HandsOver, performance};
     ghost use Rattle.pcl_page.specs.Situation.{Situation, at_begin};
     ghost use Rattle.pcl_page.specs.Macros.{action_of, keeping_of, acted, managed, counting, after_command, run_by, run_from, run_of, run_with, left};
     ghost use Rattle.pcl_page.specs.Reflecting.{EndDone};
@@ -58,8 +59,27 @@ impl<'a> Interpreter<'a> {
         })
     }
 
+    /// Performs the commands of a job of `end` bytes from its begin to its end.
+    pub fn perform_all<S: PageSink>(
+        &mut self,
+        commands: &[Command<'a>],
+        end: usize,
+        dpi: Dpi,
+        sink: &mut S,
+    ) -> Result<(), JobFault>
+        requires begin { IsAt dpi at_begin self.old }
+        requires idle { self.old.running.items ≡ [] }
+        ensures { HandsOver S.takes dpi (performance dpi end (views commands.now)) result sink.old sink.new }
+    {
+        for (place, command) in commands.iter().enumerate() {
+            self.perform_at(command, place, dpi, sink)?;
+            self.run_macros(commands, dpi, sink)?;
+        }
+        self.finish(end, sink)
+    }
+
     /// Performs what the macros that run have left.
-    pub fn run_macros<S: PageSink>(
+    fn run_macros<S: PageSink>(
         &mut self,
         commands: &[Command<'a>],
         dpi: Dpi,
@@ -121,7 +141,7 @@ impl<'a> Interpreter<'a> {
     }
 
     /// Performs the command at a place, up to the begin of a macro that it runs.
-    pub fn perform_at<S: PageSink>(
+    fn perform_at<S: PageSink>(
         &mut self,
         command: &Command<'a>,
         place: usize,
@@ -250,9 +270,9 @@ impl<'a> Interpreter<'a> {
         }
     }
 
-    /// Does what the end of the input does, `end` bytes from its begin. Nothing is performed behind it.
-    pub fn finish<S: PageSink>(self, end: usize, sink: &mut S) -> Result<(), JobFault>
-        ensures { (dpi : Dpi) (s : Situation) → IsAt dpi s self.entry → InterpreterEnds S.takes dpi end s result sink.old sink.new }
+    /// Does what the end of the input does, `end` bytes from its begin.
+    fn finish<S: PageSink>(&mut self, end: usize, sink: &mut S) -> Result<(), JobFault>
+        ensures { (dpi : Dpi) (s : Situation) → IsAt dpi s self.old → InterpreterEnds S.takes dpi end s result sink.old sink.new }
     {
         if self.macros.is_begun() {
             return Err(JobFault::Refused(Refusal::new(Kind::MacroOpen, end, Name::Empty)));

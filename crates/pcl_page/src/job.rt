@@ -29,11 +29,7 @@ pub fn run<'a, S: PageSink>(
     ensures { HandsOver S.takes dpi (performance dpi end (views commands.now)) result sink.old sink.new }
 {
     let mut interpreter = Interpreter::new(alloc, dpi)?;
-    for (place, command) in commands.iter().enumerate() {
-        interpreter.perform_at(command, place, dpi, sink)?;
-        interpreter.run_macros(commands, dpi, sink)?;
-    }
-    interpreter.finish(end, sink)
+    interpreter.perform_all(commands, end, dpi, sink)
 }
 
 /// Reads a job, performs it, and hands its pages to the sink, in order, each once. A refusal is the job's:

@@ -273,10 +273,9 @@ impl<'a> Performer<'a> {
         Ok(())
     }
 
-    /// Does what the end of the input does, `end` bytes from its begin: it acts as a reset. Nothing is
-    /// performed behind it.
-    pub fn finish<S: PageSink>(mut self, end: usize, sink: &mut S) -> Result<(), JobFault>
-        ensures { (dpi : Dpi) (s : Situation) → IsIn dpi s self.entry → EndDone S.takes dpi end s result sink.old sink.new }
+    /// Does what the end of the input does, `end` bytes from its begin: it acts as a reset.
+    pub fn finish<S: PageSink>(&mut self, end: usize, sink: &mut S) -> Result<(), JobFault>
+        ensures { (dpi : Dpi) (s : Situation) → IsIn dpi s self.old → EndDone S.takes dpi end s result sink.old sink.new }
     {
         if self.is_marked {
             if self.ejected >= PAGE_LIMIT {

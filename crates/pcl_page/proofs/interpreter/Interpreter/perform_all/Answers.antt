@@ -5,7 +5,7 @@ use Rattle.pcl_escape.specs.declared.command.Command.{Command}
 use Rattle.pcl_escape.specs.Said.{Said, view, views}
 use Rattle.pcl_page.specs.Performing.{performance}
 use Rattle.pcl_page.proofs.Jobs.{IsReached, rest_of_job, command_stopped, has_begun, macros_stopped, macros_reached, end_reached}
-use Rattle.pcl_page.proofs.job.run.Goals as goal
+use Rattle.pcl_page.proofs.interpreter.Interpreter.perform_all.Goals as goal
 
 -- the next command and those behind it
 next_is : (commands : List Command) {i : ℕ} (default : Command) → i < length commands
@@ -20,9 +20,9 @@ loop-place-preserved g c =
     let whole = performance c.args.dpi c.args.end all in
     let next = next_is c.args.commands.now _ c.loop-place-test.true in
     let r = subst (λ (rest : List Said). IsReached g.S.PageSink.takes c.args.dpi whole
-    (rest_of_job c.args.dpi c.args.end all c.loop-place.place rest) c.loop-place.interpreter c.args.sink.now c.loop-place.sink) next
+    (rest_of_job c.args.dpi c.args.end all c.loop-place.place rest) c.loop-place.self c.args.sink.now c.loop-place.sink) next
     c.loop-place.invariant in
-    let b = has_begun g.S.PageSink.takes c.args.dpi c.args.end all whole c.loop-place.place _ _ c.loop-place.interpreter
+    let b = has_begun g.S.PageSink.takes c.args.dpi c.args.end all whole c.loop-place.place _ _ c.loop-place.self
     c.perform_at.new.self c.args.sink.now c.loop-place.sink c.perform_at.new.sink r
     (c.in_ok-perform_at.ensures.done all r.situation r.is_at) in
     macros_reached g.S.PageSink.takes c.args.dpi c.args.end all whole c.loop-place.place _ _ c.perform_at.new.self c.run_macros.new.self
@@ -35,11 +35,11 @@ returns-in_err-perform_at g c =
     let whole = performance c.args.dpi c.args.end all in
     let next = next_is c.args.commands.now _ c.loop-place-test.true in
     let r = subst (λ (rest : List Said). IsReached g.S.PageSink.takes c.args.dpi whole
-    (rest_of_job c.args.dpi c.args.end all c.loop-place.place rest) c.loop-place.interpreter c.args.sink.now c.loop-place.sink) next
+    (rest_of_job c.args.dpi c.args.end all c.loop-place.place rest) c.loop-place.self c.args.sink.now c.loop-place.sink) next
     c.loop-place.invariant in
-    let p = err_from_is_err_and c.from_residual-in_err-perform_at.result c.from_residual-in_err-perform_at.ensures.1 in
+    let p = err_from_is_err_and c.from_residual.result c.from_residual.ensures.1 in
     rw (p.1, p.2)
-    (command_stopped g.S.PageSink.takes c.args.dpi c.args.end all whole c.loop-place.place _ _ c.loop-place.interpreter
+    (command_stopped g.S.PageSink.takes c.args.dpi c.args.end all whole c.loop-place.place _ _ c.loop-place.self
     c.perform_at.new.self c.args.sink.now c.loop-place.sink c.perform_at.new.sink _ r
     (c.in_err-perform_at.ensures.done all r.situation r.is_at))
 
@@ -53,9 +53,9 @@ returns-in_err-run_macros g c =
     let whole = performance c.args.dpi c.args.end all in
     let next = next_is c.args.commands.now _ c.loop-place-test.true in
     let r = subst (λ (rest : List Said). IsReached g.S.PageSink.takes c.args.dpi whole
-    (rest_of_job c.args.dpi c.args.end all c.loop-place.place rest) c.loop-place.interpreter c.args.sink.now c.loop-place.sink) next
+    (rest_of_job c.args.dpi c.args.end all c.loop-place.place rest) c.loop-place.self c.args.sink.now c.loop-place.sink) next
     c.loop-place.invariant in
-    let b = has_begun g.S.PageSink.takes c.args.dpi c.args.end all whole c.loop-place.place _ _ c.loop-place.interpreter
+    let b = has_begun g.S.PageSink.takes c.args.dpi c.args.end all whole c.loop-place.place _ _ c.loop-place.self
     c.perform_at.new.self c.args.sink.now c.loop-place.sink c.perform_at.new.sink r
     (c.in_ok-perform_at.ensures.done all r.situation r.is_at) in
     let p = err_from_is_err_and c.from_residual-in_err-run_macros.result c.from_residual-in_err-run_macros.ensures.1 in
@@ -68,9 +68,9 @@ returns g c =
     let all = views c.args.commands.now in
     let whole = performance c.args.dpi c.args.end all in
     let done : drop c.loop-place.place c.args.commands.now ≡ [] = drop_of_length-le c.args.commands.now c.loop-place-test.false in
-    end_reached g.S.PageSink.takes c.args.dpi c.args.end all whole c.loop-place.place c.loop-place.interpreter c.args.sink.now
+    end_reached g.S.PageSink.takes c.args.dpi c.args.end all whole c.loop-place.place c.loop-place.self c.args.sink.now
     c.loop-place.sink c.finish.new.sink c.finish.result
     (subst (λ (rest : List Command). IsReached g.S.PageSink.takes c.args.dpi whole
-    (rest_of_job c.args.dpi c.args.end all c.loop-place.place (views rest)) c.loop-place.interpreter c.args.sink.now c.loop-place.sink) done
+    (rest_of_job c.args.dpi c.args.end all c.loop-place.place (views rest)) c.loop-place.self c.args.sink.now c.loop-place.sink) done
     c.loop-place.invariant)
     (λ dpi s at. c.finish.ensures dpi s at)
