@@ -1,7 +1,7 @@
 -- The checker's yes: no text that prints the page is shorter.
 use Rattle.std.proofs.Common.{◌≡◌, ℕ, zero, suc, ◌+◌, ◌<◌, ◌≤◌, ◌⊎◌, inl, inr, List, [], ◌∷◌, ◌++◌, Some, None, length, replicate, refl, sym, ap, ◌∙◌, arith}
 use Rattle.std.specs.Prelude.{slice_index}
-use Rattle.std.proofs.lemmas.List.{length-append, length-replicate, length-take-le}
+use Rattle.std.proofs.lemmas.List.{length-append, length-replicate, length-take-le, get_or_past}
 use Rattle.pcl_base.specs.declared.method.Method.{Method}
 use Rattle.pcl_base.specs.Size.{page_height, page_row_bytes}
 use Rattle.pcl_page.specs.declared.page.Page.{Page}
@@ -38,11 +38,6 @@ le_or zero b = inl (omega arith)
 le_or (suc a) zero = inr (omega arith)
 le_or (suc a) (suc b) = elim (le_or a b) [ inl le ↦ inl (omega arith) | inr lt ↦ inr (omega arith) ]
 
-past_end : (numbers : List ℕ) (n : ℕ) → length numbers ≤ n → slice_index numbers n ≡ 0
-past_end [] n le = refl
-past_end (number ∷ numbers) zero le = absurd (omega arith)
-past_end (number ∷ numbers) (suc n) le = past_end numbers n (omega arith)
-
 padded_length : {n : ℕ} (list : List ℕ) → length (table_of n list) ≡ n
 padded_length {n} list =
     length-take-le n (list ++ replicate n 0) (omega (arith, length-append list (replicate n 0), length-replicate {A = ℕ} n 0))
@@ -54,11 +49,11 @@ table_of_good {row} {numbers} size good = record {
   feasible = record {
     steps = λ place e next leads. elim (le_or place (length row)) [
       | inl le ↦ (good place le).steps e next leads
-      | inr lt ↦ omega (arith, past_end numbers place (omega (arith, size, lt)))
+      | inr lt ↦ omega (arith, get_or_past numbers place 0 (omega (arith, size, lt)))
     ];
     ends = λ place ends. elim (le_or place (length row)) [
       | inl le ↦ (good place le).ends ends
-      | inr lt ↦ past_end numbers place (omega (arith, size, lt))
+      | inr lt ↦ get_or_past numbers place 0 (omega (arith, size, lt))
     ];
   };
 }

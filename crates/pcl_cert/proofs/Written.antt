@@ -16,21 +16,6 @@ use Rattle.pcl_cert.specs.Certificates.{IsProof, AreProofs, proof_in, proofs_in}
 use Rattle.pcl_cert.specs.RowTables.{count_of, list_from, list_of, lists_within, IsListAt}
 use Rattle.pcl_cert.proofs.Numbers.{length_numbers, number_within}
 
--- the front stays where more is appended behind something that begins with it
-pub front_stays : {front : List ℕ} (text new : List ℕ) → take (length (front ++ text)) new ≡ front ++ text
-    → take (length front) new ≡ front
-front_stays {front} text new e =
-    let shorter : length front ≤ length (front ++ text) = omega (arith, length-append front text) in
-    sym (take-take (length front) (length (front ++ text)) new shorter) ∙ ap (take (length front)) e ∙ take_at front
-    text (length front) refl
-
--- a flat_map of one element more
-pub flat_more : {X : Type 0} (f : X → List ℕ) (xs : List X) {i : ℕ} (d : X) → i < length xs
-    → flat_map f (take (i + 1) xs) ≡ flat_map f (take i xs) ++ f (get_or xs i d)
-flat_more f xs {i} d lt =
-    ap (flat_map f) (take_more xs i d lt) ∙ flat_map-append f (take i xs) (get_or xs i d ∷ [])
-    ∙ ap (λ (t : List ℕ). flat_map f (take i xs) ++ t) (flat_map-cons f (get_or xs i d) [] ∙ append-nil (f (get_or xs i d)))
-
 -- ---- pages
 
 proof_at_index : {dpi : Dpi} {format : Format} (proofs : List PageProof) (i : ℕ) (d : PageProof)

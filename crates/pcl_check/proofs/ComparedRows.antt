@@ -20,12 +20,6 @@ past_rows picture {y} le =
 
 -- ---- white rows
 
-pub all_zeros : (row : List ℕ) → All (λ byte. byte ≡ 0) row → row ≡ replicate (length row) 0
-all_zeros [] h = refl
-all_zeros (byte ∷ row) h =
-    let first : byte ≡ 0 = h 0 0 (omega arith) in
-    ap (λ (b : ℕ). b ∷ row) first ∙ ap (λ (r : List ℕ). 0 ∷ r) (all_zeros row (λ k d lt. h (suc k) d (omega arith)))
-
 pub zeros_all : (n : ℕ) → All {X = ℕ} (λ byte. byte ≡ 0) (replicate n 0)
 zeros_all n = λ k d lt. get_or-replicate n k 0 d (omega (arith, length-replicate {A = ℕ} n 0))
 

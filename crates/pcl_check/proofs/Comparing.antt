@@ -1,7 +1,8 @@
 -- Rows of a text beside those of a page.
 use Rattle.std.proofs.Common.{◌≡◌, ℕ, ◌-◌, ◌≤◌, Bool, true, false, IsTrue, List, [], ◌∷◌, ◌++◌, length, take, drop, replicate, refl, sym, ap, subst, ◌∙◌, append_assoc, arith}
 use Rattle.std.specs.Prelude.{◌↔◌}
-use Rattle.std.proofs.lemmas.List.{length-append, length-replicate}
+use Rattle.std.proofs.lemmas.List.{length-append, length-replicate, append_assoc}
+use Rattle.pcl_base.proofs.Lists.{parts_of, of_parts}
 use Rattle.pcl_base.specs.declared.dpi.Dpi.{Dpi}
 use Rattle.pcl_base.specs.declared.size.Size.{Size}
 use Rattle.pcl_base.specs.Size.{page_height, page_row_bytes}
@@ -21,35 +22,7 @@ both may test outcome P says m o = (λ yes. (m, says.0 (sym o ∙ yes)), λ h. o
 pub neither : {may outcome : Bool} (P : Type 0) → may ≡ false → outcome ≡ may → IsTrue outcome ↔ (IsTrue may × P)
 neither {may} P m o = (λ yes. absurd cc, λ h. let yes : may ≡ true = h.0 in absurd cc)
 
--- ---- rows in two parts
-
--- a list begins with two others where it begins with the first and goes on with the second
-pub parts_of : (a : List (List ℕ)) {b : List (List ℕ)} (all : List (List ℕ)) → a ++ b ≡ take (length (a ++ b)) all
-    → (a ≡ take (length a) all) × (b ≡ take (length b) (drop (length a) all))
-parts_of [] all e = (refl, e)
-parts_of (row ∷ a) [] e = absurd cc
-parts_of (row ∷ a) {b} (first ∷ all) e =
-    let head : row ≡ first = cc in
-    let rest : a ++ b ≡ take (length (a ++ b)) all = cc in
-    let parts = parts_of a all rest in
-    let front : a ≡ take (length a) all = parts.0 in
-    (cc, parts.1)
-
-pub of_parts : (a : List (List ℕ)) {b : List (List ℕ)} (all : List (List ℕ)) → a ≡ take (length a) all
-    → b ≡ take (length b) (drop (length a) all)
-    → a ++ b ≡ take (length (a ++ b)) all
-of_parts [] all p q = q
-of_parts (row ∷ a) [] p q = absurd cc
-of_parts (row ∷ a) {b} (first ∷ all) p q =
-    let head : row ≡ first = cc in
-    let front : a ≡ take (length a) all = cc in
-    let rest : a ++ b ≡ take (length (a ++ b)) all = of_parts a all front q in
-    cc
-
 -- ---- moves one after the other
-
-joined : (a b c : List (List ℕ)) → (a ++ b) ++ c ≡ a ++ (b ++ c)
-joined a b c = simp append_assoc
 
 pub becomes_trans : {size : Size} {dpi : Dpi} {a : LeftOver} {given : List (List ℕ)} {b : LeftOver} {more : List (List ℕ)} {c : LeftOver}
     → GivesRows size dpi a given b → GivesRows size dpi b more c → GivesRows size dpi a (given ++ more) c
@@ -58,11 +31,11 @@ becomes_trans {size} {dpi} {a} {given} {more} first second = record {
       let one = first.splits rows p in
       let two = second.splits one.0 one.2 in (
         two.0,
-        one.1 ∙ ap (λ (z : List (List ℕ)). given ++ z) two.1 ∙ sym (joined given more two.0),
+        one.1 ∙ ap (λ (z : List (List ℕ)). given ++ z) two.1 ∙ sym (append_assoc given more two.0),
         two.2,
       );
   joins = λ rows p.
-      subst (RestPrints size dpi a) (sym (joined given more rows)) (first.joins (more ++ rows) (second.joins rows p));
+      subst (RestPrints size dpi a) (sym (append_assoc given more rows)) (first.joins (more ++ rows) (second.joins rows p));
 }
 
 pub becomes_same : {size : Size} {dpi : Dpi} {a b : LeftOver} → a ≡ b → GivesRows size dpi a [] b

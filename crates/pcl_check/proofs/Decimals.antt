@@ -2,7 +2,7 @@
 use Rattle.std.proofs.Common.{◌≡◌, ℕ, ◌≤◌, false, List, [], ◌∷◌, ◌++◌, length, take, drop, refl, sym, ap, subst, ◌∙◌, arith}
 use Rattle.std.specs.Prelude.{decimal}
 use Rattle.std.specs.List.{prefix_len}
-use Rattle.std.proofs.lemmas.List.{append-nil}
+use Rattle.std.proofs.lemmas.List.{append-nil, nil_from_length}
 use Rattle.pcl_escape.specs.Field.{is_digit, number_of}
 use Rattle.pcl_escape.specs.Pieces.{AreDigits}
 use Rattle.pcl_escape.proofs.Fronts.{StopsAt, front_split}
@@ -11,15 +11,11 @@ use Rattle.pcl_check.specs.declared.reading.parameter.Parameter.{Parameter}
 use Rattle.pcl_check.specs.Reading.{IsParameter}
 use Rattle.pcl_check.proofs.Splits.{one_split, no_split}
 
-no_bytes : (bytes : List ℕ) → length bytes ≡ 0 → bytes ≡ []
-no_bytes [] e = refl
-no_bytes (byte ∷ bytes) e = absurd (omega arith)
-
 -- nothing is behind the digits
 pub all_digits : (text : List ℕ) {behind : List ℕ} → behind ≡ drop (prefix_len is_digit text) text → length behind ≡ 0 → AreDigits text
 all_digits text {behind} e none =
     let front = front_split is_digit text in
-    let no_more : drop (prefix_len is_digit text) text ≡ [] = sym e ∙ no_bytes behind none in
+    let no_more : drop (prefix_len is_digit text) text ≡ [] = sym e ∙ nil_from_length behind none in
     let whole : text ≡ take (prefix_len is_digit text) text = front.joined
     ∙ ap (λ (z : List ℕ). take (prefix_len is_digit text) text ++ z) no_more ∙ append-nil (take (prefix_len is_digit text) text) in
     subst AreDigits (sym whole) front.pass

@@ -3,6 +3,7 @@ use Rattle.std.proofs.Common.{◌≡◌, ℕ, ◌+◌, ◌-◌, ◌/◌, ◌<◌
 use Rattle.std.specs.Prelude.{slice_index}
 use Rattle.std.proofs.lemmas.Bool.{cases_lt}
 use Rattle.std.proofs.lemmas.List.{ext_get_or, get_or-take, get_or-drop, length-drop, length-take-le, take-take, take-replicate}
+use Rattle.pcl_base.proofs.Lists.{alike_at}
 use Rattle.pcl_coders.specs.Replacement.{replacement_bytes}
 use Rattle.pcl_coders.proofs.Prefixes.{run_len_of}
 use Rattle.pcl_coders.proofs.Shapes.{near_bytes, far_bytes}
@@ -135,13 +136,6 @@ start_ends_known old row ends small are = record {
             ]
       ];
 }
-
--- a byte of two fronts that are the same
-alike_at : (old row : List ℕ) (place : ℕ) {offset : ℕ} (k : ℕ) → take offset (drop place row) ≡ take offset (drop place old) → k < offset
-    → slice_index row (place + k) ≡ slice_index old (place + k)
-alike_at old row place {offset} k alike lt =
-    sym (get_or-drop place row k 0) ∙ sym (get_or-take offset (drop place row) k 0 lt) ∙ ap (λ (bytes : List ℕ). get_or bytes k 0) alike
-    ∙ get_or-take offset (drop place old) k 0 lt ∙ get_or-drop place old k 0
 
 -- a replacement starts at the first byte that differs, or before it
 start_within : {old row ends : List ℕ} (place offset : ℕ) {len : ℕ} → AreStartEnds old row ends 0 → 0 < len

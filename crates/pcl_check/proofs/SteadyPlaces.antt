@@ -3,6 +3,7 @@ use Rattle.std.proofs.Common.{◌≡◌, ◌≢◌, ℕ, zero, suc, ◌+◌, ◌
 use Rattle.std.specs.Prelude.{slice_index}
 use Rattle.std.proofs.lemmas.Bool.{cases_lt, cases_eq}
 use Rattle.std.proofs.lemmas.List.{ext_get_or, get_or-take, get_or-drop, get_or-replicate, get_or_past, length-take, length-take-le, length-drop, length-replicate, drop-drop, drop-take}
+use Rattle.pcl_base.proofs.Lists.{alike_at, rest_of_alike, run_byte, rest_of_run}
 use Rattle.pcl_coders.specs.Replacement.{replacement_bytes}
 use Rattle.pcl_coders.proofs.Ends.{ends_at}
 use Rattle.pcl_coders.proofs.Shapes.{near_bytes, far_bytes}
@@ -43,13 +44,6 @@ end_of_need {old} {row} {end} place steady need = λ ends.
     ]
 
 -- ---- runs
-
--- a byte of a run
-run_byte : (row : List ℕ) (place count byte k : ℕ) → take count (drop place row) ≡ replicate count byte → k < count
-    → slice_index row (place + k) ≡ byte
-run_byte row place count byte k alike lt =
-    sym (get_or-drop place row k 0) ∙ sym (get_or-take count (drop place row) k 0 lt) ∙ ap (λ (bytes : List ℕ). get_or bytes k 0) alike
-    ∙ get_or-replicate count k byte 0 lt
 
 -- a run that begins before a place where the bytes change ends there or before it
 pub runs_by_stop : (row : List ℕ) {numbers : List ℕ} {most end : ℕ} (stop : ℕ) {place : ℕ} → IsSteady numbers → slice_index numbers end ≡ 0
@@ -140,13 +134,6 @@ one_byte offset = elim (cases_lt offset 31) [
 pub more_bytes : (offset cost : ℕ) → 31 ≤ offset → cost ≤ 2 + (offset - 31) / 255 → cost ≤ replacement_bytes offset
 more_bytes offset cost far le = omega (arith, far_bytes offset far)
 
--- a byte of two fronts that are the same
-alike_at : (old row : List ℕ) (place offset k : ℕ) → take offset (drop place row) ≡ take offset (drop place old) → k < offset
-    → slice_index row (place + k) ≡ slice_index old (place + k)
-alike_at old row place offset k alike lt =
-    sym (get_or-drop place row k 0) ∙ sym (get_or-take offset (drop place row) k 0 lt) ∙ ap (λ (bytes : List ℕ). get_or bytes k 0) alike
-    ∙ get_or-take offset (drop place old) k 0 lt ∙ get_or-drop place old k 0
-
 -- a replacement starts at the first byte that differs, or before it
 start_within : (old row : List ℕ) {place start : ℕ} (offset : ℕ) → place ≤ start → slice_index old start ≢ slice_index row start
     → take offset (drop place row) ≡ take offset (drop place old) → place + offset ≤ start
@@ -156,7 +143,7 @@ start_within old row {place} {start} offset order differs alike =
       | inl past ↦
           let at : place + (start - place) ≡ start = omega arith in
           absurd (differs
-          (ap (slice_index old) (sym at) ∙ sym (alike_at old row place offset (start - place) alike (omega arith))
+          (ap (slice_index old) (sym at) ∙ sym (alike_at old row place (start - place) alike (omega arith))
           ∙ ap (slice_index row) at))
     ]
 
@@ -202,20 +189,6 @@ replacements_past old row {end} {place} steady none past = λ offset len some fe
     omega (arith, steady.falls end place past, none)
 
 -- ---- from a place to the one before
-
--- the first bytes of a run, and the run from its second byte on
-rest_of_run : (row : List ℕ) (place count : ℕ) {byte : ℕ} → take (suc count) (drop place row) ≡ replicate (suc count) byte
-    → take count (drop (place + 1) row) ≡ replicate count byte
-rest_of_run row place count {byte} alike =
-    let size : length (take (suc count) (drop place row)) ≡ suc count = ap length alike ∙ length-replicate (suc count) byte in
-    let fits : suc count ≤ length (drop place row) = omega (arith, size, length-take (suc count) (drop place row)) in
-    let one : length (take count (drop (place + 1) row)) ≡ count =
-    length-take-le count (drop (place + 1) row) (omega (arith, fits, length-drop place row, length-drop (place + 1) row)) in
-    ext_get_or 0 (take count (drop (place + 1) row)) (replicate count byte) (one ∙ sym (length-replicate count byte)) (λ k below.
-    let lt : k < count = omega (arith, one) in
-    let at : place + (k + 1) ≡ place + 1 + k = omega arith in
-    get_or-take count (drop (place + 1) row) k 0 lt ∙ get_or-drop (place + 1) row k 0 ∙ ap (slice_index row) (sym at)
-    ∙ run_byte row place (suc count) byte (k + 1) alike (omega arith) ∙ sym (get_or-replicate count k byte 0 lt))
 
 -- a run of some bytes at the place before
 runs_before : {row numbers : List ℕ} {most place : ℕ} → IsSteady numbers → FallsByRun row numbers place
@@ -276,13 +249,6 @@ runs_from {row} {numbers} {most} (suc from) steady falls good k =
           subst (AreGoodRuns row numbers most) same
           (runs_before steady (falls from (omega arith)) (subst (AreGoodRuns row numbers most) next (good (suc from) (omega arith))))
     ]) k
-
--- what is the same from a place on, from the next place on
-rest_of_alike : (old row : List ℕ) (place offset : ℕ) → take (1 + offset) (drop place row) ≡ take (1 + offset) (drop place old)
-    → take offset (drop (place + 1) row) ≡ take offset (drop (place + 1) old)
-rest_of_alike old row place offset alike =
-    ap (take offset) (sym (drop-drop 1 place row)) ∙ sym (drop-take 1 offset (drop place row)) ∙ ap (drop 1) alike
-    ∙ drop-take 1 offset (drop place old) ∙ ap (take offset) (drop-drop 1 place old)
 
 bytes_grow : (offset : ℕ) → replacement_bytes offset ≤ replacement_bytes (1 + offset)
 bytes_grow offset = elim (cases_lt (1 + offset) 31) [
@@ -365,7 +331,7 @@ replacements_before {old} {row} {numbers} {place} none inside sums before falls 
     let more : suc offset ≡ 1 + offset = omega arith in
     let here : place + 0 ≡ place = omega arith in
     let same : slice_index old place ≡ slice_index row place =
-    ap (slice_index old) (sym here) ∙ sym (alike_at old row place (suc offset) 0 alike (omega arith)) ∙ ap (slice_index row) here in
+    ap (slice_index old) (sym here) ∙ sym (alike_at old row place 0 alike (omega arith)) ∙ ap (slice_index row) here in
     subst (λ (n : ℕ). slice_index numbers place ≤ replacement_bytes n + len + slice_index numbers (place + (n + len))) (sym more)
     (replaced_next old row numbers place offset len (falls.same same) next some few (omega (arith, within))
     (subst (λ (n : ℕ). take n (drop place row) ≡ take n (drop place old)) more alike))

@@ -4,6 +4,7 @@ use Rattle.std.specs.Prelude.{not, ◌↔◌}
 use Rattle.std.specs.Borrow.{Bor}
 use Rattle.std.proofs.lemmas.List.{length-append, length-replicate, take_at, drop_at}
 use Rattle.std.proofs.lemmas.Bool.Decides.{nat_tests}
+use Rattle.pcl_base.proofs.Lists.{same_fronts}
 use Rattle.pcl_base.specs.declared.method.Method.{Method}
 use Rattle.pcl_base.specs.declared.method.Method.TheVariants.{Plain, Runs, Packed, Delta}
 use Rattle.pcl_base.specs.declared.dpi.Dpi.{Dpi}
@@ -185,11 +186,6 @@ skipped picture size above below place parameter is_same inside is letter some f
 
 -- ---- rows that are sent
 
--- so many bytes at the front are the same bytes
-same_bytes : {a b x y : List ℕ} → a ++ x ≡ b ++ y → length a ≡ length b → (a ≡ b) × (x ≡ y)
-same_bytes {a} {b} {x} {y} e n = (
-  sym (take_at a x (length b) n) ∙ ap (take (length b)) e ∙ take_at b y (length b) refl,
-  sym (drop_at a x (length b) n) ∙ ap (drop (length b)) e ∙ drop_at b y (length b) refl,
 )
 
 pub few_bytes : (picture : Picture) {size : Size} {above : List ℕ} (place : Place) {parameter : Parameter}
@@ -217,7 +213,7 @@ no_row picture {size} {above} place {parameter} more inside is letter le n parts
     no_send
     (told picture size above place parameter inside is) letter
     (λ sent behind first m joined some row row_data.
-    let same = same_bytes (sym joined ∙ parts) (omega (arith, is.number_is, m, n)) in
+    let same = same_fronts _ _ (omega (arith, is.number_is, m, n)) (sym joined ∙ parts) in
     none some first row (subst (λ (z : List ℕ). IsRowData place.method above first z) same.0 row_data))
     printed
 

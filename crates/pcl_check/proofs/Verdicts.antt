@@ -2,7 +2,7 @@
 use Rattle.std.proofs.Common.{◌≡◌, ℕ, ◌<◌, Bool, true, false, IsTrue, List, ◌++◌, length, take, Some, None, refl, sym, ap, subst, ◌∙◌, append_assoc, arith}
 use Rattle.std.specs.Prelude.{◌↔◌}
 use Rattle.std.specs.List.{flat_map}
-use Rattle.std.proofs.lemmas.List.{take_all, append_cancel_left}
+use Rattle.std.proofs.lemmas.List.{take_all, append_cancel_left, append_assoc}
 use Rattle.pcl_base.specs.declared.dpi.Dpi.{Dpi}
 use Rattle.pcl_base.specs.declared.size.Size.{Size}
 use Rattle.pcl_base.specs.declared.size.Size.TheVariants.{Executive, Letter, Legal, A4}
@@ -20,9 +20,6 @@ use Rattle.pcl_check.proofs.Beginnings.{start_is, code_small, size_coded, size_r
 
 -- ---- a begin and a body
 
-joined : (a b c : List ℕ) → a ++ (b ++ c) ≡ (a ++ b) ++ c
-joined a b c = simp append_assoc
-
 pub printed_text : {dpi : Dpi} {size : Size} {copies : ℕ} {rows : List (List ℕ)} {text rest : List ℕ} → 0 < copies → copies < 100
     → text ≡ start_bytes dpi copies size ++ rest → RestPrints size dpi (body_of size dpi rest) rows → IsPageText dpi size copies rows text
 printed_text {dpi} {size} {copies} some few e p = record {
@@ -32,7 +29,7 @@ printed_text {dpi} {size} {copies} some few e p = record {
   rows_are = p.rows_are;
   tokens = p.tokens;
   spelled = e ∙ ap (λ (z : List ℕ). start_bytes dpi copies size ++ z) p.spelled
-      ∙ joined (start_bytes dpi copies size) (flat_map token_bytes p.tokens) end_bytes;
+      ∙ sym (append_assoc (start_bytes dpi copies size) (flat_map token_bytes p.tokens) end_bytes);
   prints = p.prints;
 }
 
@@ -41,7 +38,7 @@ pub text_body : {dpi : Dpi} {size : Size} {copies : ℕ} {rows : List (List ℕ)
     → (rest : List ℕ) × (text ≡ start_bytes dpi copies size ++ rest) × RestPrints size dpi (body_of size dpi rest) rows
 text_body {dpi} {size} {copies} is = (
   flat_map token_bytes is.tokens ++ end_bytes,
-  is.spelled ∙ sym (joined (start_bytes dpi copies size) (flat_map token_bytes is.tokens) end_bytes),
+  is.spelled ∙ append_assoc (start_bytes dpi copies size) (flat_map token_bytes is.tokens) end_bytes,
   record { count = is.count; rows_are = is.rows_are; tokens = is.tokens; spelled = refl; prints = is.prints },
 )
 

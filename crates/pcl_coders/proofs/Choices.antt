@@ -3,6 +3,7 @@ use Rattle.std.proofs.Common.{◌≡◌, ℕ, ◌+◌, ◌-◌, ◌*◌, ◌<◌
 use Rattle.std.specs.Prelude.{slice_index, flat_map}
 use Rattle.std.proofs.lemmas.Bool.{cases_lt}
 use Rattle.std.proofs.lemmas.List.{take_at, drop_at, drop-drop, take-append-drop, take-take, take-replicate, length-append, length-drop, length-take-le, length-replicate, get_or-drop}
+use Rattle.pcl_base.proofs.Lists.{once_each, run_part}
 use Rattle.pcl_base.specs.declared.method.Method.{Method}
 use Rattle.pcl_base.specs.declared.method.Method.TheVariants.{Plain, Runs, Packed, Delta}
 use Rattle.pcl_rows.specs.Heads.{Head, head_bytes, offset_of}
@@ -15,7 +16,7 @@ use Rattle.pcl_coders.specs.declared.shape.Shape.{Shape}
 use Rattle.pcl_coders.specs.declared.shape.Shape.TheVariants.{SingleByte, Run, LiteralRun, RepeatRun, Replace}
 use Rattle.pcl_coders.specs.Shape.{element_of, shape_stop, IsShapeWithin, IsShapeChoice, IsReplacement}
 use Rattle.pcl_coders.proofs.RowWalks.{stop_within}
-use Rattle.pcl_coders.proofs.Shapes.{given_once, given_copies, IsRepeat, plain_shape, runs_shape, packed_shape, delta_shape, replacement_is}
+use Rattle.pcl_coders.proofs.Shapes.{given_copies, IsRepeat, plain_shape, runs_shape, packed_shape, delta_shape, replacement_is}
 
 -- ---- elements that agree with the wanted bytes
 
@@ -87,11 +88,6 @@ step_choice {numbers} e some sum-is below = record {
 abbrev given_by_copies : ℕ → List ℕ → List ℕ
 given_by_copies k new = flat_map (λ byte. replicate k byte) new
 
--- the front of a run
-run_part : (wanted : List ℕ) {run len : ℕ} (byte : ℕ) → len ≤ run → take run wanted ≡ replicate run byte
-    → take len wanted ≡ replicate len byte
-run_part wanted {run} {len} byte part all = sym (take-take len run wanted part) ∙ ap (take len) all ∙ take-replicate len run byte part
-
 pub first_byte : (wanted : List ℕ) → 0 < length wanted → take 1 wanted ≡ slice_index wanted 0 ∷ []
 first_byte [] some = absurd (omega arith)
 first_byte (b ∷ wanted) some = refl
@@ -104,7 +100,7 @@ run_some {wanted} place is = is.longest 1 (slice_index wanted 0) place.some (fir
 pub byte_step : (old wanted : List ℕ) → 0 < length wanted → IsShapeElement Plain old wanted SingleByte 1
 byte_step old wanted some =
     let size : length (take 1 wanted) ≡ 1 = length-take-le 1 wanted (omega arith) in
-    let a = agrees_by old (element_of SingleByte wanted) 1 refl (given_once (take 1 wanted)) (omega arith) in
+    let a = agrees_by old (element_of SingleByte wanted) 1 refl (once_each (take 1 wanted)) (omega arith) in
     record {
       within = omega arith;
       element = record { head_is = record { method_is = refl; in_range = tt }; complete = size };
@@ -152,7 +148,7 @@ pub literal_step : (old wanted : List ℕ) (len : ℕ) → 1 ≤ len → len ≤
     → IsShapeElement Packed old wanted (LiteralRun len) (1 + len)
 literal_step old wanted len some few within =
     let size : length (take len wanted) ≡ len = length-take-le len wanted within in
-    let a = agrees_by old (element_of (LiteralRun len) wanted) len refl (given_once (take len wanted)) (omega arith) in
+    let a = agrees_by old (element_of (LiteralRun len) wanted) len refl (once_each (take len wanted)) (omega arith) in
     record {
       within = (some, few, within);
       element = record { head_is = record { method_is = refl; in_range = omega arith }; complete = omega (arith, size) };
@@ -170,7 +166,7 @@ replace_step old wanted offset len some few within same =
     let new : List ℕ = take len (drop offset wanted) in
     let size : length new ≡ len = length-take-le len (drop offset wanted) (omega (arith, length-drop offset wanted)) in
     let at : offset_of h ≡ offset = is.offset_is in
-    let once : given_by h new ≡ new = ap (λ (k : ℕ). given_by_copies k new) is.copies_is ∙ given_once new in
+    let once : given_by h new ≡ new = ap (λ (k : ℕ). given_by_copies k new) is.copies_is ∙ once_each new in
     let gives : given_by h new ≡ take len (drop (offset_of h) wanted) = once ∙ ap (λ (n : ℕ). take len (drop n wanted)) (sym at) in
     let left : take (offset_of h) wanted ≡ take (offset_of h) old =
     ap (λ (n : ℕ). take n wanted) at ∙ same ∙ ap (λ (n : ℕ). take n old) (sym at) in

@@ -376,13 +376,6 @@ appended_all {method} {old} {row} {before} {place} right none a =
           a.joined ∙ ap (λ (es : List Element). before ++ flat_map element_bytes es) (sym (append-nil a.done));
     }
 
--- what stood there before still stands in front
-pub front_stays : {before now : List ℕ} (now' more : List ℕ) → now ≡ before ++ more → take (length now) now' ≡ now
-    → take (length before) now' ≡ before
-front_stays {before} {now} now' more joined front =
-    sym (take-take (length before) (length now) now' (omega (arith, ap length joined, length-append before more)))
-    ∙ ap (take (length before)) (front ∙ joined) ∙ take_at before more (length before) refl
-
 -- what was appended is least
 pub appends_least : {method : Method} {seed row old table before now : List ℕ} → IsCodable seed row → length table ≡ length row + 1
     → old ≡ base method seed → AreRightFrom method old row table 0

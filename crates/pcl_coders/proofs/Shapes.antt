@@ -3,15 +3,11 @@ use Rattle.std.proofs.Common.{◌≡◌, ℕ, ◌+◌, ◌-◌, ◌*◌, ◌/◌
 use Rattle.std.specs.List.{flat_map}
 use Rattle.std.proofs.lemmas.Bool.{ltb-true, ltb-false, lt-ltb, le-ltb}
 use Rattle.std.proofs.lemmas.List.{append-nil, length-append, length-replicate}
+use Rattle.pcl_base.proofs.Lists.{once_each}
 use Rattle.pcl_base.specs.declared.method.Method.TheVariants.{Plain, Runs, Packed, Delta}
 use Rattle.pcl_rows.specs.Heads.{Head, Itself, Count, Literal, Skipped, Repeat, Near, Far, method_of, IsInRange, head_bytes, new_count, offset_of, copies_of}
 use Rattle.pcl_rows.specs.Elements.{given_by}
 use Rattle.pcl_coders.specs.Replacement.{replacement, replacement_bytes}
-
--- bytes that are given once
-pub given_once : (bytes : List ℕ) → flat_map (λ byte. replicate 1 byte) bytes ≡ bytes
-given_once [] = refl
-given_once (b ∷ bytes) = ap (λ (bs : List ℕ). b ∷ bs) (given_once bytes)
 
 -- a list of one byte
 pub one_byte : (bytes : List ℕ) → length bytes ≡ 1 → (byte : ℕ) × (bytes ≡ byte ∷ [])
@@ -41,7 +37,7 @@ pub record IsLiteral (h : Head) (bytes : List ℕ) (most head : ℕ) : Type 0 wh
 
 pub plain_shape : (h : Head) {bytes : List ℕ} → method_of h ≡ Plain → length bytes ≡ new_count h → (offset_of h ≡ 0) × IsLiteral h bytes 1 0
 plain_shape Itself {bytes} m c = let l =
-    ap length (given_once bytes) in (refl, record { above = omega (arith, l); below = omega (arith, l); bytes_are = omega (arith, l) })
+    ap length (once_each bytes) in (refl, record { above = omega (arith, l); below = omega (arith, l); bytes_are = omega (arith, l) })
 plain_shape h m c = absurd cc
 
 pub runs_shape : (h : Head) {bytes : List ℕ} → method_of h ≡ Runs → IsInRange h → length bytes ≡ new_count h
@@ -64,7 +60,7 @@ runs_shape h m r c = absurd cc
 pub packed_shape : (h : Head) (bytes : List ℕ) → method_of h ≡ Packed → IsInRange h → length bytes ≡ new_count h
     → 0 < offset_of h + length (given_by h bytes) → (offset_of h ≡ 0) × (IsRepeat h bytes 2 128 ⊎ IsLiteral h bytes 128 1)
 packed_shape (Literal n) bytes m r c some =
-    let l = ap length (given_once bytes) in
+    let l = ap length (once_each bytes) in
     (refl, inr record { above = omega (arith, l, c); below = omega (arith, l, c); bytes_are = omega (arith, l) })
 packed_shape (Repeat n) bytes m r c some =
     let b = one_byte bytes c in (
@@ -93,10 +89,10 @@ far_bytes offset above = rw (le-ltb offset 31 above) refl
 pub delta_shape : (h : Head) {bytes : List ℕ} → method_of h ≡ Delta → IsInRange h → length bytes ≡ new_count h
     → IsLiteral h bytes 8 (replacement_bytes (offset_of h))
 delta_shape (Near more offset) {bytes} m r c =
-    let l = ap length (given_once bytes) in
+    let l = ap length (once_each bytes) in
     record { above = omega (arith, l, c); below = omega (arith, l, c, r.0); bytes_are = omega (arith, l, near_bytes offset r.1) }
 delta_shape (Far more full last) {bytes} m r c =
-    let l = ap length (given_once bytes) in
+    let l = ap length (once_each bytes) in
     let offset : ℕ = 31 + 255 * full + last in
     let last_below : last < 255 = r.1 in
     let count : (offset - 31) / 255 ≡ full = omega arith in

@@ -7,6 +7,7 @@ use Rattle.std.specs.Str.{bytes_eq}
 use Rattle.std.proofs.lemmas.List.{map-append}
 use Rattle.std.proofs.lemmas.List.Elements.{filter-append}
 use Rattle.std.proofs.lemmas.Bool.Decides.{nat_tests}
+use Rattle.pcl_base.proofs.Lists.{full_front, longer_front}
 use Rattle.pcl_escape.specs.Exit.{is_blank, squeezed, names_language, names_pcl}
 
 -- a byte behind the line says what it says alone
@@ -15,19 +16,6 @@ squeezed_more line byte =
     ap (map to_ascii_uppercase) (filter-append (λ (byte : ℕ). not (is_blank byte)) line (byte ∷ []))
     ∙ map-append to_ascii_uppercase (filter (λ (byte : ℕ). not (is_blank byte)) line)
     (filter (λ (byte : ℕ). not (is_blank byte)) (byte ∷ []))
-
--- a front that has all its bytes stays
-full_front : (n : ℕ) (said : List ℕ) (byte : ℕ) → length (take n said) ≡ n → take n said ≡ take n (said ++ byte ∷ [])
-full_front zero said byte e = refl
-full_front (suc n) [] byte e = absurd (omega arith)
-full_front (suc n) (first ∷ said) byte e = ap (λ (bs : List ℕ). first ∷ bs) (full_front n said byte (omega arith))
-
--- one that lacks bytes takes one more
-longer_front : (n : ℕ) (said : List ℕ) (byte : ℕ) → length (take n said) < n → take n said ++ byte ∷ [] ≡ take n (said ++ byte ∷ [])
-longer_front zero said byte h = absurd (omega arith)
-longer_front (suc zero) [] byte h = refl
-longer_front (suc (suc n)) [] byte h = refl
-longer_front (suc n) (first ∷ said) byte h = ap (λ (bs : List ℕ). first ∷ bs) (longer_front n said byte (omega arith))
 
 -- ---- one byte more of the line
 

@@ -3,6 +3,7 @@ use Rattle.std.proofs.Common.{◌≡◌, ℕ, suc, ◌+◌, ◌-◌, ◌<◌, Bo
 use Rattle.std.proofs.lemmas.Bool.{eqb-true}
 use Rattle.std.proofs.lemmas.Bool.Decides.{nat_tests}
 use Rattle.std.specs.List.{prefix_len}
+use Rattle.std.proofs.lemmas.List.{nil_from_length}
 use Rattle.pcl_base.specs.declared.name.Name.TheVariants.{Empty, One}
 use Rattle.pcl_base.specs.declared.kind.Kind.TheVariants.{Truncated, BadSequence, UnsupportedCommand, NotPcl}
 use Rattle.pcl_base.specs.declared.operation.Operation.{Operation}
@@ -91,11 +92,6 @@ percent = record { parameterized = 37; group = None }
 abbrev exit_parameter : Spelled → Parameter
 exit_parameter field = record { field = field; letter = 88 }
 
--- a list of no length
-no_bytes : (bytes : List ℕ) → length bytes ≡ 0 → bytes ≡ []
-no_bytes [] e = refl
-no_bytes (byte ∷ bytes) e = absurd (omega arith)
-
 -- the bytes of a universal exit with its lines, and what is behind them
 pub exit_joined : (field : Spelled) (lines rest : List ℕ)
     → (field_bytes field ++ 88 ∷ lines) ++ rest ≡ parameter_bytes (exit_parameter field) ++ (lines ++ rest)
@@ -169,7 +165,7 @@ leave_step : {at : ℕ} {field : Spelled} {sent : List ℕ} (rest : List ℕ) {b
 leave_step {at} {field} {sent} rest {letter} is x =
     let spelled = exit_spelled (field_value field) is.letter x in
     let here : LeavesAt at field sent rest 37 88 = λ last leaving. exit_at rest last leaving
-    (no_bytes sent (exit_takes_none 88 (field_value field) (length sent) last.checks)) in
+    (nil_from_length sent (exit_takes_none 88 (field_value field) (length sent) last.checks)) in
     subst₂ (LeavesAt at field sent rest) spelled.0 spelled.1 here is x
 
 -- ---- sequences without a group character

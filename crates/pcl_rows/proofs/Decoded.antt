@@ -3,20 +3,17 @@ use Rattle.std.proofs.Common.{◌≡◌, ℕ, zero, suc, ◌+◌, ◌-◌, ◌*�
 use Rattle.std.specs.List.{flat_map}
 use Rattle.std.proofs.lemmas.Bool.Decides.{nat_tests}
 use Rattle.std.proofs.lemmas.List.{take_at, drop_at, take_all, drop_all, take-append-drop, length-replicate}
+use Rattle.std.proofs.Math.Seq.{drop-nil}
+use Rattle.pcl_base.proofs.Lists.{once_each}
 use Rattle.pcl_base.specs.declared.method.Method.{Method}
 use Rattle.pcl_rows.specs.Heads.{Head, Itself, Count, Literal, Skipped, Repeat, Near, Far, method_of, IsInRange, head_bytes, new_count, copies_of, offset_of}
 use Rattle.pcl_rows.specs.Elements.{Element, IsElement, element_bytes, given_by}
 use Rattle.pcl_rows.specs.Rows.{base, after_element, IsCutIntoElements, treated, Decodes}
 use Rattle.pcl_rows.specs.Decoding.{Front, literal, further, front_of, treated_by, decoded}
-use Rattle.pcl_rows.proofs.Readings.{after_none, drop-nil}
+use Rattle.pcl_rows.proofs.Readings.{after_none}
 use Rattle.pcl_rows.proofs.Spellings.{spelling_has_byte}
 
 -- ---- the front of data that begins with a whole element
-
--- new bytes that are given once
-given_once : (new : List ℕ) → flat_map (λ (byte : ℕ). replicate 1 byte) new ≡ new
-given_once [] = refl
-given_once (byte ∷ new) = ap (λ (bs : List ℕ). byte ∷ bs) (given_once new)
 
 -- so many bytes at the front of data
 literal_at : {offset count : ℕ} {new more : List ℕ} → length new ≡ count
@@ -65,7 +62,7 @@ whole_front (Literal control) new more r n =
       split = refl;
       front_is = rw low
           (literal_at n ∙ ap (λ (g : List ℕ). record { offset = 0; given = g; rest = more })
-          (sym (given_once new)));
+          (sym (once_each new)));
     }
 whole_front Skipped [] more r n = record { byte = 128; rest = more; split = refl; front_is = refl }
 whole_front Skipped (byte ∷ new) more r n = absurd (omega arith)
@@ -91,7 +88,7 @@ whole_front (Near count offset) new more r n =
       split = refl;
       front_is = rw (low, high, near)
           (literal_at n
-          ∙ ap (λ (g : List ℕ). record { offset = offset; given = g; rest = more }) (sym (given_once new)));
+          ∙ ap (λ (g : List ℕ). record { offset = offset; given = g; rest = more }) (sym (once_each new)));
     }
 whole_front (Far count full last) new more r n =
     let low : (32 * count + 31) % 32 ≡ 31 = omega arith in
@@ -103,7 +100,7 @@ whole_front (Far count full last) new more r n =
           (append_assoc (replicate full 255 ++ last ∷ []) new more ∙ append_assoc (replicate full 255) (last ∷ []) (new ++ more));
       front_is =
           rw (low, high) (further_at full 31 (count + 1) (new ++ more) r.1 ∙ literal_at n
-          ∙ ap (λ (g : List ℕ). record { offset = 31 + 255 * full + last; given = g; rest = more }) (sym (given_once new)));
+          ∙ ap (λ (g : List ℕ). record { offset = 31 + 255 * full + last; given = g; rest = more }) (sym (once_each new)));
     }
 
 -- ---- the front of data that a cut element ends
@@ -147,7 +144,7 @@ ends_once {head} {byte} {rest} {new} one f d = record {
   no_more = ap (λ (x : Front). x.rest) f;
   same = λ old.
       let once : given_by head (drop (length (head_bytes head)) (byte ∷ rest)) ≡ new =
-      ap (given_by head) d ∙ ap (λ (n : ℕ). flat_map (λ (b : ℕ). replicate n b) new) one ∙ given_once new in
+      ap (given_by head) d ∙ ap (λ (n : ℕ). flat_map (λ (b : ℕ). replicate n b) new) one ∙ once_each new in
       ap (λ (x : Front). last_of x old) f ∙ ap (λ (g : List ℕ). take (offset_of head) old ++ (g ++ drop (offset_of head + length g) old))
       (sym once);
 }

@@ -4,6 +4,7 @@ use Rattle.std.proofs.lemmas.Bool.{cases_lt}
 use Rattle.std.proofs.lemmas.List.{append-nil, take-append-le, take_at, drop_at, drop-drop, take_all, drop_all, take-append-drop, length-append, length-take, length-drop, take-take, take_more, length-replicate, replicate-append-replicate}
 use Rattle.std.specs.List.{flat_map}
 use Rattle.std.proofs.lemmas.List.Concat.{flat_map-append}
+use Rattle.pcl_base.proofs.Lists.{once_each, flat_more}
 use Rattle.pcl_rows.specs.Fronts.{overlaid}
 
 -- where the new bytes fit
@@ -69,11 +70,6 @@ overlaid_copies old {place} copies {fitting} byte within e =
           overlaid_within old place (replicate copies byte) (omega (arith, length-replicate copies byte))
           ∙ rw (length-replicate copies byte, all) refl
     ]
-
--- each byte once
-once_each : (bytes : List ℕ) → flat_map (λ byte. replicate 1 byte) bytes ≡ bytes
-once_each [] = refl
-once_each (byte ∷ bytes) = ap (λ (rest : List ℕ). byte ∷ rest) (once_each bytes)
 
 pub copied_once : {copies : ℕ} (bytes : List ℕ) → copies ≡ 1 → flat_map (λ byte. replicate copies byte) bytes ≡ bytes
 copied_once bytes once = ap (λ (k : ℕ). flat_map (λ byte. replicate k byte) bytes) once ∙ once_each bytes
@@ -147,10 +143,7 @@ copied copies count bytes = flat_map (λ byte. replicate copies byte) (take coun
 
 copied_more : (copies : ℕ) {i : ℕ} (bytes : List ℕ) → i < length bytes
     → copied copies (i + 1) bytes ≡ copied copies i bytes ++ replicate copies (get_or bytes i 0)
-copied_more copies {i} bytes within =
-    ap (flat_map (λ byte. replicate copies byte)) (take_more bytes i 0 within)
-    ∙ flat_map-append (λ byte. replicate copies byte) (take i bytes) (get_or bytes i 0 ∷ [])
-    ∙ ap (λ (bs : List ℕ). copied copies i bytes ++ bs) (append-nil (replicate copies (get_or bytes i 0)))
+copied_more copies bytes within = flat_more (λ byte. replicate copies byte) bytes 0 within
 
 -- one more byte
 pub put_more : (old : List ℕ) {row : List ℕ} {start place : ℕ} (copies : ℕ) {i : ℕ} (bytes : List ℕ) {new : List ℕ} {end : ℕ}

@@ -3,8 +3,9 @@ use Rattle.std.proofs.Common.{◌≡◌, ℕ, zero, suc, ◌+◌, ◌-◌, ◌*�
 use Rattle.std.specs.Prelude.{MatchBool}
 use Rattle.std.specs.List.{flat_map}
 use Rattle.std.proofs.lemmas.Bool.{cases_lt}
-use Rattle.std.proofs.Math.Seq.{take-add}
+use Rattle.std.proofs.Math.Seq.{take-add, drop-nil}
 use Rattle.std.proofs.lemmas.List.{take_min, take-append-drop, length-append, length-drop, drop-drop, drop_all, take_all, length-replicate}
+use Rattle.pcl_base.proofs.Lists.{length-copied}
 use Rattle.pcl_base.specs.declared.method.Method.{Method}
 use Rattle.pcl_base.specs.declared.method.Method.TheVariants.{Plain, Runs, Packed, Delta}
 use Rattle.pcl_rows.specs.Heads.{Head, Itself, Count, Skipped, Near, head_bytes, copies_of, offset_of}
@@ -19,15 +20,6 @@ abbrev pub Fills : Method → List ℕ → List ℕ → List ℕ → Type 0
 Fills method bytes old row =
     (whole : List Element) × (cut : Element) × (shown : List ℕ) × IsCutIntoElements method bytes whole cut shown
     × (row ≡ treated whole cut shown old)
-
-pub drop-nil : (n : ℕ) → drop {A = ℕ} n [] ≡ []
-drop-nil zero = refl
-drop-nil (suc n) = refl
-
-pub length-copied : (copies : ℕ) (bytes : List ℕ) → length (flat_map (λ byte. replicate copies byte) bytes) ≡ copies * length bytes
-length-copied copies [] = omega arith
-length-copied copies (b ∷ bytes) = length-append (replicate copies b) (flat_map (λ byte. replicate copies byte) bytes)
-    ∙ omega (arith, length-copied copies bytes, length-replicate copies b)
 
 -- an element without new bytes changes nothing
 pub after_none : (h : Head) {new : List ℕ} (old : List ℕ) → new ≡ [] → after_element h new (λ rest. rest) old ≡ old

@@ -1,6 +1,7 @@
 -- No element begins another.
 use Rattle.std.proofs.Common.{◌≡◌, ℕ, zero, suc, ◌+◌, ◌*◌, ◌<◌, List, [], ◌∷◌, ◌++◌, length, replicate, refl, sym, ap, ◌∙◌, append_assoc, arith}
 use Rattle.std.proofs.lemmas.List.{append-nil, length-append}
+use Rattle.pcl_base.proofs.Lists.{same_fronts}
 use Rattle.pcl_base.specs.declared.method.Method.{Method}
 use Rattle.pcl_rows.specs.Heads.{Head, Itself, Count, Literal, Skipped, Repeat, Near, Far, method_of, IsInRange, head_bytes, new_count}
 use Rattle.pcl_rows.specs.Elements.{Element, IsHead, IsElement, element_bytes}
@@ -46,17 +47,6 @@ heads_agree h h' m p q e = absurd cc
 pub same_heads : {method : Method} {h h' : Head} {x y : List ℕ} → IsHead method h → IsHead method h'
     → head_bytes h ++ x ≡ head_bytes h' ++ y → (h ≡ h') × (x ≡ y)
 same_heads {h} {h'} p q e = heads_agree h h' (p.method_is ∙ sym q.method_is) p.in_range q.in_range e
-
--- lists of one length before the same bytes
-same_fronts : (a b : List ℕ) {x y : List ℕ} → length a ≡ length b → a ++ x ≡ b ++ y → (a ≡ b) × (x ≡ y)
-same_fronts [] [] l e = (refl, e)
-same_fronts [] (d ∷ b) l e = absurd cc
-same_fronts (c ∷ a) [] l e = absurd cc
-same_fronts (c ∷ a) (d ∷ b) {x} {y} l e =
-    let sizes : length a ≡ length b = cc in
-    let rests : a ++ x ≡ b ++ y = cc in
-    let r = same_fronts a b sizes rests in
-    let h = r.0 in let i : c ≡ d = cc in (cc, r.1)
 
 same_parts : {d e : Element} → d.head ≡ e.head → d.bytes ≡ e.bytes → d ≡ e
 same_parts {d} {e} p q =

@@ -1,6 +1,7 @@
 -- A job whose pages are all answered Proved is.
 use Rattle.std.proofs.Common.{◌≡◌, ℕ, List, [], ◌∷◌, ◌++◌, length, Result, Ok, Err, refl, sym, ap, subst, ◌∙◌, append_assoc, arith}
 use Rattle.std.proofs.lemmas.List.{length-append, append_cancel_left, append_cancel_right}
+use Rattle.pcl_base.proofs.Lists.{same_fronts}
 use Rattle.pcl_base.specs.declared.dpi.Dpi.{Dpi}
 use Rattle.pcl_page.specs.Situation.{Sheet}
 use Rattle.pcl_page.specs.Jobs.{HasPages}
@@ -43,16 +44,6 @@ proved_length dpi (sheet ∷ sheets) texts (proof ∷ proofs) p =
 
 -- ---- texts that are cut at the same place
 
-cut_same : (a : List ℕ) {b : List ℕ} (c : List ℕ) {d : List ℕ} → length a ≡ length c → a ++ b ≡ c ++ d → (a ≡ c) × (b ≡ d)
-cut_same [] [] n e = (refl, e)
-cut_same [] (y ∷ c) n e = absurd (omega arith)
-cut_same (x ∷ a) [] n e = absurd (omega arith)
-cut_same (x ∷ a) {b} (y ∷ c) {d} n e =
-    let heads : x ≡ y = cc in
-    let tails : a ++ b ≡ c ++ d = cc in
-    let rest = cut_same a c (omega (arith, n)) tails in
-    (ap (λ (z : ℕ). z ∷ a) heads ∙ ap (λ (l : List ℕ). y ∷ l) rest.0, rest.1)
-
 -- what stands behind pages and texts that are proved
 proved_behind : {dpi : Dpi} (before : List Sheet) {sheet : Sheet} (behind : List Sheet) (proofs_before : List PageProof) (proof : PageProof)
     (proofs_behind : List PageProof) {texts : List ℕ} (texts_before : List ℕ) {rest : List ℕ}
@@ -67,7 +58,7 @@ proved_behind (first ∷ before) behind [] proof proofs_behind texts_before none
 proved_behind (first ∷ before) behind (one ∷ proofs_before) proof proofs_behind texts_before {rest} b e p =
     let whole : p.1 ++ p.2 ≡ b.1 ++ (b.2 ++ rest) =
     sym p.4 ∙ e ∙ ap (λ (t : List ℕ). t ++ rest) b.4 ∙ append_assoc b.1 b.2 rest in
-    let cut = cut_same p.1 b.1 (p.5 ∙ sym b.5) whole in
+    let cut = same_fronts p.1 b.1 (p.5 ∙ sym b.5) whole in
     proved_behind before behind proofs_before proof proofs_behind b.2 b.7 cut.1 p.7
 
 pub none_fails : {dpi : Dpi} {pages : List Sheet} {texts : List ℕ} {proofs : List PageProof} {number : ℕ} {verdict : Verdict}
@@ -78,7 +69,7 @@ none_fails {dpi} {texts} {proofs} {verdict} p f =
     (subst (λ (ss : List Sheet). AreProved dpi ss texts proofs) f.pages_are p) in
     let here = proved_behind f.pages_before f.pages_behind f.proofs_before f.proof f.proofs_behind f.texts_before f.proved_before
     f.texts_are whole in
-    let cut = cut_same f.text here.1 (f.as_long ∙ sym here.5) here.4 in
+    let cut = same_fronts f.text here.1 (f.as_long ∙ sym here.5) here.4 in
     f.not_proved
     (verdict_again f.proof.table (tables_of f.proof.places) verdict
     (pages_same here.3 f.shows)

@@ -1,6 +1,6 @@
 -- What the checker of pages has found behind the last page.
 use Rattle.std.proofs.Common.{◌≡◌, ℕ, ◌+◌, ◌≤◌, List, [], ◌∷◌, ◌++◌, length, take, drop, refl, sym, ap, subst, ◌∙◌, append_assoc, arith}
-use Rattle.std.proofs.lemmas.List.{length-drop, length-take-le, take-append-drop, drop-drop}
+use Rattle.std.proofs.lemmas.List.{length-drop, length-take-le, take-append-drop, drop-drop, nil_from_length}
 use Rattle.pcl_base.specs.declared.dpi.Dpi.{Dpi}
 use Rattle.pcl_page.specs.declared.page.Page.{Page}
 use Rattle.pcl_page.specs.Situation.{Sheet}
@@ -217,15 +217,11 @@ at_page sheets texts proof taken new (job.Certificate fault) f is shows e n t lo
 at_page sheets texts proof taken new job.PageCount f is shows e n t long same h follows = absurd is
 at_page sheets texts proof taken new job.Frame f is shows e n t long same h follows = absurd is
 
-empty_texts : (texts : List ℕ) → length texts ≡ 0 → texts ≡ []
-empty_texts [] e = refl
-empty_texts (byte ∷ texts) e = absurd (omega arith)
-
 pub outcome : (dpi : Dpi) (sheets : List Sheet) {texts : List ℕ} (proofs : List PageProof) {taken : ℕ} {old : Checker} (new : Checker)
     → Follows dpi sheets texts proofs taken old new
 outcome dpi [] {texts} [] {taken} new = λ f n left same h. (
   ap proofs_left h ∙ left.proofs_are,
-  subst (IsOutcome dpi [] texts [] taken) (sym (ap (λ (c : Checker). c.found) h ∙ f)) (empty_texts texts left.as_long),
+  subst (IsOutcome dpi [] texts [] taken) (sym (ap (λ (c : Checker). c.found) h ∙ f)) (nil_from_length texts left.as_long),
 )
 outcome dpi [] (proof ∷ proofs) new = λ f n left same h. absurd (omega (arith, same))
 outcome dpi (sheet ∷ sheets) [] new = λ f n left same h. absurd (omega (arith, same))

@@ -32,10 +32,6 @@ use Rattle.pcl_plan.proofs.LeastWalks.{step_is_least, sent_is_least}
 use Rattle.pcl_writer.specs.declared.place.Place.{Place}
 use Rattle.pcl_writer.specs.Steps.{width_of, above, IsBitmapPlan, IsWritable, HasRowData, AppendsRow, AppendsStep, IsPlaceBehind, AppendsBody}
 
--- what was there is the front of what is
-pub front_is : {old new : List ℕ} (more : List ℕ) → new ≡ old ++ more → take (length old) new ≡ old
-front_is {old} more e = ap (take (length old)) e ∙ take_at old more (length old) refl
-
 pub page_joined : (old : List ℕ) {one two three : List ℕ} (start body tail : List ℕ) → one ≡ old ++ start → two ≡ one ++ body
     → three ≡ two ++ tail → three
     ≡ old ++ (start ++ body ++ tail)

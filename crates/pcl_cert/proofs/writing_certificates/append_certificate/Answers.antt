@@ -1,8 +1,9 @@
 use Rattle.std.proofs.Common.{◌≡◌, ◌++◌, List, ℕ, take, length, ◌∙◌, append_assoc}
 use Rattle.std.specs.Int.{w32, to_be_bytes}
 use Rattle.std.specs.List.{flat_map}
+use Rattle.pcl_base.proofs.Lists.{front_stays}
 use Rattle.pcl_cert.specs.Certificates.{magic, proof_bytes, proofs_in}
-use Rattle.pcl_cert.proofs.Written.{front_stays, proof_is}
+use Rattle.pcl_cert.proofs.Written.{proof_is}
 use Rattle.pcl_cert.proofs.writing_certificates.append_certificate.Goals as goal
 
 pub append_proof-requires : goal.append_proof-requires
@@ -17,4 +18,4 @@ returns-in_err-append_proof-clause-front c =
     let head : List ℕ = magic c.args.format ++ to_be_bytes w32 (length c.args.proofs.now) in
     let pages : List ℕ = flat_map proof_bytes (proofs_in c.args.format (take c.loop-proof.proof-index c.args.proofs.now)) in
     let joined : c.loop-proof.out.items ≡ c.args.out.now.items ++ (head ++ pages) = c.loop-proof.invariant ∙ simp append_assoc in
-    front_stays (head ++ pages) c.append_proof.new.out.items (rw (← joined) c.append_proof.ensures.front)
+    front_stays c.append_proof.new.out.items (head ++ pages) joined c.append_proof.ensures.front

@@ -1,13 +1,13 @@
 use Rattle.std.proofs.Common.{◌++◌, take, ap, sym, ◌∙◌, append_assoc, arith}
+use Rattle.pcl_base.proofs.Lists.{flat_more, front_stays}
 use Rattle.pcl_plan.specs.Table.{no_numbers}
 use Rattle.pcl_cert.specs.Certificates.{row_bytes, table_bytes}
-use Rattle.pcl_cert.proofs.Written.{front_stays, flat_more}
 use Rattle.pcl_cert.proofs.writing_certificates.append_table.Goals as goal
 
 pub returns-in_err-append_row-clause-front : goal.returns-in_err-append_row-clause-front
 returns-in_err-append_row-clause-front c =
-    front_stays (table_bytes (take c.loop-row.row c.args.table.now)) c.append_row.new.out.items
-    (rw (← c.loop-row.invariant) c.append_row.ensures.front)
+    front_stays c.append_row.new.out.items (table_bytes (take c.loop-row.row c.args.table.now)) c.loop-row.invariant
+    c.append_row.ensures.front
 
 pub loop-row-preserved : goal.loop-row-preserved
 loop-row-preserved c =

@@ -4,8 +4,9 @@ use Rattle.pcl_coders.specs.Shape.{element_of}
 use Rattle.std.specs.Prelude.{slice_index}
 use Rattle.pcl_rows.specs.Elements.{element_bytes}
 use Rattle.std.specs.List.{flat_map}
+use Rattle.pcl_base.proofs.Lists.{front_stays}
 use Rattle.pcl_coders.proofs.Along.{right_from_drop}
-use Rattle.pcl_coders.proofs.Filling.{appended_more, appended_all, choice_to_ends, front_stays}
+use Rattle.pcl_coders.proofs.Filling.{appended_more, appended_all, choice_to_ends}
 use Rattle.pcl_coders.proofs.table.append_steps.Goals as goal
 
 pub returns-in_err-append-clause-err : goal.returns-in_err-append-clause-err

@@ -2,20 +2,21 @@ use Rattle.std.proofs.Common.{◌≡◌, ◌+◌, [], List, length, drop, refl, 
 use Rattle.std.specs.Prelude.{Bool, ◌==◌, slice_index_or}
 use Rattle.std.proofs.Math.ListN.{drop_of_length-le}
 use Rattle.std.proofs.lemmas.List.{append-nil, drop_more}
+use Rattle.pcl_base.proofs.Lists.{joined_front}
 use Rattle.pcl_base.specs.Size.{page_height}
 use Rattle.pcl_plan.specs.declared.step.Step.{Step}
 use Rattle.pcl_plan.specs.declared.step.Step.TheVariants.{Skip}
 use Rattle.pcl_plan.specs.Plans.{is_last}
 use Rattle.pcl_plan.proofs.RowsFrom.{length_rows}
 use Rattle.pcl_writer.specs.Steps.{width_of, AppendsStep, IsPlaceBehind}
-use Rattle.pcl_writer.proofs.Bodies.{IsWrittenTo, front_is, begin, writable, written_more, written_all, ends_at, height_small}
+use Rattle.pcl_writer.proofs.Bodies.{IsWrittenTo, begin, writable, written_more, written_all, ends_at, height_small}
 use Rattle.pcl_writer.proofs.body.append_body.Goals as goal
 
 pub loop-i-init : goal.loop-i-init
 loop-i-init c =
     let old = c.args.out.now.items in
     record {
-      front = front_is [] (sym (append-nil old));
+      front = joined_front [] (sym (append-nil old));
       written = subst (λ (steps : List Step). IsWrittenTo c.args.bitmap.now c.args.plan.now old old steps _) (sym c.steps-steps.ensures)
           (begin c.args.bitmap.now c.args.plan.now old _ c.requires refl refl);
     }
@@ -58,7 +59,7 @@ loop-i-preserved c =
     let appends = subst (λ (e : Bool). AppendsStep picture c.loop-i.place step e now new) (sym ends) c.in_ok-append_step.ensures.ok in
     let moves = subst (λ (e : Bool). IsPlaceBehind c.loop-i.place step e c.behind-place.result) (sym ends) c.behind-place.ensures in
     let written = written_more c.requires before appends moves in
-    record { front = front_is _ written.spelled; written = written }
+    record { front = joined_front _ written.spelled; written = written }
 
 pub returns-clause-ok : goal.returns-clause-ok
 returns-clause-ok c =
