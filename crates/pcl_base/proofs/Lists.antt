@@ -1,7 +1,8 @@
 -- Facts of lists that the crates share: fronts and what is behind them, copies, and bytes that are given more than once.
-use Rattle.std.proofs.Common.{◌≡◌, ℕ, zero, suc, ◌+◌, ◌*◌, ◌<◌, ◌≤◌, List, [], ◌∷◌, ◌++◌, length, take, drop, replicate, get_or, refl, sym, ap, ◌∙◌, arith}
+use Rattle.std.proofs.Common.{◌≡◌, ◌≢◌, ℕ, zero, suc, ◌+◌, ◌-◌, ◌*◌, ◌<◌, ◌≤◌, inl, inr, List, [], ◌∷◌, ◌++◌, length, take, drop, replicate, get_or, refl, sym, ap, ◌∙◌, arith}
 use Rattle.std.specs.Prelude.{slice_index, flat_map, All}
-use Rattle.std.proofs.lemmas.List.{ext_get_or, get_or-take, get_or-drop, get_or-replicate, take_at, take_more, take-take, take-replicate, drop-drop, drop-take, length-append, length-take, length-take-le, length-drop, length-replicate, append-nil}
+use Rattle.std.proofs.lemmas.List.{ext_get_or, get_or-take, get_or-drop, get_or-replicate, take_at, take_more, take-take, take-replicate, drop-drop, drop-take, length-append, length-take, length-take-le, length-drop, length-replicate, append-nil, get_or_past}
+use Rattle.std.proofs.lemmas.Bool.{cases_lt}
 use Rattle.std.proofs.lemmas.List.Concat.{flat_map-cons}
 use Rattle.std.proofs.lemmas.Grind.{flat_map-append}
 
@@ -76,7 +77,38 @@ rest_of_alike old row place count alike =
     ap (take count) (sym (drop-drop 1 place row)) ∙ sym (drop-take 1 count (drop place row)) ∙ ap (drop 1) alike
     ∙ drop-take 1 count (drop place old) ∙ ap (take count) (drop-drop 1 place old)
 
+pub start_within : (old row : List ℕ) {place start : ℕ} (offset : ℕ) → place ≤ start → slice_index old start ≢ slice_index row start
+    → take offset (drop place row) ≡ take offset (drop place old) → place + offset ≤ start
+start_within old row {place} {start} offset order differs alike =
+    elim (cases_lt start (place + offset)) [
+      | inr le ↦ le
+      | inl past ↦
+          let at : place + (start - place) ≡ start = omega arith in
+          absurd (differs
+          (ap (slice_index old) (sym at) ∙ sym (alike_at old row place (start - place) alike (omega arith))
+          ∙ ap (slice_index row) at))
+    ]
+
 -- ---- copies of one element
+
+pub more_copies : (n : ℕ) {row : List ℕ} (all : List (List ℕ)) → replicate n row ≡ take n all → row ∷ [] ≡ take 1 (drop n all)
+    → replicate (suc n) row ≡ take (suc n) all
+more_copies zero all e one = one
+more_copies (suc n) [] e one = absurd cc
+more_copies (suc n) {row} (first ∷ all) e one =
+    let head : row ≡ first = cc in
+    let rest : replicate n row ≡ take n all = cc in
+    let more : replicate (suc n) row ≡ take (suc n) all = more_copies n all rest one in
+    cc
+
+pub one_of_copies : (n count : ℕ) {row : List ℕ} (all : List (List ℕ)) → n < count → replicate count row ≡ take count all
+    → row ∷ [] ≡ take 1 (drop n all)
+one_of_copies n zero all lt e = absurd (omega arith)
+one_of_copies zero (suc count) [] lt e = absurd cc
+one_of_copies zero (suc count) {row} (first ∷ all) lt e = let head : row ≡ first = cc in ap (λ (r : List ℕ). r ∷ []) head
+one_of_copies (suc n) (suc count) [] lt e = absurd cc
+one_of_copies (suc n) (suc count) {row} (first ∷ all) lt e =
+    let rest : replicate count row ≡ take count all = cc in one_of_copies n count all (omega arith) rest
 
 pub all_zeros : (row : List ℕ) → All (λ byte. byte ≡ 0) row → row ≡ replicate (length row) 0
 all_zeros [] h = refl
@@ -107,6 +139,30 @@ rest_of_run row place count {byte} alike =
     get_or-take count (drop (place + 1) row) k 0 lt ∙ get_or-drop (place + 1) row k 0 ∙ ap (slice_index row) (sym at)
     ∙ run_byte row place (suc count) byte (k + 1) alike (omega arith) ∙ sym (get_or-replicate count k byte 0 lt))
 
+pub first_of_run : (wanted : List ℕ) {count : ℕ} (byte : ℕ) → 0 < count → take count wanted ≡ replicate count byte
+    → take count wanted ≡ replicate count (slice_index wanted 0)
+first_of_run wanted {count} byte some alike =
+    let first : byte ≡ slice_index wanted 0 =
+    sym (get_or-replicate count 0 byte 0 some) ∙ ap (λ (bytes : List ℕ). get_or bytes 0 0) (sym alike) ∙ get_or-take count wanted 0 0 some
+    in
+    alike ∙ ap (replicate count) first
+
+pub run_behind : (wanted : List ℕ) {len : ℕ} (byte : ℕ) → 1 ≤ len → take (len + 1) wanted ≡ replicate (len + 1) byte
+    → take len (drop 1 wanted) ≡ replicate len (slice_index (drop 1 wanted) 0)
+run_behind wanted {len} byte some alike =
+    let long : len + 1 ≤ length wanted =
+    omega (arith, sym (length-take (len + 1) wanted) ∙ ap length alike ∙ length-replicate (len + 1) byte) in
+    let each : (i : ℕ) → i < len + 1 → get_or wanted i 0 ≡ byte =
+    λ i h. sym (get_or-take (len + 1) wanted i 0 h) ∙ ap (λ (xs : List ℕ). get_or xs i 0) alike
+    ∙ get_or-replicate (len + 1) i byte 0 h in
+    let first : slice_index (drop 1 wanted) 0 ≡ byte = get_or-drop 1 wanted 0 0 ∙ each 1 (omega arith) in
+    let size : length (take len (drop 1 wanted)) ≡ len = length-take-le len (drop 1 wanted) (omega (arith, length-drop 1 wanted)) in
+    ext_get_or 0 (take len (drop 1 wanted)) (replicate len (slice_index (drop 1 wanted) 0))
+    (size ∙ sym (length-replicate len (slice_index (drop 1 wanted) 0))) (λ i below.
+    let inside : i < len = omega arith in
+    get_or-take len (drop 1 wanted) i 0 inside ∙ get_or-drop 1 wanted i 0 ∙ each (1 + i) (omega arith) ∙ sym first
+    ∙ sym (get_or-replicate len i (slice_index (drop 1 wanted) 0) 0 inside))
+
 -- ---- each byte given so often
 
 pub once_each : (bytes : List ℕ) → flat_map (λ byte. replicate 1 byte) bytes ≡ bytes
@@ -124,3 +180,26 @@ pub flat_more : {X : Type 0} (f : X → List ℕ) (xs : List X) {i : ℕ} (d : X
 flat_more f xs {i} d lt =
     ap (flat_map f) (take_more xs i d lt) ∙ flat_map-append f (take i xs) (get_or xs i d ∷ [])
     ∙ ap (λ (t : List ℕ). flat_map f (take i xs) ++ t) (flat_map-cons f (get_or xs i d) [] ∙ append-nil (f (get_or xs i d)))
+
+-- ---- single bytes and numbers
+
+pub first_byte : (wanted : List ℕ) → 0 < length wanted → take 1 wanted ≡ slice_index wanted 0 ∷ []
+first_byte [] some = absurd (omega arith)
+first_byte (b ∷ wanted) some = refl
+
+pub single_byte : (bytes : List ℕ) → length bytes ≡ 1 → (byte : ℕ) × (bytes ≡ byte ∷ [])
+single_byte [] e = absurd (omega arith)
+single_byte (b ∷ []) e = (b, refl)
+single_byte (b ∷ c ∷ bytes) e = absurd (omega arith)
+
+-- numbers that never grow from one place to the next never grow
+pub falls_on : (numbers : List ℕ) → ((k : ℕ) → k + 1 < length numbers → slice_index numbers (k + 1) ≤ slice_index numbers k)
+    → (place gap : ℕ) → slice_index numbers (place + gap) ≤ slice_index numbers place
+falls_on numbers falls place zero = let at : place + 0 ≡ place = omega arith in omega (arith, ap (slice_index numbers) at)
+falls_on numbers falls place (suc gap) =
+    let next : place + suc gap ≡ place + gap + 1 = omega arith in
+    elim (cases_lt (place + gap + 1) (length numbers)) [
+      | inl inside ↦
+          omega (arith, falls_on numbers falls place gap, falls (place + gap) inside, ap (slice_index numbers) next)
+      | inr past ↦ omega (arith, get_or_past numbers (place + gap + 1) 0 past, ap (slice_index numbers) next)
+    ]

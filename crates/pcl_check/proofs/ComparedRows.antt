@@ -23,23 +23,3 @@ past_rows picture {y} le =
 pub zeros_all : (n : ℕ) → All {X = ℕ} (λ byte. byte ≡ 0) (replicate n 0)
 zeros_all n = λ k d lt. get_or-replicate n k 0 d (omega (arith, length-replicate {A = ℕ} n 0))
 
--- one more row that is the same
-pub more_rows : (n : ℕ) {row : List ℕ} (all : List (List ℕ)) → replicate n row ≡ take n all → row ∷ [] ≡ take 1 (drop n all)
-    → replicate (suc n) row ≡ take (suc n) all
-more_rows zero all e one = one
-more_rows (suc n) [] e one = absurd cc
-more_rows (suc n) {row} (first ∷ all) e one =
-    let head : row ≡ first = cc in
-    let rest : replicate n row ≡ take n all = cc in
-    let more : replicate (suc n) row ≡ take (suc n) all = more_rows n all rest one in
-    cc
-
--- each of the rows that are the same
-pub one_row : (n count : ℕ) {row : List ℕ} (all : List (List ℕ)) → n < count → replicate count row ≡ take count all
-    → row ∷ [] ≡ take 1 (drop n all)
-one_row n zero all lt e = absurd (omega arith)
-one_row zero (suc count) [] lt e = absurd cc
-one_row zero (suc count) {row} (first ∷ all) lt e = let head : row ≡ first = cc in ap (λ (r : List ℕ). r ∷ []) head
-one_row (suc n) (suc count) [] lt e = absurd cc
-one_row (suc n) (suc count) {row} (first ∷ all) lt e =
-    let rest : replicate count row ≡ take count all = cc in one_row n count all (omega arith) rest

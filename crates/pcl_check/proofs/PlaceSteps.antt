@@ -15,6 +15,7 @@ use Rattle.pcl_coders.proofs.Choices.{IsShapeElement, agrees_gives, byte_step, r
 use Rattle.pcl_check.specs.Places.{IsGoodPlace, FindsPlace, FindsBadPlace}
 use Rattle.pcl_check.specs.PlacePasses.{IsGoodByte, AreGoodRuns, AreGoodLiterals, AreGoodReplacements, AreGoodSteps}
 use Rattle.std.specs.Prelude.{Option, Some, None}
+use Rattle.pcl_base.proofs.Lists.{first_of_run}
 
 -- ---- from kinds to elements
 
@@ -135,15 +136,6 @@ pub bytes_of_steps : (old : List ℕ) {row : List ℕ} (numbers : List ℕ) {pla
 bytes_of_steps old {row} numbers {place} size good = λ inside.
     shape_kept numbers
     (byte_step (drop place old) (drop place row) (omega (arith, length-drop place row, size))) good
-
--- the byte of a run is its first one
-first_of_run : (wanted : List ℕ) {count : ℕ} (byte : ℕ) → 0 < count → take count wanted ≡ replicate count byte
-    → take count wanted ≡ replicate count (slice_index wanted 0)
-first_of_run wanted {count} byte some alike =
-    let first : byte ≡ slice_index wanted 0 =
-    sym (get_or-replicate count 0 byte 0 some) ∙ ap (λ (bytes : List ℕ). get_or bytes 0 0) (sym alike) ∙ get_or-take count wanted 0 0 some
-    in
-    alike ∙ ap (replicate count) first
 
 pub runs_of_steps : (old : List ℕ) {row : List ℕ} (numbers : List ℕ) {place : ℕ} → AreGoodSteps Runs old row numbers place
     → AreGoodRuns row numbers 256 place

@@ -3,7 +3,7 @@ use Rattle.std.proofs.Common.{◌≡◌, ◌≢◌, ℕ, zero, suc, ◌+◌, ◌
 use Rattle.std.specs.Prelude.{slice_index}
 use Rattle.std.proofs.lemmas.Bool.{cases_lt, cases_eq}
 use Rattle.std.proofs.lemmas.List.{ext_get_or, get_or-take, get_or-drop, get_or-replicate, get_or_past, length-take, length-take-le, length-drop, length-replicate, drop-drop, drop-take}
-use Rattle.pcl_base.proofs.Lists.{alike_at, rest_of_alike, run_byte, rest_of_run}
+use Rattle.pcl_base.proofs.Lists.{alike_at, rest_of_alike, run_byte, rest_of_run, falls_on, start_within}
 use Rattle.pcl_coders.specs.Replacement.{replacement_bytes}
 use Rattle.pcl_coders.proofs.Ends.{ends_at}
 use Rattle.pcl_coders.proofs.Shapes.{near_bytes, far_bytes}
@@ -11,18 +11,6 @@ use Rattle.pcl_check.specs.PlacePasses.{IsGoodEnd, AreGoodRuns, AreGoodLiterals,
 use Rattle.pcl_check.specs.SteadyNumbers.{IsSteady, IsNeedEnd, FallsByRun, FallsByStart, AreLeastSums, TakesBehind, IsKeptBefore}
 
 -- ---- steady numbers
-
--- numbers that don't rise from a place to the next are above none before them
-falls_on : (numbers : List ℕ) → ((k : ℕ) → k + 1 < length numbers → slice_index numbers (k + 1) ≤ slice_index numbers k)
-    → (place gap : ℕ) → slice_index numbers (place + gap) ≤ slice_index numbers place
-falls_on numbers falls place zero = let at : place + 0 ≡ place = omega arith in omega (arith, ap (slice_index numbers) at)
-falls_on numbers falls place (suc gap) =
-    let next : place + suc gap ≡ place + gap + 1 = omega arith in
-    elim (cases_lt (place + gap + 1) (length numbers)) [
-      | inl inside ↦
-          omega (arith, falls_on numbers falls place gap, falls (place + gap) inside, ap (slice_index numbers) next)
-      | inr past ↦ omega (arith, get_or_past numbers (place + gap + 1) 0 past, ap (slice_index numbers) next)
-    ]
 
 pub steady_by : {numbers : List ℕ} → slice_index numbers 0 ≤ 1200
     → ((k : ℕ) → k + 1 < length numbers → slice_index numbers (k + 1) ≤ slice_index numbers k) → IsSteady numbers
@@ -133,19 +121,6 @@ one_byte offset = elim (cases_lt offset 31) [
 
 pub more_bytes : (offset cost : ℕ) → 31 ≤ offset → cost ≤ 2 + (offset - 31) / 255 → cost ≤ replacement_bytes offset
 more_bytes offset cost far le = omega (arith, far_bytes offset far)
-
--- a replacement starts at the first byte that differs, or before it
-start_within : (old row : List ℕ) {place start : ℕ} (offset : ℕ) → place ≤ start → slice_index old start ≢ slice_index row start
-    → take offset (drop place row) ≡ take offset (drop place old) → place + offset ≤ start
-start_within old row {place} {start} offset order differs alike =
-    elim (cases_lt start (place + offset)) [
-      | inr le ↦ le
-      | inl past ↦
-          let at : place + (start - place) ≡ start = omega arith in
-          absurd (differs
-          (ap (slice_index old) (sym at) ∙ sym (alike_at old row place (start - place) alike (omega arith))
-          ∙ ap (slice_index row) at))
-    ]
 
 -- the least sum of a front, where the numbers are 0 behind it
 front_sums : (numbers least : List ℕ) {end : ℕ} (place stop : ℕ) → end < length numbers → AreLeastSums (take (end + 1) numbers) 8 least

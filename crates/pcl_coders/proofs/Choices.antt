@@ -3,7 +3,7 @@ use Rattle.std.proofs.Common.{◌≡◌, ℕ, ◌+◌, ◌-◌, ◌*◌, ◌<◌
 use Rattle.std.specs.Prelude.{slice_index, flat_map}
 use Rattle.std.proofs.lemmas.Bool.{cases_lt}
 use Rattle.std.proofs.lemmas.List.{take_at, drop_at, drop-drop, take-append-drop, take-take, take-replicate, length-append, length-drop, length-take-le, length-replicate, get_or-drop}
-use Rattle.pcl_base.proofs.Lists.{once_each, run_part}
+use Rattle.pcl_base.proofs.Lists.{once_each, run_part, first_byte}
 use Rattle.pcl_base.specs.declared.method.Method.{Method}
 use Rattle.pcl_base.specs.declared.method.Method.TheVariants.{Plain, Runs, Packed, Delta}
 use Rattle.pcl_rows.specs.Heads.{Head, head_bytes, offset_of}
@@ -87,10 +87,6 @@ step_choice {numbers} e some sum-is below = record {
 -- each byte so many times
 abbrev given_by_copies : ℕ → List ℕ → List ℕ
 given_by_copies k new = flat_map (λ byte. replicate k byte) new
-
-pub first_byte : (wanted : List ℕ) → 0 < length wanted → take 1 wanted ≡ slice_index wanted 0 ∷ []
-first_byte [] some = absurd (omega arith)
-first_byte (b ∷ wanted) some = refl
 
 -- a run has a byte
 pub run_some : {wanted numbers : List ℕ} {run : ℕ} → IsPlace wanted numbers → IsRunLen wanted run → 1 ≤ run

@@ -5,6 +5,7 @@ use Rattle.std.specs.List.{flat_map}
 use Rattle.std.proofs.lemmas.Bool.{cases_lt}
 use Rattle.std.proofs.lemmas.List.{append-nil, take_at, take-take, drop-drop, drop_all, length-append, length-drop, get_or-drop, get_or-set_same, get_or-set_other, get_or_past, take_rest, drop_more}
 use Rattle.std.proofs.lemmas.List.Concat.{flat_map-append}
+use Rattle.pcl_base.proofs.Lists.{first_byte}
 use Rattle.pcl_base.specs.declared.method.Method.{Method}
 use Rattle.pcl_base.specs.declared.method.Method.TheVariants.{Plain, Runs, Packed, Delta}
 use Rattle.pcl_rows.specs.Elements.{Element, IsElement, element_bytes, stop}
@@ -18,7 +19,7 @@ use Rattle.pcl_coders.specs.declared.shape.Shape.{Shape}
 use Rattle.pcl_coders.specs.Shape.{element_of, shape_stop, IsShapeChoice}
 use Rattle.pcl_coders.proofs.Walks.{feasible_bounds, attained_is_least}
 use Rattle.pcl_coders.proofs.RowWalks.{length-base, total_is, stop_within, walk_of_data, data_of_walk}
-use Rattle.pcl_coders.proofs.Choices.{IsShapeElement, byte_step, run_step, literal_step, replace_step, first_byte}
+use Rattle.pcl_coders.proofs.Choices.{IsShapeElement, byte_step, run_step, literal_step, replace_step}
 
 -- ---- an element of one byte, for each method
 

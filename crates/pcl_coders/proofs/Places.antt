@@ -3,6 +3,7 @@ use Rattle.std.proofs.Common.{◌≡◌, ◌≢◌, ℕ, zero, suc, ◌+◌, ◌
 use Rattle.std.specs.Prelude.{slice_index}
 use Rattle.std.proofs.lemmas.Bool.{cases_lt}
 use Rattle.std.proofs.lemmas.List.{ext_get_or, drop-drop, length-drop, length-take, length-take-le, length-replicate, get_or-drop, get_or-take, get_or-replicate, get_or-set_same}
+use Rattle.pcl_base.proofs.Lists.{run_behind}
 use Rattle.pcl_base.specs.declared.method.Method.{Method}
 use Rattle.pcl_base.specs.declared.method.Method.TheVariants.{Plain, Runs, Packed, Delta}
 use Rattle.pcl_bitmap.specs.Kernels.{IsFirstDifference, IsRunEnd}
@@ -91,23 +92,6 @@ shorter_of {wanted} e {shape} s stops few = (
         omega (arith, s.bytes_are, few);
   },
 )
-
--- a run without its first byte
-run_behind : (wanted : List ℕ) {len : ℕ} (byte : ℕ) → 1 ≤ len → take (len + 1) wanted ≡ replicate (len + 1) byte
-    → take len (drop 1 wanted) ≡ replicate len (slice_index (drop 1 wanted) 0)
-run_behind wanted {len} byte some alike =
-    let long : len + 1 ≤ length wanted =
-    omega (arith, sym (length-take (len + 1) wanted) ∙ ap length alike ∙ length-replicate (len + 1) byte) in
-    let each : (i : ℕ) → i < len + 1 → get_or wanted i 0 ≡ byte =
-    λ i h. sym (get_or-take (len + 1) wanted i 0 h) ∙ ap (λ (xs : List ℕ). get_or xs i 0) alike
-    ∙ get_or-replicate (len + 1) i byte 0 h in
-    let first : slice_index (drop 1 wanted) 0 ≡ byte = get_or-drop 1 wanted 0 0 ∙ each 1 (omega arith) in
-    let size : length (take len (drop 1 wanted)) ≡ len = length-take-le len (drop 1 wanted) (omega (arith, length-drop 1 wanted)) in
-    ext_get_or 0 (take len (drop 1 wanted)) (replicate len (slice_index (drop 1 wanted) 0))
-    (size ∙ sym (length-replicate len (slice_index (drop 1 wanted) 0))) (λ i below.
-    let inside : i < len = omega arith in
-    get_or-take len (drop 1 wanted) i 0 inside ∙ get_or-drop 1 wanted i 0 ∙ each (1 + i) (omega arith) ∙ sym first
-    ∙ sym (get_or-replicate len i (slice_index (drop 1 wanted) 0) 0 inside))
 
 shorter_run : (old wanted : List ℕ) (e : Element) → length old ≡ length wanted → IsElement Runs e → Agrees old wanted e → 1 < stop e
     → (d : Element) × IsShorter Runs old wanted e d

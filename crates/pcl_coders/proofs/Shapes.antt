@@ -3,17 +3,11 @@ use Rattle.std.proofs.Common.{◌≡◌, ℕ, ◌+◌, ◌-◌, ◌*◌, ◌/◌
 use Rattle.std.specs.List.{flat_map}
 use Rattle.std.proofs.lemmas.Bool.{ltb-true, ltb-false, lt-ltb, le-ltb}
 use Rattle.std.proofs.lemmas.List.{append-nil, length-append, length-replicate}
-use Rattle.pcl_base.proofs.Lists.{once_each}
+use Rattle.pcl_base.proofs.Lists.{once_each, single_byte}
 use Rattle.pcl_base.specs.declared.method.Method.TheVariants.{Plain, Runs, Packed, Delta}
 use Rattle.pcl_rows.specs.Heads.{Head, Itself, Count, Literal, Skipped, Repeat, Near, Far, method_of, IsInRange, head_bytes, new_count, offset_of, copies_of}
 use Rattle.pcl_rows.specs.Elements.{given_by}
 use Rattle.pcl_coders.specs.Replacement.{replacement, replacement_bytes}
-
--- a list of one byte
-pub one_byte : (bytes : List ℕ) → length bytes ≡ 1 → (byte : ℕ) × (bytes ≡ byte ∷ [])
-one_byte [] e = absurd (omega arith)
-one_byte (b ∷ []) e = (b, refl)
-one_byte (b ∷ c ∷ bytes) e = absurd (omega arith)
 
 -- one byte that is repeated
 pub given_copies : (copies : ℕ) {bytes : List ℕ} {byte : ℕ} → bytes ≡ byte ∷ []
@@ -43,7 +37,7 @@ plain_shape h m c = absurd cc
 pub runs_shape : (h : Head) {bytes : List ℕ} → method_of h ≡ Runs → IsInRange h → length bytes ≡ new_count h
     → (offset_of h ≡ 0) × IsRepeat h bytes 1 256
 runs_shape (Count n) {bytes} m r c =
-    let b = one_byte bytes c in (
+    let b = single_byte bytes c in (
       refl,
       record {
         count = n + 1;
@@ -63,7 +57,7 @@ packed_shape (Literal n) bytes m r c some =
     let l = ap length (once_each bytes) in
     (refl, inr record { above = omega (arith, l, c); below = omega (arith, l, c); bytes_are = omega (arith, l) })
 packed_shape (Repeat n) bytes m r c some =
-    let b = one_byte bytes c in (
+    let b = single_byte bytes c in (
       refl,
       inl
           record {

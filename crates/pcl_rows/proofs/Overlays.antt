@@ -1,9 +1,8 @@
 -- A list over another one from a place on.
-use Rattle.std.proofs.Common.{◌≡◌, ℕ, ◌+◌, ◌-◌, ◌<◌, ◌≤◌, min, List, [], ◌∷◌, ◌++◌, length, get_or, take, drop, replicate, refl, sym, ap, ◌∙◌, inl, inr, append_assoc, add-zero, arith}
+use Rattle.std.proofs.Common.{◌≡◌, ℕ, ◌+◌, ◌-◌, ◌<◌, ◌≤◌, min, List, [], ◌++◌, length, get_or, take, drop, replicate, refl, sym, ap, ◌∙◌, inl, inr, append_assoc, add-zero, arith}
 use Rattle.std.proofs.lemmas.Bool.{cases_lt}
-use Rattle.std.proofs.lemmas.List.{append-nil, take-append-le, take_at, drop_at, drop-drop, take_all, drop_all, take-append-drop, length-append, length-take, length-drop, take-take, take_more, length-replicate, replicate-append-replicate}
+use Rattle.std.proofs.lemmas.List.{append-nil, take-append-le, take_at, drop_at, drop-drop, take_all, drop_all, take-append-drop, length-append, length-take, length-drop, take-take, length-replicate, replicate-append-replicate}
 use Rattle.std.specs.List.{flat_map}
-use Rattle.std.proofs.lemmas.List.Concat.{flat_map-append}
 use Rattle.pcl_base.proofs.Lists.{once_each, flat_more}
 use Rattle.pcl_rows.specs.Fronts.{overlaid}
 

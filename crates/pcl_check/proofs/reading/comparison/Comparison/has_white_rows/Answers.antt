@@ -1,8 +1,8 @@
 use Rattle.std.proofs.Common.{◌≡◌, ◌+◌, ◌-◌, ℕ, suc, List, take, drop, replicate, sym, ap, subst, ◌∙◌, true, false, refl, arith}
 use Rattle.std.proofs.lemmas.List.{drop-drop}
+use Rattle.pcl_base.proofs.Lists.{more_copies, one_of_copies}
 use Rattle.pcl_base.specs.Size.{page_row_bytes}
 use Rattle.pcl_plan.specs.PageText.{bitmap_rows}
-use Rattle.pcl_check.proofs.ComparedRows.{more_rows, one_row}
 use Rattle.pcl_check.proofs.reading.comparison.Comparison.has_white_rows.Goals as goal
 
 pub returns-then-not-has_white_row : goal.returns-then-not-has_white_row
@@ -15,7 +15,7 @@ returns-then-not-has_white_row c =
       λ yes. absurd cc,
       λ e. absurd
           (let no : false ≡ true = c.if-not-has_white_row.ensures.1
-          (one_row n c.args.count (drop c.args.y rows) (omega arith) e ∙ ap (take 1) at) in cc),
+          (one_of_copies n c.args.count (drop c.args.y rows) (omega arith) e ∙ ap (take 1) at) in cc),
     )
 
 pub loop-row-preserved : goal.loop-row-preserved
@@ -27,4 +27,4 @@ loop-row-preserved c =
     drop-drop n c.args.y rows ∙ (let same : c.args.y + n ≡ c.loop-row.row = omega arith in ap (λ (y : ℕ). drop y rows) same) in
     let more : suc n ≡ c.loop-row.row + 1 - c.args.y = omega arith in
     subst (λ (k : ℕ). replicate k white ≡ take k (drop c.args.y rows)) more
-    (more_rows n (drop c.args.y rows) c.loop-row.invariant (c.if-not-has_white_row.ensures.0 refl ∙ ap (take 1) (sym at)))
+    (more_copies n (drop c.args.y rows) c.loop-row.invariant (c.if-not-has_white_row.ensures.0 refl ∙ ap (take 1) (sym at)))
