@@ -1,3 +1,4 @@
+use super::assert_gives;
 use pcl_base::{Dpi, Size};
 use pcl_bitmap::{Bitmap, Ink, same_dots_same_bitmap};
 use std::process::Abort;
@@ -16,12 +17,17 @@ const BYTES_AT_300: [Byte; 7] = [
     (3506, 292, 0xC0),
 ];
 
+/// Row `y` of a page, which has one.
+fn row_of<'a>(rt: &impl Abort, page: &'a Bitmap, y: u32) -> &'a [u8] {
+    assert!(rt; y < page.size().height(page.dpi()));
+    page.row(y)
+}
+
 fn assert_bytes(rt: &impl Abort, page: &Bitmap, row_bytes: usize, bytes: &[Byte]) {
     for (y, place, byte) in bytes {
-        assert!(rt; *y < page.size().height(page.dpi()));
-        let row = page.row(*y);
-        assert_eq!(rt; row.len(), row_bytes);
-        assert_eq!(rt; row.get(*place), Some(byte), "row {y}, byte {place}");
+        let row = row_of(rt, page, *y);
+        let given = (row.len(), row.get(*place).copied());
+        assert_gives(rt, &(*y, *place), &given, &(row_bytes, Some(*byte)));
     }
 }
 
@@ -29,18 +35,26 @@ fn assert_bytes(rt: &impl Abort, page: &Bitmap, row_bytes: usize, bytes: &[Byte]
 #[test]
 fn paints_at_300(rt: HostRuntime) -> Result<(), Fail> {
     let mut page = Bitmap::new(rt.alloc(), Size::A4, Dpi::Dpi300)?;
-    assert_eq!(rt; page.size(), Size::A4);
-    assert_eq!(rt; page.dpi(), Dpi::Dpi300);
+    assert_gives(
+        &rt,
+        &"new",
+        &(page.size(), page.dpi()),
+        &(Size::A4, Dpi::Dpi300),
+    );
     page.paint_row(3, 1, 1, 12, &[0xFF, 0xFF]);
     page.paint_row(0, 1, 1, 8, &[0x81]);
     page.paint_row(2332, 3506, 1, 16, &[0xFF, 0xFF]);
     page.paint_row(2338, 0, 1, 8, &[0xFF]);
     page.paint_row(0, 3507, 1, 8, &[0xFF]);
     assert_bytes(&rt, &page, 293, &BYTES_AT_300);
-    assert!(rt; page.is_blank(0));
-    assert!(rt; !page.is_blank(1));
+    let blank = (page.is_blank(0), page.is_blank(1));
     page.clear();
-    assert!(rt; page.is_blank(1));
+    assert_gives(
+        &rt,
+        &"blank",
+        &(blank, page.is_blank(1)),
+        &((true, false), true),
+    );
     Ok(())
 }
 
@@ -84,19 +98,23 @@ fn is_set(byte: u8, x: u32) -> bool {
     (byte << (x % 8)) & 0x80 != 0
 }
 
-// Compares the dots of some rows and columns, each from a first one to before a last one, with what is drawn.
-fn assert_dots(rt: &impl Abort, page: &Bitmap, ys: [u32; 2], xs: [u32; 2], drawn: Drawn) {
-    for y in ys[0]..ys[1] {
-        assert!(rt; y < page.size().height(page.dpi()));
-        assert_row(rt, page.row(y), y, xs, drawn);
+/// Some rows and columns of a page, each from a first one to before a last one.
+type Part = ([u32; 2], [u32; 2]);
+
+// Compares the dots of some parts of a page with what is drawn.
+fn assert_drawn(rt: &impl Abort, page: &Bitmap, parts: &[Part], drawn: Drawn) {
+    for (ys, xs) in parts {
+        for y in ys[0]..ys[1] {
+            assert_row(rt, row_of(rt, page, y), y, *xs, drawn);
+        }
     }
 }
 
-// The same of one row. Its dots from 2338 on are past the page.
+// The same of some dots of a row. Those from 2338 on are past the page.
 fn assert_row(rt: &impl Abort, row: &[u8], y: u32, xs: [u32; 2], drawn: Drawn) {
     for x in xs[0]..xs[1] {
-        let expected = x < 2338 && drawn.is_black(x, y);
-        assert_eq!(rt; is_black(row, x), expected, "dot ({x}, {y})");
+        let wanted = x < 2338 && drawn.is_black(x, y);
+        assert_gives(rt, &(x, y), &is_black(row, x), &wanted);
     }
 }
 
@@ -120,9 +138,9 @@ const RECTANGLES: [(u32, u32, u64, u64, Ink); 12] = [
 // The ink of the last rectangle that covers the dot.
 fn is_black_by_rectangles(x: u32, y: u32) -> bool {
     let mut black = false;
-    for (left, top, width, height, ink) in RECTANGLES {
-        if covers(left, width, x) && covers(top, height, y) {
-            black = ink == Ink::Black;
+    for (left, top, width, height, ink) in &RECTANGLES {
+        if covers(*left, *width, x) && covers(*top, *height, y) {
+            black = *ink == Ink::Black;
         }
     }
     black
@@ -134,14 +152,15 @@ fn covers(first: u32, count: u64, dot: u32) -> bool {
         .is_some_and(|past| u64::from(past) < count)
 }
 
+const FILLED: [Part; 2] = [([0, 4], [0, 2344]), ([3504, 3507], [0, 2344])];
+
 #[test]
 fn fills_rectangles(rt: HostRuntime) -> Result<(), Fail> {
     let mut page = Bitmap::new(rt.alloc(), Size::A4, Dpi::Dpi300)?;
-    for (x, y, width, height, ink) in RECTANGLES {
-        page.fill(x, y, width, height, ink);
+    for (x, y, width, height, ink) in &RECTANGLES {
+        page.fill(*x, *y, *width, *height, *ink);
     }
-    assert_dots(&rt, &page, [0, 4], [0, 2344], Drawn::Rectangles);
-    assert_dots(&rt, &page, [3504, 3507], [0, 2344], Drawn::Rectangles);
+    assert_drawn(&rt, &page, &FILLED, Drawn::Rectangles);
     Ok(())
 }
 
@@ -166,21 +185,28 @@ const ROWS: [(u32, u64, u32, u32, &[u8]); 13] = [
 // Whether the dot is in a square of a set bit of one of the rows.
 fn is_black_by_rows(x: u32, y: u32) -> bool {
     let mut black = false;
-    for (left, top, scale, width, row) in ROWS {
-        let column = square_of(i64::from(x).wrapping_sub(i64::from(left)), scale);
-        let down = u64::from(y).checked_sub(top);
-        if let (Some(column), Some(down)) = (column, down) {
-            black |= down < u64::from(scale)
-                && column < u64::from(width)
-                && is_bit_set(row, column);
-        }
+    for (left, top, scale, width, row) in &ROWS {
+        let column = square_of(x, i128::from(*left), *scale);
+        let down = square_of(y, i128::from(*top), *scale);
+        black |= is_inked(column, down, (u64::from(*width), 1), row);
     }
     black
 }
 
 // Which square of so many dots a dot is in, as far to the right or down from the first one.
-fn square_of(dots: i64, scale: u32) -> Option<u64> {
-    u64::try_from(dots).ok()?.checked_div(u64::from(scale))
+fn square_of(dot: u32, first: i128, scale: u32) -> Option<u64> {
+    let dots = u64::try_from(i128::from(dot).wrapping_sub(first)).ok()?;
+    dots.checked_div(u64::from(scale))
+}
+
+// Whether a square is that of a set bit, by its column and row in rows of so many bits and so many of them, each in
+// whole bytes.
+fn is_inked(column: Option<u64>, row: Option<u64>, size: (u64, u64), rows: &[u8]) -> bool {
+    let (Some(column), Some(row)) = (column, row) else {
+        return false;
+    };
+    let first = row.wrapping_mul(size.0.div_ceil(8).wrapping_mul(8));
+    column < size.0 && row < size.1 && is_bit_set(rows, first.wrapping_add(column))
 }
 
 // Whether a bit of a row is set, by its number.
@@ -189,16 +215,20 @@ fn is_bit_set(row: &[u8], bit: u64) -> bool {
     is_set(byte, (bit % 8) as u32)
 }
 
+const PAINTED: [Part; 4] = [
+    ([0, 55], [0, 200]),
+    ([0, 55], [2300, 2344]),
+    ([3502, 3507], [0, 200]),
+    ([3502, 3507], [2300, 2344]),
+];
+
 #[test]
 fn paints_squares(rt: HostRuntime) -> Result<(), Fail> {
     let mut page = Bitmap::new(rt.alloc(), Size::A4, Dpi::Dpi300)?;
-    for (x, y, scale, width, row) in ROWS {
-        page.paint_row(x, y, scale, width, row);
+    for (x, y, scale, width, row) in &ROWS {
+        page.paint_row(*x, *y, *scale, *width, row);
     }
-    for ys in [[0, 55], [3502, 3507]] {
-        assert_dots(&rt, &page, ys, [0, 200], Drawn::Rows);
-        assert_dots(&rt, &page, ys, [2300, 2344], Drawn::Rows);
-    }
+    assert_drawn(&rt, &page, &PAINTED, Drawn::Rows);
     Ok(())
 }
 
@@ -224,28 +254,28 @@ const PATTERNS: [(i32, i32, u16, u16, u32, &[u8]); 14] = [
 // Whether the dot is in a square of a set bit of one of the patterns.
 fn is_black_by_patterns(x: u32, y: u32) -> bool {
     let mut black = false;
-    for (left, top, width, height, scale, rows) in PATTERNS {
-        let column = square_of(i64::from(x).wrapping_sub(i64::from(left)), scale);
-        let row = square_of(i64::from(y).wrapping_sub(i64::from(top)), scale);
-        if let (Some(column), Some(row)) = (column, row) {
-            let first = row.wrapping_mul(u64::from(width.div_ceil(8)).wrapping_mul(8));
-            let is_inside = column < u64::from(width) && row < u64::from(height);
-            black |= is_inside && is_bit_set(rows, first.wrapping_add(column));
-        }
+    for (left, top, width, height, scale, rows) in &PATTERNS {
+        let column = square_of(x, i128::from(*left), *scale);
+        let row = square_of(y, i128::from(*top), *scale);
+        black |= is_inked(column, row, (u64::from(*width), u64::from(*height)), rows);
     }
     black
 }
 
+const BLITTED: [Part; 4] = [
+    ([0, 34], [0, 120]),
+    ([0, 34], [2300, 2344]),
+    ([3500, 3507], [0, 120]),
+    ([3500, 3507], [2300, 2344]),
+];
+
 #[test]
 fn paints_patterns(rt: HostRuntime) -> Result<(), Fail> {
     let mut page = Bitmap::new(rt.alloc(), Size::A4, Dpi::Dpi300)?;
-    for (x, y, width, height, scale, rows) in PATTERNS {
-        page.blit(x, y, width, height, rows, scale);
+    for (x, y, width, height, scale, rows) in &PATTERNS {
+        page.blit(*x, *y, *width, *height, rows, *scale);
     }
-    for ys in [[0, 34], [3500, 3507]] {
-        assert_dots(&rt, &page, ys, [0, 120], Drawn::Patterns);
-        assert_dots(&rt, &page, ys, [2300, 2344], Drawn::Patterns);
-    }
+    assert_drawn(&rt, &page, &BLITTED, Drawn::Patterns);
     Ok(())
 }
 

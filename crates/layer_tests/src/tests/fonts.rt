@@ -1,3 +1,4 @@
+use super::assert_gives;
 use pcl_base::{CallFault, Kind};
 use pcl_fonts::{FontControl, Fonts};
 use std::alloc::{AllocError, Global};
@@ -54,10 +55,10 @@ const HEADERS: [Changed; 13] = [
 // Headers: each field at its values and past them, and a byte too few.
 #[test]
 fn headers(rt: HostRuntime) -> Result<(), AllocError> {
-    for (len, place, byte, wanted) in HEADERS {
-        let data = changed(rt.alloc(), &HEADER, len, place, byte)?;
+    for (len, place, byte, wanted) in &HEADERS {
+        let data = changed(rt.alloc(), &HEADER, *len, *place, *byte)?;
         let taken = Fonts::new(rt.alloc()).header(1, &data);
-        assert_eq!(rt; taken, wanted, "byte {place} is {byte}, of {len}");
+        assert_gives(&rt, &(*len, *place, *byte), &taken, wanted);
     }
     Ok(())
 }
@@ -79,12 +80,12 @@ const CHARACTERS: [Changed; 11] = [
 // Characters: each fixed byte off by one, and data that are cut.
 #[test]
 fn characters(rt: HostRuntime) -> Result<(), AllocError> {
-    for (len, place, byte, wanted) in CHARACTERS {
-        let data = changed(rt.alloc(), &CHARACTER, len, place, byte)?;
+    for (len, place, byte, wanted) in &CHARACTERS {
+        let data = changed(rt.alloc(), &CHARACTER, *len, *place, *byte)?;
         let mut fonts = Fonts::new(rt.alloc());
         let _ = fonts.header(0, &HEADER);
         let taken = fonts.character(0, 65, &data);
-        assert_eq!(rt; taken, wanted, "byte {place} is {byte}, of {len}");
+        assert_gives(&rt, &(*len, *place, *byte), &taken, wanted);
     }
     Ok(())
 }
@@ -110,40 +111,42 @@ fn left_by(alloc: Global, what: FontControl, id: u16, and_delete: bool) -> [bool
     ]
 }
 
-// What each control leaves.
+// What each control leaves of these, with or without that deletion.
+const CONTROLS: [(FontControl, u16, bool, [bool; 4]); 8] = [
+    (FontControl::All, 1, false, [false, false, false, false]),
+    (FontControl::Temporary, 1, false, [false, false, true, true]),
+    (FontControl::One, 2, false, [true, true, false, false]),
+    (FontControl::One, 3, false, [true, true, true, true]),
+    (
+        FontControl::OneCharacter,
+        1,
+        false,
+        [true, false, true, true],
+    ),
+    (
+        FontControl::MakeTemporary,
+        2,
+        true,
+        [false, false, false, false],
+    ),
+    (
+        FontControl::MakePermanent,
+        1,
+        true,
+        [true, true, true, true],
+    ),
+    (
+        FontControl::MakePermanent,
+        3,
+        true,
+        [false, false, true, true],
+    ),
+];
+
 #[test]
 fn controls(rt: HostRuntime) {
-    for (what, id, and_delete, wanted) in [
-        (FontControl::All, 1, false, [false, false, false, false]),
-        (FontControl::Temporary, 1, false, [false, false, true, true]),
-        (FontControl::One, 2, false, [true, true, false, false]),
-        (FontControl::One, 3, false, [true, true, true, true]),
-        (
-            FontControl::OneCharacter,
-            1,
-            false,
-            [true, false, true, true],
-        ),
-        (
-            FontControl::MakeTemporary,
-            2,
-            true,
-            [false, false, false, false],
-        ),
-        (
-            FontControl::MakePermanent,
-            1,
-            true,
-            [true, true, true, true],
-        ),
-        (
-            FontControl::MakePermanent,
-            3,
-            true,
-            [false, false, true, true],
-        ),
-    ] {
-        let left = left_by(rt.alloc(), what, id, and_delete);
-        assert_eq!(rt; left, wanted, "{what:?} of {id}");
+    for (what, id, and_delete, wanted) in &CONTROLS {
+        let left = left_by(rt.alloc(), *what, *id, *and_delete);
+        assert_gives(&rt, &(*what, *id), &left, wanted);
     }
 }

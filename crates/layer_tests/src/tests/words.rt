@@ -1,38 +1,36 @@
+use super::assert_gives;
 use pcl_base::{Dpi, Kind, Method, Name, Refusal, Sign, Size, Value};
 use std::alloc::Global;
 use std::process::Abort;
 use std::test::Fail;
 
-// Each size by its number, its width, its height, and the bytes of a row.
-const SIZES: [(u32, u32, u32, usize); 4] = [
-    (1, 2025, 3150, 254),
-    (2, 2400, 3300, 300),
-    (3, 2400, 4200, 300),
-    (26, 2338, 3507, 293),
+// Each size, its number, its width, its height, and the bytes of a row.
+const SIZES: [(Size, u32, u32, u32, usize); 4] = [
+    (Size::Executive, 1, 2025, 3150, 254),
+    (Size::Letter, 2, 2400, 3300, 300),
+    (Size::Legal, 3, 2400, 4200, 300),
+    (Size::A4, 26, 2338, 3507, 293),
 ];
 
 #[test]
 fn sizes(rt: HostRuntime) {
-    for (code, width, height, row_bytes) in SIZES {
-        let size = Size::from_code(code);
-        assert!(rt; size.is_some(), "code {code}");
-        if let Some(size) = size {
-            assert_eq!(rt; size.code(), code);
-            assert_eq!(rt; size.width(Dpi::Dpi300), width);
-            assert_eq!(rt; size.height(Dpi::Dpi300), height);
-            assert_eq!(rt; size.row_bytes(Dpi::Dpi300), row_bytes);
-        }
+    let dpi = Dpi::Dpi300;
+    for (size, code, width, height, row_bytes) in &SIZES {
+        let words = (Size::from_code(*code), size.code());
+        let lengths = (size.width(dpi), size.height(dpi), size.row_bytes(dpi));
+        let wanted = ((Some(*size), *code), (*width, *height, *row_bytes));
+        assert_gives(&rt, size, &(words, lengths), &wanted);
     }
-    assert_eq!(rt; Size::A4.width(Dpi::Dpi600), 4676);
-    assert_eq!(rt; Size::A4.row_bytes(Dpi::Dpi600), 585);
+    let fine = (Size::A4.width(Dpi::Dpi600), Size::A4.row_bytes(Dpi::Dpi600));
+    assert_gives(&rt, &"A4 at 600", &fine, &(4676, 585));
+    assert_gives(&rt, &"no size", &Size::from_code(0), &None);
 }
 
 #[test]
 fn resolutions(rt: HostRuntime) {
-    for (dpi, dots, unit) in [(Dpi::Dpi300, 300, 24), (Dpi::Dpi600, 600, 12)] {
-        assert_eq!(rt; dpi.dots(), dots);
-        assert_eq!(rt; dpi.unit(), unit);
-    }
+    let (coarse, fine) = (Dpi::Dpi300, Dpi::Dpi600);
+    assert_gives(&rt, &coarse, &(coarse.dots(), coarse.unit()), &(300, 24));
+    assert_gives(&rt, &fine, &(fine.dots(), fine.unit()), &(600, 12));
 }
 
 const METHODS: [(u32, Method); 4] = [
@@ -44,12 +42,11 @@ const METHODS: [(u32, Method); 4] = [
 
 #[test]
 fn methods(rt: HostRuntime) {
-    for (code, method) in METHODS {
-        assert_eq!(rt; Method::from_code(code), Some(method));
-        assert_eq!(rt; method.code(), code);
+    for (code, method) in &METHODS {
+        let given = (Method::from_code(*code), method.code());
+        assert_gives(&rt, method, &given, &(Some(*method), *code));
     }
-    assert_eq!(rt; Method::from_code(4), None);
-    assert_eq!(rt; Size::from_code(0), None);
+    assert_gives(&rt, &"no method", &Method::from_code(4), &None);
 }
 
 // Sign, magnitude in ten-thousandths, whole part, and 24 times the magnitude.
@@ -66,10 +63,17 @@ const VALUES: [(Sign, u32, i32, u64); 8] = [
 
 #[test]
 fn values(rt: HostRuntime) {
-    for (sign, parts, whole, scaled) in VALUES {
-        let value = Value { sign, parts };
-        assert_eq!(rt; value.whole(), whole, "{parts}");
-        assert_eq!(rt; value.scaled(24), scaled, "{parts}");
+    for (sign, parts, whole, scaled) in &VALUES {
+        let value = Value {
+            sign: *sign,
+            parts: *parts,
+        };
+        assert_gives(
+            &rt,
+            &value,
+            &(value.whole(), value.scaled(24)),
+            &(*whole, *scaled),
+        );
     }
 }
 
@@ -156,7 +160,6 @@ fn refusals(rt: HostRuntime) -> Result<(), Fail> {
 /// Asserts the number and the text of each line, behind bytes that stay.
 fn assert_lines(rt: &impl Abort, alloc: Global, lines: &[Line]) -> Result<(), Fail> {
     for (number, kind, at, name, text) in lines {
-        assert_eq!(rt; kind.number(), *number);
         let mut line = Vec::from_slice(alloc, b"# ")?;
         let refusal = Refusal {
             kind: *kind,
@@ -164,7 +167,8 @@ fn assert_lines(rt: &impl Abort, alloc: Global, lines: &[Line]) -> Result<(), Fa
             name: *name,
         };
         refusal.write_text(&mut line)?;
-        assert_eq!(rt; line.strip_prefix(b"# "), Some(text.as_bytes()));
+        let given = (kind.number(), line.strip_prefix(b"# "));
+        assert_gives(rt, kind, &given, &(*number, Some(text.as_bytes())));
     }
     Ok(())
 }
