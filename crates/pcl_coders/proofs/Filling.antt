@@ -3,7 +3,7 @@ use Rattle.std.proofs.Common.{◌≡◌, ◌≢◌, ℕ, zero, suc, ◌+◌, ◌
 use Rattle.std.specs.Prelude.{slice_index}
 use Rattle.std.specs.List.{flat_map}
 use Rattle.std.proofs.lemmas.Bool.{cases_lt}
-use Rattle.std.proofs.lemmas.List.{append-nil, take_at, take-take, drop-drop, drop_all, length-append, length-drop, get_or-drop, get_or-set_same, get_or-set_other, get_or_past, take_rest, drop_more}
+use Rattle.std.proofs.lemmas.List.{append-nil, drop-drop, drop_all, length-drop, get_or-drop, get_or-set_same, get_or-set_other, get_or_past, take_rest, drop_more}
 use Rattle.std.proofs.lemmas.List.Concat.{flat_map-append}
 use Rattle.pcl_base.proofs.Lists.{first_byte}
 use Rattle.pcl_base.specs.declared.method.Method.{Method}

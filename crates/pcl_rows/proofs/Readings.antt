@@ -328,10 +328,10 @@ whole_more {method} {room} {stopped} {new} {rest} front stop-is fits so_far =
     )
 
 -- one that doesn't
-pub whole_past : {method : Method} {bytes : List ℕ} {room offset copies : ℕ} (stopped : ℕ) {new rest : List ℕ}
+pub whole_past : {method : Method} {bytes : List ℕ} {room offset copies : ℕ} {stopped : ℕ} {new rest : List ℕ}
     → IsFront method bytes offset copies new rest true → stopped ≡ offset + copies * length new → room < stopped
     → IsWhole method bytes room → ⊥
-whole_past stopped front stop-is past w =
+whole_past front stop-is past w =
     let stop = stop_of_front front stop-is in
     omega (arith, (whole_uncons front.head_is front.parts w).0)
 

@@ -25,7 +25,7 @@ returns-then-not-front c =
           λ h. whole_cut some
           (subst (IsFront c.args.method rest f.offset f.copies f.bytes.now f.rest.now) w.if-not-front.true c.read-front.ensures.front) h
       | then-not-front-via-else-not-front+then-room-stop w ↦
-          λ h. whole_past _
+          λ h. whole_past
           (subst (IsFront c.args.method rest f.offset f.copies f.bytes.now f.rest.now) w.if-not-front.false c.read-front.ensures.front)
           refl w.if-room-stop.true h
     ] in
