@@ -21,8 +21,10 @@
 
 use crate::notation::bytes_of;
 use crate::table::{CasesOfLines, TableFault, number};
-use pcl_command::{Ending, run};
+use clap::Error;
+use pcl_command::Ending;
 use pcl_tool::{INPUT_LIMIT, Watcher, read_all};
+use pcl_words::{exit_status, run};
 use std::alloc::{AllocError, Global};
 use std::cell::Cell;
 use std::fs;
@@ -217,10 +219,10 @@ impl Commands {
             times: Cell::new(0),
             ends: Cell::new(0),
         };
-        let ending = run(files, alloc, &words, &mut given, &mut taken, &told);
-        let said = text_of(alloc, &ending)?;
+        let ended = run(files, alloc, &words, &mut given, &mut taken, &told);
+        let said = text_of(alloc, &ended)?;
         let written = taken.0.as_deref().unwrap_or(&[]);
-        let is_right = usize::from(ending.status()) == status
+        let is_right = usize::from(exit_status(&ended)) == status
             && self.written.is_of(written)
             && self.is_said(&said)
             && self.is_told(&told)
@@ -230,7 +232,7 @@ impl Commands {
         }
         let came = format!(in alloc;
             "status {}, {} bytes written, pages told {} in {} times, {} ends: {said}",
-            ending.status(),
+            exit_status(&ended),
             written.len(),
             told.pages.get(),
             told.times.get(),
@@ -307,11 +309,11 @@ fn counts_of(text: &str) -> Result<(usize, usize), TableFault> {
 }
 
 /// What the program prints at its end, help and the version too.
-fn text_of(alloc: Global, ending: &Ending) -> Result<String, AllocError> {
-    Ok(match ending {
-        Ending::Done | Ending::Checked(_) => String::new(alloc),
-        Ending::Failed { line, .. } => String::from_utf8_lossy(alloc, line)?,
-        Ending::NoMemory => String::from_str(alloc, "pclmin: out of memory\n")?,
-        Ending::Shown(error) => format!(in alloc; "{error}")?,
+fn text_of(alloc: Global, ended: &Result<Ending, Error>) -> Result<String, AllocError> {
+    Ok(match ended {
+        Ok(Ending::Done | Ending::Checked(_)) => String::new(alloc),
+        Ok(Ending::Failed { line, .. }) => String::from_utf8_lossy(alloc, line)?,
+        Ok(Ending::NoMemory) => String::from_str(alloc, "pclmin: out of memory\n")?,
+        Err(error) => format!(in alloc; "{error}")?,
     })
 }

@@ -1,4 +1,4 @@
--- What a run of the program reads and writes, and how it ends.
+-- What a run of the program reads and writes, and how what is asked for ends.
 use Rattle.std.specs.Prelude.{◌≡◌, ℕ, ◌+◌, List, length, ◌⊎◌, Option, Result, Ok, Err}
 use Rattle.std.specs.Io.KnownBytes.{Consumes, Keeps}
 use Rattle.pcl_base.specs.declared.dpi.Dpi.{Dpi}
@@ -10,11 +10,13 @@ use Rattle.pcl_tool.specs.Preview.{IsPreview}
 use Rattle.pcl_tool.specs.Transfer.{GivesAtMost}
 use Rattle.pcl_command.specs.Messages.{line_of, status_for}
 use Rattle.pcl_command.specs.Checks.{IsCheckRun, verdict_status_for}
-use Rattle.pcl_command.specs.declared.arguments.Task.{Task}
-use Rattle.pcl_command.specs.declared.arguments.Task.TheVariants.{Minimize, Certify, Preview}
-use Rattle.pcl_command.specs.declared.arguments.Usage.{Usage}
+use Rattle.pcl_command.specs.declared.request.Task.{Task}
+use Rattle.pcl_command.specs.declared.request.Task.TheVariants.{Minimize, Certify, Preview}
+use Rattle.pcl_command.specs.declared.request.Usage.{Usage}
+use Rattle.pcl_command.specs.declared.request.Request.{Request}
+use Rattle.pcl_command.specs.declared.request.Request.TheVariants.{Run, Check}
 use Rattle.pcl_command.specs.declared.running.Ending.{Ending}
-use Rattle.pcl_command.specs.declared.running.Ending.TheVariants.{Done, Checked, Failed, NoMemory, Shown}
+use Rattle.pcl_command.specs.declared.running.Ending.TheVariants.{Done, Checked, Failed, NoMemory}
 
 -- the page that is asked for, 0 where none is
 abbrev pub page_of : Task → ℕ
@@ -56,27 +58,25 @@ HasFailed fault page (Failed line status) = (line.items ≡ line_of fault page) 
 HasFailed fault page NoMemory = Unit {0}
 HasFailed fault page Done = ⊥
 HasFailed fault page (Checked verdict) = ⊥
-HasFailed fault page (Shown error) = ⊥
-
--- a run that failed, and ended so
-abbrev pub FailsBy : Ending → (given left old new : Option (List ℕ)) → Type 0
-FailsBy ending given left old new =
-    (usage : Usage) × (fault : Fault) × HasDone usage given left old new (Err fault) × HasFailed fault (page_of usage.task) ending
-
--- a check that failed, and ended so: nothing was read of the reader
-abbrev pub FailsCheck : Ending → (given left old new : Option (List ℕ)) → Type 0
-FailsCheck ending given left old new =
-    (dpi : Dpi) × (fault : Fault) × (left ≡ given) × IsCheckRun dpi old new (Err fault) × HasFailed fault 0 ending
 
 -- how a run ends, by what it read and wrote
-abbrev pub HasEnded : (given left old new : Option (List ℕ)) → Ending → Type 0
-HasEnded given left old new Done = (usage : Usage) × HasDone usage given left old new (Ok tt)
-HasEnded given left old new (Checked verdict) = (dpi : Dpi) × (left ≡ given) × IsCheckRun dpi old new (Ok verdict)
-HasEnded given left old new (Failed line status) =
-    FailsBy (Failed line status) given left old new ⊎ FailsCheck (Failed line status) given left old new
-HasEnded given left old new NoMemory =
-    FailsBy NoMemory given left old new ⊎ (FailsCheck NoMemory given left old new ⊎ HasStayed given left old new)
-HasEnded given left old new (Shown error) = HasStayed given left old new
+abbrev pub HasRun : Usage → (given left old new : Option (List ℕ)) → Ending → Type 0
+HasRun usage given left old new Done = HasDone usage given left old new (Ok tt)
+HasRun usage given left old new (Checked verdict) = ⊥
+HasRun usage given left old new failed =
+    (fault : Fault) × HasDone usage given left old new (Err fault) × HasFailed fault (page_of usage.task) failed
+
+-- how a check ends: nothing was read of the reader
+abbrev pub HasChecked : Dpi → (given left old new : Option (List ℕ)) → Ending → Type 0
+HasChecked dpi given left old new Done = ⊥
+HasChecked dpi given left old new (Checked verdict) = (left ≡ given) × IsCheckRun dpi old new (Ok verdict)
+HasChecked dpi given left old new failed =
+    (fault : Fault) × (left ≡ given) × IsCheckRun dpi old new (Err fault) × HasFailed fault 0 failed
+
+-- how what was asked for ends, by what it read and wrote
+abbrev pub HasEnded : Request → (given left old new : Option (List ℕ)) → Ending → Type 0
+HasEnded (Run usage) given left old new ending = HasRun usage given left old new ending
+HasEnded (Check asked) given left old new ending = HasChecked asked.dpi given left old new ending
 
 -- the status of the program; 3 where memory ran out
 abbrev pub IsStatus : Ending → ℕ → Type 0
@@ -84,4 +84,3 @@ IsStatus Done status = status ≡ 0
 IsStatus (Checked verdict) status = status ≡ verdict_status_for verdict
 IsStatus (Failed line code) status = status ≡ code
 IsStatus NoMemory status = status ≡ 3
-IsStatus (Shown error) status = (status ≡ 0) ⊎ (status ≡ 2)

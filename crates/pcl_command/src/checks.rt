@@ -2,28 +2,13 @@
 
 ghost use Rattle.pcl_command.specs.Checks.{IsCheckRun, IsFileRead};
 
+use crate::request::CheckedFiles;
 use crate::verdicts::verdict_line;
-use pcl_base::Dpi;
 use pcl_tool::{Fault, INPUT_LIMIT, JobVerdict, Watcher, check_job, read_all, write_bytes};
 use std::alloc::Global;
 use std::fs;
 use std::io::Write;
 use std::rt::Files;
-
-/// What is checked: the names of the files, and the resolution.
-#[derive(Clone, Copy, Debug, PartialEq, Eq)]
-pub struct CheckedFiles<'w> {
-    /// The file of the input.
-    pub input: &'w str,
-    /// The file of the job that it is written as.
-    pub output: &'w str,
-    /// The file of the certificate.
-    pub certificate: &'w str,
-    /// The resolution.
-    pub dpi: Dpi,
-    /// Whether nothing is told of how far the check has come.
-    pub quiet: bool,
-}
 
 /// Reads the files, the input first, checks the job, and writes the line of the answer; the watcher is told of each page that is
 /// done, and that the last one is before the line is written. Nothing is written after any fault but of a write, and then a

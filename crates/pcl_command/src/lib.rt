@@ -1,11 +1,11 @@
-//! The command line of `pclmin`: what its words ask for is done over any files, reader and writer, and what is said of it.
+//! What `pclmin` is asked for, done over any files, reader and writer, and what is said of it.
 #![tactic(auto)]
 
-mod arguments;
 mod checks;
 mod messages;
+mod request;
 mod running;
 mod verdicts;
 
-pub use messages::USAGE_STATUS;
-pub use running::{Ending, run};
+pub use request::{CheckedFiles, Request, Task, Usage, resolution};
+pub use running::{Ending, carry_out};

@@ -7,9 +7,6 @@ use itoa::Buffer;
 use pcl_tool::Fault;
 use std::alloc::{AllocError, Global};
 
-/// The status of a usage fault.
-pub const USAGE_STATUS: u8 = 2;
-
 /// The status where memory runs out.
 pub const MEMORY_STATUS: u8 = 3;
 

@@ -1,17 +1,14 @@
-//! A run: what the words of a command line ask for is done, over any reader and writer.
+//! A run: what is asked for is done, over any reader and writer.
 
 ghost use Rattle.std.specs.Prelude.{◌≡◌, if◌then◌else◌, None, Some};
 ghost use Rattle.pcl_command.specs.Runs.{HasDone, HasEnded, HasFailed, IsStatus};
 
-use crate::arguments::{Request, Task, Usage, parse_arguments};
 use crate::checks::check;
 use crate::messages::{MEMORY_STATUS, fault_line, status_of};
+use crate::request::{Request, Task, Usage};
 use crate::verdicts::verdict_status;
-use clap::Error;
-use clap::error::ErrorKind;
 use pcl_tool::{Fault, INPUT_LIMIT, JobVerdict, Watcher, filter, filter_cert, preview, read_all};
 use std::alloc::Global;
-use std::convert::AsStr;
 use std::fs;
 use std::io::{Read, Write};
 use std::rt::Files;
@@ -19,7 +16,7 @@ use std::rt::Files;
 /// How a run ended, and what is left to be printed.
 #[derive(Drop)]
 pub enum Ending {
-    /// What the words ask for is done.
+    /// The run that was asked for is done.
     Done,
     /// A job was checked, and the line of this answer was written.
     Checked(JobVerdict),
@@ -27,8 +24,6 @@ pub enum Ending {
     Failed { line: Vec<u8>, status: u8 },
     /// Memory ran out, for the line of a fault too.
     NoMemory,
-    /// The words ask for help or for the version, or they are wrong: its text is to be printed.
-    Shown(Error),
 }
 
 impl Ending {
@@ -41,40 +36,37 @@ impl Ending {
             Ending::Checked(verdict) => verdict_status(verdict),
             Ending::Failed { status, .. } => *status,
             Ending::NoMemory => MEMORY_STATUS,
-            Ending::Shown(error) => error.exit_code() as u8,
         }
     }
 }
 
-/// Does what the words of a command line ask for, the program's name first, with the job that a reader gives. The watcher is told
-/// of each page that is done, unless the words ask for silence.
-pub fn run<F: Files, S: AsStr, R: Read, W: Write, P: Watcher>(
+/// Does what is asked for, a run with the job that a reader gives. The watcher is told of each page that is done, unless the
+/// request is a quiet one.
+pub fn carry_out<F: Files, R: Read, W: Write, P: Watcher>(
     files: &F,
     alloc: Global,
-    words: &[S],
+    request: Request<'_>,
     reader: &mut R,
     out: &mut W,
     watcher: P,
 ) -> Ending
-    ensures { HasEnded (R.remaining reader.old) (R.remaining reader.new) (W.contents out.old) (W.contents out.new) result }
+    ensures { HasEnded request.entry (R.remaining reader.old) (R.remaining reader.new) (W.contents out.old) (W.contents out.new) result }
 {
-    match parse_arguments(alloc, words) {
-        Ok(Request::Run(usage)) => {
+    match request {
+        Request::Run(usage) => {
             let told = told_of(usage.quiet, watcher);
-            match carry_out(files, alloc, usage, reader, out, told) {
+            match do_task(files, alloc, usage, reader, out, told) {
                 Ok(()) => Ending::Done,
                 Err(fault) => failed(alloc, &fault, usage.page()),
             }
         }
-        Ok(Request::Check(asked)) => {
+        Request::Check(asked) => {
             let told = told_of(asked.quiet, watcher);
             match check(files, alloc, asked, out, told) {
                 Ok(verdict) => Ending::Checked(verdict),
                 Err(fault) => failed(alloc, &fault, 0),
             }
         }
-        Err(error) if error.kind() == ErrorKind::OutOfMemory => Ending::NoMemory,
-        Err(error) => Ending::Shown(error),
     }
 }
 
@@ -85,8 +77,8 @@ fn told_of<P: Watcher>(quiet: bool, watcher: P) -> Option<P>
     if quiet { None } else { Some(watcher) }
 }
 
-/// Does what is asked for with the job that a reader gives. The file of a certificate is made before anything is read.
-fn carry_out<F: Files, R: Read, W: Write, P: Watcher>(
+/// Does the task of a run with the job that a reader gives. The file of a certificate is made before anything is read.
+fn do_task<F: Files, R: Read, W: Write, P: Watcher>(
     files: &F,
     alloc: Global,
     usage: Usage<'_>,

@@ -1,10 +1,12 @@
-//! `pclmin`: a print filter for HP PCL 5. `pcl_command` does what the words of the command line ask for; this gives it the
+//! `pclmin`: a print filter for HP PCL 5. `pcl_words` does what the words of the command line ask for; this gives it the
 //! words, the files, standard input and standard output.
 #![tactic(auto)]
 
 mod progress;
 
-use pcl_command::{Ending, USAGE_STATUS, run};
+use clap::Error;
+use pcl_command::Ending;
+use pcl_words::{USAGE_STATUS, exit_status, run};
 use progress::Progress;
 use std::io;
 use std::process::ExitCode;
@@ -15,7 +17,7 @@ fn main(rt: HostRuntime) -> ExitCode {
         let _ = rt.eprint("pclmin: the arguments aren't text\n");
         return ExitCode::from(USAGE_STATUS);
     };
-    let ending = match words.collect::<Vec<String>>(rt.alloc()) {
+    let ended = match words.collect::<Vec<String>>(rt.alloc()) {
         Ok(words) => run(
             &rt,
             rt.alloc(),
@@ -24,21 +26,21 @@ fn main(rt: HostRuntime) -> ExitCode {
             &mut io::writer(&rt),
             Progress::new(&rt),
         ),
-        Err(_) => Ending::NoMemory,
+        Err(_) => Ok(Ending::NoMemory),
     };
-    print(&rt, &ending);
-    ExitCode::from(ending.status())
+    print(&rt, &ended);
+    ExitCode::from(exit_status(&ended))
 }
 
 /// Prints what is left to be printed.
-fn print(rt: &(impl Print + Eprint), ending: &Ending) {
-    let _ = match ending {
-        Ending::Done | Ending::Checked(_) => Ok(()),
-        Ending::Failed { line, .. } => match std::str::from_utf8(line) {
+fn print(rt: &(impl Print + Eprint), ended: &Result<Ending, Error>) {
+    let _ = match ended {
+        Ok(Ending::Done | Ending::Checked(_)) => Ok(()),
+        Ok(Ending::Failed { line, .. }) => match std::str::from_utf8(line) {
             Ok(text) => rt.eprint(text),
             Err(_) => Ok(()),
         },
-        Ending::NoMemory => rt.eprint("pclmin: out of memory\n"),
-        Ending::Shown(error) => error.print(rt),
+        Ok(Ending::NoMemory) => rt.eprint("pclmin: out of memory\n"),
+        Err(error) => error.print(rt),
     };
 }

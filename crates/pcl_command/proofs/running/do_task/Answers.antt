@@ -1,7 +1,7 @@
 use Rattle.std.proofs.Common.{inr, sym, subst}
-use Rattle.pcl_command.specs.declared.arguments.Task.{Task}
+use Rattle.pcl_command.specs.declared.request.Task.{Task}
 use Rattle.pcl_command.specs.Runs.{HasDoneTask}
-use Rattle.pcl_command.proofs.running.carry_out.Goals as goal
+use Rattle.pcl_command.proofs.running.do_task.Goals as goal
 
 pub returns-in-Ok : goal.returns-in-Ok
 returns-in-Ok g c =

@@ -1,59 +1,11 @@
 //! The command line.
 
-ghost use Rattle.std.specs.Prelude.{◌≡◌, ◌≢◌, MatchOption};
-ghost use Rattle.pcl_base.specs.Dpi.{dots_per_inch};
-ghost use Rattle.pcl_command.specs.Runs.{page_of};
-
-use crate::checks::CheckedFiles;
 use clap::error::ErrorKind;
 use clap::{Arg, ArgAction, ArgMatches, Command, Error, value_parser};
-use pcl_base::Dpi;
 use pcl_cert::Format;
+use pcl_command::{CheckedFiles, Request, Task, Usage, resolution};
 use std::alloc::{AllocError, Global};
 use std::convert::AsStr;
-
-/// What a run is asked to do with the job on standard input.
-#[derive(Clone, Copy, Debug, PartialEq, Eq)]
-pub enum Task<'w> {
-    /// Write it again as a raster job.
-    Minimize,
-    /// The same, and write a certificate of a format to the file of this name.
-    Certify { file: &'w str, format: Format },
-    /// Write the image of the page of this number, from 1.
-    Preview { page: usize },
-}
-
-/// A run, and the resolution at which it sees the job.
-#[derive(Clone, Copy, Debug, PartialEq, Eq)]
-pub struct Usage<'w> {
-    /// What is asked for.
-    pub task: Task<'w>,
-    /// The resolution.
-    pub dpi: Dpi,
-    /// Whether nothing is told of how far it has come.
-    pub quiet: bool,
-}
-
-impl Usage<'_> {
-    /// The number of the page that is asked for, 0 where none is.
-    pub fn page(self) -> usize
-        ensures { result ≡ page_of self.entry.task }
-    {
-        match self.task {
-            Task::Minimize | Task::Certify { .. } => 0,
-            Task::Preview { page } => page,
-        }
-    }
-}
-
-/// What the words of a command line ask for.
-#[derive(Clone, Copy, Debug, PartialEq, Eq)]
-pub enum Request<'w> {
-    /// A run over the job on standard input.
-    Run(Usage<'w>),
-    /// The check of a written job.
-    Check(CheckedFiles<'w>),
-}
 
 /// What the words of a command line ask for, or the help, the version or the fault to print.
 pub fn parse_arguments<'w, S: AsStr>(alloc: Global, words: &'w [S]) -> Result<Request<'w>, Error> {
@@ -113,17 +65,6 @@ fn preview_task<'w>(pbm: &ArgMatches<'w>) -> Option<Task<'w>> {
     Some(Task::Preview {
         page: pbm.get_one::<usize>("page")?,
     })
-}
-
-/// The resolution of so many dots per inch.
-fn resolution(dots: u16) -> Option<Dpi>
-    ensures { MatchOption result ((dots ≢ 300) × (dots ≢ 600)) (λ dpi. dots_per_inch dpi ≡ dots) }
-{
-    match dots {
-        300 => Some(Dpi::Dpi300),
-        600 => Some(Dpi::Dpi600),
-        _ => None,
-    }
 }
 
 /// The program's command line.
