@@ -1,3 +1,4 @@
+use super::assert_gives;
 use pcl_base::{Dpi, Method, Size};
 use pcl_bitmap::{Bitmap, Ink};
 use pcl_cert::{
@@ -14,9 +15,8 @@ const LISTS: usize = 105_650;
 fn dot_certificate(alloc: Global, format: Format) -> Result<Vec<u8>, AllocError> {
     let mut bytes = Vec::from_slice(alloc, format.magic())?;
     bytes.extend_from_slice(&[0, 0, 0, 1, 0, 0, 0, 44, 0x0C, 0xE4])?;
-    for number in [6, 3, 7, 4, 7, 4, 7, 4] {
-        bytes.extend_from_slice(&[0, 0, 0, number])?;
-    }
+    bytes.extend_from_slice(b"\0\0\0\x06\0\0\0\x03\0\0\0\x07\0\0\0\x04")?;
+    bytes.extend_from_slice(b"\0\0\0\x07\0\0\0\x04\0\0\0\x07\0\0\0\x04")?;
     for _ in 0..4 * 3300 {
         bytes.extend_from_slice(&[0, 0, 0, 0, 0, 0, 0, 1])?;
     }
@@ -83,64 +83,68 @@ fn checked(
     }
 }
 
+/// What reading a certificate answers, or the verdict on a page and a text by it.
+type Answer = Result<Verdict, CertFault>;
+
+const PROVED: Answer = Ok(Verdict::Proved);
+
+const LENGTH: Answer = Ok(Verdict::Length);
+
+const EDGE: Answer = Ok(Verdict::Edge {
+    row: 0,
+    method: Method::Delta,
+    inside: true,
+});
+
+const PLACE: Answer = Ok(Verdict::Place {
+    row: 1,
+    method: Method::Delta,
+    place: 0,
+});
+
 // The right certificates, and each with one byte changed.
+const CHANGED: [(Format, usize, u8, Answer); 13] = [
+    (Format::One, 0, b'P', PROVED),
+    (Format::One, 21, 5, LENGTH),
+    (Format::One, 49, 5, EDGE),
+    (Format::One, 17, 0xE5, Err(CertFault::Rows)),
+    (Format::One, 11, 2, Err(CertFault::Short)),
+    (Format::One, 11, 0, Err(CertFault::Extra)),
+    (Format::One, 7, b'3', Err(CertFault::BadMagic)),
+    (Format::Two, 0, b'P', PROVED),
+    (Format::Two, 21, 5, LENGTH),
+    (Format::Two, LISTS + 25, 3, PLACE),
+    (Format::Two, LISTS + 25, 0, Err(CertFault::Places)),
+    (Format::Two, LISTS, 2, Err(CertFault::Places)),
+    (Format::Two, LISTS + 17, 1, Err(CertFault::Places)),
+];
+
 #[test]
 fn verdicts(rt: HostRuntime) -> Result<(), AllocError> {
-    let dot = b"\x1b*b1W\x80";
-    let edge = |row, method, inside| {
-        Ok(Verdict::Edge {
-            row,
-            method,
-            inside,
-        })
-    };
-    let place = Ok(Verdict::Place {
-        row: 1,
-        method: Method::Delta,
-        place: 0,
-    });
-    let cases = [
-        (Format::One, 0, b'P', Ok(Verdict::Proved)),
-        (Format::One, 21, 5, Ok(Verdict::Length)),
-        (Format::One, 49, 5, edge(0, Method::Delta, true)),
-        (Format::One, 17, 0xE5, Err(CertFault::Rows)),
-        (Format::One, 11, 2, Err(CertFault::Short)),
-        (Format::One, 11, 0, Err(CertFault::Extra)),
-        (Format::One, 7, b'3', Err(CertFault::BadMagic)),
-        (Format::Two, 0, b'P', Ok(Verdict::Proved)),
-        (Format::Two, 21, 5, Ok(Verdict::Length)),
-        (Format::Two, LISTS + 25, 3, place),
-        (Format::Two, LISTS + 25, 0, Err(CertFault::Places)),
-        (Format::Two, LISTS, 2, Err(CertFault::Places)),
-        (Format::Two, LISTS + 17, 1, Err(CertFault::Places)),
-    ];
-    for (format, at, byte, wanted) in cases {
-        let bytes = changed(rt.alloc(), format, at, byte)?;
-        assert_eq!(rt;
-            checked(rt.alloc(), &bytes, dot)?,
-            wanted,
-            "{format:?} {at} {byte}"
-        );
+    for (format, at, byte, wanted) in &CHANGED {
+        let bytes = changed(rt.alloc(), *format, *at, *byte)?;
+        let given = checked(rt.alloc(), &bytes, b"\x1b*b1W\x80")?;
+        assert_gives(&rt, &(*format, *at, *byte), &given, wanted);
     }
     Ok(())
 }
 
-// Texts beside the right certificates.
+// Bodies of texts beside the right certificates.
+const BODIES: [(&[u8], Verdict); 4] = [
+    (b"\x1b*b1W\x80", Verdict::Proved),
+    (b"\x1b*b01W\x80", Verdict::Length),
+    (b"\x1b*b1W\x40", Verdict::OtherPage),
+    (b"\x1b*b1w\x80", Verdict::NotGrammar),
+];
+
 #[test]
 fn texts(rt: HostRuntime) -> Result<(), AllocError> {
-    let one = dot_certificate(rt.alloc(), Format::One)?;
-    let two = dot_certificate(rt.alloc(), Format::Two)?;
-    assert_eq!(rt; one.len(), LISTS);
-    assert_eq!(rt; two.len(), 132_060);
-    let cases: [(&[u8], Verdict); 4] = [
-        (b"\x1b*b1W\x80", Verdict::Proved),
-        (b"\x1b*b01W\x80", Verdict::Length),
-        (b"\x1b*b1W\x40", Verdict::OtherPage),
-        (b"\x1b*b1w\x80", Verdict::NotGrammar),
-    ];
-    for (body, wanted) in cases {
-        assert_eq!(rt; checked(rt.alloc(), &one, body)?, Ok(wanted), "{body:?}");
-        assert_eq!(rt; checked(rt.alloc(), &two, body)?, Ok(wanted), "{body:?}");
+    for (format, len) in [(Format::One, LISTS), (Format::Two, 132_060)] {
+        let bytes = dot_certificate(rt.alloc(), format)?;
+        assert_gives(&rt, &format, &bytes.len(), &len);
+        for (body, wanted) in &BODIES {
+            assert_gives(&rt, body, &checked(rt.alloc(), &bytes, body)?, &Ok(*wanted));
+        }
     }
     Ok(())
 }
@@ -152,13 +156,13 @@ fn written_again(rt: HostRuntime) -> Result<(), AllocError> {
     let tables = row_tables(rt.alloc(), &dot_page(rt.alloc())?)?;
     let mut lists = Vec::new(rt.alloc());
     tables.append(&mut lists)?;
-    assert_eq!(rt; Some(lists.as_slice()), bytes.get(LISTS..));
-    assert_eq!(rt; tables.rows(), 3300);
+    assert_gives(&rt, &"lists", &Some(lists.as_slice()), &bytes.get(LISTS..));
+    assert_gives(&rt, &"rows", &tables.rows(), &3300);
     let Ok((format, proofs)) = read_certificate(rt.alloc(), &bytes, Dpi::Dpi300) else {
         rt.abort();
     };
     let mut again = Vec::new(rt.alloc());
     write_certificate(&proofs, format, &mut again)?;
-    assert_eq!(rt; again.as_slice(), bytes.as_slice());
+    assert_gives(&rt, &"again", &again.as_slice(), &bytes.as_slice());
     Ok(())
 }

@@ -1,3 +1,4 @@
+use super::assert_gives;
 use pcl_base::{Dpi, Method, Size};
 use pcl_bitmap::{Bitmap, Ink};
 use pcl_check::{
@@ -9,7 +10,22 @@ use pcl_plan::Table;
 use std::alloc::{AllocError, Global};
 use std::process::Abort;
 
-const METHODS: [Method; 4] = [Method::Plain, Method::Runs, Method::Packed, Method::Delta];
+/// Each method, and the least numbers of the first row of the page of a dot in it, outside a sequence and inside.
+const LEAST: [(Method, u32, u32); 4] = [
+    (Method::Plain, 6, 3),
+    (Method::Runs, 7, 4),
+    (Method::Packed, 7, 4),
+    (Method::Delta, 7, 4),
+];
+
+/// The node of a row, a method, and whether a sequence is open.
+fn node(row: u32, method: Method, inside: bool) -> BadNumber {
+    BadNumber {
+        row,
+        method,
+        inside,
+    }
+}
 
 /// A Letter page of the dot at its left upper corner.
 fn dot_page(alloc: Global) -> Result<Page, AllocError> {
@@ -25,17 +41,20 @@ fn dot_page(alloc: Global) -> Result<Page, AllocError> {
     })
 }
 
+/// Sets the number of a node in a table of such a page.
+fn set(rt: &impl Abort, table: &mut Table, node: BadNumber, number: u32) {
+    assert!(rt; table.rows() == 3300 && node.row <= 3300);
+    table.set(node.row, node.method, node.inside, number);
+}
+
 /// Its least numbers: the text sends the topmost row by method 0, and the rest is white.
 fn dot_table(rt: &impl Abort, alloc: Global) -> Result<Table, AllocError> {
     let mut table = Table::new(alloc, 3300)?;
-    for method in METHODS {
-        let inside = if method == Method::Plain { 3 } else { 4 };
-        assert!(rt; table.rows() == 3300);
-        table.set(0, method, true, inside);
-        table.set(0, method, false, inside + 3);
+    for (method, outside, inside) in LEAST {
+        set(rt, &mut table, node(0, method, false), outside);
+        set(rt, &mut table, node(0, method, true), inside);
         for row in 1..3301 {
-            assert!(rt; table.rows() == 3300);
-            table.set(row, method, true, 1);
+            set(rt, &mut table, node(row, method, true), 1);
         }
     }
     Ok(table)
@@ -58,27 +77,42 @@ fn found(
 fn raised_numbers(rt: HostRuntime) -> Result<(), AllocError> {
     let page = dot_page(rt.alloc())?;
     let mut table = dot_table(&rt, rt.alloc())?;
-    assert_eq!(rt; found(&rt, rt.alloc(), &page, &table)?, None);
+    assert_gives(
+        &rt,
+        &"least",
+        &found(&rt, rt.alloc(), &page, &table)?,
+        &None,
+    );
     for row in [0, 1650, 3300] {
-        for method in METHODS {
+        for (method, _, _) in LEAST {
             for inside in [false, true] {
-                assert!(rt; table.rows() == 3300 && row <= 3300);
-                let number = table.number(row, method, inside);
-                assert!(rt; number < 10);
-                table.set(row, method, inside, number + 1);
-                let bad = BadNumber {
-                    row,
-                    method,
-                    inside,
-                };
-                assert_eq!(rt; found(&rt, rt.alloc(), &page, &table)?, Some(bad));
-                assert!(rt; table.rows() == 3300 && row <= 3300);
-                table.set(row, method, inside, number);
+                assert_raised(
+                    &rt,
+                    rt.alloc(),
+                    &page,
+                    &mut table,
+                    node(row, method, inside),
+                )?;
             }
         }
     }
-    good_numbers_are_feasible();
-    numbers_by_bounds_are_feasible();
+    Ok(())
+}
+
+/// Asserts that a number that is raised is the first bad one, and leaves it as it was.
+fn assert_raised(
+    rt: &impl Abort,
+    alloc: Global,
+    page: &Page,
+    table: &mut Table,
+    node: BadNumber,
+) -> Result<(), AllocError> {
+    assert!(rt; table.rows() == 3300 && node.row <= 3300);
+    let number = table.number(node.row, node.method, node.inside);
+    assert!(rt; number < 10);
+    set(rt, table, node, number + 1);
+    assert_gives(rt, &number, &found(rt, alloc, page, table)?, &Some(node));
+    set(rt, table, node, number);
     Ok(())
 }
 
@@ -87,14 +121,21 @@ fn raised_numbers(rt: HostRuntime) -> Result<(), AllocError> {
 fn great_numbers(rt: HostRuntime) -> Result<(), AllocError> {
     let page = dot_page(rt.alloc())?;
     let mut table = dot_table(&rt, rt.alloc())?;
-    assert!(rt; table.rows() == 3300);
-    table.set(0, Method::Plain, false, u32::MAX);
-    table.set(0, Method::Plain, true, u32::MAX);
-    let bad = BadNumber {
-        row: 0,
-        method: Method::Plain,
-        inside: true,
-    };
-    assert_eq!(rt; found(&rt, rt.alloc(), &page, &table)?, Some(bad));
+    set(&rt, &mut table, node(0, Method::Plain, false), u32::MAX);
+    let bad = node(0, Method::Plain, true);
+    set(&rt, &mut table, bad, u32::MAX);
+    assert_gives(
+        &rt,
+        &"great",
+        &found(&rt, rt.alloc(), &page, &table)?,
+        &Some(bad),
+    );
     Ok(())
+}
+
+// The laws do nothing.
+#[test]
+fn states_the_laws() {
+    good_numbers_are_feasible();
+    numbers_by_bounds_are_feasible();
 }

@@ -1,102 +1,97 @@
+use super::assert_gives;
 use pcl_base::Method;
 use pcl_check::first_bad_place;
 use pcl_coders::{Delta, Packed, Plain, RowCoder, Runs};
 use std::process::Abort;
-use std::test::Fail;
+
+/// A method, the first byte of a row and of its seed row, the first number of a row table, and the first bad place. All else in
+/// the rows and the table is 0.
+type First = (Method, u8, u8, u16, Option<usize>);
+
+const FIRST_NUMBERS: [First; 11] = [
+    (Method::Plain, 0x80, 0, 1, None),
+    (Method::Plain, 0x80, 0, 2, Some(0)),
+    (Method::Runs, 0x80, 0, 2, None),
+    (Method::Runs, 0x80, 0, 3, Some(0)),
+    (Method::Packed, 0x80, 0, 2, None),
+    (Method::Packed, 0x80, 0, 3, Some(0)),
+    (Method::Delta, 0x80, 0, 2, None),
+    (Method::Plain, 0, 0x80, 0, None),
+    (Method::Plain, 0, 0x80, 1, Some(0)),
+    (Method::Delta, 0, 0x80, 2, None),
+    (Method::Delta, 0, 0x80, 3, Some(0)),
+];
 
 /// A row of one dot below a white row, and a white row below that one: their least numbers are row tables, and a number that is
 /// raised is the first bad one.
 #[test]
-fn dot_and_white(rt: HostRuntime) -> Result<(), Fail> {
-    let white = [0; 300];
-    let mut dot = [0; 300];
-    dot[0] = 0x80;
-    let none = [0; 301];
-    let mut one = [0; 301];
-    one[0] = 1;
-    let mut two = [0; 301];
-    two[0] = 2;
-    let mut three = [0; 301];
-    three[0] = 3;
-    assert_eq!(rt; first_bad_place(Method::Plain, &dot, &white, &one), None);
-    assert_eq!(rt; first_bad_place(Method::Plain, &dot, &white, &two), Some(0));
-    assert_eq!(rt; first_bad_place(Method::Runs, &dot, &white, &two), None);
-    assert_eq!(rt;
-        first_bad_place(Method::Runs, &dot, &white, &three),
-        Some(0)
-    );
-    assert_eq!(rt; first_bad_place(Method::Packed, &dot, &white, &two), None);
-    assert_eq!(rt;
-        first_bad_place(Method::Packed, &dot, &white, &three),
-        Some(0)
-    );
-    assert_eq!(rt; first_bad_place(Method::Delta, &dot, &white, &two), None);
-    assert_eq!(rt; first_bad_place(Method::Plain, &white, &dot, &none), None);
-    assert_eq!(rt; first_bad_place(Method::Plain, &white, &dot, &one), Some(0));
-    assert_eq!(rt; first_bad_place(Method::Delta, &white, &dot, &two), None);
-    assert_eq!(rt;
-        first_bad_place(Method::Delta, &white, &dot, &three),
-        Some(0)
-    );
-    Ok(())
+fn dot_and_white(rt: HostRuntime) {
+    for (method, row, seed, number, bad) in &FIRST_NUMBERS {
+        let mut numbers = [0; 301];
+        numbers[0] = *number;
+        let given = first_bad_place(*method, &row_from(*row), &row_from(*seed), &numbers);
+        assert_gives(&rt, &(*method, *row, *number), &given, bad);
+    }
 }
 
-/// The edges of windows: runs of 256, literals of 128, and replacements whose offsets are spelled with one byte and with two.
+/// A row that is white but for its first byte.
+fn row_from(first: u8) -> [u8; 300] {
+    let mut row = [0; 300];
+    row[0] = first;
+    row
+}
+
+/// The edge of the window of runs of 256.
 #[test]
-fn far_stops(rt: HostRuntime) -> Result<(), Fail> {
-    let white = [0; 300];
+fn far_runs(rt: HostRuntime) {
     let full = [0xff; 300];
-    let mut runs = [4; 301];
-    for place in 44..300 {
-        runs[place] = 2;
-    }
-    runs[300] = 0;
-    assert_eq!(rt; first_bad_place(Method::Runs, &full, &white, &runs), None);
-    runs[44] = 3;
-    assert_eq!(rt;
-        first_bad_place(Method::Runs, &full, &white, &runs),
-        Some(44)
-    );
+    let mut numbers = [2; 301];
+    numbers[..44].fill(4);
+    numbers[300] = 0;
+    let right = first_bad_place(Method::Runs, &full, &[0; 300], &numbers);
+    numbers[44] = 3;
+    let raised = first_bad_place(Method::Runs, &full, &[0; 300], &numbers);
+    assert_gives(&rt, &"runs", &(right, raised), &(None, Some(44)));
+}
+
+/// The edge of the window of literals of 128.
+#[test]
+fn far_literals(rt: HostRuntime) {
     let mut stairs = [0; 300];
-    let mut literals = [0; 301];
+    let mut numbers = [0; 301];
     for place in 0..300 {
         let left = 300 - place;
         stairs[place] = (place % 255 + 1) as u8;
-        literals[place] = (left + left.div_ceil(128)) as u16;
+        numbers[place] = (left + left.div_ceil(128)) as u16;
     }
-    assert_eq!(rt;
-        first_bad_place(Method::Packed, &stairs, &white, &literals),
-        None
-    );
-    literals[172] = 130;
-    assert_eq!(rt;
-        first_bad_place(Method::Packed, &stairs, &white, &literals),
-        Some(172)
-    );
+    let right = first_bad_place(Method::Packed, &stairs, &[0; 300], &numbers);
+    numbers[172] = 130;
+    let raised = first_bad_place(Method::Packed, &stairs, &[0; 300], &numbers);
+    assert_gives(&rt, &"literals", &(right, raised), &(None, Some(172)));
+}
+
+/// The edges of the windows of replacements, whose offsets are spelled with one byte and with two.
+#[test]
+fn far_offsets(rt: HostRuntime) {
     let mut far = [0; 300];
     far[31] = 0xff;
     far[286] = 0xff;
-    let mut starts = [0; 301];
-    for place in 0..287 {
-        starts[place] = match place {
-            0 => 6,
-            1..=31 => 5,
-            32..=255 => 3,
-            _ => 2,
-        };
-    }
-    assert_eq!(rt; first_bad_place(Method::Delta, &far, &white, &starts), None);
-    starts[255] = 4;
-    assert_eq!(rt;
-        first_bad_place(Method::Delta, &far, &white, &starts),
-        Some(255)
+    let mut numbers = [0; 301];
+    numbers[0] = 6;
+    numbers[1..=31].fill(5);
+    numbers[32..=255].fill(3);
+    numbers[256..=286].fill(2);
+    let right = first_bad_place(Method::Delta, &far, &[0; 300], &numbers);
+    numbers[255] = 4;
+    let late = first_bad_place(Method::Delta, &far, &[0; 300], &numbers);
+    numbers[0] = 7;
+    let early = first_bad_place(Method::Delta, &far, &[0; 300], &numbers);
+    assert_gives(
+        &rt,
+        &"offsets",
+        &(right, late, early),
+        &(None, Some(255), Some(0)),
     );
-    starts[0] = 7;
-    assert_eq!(rt;
-        first_bad_place(Method::Delta, &far, &white, &starts),
-        Some(0)
-    );
-    Ok(())
 }
 
 /// A row of literal bytes and repeats over another one, at whose ends white rows stand.
@@ -117,54 +112,58 @@ fn mixed_row() -> [u8; 300] {
 /// place, in the middle, and at the last places; so is one that is raised to more than the one before it, or behind all that is
 /// needed.
 #[test]
-fn raised_numbers(rt: HostRuntime) -> Result<(), Fail> {
+fn raised_numbers(rt: HostRuntime) {
     let row = mixed_row();
-    let seed = [0; 300];
-    assert_raised(&rt, &Plain, &row, &seed);
-    assert_raised(&rt, &Runs, &row, &seed);
-    assert_raised(&rt, &Packed, &row, &seed);
-    assert_raised(&rt, &Delta, &row, &seed);
-    Ok(())
+    assert_raised(&rt, &Plain, &row);
+    assert_raised(&rt, &Runs, &row);
+    assert_raised(&rt, &Packed, &row);
+    assert_raised(&rt, &Delta, &row);
 }
 
-/// Raises the numbers of a row at some places, one at a time.
-fn assert_raised<C: RowCoder>(rt: &impl Abort, coder: &C, row: &[u8; 300], seed: &[u8; 300]) {
+const RAISED: [usize; 12] = [0, 1, 30, 40, 41, 122, 123, 249, 288, 289, 290, 300];
+
+/// Raises the numbers of a row below a white one at some places, one at a time.
+fn assert_raised<C: RowCoder>(rt: &impl Abort, coder: &C, row: &[u8; 300]) {
     let mut numbers = [0; 301];
-    coder.places(row, seed, &mut numbers);
-    assert_eq!(rt; first_bad_place(coder.method(), row, seed, &numbers), None);
-    for place in [0, 1, 30, 40, 41, 122, 123, 249, 288, 289, 290, 300] {
+    coder.places(row, &[0; 300], &mut numbers);
+    let right = first_bad_place(coder.method(), row, &[0; 300], &numbers);
+    assert_gives(rt, &coder.method(), &right, &None);
+    for place in &RAISED {
         for more in [1, 1000] {
-            let mut raised = numbers;
-            raised[place] = numbers[place].saturating_add(more);
-            assert_eq!(rt;
-                first_bad_place(coder.method(), row, seed, &raised),
-                Some(place)
-            );
+            let raised = raised(numbers, *place, more);
+            let bad = first_bad_place(coder.method(), row, &[0; 300], &raised);
+            assert_gives(rt, &(coder.method(), more), &bad, &Some(*place));
         }
     }
 }
 
+/// Numbers of which one is greater by so much.
+fn raised(mut numbers: [u16; 301], place: usize, more: u16) -> [u16; 301] {
+    if let Some(number) = numbers.get_mut(place) {
+        *number = number.saturating_add(more);
+    }
+    numbers
+}
+
+/// Numbers that are less at their begin by so much, and the first bad place.
+const LOWERED: [([u16; 3], Option<usize>); 3] = [
+    ([1, 0, 0], None),
+    ([1, 1, 0], None),
+    ([1, 1, 3], Some(0)),
+];
+
 /// Lower numbers may be row tables too, whether they grow along the row or not.
 #[test]
-fn lowered_numbers(rt: HostRuntime) -> Result<(), Fail> {
+fn lowered_numbers(rt: HostRuntime) {
     let row = mixed_row();
-    let seed = [0; 300];
-    let mut numbers = [0; 301];
-    Packed.places(&row, &seed, &mut numbers);
-    numbers[0] = numbers[0].saturating_sub(1);
-    assert_eq!(rt;
-        first_bad_place(Method::Packed, &row, &seed, &numbers),
-        None
-    );
-    numbers[1] = numbers[1].saturating_sub(1);
-    assert_eq!(rt;
-        first_bad_place(Method::Packed, &row, &seed, &numbers),
-        None
-    );
-    numbers[2] = numbers[2].saturating_sub(3);
-    assert_eq!(rt;
-        first_bad_place(Method::Packed, &row, &seed, &numbers),
-        Some(0)
-    );
-    Ok(())
+    let mut least = [0; 301];
+    Packed.places(&row, &[0; 300], &mut least);
+    for (less, bad) in &LOWERED {
+        let mut numbers = least;
+        for (number, less) in numbers.iter_mut().zip(less) {
+            *number = number.saturating_sub(*less);
+        }
+        let given = first_bad_place(Method::Packed, &row, &[0; 300], &numbers);
+        assert_gives(&rt, less, &given, bad);
+    }
 }
