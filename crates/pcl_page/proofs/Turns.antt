@@ -287,10 +287,10 @@ ejected_handed takes dpi operation value effect copies s old middle last sink la
 
 pub turned_ejects : {S : Type 0} (takes : S → Page → S → Type 0) (dpi : Dpi) (operation : Operation) (value : Value) (effect : Effect)
     (copies : ℕ) (s : Situation)
-    (old middle last new : Performer) (sink later : S) → Ejected takes dpi operation value effect copies s old middle last sink later
+    (old : Performer) {middle : Performer} (last new : Performer) (sink later : S) → Ejected takes dpi operation value effect copies s old middle last sink later
     → IsFollowed last new
     → IsTurned takes dpi (outcome dpi operation value (is_marked s) s.settings) s (Ok tt) new sink later
-turned_ejects takes dpi operation value effect copies s old middle last new sink later e f =
+turned_ejects takes dpi operation value effect copies s old {middle} last new sink later e f =
     let i = e.is_in in
     let d = ejected_done takes dpi operation value effect copies s old middle last sink later e in
     let h = ejected_handed takes dpi operation value effect copies s old middle last sink later d.0.0 e in
@@ -321,9 +321,9 @@ turned_ejects takes dpi operation value effect copies s old middle last new sink
 
 pub turned_short : {S : Type 0} (takes : S → Page → S → Type 0) (dpi : Dpi) (operation : Operation) (value : Value) (effect : Effect)
     (copies : ℕ) (s : Situation)
-    (old middle last new : Performer) (sink later : S) → Ejected takes dpi operation value effect copies s old middle last sink later
+    (old : Performer) {middle : Performer} (last new : Performer) (sink later : S) → Ejected takes dpi operation value effect copies s old middle last sink later
     → IsTurned takes dpi (outcome dpi operation value (is_marked s) s.settings) s (Err Memory) new sink later
-turned_short takes dpi operation value effect copies s old middle last new sink later e =
+turned_short takes dpi operation value effect copies s old {middle} last new sink later e =
     let d = ejected_done takes dpi operation value effect copies s old middle last sink later e in
     let h = ejected_handed takes dpi operation value effect copies s old middle last sink later d.0.0 e in
     subst (λ (o : Outcome). IsTurned takes dpi o s (Err Memory) new sink later) (sym d.1)

@@ -15,7 +15,7 @@ returns-in_err-follow_size-clause-turned g c = λ s i.
       | then-ejects+else-self-ge-PAGE_LIMIT+in_ok-eject w ↦
           rw w.sink-is
           (turned_short g.S.PageSink.takes c.args.dpi c.args.operation c.args.value c.in-Ok.effect c.copies-copies.result s
-          c.args.self.now _ w.eject.new.self _ c.args.sink.now w.eject.new.sink
+          c.args.self.now w.eject.new.self _ c.args.sink.now w.eject.new.sink
           (record {
             is_in = i;
             answered_as = c.in-Ok.ensures;
@@ -41,7 +41,7 @@ returns-clause-turned g c = λ s i.
           subst (λ (p : Performer). IsFollowed p c.follow_size.new.self) w.self-is c.in_ok-follow_size.ensures in
           rw w.sink-is
           (turned_ejects g.S.PageSink.takes c.args.dpi c.args.operation c.args.value c.in-Ok.effect c.copies-copies.result s
-          c.args.self.now _ w.eject.new.self c.follow_size.new.self c.args.sink.now w.eject.new.sink
+          c.args.self.now w.eject.new.self c.follow_size.new.self c.args.sink.now w.eject.new.sink
           (record {
             is_in = i;
             answered_as = c.in-Ok.ensures;
