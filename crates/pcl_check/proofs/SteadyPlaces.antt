@@ -306,7 +306,7 @@ replacements_before {old} {row} {numbers} {place} none inside sums before falls 
     let more : suc offset ≡ 1 + offset = omega arith in
     let here : place + 0 ≡ place = omega arith in
     let same : slice_index old place ≡ slice_index row place =
-    ap (slice_index old) (sym here) ∙ sym (alike_at old row place 0 alike (omega arith)) ∙ ap (slice_index row) here in
+    ap (slice_index old) (sym here) ∙ sym (alike_at old row place {count = suc offset} 0 alike (omega arith)) ∙ ap (slice_index row) here in
     subst (λ (n : ℕ). slice_index numbers place ≤ replacement_bytes n + len + slice_index numbers (place + (n + len))) (sym more)
     (replaced_next old row numbers place offset len (falls.same same) next some few (omega (arith, within))
     (subst (λ (n : ℕ). take n (drop place row) ≡ take n (drop place old)) more alike))

@@ -186,8 +186,6 @@ skipped picture size above below place parameter is_same inside is letter some f
 
 -- ---- rows that are sent
 
-)
-
 pub few_bytes : (picture : Picture) {size : Size} {above : List ℕ} (place : Place) {parameter : Parameter}
     → place.inside ≡ true → IsParameter place.text.now parameter → parameter.letter ≡ 87
     → (parameter.number ≤ 65535 → length parameter.rest.now < parameter.number)

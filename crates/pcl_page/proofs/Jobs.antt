@@ -114,11 +114,11 @@ pub record HasBegun {S : Type 0} (takes : S → Page → S → Type 0) (dpi : Dp
   pub on : GoesOn takes dpi all (next_step dpi all place command from) from (Ok tt) middle now then
 
 pub has_begun : {S : Type 0} (takes : S → Page → S → Type 0) (dpi : Dpi) (end : ℕ) (all : List Said) (whole : Performance)
-    (place : ℕ) (command : Said) (commands : List Said) (first middle : Interpreter) (old now then : S)
+    (place : ℕ) {command : Said} {commands : List Said} (first middle : Interpreter) (old now then : S)
     → (r : IsReached takes dpi whole (rest_of_job dpi end all place (command ∷ commands)) first old now)
     → GoesOn takes dpi all (begun_among dpi all place command first.running.items r.situation) r.situation (Ok tt) middle now then
     → HasBegun takes dpi end all whole place command commands middle old now then
-has_begun takes dpi end all whole place command commands first middle old now then r on = record {
+has_begun takes dpi end all whole place {command} first middle old now then r on = record {
   from = r.situation;
   handed = r.handed;
   same = r.same;
@@ -154,13 +154,13 @@ macros_stopped takes dpi end all whole place command commands middle last old no
     (macros_on takes dpi end all whole place command commands middle last old now then later (Err fault) b f)
 
 pub macros_reached : {S : Type 0} (takes : S → Page → S → Type 0) (dpi : Dpi) (end : ℕ) (all : List Said) (whole : Performance)
-    (place : ℕ) (command : Said) (commands : List Said) (middle last : Interpreter) (old now then later : S)
+    (place : ℕ) (command : Said) {commands : List Said} (middle last : Interpreter) (old now then later : S)
     → (b : HasBegun takes dpi end all whole place command commands middle old now then)
     → ((s : Situation) → IsAt dpi s middle
     → GoesOn takes dpi all (resumed macro_limit dpi all middle.running.items s) s (Ok tt) last then later)
     → last.running.items ≡ []
     → IsReached takes dpi whole (rest_of_job dpi end all (place + 1) commands) last old later
-macros_reached takes dpi end all whole place command commands middle last old now then later b f idle =
+macros_reached takes dpi end all whole place command {commands} middle last old now then later b f idle =
     let g = macros_on takes dpi end all whole place command commands middle last old now then later (Ok tt) b f in
     let all_done : done g.0 ≡ next_step dpi all place command b.from =
     ap (λ (rs : List Running). resumed macro_limit dpi all rs g.0) (sym idle) ∙ g.3 in

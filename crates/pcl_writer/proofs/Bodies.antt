@@ -32,10 +32,10 @@ use Rattle.pcl_plan.proofs.LeastWalks.{step_is_least, sent_is_least}
 use Rattle.pcl_writer.specs.declared.place.Place.{Place}
 use Rattle.pcl_writer.specs.Steps.{width_of, above, IsBitmapPlan, IsWritable, HasRowData, AppendsRow, AppendsStep, IsPlaceBehind, AppendsBody}
 
-pub page_joined : (old : List ℕ) {one two three : List ℕ} {start body tail : List ℕ} → one ≡ old ++ start → two ≡ one ++ body
+pub page_joined : (old : List ℕ) {one two three : List ℕ} (start body tail : List ℕ) → one ≡ old ++ start → two ≡ one ++ body
     → three ≡ two ++ tail → three
     ≡ old ++ (start ++ body ++ tail)
-page_joined old {one} {two} {three} {start} {body} {tail} a b c =
+page_joined old start body tail a b c =
     c ∙ ap (λ (t : List ℕ). t ++ tail) (b ∙ ap (λ (t : List ℕ). t ++ body) a) ∙ simp append_assoc
 
 -- ---- the token of a step

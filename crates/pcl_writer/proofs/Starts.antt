@@ -7,10 +7,10 @@ use Rattle.pcl_base.specs.Dpi.{dots_per_inch}
 use Rattle.pcl_base.specs.Size.{code_of, page_width}
 use Rattle.pcl_plan.specs.Tokens.{start_bytes}
 
-pub five_joined : (old : List ℕ) {a : List ℕ} (b : List ℕ) {c : List ℕ} (d : List ℕ) {e : List ℕ} {one two three four five : List ℕ} → one ≡ old ++ a → two ≡ one ++ b → three ≡ two ++ c → four
+pub five_joined : (old a b c d e : List ℕ) {one two three four five : List ℕ} → one ≡ old ++ a → two ≡ one ++ b → three ≡ two ++ c → four
     ≡ three ++ d → five ≡ four ++ e
     → five ≡ old ++ (a ++ (b ++ (c ++ (d ++ e))))
-five_joined old b {c} d {e} p q r s t =
+five_joined old a b c d e p q r s t =
     t ∙ ap (λ (x : List ℕ). x ++ e) (s ∙ ap (λ (x : List ℕ). x ++ d) (r ∙ ap (λ (x : List ℕ). x ++ c)
     (q ∙ ap (λ (x : List ℕ). x ++ b) p))) ∙ simp append_assoc
 

@@ -1,7 +1,7 @@
 use Rattle.std.proofs.Common.{◌≡◌, ◌++◌, ◌∷◌, [], ◌∙◌, ℕ, List, sym, ap, append_assoc, arith}
 use Rattle.std.proofs.lemmas.Result.{on_ok_weaker}
+use Rattle.pcl_base.proofs.Lists.{front_stays}
 use Rattle.pcl_base.specs.Size.{page_height}
-use Rattle.pcl_coders.proofs.Filling.{front_stays}
 use Rattle.pcl_plan.specs.Spelling.{least_spelling}
 use Rattle.pcl_plan.proofs.RowsFrom.{row_of_bytes, row_small}
 use Rattle.pcl_writer.specs.Steps.{width_of}

@@ -66,7 +66,7 @@ returns-clause-ok c =
     let text_is : fixed_bytes page.dpi page.size page.copies + node_number plan.table start ≡ length text =
     sym (text_length page.dpi page.size page.copies body.0 ∙ ap (λ (n : ℕ). fixed_bytes page.dpi page.size page.copies + n) body.3) in (
       text,
-      page_joined old started body.1
+      page_joined old _ _ _ started body.1
           c.in_ok-extend_from_slice.ensures.items,
       (printed, omega (arith, count, few, height.0), subst (IsLeastText page.dpi page.size page.copies rows) text_is least),
     )

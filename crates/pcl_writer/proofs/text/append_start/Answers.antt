@@ -11,7 +11,7 @@ number_is old e n = e ∙ ap (λ (m : ℕ). old ++ decimal m) n
 pub returns-clause-ok : goal.returns-clause-ok
 returns-clause-ok c =
     let old = c.args.out.now.items in
-    let first = five_joined old (decimal c.args.copies) (decimal (code_of c.args.size))
+    let first = five_joined old _ (decimal c.args.copies) _ (decimal (code_of c.args.size)) _
     c.in_ok-extend_from_slice.ensures.items
     (number_is c.extend_from_slice.new.self.items c.in_ok-append_number.ensures
     c.from.ensures)
@@ -19,7 +19,7 @@ returns-clause-ok c =
     (number_is c.extend_from_slice-2.new.self.items
     c.in_ok-append_number-2.ensures c.code.ensures)
     c.in_ok-extend_from_slice-3.ensures.items in
-    let second = five_joined old (decimal (dots_per_inch c.args.dpi)) (decimal (page_width c.args.size c.args.dpi))
+    let second = five_joined old _ (decimal (dots_per_inch c.args.dpi)) _ (decimal (page_width c.args.size c.args.dpi)) _
     first
     (number_is c.extend_from_slice-3.new.self.items
     c.in_ok-append_number-3.ensures c.dots.ensures)

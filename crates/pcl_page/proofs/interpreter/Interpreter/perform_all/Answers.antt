@@ -22,10 +22,10 @@ loop-place-preserved g c =
     let r = subst (λ (rest : List Said). IsReached g.S.PageSink.takes c.args.dpi whole
     (rest_of_job c.args.dpi c.args.end all c.loop-place.place rest) c.loop-place.self c.args.sink.now c.loop-place.sink) next
     c.loop-place.invariant in
-    let b = has_begun g.S.PageSink.takes c.args.dpi c.args.end all whole c.loop-place.place _ _ c.loop-place.self
+    let b = has_begun g.S.PageSink.takes c.args.dpi c.args.end all whole c.loop-place.place c.loop-place.self
     c.perform_at.new.self c.args.sink.now c.loop-place.sink c.perform_at.new.sink r
     (c.in_ok-perform_at.ensures.done all r.situation r.is_at) in
-    macros_reached g.S.PageSink.takes c.args.dpi c.args.end all whole c.loop-place.place _ _ c.perform_at.new.self c.run_macros.new.self
+    macros_reached g.S.PageSink.takes c.args.dpi c.args.end all whole c.loop-place.place _ c.perform_at.new.self c.run_macros.new.self
     c.args.sink.now c.loop-place.sink c.perform_at.new.sink c.run_macros.new.sink b (λ s at. c.in_ok-run_macros.ensures.done s at)
     c.in_ok-run_macros.ensures.idle
 
@@ -55,7 +55,7 @@ returns-in_err-run_macros g c =
     let r = subst (λ (rest : List Said). IsReached g.S.PageSink.takes c.args.dpi whole
     (rest_of_job c.args.dpi c.args.end all c.loop-place.place rest) c.loop-place.self c.args.sink.now c.loop-place.sink) next
     c.loop-place.invariant in
-    let b = has_begun g.S.PageSink.takes c.args.dpi c.args.end all whole c.loop-place.place _ _ c.loop-place.self
+    let b = has_begun g.S.PageSink.takes c.args.dpi c.args.end all whole c.loop-place.place c.loop-place.self
     c.perform_at.new.self c.args.sink.now c.loop-place.sink c.perform_at.new.sink r
     (c.in_ok-perform_at.ensures.done all r.situation r.is_at) in
     let p = err_from_is_err_and c.from_residual-in_err-run_macros.result c.from_residual-in_err-run_macros.ensures.1 in
