@@ -1,4 +1,9 @@
 mod certificates;
+mod coders;
 mod edges;
 mod places;
+mod plain_choices;
+mod plan_search;
+mod plans;
+mod short_rows;
 mod texts;

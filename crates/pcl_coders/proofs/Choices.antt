@@ -1,7 +1,6 @@
 -- The best element of each method.
 use Rattle.std.proofs.Common.{◌≡◌, ℕ, ◌+◌, ◌-◌, ◌*◌, ◌<◌, ◌≤◌, min, List, [], ◌∷◌, ◌++◌, length, take, drop, replicate, refl, sym, ap, ◌∙◌, subst, inl, inr, arith}
 use Rattle.std.specs.Prelude.{slice_index, flat_map}
-use Rattle.std.proofs.lemmas.Bool.{cases_lt}
 use Rattle.std.proofs.lemmas.List.{take_at, drop_at, drop-drop, take-append-drop, take-take, take-replicate, length-append, length-drop, length-take-le, length-replicate, get_or-drop}
 use Rattle.pcl_base.specs.declared.method.Method.{Method}
 use Rattle.pcl_base.specs.declared.method.Method.TheVariants.{Plain, Runs, Packed, Delta}
@@ -95,10 +94,6 @@ run_part wanted {run} {len} byte part all = sym (take-take len run wanted part) 
 pub first_byte : (wanted : List ℕ) → 0 < length wanted → take 1 wanted ≡ slice_index wanted 0 ∷ []
 first_byte [] some = absurd (omega arith)
 first_byte (b ∷ wanted) some = refl
-
--- a run has a byte
-pub run_some : {wanted numbers : List ℕ} {run : ℕ} → IsPlace wanted numbers → IsRunLen wanted run → 1 ≤ run
-run_some {wanted} place is = is.longest 1 (slice_index wanted 0) place.some (first_byte wanted place.some)
 
 -- a byte that stands for itself
 pub byte_step : (old wanted : List ℕ) → 0 < length wanted → IsShapeElement Plain old wanted SingleByte 1
@@ -285,51 +280,6 @@ pub record IsBestReplacement (wanted numbers : List ℕ) (last : ℕ) (shape : S
   pub replacement : IsReplacement offset (length wanted) numbers shape sum
   pub least : (o k : ℕ) → o ≤ last → 1 ≤ k → k ≤ min (length wanted - o) 8
       → sum ≤ replacement_bytes o + 1 * k + slice_index (drop o numbers) k
-
-pub best_replacement_one : (wanted numbers : List ℕ) (shape : Shape) (sum : ℕ) → IsReplacement 0 (length wanted) numbers shape sum
-    → IsBestReplacement wanted numbers 0 shape sum
-best_replacement_one wanted numbers shape sum r = record {
-  offset = 0;
-  within = omega arith;
-  replacement = r;
-  least = λ o k low some few.
-      let at : 0 ≡ o = omega arith in
-      subst (λ (n : ℕ). sum ≤ replacement_bytes n + 1 * k + slice_index (drop n numbers) k) at (r.best.least k some (omega (arith, at)));
-}
-
-pub best_replacement_next : {wanted numbers : List ℕ} {last next : ℕ} {shape shape' : Shape} {sum sum' : ℕ} → next ≡ last + 1
-    → IsBestReplacement wanted numbers last shape sum → IsReplacement next (length wanted) numbers shape' sum' → sum' ≤ sum
-    → IsBestReplacement wanted numbers next shape' sum'
-best_replacement_next {numbers} {next} {sum'} next-is b r better = record {
-  offset = next;
-  within = omega arith;
-  replacement = r;
-  least = λ o k low some few.
-      elim (cases_lt o next) [
-        | inl below ↦ omega (arith, b.least o k (omega arith) some few)
-        | inr above ↦
-            let at : next ≡ o = omega arith in
-            subst (λ (n : ℕ). sum' ≤ replacement_bytes n + 1 * k + slice_index (drop n numbers) k) at
-            (r.best.least k some (omega (arith, at)))
-      ];
-}
-
-pub best_replacement_stays : {wanted numbers : List ℕ} {last next : ℕ} {shape shape' : Shape} {sum sum' : ℕ} → next ≡ last + 1
-    → IsBestReplacement wanted numbers last shape sum → IsReplacement next (length wanted) numbers shape' sum' → sum ≤ sum'
-    → IsBestReplacement wanted numbers next shape sum
-best_replacement_stays {numbers} {next} {sum} next-is b r worse = record {
-  offset = b.offset;
-  within = omega (arith, b.within);
-  replacement = b.replacement;
-  least = λ o k low some few.
-      elim (cases_lt o next) [
-        | inl below ↦ b.least o k (omega arith) some few
-        | inr above ↦
-            let at : next ≡ o = omega arith in
-            subst (λ (n : ℕ). sum ≤ replacement_bytes n + 1 * k + slice_index (drop n numbers) k) at
-            (omega (arith, r.best.least k some (omega (arith, at))))
-      ];
-}
 
 pub delta_choice : {old wanted numbers : List ℕ} {same : ℕ} (last : ℕ) {shape : Shape} {sum : ℕ} → length old ≡ length wanted
     → IsPlace wanted numbers → IsSameLen old wanted same → last ≡ min same (length wanted - 1)
