@@ -1,6 +1,11 @@
 mod certificates;
+mod coders;
 mod edges;
 mod places;
+mod plain_choices;
+mod plan_search;
+mod plans;
+mod short_rows;
 mod texts;
 
 use std::fmt::Debug;

@@ -88,9 +88,6 @@ step_choice {numbers} e some sum-is below = record {
 abbrev given_by_copies : ℕ → List ℕ → List ℕ
 given_by_copies k new = flat_map (λ byte. replicate k byte) new
 
--- a run has a byte
-pub run_some : {wanted numbers : List ℕ} {run : ℕ} → IsPlace wanted numbers → IsRunLen wanted run → 1 ≤ run
-run_some {wanted} place is = is.longest 1 (slice_index wanted 0) place.some (first_byte wanted place.some)
 
 -- a byte that stands for itself
 pub byte_step : (old wanted : List ℕ) → 0 < length wanted → IsShapeElement Plain old wanted SingleByte 1
@@ -277,51 +274,6 @@ pub record IsBestReplacement (wanted numbers : List ℕ) (last : ℕ) (shape : S
   pub replacement : IsReplacement offset (length wanted) numbers shape sum
   pub least : (o k : ℕ) → o ≤ last → 1 ≤ k → k ≤ min (length wanted - o) 8
       → sum ≤ replacement_bytes o + 1 * k + slice_index (drop o numbers) k
-
-pub best_replacement_one : (wanted numbers : List ℕ) (shape : Shape) (sum : ℕ) → IsReplacement 0 (length wanted) numbers shape sum
-    → IsBestReplacement wanted numbers 0 shape sum
-best_replacement_one wanted numbers shape sum r = record {
-  offset = 0;
-  within = omega arith;
-  replacement = r;
-  least = λ o k low some few.
-      let at : 0 ≡ o = omega arith in
-      subst (λ (n : ℕ). sum ≤ replacement_bytes n + 1 * k + slice_index (drop n numbers) k) at (r.best.least k some (omega (arith, at)));
-}
-
-pub best_replacement_next : {wanted numbers : List ℕ} {last next : ℕ} {shape shape' : Shape} {sum sum' : ℕ} → next ≡ last + 1
-    → IsBestReplacement wanted numbers last shape sum → IsReplacement next (length wanted) numbers shape' sum' → sum' ≤ sum
-    → IsBestReplacement wanted numbers next shape' sum'
-best_replacement_next {numbers} {next} {sum'} next-is b r better = record {
-  offset = next;
-  within = omega arith;
-  replacement = r;
-  least = λ o k low some few.
-      elim (cases_lt o next) [
-        | inl below ↦ omega (arith, b.least o k (omega arith) some few)
-        | inr above ↦
-            let at : next ≡ o = omega arith in
-            subst (λ (n : ℕ). sum' ≤ replacement_bytes n + 1 * k + slice_index (drop n numbers) k) at
-            (r.best.least k some (omega (arith, at)))
-      ];
-}
-
-pub best_replacement_stays : {wanted numbers : List ℕ} {last next : ℕ} {shape shape' : Shape} {sum sum' : ℕ} → next ≡ last + 1
-    → IsBestReplacement wanted numbers last shape sum → IsReplacement next (length wanted) numbers shape' sum' → sum ≤ sum'
-    → IsBestReplacement wanted numbers next shape sum
-best_replacement_stays {numbers} {next} {sum} next-is b r worse = record {
-  offset = b.offset;
-  within = omega (arith, b.within);
-  replacement = b.replacement;
-  least = λ o k low some few.
-      elim (cases_lt o next) [
-        | inl below ↦ b.least o k (omega arith) some few
-        | inr above ↦
-            let at : next ≡ o = omega arith in
-            subst (λ (n : ℕ). sum ≤ replacement_bytes n + 1 * k + slice_index (drop n numbers) k) at
-            (omega (arith, r.best.least k some (omega (arith, at))))
-      ];
-}
 
 pub delta_choice : {old wanted numbers : List ℕ} {same : ℕ} (last : ℕ) {shape : Shape} {sum : ℕ} → length old ≡ length wanted
     → IsPlace wanted numbers → IsSameLen old wanted same → last ≡ min same (length wanted - 1)

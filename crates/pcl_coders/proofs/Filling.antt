@@ -78,19 +78,7 @@ number_stays {table} {at} number {place} behind is =
       small = omega (arith, is.small, here);
     }
 
--- where no more data is needed
-pub number_of_end : {method : Method} {old row : List ℕ} (table : List ℕ) {place : ℕ} → place < length table → Ends old row place
-    → IsPlaceNumber method old row (set table place 0) place
-number_of_end table {place} inside end =
-    let here : slice_index (set table place 0) place ≡ 0 = get_or-set_same table place 0 0 inside in
-    record {
-      steps = λ e element agrees. omega (arith, here);
-      ends = λ _. here;
-      attained = inl end;
-      small = omega (arith, here);
-    }
-
--- elsewhere
+-- where more data is needed
 pub number_of_choice : {method : Method} {old row : List ℕ} (table : List ℕ) {place : ℕ} {shape : Shape} {sum : ℕ} → place < length row
     → length table ≡ length row + 1 → (Ends old row place → ⊥)
     → IsShapeChoice method (drop place old) (drop place row) (drop place table) shape sum → sum ≤ 2 * (length row - place)
@@ -149,11 +137,6 @@ ends_here old row {place} size inside same end =
 pub ends_behind : (old row : List ℕ) (place : ℕ) → Ends old row place → Ends old row (place + 1)
 ends_behind old row place end = sym (drop-drop 1 place row) ∙ ap (drop 1) end ∙ drop-drop 1 place old
 
-pub ends_same : (old row : List ℕ) (place : ℕ) → Ends old row place → get_or row place 0 ≡ get_or old place 0
-ends_same old row place end =
-    ap (λ (k : ℕ). get_or row k 0) (omega arith) ∙ sym (get_or-drop place row 0 0) ∙ ap (λ (bs : List ℕ). get_or bs 0 0) end
-    ∙ get_or-drop place old 0 0 ∙ ap (λ (k : ℕ). get_or old k 0) (omega arith)
-
 -- one more number
 pub right_more : {method : Method} {old row table : List ℕ} {place : ℕ} (number : ℕ) → AreRightFrom method old row table (place + 1)
     → IsPlaceNumber method old row (set table place number) place → AreRightFrom method old row (set table place number) place
@@ -188,13 +171,6 @@ attained_from {method} {old} {row} (suc rest) {place} size right within left =
             omega (arith, walk.2, next.1.number_is),
           )
     ]
-
-pub right_at_end : {method : Method} {old row : List ℕ} (table : List ℕ) → length old ≡ length row → length row < length table
-    → AreRightFrom method old row (set table (length row) 0) (length row)
-right_at_end {method} {old} {row} table size inside q low high =
-    let at : length row ≡ q = omega arith in
-    subst (λ (p : ℕ). IsPlaceNumber method old row (set table (length row) 0) p) at
-    (number_of_end table inside (ends_past old row size (omega arith)))
 
 -- it is enough to look at the places of the row and its end
 pub row_table_of_places : {method : Method} {seed row table : List ℕ} → length seed ≡ length row → length table ≡ length row + 1

@@ -1,10 +1,9 @@
 //! The element that begins the least data for the rest of a row.
 
-ghost use Rattle.std.specs.Prelude.{◌≡◌, ℕ, List, ◌+◌, ◌-◌, ◌*◌, ◌<◌, ◌≤◌, min, length, slice_index, IsTrue, IsFalse, MatchOption};
+ghost use Rattle.std.specs.Prelude.{◌≡◌, ℕ, ◌+◌, ◌-◌, ◌*◌, ◌<◌, ◌≤◌, min, length, slice_index, MatchOption};
 ghost use Rattle.pcl_coders.specs.Choosing.{IsLeastLen, IsLiteralLen, NoLiteral, IsPlace};
 ghost use Rattle.pcl_coders.specs.Filling.{AreRightFrom};
 ghost use Rattle.pcl_coders.specs.Replacement.{replacement_bytes};
-ghost use Rattle.pcl_base.specs.declared.method.Method.TheVariants as methods;
 
 use crate::shape::Shape;
 use pcl_base::Method;
@@ -62,75 +61,6 @@ impl Choice {
         }
     }
 
-    /// The same for any numbers, by each length and each offset in turn: the plain choice, which tests compare
-    /// tables and data with.
-    pub fn of(method: Method, old: &[u8], wanted: &[u8], numbers: &[u16]) -> Choice
-        requires same { length old.now ≡ length wanted.now }
-        requires place { IsPlace wanted.now numbers.now }
-        ensures { IsShapeChoice method old.now wanted.now numbers.now result.shape result.sum }
-    {
-        match method {
-            Method::Plain => Choice {
-                shape: Shape::SingleByte,
-                sum: 1 + usize::from(numbers[1]),
-            },
-            Method::Runs => Choice::runs(wanted, numbers),
-            Method::Packed => Choice::packed(wanted, numbers),
-            Method::Delta => Choice::delta(old, wanted, numbers),
-        }
-    }
-
-    fn runs(wanted: &[u8], numbers: &[u16]) -> Choice
-        requires { IsPlace wanted.now numbers.now }
-        ensures { (old : List ℕ) → length old ≡ length wanted.now
-            → IsShapeChoice methods.Runs old wanted.now numbers.now result.shape result.sum }
-    {
-        let longest = run_end(wanted, 0).min(256);
-        let best = LeastLen::among(numbers, 1, longest, 2, 0, Tie::Longest);
-        Choice {
-            shape: Shape::Run { len: best.len },
-            sum: best.sum,
-        }
-    }
-
-    fn packed(wanted: &[u8], numbers: &[u16]) -> Choice
-        requires { IsPlace wanted.now numbers.now }
-        ensures { (old : List ℕ) → length old ≡ length wanted.now
-            → IsShapeChoice methods.Packed old wanted.now numbers.now result.shape result.sum }
-    {
-        let literal = LeastLen::among(numbers, 1, wanted.len().min(128), 1, 1, Tie::Longest);
-        let longest = run_end(wanted, 0).min(128);
-        if longest >= 2 {
-            let repeat = LeastLen::among(numbers, 2, longest, 2, 0, Tie::Longest);
-            if repeat.beats(literal, Tie::Longest) {
-                return Choice {
-                    shape: Shape::RepeatRun { len: repeat.len },
-                    sum: repeat.sum,
-                };
-            }
-        }
-        Choice {
-            shape: Shape::LiteralRun { len: literal.len },
-            sum: literal.sum,
-        }
-    }
-
-    fn delta(old: &[u8], wanted: &[u8], numbers: &[u16]) -> Choice
-        requires same { length old.now ≡ length wanted.now }
-        requires place { IsPlace wanted.now numbers.now }
-        ensures { IsShapeChoice methods.Delta old.now wanted.now numbers.now result.shape result.sum }
-    {
-        let same = first_difference(old, wanted).min(wanted.len() - 1);
-        let mut best = Choice::behind(0, wanted.len(), numbers);
-        for offset in 1..same + 1 {
-            let next = Choice::behind(offset, wanted.len(), numbers);
-            if next.sum <= best.sum {
-                best = next;
-            }
-        }
-        best
-    }
-
     /// The replacement behind an offset that begins least data.
     fn behind(offset: usize, row_bytes: usize, numbers: &[u16]) -> Choice
         requires inside { offset < row_bytes }
@@ -144,7 +74,6 @@ impl Choice {
             (row_bytes - offset).min(8),
             command_bytes(offset),
             1,
-            Tie::Shortest,
         );
         Choice {
             shape: Shape::Replace {
@@ -177,7 +106,7 @@ pub fn least_behind(numbers: &[u16]) -> usize
     if numbers.len() > 8 {
         usize::from(least_of_eight(numbers))
     } else {
-        LeastLen::among(numbers, 1, numbers.len() - 1, 0, 1, Tie::Shortest).sum
+        LeastLen::among(numbers, 1, numbers.len() - 1, 0, 1).sum
     }
 }
 
@@ -219,13 +148,6 @@ fn literal_len(numbers: &[u16], most: usize) -> Option<usize>
     None
 }
 
-/// Which length is taken among several that give the least sum.
-#[derive(Clone, Copy)]
-enum Tie {
-    Longest,
-    Shortest,
-}
-
 /// A length of an element, and how many bytes it and least data behind it have together.
 #[derive(Clone, Copy)]
 struct LeastLen {
@@ -234,16 +156,9 @@ struct LeastLen {
 }
 
 impl LeastLen {
-    /// The best of the lengths from `from` to `to`, where an element has `head` bytes, and `each` more for
+    /// The shortest of the best lengths from `from` to `to`, where an element has `head` bytes, and `each` more for
     /// each byte that it gives. `numbers` are those of the places behind.
-    fn among(
-        numbers: &[u16],
-        from: usize,
-        to: usize,
-        head: usize,
-        each: usize,
-        tie: Tie,
-    ) -> LeastLen
+    fn among(numbers: &[u16], from: usize, to: usize, head: usize, each: usize) -> LeastLen
         requires order { from ≤ to }
         requires within { to < length numbers.now }
         requires small { (to ≤ 1000) × (head ≤ 1000) × (each ≤ 1) }
@@ -252,25 +167,11 @@ impl LeastLen {
         let mut best = LeastLen::at(numbers, from, head, each);
         for len in from + 1..to + 1 {
             let next = LeastLen::at(numbers, len, head, each);
-            if next.beats(best, tie) {
+            if next.sum < best.sum {
                 best = next;
             }
         }
         best
-    }
-
-    /// Whether it is taken before another one.
-    fn beats(self, other: LeastLen, tie: Tie) -> bool
-        ensures won { IsTrue result → self.sum ≤ other.sum }
-        ensures lost { IsFalse result → other.sum ≤ self.sum }
-    {
-        if self.sum != other.sum {
-            return self.sum < other.sum;
-        }
-        match tie {
-            Tie::Longest => self.len >= other.len,
-            Tie::Shortest => self.len <= other.len,
-        }
     }
 
     /// What one length gives.

@@ -14,8 +14,3 @@ pub use laws::{
     first_number_is_least, latest_start_is_as_good, numbers_are_least, row_table_bounds_data,
 };
 pub use window::Window;
-
-#[cfg(test)]
-mod plain_tables;
-#[cfg(test)]
-mod tests;

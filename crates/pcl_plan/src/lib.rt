@@ -20,6 +20,3 @@ pub use page_plan::Plan;
 pub use planner::plan;
 pub use step::Step;
 pub use table::{RowNumbers, Table};
-
-#[cfg(test)]
-mod tests;

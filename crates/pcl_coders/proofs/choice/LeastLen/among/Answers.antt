@@ -2,7 +2,7 @@ use Rattle.std.proofs.Common.{◌≡◌, ℕ, ◌+◌, ◌-◌, subst, arith}
 use Rattle.pcl_coders.specs.Choosing.{IsLeastLen}
 use Rattle.pcl_coders.proofs.Prefixes.{least_len_one, least_len_next, least_len_stays}
 use Rattle.pcl_coders.proofs.choice.LeastLen.among.Goals as goal
-use Rattle.pcl_coders.proofs.choice.LeastLen.among.Goals.{then-beats, else-beats}
+use Rattle.pcl_coders.proofs.choice.LeastLen.among.Goals.{then-next-best, else-next-best}
 
 pub loop-len-init : goal.loop-len-init
 loop-len-init c =
@@ -17,15 +17,15 @@ loop-len-preserved c =
     let best = c.loop-len.best in
     let next = c.at-next.result in
     let at : c.loop-len.len + 1 - 1 ≡ c.loop-len.len = omega arith in
-    rw at (elim c.if-beats.branch [
-      | then-beats w ↦
+    rw at (elim c.if-next-best.branch [
+      | then-next-best w ↦
           rw w.best-is
           (least_len_next (omega arith)
-          c.loop-len.invariant c.at-next.ensures.0 c.at-next.ensures.1 (c.beats.ensures.won w.if-beats.true))
-      | else-beats w ↦
+          c.loop-len.invariant c.at-next.ensures.0 c.at-next.ensures.1 (omega (arith, w.if-next-best.true)))
+      | else-next-best w ↦
           rw w.best-is
           (least_len_stays next.sum c.loop-len.invariant
-          c.at-next.ensures.1 (c.beats.ensures.lost w.if-beats.false))
+          c.at-next.ensures.1 (omega (arith, w.if-next-best.false)))
     ])
 
 pub returns : goal.returns
