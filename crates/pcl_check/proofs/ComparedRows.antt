@@ -22,4 +22,3 @@ past_rows picture {y} le =
 
 pub zeros_all : (n : ℕ) → All {X = ℕ} (λ byte. byte ≡ 0) (replicate n 0)
 zeros_all n = λ k d lt. get_or-replicate n k 0 d (omega (arith, length-replicate {A = ℕ} n 0))
-

@@ -1,7 +1,6 @@
 -- The best element of each method.
 use Rattle.std.proofs.Common.{◌≡◌, ℕ, ◌+◌, ◌-◌, ◌*◌, ◌<◌, ◌≤◌, min, List, ◌++◌, length, take, drop, replicate, refl, sym, ap, ◌∙◌, subst, inl, inr, arith}
 use Rattle.std.specs.Prelude.{slice_index, flat_map}
-use Rattle.std.proofs.lemmas.Bool.{cases_lt}
 use Rattle.std.proofs.lemmas.List.{take_at, drop_at, drop-drop, take-append-drop, take-take, length-append, length-drop, length-take-le, length-replicate, get_or-drop}
 use Rattle.pcl_base.proofs.Lists.{once_each, run_part, first_byte}
 use Rattle.pcl_base.specs.declared.method.Method.{Method}

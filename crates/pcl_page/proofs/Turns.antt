@@ -287,7 +287,8 @@ ejected_handed takes dpi operation value effect copies s old middle last sink la
 
 pub turned_ejects : {S : Type 0} (takes : S → Page → S → Type 0) (dpi : Dpi) (operation : Operation) (value : Value) (effect : Effect)
     (copies : ℕ) (s : Situation)
-    (old : Performer) {middle : Performer} (last new : Performer) (sink later : S) → Ejected takes dpi operation value effect copies s old middle last sink later
+    (old : Performer) {middle : Performer} (last new : Performer) (sink later : S)
+    → Ejected takes dpi operation value effect copies s old middle last sink later
     → IsFollowed last new
     → IsTurned takes dpi (outcome dpi operation value (is_marked s) s.settings) s (Ok tt) new sink later
 turned_ejects takes dpi operation value effect copies s old {middle} last new sink later e f =
@@ -321,7 +322,8 @@ turned_ejects takes dpi operation value effect copies s old {middle} last new si
 
 pub turned_short : {S : Type 0} (takes : S → Page → S → Type 0) (dpi : Dpi) (operation : Operation) (value : Value) (effect : Effect)
     (copies : ℕ) (s : Situation)
-    (old : Performer) {middle : Performer} (last new : Performer) (sink later : S) → Ejected takes dpi operation value effect copies s old middle last sink later
+    (old : Performer) {middle : Performer} (last new : Performer) (sink later : S)
+    → Ejected takes dpi operation value effect copies s old middle last sink later
     → IsTurned takes dpi (outcome dpi operation value (is_marked s) s.settings) s (Err Memory) new sink later
 turned_short takes dpi operation value effect copies s old {middle} last new sink later e =
     let d = ejected_done takes dpi operation value effect copies s old middle last sink later e in
