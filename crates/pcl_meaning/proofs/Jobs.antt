@@ -63,7 +63,7 @@ text_read {dpi} {size} {copies} {rows} printed =
     (sym (printed.spelled ∙ append_assoc start body end_bytes))
     (reads_joined
     (start_read dpi size small)
-    (reads_joined (body_read printed.tokens rows printed.prints few) end_read))
+    (reads_joined (body_read _ _ printed.tokens rows printed.prints few) end_read))
 
 token_counted : (token : Token) → length (token_deeds token) ≡ commands_in token
 token_counted opening = refl

@@ -252,9 +252,9 @@ tokens_read (send digits bytes ∷ tokens) = (
       ((tokens_read tokens).0 current s.row s.rest s.prints (omega (arith, s.fewer))),
 )
 
-pub body_read : {current : Method} {seed : List ℕ} (tokens : List Token) (rows : List (List ℕ))
+pub body_read : (current : Method) (seed : List ℕ) (tokens : List Token) (rows : List (List ℕ))
     → PrintsRows false current seed tokens rows → length rows ≤ 65535 → ReadsAs (flat_map token_bytes tokens) (body_deeds tokens)
-body_read {current} {seed} tokens rows p few = (tokens_read tokens).0 current seed rows p few
+body_read current seed tokens rows p few = (tokens_read tokens).0 current seed rows p few
 
 -- ---- begin and end
 
