@@ -106,10 +106,10 @@ first_or_other : (b : Bool) {first size : Size} (other : Option Size) → sized 
 first_or_other true other e = inl (refl, same_ok e)
 first_or_other false other e = inr e
 
-size_or_other : (dpi : Dpi) {rows : ℕ} (first : Size) {size : Size} {other : Option Size}
+size_or_other : (dpi : Dpi) {rows : ℕ} (first : Size) {size : Size} (other : Option Size)
     → sized (if rows == page_height first dpi then Some first else other) ≡ Ok size
     → (page_height size dpi ≡ rows) ⊎ (sized other ≡ Ok size)
-size_or_other dpi {rows} first {size} {other} e =
+size_or_other dpi {rows} first other e =
     elim (first_or_other (eqb rows (page_height first dpi)) other e) [
       | inl is ↦ inl (ap (λ (s : Size). page_height s dpi) (sym is.1) ∙ sym (eqb-true _ _ is.0))
       | inr later ↦ inr later
@@ -117,13 +117,13 @@ size_or_other dpi {rows} first {size} {other} e =
 
 size_found : (dpi : Dpi) {rows : ℕ} {size : Size} → sized (size_with_height dpi rows) ≡ Ok size → page_height size dpi ≡ rows
 size_found dpi e =
-    elim (size_or_other dpi Executive e) [
+    elim (size_or_other dpi Executive _ e) [
       | inl is ↦ is
-      | inr e ↦ elim (size_or_other dpi Letter e) [
+      | inr e ↦ elim (size_or_other dpi Letter _ e) [
         | inl is ↦ is
-        | inr e ↦ elim (size_or_other dpi Legal e) [
+        | inr e ↦ elim (size_or_other dpi Legal _ e) [
           | inl is ↦ is
-          | inr e ↦ elim (size_or_other dpi A4 e) [
+          | inr e ↦ elim (size_or_other dpi A4 _ e) [
             | inl is ↦ is
             | inr e ↦ absurd cc
           ]

@@ -25,10 +25,10 @@ proof_at_index [] i d are lt = absurd (omega arith)
 proof_at_index (proof ∷ proofs) zero d are lt = are.0
 proof_at_index (proof ∷ proofs) (suc i) d are lt = proof_at_index proofs i d are.1 (omega arith)
 
-pub proof_is : {dpi : Dpi} {format : Format} (proofs : List PageProof) {i : ℕ} {d : PageProof} → AreProofs dpi format
+pub proof_is : {dpi : Dpi} {format : Format} (proofs : List PageProof) {i : ℕ} (d : PageProof) → AreProofs dpi format
     (proofs_in format proofs)
     → i < length proofs → IsProof dpi format (proof_in format (get_or proofs i d))
-proof_is proofs {i} {d} are lt = proof_at_index proofs i d are.1 lt
+proof_is proofs {i} d are lt = proof_at_index proofs i d are.1 lt
 
 -- ---- numbers of lists
 

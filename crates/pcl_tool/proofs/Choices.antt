@@ -74,13 +74,13 @@ pub skips_to : (number : ℕ) (skip : Option ℕ) → SomeIff skip (1 ≤ number
 skips_to number None h = omega arith
 skips_to number (Some place) h = omega arith
 
-pub image_kept : {dpi : Dpi} {job : List ℕ} {number : ℕ} {pages : List Sheet} (skip : Option ℕ) {old : Chosen} {new : Chosen}
+pub image_kept : {dpi : Dpi} {job : List ℕ} {number : ℕ} {pages : List Sheet} (skip : Option ℕ) {old : Chosen} (new : Chosen)
     {picture : Picture}
     → HasPages dpi job pages → SkipsTo number skip → old.skip ≡ skip → old.kept ≡ None → Hands takes dpi pages old new
     → new.kept ≡ Some picture → IsImageOf dpi job number (image_of picture)
-image_kept {dpi} {pages} None {old} {new} {picture} m n s k h e =
+image_kept {dpi} {pages} None {old} new {picture} m n s k h e =
     absurd (let same : None ≡ Some picture = sym k ∙ ap (λ (c : Chosen). c.kept) (sym (stays dpi pages s h)) ∙ e in cc)
-image_kept {dpi} {number} {pages} (Some place) {old} {new} {picture} m n s k h e =
+image_kept {dpi} {number} {pages} (Some place) new {picture} m n s k h e =
     let shows : ShowsAt dpi pages place picture = subst (Keeps dpi pages place) e (keeps_chosen dpi pages place new s k h) in
     let before : place ≡ number - 1 = omega arith in
     record {
@@ -94,20 +94,20 @@ image_kept {dpi} {number} {pages} (Some place) {old} {new} {picture} m n s k h e
       image = ap image_of shows.same;
     }
 
-pub none_kept : {dpi : Dpi} {job : List ℕ} {number : ℕ} {pages : List Sheet} (skip : Option ℕ) {old : Chosen} {new : Chosen}
+pub none_kept : {dpi : Dpi} {job : List ℕ} {number : ℕ} {pages : List Sheet} (skip : Option ℕ) {old : Chosen} (new : Chosen)
     → HasPages dpi job pages → SkipsTo number skip → old.skip ≡ skip → old.kept ≡ None → Hands takes dpi pages old new → new.kept ≡ None
     → HasNoPage dpi job number
-none_kept {pages} None m n s k h e = record { pages = pages; meaning = m; outside = inl n }
-none_kept {dpi} {pages} (Some place) {old} {new} m n s k h e =
+none_kept {pages} None new m n s k h e = record { pages = pages; meaning = m; outside = inl n }
+none_kept {dpi} {pages} (Some place) new m n s k h e =
     let few : length pages ≤ place = subst (Keeps dpi pages place) e (keeps_chosen dpi pages place new s k h) in
     record { pages = pages; meaning = m; outside = inr (omega arith) }
 
-pub previewed : {dpi : Dpi} {job : List ℕ} {number : ℕ} {old new : Option (List ℕ)} (picture : Picture) (result : Result (Unit {0}) Fault)
+pub previewed : {dpi : Dpi} {job : List ℕ} {number : ℕ} (old new : Option (List ℕ)) (picture : Picture) (result : Result (Unit {0}) Fault)
     → IsImageOf dpi job number (image_of picture) → IsImageWritten old new picture result → IsPreview dpi job number old new result
-previewed picture (Ok done) i w = (image_of picture, i, w)
-previewed picture (Err WriteFault) i w = (image_of picture, i, w)
-previewed picture (Err Memory) i w = w
-previewed picture (Err (Refused refusal)) i w = absurd w
-previewed picture (Err ReadFault) i w = w
-previewed picture (Err TooLong) i w = w
-previewed picture (Err NoSuchPage) i w = absurd w
+previewed old new picture (Ok done) i w = (image_of picture, i, w)
+previewed old new picture (Err WriteFault) i w = (image_of picture, i, w)
+previewed old new picture (Err Memory) i w = w
+previewed old new picture (Err (Refused refusal)) i w = absurd w
+previewed old new picture (Err ReadFault) i w = w
+previewed old new picture (Err TooLong) i w = w
+previewed old new picture (Err NoSuchPage) i w = absurd w

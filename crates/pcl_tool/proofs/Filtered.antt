@@ -10,29 +10,29 @@ use Rattle.pcl_tool.specs.Transfer.{IsWritten}
 use Rattle.pcl_tool.specs.Minimizing.{IsCertifiedJobOf, IsRead, IsFilteredCert}
 
 -- the job wasn't written whole
-pub stopped_in_job : {dpi : Dpi} {format : Format} {given left : Option (List ℕ)} {old new cert : Option (List ℕ)}
+pub stopped_in_job : {dpi : Dpi} {format : Format} {given left : Option (List ℕ)} (old new cert : Option (List ℕ))
     {job output certificate : List ℕ}
     (fault : Fault) → IsRead given left job → IsCertifiedJobOf dpi format job output certificate → IsWritten old new output (Err fault)
     → IsFilteredCert dpi format given left old new cert cert (Err fault)
-stopped_in_job {dpi} {format} {given} {left} {old} {new} {cert} {job} {output} {certificate} WriteFault r j w =
+stopped_in_job old new cert {job} {output} {certificate} WriteFault r j w =
     (job, output, certificate, r, j, inl (w, Keeps-refl cert))
-stopped_in_job (Refused refusal) r j w = absurd w
-stopped_in_job Memory r j w = absurd w
-stopped_in_job ReadFault r j w = absurd w
-stopped_in_job TooLong r j w = absurd w
-stopped_in_job NoSuchPage r j w = absurd w
+stopped_in_job old new cert (Refused refusal) r j w = absurd w
+stopped_in_job old new cert Memory r j w = absurd w
+stopped_in_job old new cert ReadFault r j w = absurd w
+stopped_in_job old new cert TooLong r j w = absurd w
+stopped_in_job old new cert NoSuchPage r j w = absurd w
 
 -- it was, and then the certificate or a front of it
-pub filtered_cert : {dpi : Dpi} {format : Format} {given left : Option (List ℕ)} {old new cert_old cert_new : Option (List ℕ)}
+pub filtered_cert : {dpi : Dpi} {format : Format} {given left : Option (List ℕ)} (old new cert_old cert_new : Option (List ℕ))
     {job output certificate : List ℕ} (result : Result (Unit {0}) Fault) → IsRead given left job
     → IsCertifiedJobOf dpi format job output certificate → Appends old new output → IsWritten cert_old cert_new certificate result
     → IsFilteredCert dpi format given left old new cert_old cert_new result
-filtered_cert {dpi} {format} {given} {left} {old} {new} {cert_old} {cert_new} {job} {output} {certificate} (Ok done) r j a w =
+filtered_cert old new cert_old cert_new {job} {output} {certificate} (Ok done) r j a w =
     (job, output, certificate, r, j, a, w)
-filtered_cert {dpi} {format} {given} {left} {old} {new} {cert_old} {cert_new} {job} {output} {certificate} (Err WriteFault) r j a w =
+filtered_cert old new cert_old cert_new {job} {output} {certificate} (Err WriteFault) r j a w =
     (job, output, certificate, r, j, inr (a, w))
-filtered_cert (Err (Refused refusal)) r j a w = absurd w
-filtered_cert (Err Memory) r j a w = absurd w
-filtered_cert (Err ReadFault) r j a w = absurd w
-filtered_cert (Err TooLong) r j a w = absurd w
-filtered_cert (Err NoSuchPage) r j a w = absurd w
+filtered_cert old new cert_old cert_new (Err (Refused refusal)) r j a w = absurd w
+filtered_cert old new cert_old cert_new (Err Memory) r j a w = absurd w
+filtered_cert old new cert_old cert_new (Err ReadFault) r j a w = absurd w
+filtered_cert old new cert_old cert_new (Err TooLong) r j a w = absurd w
+filtered_cert old new cert_old cert_new (Err NoSuchPage) r j a w = absurd w

@@ -63,10 +63,10 @@ of_begin output compared begun new job.PageCount f e n b same h = absurd b
 -- the answer of a checker that has taken the pages of an accepted job
 pub job_answered : {dpi : Dpi} {input output : List ℕ} (certificate : List ℕ) {format : Format} {proofs : List PageProof}
     {pages : List Sheet}
-    {begun : Checker} {new : Checker} → HasPages dpi input pages → certificate_at dpi certificate ≡ Ok (format, proofs)
+    {begun : Checker} (new : Checker) → HasPages dpi input pages → certificate_at dpi certificate ≡ Ok (format, proofs)
     → IsBegun output proofs begun
     → Hands takes dpi pages begun new → IsJobVerdict dpi input output certificate (answer (proofs_left new) new.found)
-job_answered {dpi} {input} {output} certificate {format} {proofs} {pages} {begun} {new} meaning certified b h =
+job_answered {dpi} {input} {output} certificate {format} {proofs} {pages} {begun} new meaning certified b h =
     let compared : AreCompared dpi input certificate =
     record { pages = pages; meaning = meaning; format = format; proofs = proofs; certified = certified } in
     let left : proofs_left begun ≡ proofs = ap (λ (k : ℕ). drop k begun.proofs.now) b.none_taken ∙ b.proofs_are in

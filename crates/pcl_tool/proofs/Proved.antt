@@ -127,12 +127,12 @@ can_be_written {dpi} {format} {pages} old new meaning same none h =
     subst (λ (f : Format). AreProofs dpi f (proofs_in f new.proofs)) same
     (subst (AreProofs dpi old.format) (sym (all_said dpi pages old new none h)) (are_proofs old new meaning h))
 
-pub certified_job : {dpi : Dpi} {format : Format} {job output certificate : List ℕ} {pages : List Sheet} {old : SoFar} {new : SoFar}
+pub certified_job : {dpi : Dpi} {format : Format} {job output certificate : List ℕ} {pages : List Sheet} {old : SoFar} (new : SoFar)
     → HasPages dpi job pages → old.format ≡ format → old.bytes ≡ frame_bytes → old.proofs ≡ [] → Hands TakesProved dpi pages old new
     → output ≡ new.bytes ++ frame_bytes → certificate ≡ certificate_bytes format (proofs_in format new.proofs)
     → IsCertifiedJobOf dpi format job output certificate
 unfolding job_of_texts
-certified_job {dpi} {format} {job} {output} {pages} {old} {old} {new} meaning same opened none h closed spelled =
+certified_job {dpi} {format} {job} {output} {pages} {old} new meaning same opened none h closed spelled =
     let g = gathered pages h in
     record {
       written = job_of_texts dpi job old.bytes new.bytes output g.texts pages meaning opened g.print g.bytes closed;

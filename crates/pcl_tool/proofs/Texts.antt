@@ -44,10 +44,10 @@ job_of_texts dpi job start body output texts pages meaning opened print joined c
       alike = w.2;
     }
 
-pub job_written : {dpi : Dpi} {job start : List ℕ} {body : List ℕ} {output : List ℕ} {pages : List Sheet} → HasPages dpi job pages
+pub job_written : {dpi : Dpi} {job start : List ℕ} (body : List ℕ) {output : List ℕ} {pages : List Sheet} → HasPages dpi job pages
     → start ≡ frame_bytes
     → Hands (λ (o : List ℕ) (page : Page) (n : List ℕ). AppendsPage page o n) dpi pages start body → output ≡ body ++ frame_bytes
     → IsJobOf dpi job output
-job_written {dpi} {job} {start} {body} {output} {pages} meaning opened handed closed =
+job_written {dpi} {job} {start} body {output} {pages} meaning opened handed closed =
     let t = texts_gathered dpi pages start handed in
     job_of_texts dpi job start body output t.0 pages meaning opened t.1 t.2 closed

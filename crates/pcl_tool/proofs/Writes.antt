@@ -27,9 +27,9 @@ header_stops old new picture ReadFault h = h
 header_stops old new picture TooLong h = h
 header_stops old new picture NoSuchPage h = h
 
-pub stopped_in_header : {old new : Option (List ℕ)} (picture : Picture) {text : List ℕ} {fault : Fault}
+pub stopped_in_header : (old new : Option (List ℕ)) (picture : Picture) {text : List ℕ} (fault : Fault)
     → text ≡ header_of picture.size picture.dpi → IsWritten old new text (Err fault) → IsImageWritten old new picture (Err fault)
-stopped_in_header {old} {new} picture {text} {fault} e h =
+stopped_in_header old new picture fault e h =
     header_stops old new picture fault (subst (λ (t : List ℕ). IsWritten old new t (Err fault)) e h)
 
 rows_stop : (old middle new : Option (List ℕ)) (picture : Picture) (fault : Fault)
@@ -42,16 +42,16 @@ rows_stop old middle new picture ReadFault a h = h
 rows_stop old middle new picture TooLong a h = h
 rows_stop old middle new picture NoSuchPage a h = h
 
-pub stopped_in_rows : {old middle new : Option (List ℕ)} (picture : Picture) {text rows : List ℕ} {fault : Fault}
+pub stopped_in_rows : (old middle new : Option (List ℕ)) (picture : Picture) {text rows : List ℕ} (fault : Fault)
     → text ≡ header_of picture.size picture.dpi → rows ≡ picture.bytes
     → Appends old middle text → IsWritten middle new rows (Err fault) → IsImageWritten old new picture (Err fault)
-stopped_in_rows {old} {middle} {new} picture {text} {rows} {fault} e f a h =
+stopped_in_rows old middle new picture fault e f a h =
     rows_stop old middle new picture fault (subst (Appends old middle) e a) (subst (λ (t : List ℕ). IsWritten middle new t (Err fault)) f h)
 
-pub not_flushed : {old middle late new : Option (List ℕ)} (picture : Picture) {text rows : List ℕ}
+pub not_flushed : (old middle late new : Option (List ℕ)) (picture : Picture) {text rows : List ℕ}
     → text ≡ header_of picture.size picture.dpi → rows ≡ picture.bytes
     → Appends old middle text → Appends middle late rows → Keeps late new → AppendsFront old new (image_of picture)
-not_flushed {old} {middle} {late} {new} picture {text} {rows} e f a b k =
+not_flushed old middle late new picture {text} {rows} e f a b k =
     let all : text ++ rows ≡ image_of picture =
     ap (λ (t : List ℕ). t ++ rows) e ∙ ap (λ (r : List ℕ). header_of picture.size picture.dpi ++ r) f in (
       image_of picture,

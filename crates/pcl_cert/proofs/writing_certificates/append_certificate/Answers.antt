@@ -10,7 +10,7 @@ pub append_proof-requires : goal.append_proof-requires
 append_proof-requires c = (
   c.requires.0,
   rw c.proof-item.is (proof_is c.args.proofs.now
-      c.requires.1 c.loop-proof-test.true),
+      _ c.requires.1 c.loop-proof-test.true),
 )
 
 pub returns-in_err-append_proof-clause-front : goal.returns-in_err-append_proof-clause-front

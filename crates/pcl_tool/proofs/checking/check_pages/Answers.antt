@@ -7,5 +7,5 @@ pub returns : goal.returns
 returns g c = λ certificate format e.
     let h = c.in_ok-checker.ensures in
     subst (IsJobVerdict c.args.dpi c.args.input.now c.args.output.now certificate) (sym c.verdict.ensures)
-    (job_answered certificate h.1 e
+    (job_answered certificate _ h.1 e
     c.new-begun.ensures h.2)

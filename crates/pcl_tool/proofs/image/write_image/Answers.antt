@@ -15,18 +15,18 @@ pub returns-in_err-write_bytes : goal.returns-in_err-write_bytes
 returns-in_err-write_bytes g c =
     let p = err_from_is_err_and c.from_residual-in_err-write_bytes.result c.from_residual-in_err-write_bytes.ensures.1 in
     let text = header_is c.deref.ensures.value c.in_ok-header.ensures c.size.ensures.value c.dpi.ensures.value in
-    rw (p.1, p.2) (stopped_in_header c.args.bitmap.now text c.in_err-write_bytes.ensures)
+    rw (p.1, p.2) (stopped_in_header _ _ c.args.bitmap.now _ text c.in_err-write_bytes.ensures)
 
 pub returns-in_err-write_bytes-2 : goal.returns-in_err-write_bytes-2
 returns-in_err-write_bytes-2 g c =
     let p = err_from_is_err_and c.from_residual-in_err-write_bytes-2.result c.from_residual-in_err-write_bytes-2.ensures.1 in
     let text = header_is c.deref.ensures.value c.in_ok-header.ensures c.size.ensures.value c.dpi.ensures.value in
     rw (p.1, p.2)
-    (stopped_in_rows c.args.bitmap.now text c.bytes.ensures.bytes
+    (stopped_in_rows _ _ _ c.args.bitmap.now _ text c.bytes.ensures.bytes
     c.in_ok-write_bytes.ensures c.in_err-write_bytes-2.ensures)
 
 pub returns : goal.returns
 returns g c =
     let text = header_is c.deref.ensures.value c.in_ok-header.ensures c.size.ensures.value c.dpi.ensures.value in
-    not_flushed c.args.bitmap.now text c.bytes.ensures.bytes c.in_ok-write_bytes.ensures
+    not_flushed _ _ _ _ c.args.bitmap.now text c.bytes.ensures.bytes c.in_ok-write_bytes.ensures
     c.in_ok-write_bytes-2.ensures c.in-Err.ensures.bytes

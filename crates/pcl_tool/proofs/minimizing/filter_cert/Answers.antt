@@ -11,7 +11,7 @@ returns-in_err-write_all g c =
     let r = c.in_ok-job.ensures in
     let p = err_from_is_err_and c.from_residual-in_err-write_all.result c.from_residual-in_err-write_all.ensures.1 in
     rw (p.1, p.2)
-    (stopped_in_job _
+    (stopped_in_job _ _ _ _
     (record { given = r.0; ended = r.1 })
     (subst (λ (job : List ℕ). IsCertifiedJobOf c.args.dpi c.args.format job c.in_ok-output.output.job.items
     c.in_ok-output.output.certificate.items) c.deref.ensures.value c.in_ok-output.ensures)
@@ -21,7 +21,7 @@ returns-in_err-write_all g c =
 pub returns : goal.returns
 returns g c =
     let r = c.in_ok-job.ensures in
-    filtered_cert _
+    filtered_cert _ _ _ _ _
     (record { given = r.0; ended = r.1 })
     (subst (λ (job : List ℕ). IsCertifiedJobOf c.args.dpi c.args.format job c.in_ok-output.output.job.items
     c.in_ok-output.output.certificate.items) c.deref.ensures.value c.in_ok-output.ensures)

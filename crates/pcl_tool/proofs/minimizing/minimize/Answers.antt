@@ -21,7 +21,7 @@ returns g c =
     let h = c.in_ok-certified.ensures in
     let f = c.in_ok-write_frame.ensures in
     let n = c.in_ok-write_frame-2.ensures in
-    certified_job h.1 refl
+    certified_job _ h.1 refl
     (f ∙ ap (λ (b : List ℕ). b ++ frame_bytes) c.new-bytes.ensures.items) c.new.ensures.items h.2
     (n ∙ ap (λ (s : SoFar). s.bytes ++ frame_bytes) c.certified.view_is)
     (c.in_ok-write_certificate.ensures.ok

@@ -8,6 +8,6 @@ returns g c =
     let h = c.in_ok-written.ensures in
     let f = c.in_ok-write_frame.ensures in
     let n = c.in_ok-write_frame-2.ensures in
-    job_written h.1
+    job_written _ h.1
     (f ∙ ap (λ (b : List ℕ). b ++ frame_bytes) c.new-bytes.ensures.items) h.2
     (n ∙ ap (λ (b : List ℕ). b ++ frame_bytes) c.written.view_is)
