@@ -87,7 +87,6 @@ step_choice {numbers} e some sum-is below = record {
 abbrev given_by_copies : ℕ → List ℕ → List ℕ
 given_by_copies k new = flat_map (λ byte. replicate k byte) new
 
-
 -- a byte that stands for itself
 pub byte_step : (old wanted : List ℕ) → 0 < length wanted → IsShapeElement Plain old wanted SingleByte 1
 byte_step old wanted some =

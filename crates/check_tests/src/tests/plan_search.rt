@@ -106,7 +106,7 @@ fn least_bytes(code: u8, row: [u8; 2], seed: [u8; 2]) -> u32 {
 }
 
 /// The cost of the least body of a page with at most three rows of two bytes, and white rows below them.
-pub fn searched_cost(rows: &[u8]) -> u32 {
+pub(super) fn searched_cost(rows: &[u8]) -> u32 {
     let mut search = Search {
         rows,
         numbers: [FAR; 32],

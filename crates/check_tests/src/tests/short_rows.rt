@@ -12,7 +12,7 @@ const ROWS: usize = 81;
 const ROW_BYTES: &[u8] = &[0, 1, 2];
 
 /// Sets bytes by their number: they are its digits, and an alphabet says which byte a digit is.
-pub fn set_bytes(bytes: &mut [u8], number: usize, alphabet: &[u8]) {
+pub(super) fn set_bytes(bytes: &mut [u8], number: usize, alphabet: &[u8]) {
     let mut rest = number;
     for slot in bytes.iter_mut() {
         let digit = rest.checked_rem(alphabet.len()).unwrap_or(0);
