@@ -8,7 +8,7 @@ use pcl_base::Dpi;
 use pcl_cert::Format;
 
 /// What a run is asked to do with the job on standard input.
-#[derive(Clone, Copy, Debug, PartialEq, Eq)]
+#[derive(Clone, Copy)]
 pub enum Task<'w> {
     /// Write it again as a raster job.
     Minimize,
@@ -19,7 +19,7 @@ pub enum Task<'w> {
 }
 
 /// A run, and the resolution at which it sees the job.
-#[derive(Clone, Copy, Debug, PartialEq, Eq)]
+#[derive(Clone, Copy)]
 pub struct Usage<'w> {
     /// What is asked for.
     pub task: Task<'w>,
@@ -42,7 +42,7 @@ impl Usage<'_> {
 }
 
 /// What is checked: the names of the files, and the resolution.
-#[derive(Clone, Copy, Debug, PartialEq, Eq)]
+#[derive(Clone, Copy)]
 pub struct CheckedFiles<'w> {
     /// The file of the input.
     pub input: &'w str,
@@ -57,7 +57,7 @@ pub struct CheckedFiles<'w> {
 }
 
 /// What the program is asked for.
-#[derive(Clone, Copy, Debug, PartialEq, Eq)]
+#[derive(Clone, Copy)]
 pub enum Request<'w> {
     /// A run over the job on standard input.
     Run(Usage<'w>),

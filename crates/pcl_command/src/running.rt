@@ -1,12 +1,14 @@
 //! A run: what is asked for is done, over any reader and writer.
 
 ghost use Rattle.std.specs.Prelude.{◌≡◌, if◌then◌else◌, None, Some};
-ghost use Rattle.pcl_command.specs.Runs.{HasDone, HasEnded, HasFailed, IsStatus};
+ghost use Rattle.pcl_command.specs.Runs.{HasDone, HasEnded, HasFailed, IsCertifyRun, IsPreviewRun, IsStatus};
 
 use crate::checks::check;
 use crate::messages::{MEMORY_STATUS, fault_line, status_of};
 use crate::request::{Request, Task, Usage};
 use crate::verdicts::verdict_status;
+use pcl_base::Dpi;
+use pcl_cert::Format;
 use pcl_tool::{Fault, INPUT_LIMIT, JobVerdict, Watcher, filter, filter_cert, preview, read_all};
 use std::alloc::Global;
 use std::fs;
@@ -77,7 +79,7 @@ fn told_of<P: Watcher>(quiet: bool, watcher: P) -> Option<P>
     if quiet { None } else { Some(watcher) }
 }
 
-/// Does the task of a run with the job that a reader gives. The file of a certificate is made before anything is read.
+/// Does the task of a run with the job that a reader gives.
 fn do_task<F: Files, R: Read, W: Write, P: Watcher>(
     files: &F,
     alloc: Global,
@@ -90,15 +92,38 @@ fn do_task<F: Files, R: Read, W: Write, P: Watcher>(
 {
     match usage.task {
         Task::Minimize => filter(alloc, reader, usage.dpi, out, watcher),
-        Task::Certify { file, format } => match fs::create(files, file) {
-            Ok(mut cert) => filter_cert(alloc, reader, usage.dpi, format, out, &mut cert, watcher),
-            Err(_) => Err(Fault::WriteFault),
-        },
-        Task::Preview { page } => {
-            let job = read_all(alloc, reader, INPUT_LIMIT)?;
-            preview(alloc, &job, page, usage.dpi, out)
+        Task::Certify { file, format } => {
+            certify(files, alloc, file, format, usage.dpi, reader, out, watcher)
         }
+        Task::Preview { page } => show(alloc, page, usage.dpi, reader, out),
     }
+}
+
+/// Writes the job that a reader gives again, and its certificate to the file of this name, which is made before anything is read.
+fn certify<F: Files, R: Read, W: Write, P: Watcher>(
+    files: &F,
+    alloc: Global,
+    file: &str,
+    format: Format,
+    dpi: Dpi,
+    reader: &mut R,
+    out: &mut W,
+    watcher: P,
+) -> Result<(), Fault>
+    ensures { IsCertifyRun dpi format (R.remaining reader.old) (R.remaining reader.new) (W.contents out.old) (W.contents out.new) result }
+{
+    match fs::create(files, file) {
+        Ok(mut cert) => filter_cert(alloc, reader, dpi, format, out, &mut cert, watcher),
+        Err(_) => Err(Fault::WriteFault),
+    }
+}
+
+/// Writes the image of a page of the job that a reader gives.
+fn show<R: Read, W: Write>(alloc: Global, page: usize, dpi: Dpi, reader: &mut R, out: &mut W) -> Result<(), Fault>
+    ensures { IsPreviewRun dpi page (R.remaining reader.old) (R.remaining reader.new) (W.contents out.old) (W.contents out.new) result }
+{
+    let job = read_all(alloc, reader, INPUT_LIMIT)?;
+    preview(alloc, &job, page, dpi, out)
 }
 
 /// The end of a run that failed.

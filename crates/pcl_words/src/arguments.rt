@@ -12,11 +12,16 @@ pub fn parse_arguments<'w, S: AsStr>(alloc: Global, words: &'w [S]) -> Result<Re
     let matches = pclmin(alloc)?.try_get_matches_from(words)?;
     match request_of(&matches) {
         Some(request) => Ok(request),
-        None => Err(pclmin(alloc)?.error(
-            ErrorKind::InvalidValue,
-            "the resolution of --dpi is 300 or 600",
-        )?),
+        None => Err(wrong_resolution(alloc)?),
     }
+}
+
+/// The fault of a resolution that is none.
+fn wrong_resolution(alloc: Global) -> Result<Error, AllocError> {
+    pclmin(alloc)?.error(
+        ErrorKind::InvalidValue,
+        "the resolution of --dpi is 300 or 600",
+    )
 }
 
 /// What the words of a command ask for, where its resolution is one.
@@ -69,7 +74,13 @@ fn preview_task<'w>(pbm: &ArgMatches<'w>) -> Option<Task<'w>> {
 
 /// The program's command line.
 fn pclmin<'a>(alloc: Global) -> Result<Command<'a>, AllocError> {
-    let command = Command::new(alloc, "pclmin")
+    let command = program(alloc).subcommand(min(alloc)?)?;
+    command.subcommand(check(alloc)?)?.subcommand(pbm(alloc)?)
+}
+
+/// The program, without its commands.
+fn program<'a>(alloc: Global) -> Command<'a> {
+    Command::new(alloc, "pclmin")
         .version("0.1.0")
         .about("A print filter for HP PCL 5: reads a job, and writes or shows what it prints.")
         .after_help(
@@ -77,44 +88,48 @@ fn pclmin<'a>(alloc: Global) -> Result<Command<'a>, AllocError> {
         )
         .subcommand_required(true)
         .arg_required_else_help(true)
-        .subcommand(min(alloc)?)?
-        .subcommand(check(alloc)?)?
-        .subcommand(pbm(alloc)?)?;
-    Ok(command)
 }
 
 /// The command that writes a job again.
 fn min<'a>(alloc: Global) -> Result<Command<'a>, AllocError> {
-    let cert = Arg::new(alloc, "cert").long("cert").value_name("FILE").help(
-        "Also write a certificate of the job to this file, which is made or emptied first",
+    let command = Command::new(alloc, "min").about(
+        "Writes the job on standard input again as a raster job of the same pages to standard output",
     );
+    of_every_run(alloc, command.arg(cert(alloc))?.arg(format(alloc)?)?)
+}
+
+/// The file of a certificate.
+fn cert<'a>(alloc: Global) -> Arg<'a> {
+    Arg::new(alloc, "cert").long("cert").value_name("FILE").help(
+        "Also write a certificate of the job to this file, which is made or emptied first",
+    )
+}
+
+/// The format of a certificate.
+fn format<'a>(alloc: Global) -> Result<Arg<'a>, AllocError> {
     let format = Arg::new(alloc, "format")
         .long("format")
         .value_name("N")
         .value_parser(value_parser!(u16).range(1..=2))
-        .requires_arg("cert")?
-        .help("The format of the certificate, 1 or 2; 1 where none is given");
-    Command::new(alloc, "min")
-        .about(
-            "Writes the job on standard input again as a raster job of the same pages to standard output",
-        )
-        .arg(cert)?
-        .arg(format)?
-        .arg(quiet(alloc))?
-        .arg(dpi(alloc))
+        .requires_arg("cert")?;
+    Ok(format.help("The format of the certificate, 1 or 2; 1 where none is given"))
 }
 
 /// The command that checks a written job.
 fn check<'a>(alloc: Global) -> Result<Command<'a>, AllocError> {
-    Command::new(alloc, "check")
-        .about(
-            "Checks by a certificate that a written job prints the pages of another one, and that none is shorter",
-        )
+    let command = Command::new(alloc, "check").about(
+        "Checks by a certificate that a written job prints the pages of another one, and that none is shorter",
+    );
+    let command = command
         .arg(file(alloc, "IN", "The job as it was"))?
         .arg(file(alloc, "OUT", "The job that it was written as"))?
-        .arg(file(alloc, "CERT", "The certificate of the written job"))?
-        .arg(quiet(alloc))?
-        .arg(dpi(alloc))
+        .arg(file(alloc, "CERT", "The certificate of the written job"))?;
+    of_every_run(alloc, command)
+}
+
+/// A command with what those that run over whole jobs take.
+fn of_every_run<'a>(alloc: Global, command: Command<'a>) -> Result<Command<'a>, AllocError> {
+    command.arg(quiet(alloc))?.arg(dpi(alloc))
 }
 
 /// A file that is asked for.

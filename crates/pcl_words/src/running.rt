@@ -1,5 +1,6 @@
 //! A run by the words of a command line, and its status.
 
+ghost use Rattle.std.specs.Prelude.{ℕ, List, Option};
 ghost use Rattle.pcl_words.specs.Runs.{HasRunWords, IsExitStatus};
 
 use crate::arguments::parse_arguments;
@@ -30,8 +31,18 @@ pub fn run<F: Files, S: AsStr, R: Read, W: Write, P: Watcher>(
 {
     match parse_arguments(alloc, words) {
         Ok(request) => Ok(carry_out(files, alloc, request, reader, out, watcher)),
-        Err(error) if error.kind() == ErrorKind::OutOfMemory => Ok(Ending::NoMemory),
-        Err(error) => Err(error),
+        Err(error) => unread(error),
+    }
+}
+
+/// The end of a run whose words ask for nothing that reads or writes: want of memory is told as that of any run.
+fn unread(error: Error) -> Result<Ending, Error>
+    ensures { (given held : Option (List ℕ)) → HasRunWords given given held held result }
+{
+    if error.kind() == ErrorKind::OutOfMemory {
+        Ok(Ending::NoMemory)
+    } else {
+        Err(error)
     }
 }
 

@@ -15,8 +15,8 @@ five_joined old a b c d e p q r s t =
     (q ∙ ap (λ (x : List ℕ). x ++ b) p))) ∙ simp append_assoc
 
 pub start_regrouped : (dpi : Dpi) (copies : ℕ) (size : Size)
-    → ((27 ∷ 38 ∷ 108 ∷ []) ++ (decimal copies ++ ((120 ∷ []) ++ (decimal (code_of size) ++
-    (97 ∷ 48 ∷ 69 ∷ 27 ∷ 42 ∷ 112 ∷ 48 ∷ 120 ∷ 48 ∷ 89 ∷ 27 ∷ 42 ∷ 116 ∷ [])))))
-    ++ (decimal (dots_per_inch dpi) ++ ((82 ∷ 27 ∷ 42 ∷ 114 ∷ []) ++ (decimal (page_width size dpi) ++ (115 ∷ 48 ∷ 65 ∷ []))))
+    → ((27 ∷ 38 ∷ 108 ∷ []) ++ decimal copies) ++ (((120 ∷ []) ++ decimal (code_of size)) ++
+    (((97 ∷ 48 ∷ 69 ∷ 27 ∷ 42 ∷ 112 ∷ 48 ∷ 120 ∷ 48 ∷ 89 ∷ 27 ∷ 42 ∷ 116 ∷ []) ++ decimal (dots_per_inch dpi)) ++
+    (((82 ∷ 27 ∷ 42 ∷ 114 ∷ []) ++ decimal (page_width size dpi)) ++ (115 ∷ 48 ∷ 65 ∷ []))))
     ≡ start_bytes dpi copies size
 start_regrouped dpi copies size = simp append_assoc

@@ -6,7 +6,7 @@ ghost use Rattle.pcl_plan.specs.PagePlans.{IsPlanOf};
 ghost use Rattle.pcl_writer.specs.Appending.{AppendsPage};
 
 use crate::body::append_body;
-use crate::number::append_number;
+use crate::number::append_labelled;
 use pcl_base::{Dpi, Size};
 use pcl_page::Page;
 use pcl_plan::Plan;
@@ -53,14 +53,10 @@ fn append_start(copies: u8, size: Size, dpi: Dpi, out: &mut Vec<u8>) -> Result<(
     ensures ok { OnOk result (out.new.items ≡ out.old.items ++ start_bytes dpi copies size) }
     ensures front { take (length out.old.items) out.new.items ≡ out.old.items }
 {
-    out.extend_from_slice(b"\x1b&l")?;
-    append_number(u32::from(copies), out)?;
-    out.extend_from_slice(b"x")?;
-    append_number(size.code(), out)?;
-    out.extend_from_slice(b"a0E\x1b*p0x0Y\x1b*t")?;
-    append_number(dpi.dots(), out)?;
-    out.extend_from_slice(b"R\x1b*r")?;
-    append_number(size.width(dpi), out)?;
+    append_labelled(b"\x1b&l", u32::from(copies), out)?;
+    append_labelled(b"x", size.code(), out)?;
+    append_labelled(b"a0E\x1b*p0x0Y\x1b*t", dpi.dots(), out)?;
+    append_labelled(b"R\x1b*r", size.width(dpi), out)?;
     out.extend_from_slice(b"s0A")?;
     Ok(())
 }
