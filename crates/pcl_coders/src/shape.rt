@@ -1,6 +1,6 @@
 //! The shapes of the elements that coders try.
 
-ghost use Rattle.std.specs.Prelude.{◌≡◌, ◌+◌, ◌<◌, ◌≤◌, ◌++◌, length, take, OnOk, OnErr};
+ghost use Rattle.std.specs.Prelude.{◌≡◌, ◌+◌, ◌<◌, ◌≤◌, ◌/◌, ◌%◌, [], ◌∷◌, ◌++◌, length, replicate, take, OnOk, OnErr};
 ghost use Rattle.pcl_rows.specs.Elements.{element_bytes};
 ghost use Rattle.pcl_rows.specs.Heads.{head_bytes};
 ghost use Rattle.pcl_coders.specs.Replacement.{replacement};
@@ -46,25 +46,18 @@ impl Shape {
         ensures err { OnErr result (take (length out.old.items) out.new.items ≡ out.old.items) }
     {
         match self {
-            Shape::SingleByte => out.push(wanted[0])?,
-            Shape::Run { len } => {
-                out.push((len - 1) as u8)?;
-                out.push(wanted[0])?;
-            }
+            Shape::SingleByte => out.extend_from_slice(&wanted[..1]),
+            Shape::Run { len } => out.extend_from_slice(&[(len - 1) as u8, wanted[0]]),
             Shape::LiteralRun { len } => {
                 out.push((len - 1) as u8)?;
-                out.extend_from_slice(&wanted[..len])?;
+                out.extend_from_slice(&wanted[..len])
             }
-            Shape::RepeatRun { len } => {
-                out.push((257 - len) as u8)?;
-                out.push(wanted[0])?;
-            }
+            Shape::RepeatRun { len } => out.extend_from_slice(&[(257 - len) as u8, wanted[0]]),
             Shape::Replace { offset, len } => {
                 append_command(offset, len, out)?;
-                out.extend_from_slice(&wanted[offset..offset + len])?;
+                out.extend_from_slice(&wanted[offset..offset + len])
             }
         }
-        Ok(())
     }
 }
 
@@ -76,13 +69,20 @@ fn append_command(offset: usize, len: usize, out: &mut Vec<u8>) -> Result<(), Al
 {
     let count = 32 * (len - 1) as u8;
     if offset < 31 {
-        out.push(count + offset as u8)?;
+        out.extend_from_slice(&[count + offset as u8])
     } else {
-        out.push(count + 31)?;
-        for _ in 0..(offset - 31) / 255 {
-            out.push(255)?;
-        }
-        out.push(((offset - 31) % 255) as u8)?;
+        append_lengthened(count + 31, offset - 31, out)
     }
-    Ok(())
+}
+
+/// Appends a command byte, and the bytes that lengthen its offset by so many.
+fn append_lengthened(command: u8, more: usize, out: &mut Vec<u8>) -> Result<(), AllocError>
+    ensures ok { OnOk result (out.new.items ≡ out.old.items ++ command ∷ (replicate (more / 255) 255 ++ more % 255 ∷ [])) }
+    ensures err { OnErr result (take (length out.old.items) out.new.items ≡ out.old.items) }
+{
+    out.push(command)?;
+    for _ in 0..more / 255 {
+        out.push(255)?;
+    }
+    out.extend_from_slice(&[(more % 255) as u8])
 }
