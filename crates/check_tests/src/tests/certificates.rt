@@ -2,7 +2,8 @@ use super::assert_gives;
 use pcl_base::{Dpi, Method, Size};
 use pcl_bitmap::{Bitmap, Ink};
 use pcl_cert::{
-    CertFault, Format, Verdict, check_page, read_certificate, row_tables, write_certificate,
+    CertFault, Format, PageProof, Verdict, check_page, read_certificate, row_tables,
+    write_certificate,
 };
 use pcl_page::Page;
 use std::alloc::{AllocError, Global};
@@ -65,22 +66,20 @@ fn checked(
     bytes: &[u8],
     body: &[u8],
 ) -> Result<Result<Verdict, CertFault>, AllocError> {
+    match read_certificate(alloc, bytes, Dpi::Dpi300) {
+        Ok((_, proofs)) => match proofs.first() {
+            Some(proof) => Ok(Ok(verdict_by(alloc, proof, body)?)),
+            None => Ok(Err(CertFault::Short)),
+        },
+        Err(fault) => Ok(Err(fault)),
+    }
+}
+
+/// The verdict on the page and a text with this body.
+fn verdict_by(alloc: Global, proof: &PageProof, body: &[u8]) -> Result<Verdict, AllocError> {
     let page = dot_page(alloc)?;
     let text = text(alloc, body)?;
-    let (_, proofs) = match read_certificate(alloc, bytes, Dpi::Dpi300) {
-        Ok(read) => read,
-        Err(fault) => return Ok(Err(fault)),
-    };
-    match proofs.first() {
-        None => Ok(Err(CertFault::Short)),
-        Some(proof) => Ok(Ok(check_page(
-            alloc,
-            &page,
-            &text,
-            &proof.table,
-            proof.places.as_ref(),
-        )?)),
-    }
+    check_page(alloc, &page, &text, &proof.table, proof.places.as_ref())
 }
 
 /// What reading a certificate answers, or the verdict on a page and a text by it.
@@ -149,15 +148,22 @@ fn texts(rt: HostRuntime) -> Result<(), AllocError> {
     Ok(())
 }
 
-// The row tables of the page are those of its certificate, and what is read is written again.
+// The row tables of the page are those of its certificate.
 #[test]
-fn written_again(rt: HostRuntime) -> Result<(), AllocError> {
+fn lists_of_the_page(rt: HostRuntime) -> Result<(), AllocError> {
     let bytes = dot_certificate(rt.alloc(), Format::Two)?;
     let tables = row_tables(rt.alloc(), &dot_page(rt.alloc())?)?;
     let mut lists = Vec::new(rt.alloc());
     tables.append(&mut lists)?;
     assert_gives(&rt, &"lists", &Some(lists.as_slice()), &bytes.get(LISTS..));
     assert_gives(&rt, &"rows", &tables.rows(), &3300);
+    Ok(())
+}
+
+// What is read is written again.
+#[test]
+fn written_again(rt: HostRuntime) -> Result<(), AllocError> {
+    let bytes = dot_certificate(rt.alloc(), Format::Two)?;
     let Ok((format, proofs)) = read_certificate(rt.alloc(), &bytes, Dpi::Dpi300) else {
         rt.abort();
     };

@@ -1,5 +1,6 @@
 ghost use Rattle.pcl_coders.specs.Coding.{IsCodable};
 
+use super::assert_gives;
 use pcl_base::Method;
 use pcl_coders::{Delta, Packed, Plain, RowCoder, Runs, Window};
 use pcl_rows::{decode, is_whole};
@@ -232,9 +233,9 @@ const CODED: [(Method, &[u8], &[u8], usize, &[u8]); 18] = [
 /// Which of several least codings is written.
 #[test]
 fn ties(rt: HostRuntime) -> Result<(), AllocError> {
-    for (method, row, seed, len, want) in CODED {
-        let data = data_by(&rt, rt.alloc(), method, row, seed, len)?;
-        assert!(rt; data.as_slice() == want, "{row:?}");
+    for (method, row, seed, len, want) in &CODED {
+        let data = data_by(&rt, rt.alloc(), *method, row, seed, *len)?;
+        assert_gives(&rt, row, &data.as_slice(), want);
     }
     Ok(())
 }

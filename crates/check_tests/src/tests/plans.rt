@@ -2,6 +2,7 @@
 
 ghost use Rattle.std.specs.Prelude.{◌+◌, ◌*◌, ◌/◌, ◌≤◌, length};
 
+use super::assert_gives;
 use super::plan_search::searched_cost;
 use super::short_rows::set_bytes;
 use pcl_base::{Dpi, Method, Size};
@@ -12,6 +13,7 @@ use pcl_plan::{
     printing_is_walking,
 };
 use std::alloc::{AllocError, Global};
+use std::process::Abort;
 
 /// The plan of a page with `height` rows of `width` dots from row `top` on, and white rows around them.
 fn plan_of(
@@ -69,13 +71,10 @@ const BODIES: [(&[u8], &[Step], u32); 9] = [
 /// Bodies that are worked out by hand.
 #[test]
 fn bodies(rt: HostRuntime) -> Result<(), AllocError> {
-    for (rows, steps, cost) in BODIES {
+    for (rows, steps, cost) in &BODIES {
         let plan = plan_of(rt.alloc(), 0, 8, rows.len().min(99) as u16, rows)?;
-        assert!(rt; plan.steps() == steps, "{rows:?}");
-        assert!(rt;
-            plan.cost() == cost && plan.table().rows() == 3300,
-            "{rows:?}"
-        );
+        let given = (plan.steps(), plan.cost(), plan.table().rows());
+        assert_gives(&rt, rows, &given, &(*steps, *cost, 3300));
     }
     Ok(())
 }
@@ -94,14 +93,19 @@ const NUMBERS: [(u32, Method, bool, u32); 6] = [
 #[test]
 fn dot_at_the_top(rt: HostRuntime) -> Result<(), AllocError> {
     let plan = plan_of(rt.alloc(), 0, 1, 1, &[0x80])?;
-    assert_eq!(rt; plan.steps(), &[Step::Row(1)][..]);
-    let table = plan.table();
-    assert_eq!(rt; table.rows(), 3300);
-    for (row, method, inside, number) in NUMBERS {
-        assert!(rt; row <= table.rows());
-        assert!(rt; table.number(row, method, inside) == number, "{method:?}");
-    }
+    let steps: &[Step] = &[Step::Row(1)];
+    assert_gives(&rt, &"steps", &plan.steps(), &steps);
+    assert_numbers(&rt, plan.table());
     Ok(())
+}
+
+/// Asserts how many rows a table has, and the numbers of its nodes.
+fn assert_numbers(rt: &impl Abort, table: &Table) {
+    assert_gives(rt, &"rows", &table.rows(), &3300);
+    for (row, method, inside, number) in &NUMBERS {
+        let row = (*row).min(table.rows());
+        assert_gives(rt, method, &table.number(row, *method, *inside), number);
+    }
 }
 
 /// A dot below white rows.
