@@ -119,7 +119,13 @@ fn certify<F: Files, R: Read, W: Write, P: Watcher>(
 }
 
 /// Writes the image of a page of the job that a reader gives.
-fn show<R: Read, W: Write>(alloc: Global, page: usize, dpi: Dpi, reader: &mut R, out: &mut W) -> Result<(), Fault>
+fn show<R: Read, W: Write>(
+    alloc: Global,
+    page: usize,
+    dpi: Dpi,
+    reader: &mut R,
+    out: &mut W,
+) -> Result<(), Fault>
     ensures { IsPreviewRun dpi page (R.remaining reader.old) (R.remaining reader.new) (W.contents out.old) (W.contents out.new) result }
 {
     let job = read_all(alloc, reader, INPUT_LIMIT)?;
