@@ -105,7 +105,8 @@ fn assert_filtered<C: Debug, R: Read>(
     alloc: Global,
     case: &C,
     source: &mut R,
-    (mut out, mut cert): (Held, Held),
+    mut out: Held,
+    mut cert: Held,
     wanted: &Filtered,
 ) {
     let result = filter_cert(
@@ -151,7 +152,7 @@ fn each_read_fails(rt: HostRuntime) {
                 good: Some(good),
                 kind,
             };
-            let writers = (taking(alloc, usize::MAX), taking(alloc, usize::MAX));
+            let (out, cert) = (taking(alloc, usize::MAX), taking(alloc, usize::MAX));
             let wanted = Filtered {
                 result: Err(Fault::ReadFault),
                 job: b"",
@@ -159,7 +160,7 @@ fn each_read_fails(rt: HostRuntime) {
                 certificate: b"",
                 certificate_flushes: 0,
             };
-            assert_filtered(&rt, alloc, &good, &mut source, writers, &wanted);
+            assert_filtered(&rt, alloc, &good, &mut source, out, cert, &wanted);
         }
     }
 }
@@ -181,8 +182,8 @@ fn assert_job_fails(
         certificate: b"",
         certificate_flushes: 0,
     };
-    let writers = (out, taking(alloc, usize::MAX));
-    assert_filtered(rt, alloc, &(most, good), &mut &*JOB, writers, &wanted);
+    let cert = taking(alloc, usize::MAX);
+    assert_filtered(rt, alloc, &(most, good), &mut &*JOB, out, cert, &wanted);
 }
 
 // Each write of the job fails in turn, or its flush; then the writer holds what it took, and nothing of the certificate is
@@ -214,8 +215,8 @@ fn assert_certificate_fails(
         certificate,
         certificate_flushes: flushes,
     };
-    let writers = (taking(alloc, usize::MAX), cert);
-    assert_filtered(rt, alloc, &(most, good), &mut &*JOB, writers, &wanted);
+    let out = taking(alloc, usize::MAX);
+    assert_filtered(rt, alloc, &(most, good), &mut &*JOB, out, cert, &wanted);
 }
 
 /// The most bytes of a write, and how many writes the certificate takes.
@@ -253,7 +254,7 @@ fn one_byte_a_call(rt: HostRuntime) -> Result<(), AllocError> {
         certificate: &whole,
         certificate_flushes: 1,
     };
-    let writers = (taking(alloc, 1), taking(alloc, 1));
-    assert_filtered(&rt, alloc, &"one byte", &mut source, writers, &wanted);
+    let (out, cert) = (taking(alloc, 1), taking(alloc, 1));
+    assert_filtered(&rt, alloc, &"one byte", &mut source, out, cert, &wanted);
     Ok(())
 }

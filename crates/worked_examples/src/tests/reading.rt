@@ -7,58 +7,60 @@ use std::alloc::{AllocError, Global};
 use std::io::ErrorKind;
 use std::process::Abort;
 
-/// The bytes of a source, how many a read gives, which read fails, the limit, and what is read; and how
-/// many bytes the source still has.
-type Row<'a> = (
-    &'a [u8],
+/// The bytes of which each source gives a front.
+const TEXT: &[u8] = b"abcdefgh";
+
+/// How many bytes a source has, how many a read gives, which read fails, the limit, and how many bytes are
+/// read, as they are; and how many the source still has.
+type Row = (
+    usize,
     usize,
     Option<usize>,
     usize,
-    Result<&'a [u8], Fault>,
+    Result<(usize, bool), Fault>,
     usize,
 );
 
 const ROWS: [Row; 17] = [
-    (b"abcd", 9, None, 4, Ok(b"abcd"), 0),
-    (b"abcd", 1, None, 4, Ok(b"abcd"), 0),
-    (b"abc", 2, None, 4, Ok(b"abc"), 0),
-    (b"", 9, None, 4, Ok(b""), 0),
-    (b"", 9, None, 0, Ok(b""), 0),
-    (b"abcd", 9, None, usize::MAX, Ok(b"abcd"), 0),
-    (b"abcde", 9, None, 4, Err(Fault::TooLong), 0),
-    (b"abcde", 1, None, 4, Err(Fault::TooLong), 0),
-    (b"abcdefgh", 9, None, 4, Err(Fault::TooLong), 3),
-    (b"abcdefgh", 3, None, 4, Err(Fault::TooLong), 3),
-    (b"ab", 9, None, 0, Err(Fault::TooLong), 1),
-    (b"abcd", 9, Some(0), 4, Err(Fault::ReadFault), 4),
-    (b"abcd", 1, Some(2), 4, Err(Fault::ReadFault), 2),
-    (b"abcd", 9, Some(1), 4, Err(Fault::ReadFault), 0),
-    (b"abcd", 9, Some(1), 9, Err(Fault::ReadFault), 0),
-    (b"abcd", 9, Some(2), 4, Ok(b"abcd"), 0),
-    (b"abcde", 9, Some(1), 4, Err(Fault::TooLong), 0),
+    (4, 9, None, 4, Ok((4, true)), 0),
+    (4, 1, None, 4, Ok((4, true)), 0),
+    (3, 2, None, 4, Ok((3, true)), 0),
+    (0, 9, None, 4, Ok((0, true)), 0),
+    (0, 9, None, 0, Ok((0, true)), 0),
+    (4, 9, None, usize::MAX, Ok((4, true)), 0),
+    (5, 9, None, 4, Err(Fault::TooLong), 0),
+    (5, 1, None, 4, Err(Fault::TooLong), 0),
+    (8, 9, None, 4, Err(Fault::TooLong), 3),
+    (8, 3, None, 4, Err(Fault::TooLong), 3),
+    (2, 9, None, 0, Err(Fault::TooLong), 1),
+    (4, 9, Some(0), 4, Err(Fault::ReadFault), 4),
+    (4, 1, Some(2), 4, Err(Fault::ReadFault), 2),
+    (4, 9, Some(1), 4, Err(Fault::ReadFault), 0),
+    (4, 9, Some(1), 9, Err(Fault::ReadFault), 0),
+    (4, 9, Some(2), 4, Ok((4, true)), 0),
+    (5, 9, Some(1), 4, Err(Fault::TooLong), 0),
 ];
+
+/// How many bytes are read of a source, and whether they are those that it had.
+fn read(alloc: Global, source: &mut Source, limit: usize) -> Result<(usize, bool), Fault> {
+    let whole = source.rest;
+    match read_all(alloc, source, limit) {
+        Ok(bytes) => Ok((bytes.len(), bytes.as_slice() == whole)),
+        Err(fault) => Err(fault),
+    }
+}
 
 /// Asserts what is read of a row whose failing read fails so.
 fn assert_read(rt: &impl Abort, alloc: Global, kind: ErrorKind, row: &Row) {
-    let (bytes, most, good, limit, wanted, left) = *row;
+    let (len, most, good, limit, wanted, left) = *row;
     let mut source = Source {
-        rest: bytes,
+        rest: TEXT.get(..len).unwrap_or(TEXT),
         most,
         good,
         kind,
     };
-    let read = read_all(alloc, &mut source, limit);
-    let given = match &read {
-        Ok(bytes) => Ok(bytes.as_slice()),
-        Err(fault) => Err(*fault),
-    };
-    let left_behind = source.rest.len();
-    assert_gives(
-        rt,
-        &(most, good, limit),
-        &(given, left_behind),
-        &(wanted, left),
-    );
+    let given = read(alloc, &mut source, limit);
+    assert_gives(rt, row, &(given, source.rest.len()), &(wanted, left));
 }
 
 #[test]
@@ -87,11 +89,7 @@ fn assert_long_read(rt: &impl Abort, alloc: Global, bytes: &[u8], row: &LongRow)
         good,
         kind: ErrorKind::Interrupted,
     };
-    let read = read_all(alloc, &mut source, limit);
-    let given = match &read {
-        Ok(read) => Ok((read.len(), read.as_slice() == bytes)),
-        Err(fault) => Err(*fault),
-    };
+    let given = read(alloc, &mut source, limit);
     assert_gives(rt, row, &given, &wanted);
 }
 

@@ -104,7 +104,7 @@ fn count_black(image: &[u8]) -> usize {
 
 /// Asserts which bytes stand first in the topmost row of a page and in its rows 75 and 76, and that as many are black as the
 /// page's number.
-fn assert_page(rt: &impl Abort, alloc: Global, page: usize, wanted: &[u8; 3]) {
+fn assert_page(rt: &impl Abort, alloc: Global, page: usize, wanted: &[Option<u8>; 3]) {
     let mut out = Vec::new(alloc);
     let result = preview(alloc, PAGES, page, Dpi::Dpi600, &mut out);
     let image = out.as_slice();
@@ -118,13 +118,13 @@ fn assert_page(rt: &impl Abort, alloc: Global, page: usize, wanted: &[u8; 3]) {
         rt,
         &page,
         &(result, image.len(), head, firsts, count_black(image)),
-        &(Ok(()), 13 + 600 * 6600, true, wanted.map(Some), page),
+        &(Ok(()), 13 + 600 * 6600, true, *wanted, page),
     );
 }
 
 // Pages are counted from 1, in order.
 #[test]
 fn chosen_pages(rt: HostRuntime) {
-    assert_page(&rt, rt.alloc(), 1, &[0, 0x80, 0]);
-    assert_page(&rt, rt.alloc(), 2, &[0, 0x40, 0x20]);
+    assert_page(&rt, rt.alloc(), 1, &[Some(0), Some(0x80), Some(0)]);
+    assert_page(&rt, rt.alloc(), 2, &[Some(0), Some(0x40), Some(0x20)]);
 }
