@@ -1,85 +1,149 @@
 //! Jobs that are written with their certificates, between readers and writers that give or take little, or fail.
 
-use super::devices::{Held, Source};
-use super::filtering::{JOB, WRITTEN, taking};
+use super::assert_gives;
+use super::devices::{Held, Source, failing, taking};
+use super::filtering::{JOB, WRITES, WRITTEN, taken};
 use pcl_base::Dpi;
 use pcl_cert::Format;
 use pcl_tool::{Fault, Unwatched, filter_cert, minimize};
 use std::alloc::{AllocError, Global};
+use std::fmt::Debug;
 use std::io::{ErrorKind, Read};
 use std::process::Abort;
-use std::test::Fail;
 
-/// The certificate of the job with the dot (0, 0), as it is worked out by hand.
+/// The certificate of the job with the dot (0, 0) behind the bytes with which those of its format begin, as it is worked out
+/// by hand: parts, and how often each comes. The first format ends behind the first two.
+const PARTS: [(&[u8], usize); 4] = [
+    (
+        &[
+            0, 0, 0, 1, 0, 0, 0, 44, 0x0C, 0xE4, //
+            0, 0, 0, 6, 0, 0, 0, 3, 0, 0, 0, 7, 0, 0, 0, 4, //
+            0, 0, 0, 7, 0, 0, 0, 4, 0, 0, 0, 7, 0, 0, 0, 4,
+        ],
+        1,
+    ),
+    (&[0, 0, 0, 0, 0, 0, 0, 1], 4 * 3300),
+    (
+        &[
+            0, 1, 0, 1, 0, 1, 0, 2, 0, 1, 0, 2, 0, 1, 0, 2, //
+            0, 0, 0, 0, 0, 0, 0, 1, 0, 2,
+        ],
+        1,
+    ),
+    (&[0], 26_384),
+];
+
+/// The whole of it.
 fn certificate(alloc: Global, format: Format) -> Result<Vec<u8>, AllocError> {
+    let parts = if format == Format::One { 2 } else { 4 };
     let mut bytes = Vec::from_slice(alloc, format.magic())?;
-    bytes.extend_from_slice(&[0, 0, 0, 1, 0, 0, 0, 44, 0x0C, 0xE4])?;
-    for number in [6, 3, 7, 4, 7, 4, 7, 4] {
-        bytes.extend_from_slice(&[0, 0, 0, number])?;
-    }
-    for _ in 0..4 * 3300 {
-        bytes.extend_from_slice(&[0, 0, 0, 0, 0, 0, 0, 1])?;
-    }
-    if format == Format::Two {
-        bytes.extend_from_slice(&[0, 1, 0, 1, 0, 1, 0, 2, 0, 1, 0, 2, 0, 1, 0, 2])?;
-        bytes.extend_from_slice(&[0, 0, 0, 0, 0, 0, 0, 1, 0, 2])?;
-        bytes.extend_from_slice(&vec![in alloc; 0; 26_384]?)?;
+    for (part, times) in PARTS.iter().take(parts) {
+        for _ in 0..*times {
+            bytes.extend_from_slice(part)?;
+        }
     }
     Ok(bytes)
 }
 
-/// What `filter_cert` answers for the job in the first format.
-fn filtered<R: Read>(
+/// Asserts what a job is written as, with its certificate.
+fn assert_minimized(
+    rt: &impl Abort,
     alloc: Global,
-    source: &mut R,
-    out: &mut Held,
-    cert: &mut Held,
-) -> Result<(), Fault> {
-    filter_cert(
-        alloc,
-        source,
-        Dpi::Dpi300,
-        Format::One,
-        out,
-        cert,
-        Unwatched,
-    )
+    job: &[u8],
+    format: Format,
+    wanted: &(&[u8], usize, &[u8]),
+) {
+    let (written, len, certificate) = *wanted;
+    let output = minimize(alloc, job, Dpi::Dpi300, format, Unwatched);
+    let given = match &output {
+        Ok(output) => Ok((
+            output.job.as_slice(),
+            output.certificate.len(),
+            output.certificate.as_slice() == certificate,
+        )),
+        Err(fault) => Err(*fault),
+    };
+    assert_gives(rt, &(job, format), &given, &Ok((written, len, true)));
 }
 
-/// Asserts what a writer holds, and how often it was flushed.
-fn assert_held(rt: &impl Abort, held: &Held, bytes: &[u8], flushes: usize, case: &str) {
-    assert!(rt;
-        held.bytes.as_slice() == bytes,
-        "{case}: {} bytes",
-        held.bytes.len()
-    );
-    assert_eq!(rt; held.flushes, flushes, "{case}");
-}
+/// Formats, the certificate of no page, and the length of that of the page with a dot.
+const FORMATS: [(Format, &[u8], usize); 2] = [
+    (Format::One, b"PCLCERT1\0\0\0\0", 105_650),
+    (Format::Two, b"PCLCERT2\0\0\0\0", 132_060),
+];
 
 // The certificates of no page and of the page with a dot, in both formats.
 #[test]
-fn by_hand(rt: HostRuntime) -> Result<(), Fail> {
-    for (format, len) in [(Format::One, 105_650), (Format::Two, 132_060)] {
-        let Ok(none) = minimize(rt.alloc(), b"", Dpi::Dpi300, format, Unwatched) else {
-            rt.abort();
-        };
-        assert!(rt; none.job.as_slice() == b"\x1bE\x1bE".as_slice());
-        assert!(rt; none.certificate.starts_with(format.magic()));
-        assert!(rt; none.certificate.ends_with(&[0, 0, 0, 0]));
-        assert_eq!(rt; none.certificate.len(), 12);
-        let Ok(dot) = minimize(rt.alloc(), JOB, Dpi::Dpi300, format, Unwatched) else {
-            rt.abort();
-        };
-        assert_eq!(rt; dot.job.as_slice(), WRITTEN);
-        assert_eq!(rt; dot.certificate.len(), len);
-        assert!(rt; dot.certificate.as_slice() == certificate(rt.alloc(), format)?.as_slice());
+fn by_hand(rt: HostRuntime) -> Result<(), AllocError> {
+    for (format, none, len) in &FORMATS {
+        assert_minimized(&rt, rt.alloc(), b"", *format, &(b"\x1bE\x1bE", 12, none));
+        let dot = certificate(rt.alloc(), *format)?;
+        assert_minimized(&rt, rt.alloc(), JOB, *format, &(WRITTEN, *len, &dot));
     }
     Ok(())
 }
 
+/// What `filter_cert` answers, and what the writers of the job and of the certificate then hold, each with how often it was
+/// flushed.
+#[derive(Clone, Copy)]
+struct Filtered<'a> {
+    /// What is answered.
+    result: Result<(), Fault>,
+    /// The bytes of the job.
+    job: &'a [u8],
+    /// How often their writer was flushed.
+    job_flushes: usize,
+    /// The bytes of the certificate.
+    certificate: &'a [u8],
+    /// How often their writer was flushed.
+    certificate_flushes: usize,
+}
+
+/// Asserts what comes of a filter in the first format between a reader and two writers.
+fn assert_filtered<C: Debug, R: Read>(
+    rt: &impl Abort,
+    alloc: Global,
+    case: &C,
+    source: &mut R,
+    mut out: Held,
+    mut cert: Held,
+    wanted: &Filtered,
+) {
+    let result = filter_cert(
+        alloc,
+        source,
+        Dpi::Dpi300,
+        Format::One,
+        &mut out,
+        &mut cert,
+        Unwatched,
+    );
+    let certified = (
+        cert.bytes.len(),
+        cert.bytes.as_slice() == wanted.certificate,
+    );
+    assert_gives(
+        rt,
+        case,
+        &(
+            result,
+            (out.bytes.as_slice(), out.flushes),
+            certified,
+            cert.flushes,
+        ),
+        &(
+            wanted.result,
+            (wanted.job, wanted.job_flushes),
+            (wanted.certificate.len(), true),
+            wanted.certificate_flushes,
+        ),
+    );
+}
+
 // Each read fails in turn; then nothing is written, nor flushed.
 #[test]
-fn each_read_fails(rt: HostRuntime) -> Result<(), Fail> {
+fn each_read_fails(rt: HostRuntime) {
+    let alloc = rt.alloc();
     for kind in [ErrorKind::BrokenPipe, ErrorKind::Interrupted] {
         for good in 0..6 {
             let mut source = Source {
@@ -88,87 +152,109 @@ fn each_read_fails(rt: HostRuntime) -> Result<(), Fail> {
                 good: Some(good),
                 kind,
             };
-            let mut out = taking(rt.alloc(), usize::MAX);
-            let mut cert = taking(rt.alloc(), usize::MAX);
-            let result = filtered(rt.alloc(), &mut source, &mut out, &mut cert);
-            assert_eq!(rt; result, Err(Fault::ReadFault));
-            assert_held(&rt, &out, b"", 0, "job");
-            assert_held(&rt, &cert, b"", 0, "certificate");
+            let (out, cert) = (taking(alloc, usize::MAX), taking(alloc, usize::MAX));
+            let wanted = Filtered {
+                result: Err(Fault::ReadFault),
+                job: b"",
+                job_flushes: 0,
+                certificate: b"",
+                certificate_flushes: 0,
+            };
+            assert_filtered(&rt, alloc, &good, &mut source, out, cert, &wanted);
         }
     }
-    Ok(())
+}
+
+/// Asserts that the job is written so far where the write behind `good` ones fails, or the flush behind the last one.
+fn assert_job_fails(
+    rt: &impl Abort,
+    alloc: Global,
+    most: usize,
+    good: usize,
+    job: &[u8],
+    flushes: usize,
+) {
+    let out = failing(alloc, most, Some(good), true);
+    let wanted = Filtered {
+        result: Err(Fault::WriteFault),
+        job,
+        job_flushes: flushes,
+        certificate: b"",
+        certificate_flushes: 0,
+    };
+    let cert = taking(alloc, usize::MAX);
+    assert_filtered(rt, alloc, &(most, good), &mut &*JOB, out, cert, &wanted);
 }
 
 // Each write of the job fails in turn, or its flush; then the writer holds what it took, and nothing of the certificate is
 // written.
 #[test]
-fn each_write_of_the_job_fails(rt: HostRuntime) -> Result<(), Fail> {
-    for (most, writes) in [(1, 48), (7, 7), (usize::MAX, 1)] {
-        for good in 0..=writes {
-            let mut out = taking(rt.alloc(), most);
-            out.good = Some(good);
-            out.flush_fails = true;
-            let mut cert = taking(rt.alloc(), usize::MAX);
-            let result = filtered(rt.alloc(), &mut &*JOB, &mut out, &mut cert);
-            assert_eq!(rt; result, Err(Fault::WriteFault), "{most} a write, {good}");
-            let (taken, flushes) = if good < writes {
-                (good.saturating_mul(most), 0)
-            } else {
-                (48, 1)
-            };
-            let front = WRITTEN.get(..taken).unwrap_or(WRITTEN);
-            assert_held(&rt, &out, front, flushes, "job");
-            assert_held(&rt, &cert, b"", 0, "certificate");
+fn each_write_of_the_job_fails(rt: HostRuntime) {
+    for (most, writes) in &WRITES {
+        for good in 0..*writes {
+            assert_job_fails(&rt, rt.alloc(), *most, good, taken(good, *most), 0);
         }
+        assert_job_fails(&rt, rt.alloc(), *most, *writes, WRITTEN, 1);
     }
-    Ok(())
 }
+
+/// Asserts that the certificate is written so far where the write behind `good` ones fails, or the flush behind the last one.
+fn assert_certificate_fails(
+    rt: &impl Abort,
+    alloc: Global,
+    most: usize,
+    good: usize,
+    certificate: &[u8],
+    flushes: usize,
+) {
+    let cert = failing(alloc, most, Some(good), true);
+    let wanted = Filtered {
+        result: Err(Fault::WriteFault),
+        job: WRITTEN,
+        job_flushes: 1,
+        certificate,
+        certificate_flushes: flushes,
+    };
+    let out = taking(alloc, usize::MAX);
+    assert_filtered(rt, alloc, &(most, good), &mut &*JOB, out, cert, &wanted);
+}
+
+/// The most bytes of a write, and how many writes the certificate takes.
+const CERTIFICATE_WRITES: [(usize, usize); 2] = [(10_000, 11), (usize::MAX, 1)];
 
 // Each write of the certificate fails in turn, or its flush; by then the whole job is written and flushed.
 #[test]
-fn each_write_of_the_certificate_fails(rt: HostRuntime) -> Result<(), Fail> {
+fn each_write_of_the_certificate_fails(rt: HostRuntime) -> Result<(), AllocError> {
     let whole = certificate(rt.alloc(), Format::One)?;
-    for (most, writes) in [(10_000, 11), (usize::MAX, 1)] {
-        for good in 0..=writes {
-            let mut out = taking(rt.alloc(), usize::MAX);
-            let mut cert = taking(rt.alloc(), most);
-            cert.good = Some(good);
-            cert.flush_fails = true;
-            let result = filtered(rt.alloc(), &mut &*JOB, &mut out, &mut cert);
-            assert_eq!(rt; result, Err(Fault::WriteFault), "{most} a write, {good}");
-            let (taken, flushes) = if good < writes {
-                (good.saturating_mul(most), 0)
-            } else {
-                (whole.len(), 1)
-            };
-            assert_held(&rt, &out, WRITTEN, 1, "job");
-            let front = whole.as_slice().get(..taken).unwrap_or(whole.as_slice());
-            assert_held(&rt, &cert, front, flushes, "certificate");
+    for (most, writes) in &CERTIFICATE_WRITES {
+        for good in 0..*writes {
+            let front = whole.get(..good.saturating_mul(*most)).unwrap_or(&whole);
+            assert_certificate_fails(&rt, rt.alloc(), *most, good, front, 0);
         }
+        assert_certificate_fails(&rt, rt.alloc(), *most, *writes, &whole, 1);
     }
     Ok(())
 }
 
 // A reader that gives one byte a read, and writers that take one a write.
 #[test]
-fn one_byte_a_call(rt: HostRuntime) -> Result<(), Fail> {
+fn one_byte_a_call(rt: HostRuntime) -> Result<(), AllocError> {
+    let alloc = rt.alloc();
+    let whole = certificate(alloc, Format::One)?;
     let mut source = Source {
         rest: JOB,
         most: 1,
         good: None,
         kind: ErrorKind::BrokenPipe,
     };
-    let mut out = taking(rt.alloc(), 1);
-    let mut cert = taking(rt.alloc(), 1);
-    let result = filtered(rt.alloc(), &mut source, &mut out, &mut cert);
-    assert_eq!(rt; result, Ok(()));
-    assert_held(&rt, &out, WRITTEN, 1, "job");
-    assert_held(
-        &rt,
-        &cert,
-        &certificate(rt.alloc(), Format::One)?,
-        1,
-        "certificate",
-    );
+    let wanted = Filtered {
+        result: Ok(()),
+        job: WRITTEN,
+        job_flushes: 1,
+        certificate: &whole,
+        certificate_flushes: 1,
+    };
+    let (out, cert) = (taking(alloc, 1), taking(alloc, 1));
+    assert_filtered(&rt, alloc, &"one byte", &mut source, out, cert, &wanted);
     Ok(())
 }

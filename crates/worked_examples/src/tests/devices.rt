@@ -1,5 +1,6 @@
 //! Readers that give little or fail, and writers that take little or fail.
 
+use std::alloc::Global;
 use std::io;
 use std::io::{ErrorKind, Read, Write};
 
@@ -43,6 +44,22 @@ pub struct Held {
     pub flush_fails: bool,
     /// How often it was flushed.
     pub flushes: usize,
+}
+
+/// A writer that holds nothing yet, and never fails.
+pub fn taking(alloc: Global, most: usize) -> Held {
+    failing(alloc, most, None, false)
+}
+
+/// A writer that holds nothing yet, one of whose writes may fail, or its flushing.
+pub fn failing(alloc: Global, most: usize, good: Option<usize>, flush_fails: bool) -> Held {
+    Held {
+        bytes: Vec::new(alloc),
+        most,
+        good,
+        flush_fails,
+        flushes: 0,
+    }
 }
 
 impl Write for Held {

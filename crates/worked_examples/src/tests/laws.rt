@@ -1,9 +1,11 @@
 //! Each public call of `pcl_page` that the other examples don't make.
 
+use super::assert_gives;
 use pcl_base::{Dpi, JobFault, Kind, Name, Refusal, Value};
 use pcl_escape::{Command, read_job};
 use pcl_page::{Page, PageSink, one_meaning, run};
-use std::alloc::AllocError;
+use std::alloc::{AllocError, Global};
+use std::process::Abort;
 use std::test::Fail;
 
 /// Counts the pages that come, and keeps none.
@@ -28,37 +30,49 @@ fn states_the_law() {
     one_meaning();
 }
 
-// The commands of a job are performed as the job is; one of no known name, which no reading gives, is
-// refused.
+/// A command that ends a page, and one of no known name, which no reading gives.
+const COMMANDS: [Command<'static>; 2] = [
+    Command {
+        at: 3,
+        name: Name::One(12),
+        value: Value::ZERO,
+        bytes: b"",
+    },
+    Command {
+        at: 7,
+        name: Name::One(b'Y'),
+        value: Value::ZERO,
+        bytes: b"",
+    },
+];
+
+/// How the second one is refused.
+const REFUSAL: Refusal = Refusal {
+    kind: Kind::UnsupportedCommand,
+    at: 7,
+    name: Name::One(b'Y'),
+};
+
+/// Asserts what performing commands up to place `end` answers, and how many pages come.
+fn assert_runs(
+    rt: &impl Abort,
+    alloc: Global,
+    commands: &[Command],
+    end: usize,
+    wanted: &(Result<(), JobFault>, usize),
+) {
+    let mut count = Count { pages: 0 };
+    let result = run(alloc, commands, end, Dpi::Dpi300, &mut count);
+    assert_gives(rt, &end, &(result, count.pages), wanted);
+}
+
+// The commands of a job are performed as the job is; one of no known name is refused.
 #[test]
 fn runs_commands(rt: HostRuntime) -> Result<(), Fail> {
     let job = b"\x0c\x1b*t300R\x1b*b0W";
     let commands = read_job(rt.alloc(), job).ok().ok_or("the job is right")?;
-    let mut count = Count { pages: 0 };
-    assert!(rt; run(rt.alloc(), &commands, job.len(), Dpi::Dpi300, &mut count).is_ok());
-    assert_eq!(rt; count.pages, 2);
-    let name = Name::One(b'Y');
-    let commands = [
-        Command {
-            at: 3,
-            name: Name::One(12),
-            value: Value::ZERO,
-            bytes: b"",
-        },
-        Command {
-            at: 7,
-            name,
-            value: Value::ZERO,
-            bytes: b"",
-        },
-    ];
-    let fault = run(rt.alloc(), &commands, 9, Dpi::Dpi300, &mut count).err();
-    let refusal = Refusal {
-        kind: Kind::UnsupportedCommand,
-        at: 7,
-        name,
-    };
-    assert_eq!(rt; fault, Some(JobFault::Refused(refusal)));
-    assert_eq!(rt; count.pages, 3);
+    assert_runs(&rt, rt.alloc(), &commands, job.len(), &(Ok(()), 2));
+    let refused = (Err(JobFault::Refused(REFUSAL)), 1);
+    assert_runs(&rt, rt.alloc(), &COMMANDS, 9, &refused);
     Ok(())
 }

@@ -2,6 +2,7 @@
 //! that it made fail answers want of memory and writes nothing, and made once more it succeeds: so a call that
 //! answers want of memory where there is none fails its test, also in a run in which nothing fails.
 
+use super::assert_gives;
 use pcl_base::{Dpi, JobFault, Kind, Name, Refusal};
 use pcl_cert::Format;
 use pcl_page::read_pages;
@@ -50,11 +51,10 @@ fn assert_preview(
     let mut result = preview(alloc, job, page, Dpi::Dpi300, &mut out);
     if result == Err(Fault::Memory) {
         say_that_memory_ran_out(rt);
-        assert_eq!(rt; out.0, 0);
+        assert_gives(rt, &page, &out.0, &0);
         result = preview(alloc, job, page, Dpi::Dpi300, &mut out);
     }
-    assert_eq!(rt; result, expected);
-    assert_eq!(rt; out.0, len);
+    assert_gives(rt, &page, &(result, out.0), &(expected, len));
 }
 
 /// Asserts how many pages a job has.
@@ -64,7 +64,7 @@ fn assert_page_count(rt: &(impl Abort + Print), alloc: Global, job: &[u8], count
         say_that_memory_ran_out(rt);
         result = read_pages(alloc, job, Dpi::Dpi300).map(|pages| pages.len());
     }
-    assert_eq!(rt; result, Ok(count));
+    assert_gives(rt, &job, &result, &Ok(count));
 }
 
 /// Asserts how many bytes a job and its certificate have where it is written again.
@@ -81,7 +81,7 @@ fn assert_written(
         say_that_memory_ran_out(rt);
         result = minimize(alloc, job, Dpi::Dpi300, format, Unwatched).map(lengths_of);
     }
-    assert_eq!(rt; result, Ok(lengths));
+    assert_gives(rt, &format, &result, &Ok(lengths));
 }
 
 // The whole image is written, or nothing where memory runs out.
@@ -136,7 +136,7 @@ fn for_an_input(rt: HostRuntime) {
         say_that_memory_ran_out(&rt);
         result = read_all(rt.alloc(), &mut &*JOB, 100).map(|bytes| bytes.as_slice() == JOB);
     }
-    assert_eq!(rt; result, Ok(true));
+    assert_gives(&rt, &"an input", &result, &Ok(true));
 }
 
 // The whole job is written again to a writer, or nothing where memory runs out.
@@ -146,9 +146,8 @@ fn for_a_filter(rt: HostRuntime) {
     let mut result = filter(rt.alloc(), &mut &*JOB, Dpi::Dpi300, &mut out, Unwatched);
     if result == Err(Fault::Memory) {
         say_that_memory_ran_out(&rt);
-        assert_eq!(rt; out.0, 0);
+        assert_gives(&rt, &"out of memory", &out.0, &0);
         result = filter(rt.alloc(), &mut &*JOB, Dpi::Dpi300, &mut out, Unwatched);
     }
-    assert_eq!(rt; result, Ok(()));
-    assert_eq!(rt; out.0, 48);
+    assert_gives(&rt, &"a filter", &(result, out.0), &(Ok(()), 48));
 }

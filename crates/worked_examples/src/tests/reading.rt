@@ -1,91 +1,105 @@
 //! Reading a whole input, from readers that give little or fail.
 
+use super::assert_gives;
 use super::devices::Source;
 use pcl_tool::{Fault, read_all};
+use std::alloc::{AllocError, Global};
 use std::io::ErrorKind;
-use std::test::Fail;
+use std::process::Abort;
 
-// The bytes of a source, how many a read gives, which read fails, the limit, and what is read; and how
-// many bytes the source still has.
-#[test]
-fn with_a_limit(rt: HostRuntime) -> Result<(), Fail> {
-    let cases: [(
-        &[u8],
-        usize,
-        Option<usize>,
-        usize,
-        Result<&[u8], Fault>,
-        usize,
-    ); 17] = [
-        (b"abcd", 9, None, 4, Ok(b"abcd"), 0),
-        (b"abcd", 1, None, 4, Ok(b"abcd"), 0),
-        (b"abc", 2, None, 4, Ok(b"abc"), 0),
-        (b"", 9, None, 4, Ok(b""), 0),
-        (b"", 9, None, 0, Ok(b""), 0),
-        (b"abcd", 9, None, usize::MAX, Ok(b"abcd"), 0),
-        (b"abcde", 9, None, 4, Err(Fault::TooLong), 0),
-        (b"abcde", 1, None, 4, Err(Fault::TooLong), 0),
-        (b"abcdefgh", 9, None, 4, Err(Fault::TooLong), 3),
-        (b"abcdefgh", 3, None, 4, Err(Fault::TooLong), 3),
-        (b"ab", 9, None, 0, Err(Fault::TooLong), 1),
-        (b"abcd", 9, Some(0), 4, Err(Fault::ReadFault), 4),
-        (b"abcd", 1, Some(2), 4, Err(Fault::ReadFault), 2),
-        (b"abcd", 9, Some(1), 4, Err(Fault::ReadFault), 0),
-        (b"abcd", 9, Some(1), 9, Err(Fault::ReadFault), 0),
-        (b"abcd", 9, Some(2), 4, Ok(b"abcd"), 0),
-        (b"abcde", 9, Some(1), 4, Err(Fault::TooLong), 0),
-    ];
-    for kind in [ErrorKind::BrokenPipe, ErrorKind::Interrupted] {
-        for (bytes, most, good, limit, expected, left) in cases {
-            let mut source = Source {
-                rest: bytes,
-                most,
-                good,
-                kind,
-            };
-            let read = read_all(rt.alloc(), &mut source, limit);
-            let read = read
-                .as_ref()
-                .map(|bytes| bytes.as_slice())
-                .map_err(|fault| *fault);
-            assert_eq!(rt; read, expected, "limit {limit}, {most} a read, {good:?}");
-            assert_eq!(rt;
-                source.rest.len(),
-                left,
-                "limit {limit}, {most} a read, {good:?}"
-            );
-        }
+/// The bytes of which each source gives a front.
+const TEXT: &[u8] = b"abcdefgh";
+
+/// How many bytes a source has, how many a read gives, which read fails, the limit, and how many bytes are
+/// read, as they are; and how many the source still has.
+type Row = (
+    usize,
+    usize,
+    Option<usize>,
+    usize,
+    Result<(usize, bool), Fault>,
+    usize,
+);
+
+const ROWS: [Row; 17] = [
+    (4, 9, None, 4, Ok((4, true)), 0),
+    (4, 1, None, 4, Ok((4, true)), 0),
+    (3, 2, None, 4, Ok((3, true)), 0),
+    (0, 9, None, 4, Ok((0, true)), 0),
+    (0, 9, None, 0, Ok((0, true)), 0),
+    (4, 9, None, usize::MAX, Ok((4, true)), 0),
+    (5, 9, None, 4, Err(Fault::TooLong), 0),
+    (5, 1, None, 4, Err(Fault::TooLong), 0),
+    (8, 9, None, 4, Err(Fault::TooLong), 3),
+    (8, 3, None, 4, Err(Fault::TooLong), 3),
+    (2, 9, None, 0, Err(Fault::TooLong), 1),
+    (4, 9, Some(0), 4, Err(Fault::ReadFault), 4),
+    (4, 1, Some(2), 4, Err(Fault::ReadFault), 2),
+    (4, 9, Some(1), 4, Err(Fault::ReadFault), 0),
+    (4, 9, Some(1), 9, Err(Fault::ReadFault), 0),
+    (4, 9, Some(2), 4, Ok((4, true)), 0),
+    (5, 9, Some(1), 4, Err(Fault::TooLong), 0),
+];
+
+/// How many bytes are read of a source, and whether they are those that it had.
+fn read(alloc: Global, source: &mut Source, limit: usize) -> Result<(usize, bool), Fault> {
+    let whole = source.rest;
+    match read_all(alloc, source, limit) {
+        Ok(bytes) => Ok((bytes.len(), bytes.as_slice() == whole)),
+        Err(fault) => Err(fault),
     }
-    Ok(())
+}
+
+/// Asserts what is read of a row whose failing read fails so.
+fn assert_read(rt: &impl Abort, alloc: Global, kind: ErrorKind, row: &Row) {
+    let (len, most, good, limit, wanted, left) = *row;
+    let mut source = Source {
+        rest: TEXT.get(..len).unwrap_or(TEXT),
+        most,
+        good,
+        kind,
+    };
+    let given = read(alloc, &mut source, limit);
+    assert_gives(rt, row, &(given, source.rest.len()), &(wanted, left));
+}
+
+#[test]
+fn with_a_limit(rt: HostRuntime) {
+    for row in &ROWS {
+        assert_read(&rt, rt.alloc(), ErrorKind::BrokenPipe, row);
+        assert_read(&rt, rt.alloc(), ErrorKind::Interrupted, row);
+    }
+}
+
+/// Which read of 150,001 bytes fails, the limit, and how many bytes are read, as they are.
+type LongRow = (Option<usize>, usize, Result<(usize, bool), Fault>);
+
+const LONG_ROWS: [LongRow; 3] = [
+    (None, 150_001, Ok((150_001, true))),
+    (None, 150_000, Err(Fault::TooLong)),
+    (Some(2), 150_001, Err(Fault::ReadFault)),
+];
+
+/// Asserts what is read of these bytes.
+fn assert_long_read(rt: &impl Abort, alloc: Global, bytes: &[u8], row: &LongRow) {
+    let (good, limit, wanted) = *row;
+    let mut source = Source {
+        rest: bytes,
+        most: usize::MAX,
+        good,
+        kind: ErrorKind::Interrupted,
+    };
+    let given = read(alloc, &mut source, limit);
+    assert_gives(rt, row, &given, &wanted);
 }
 
 // An input that needs several reads, of which the third fails or not.
 #[test]
-fn of_many_bytes(rt: HostRuntime) -> Result<(), Fail> {
+fn of_many_bytes(rt: HostRuntime) -> Result<(), AllocError> {
     let mut bytes = vec![in rt.alloc(); 7; 150_000]?;
     bytes.push(9)?;
-    let cases = [
-        (None, 150_001, Ok(150_001)),
-        (None, 150_000, Err(Fault::TooLong)),
-        (Some(2), 150_001, Err(Fault::ReadFault)),
-    ];
-    for (good, limit, expected) in cases {
-        let kind = ErrorKind::Interrupted;
-        let mut source = Source {
-            rest: &bytes,
-            most: usize::MAX,
-            good,
-            kind,
-        };
-        let read = read_all(rt.alloc(), &mut source, limit);
-        if let Ok(read) = &read {
-            assert!(rt; read.as_slice() == bytes.as_slice());
-        }
-        assert_eq!(rt;
-            read.map(|read| read.len()),
-            expected,
-            "limit {limit}, {good:?}"
-        );
+    for row in &LONG_ROWS {
+        assert_long_read(&rt, rt.alloc(), &bytes, row);
     }
     Ok(())
 }

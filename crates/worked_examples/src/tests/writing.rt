@@ -1,12 +1,11 @@
 //! Previews into writers that take little or fail.
 
-use super::devices::Held;
-use pcl_base::{Dpi, JobFault, Kind, Name, Refusal};
+use super::assert_gives;
+use super::devices::failing;
+use pcl_base::{Dpi, Kind, Name, Refusal};
 use pcl_tool::{Fault, preview};
 use std::alloc::{AllocError, Global};
-use std::io;
-use std::io::{ErrorKind, Write};
-use std::test::Fail;
+use std::process::Abort;
 
 /// The sample job, of one page with the dot (0, 0).
 const JOB: &[u8] = b"\x1bE\x1b&l0E\x1b*p0x0Y\x1b*t300R\x1b*r0A\x1b*b1W\x80\x1b*rC\x0c";
@@ -18,104 +17,114 @@ fn image(alloc: Global) -> Result<Vec<u8>, AllocError> {
     Ok(image)
 }
 
-// The page, how many bytes a write takes, which write fails, whether flushing does, and what comes of
-// it; and how many bytes the writer then holds, and how often it was flushed.
+/// The page, how many bytes a write takes, which write fails, whether flushing does, and what comes of
+/// it; and how many bytes the writer then holds, and how often it was flushed.
+type Row = (
+    usize,
+    usize,
+    Option<usize>,
+    bool,
+    Result<(), Fault>,
+    usize,
+    usize,
+);
+
+const WHOLE: usize = usize::MAX;
+
+const ROWS: [Row; 14] = [
+    (1, WHOLE, None, false, Ok(()), 990_013, 1),
+    (1, 65_536, None, false, Ok(()), 990_013, 1),
+    (1, 1, None, false, Ok(()), 990_013, 1),
+    (1, WHOLE, None, true, Err(Fault::WriteFault), 990_013, 1),
+    (1, 0, None, false, Err(Fault::WriteFault), 0, 0),
+    (1, WHOLE, Some(0), false, Err(Fault::WriteFault), 0, 0),
+    (1, WHOLE, Some(1), false, Err(Fault::WriteFault), 13, 0),
+    (1, 1, Some(5), false, Err(Fault::WriteFault), 5, 0),
+    (1, 1, Some(20), false, Err(Fault::WriteFault), 20, 0),
+    (1, 7, Some(2), false, Err(Fault::WriteFault), 13, 0),
+    (1, 7, Some(3), false, Err(Fault::WriteFault), 20, 0),
+    (0, WHOLE, None, false, Err(Fault::NoSuchPage), 0, 0),
+    (2, WHOLE, None, false, Err(Fault::NoSuchPage), 0, 0),
+    (usize::MAX, WHOLE, None, false, Err(Fault::NoSuchPage), 0, 0),
+];
+
+/// Asserts that a row's writer holds a front of the image.
+fn assert_front(rt: &impl Abort, alloc: Global, image: &[u8], row: &Row) {
+    let (page, most, good, flush_fails, wanted, len, flushes) = *row;
+    let mut held = failing(alloc, most, good, flush_fails);
+    let result = preview(alloc, JOB, page, Dpi::Dpi300, &mut held);
+    let is_front = image.starts_with(&held.bytes);
+    let given = (result, held.bytes.len(), is_front, held.flushes);
+    assert_gives(rt, row, &given, &(wanted, len, true, flushes));
+}
+
 #[test]
-fn fronts_of_the_image(rt: HostRuntime) -> Result<(), Fail> {
-    let whole = usize::MAX;
-    let cases: [(
-        usize,
-        usize,
-        Option<usize>,
-        bool,
-        Result<(), Fault>,
-        usize,
-        usize,
-    ); 14] = [
-        (1, whole, None, false, Ok(()), 990_013, 1),
-        (1, 65_536, None, false, Ok(()), 990_013, 1),
-        (1, 1, None, false, Ok(()), 990_013, 1),
-        (1, whole, None, true, Err(Fault::WriteFault), 990_013, 1),
-        (1, 0, None, false, Err(Fault::WriteFault), 0, 0),
-        (1, whole, Some(0), false, Err(Fault::WriteFault), 0, 0),
-        (1, whole, Some(1), false, Err(Fault::WriteFault), 13, 0),
-        (1, 1, Some(5), false, Err(Fault::WriteFault), 5, 0),
-        (1, 1, Some(20), false, Err(Fault::WriteFault), 20, 0),
-        (1, 7, Some(2), false, Err(Fault::WriteFault), 13, 0),
-        (1, 7, Some(3), false, Err(Fault::WriteFault), 20, 0),
-        (0, whole, None, false, Err(Fault::NoSuchPage), 0, 0),
-        (2, whole, None, false, Err(Fault::NoSuchPage), 0, 0),
-        (usize::MAX, whole, None, false, Err(Fault::NoSuchPage), 0, 0),
-    ];
+fn fronts_of_the_image(rt: HostRuntime) -> Result<(), AllocError> {
     let image = image(rt.alloc())?;
-    for (page, most, good, flush_fails, expected, len, flushes) in cases {
-        let bytes = Vec::new(rt.alloc());
-        let mut held = Held {
-            bytes,
-            most,
-            good,
-            flush_fails,
-            flushes: 0,
-        };
-        let result = preview(rt.alloc(), JOB, page, Dpi::Dpi300, &mut held);
-        assert_eq!(rt; result, expected, "page {page}, {most} a write, {good:?}");
-        assert_eq!(rt;
-            held.bytes.len(),
-            len,
-            "page {page}, {most} a write, {good:?}"
-        );
-        assert!(rt;
-            image.starts_with(&held.bytes),
-            "page {page}, {most} a write, {good:?}"
-        );
-        assert_eq!(rt;
-            held.flushes,
-            flushes,
-            "page {page}, {most} a write, {good:?}"
-        );
+    for row in &ROWS {
+        assert_front(&rt, rt.alloc(), &image, row);
     }
     Ok(())
 }
 
+const REFUSAL: Refusal = Refusal {
+    kind: Kind::UnsupportedValue,
+    at: 1,
+    name: Name::Three(b'*', b'r', b'A'),
+};
+
+/// Jobs, pages, and why there is no preview.
+const FAULTS: [(&[u8], usize, Fault); 6] = [
+    (b"\x0c\x1b*r2A", 0, Fault::Refused(REFUSAL)),
+    (b"\x0c\x1b*r2A", 1, Fault::Refused(REFUSAL)),
+    (b"\x0c\x1b*r2A", 2, Fault::Refused(REFUSAL)),
+    (b"", 0, Fault::NoSuchPage),
+    (b"", 1, Fault::NoSuchPage),
+    (b"\x0c\x0c", 3, Fault::NoSuchPage),
+];
+
 // Nothing is written of a refused job, whatever page is asked for, nor of an empty one.
 #[test]
-fn nothing(rt: HostRuntime) -> Result<(), Fail> {
-    let refusal = Refusal {
-        kind: Kind::UnsupportedValue,
-        at: 1,
-        name: Name::Three(b'*', b'r', b'A'),
-    };
-    let cases: [(&[u8], usize, Fault); 6] = [
-        (b"\x0c\x1b*r2A", 0, Fault::Refused(refusal)),
-        (b"\x0c\x1b*r2A", 1, Fault::Refused(refusal)),
-        (b"\x0c\x1b*r2A", 2, Fault::Refused(refusal)),
-        (b"", 0, Fault::NoSuchPage),
-        (b"", 1, Fault::NoSuchPage),
-        (b"\x0c\x0c", 3, Fault::NoSuchPage),
-    ];
-    for (job, page, fault) in cases {
+fn nothing(rt: HostRuntime) {
+    for (job, page, fault) in &FAULTS {
         let mut out = Vec::new(rt.alloc());
-        let result = preview(rt.alloc(), job, page, Dpi::Dpi300, &mut out);
-        assert_eq!(rt; result, Err(fault), "page {page} of {job:?}");
-        assert!(rt; out.is_empty(), "page {page} of {job:?}");
+        let result = preview(rt.alloc(), job, *page, Dpi::Dpi300, &mut out);
+        let wanted = (Err(*fault), b"".as_slice());
+        assert_gives(&rt, &(*job, *page), &(result, out.as_slice()), &wanted);
     }
-    Ok(())
+}
+
+/// Three pages of A4.
+const PAGES: &[u8] = b"\x1b*t600R\x1b&l0E\x1b*b1W\x80\x0c\x1b*b1W\x40\x1b*b1W\x20";
+
+/// How many bytes behind the head of an image aren't 0.
+fn count_black(image: &[u8]) -> usize {
+    image.iter().skip(13).filter(|byte| **byte != 0).count()
+}
+
+/// Asserts which bytes stand first in the topmost row of a page and in its rows 75 and 76, and that as many are black as the
+/// page's number.
+fn assert_page(rt: &impl Abort, alloc: Global, page: usize, wanted: &[Option<u8>; 3]) {
+    let mut out = Vec::new(alloc);
+    let result = preview(alloc, PAGES, page, Dpi::Dpi600, &mut out);
+    let image = out.as_slice();
+    let firsts = [
+        image.get(13).copied(),
+        image.get(13 + 600 * 75).copied(),
+        image.get(13 + 600 * 76).copied(),
+    ];
+    let head = image.starts_with(b"P4\n4800 6600\n");
+    assert_gives(
+        rt,
+        &page,
+        &(result, image.len(), head, firsts, count_black(image)),
+        &(Ok(()), 13 + 600 * 6600, true, *wanted, page),
+    );
 }
 
 // Pages are counted from 1, in order.
 #[test]
-fn chosen_pages(rt: HostRuntime) -> Result<(), Fail> {
-    let job = b"\x1b*t600R\x1b&l0E\x1b*b1W\x80\x0c\x1b*b1W\x40\x1b*b1W\x20";
-    for (page, first, second) in [(1, 0x80, 0), (2, 0x40, 0x20)] {
-        let mut out = Vec::new(rt.alloc());
-        assert!(rt; preview(rt.alloc(), job, page, Dpi::Dpi600, &mut out).is_ok());
-        assert_eq!(rt; out.len(), 13 + 600 * 6600);
-        assert!(rt; out.starts_with(b"P4\n4800 6600\n"));
-        for (place, expected) in [(13, 0), (13 + 600 * 75, first), (13 + 600 * 76, second)] {
-            assert_eq!(rt; out.get(place).copied(), Some(expected), "page {page}");
-        }
-        let black = out.iter().skip(13).filter(|byte| **byte != 0).count();
-        assert_eq!(rt; black, page, "page {page}");
-    }
-    Ok(())
+fn chosen_pages(rt: HostRuntime) {
+    assert_page(&rt, rt.alloc(), 1, &[Some(0), Some(0x80), Some(0)]);
+    assert_page(&rt, rt.alloc(), 2, &[Some(0), Some(0x40), Some(0x20)]);
 }
