@@ -94,7 +94,7 @@ fn nothing(rt: HostRuntime) {
     }
 }
 
-/// Three pages of A4.
+/// Two pages of Letter: a dot on the first, and one in each of two rows of the second.
 const PAGES: &[u8] = b"\x1b*t600R\x1b&l0E\x1b*b1W\x80\x0c\x1b*b1W\x40\x1b*b1W\x20";
 
 /// How many bytes behind the head of an image aren't 0.
