@@ -306,8 +306,13 @@ fn other_pages(rt: HostRuntime) {
     };
     let answer = env.apply(RasterResolution, fine, false, Dpi::Dpi600);
     assert_gives(&rt, &fine, &(answer, env.resolution()), &(STAY, 600));
+    assert_margin_stays(&rt, &mut env);
+}
+
+/// Asserts that a top margin leaves the cursor of a marked page.
+fn assert_margin_stays(rt: &impl Abort, env: &mut Env) {
     let answer = env.apply(TopMargin, Value::ZERO, true, Dpi::Dpi300);
-    assert_gives(&rt, &"a marked page", &(answer, env.y()), &(STAY, 4500));
+    assert_gives(rt, &"a marked page", &(answer, env.y()), &(STAY, 4500));
 }
 
 // The PCL units that can be set: so many of each are an inch.
@@ -337,10 +342,15 @@ fn lines_of_an_inch(rt: HostRuntime) {
         let mut env = Env::new();
         env.move_to(0, 0);
         assert_gives(&rt, lines, &say(&mut env, LineSpacing, *lines), &STAY);
-        for _ in 0..*lines {
-            assert_gives(&rt, lines, &say(&mut env, LineFeed, 0), &STAY);
-        }
+        assert_feeds(&rt, &mut env, *lines);
         assert_gives(&rt, lines, &env.y(), &7200);
+    }
+}
+
+/// Asserts that so many line feeds can be made.
+fn assert_feeds(rt: &impl Abort, env: &mut Env, lines: u32) {
+    for _ in 0..lines {
+        assert_gives(rt, &lines, &say(env, LineFeed, 0), &STAY);
     }
 }
 
@@ -349,21 +359,26 @@ fn lines_of_an_inch(rt: HostRuntime) {
 fn cursor_stack(rt: HostRuntime) {
     let mut env = Env::new();
     for place in 1..=21 {
-        env.move_to(place, 2 * place);
-        assert_gives(&rt, &place, &say(&mut env, CursorStack, 0), &STAY);
+        assert_pushes(&rt, &mut env, (place, 2 * place));
     }
     for place in (1..=20).rev() {
-        let answer = say(&mut env, CursorStack, 1);
-        assert_gives(
-            &rt,
-            &place,
-            &(answer, env.x(), env.y()),
-            &(STAY, place, 2 * place),
-        );
+        assert_pops(&rt, &mut env, (place, 2 * place));
     }
     env.move_to(9, 9);
     let answer = say(&mut env, CursorStack, 1);
     assert_gives(&rt, &"an empty stack", &(answer, env.x()), &(STAY, 9));
+}
+
+/// Asserts that a command pushes a position.
+fn assert_pushes(rt: &impl Abort, env: &mut Env, (x, y): (u64, u64)) {
+    env.move_to(x, y);
+    assert_gives(rt, &x, &say(env, CursorStack, 0), &STAY);
+}
+
+/// Asserts which position comes back.
+fn assert_pops(rt: &impl Abort, env: &mut Env, (x, y): (u32, u32)) {
+    let answer = say(env, CursorStack, 1);
+    assert_gives(rt, &x, &(answer, env.x(), env.y()), &(STAY, x, y));
 }
 
 /// The copies, the macro, the font and the character that are meant, the rectangle's width and height, the raster's
@@ -422,35 +437,53 @@ fn calls(rt: HostRuntime) {
     let mut env = Env::new();
     assert_gives(&rt, &"at first", &settings(&env), &DEFAULTS);
     let saved = env.save();
+    assert_changes(&rt, &mut env);
+    assert_selects(&rt, &mut env);
+    assert_resets_method(&rt, &mut env);
+    leave(&mut env);
+    env.restore(saved);
+    assert_left(&rt, &env);
+    env.advance(5);
+    env.new_page();
+    assert_gives(&rt, &"a new page", &(env.x(), env.y()), &(75, 4500));
+}
+
+fn assert_changes(rt: &impl Abort, env: &mut Env) {
     for (operation, whole) in &CHANGES {
-        assert_gives(&rt, operation, &say(&mut env, *operation, *whole), &STAY);
+        assert_gives(rt, operation, &say(env, *operation, *whole), &STAY);
     }
-    assert_gives(&rt, &"in the call", &settings(&env), &CHANGED);
+    assert_gives(rt, &"in the call", &settings(env), &CHANGED);
+}
+
+fn assert_selects(rt: &impl Abort, env: &mut Env) {
     env.select(Side::Primary, 11, 10);
     env.select(Side::Secondary, 12, 8);
-    assert_gives(&rt, &"fonts", &text(&env), &(48, Side::Secondary, Some(12)));
-    let answers = (
-        say(&mut env, PageSize, 3),
-        say(&mut env, EndRasterResetMethod, 0),
-    );
+    assert_gives(rt, &"fonts", &text(env), &(48, Side::Secondary, Some(12)));
+}
+
+fn assert_resets_method(rt: &impl Abort, env: &mut Env) {
+    let answers = (say(env, PageSize, 3), say(env, EndRasterResetMethod, 0));
     assert_gives(
-        &rt,
+        rt,
         &"method 0",
         &(answers, env.method()),
         &((EJECT_MARKED, STAY), Method::Plain),
     );
+}
+
+/// Sets the method and moves the cursor, as the last commands of a call do.
+fn leave(env: &mut Env) {
     env.set_method(Method::Delta);
     env.move_to(100, 200_000);
     env.advance(-30);
-    env.restore(saved);
-    let given = (settings(&env), text(&env), (env.size(), env.x(), env.y()));
+}
+
+fn assert_left(rt: &impl Abort, env: &Env) {
+    let given = (settings(env), text(env), (env.size(), env.x(), env.y()));
     let wanted = (
         DEFAULTS,
         (720, Side::Primary, None),
         (Size::Legal, 70, 100_800),
     );
-    assert_gives(&rt, &"behind the call", &given, &wanted);
-    env.advance(5);
-    env.new_page();
-    assert_gives(&rt, &"a new page", &(env.x(), env.y()), &(75, 4500));
+    assert_gives(rt, &"behind the call", &given, &wanted);
 }
