@@ -47,12 +47,12 @@ pub struct Held {
 }
 
 /// A writer that holds nothing yet, and never fails.
-pub fn taking(alloc: Global, most: usize) -> Held {
+pub(super) fn taking(alloc: Global, most: usize) -> Held {
     failing(alloc, most, None, false)
 }
 
 /// A writer that holds nothing yet, one of whose writes may fail, or its flushing.
-pub fn failing(alloc: Global, most: usize, good: Option<usize>, flush_fails: bool) -> Held {
+pub(super) fn failing(alloc: Global, most: usize, good: Option<usize>, flush_fails: bool) -> Held {
     Held {
         bytes: Vec::new(alloc),
         most,

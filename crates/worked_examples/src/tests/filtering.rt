@@ -87,7 +87,7 @@ fn each_read_fails(rt: HostRuntime) {
 pub const WRITES: [(usize, usize); 3] = [(1, 48), (7, 7), (usize::MAX, 1)];
 
 /// The front of what the job is written as that so many writes take.
-pub fn taken(writes: usize, most: usize) -> &'static [u8] {
+pub(super) fn taken(writes: usize, most: usize) -> &'static [u8] {
     WRITTEN
         .get(..writes.saturating_mul(most))
         .unwrap_or(WRITTEN)
