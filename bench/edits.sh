@@ -4,15 +4,14 @@
 #     bench/edits.sh LOG..        logs of `rt ci`, or of `rt must-fail NAME..`
 #
 # An edit says something where what a contract states couldn't be proved of the edited body: then the reason is that it
-# isn't proved that something holds, that no proof was found of a clause or of the invariant of a type, or a goal of that
-# function's own proof (in its Answers.antt) that no longer holds. An edit of a definition says something where a goal
-# of what is proved of it no longer holds. It says little where only a name went that a proof file cites: the kit says so
-# itself. Such edits, and those with any other reason, are printed with it, and then how many of how many they are. Ends
-# with status 1 where there is one, with 2 where the logs have no edits.
+# isn't proved that something holds, or a goal of that function's own proof (in its Answers.antt) that no longer holds.
+# It says little where only a name went that a proof file cites: the kit says so itself. Such edits, and those with any
+# other reason, are printed with it, and then how many of how many they are. Ends with status 1 where there is one, with
+# 2 where the logs have no edits.
 set -euo pipefail
 
 if [ $# = 0 ]; then
-    sed -n '2,11s/^# \{0,1\}//p' "$0" >&2
+    sed -n '2,10s/^# \{0,1\}//p' "$0" >&2
     exit 2
 fi
 
@@ -23,7 +22,7 @@ if [ -z "$edits" ]; then
 fi
 
 names='only because a proof file names'
-contract='it is not proved that|found no proof \(`(returns|invariant_of)|/(Answers|Proof)\.antt:[0-9]+:[0-9]+: error: `|`omega`: the goal does not follow'
+contract='it is not proved that|/(Answers|Proof)\.antt:[0-9]+:[0-9]+: error: `'
 listed=$(
     grep "$names" <<< "$edits" || true
     grep -v "$names" <<< "$edits" | grep -Ev "$contract" || true
