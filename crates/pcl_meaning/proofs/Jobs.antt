@@ -10,7 +10,7 @@ use Rattle.pcl_base.specs.declared.kind.Kind.TheVariants.{MacroOpen, TooManyPage
 use Rattle.pcl_base.specs.declared.size.Size.{Size}
 use Rattle.pcl_base.specs.declared.size.Size.TheVariants.{Executive, Letter, Legal, A4}
 use Rattle.pcl_base.specs.declared.refusal.Refusal.{Refusal}
-use Rattle.pcl_base.specs.Limits.{macro_limit}
+use Rattle.pcl_base.specs.Limits.{macro_limit, command_limit}
 use Rattle.pcl_base.specs.Size.{page_width, page_height, page_row_bytes}
 use Rattle.pcl_escape.specs.Said.{Said}
 use Rattle.pcl_escape.specs.Pieces.{commands_of}
@@ -30,7 +30,7 @@ use Rattle.pcl_plan.specs.Tokens.{Token, opening, method, skip, send, commands_i
 use Rattle.pcl_plan.specs.PageText.{IsPageText, bitmap_rows}
 use Rattle.pcl_writer.specs.Appending.{IsWrittenPage}
 use Rattle.pcl_meaning.specs.Alike.{AreAlike, AllAlike, PrintSheets}
-use Rattle.pcl_meaning.specs.PageTexts.{dot_of_rows, PageTextsMeanTheirPages}
+use Rattle.pcl_meaning.specs.PageTexts.{dot_of_rows, job_of, MeansRows}
 use Rattle.pcl_meaning.proofs.Deeds.{Deed}
 use Rattle.pcl_meaning.proofs.Readings.{ReadsAs, reads_joined, reads_none}
 use Rattle.pcl_meaning.proofs.Sequences.{token_deeds, body_deeds, start_deeds, end_deeds, reset, body_read, start_read, end_read, frame_read}
@@ -140,7 +140,9 @@ job_accepted {dpi} {text} {deeds} t {pages} n read leads fits few =
 
 -- ---- a job of one text
 
-pub text_means_page : PageTextsMeanTheirPages
+pub text_means_page : (dpi : Dpi) (size : Size) (copies : ℕ) (rows : List (List ℕ)) (text : List ℕ)
+    (printed : IsPageText dpi size copies rows text) → command_count printed.tokens + 12 ≤ command_limit
+    → MeansRows dpi size copies rows (job_of text)
 text_means_page dpi size copies rows text printed few =
     let t = text_taken printed (record { method = refl; height = refl }) (lit≤ tt) in
     let sheet : Sheet = record { size = size; copies = copies; marks = t.inked } in
