@@ -1,10 +1,15 @@
 -- Pictures.
-use Rattle.std.proofs.Common.{◌≡◌, ℕ, ◌*◌, ◌<◌, ◌≤◌, false, List, replicate, refl, sym, ap, ◌∙◌, subst, arith}
+use Rattle.std.proofs.Common.{◌≡◌, ℕ, ◌+◌, ◌*◌, ◌^◌, ◌<◌, ◌≤◌, false, List, length, replicate, refl, sym, ap, ◌∙◌, subst, lit<, arith}
+use Rattle.std.proofs.lemmas.List.{length-replicate}
+use Rattle.std.proofs.lemmas.List.Elements.{All-replicate}
+use Rattle.std.proofs.lemmas.Nat.{mul-le}
 use Rattle.pcl_base.specs.declared.dpi.Dpi.{Dpi}
 use Rattle.pcl_base.specs.declared.size.Size.{Size}
+use Rattle.pcl_base.specs.declared.dpi.Dpi.TheVariants.{Dpi300, Dpi600}
+use Rattle.pcl_base.specs.declared.size.Size.TheVariants.{Executive, Letter, Legal, A4}
 use Rattle.pcl_base.specs.Size.{page_width, page_height, page_row_bytes}
 use Rattle.pcl_bitmap.specs.Bitmap.{Picture, IsPicture, dot, blank_bytes, blank_picture}
-use Rattle.pcl_bitmap.proofs.Pages.{same_pages, dot_of_zeros}
+use Rattle.pcl_bitmap.proofs.Pages.{same_pages, dot_of_zeros, rows_apart}
 
 -- a picture by its parts
 abbrev pub picture_of : Size → Dpi → List ℕ → Picture
@@ -44,6 +49,38 @@ same_dots p q is_p is_q s d same =
 pub wide_rows : (size : Size) (dpi : Dpi) → page_width size dpi ≤ 8 * page_row_bytes size dpi
 wide_rows size dpi = omega arith
 
+-- no page has more dots across or down than Letter and Legal at 600 dots per inch
+pub page_limits : (size : Size) (dpi : Dpi) → (page_width size dpi ≤ 4800) × (page_height size dpi ≤ 8400)
+page_limits Executive Dpi300 = (omega arith, omega arith)
+page_limits Executive Dpi600 = (omega arith, omega arith)
+page_limits Letter Dpi300 = (omega arith, omega arith)
+page_limits Letter Dpi600 = (omega arith, omega arith)
+page_limits Legal Dpi300 = (omega arith, omega arith)
+page_limits Legal Dpi600 = (omega arith, omega arith)
+page_limits A4 Dpi300 = (omega arith, omega arith)
+page_limits A4 Dpi600 = (omega arith, omega arith)
+
+pub page_bytes_limit : (size : Size) (dpi : Dpi) → page_height size dpi * page_row_bytes size dpi < 2 ^ 32
+page_bytes_limit size dpi =
+    let limits = page_limits size dpi in
+    omega (arith, mul-le (page_height size dpi) (page_row_bytes size dpi) 8400 600 limits.1 (omega arith))
+
+-- the bytes of the first rows of a page are bytes of it
+pub rows_on_page :
+    (size : Size) (dpi : Dpi) (bytes : List ℕ) (n r : ℕ)
+    → length bytes ≡ page_height size dpi * page_row_bytes size dpi → n ≤ page_height size dpi → r ≡ page_row_bytes size dpi
+    → n * r ≤ length bytes
+rows_on_page size dpi bytes n r whole on_page row =
+    omega (arith, mul-le n r (page_height size dpi) (page_row_bytes size dpi) on_page (omega arith), whole)
+
+-- row y of a page is within its bytes
+pub row_on_page :
+    (size : Size) (dpi : Dpi) (bytes : List ℕ) (y r : ℕ)
+    → length bytes ≡ page_height size dpi * page_row_bytes size dpi → y < page_height size dpi → r ≡ page_row_bytes size dpi
+    → y * r + r ≤ length bytes
+row_on_page size dpi bytes y r whole on_page row =
+    omega (arith, rows_apart y (y + 1) r (omega arith), rows_on_page size dpi bytes (y + 1) r whole (omega arith) row)
+
 -- a white page
 pub blank_dots : (size : Size) (dpi : Dpi) (x y : ℕ) → dot (blank_picture size dpi) x y ≡ false
 unfolding blank_bytes
@@ -59,3 +96,11 @@ unfolding blank_bytes
 blank_from_zeros size dpi bs h r e_h e_r e =
     ap (λ (t : List ℕ). picture_of size dpi t)
     (e ∙ ap (λ n. replicate (n * r) 0) e_h ∙ ap (λ n. replicate (page_height size dpi * n) 0) e_r)
+
+pub blank_is_picture : (size : Size) (dpi : Dpi) → IsPicture (blank_picture size dpi)
+unfolding blank_bytes
+blank_is_picture size dpi = record {
+  whole = length-replicate (page_height size dpi * page_row_bytes size dpi) 0;
+  in_bytes = All-replicate (λ n. n < 256) (page_height size dpi * page_row_bytes size dpi) 0 (lit< tt);
+  clear_pads = λ x y _. blank_dots size dpi x y;
+}

@@ -1,7 +1,8 @@
-use Rattle.std.proofs.Common.{◌≡◌, ℕ, ◌*◌, ◌+◌, ◌-◌, ◌/◌, ◌<◌, ◌||◌, ◌++◌, List, length, take, length-take, if◌then◌else◌, drop, sym, ap, ◌∙◌, arith}
+use Rattle.std.proofs.Common.{◌≡◌, ℕ, ◌*◌, ◌+◌, ◌-◌, ◌/◌, ◌<◌, ◌||◌, ◌++◌, List, length, take, length-take, length-append, length-drop, if◌then◌else◌, drop, sym, ap, ◌∙◌, arith}
 use Rattle.std.proofs.lemmas.List.{take_rest}
 use Rattle.std.proofs.lemmas.List.Elements.{All-from_get_or}
 use Rattle.pcl_bitmap.specs.Bitmap.{dot_of_row}
+use Rattle.pcl_bitmap.proofs.Pages.{rows_apart}
 use Rattle.pcl_bitmap.proofs.Inked.{row_added}
 use Rattle.pcl_bitmap.proofs.Cut.{run_or_at, no_rows, seen_dots}
 use Rattle.pcl_bitmap.proofs.patterns.or_pattern.Goals as goal
@@ -47,3 +48,77 @@ loop-row-preserved c = record {
       (sym level)));
   in_bytes = c.or_bits.ensures.in_bytes;
 }
+
+pub overflow_sub-bit_row : goal.overflow_sub-bit_row
+overflow_sub-bit_row c = omega arith
+
+pub overflow_add-bit_row : goal.overflow_add-bit_row
+overflow_add-bit_row c = omega arith
+
+pub nonzero_div-bit_row : goal.nonzero_div-bit_row
+nonzero_div-bit_row c = omega arith
+
+pub overflow_mul-source : goal.overflow_mul-source
+overflow_mul-source c =
+    let a = c.args in
+    omega (arith, c.requires.bits (c.loop-row.row - a.area.y) (omega arith))
+
+pub slice_bounds-source-count : goal.slice_bounds-source-count
+slice_bounds-source-count c =
+    let a = c.args in
+    omega (arith, c.requires.bits (c.loop-row.row - a.area.y) (omega arith))
+
+pub slice_bounds-source-start : goal.slice_bounds-source-start
+slice_bounds-source-start c =
+    let a = c.args in
+    omega (arith, c.requires.bits (c.loop-row.row - a.area.y) (omega arith))
+
+pub slice_bounds-source-end : goal.slice_bounds-source-end
+slice_bounds-source-end c =
+    let a = c.args in
+    omega (arith, c.requires.bits (c.loop-row.row - a.area.y) (omega arith))
+
+pub slice_bounds-dots-end : goal.slice_bounds-dots-end
+slice_bounds-dots-end c = omega arith
+
+pub slice_bounds-write_dots-end : goal.slice_bounds-write_dots-end
+slice_bounds-write_dots-end c = omega (arith, length-take c.div_ceil-count.result c.loop-row.dots)
+
+pub write_dots-requires-clause-small : goal.write_dots-requires-clause-small
+write_dots-requires-clause-small c = omega (arith, length-take c.div_ceil-count.result c.loop-row.dots)
+
+pub overflow_mul-start : goal.overflow_mul-start
+overflow_mul-start c =
+    let a = c.args in
+    let fits = rows_apart c.loop-row.row (a.area.y + a.area.height) a.row_bytes (omega arith) in
+    omega arith
+
+pub overflow_mul-start-in-loop-row : goal.overflow_mul-start-in-loop-row
+overflow_mul-start-in-loop-row c =
+    let a = c.args in
+    let fits = rows_apart c.loop-row.row (a.area.y + a.area.height) a.row_bytes (omega arith) in
+    omega arith
+
+pub overflow_add-start : goal.overflow_add-start
+overflow_add-start c =
+    let a = c.args in
+    let fits = rows_apart c.loop-row.row (a.area.y + a.area.height) a.row_bytes (omega arith) in
+    omega arith
+
+pub overflow_add-start-in-loop-row : goal.overflow_add-start-in-loop-row
+overflow_add-start-in-loop-row c =
+    let a = c.args in
+    let fits = rows_apart c.loop-row.row (a.area.y + a.area.height) a.row_bytes (omega arith) in
+    omega arith
+
+pub slice_bounds-dots-end-in-loop-row : goal.slice_bounds-dots-end-in-loop-row
+slice_bounds-dots-end-in-loop-row c = omega arith
+
+pub slice_bounds-or_bits-end : goal.slice_bounds-or_bits-end
+slice_bounds-or_bits-end c = omega (arith, length-take {A = ℕ}, length-append {A = ℕ}, length-drop {A = ℕ})
+
+pub or_bits-requires : goal.or_bits-requires
+or_bits-requires c =
+    let a = c.args in
+    let fits = rows_apart c.loop-row.row (a.area.y + a.area.height) a.row_bytes (omega arith) in
+    omega arith

@@ -1,5 +1,6 @@
 use Rattle.std.proofs.Common.{◌*◌, ◌+◌, ◌-◌, ◌||◌, ◌∙◌, arith}
 use Rattle.pcl_bitmap.specs.Bitmap.{dot_of_row}
+use Rattle.pcl_bitmap.proofs.Pages.{rows_apart}
 use Rattle.pcl_bitmap.proofs.Inked.{row_added}
 use Rattle.pcl_bitmap.proofs.Spread.{run_or}
 use Rattle.pcl_bitmap.proofs.squares.or_rows.Goals as goal
@@ -18,3 +19,33 @@ loop-row-preserved c = record {
       (c.or_bits.ensures.bits k ∙ run_or source a.row_bytes a.area.x a.area.width row px py here c.requires.wide within);
   in_bytes = c.or_bits.ensures.in_bytes;
 }
+
+pub overflow_mul-start : goal.overflow_mul-start
+overflow_mul-start c =
+    let a = c.args in
+    let fits = rows_apart c.loop-row.row (a.area.y + a.area.height) a.row_bytes (omega arith) in
+    omega arith
+
+pub overflow_mul-start-in-loop-row : goal.overflow_mul-start-in-loop-row
+overflow_mul-start-in-loop-row c =
+    let a = c.args in
+    let fits = rows_apart c.loop-row.row (a.area.y + a.area.height) a.row_bytes (omega arith) in
+    omega arith
+
+pub overflow_add-start : goal.overflow_add-start
+overflow_add-start c =
+    let a = c.args in
+    let fits = rows_apart c.loop-row.row (a.area.y + a.area.height) a.row_bytes (omega arith) in
+    omega arith
+
+pub overflow_add-start-in-loop-row : goal.overflow_add-start-in-loop-row
+overflow_add-start-in-loop-row c =
+    let a = c.args in
+    let fits = rows_apart c.loop-row.row (a.area.y + a.area.height) a.row_bytes (omega arith) in
+    omega arith
+
+pub or_bits-requires : goal.or_bits-requires
+or_bits-requires c =
+    let a = c.args in
+    let fits = rows_apart c.loop-row.row (a.area.y + a.area.height) a.row_bytes (omega arith) in
+    omega arith

@@ -5,7 +5,7 @@ use Rattle.std.specs.Vec.{with_items}
 use Rattle.pcl_base.specs.Size.{page_width, page_height}
 use Rattle.pcl_bitmap.specs.Bitmap.{IsPicture, dot, dot_of_row}
 use Rattle.pcl_bitmap.specs.Dots.{dots_past}
-use Rattle.pcl_bitmap.proofs.Pictures.{picture_of}
+use Rattle.pcl_bitmap.proofs.Pictures.{picture_of, rows_on_page, wide_rows, page_bytes_limit, page_limits}
 use Rattle.pcl_bitmap.proofs.Inked.{IsFilled, filled, filled_picture, filled_dots}
 use Rattle.pcl_bitmap.proofs.Cut.{seen_pattern, seen_row, pattern_off}
 use Rattle.pcl_bitmap.proofs.bitmap.Bitmap.blit.Goals as goal
@@ -93,3 +93,23 @@ returns-clause-dots c =
     (ap (λ (z : ℤ). dots_past z px) (sym (to_z-of_z w32 args.x c.ranges.x)) ∙ c.start_and_skip-left.ensures.dots px)
     (ap (λ (z : ℤ). dots_past z py) (sym (to_z-of_z w32 args.y c.ranges.y)) ∙ c.start_and_skip-top.ensures.dots py)
     in_row on_page)
+
+pub or_pattern-requires-clause-narrow : goal.or_pattern-requires-clause-narrow
+or_pattern-requires-clause-narrow c = omega (arith, page_limits c.self.inside.size c.self.inside.dpi)
+
+pub or_pattern-requires-clause-wide : goal.or_pattern-requires-clause-wide
+or_pattern-requires-clause-wide c = omega (arith, wide_rows c.self.inside.size c.self.inside.dpi)
+
+pub or_pattern-requires-clause-high : goal.or_pattern-requires-clause-high
+or_pattern-requires-clause-high c =
+    let a = c.self.inside in
+    rows_on_page a.size a.dpi c.deref_mut.result.now _ c.row_bytes-row_bytes.result
+    (ap (λ (t : List ℕ). length t) c.deref_mut.ensures.value ∙ c.self.invariant.whole) (omega arith) c.row_bytes-row_bytes.ensures
+
+pub or_pattern-requires-clause-small : goal.or_pattern-requires-clause-small
+or_pattern-requires-clause-small c =
+    let a = c.self.inside in
+    omega (arith, ap (λ (t : List ℕ). length t) c.deref_mut.ensures.value, c.self.invariant.whole, page_bytes_limit a.size a.dpi)
+
+pub or_pattern-requires-clause-below : goal.or_pattern-requires-clause-below
+or_pattern-requires-clause-below c = omega arith

@@ -1,9 +1,9 @@
-use Rattle.std.proofs.Common.{◌≡◌, ℕ, List, sym, ap, ◌∙◌, subst, arith}
+use Rattle.std.proofs.Common.{◌≡◌, ℕ, List, length, sym, ap, ◌∙◌, subst, arith}
 use Rattle.std.proofs.lemmas.List.{with_items_is}
 use Rattle.std.specs.Vec.{with_items}
 use Rattle.pcl_bitmap.specs.Bitmap.{IsPicture, dot}
 use Rattle.pcl_bitmap.specs.Dots.{is_black_ink}
-use Rattle.pcl_bitmap.proofs.Pictures.{picture_of}
+use Rattle.pcl_bitmap.proofs.Pictures.{picture_of, rows_on_page, wide_rows, page_bytes_limit}
 use Rattle.pcl_bitmap.proofs.Inked.{IsFilled, filled, filled_picture, one_ink}
 use Rattle.pcl_bitmap.proofs.bitmap.Bitmap.fill.Goals as goal
 
@@ -41,3 +41,20 @@ returns-clause-dots c =
     ap (λ (t : List ℕ). dot (picture_of a.size a.dpi t) px py) (kept c)
     ∙ one_ink a.size a.dpi a.bytes.items c.fill_rows.new.page args.x args.y c.min.result c.min-2.result args.w args.h
     (is_black_ink args.ink) (page_filled c) (omega arith) (omega arith) (omega arith) (omega arith) px py in_row on_page)
+
+pub fill_rows-requires-clause-wide : goal.fill_rows-requires-clause-wide
+fill_rows-requires-clause-wide c = omega (arith, wide_rows c.self.inside.size c.self.inside.dpi)
+
+pub fill_rows-requires-clause-high : goal.fill_rows-requires-clause-high
+fill_rows-requires-clause-high c =
+    let a = c.self.inside in
+    rows_on_page a.size a.dpi c.deref_mut.result.now _ c.row_bytes-row_bytes.result
+    (ap (λ (t : List ℕ). length t) c.deref_mut.ensures.value ∙ c.self.invariant.whole) (omega arith) c.row_bytes-row_bytes.ensures
+
+pub fill_rows-requires-clause-small : goal.fill_rows-requires-clause-small
+fill_rows-requires-clause-small c =
+    let a = c.self.inside in
+    omega (arith, ap (λ (t : List ℕ). length t) c.deref_mut.ensures.value, c.self.invariant.whole, page_bytes_limit a.size a.dpi)
+
+pub fill_rows-requires-clause-rows : goal.fill_rows-requires-clause-rows
+fill_rows-requires-clause-rows c = omega arith

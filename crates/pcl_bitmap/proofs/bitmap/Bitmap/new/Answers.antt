@@ -1,6 +1,7 @@
-use Rattle.std.proofs.Common.{ap, ◌∙◌}
-use Rattle.pcl_bitmap.specs.Bitmap.{Picture, dot}
-use Rattle.pcl_bitmap.proofs.Pictures.{blank_from_zeros, blank_dots}
+use Rattle.std.proofs.Common.{sym, ap, ◌∙◌, subst, arith}
+use Rattle.std.proofs.lemmas.Nat.{mul-le}
+use Rattle.pcl_bitmap.specs.Bitmap.{Picture, IsPicture, dot}
+use Rattle.pcl_bitmap.proofs.Pictures.{blank_from_zeros, blank_dots, blank_is_picture, page_limits}
 use Rattle.pcl_bitmap.proofs.bitmap.Bitmap.new.Goals as goal
 
 pub returns-clause-blank : goal.returns-clause-blank
@@ -11,3 +12,16 @@ returns-clause-blank c =
 
 pub returns-clause-dots : goal.returns-clause-dots
 returns-clause-dots c x y = ap (λ (t : Picture). dot t x y) (returns-clause-blank c) ∙ blank_dots c.args.size c.args.dpi x y
+
+pub overflow_mul-count : goal.overflow_mul-count
+overflow_mul-count c =
+    let limits = page_limits c.args.size c.args.dpi in
+    omega (arith, mul-le c.height.result c.row_bytes.result 8400 600 (omega arith) (omega arith))
+
+pub invariant_of-result : goal.invariant_of-result
+invariant_of-result c =
+    let P : Picture → Type 0 = λ page. IsPicture page in
+    subst P (sym (returns-clause-blank c)) (blank_is_picture c.args.size c.args.dpi)
+
+pub returns-clause-picture : goal.returns-clause-picture
+returns-clause-picture c = invariant_of-result c

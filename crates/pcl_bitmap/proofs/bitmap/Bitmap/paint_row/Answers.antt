@@ -4,7 +4,7 @@ use Rattle.std.proofs.lemmas.Nat.{mul-le}
 use Rattle.std.specs.Vec.{with_items}
 use Rattle.pcl_base.specs.Size.{page_width, page_height}
 use Rattle.pcl_bitmap.specs.Bitmap.{IsPicture, dot, dot_of_row}
-use Rattle.pcl_bitmap.proofs.Pictures.{picture_of}
+use Rattle.pcl_bitmap.proofs.Pictures.{picture_of, rows_on_page, wide_rows, page_bytes_limit, page_limits}
 use Rattle.pcl_bitmap.proofs.Inked.{IsFilled, filled, filled_picture, filled_dots}
 use Rattle.pcl_bitmap.proofs.Spread.{squares_dot}
 use Rattle.pcl_bitmap.proofs.bitmap.Bitmap.paint_row.Goals as goal
@@ -54,3 +54,23 @@ returns-clause-dots c =
     ∙ squares_dot (page_width a.size a.dpi) (page_height a.size a.dpi) args.x args.y c.min.result c.min-2.result args.scale args.width px py
     args.row.now (dot (picture_of a.size a.dpi a.bytes.items) px py) (omega arith) (omega arith) (omega arith) (omega arith) (omega arith)
     in_row on_page)
+
+pub paint_squares-requires-clause-narrow : goal.paint_squares-requires-clause-narrow
+paint_squares-requires-clause-narrow c = omega (arith, page_limits c.self.inside.size c.self.inside.dpi)
+
+pub paint_squares-requires-clause-wide : goal.paint_squares-requires-clause-wide
+paint_squares-requires-clause-wide c = omega (arith, wide_rows c.self.inside.size c.self.inside.dpi)
+
+pub paint_squares-requires-clause-high : goal.paint_squares-requires-clause-high
+paint_squares-requires-clause-high c =
+    let a = c.self.inside in
+    rows_on_page a.size a.dpi c.deref_mut.result.now _ c.row_bytes-row_bytes.result
+    (ap (λ (t : List ℕ). length t) c.deref_mut.ensures.value ∙ c.self.invariant.whole) (omega arith) c.row_bytes-row_bytes.ensures
+
+pub paint_squares-requires-clause-small : goal.paint_squares-requires-clause-small
+paint_squares-requires-clause-small c =
+    let a = c.self.inside in
+    omega (arith, ap (λ (t : List ℕ). length t) c.deref_mut.ensures.value, c.self.invariant.whole, page_bytes_limit a.size a.dpi)
+
+pub paint_squares-requires-clause-rows : goal.paint_squares-requires-clause-rows
+paint_squares-requires-clause-rows c = omega arith
