@@ -7,7 +7,19 @@ use Rattle.pcl_cert.specs.declared.format.Format.{Format}
 use Rattle.pcl_tool.specs.declared.fault.Fault.{Fault}
 use Rattle.pcl_tool.specs.declared.fault.Fault.TheVariants.{Refused, Memory, ReadFault, TooLong, WriteFault, NoSuchPage}
 use Rattle.pcl_tool.specs.Transfer.{IsWritten}
-use Rattle.pcl_tool.specs.Minimizing.{IsCertifiedJobOf, IsRead, IsFilteredCert}
+use Rattle.pcl_tool.specs.Minimizing.{IsJobOf, IsCertifiedJobOf, IsRead, IsFiltered, IsFilteredCert}
+
+-- the job was written, or a front of it
+pub filtered : {dpi : Dpi} {given left : Option (List ℕ)} (old new : Option (List ℕ)) {job output : List ℕ}
+    (result : Result (Unit {0}) Fault) → IsRead given left job → IsJobOf dpi job output → IsWritten old new output result
+    → IsFiltered dpi given left old new result
+filtered old new {job} {output} (Ok done) r j w = (job, output, r, j, w)
+filtered old new {job} {output} (Err WriteFault) r j w = (job, output, r, j, w)
+filtered old new (Err (Refused refusal)) r j w = absurd w
+filtered old new (Err Memory) r j w = absurd w
+filtered old new (Err ReadFault) r j w = absurd w
+filtered old new (Err TooLong) r j w = absurd w
+filtered old new (Err NoSuchPage) r j w = absurd w
 
 -- the job wasn't written whole
 pub stopped_in_job : {dpi : Dpi} {format : Format} {given left : Option (List ℕ)} (old new cert : Option (List ℕ))
