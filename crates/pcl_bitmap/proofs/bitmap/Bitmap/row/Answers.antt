@@ -30,7 +30,6 @@ slice_bounds-result-end c =
     let a = c.self.inside in
     omega (
       arith,
-      c.deref.ensures.value,
       row_on_page a.size a.dpi c.deref.result.now c.args.y c.row_bytes-len.result
           (rw (← c.deref.ensures.value) at c.self.invariant.whole)
           (rw (← c.self.view_is) at c.requires) c.row_bytes-len.ensures,
