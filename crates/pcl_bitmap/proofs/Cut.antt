@@ -1,7 +1,7 @@
 -- What is seen of a pattern.
 use Rattle.std.proofs.Common.{◌≡◌, ℕ, ℤ, ◌+◌, ◌-◌, ◌*◌, ◌/◌, ◌%◌, ◌^◌, ◌<◌, ◌≤◌, min, nat_le, nat_lt, Bool, true, false, ◌&&◌, ◌||◌, if◌then◌else◌, Option, Some, None, List, ◌++◌, length, take, get_or, set, drop, bit_and, get_or-set_same, get_or-set_other, refl, sym, ap, ◌∙◌, inl, inr, ◌⊎◌, arith}
 use Rattle.std.specs.Int.{bit_at}
-use Rattle.std.proofs.lemmas.Bool.{cases_lt, cases_eq, cases_order, le-ltb, le-leb, lt-leb, and_left, and_right}
+use Rattle.std.proofs.lemmas.Bool.{cases_lt, cases_eq, cases_order, le-leb, lt-leb, and_left, and_right}
 use Rattle.std.proofs.lemmas.Nat.{mul-le, div_below, le-div, mod_below, div-add-mod'}
 use Rattle.std.proofs.lemmas.List.{get_or_append_left}
 use Rattle.pcl_bitmap.specs.Bitmap.{bit_of_byte, dot_of_row}
@@ -102,16 +102,6 @@ run_or_at source r x w i px py p d wide within bits =
           ]
       | inr (inl above) ↦ before (omega (arith, rows_apart py i r above))
       | inr (inr below) ↦ past (omega (arith, rows_apart i py r below))
-    ]
-
--- a rectangle with no rows yet
-pub no_rows : (x y w px py : ℕ) → rectangle_dot x y w (y - y) px py ≡ false
-no_rows x y w px py =
-    elim (cases_lt py y) [
-      | inl above ↦
-          and_left _ _ (and_right (nat_le x px && nat_lt px (x + w)) (nat_le y py) (lt-leb y py above))
-      | inr below ↦
-          and_right (nat_le x px && nat_lt px (x + w) && nat_le y py) (nat_lt py (y + (y - y))) (le-ltb py (y + (y - y)) (omega arith))
     ]
 
 -- the bytes that were written to the front of a list

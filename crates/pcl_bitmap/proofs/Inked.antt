@@ -151,6 +151,16 @@ row_added r x y w i px py g d0 d1 d2 wide within start e1 e2 =
           (same_test (λ h. omega arith) (λ h. omega arith))
     ]
 
+-- a rectangle with no rows yet
+pub no_rows : (x y w px py : ℕ) → rectangle_dot x y w (y - y) px py ≡ false
+no_rows x y w px py =
+    elim (cases_lt py y) [
+      | inl above ↦
+          and_left _ _ (and_right (nat_le x px && nat_lt px (x + w)) (nat_le y py) (lt-leb y py above))
+      | inr below ↦
+          and_right (nat_le x px && nat_lt px (x + w) && nat_le y py) (nat_lt py (y + (y - y))) (le-ltb py (y + (y - y)) (omega arith))
+    ]
+
 -- an empty run has no bit, so two of them agree
 no_run : (a k : ℕ) → in_run a a k ≡ false
 no_run a k =

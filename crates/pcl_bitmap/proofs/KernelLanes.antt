@@ -1,10 +1,12 @@
 -- Lanes of bytes, and places where rows change.
-use Rattle.std.proofs.Common.{◌≡◌, ◌≢◌, ℕ, ◌+◌, ◌-◌, ◌<◌, ◌≤◌, ◌^◌, ◌%◌, min, Bool, true, false, not, cond, eqb, map, List, length, get_or, refl, sym, ap, ◌∙◌, subst, inl, inr, arith, w8, w64}
+use Rattle.std.proofs.Common.{◌↔◌, All, ◌≡◌, ◌≢◌, ℕ, ◌+◌, ◌-◌, ◌<◌, ◌≤◌, ◌^◌, ◌%◌, min, Bool, true, false, not, cond, eqb, map, List, length, get_or, refl, sym, ap, ◌∙◌, subst, inl, inr, arith, w8, w64}
 use Rattle.std.specs.Int.{bit_at, trailing_zeros}
 use Rattle.std.specs.Simd.Lanes.{zip2, mask_l, top}
 use Rattle.std.proofs.lemmas.Simd.{length-zip2, get_or-zip2, bit_mask_l, tops_compared, mask_l-mod}
 use Rattle.std.proofs.lemmas.Bool.{cases_lt, eqb-true, eqb-false}
 use Rattle.std.proofs.lemmas.List.{get_or_past}
+use Rattle.std.proofs.lemmas.List.Elements.{All-get_or, All-from_get_or}
+use Rattle.pcl_bitmap.specs.Kernels.{IsTrimmedLen}
 use Rattle.std.proofs.lemmas.Nat.Bits.{bit_at-zero, bit_at-trailing_zeros}
 
 -- the place of the lowest bit that is set, or 32
@@ -156,3 +158,13 @@ pub zeros_one : (row : List ℕ) (len : ℕ) → AreZerosFrom row len → 0 < le
 zeros_one row len from some here =
     zeros_more from (omega arith)
     (λ k below. let at : len - 1 ≡ len - 1 + k = omega arith in subst (λ (n : ℕ). get_or row n 0 ≡ 0) at here)
+
+-- a row is all zeros where nothing is left of it without the zeros at its end
+pub zeros_by_len : (row : List ℕ) (len : ℕ) → IsTrimmedLen row len → (len ≡ 0) ↔ All (λ byte. byte ≡ 0) row
+zeros_by_len row len trimmed = (
+  λ none. All-from_get_or (λ n. n ≡ 0) row 0 (λ i _. trimmed.zeros i (omega arith)),
+  λ zeros. elim (cases_lt 0 len) [
+    | inl some ↦ absurd (trimmed.last some (All-get_or (λ n. n ≡ 0) row (len - 1) 0 (omega (arith, trimmed.within)) zeros))
+    | inr none ↦ omega arith
+  ],
+)

@@ -3,8 +3,8 @@ use Rattle.std.proofs.lemmas.List.{take_rest}
 use Rattle.std.proofs.lemmas.List.Elements.{All-from_get_or}
 use Rattle.pcl_bitmap.specs.Bitmap.{dot_of_row}
 use Rattle.pcl_bitmap.proofs.Pages.{rows_apart}
-use Rattle.pcl_bitmap.proofs.Inked.{row_added}
-use Rattle.pcl_bitmap.proofs.Cut.{run_or_at, no_rows, seen_dots}
+use Rattle.pcl_bitmap.proofs.Inked.{row_added, no_rows}
+use Rattle.pcl_bitmap.proofs.Cut.{run_or_at, seen_dots}
 use Rattle.pcl_bitmap.proofs.patterns.or_pattern.Goals as goal
 
 pub loop-row-init : goal.loop-row-init
@@ -122,3 +122,11 @@ or_bits-requires c =
     let a = c.args in
     let fits = rows_apart c.loop-row.row (a.area.y + a.area.height) a.row_bytes (omega arith) in
     omega arith
+
+pub returns-clause-dots : goal.returns-clause-dots
+returns-clause-dots c px py within =
+    let rows : c.loop-row.row - c.args.area.y ≡ c.args.area.height = omega arith in
+    rw rows at (c.loop-row.invariant.so_far px py within)
+
+pub returns-clause-in_bytes : goal.returns-clause-in_bytes
+returns-clause-in_bytes c = c.loop-row.invariant.in_bytes

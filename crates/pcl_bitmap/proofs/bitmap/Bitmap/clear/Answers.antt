@@ -1,30 +1,24 @@
-use Rattle.std.proofs.Common.{◌≡◌, refl, replicate, sym, ap, ◌∙◌, subst, arith}
+use Rattle.std.proofs.Common.{refl, replicate, sym, ap, ◌∙◌, subst, arith}
 use Rattle.pcl_base.specs.Size.{page_height, page_row_bytes}
-use Rattle.pcl_bitmap.specs.Bitmap.{Picture, IsPicture, dot, blank_picture}
-use Rattle.pcl_bitmap.proofs.Pictures.{picture_of, blank_from_zeros, blank_dots, blank_is_picture}
+use Rattle.pcl_bitmap.specs.Bitmap.{Picture, IsPicture, dot}
+use Rattle.pcl_bitmap.proofs.Pictures.{blank_from_zeros, blank_dots, blank_is_picture}
 use Rattle.pcl_bitmap.proofs.bitmap.Bitmap.clear.Goals as goal
 
--- the page after it was filled with zeros
-white : (c : goal.After-fill)
-    → let a = c.self.inside in
-    picture_of a.size a.dpi c.fill.new.self.items ≡ blank_picture a.size a.dpi
-white c =
+pub returns-clause-blank : goal.returns-clause-blank
+returns-clause-blank c =
     let a = c.self.inside in
-    blank_from_zeros a.size a.dpi c.fill.new.self.items (page_height a.size a.dpi) (page_row_bytes a.size a.dpi) refl refl
-    (c.fill.ensures.items (λ _ e. e) ∙ ap (λ n. replicate n 0) (omega (arith, a.bytes.ok.0, c.self.invariant.whole)))
+    rw (← c.self.view_is)
+    (blank_from_zeros a.size a.dpi c.fill.new.self.items (page_height a.size a.dpi) (page_row_bytes a.size a.dpi) refl refl
+    (c.fill.ensures.items (λ _ e. e) ∙ ap (λ n. replicate n 0) (omega (arith, a.bytes.ok.0, c.self.invariant.whole))))
 
 pub invariant_of-self : goal.invariant_of-self
 invariant_of-self c =
     let P : Picture → Type 0 = λ page. IsPicture page in
-    subst P (sym (white c)) (blank_is_picture c.self.inside.size c.self.inside.dpi)
-
-pub returns-clause-blank : goal.returns-clause-blank
-returns-clause-blank c = rw (← c.self.view_is) (white c)
+    subst P (sym (returns-clause-blank c)) (blank_is_picture c.args.self.now.size c.args.self.now.dpi)
 
 pub returns-clause-dots : goal.returns-clause-dots
 returns-clause-dots c x y =
-    let a = c.self.inside in
-    ap (λ (page : Picture). dot page x y) (white c) ∙ blank_dots a.size a.dpi x y
+    ap (λ (page : Picture). dot page x y) (returns-clause-blank c) ∙ blank_dots c.args.self.now.size c.args.self.now.dpi x y
 
 pub returns-clause-picture : goal.returns-clause-picture
 returns-clause-picture c = invariant_of-self c

@@ -1,5 +1,6 @@
-use Rattle.std.proofs.Common.{◌≡◌, ◌+◌, ◌-◌, ◌*◌, arith}
-use Rattle.pcl_bitmap.proofs.Pictures.{row_on_page, page_bytes_limit}
+use Rattle.std.proofs.Common.{◌≡◌, ℕ, ◌+◌, ◌-◌, ◌*◌, List, take, drop, ap, ◌∙◌, arith}
+use Rattle.pcl_bitmap.specs.Bitmap.{row_of, dot_of_row}
+use Rattle.pcl_bitmap.proofs.Pictures.{picture_of, row_on_page, page_bytes_limit}
 use Rattle.pcl_bitmap.proofs.bitmap.Bitmap.row.Goals as goal
 
 pub overflow_mul-start : goal.overflow_mul-start
@@ -29,14 +30,26 @@ slice_bounds-result-end c =
     let a = c.self.inside in
     omega (
       arith,
-      c.deref.ensures.value,
       row_on_page a.size a.dpi c.deref.result.now c.args.y c.row_bytes-len.result
           (rw (← c.deref.ensures.value) at c.self.invariant.whole)
           (rw (← c.self.view_is) at c.requires) c.row_bytes-len.ensures,
     )
 
-pub returns-clause-bytes : goal.returns-clause-bytes
-returns-clause-bytes c =
+-- the row, by the bytes that are inside
+row_inside :
+    (c : goal.After-result-1)
+    → let a = c.self.inside in let start = c.args.y * c.row_bytes-len.result in
+    take (start + c.row_bytes-len.result - start) (drop start c.deref.result.now)
+    ≡ row_of (picture_of a.size a.dpi a.bytes.items) c.args.y
+row_inside c =
     let start = c.args.y * c.row_bytes-len.result in
     let count : start + c.row_bytes-len.result - start ≡ c.row_bytes-len.result = omega arith in
-    rw (← c.self.view_is) (rw (count, c.deref.ensures.value, c.row_bytes-len.ensures))
+    rw (count, c.deref.ensures.value, c.row_bytes-len.ensures)
+
+pub returns-clause-bytes : goal.returns-clause-bytes
+returns-clause-bytes c = rw (← c.self.view_is) (row_inside c)
+
+pub returns-clause-clear_pads : goal.returns-clause-clear_pads
+returns-clause-clear_pads c =
+    rw (← c.self.view_is) (λ x pad.
+    ap (λ (t : List ℕ). dot_of_row t x) (row_inside c) ∙ c.self.invariant.clear_pads x c.args.y pad)
