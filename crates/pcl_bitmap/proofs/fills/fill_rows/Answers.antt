@@ -29,33 +29,23 @@ loop-row-preserved c = record {
 
 pub overflow_mul-start : goal.overflow_mul-start
 overflow_mul-start c =
-    let a = c.args in
-    let fits = rows_apart c.loop-row.row (a.area.y + a.area.height) a.row_bytes (omega arith) in
-    omega arith
+    omega (arith, rows_apart c.loop-row.row (c.args.area.y + c.args.area.height) c.args.row_bytes (omega arith))
 
 pub overflow_mul-start-in-loop-row : goal.overflow_mul-start-in-loop-row
 overflow_mul-start-in-loop-row c =
-    let a = c.args in
-    let fits = rows_apart c.loop-row.row (a.area.y + a.area.height) a.row_bytes (omega arith) in
-    omega arith
+    omega (arith, rows_apart c.loop-row.row (c.args.area.y + c.args.area.height) c.args.row_bytes (omega arith))
 
 pub overflow_add-start : goal.overflow_add-start
 overflow_add-start c =
-    let a = c.args in
-    let fits = rows_apart c.loop-row.row (a.area.y + a.area.height) a.row_bytes (omega arith) in
-    omega arith
+    omega (arith, rows_apart c.loop-row.row (c.args.area.y + c.args.area.height) c.args.row_bytes (omega arith))
 
 pub overflow_add-start-in-loop-row : goal.overflow_add-start-in-loop-row
 overflow_add-start-in-loop-row c =
-    let a = c.args in
-    let fits = rows_apart c.loop-row.row (a.area.y + a.area.height) a.row_bytes (omega arith) in
-    omega arith
+    omega (arith, rows_apart c.loop-row.row (c.args.area.y + c.args.area.height) c.args.row_bytes (omega arith))
 
 pub fill_bits-requires-clause-room : goal.fill_bits-requires-clause-room
 fill_bits-requires-clause-room c =
-    let a = c.args in
-    let fits = rows_apart c.loop-row.row (a.area.y + a.area.height) a.row_bytes (omega arith) in
-    omega arith
+    omega (arith, rows_apart c.loop-row.row (c.args.area.y + c.args.area.height) c.args.row_bytes (omega arith))
 
 pub returns-clause-dots : goal.returns-clause-dots
 returns-clause-dots c px py within =

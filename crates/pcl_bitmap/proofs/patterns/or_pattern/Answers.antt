@@ -89,27 +89,19 @@ write_dots-requires-clause-small c = omega (arith, length-take c.div_ceil-count.
 
 pub overflow_mul-start : goal.overflow_mul-start
 overflow_mul-start c =
-    let a = c.args in
-    let fits = rows_apart c.loop-row.row (a.area.y + a.area.height) a.row_bytes (omega arith) in
-    omega arith
+    omega (arith, rows_apart c.loop-row.row (c.args.area.y + c.args.area.height) c.args.row_bytes (omega arith))
 
 pub overflow_mul-start-in-loop-row : goal.overflow_mul-start-in-loop-row
 overflow_mul-start-in-loop-row c =
-    let a = c.args in
-    let fits = rows_apart c.loop-row.row (a.area.y + a.area.height) a.row_bytes (omega arith) in
-    omega arith
+    omega (arith, rows_apart c.loop-row.row (c.args.area.y + c.args.area.height) c.args.row_bytes (omega arith))
 
 pub overflow_add-start : goal.overflow_add-start
 overflow_add-start c =
-    let a = c.args in
-    let fits = rows_apart c.loop-row.row (a.area.y + a.area.height) a.row_bytes (omega arith) in
-    omega arith
+    omega (arith, rows_apart c.loop-row.row (c.args.area.y + c.args.area.height) c.args.row_bytes (omega arith))
 
 pub overflow_add-start-in-loop-row : goal.overflow_add-start-in-loop-row
 overflow_add-start-in-loop-row c =
-    let a = c.args in
-    let fits = rows_apart c.loop-row.row (a.area.y + a.area.height) a.row_bytes (omega arith) in
-    omega arith
+    omega (arith, rows_apart c.loop-row.row (c.args.area.y + c.args.area.height) c.args.row_bytes (omega arith))
 
 pub slice_bounds-dots-end-in-loop-row : goal.slice_bounds-dots-end-in-loop-row
 slice_bounds-dots-end-in-loop-row c = omega arith
@@ -119,9 +111,7 @@ slice_bounds-or_bits-end c = omega (arith, length-take {A = ℕ}, length-append 
 
 pub or_bits-requires : goal.or_bits-requires
 or_bits-requires c =
-    let a = c.args in
-    let fits = rows_apart c.loop-row.row (a.area.y + a.area.height) a.row_bytes (omega arith) in
-    omega arith
+    omega (arith, rows_apart c.loop-row.row (c.args.area.y + c.args.area.height) c.args.row_bytes (omega arith))
 
 pub returns-clause-dots : goal.returns-clause-dots
 returns-clause-dots c px py within =

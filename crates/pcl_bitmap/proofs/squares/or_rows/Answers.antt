@@ -11,7 +11,8 @@ loop-row-init c = record {
   so_far = λ px py within.
       let a = c.args in
       let before = dot_of_row a.page.now (8 * (py * a.row_bytes) + px) in
-      sym (ap (λ t. if t then dot_of_row a.source.now (px - a.area.x) || before else before) (no_rows a.area.x a.area.y a.area.width px py));
+      sym (ap (λ t. if t then dot_of_row a.source.now (px - a.area.x) || before else before)
+      (no_rows a.area.x a.area.y a.area.width px py));
   in_bytes = All-from_get_or (λ n. n < 256) c.args.page.now 0 (λ i _. omega (arith, c.type_inv.page i));
 }
 
@@ -32,33 +33,23 @@ loop-row-preserved c = record {
 
 pub overflow_mul-start : goal.overflow_mul-start
 overflow_mul-start c =
-    let a = c.args in
-    let fits = rows_apart c.loop-row.row (a.area.y + a.area.height) a.row_bytes (omega arith) in
-    omega arith
+    omega (arith, rows_apart c.loop-row.row (c.args.area.y + c.args.area.height) c.args.row_bytes (omega arith))
 
 pub overflow_mul-start-in-loop-row : goal.overflow_mul-start-in-loop-row
 overflow_mul-start-in-loop-row c =
-    let a = c.args in
-    let fits = rows_apart c.loop-row.row (a.area.y + a.area.height) a.row_bytes (omega arith) in
-    omega arith
+    omega (arith, rows_apart c.loop-row.row (c.args.area.y + c.args.area.height) c.args.row_bytes (omega arith))
 
 pub overflow_add-start : goal.overflow_add-start
 overflow_add-start c =
-    let a = c.args in
-    let fits = rows_apart c.loop-row.row (a.area.y + a.area.height) a.row_bytes (omega arith) in
-    omega arith
+    omega (arith, rows_apart c.loop-row.row (c.args.area.y + c.args.area.height) c.args.row_bytes (omega arith))
 
 pub overflow_add-start-in-loop-row : goal.overflow_add-start-in-loop-row
 overflow_add-start-in-loop-row c =
-    let a = c.args in
-    let fits = rows_apart c.loop-row.row (a.area.y + a.area.height) a.row_bytes (omega arith) in
-    omega arith
+    omega (arith, rows_apart c.loop-row.row (c.args.area.y + c.args.area.height) c.args.row_bytes (omega arith))
 
 pub or_bits-requires : goal.or_bits-requires
 or_bits-requires c =
-    let a = c.args in
-    let fits = rows_apart c.loop-row.row (a.area.y + a.area.height) a.row_bytes (omega arith) in
-    omega arith
+    omega (arith, rows_apart c.loop-row.row (c.args.area.y + c.args.area.height) c.args.row_bytes (omega arith))
 
 pub returns-clause-dots : goal.returns-clause-dots
 returns-clause-dots c px py within =
