@@ -1,10 +1,10 @@
-use Rattle.std.proofs.Common.{sym, subst}
-use Rattle.pcl_command.specs.declared.request.Task.{Task}
-use Rattle.pcl_command.specs.Runs.{HasDoneTask}
 use Rattle.pcl_command.proofs.running.do_task.Goals as goal
 
+pub returns-in-Minimize : goal.returns-in-Minimize
+returns-in-Minimize g c = rw c.in-Minimize.is assumption
+
 pub returns-in-Certify : goal.returns-in-Certify
-returns-in-Certify g c =
-    subst (λ (task : Task). HasDoneTask task c.args.usage.dpi (g.R.Read.remaining c.args.reader.now)
-    (g.R.Read.remaining c.certify.new.reader) (g.W.Write.contents c.args.out.now) (g.W.Write.contents c.certify.new.out)
-    c.certify.result) (sym c.in-Certify.is) c.certify.ensures
+returns-in-Certify g c = rw c.in-Certify.is assumption
+
+pub returns-in-Preview : goal.returns-in-Preview
+returns-in-Preview g c = rw c.in-Preview.is assumption
