@@ -1,5 +1,7 @@
 pub mod Fronts
 pub mod Fields
+pub mod Values
+pub mod Data
 pub mod Lines
 pub mod Squeezed
 pub mod Checks
