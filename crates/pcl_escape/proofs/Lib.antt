@@ -5,6 +5,7 @@ pub mod Data
 pub mod Lines
 pub mod Squeezed
 pub mod Checks
+pub mod Parameters
 pub mod Steps
 pub mod Starts
 pub mod Runs
