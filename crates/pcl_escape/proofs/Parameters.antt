@@ -1,8 +1,8 @@
 -- What a step of the code reads inside a sequence, by what it found: no letter, a fault of the checks, or a parameter.
-use Rattle.std.proofs.Common.{◌≡◌, ℕ, Bool, true, false, if◌then◌else◌, List, [], ◌∷◌, length, take, drop, Option, Some, None, Result, Ok, Err, refl, sym, ap, subst, ◌∙◌}
+use Rattle.std.proofs.Common.{◌≡◌, ℕ, ◌+◌, ◌-◌, Bool, true, false, if◌then◌else◌, List, [], ◌∷◌, length, take, drop, Option, Some, None, Result, Ok, Err, refl, sym, ap, subst, ◌∙◌}
 use Rattle.std.specs.Bool.{then_some}
 use Rattle.pcl_base.specs.declared.kind.Kind.{Kind}
-use Rattle.pcl_base.specs.declared.kind.Kind.TheVariants.{Truncated, BadSequence, ValueRange}
+use Rattle.pcl_base.specs.declared.kind.Kind.TheVariants.{Truncated, BadSequence, ValueRange, NotPcl}
 use Rattle.pcl_base.specs.declared.name.Name.{Name}
 use Rattle.pcl_base.specs.declared.refusal.Refusal.{Refusal}
 use Rattle.pcl_base.specs.declared.value.Value.{Value}
@@ -12,8 +12,10 @@ use Rattle.pcl_escape.specs.declared.step.Prefix.{Prefix}
 use Rattle.pcl_escape.specs.declared.step.Progress.{Progress}
 use Rattle.pcl_escape.specs.Letter.{goes_on, is_letter, prefix_name, parameter_name}
 use Rattle.pcl_escape.specs.Field.{Spelled, field_value, field_at, in_range}
-use Rattle.pcl_escape.specs.Checks.{operation_checks, parameter_checks}
-use Rattle.pcl_escape.specs.Scan.{Reads, Gives, letter_at, checked_at, parameter_at}
+use Rattle.pcl_escape.specs.Checks.{operation_checks, parameter_checks, exit_name, is_exit}
+use Rattle.pcl_escape.specs.Exit.{lines_at}
+use Rattle.pcl_escape.specs.Said.{Said}
+use Rattle.pcl_escape.specs.Scan.{Reads, Gives, letter_at, checked_at, parameter_at, with_lines, ungrouped_at}
 
 -- a fault that is returned is one that a step finds
 pub gives_fault : {given : Result Progress Refusal} {reads : Result Reads Refusal} {fault : Refusal} → given ≡ Err fault → reads ≡ Err fault
@@ -109,3 +111,11 @@ pub data_behind : {prefix : Prefix} (at : ℕ) (bytes : List ℕ) {field : Spell
     ≡ Ok record { said = Some record { at = at; name = name; value = value; bytes = sent }; rest = rest; inside = inside }
 data_behind {prefix} at bytes {letter = letter} is v e d r i =
     let on = i ∙ some_if (goes_on letter) prefix in operation_behind at bytes is v e ∙ rw (is.named, d, r, on) refl
+
+-- a line behind a universal exit that asks for another language
+pub exit_refused : (at parameterized : ℕ) (bytes : List ℕ) {step : Reads} {said : Said} {place : ℕ}
+    → parameter_at (record { parameterized = parameterized; group = None }) at bytes ≡ Ok step → step.said ≡ Some said
+    → true ≡ is_exit said.name said.value → lines_at (at + 2 + (length bytes - length step.rest)) step.rest ≡ Err place
+    → ungrouped_at at parameterized bytes ≡ Err (refusal NotPcl place exit_name)
+unfolding ungrouped_at
+exit_refused at parameterized bytes e s x l = ap (with_lines (at + 2) (length bytes)) e ∙ rw (s, ← x, l) refl
