@@ -8,7 +8,8 @@ use Rattle.pcl_escape.proofs.step.read_parameter.Goals.{After-parameter_name-nam
 
 -- a letter was found behind the field
 lettered : (c : After-parameter_name-name)
-    → IsLettered c.args.prefix c.args.bytes.now (spelled c.read_field.result.0) c.in-Some.field-0-0.now c.in-Some.after.now c.parameter_name-name.result
+    → IsLettered c.args.prefix c.args.bytes.now (spelled c.read_field.result.0) c.in-Some.field-0-0.now c.in-Some.after.now
+    c.parameter_name-name.result
 lettered c = record {
   front = ap (λ (rest : List ℕ). (spelled c.read_field.result.0, rest)) (sym c.in-Some.ensures.cases.0) ∙ c.read_field.ensures;
   ends = c.if-not-is_letter.ensures;
@@ -17,7 +18,8 @@ lettered c = record {
 
 pub returns-in_default : goal.returns-in_default
 returns-in_default c =
-    let cut = nothing_behind c.args.prefix c.args.at c.args.bytes.now c.read_field.result.1.now c.read_field.ensures c.in_default.ensures.cases in
+    let cut = nothing_behind c.args.prefix c.args.at c.args.bytes.now c.read_field.result.1.now c.read_field.ensures
+    c.in_default.ensures.cases in
     search (gives_cut, cut)
 
 pub returns-then-not-is_letter : goal.returns-then-not-is_letter
@@ -39,5 +41,5 @@ returns-in-Err c =
 pub returns : goal.returns
 returns c =
     let is = lettered (goal.at.returns c).After-parameter_name-name in
-    data_behind c.args.at c.args.bytes.now is c.in-Some-value.ensures c.in-Ok.ensures.checks c.split_at.ensures.front c.split_at.ensures.back
-    (c.then_some.ensures ∙ ap (λ on. then_some {T = Prefix} on c.args.prefix) c.goes_on.ensures)
+    data_behind c.args.at c.args.bytes.now is c.in-Some-value.ensures c.in-Ok.ensures.checks c.split_at.ensures.front
+    c.split_at.ensures.back (c.then_some.ensures ∙ ap (λ on. then_some {T = Prefix} on c.args.prefix) c.goes_on.ensures)
