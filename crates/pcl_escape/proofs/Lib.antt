@@ -1,8 +1,11 @@
 pub mod Fronts
 pub mod Fields
+pub mod Values
+pub mod Data
 pub mod Lines
 pub mod Squeezed
 pub mod Checks
+pub mod Parameters
 pub mod Steps
 pub mod Starts
 pub mod Runs

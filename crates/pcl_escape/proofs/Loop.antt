@@ -86,3 +86,7 @@ pub is_done : (front : List Said) (total : ℕ) (inside : Option Prefix) (rest :
 is_done front total None [] e i = all_done front total
 is_done front total None (byte ∷ rest) e i = let z : suc (length rest) ≡ 0 = eqb-true (suc (length rest)) 0 (sym e) in absurd (omega arith)
 is_done front total (Some prefix) rest e i = absurd cc
+
+-- the place of the rest and its bytes fit where all bytes do
+pub place_fits : (total rest : ℕ) → rest ≤ total → total ≤ 18446744073709551615 → (total - rest) + rest ≤ 18446744073709551615
+place_fits total rest h f = omega arith

@@ -10,7 +10,7 @@ use Rattle.pcl_base.specs.declared.method.Method.{Method}
 use Rattle.pcl_base.specs.declared.method.Method.TheVariants.{Plain, Runs, Packed, Delta}
 use Rattle.pcl_rows.specs.Heads.{Head, Itself, Count, Skipped, Near, head_bytes, copies_of, offset_of}
 use Rattle.pcl_rows.specs.Elements.{Element, IsHead, IsElement, AreElements, element_bytes, given_by, stop, reach}
-use Rattle.pcl_rows.specs.Rows.{after_element, IsCutIntoElements, treated, RowFrom, IsWhole}
+use Rattle.pcl_rows.specs.Rows.{after_element, base, IsCutIntoElements, treated, RowFrom, Decodes, IsWhole}
 use Rattle.pcl_rows.specs.Fronts.{IsWholeFront, IsCutFront, IsFront, overlaid}
 use Rattle.pcl_rows.proofs.Overlays.{drop-overlaid, take-overlaid}
 use Rattle.pcl_rows.proofs.Spellings.{same_elements, spelling_has_byte, cut_is_not_whole}
@@ -340,3 +340,9 @@ pub whole_cut : {method : Method} {bytes : List ℕ} {room offset copies : ℕ} 
     → IsFront method bytes offset copies new rest false → IsWhole method bytes room → ⊥
 whole_cut some front w =
     cut_not_whole some front.head_is front.parts w
+
+-- the row that data makes of a row of the bytes that its method begins with
+pub decodes_from : (method named : Method) (seed bytes row : List ℕ) {old : List ℕ} → method ≡ named → RowFrom named bytes old row
+    → old ≡ base named seed → Decodes method seed bytes row
+decodes_from method named seed bytes row m made e =
+    subst (λ (m : Method). Decodes m seed bytes row) (sym m) (subst (λ (old : List ℕ). RowFrom named bytes old row) e made)

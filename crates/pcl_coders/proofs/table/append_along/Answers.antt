@@ -1,5 +1,5 @@
-use Rattle.std.proofs.Common.{List, ℕ, sym, subst}
-use Rattle.std.proofs.lemmas.Result.{on_ok_weaker}
+use Rattle.std.proofs.Common.{List, ℕ, take, sym, ap, subst, ◌∙◌}
+use Rattle.std.proofs.lemmas.Result.{on_ok_weaker, on_err_weaker}
 use Rattle.pcl_coders.specs.Filling.{AreRightFrom}
 use Rattle.pcl_coders.proofs.Filling.{appends_least}
 use Rattle.pcl_coders.proofs.Tables.{right_of_least}
@@ -18,3 +18,10 @@ returns-else-is_err-clause-ok c =
     (appends_least c.requires.codable
     c.requires.least.table_is.size c.base_row-old.ensures right)
     c.append_steps-appended.ensures.ok
+
+pub returns-then-is_err-clause-err : goal.returns-then-is_err-clause-err
+returns-then-is_err-clause-err c =
+    let appended = c.append_steps-appended.new.out.items in
+    on_err_weaker c.append_steps-appended.result
+    (λ kept. c.truncate.ensures.items ∙ ap (λ (n : ℕ). take n appended) (c.len-start.ensures ∙ c.args.out.now.ok.0) ∙ kept)
+    c.append_steps-appended.ensures.err

@@ -1,7 +1,7 @@
 use Rattle.std.proofs.Common.{◌-◌, length, arith, sym, ap, ◌∙◌}
 use Rattle.pcl_escape.specs.Said.{views}
 use Rattle.pcl_escape.specs.Scan.{step_view}
-use Rattle.pcl_escape.proofs.Loop.{GoesOn, goes_on_bytes, goes_on_inside, step_shorter, so_far, one_more, stops_at, is_done}
+use Rattle.pcl_escape.proofs.Loop.{GoesOn, goes_on_bytes, goes_on_inside, step_shorter, so_far, one_more, stops_at, is_done, place_fits}
 use Rattle.pcl_escape.proofs.job.scan.Goals as goal
 use Rattle.pcl_escape.proofs.job.scan.Goals.{After-read_step, then-not-is_empty, else-not-is_empty+then-is_some}
 
@@ -41,3 +41,7 @@ loop-inside-preserved c =
 pub returns : goal.returns
 returns c = sym c.loop-inside.invariant.same ∙ is_done (views c.loop-inside.commands.items)
     (length c.args.job.now) c.loop-inside.inside c.loop-inside.rest.now c.if-not-is_empty.ensures c.if-is_some.ensures
+
+pub read_step-requires : goal.read_step-requires
+read_step-requires c =
+    place_fits (length c.args.job.now) (length c.loop-inside.rest.now) c.loop-inside.invariant.within (omega arith)

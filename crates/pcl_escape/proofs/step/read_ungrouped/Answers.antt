@@ -1,4 +1,6 @@
-use Rattle.std.proofs.Common.{arith}
+use Rattle.std.proofs.Common.{ap, arith}
+use Rattle.pcl_escape.specs.Scan.{said_of}
+use Rattle.pcl_escape.proofs.Parameters.{gives_fault, exit_refused}
 use Rattle.pcl_escape.proofs.Steps.{parameter_shorter}
 use Rattle.pcl_escape.proofs.step.read_ungrouped.Goals as goal
 
@@ -9,3 +11,7 @@ overflow_sub-place c =
 pub skip_lines-requires : goal.skip_lines-requires
 skip_lines-requires c =
     let shorter = parameter_shorter _ c.args.at c.args.bytes.now c.in_ok-step.ensures in omega arith
+
+pub returns-in-Err : goal.returns-in-Err
+returns-in-Err c = gives_fault c.refused.ensures (exit_refused c.args.at c.args.parameterized c.args.bytes.now c.in_ok-step.ensures
+    (ap said_of c.in-Some.is) c.if-is_exit.ensures c.in-Err.ensures)

@@ -1,0 +1,61 @@
+-- How many data bytes a command takes, by the whole part that the code has as a signed number.
+use Rattle.std.proofs.Common.{◌≡◌, ℕ, zero, suc, ℤ, pos, nat_abs, int_lt, ◌≤◌, ◌<◌, ◌≢◌, true, false, ◌&&◌, nat_lt, Option, Some, Ok, Err, refl, sym, ap, ◌∙◌}
+use Rattle.std.proofs.lemmas.Bool.{ne_eqb, lt-ltb, le-ltb}
+use Rattle.std.proofs.lemmas.Int.{to_z-of_z}
+use Rattle.std.specs.Int.{w32, cast_signed, cast_unsigned}
+use Rattle.std.specs.Int.Signed.{mag}
+use Rattle.pcl_base.specs.declared.kind.Kind.TheVariants.{Truncated, BadSequence}
+use Rattle.pcl_base.specs.declared.operation.Operation.{Operation}
+use Rattle.pcl_base.specs.declared.value.Sign.{Sign}
+use Rattle.pcl_base.specs.declared.value.Sign.TheVariants.{Absent, Plus, Minus}
+use Rattle.pcl_base.specs.declared.value.Value.{Value}
+use Rattle.pcl_base.specs.Operation.{takes_data}
+use Rattle.pcl_base.specs.Value.{with_sign, signed_whole, whole_of, is_minus, is_below_zero}
+use Rattle.pcl_escape.specs.Letter.{goes_on}
+use Rattle.pcl_escape.specs.Checks.{data_checks, operation_checks}
+
+-- the value counts so many bytes
+pub record Counts (value : Value) (n : ℕ) : Type 0 where
+  pub not_below : is_below_zero value ≡ false
+  pub whole : whole_of value ≡ n
+
+-- a number of 32 bits with a sign, through its bits
+abbrev pub through_bits : ℤ → ℤ
+through_bits z = cast_signed w32 (cast_unsigned w32 z)
+
+-- a sign and a number that aren't below 0
+not_below_by : (sign : Sign) (n : ℕ) → int_lt (with_sign sign n) (pos 0) ≡ false
+    → ((is_minus sign && nat_lt 0 n) ≡ false) × (n ≡ nat_abs (with_sign sign n))
+not_below_by Absent n e = (refl, refl)
+not_below_by Plus n e = (refl, refl)
+not_below_by Minus zero e = (refl, refl)
+not_below_by Minus (suc n) e = absurd cc
+
+-- a whole part that isn't below 0 counts bytes
+pub counts : (value : Value) {y z : ℤ} → mag z < 2147483648 → y ≡ signed_whole value → z ≡ signed_whole value
+    → int_lt (through_bits y) (pos 0) ≡ false → Counts value (nat_abs (through_bits z))
+counts value {y} {z} fits a b e =
+    let same : through_bits z ≡ signed_whole value = to_z-of_z w32 z (record { sfits = fits }) ∙ b in
+    let parts = not_below_by value.sign (whole_of value)
+    (ap (λ (x : ℤ). int_lt x (pos 0)) (sym same ∙ ap through_bits (b ∙ sym a)) ∙ e) in
+    record { not_below = parts.0; whole = parts.1 ∙ ap nat_abs (sym same) }
+
+-- the checks of a command that takes data
+pub takes : {named : Option Operation} {operation : Operation} (letter : ℕ) (value : Value) (left : ℕ) → Some operation ≡ named
+    → takes_data operation ≡ true → operation_checks named letter value left ≡ data_checks letter value left
+takes {operation} letter value left e t =
+    ap (λ (o : Option Operation). operation_checks o letter value left) (sym e) ∙ rw t refl
+
+-- a middle parameter can't count bytes
+pub middle_counts : {value : Value} {n : ℕ} (letter left : ℕ) → Counts value n → n ≢ 0 → true ≡ goes_on letter
+    → data_checks letter value left ≡ Err BadSequence
+middle_counts {n = n} letter left c some on = rw (c.not_below, c.whole, ne_eqb n 0 some, ← on) refl
+
+-- a last one counts no more than there are
+pub end_short : {value : Value} {n : ℕ} (letter left : ℕ) → Counts value n → n ≢ 0 → false ≡ goes_on letter → left < n
+    → data_checks letter value left ≡ Err Truncated
+end_short {n = n} letter left c some on h = rw (c.not_below, c.whole, ne_eqb n 0 some, ← on, lt-ltb left n h) refl
+
+pub end_counts : {value : Value} {n : ℕ} (letter left : ℕ) → Counts value n → n ≢ 0 → false ≡ goes_on letter → n ≤ left
+    → data_checks letter value left ≡ Ok n
+end_counts {n = n} letter left c some on h = rw (c.not_below, c.whole, ne_eqb n 0 some, ← on, le-ltb left n h) refl
