@@ -36,10 +36,11 @@ draw-requires g c =
     let old = c.args.self.now in
     let p = c.prepare.ensures in
     let same = c.in_ok-turn.ensures.rest in
-    let few : rows_in c.turn.new.self.raster ≤ rows_in old.raster =
+    let now = c.turn.new.self in
+    let few : rows_in now.raster ≤ rows_in old.raster =
     subst (λ (r : Option Raster). rows_in r ≤ rows_in old.raster) (sym (same.1 ∙ p.raster))
     (rows_left (ends_raster c.in-Some.operation) old.raster) in
-    record { rows = row_room (rows_in c.turn.new.self.raster) old.performed c.turn.new.self.performed few old.few_rows (same.0 ∙ p.performed) }
+    record { rows = row_room (rows_in now.raster) old.performed now.performed few old.few_rows (same.0 ∙ p.performed) }
 
 pub returns-then-is_ignored : goal.returns-then-is_ignored
 returns-then-is_ignored g c = λ s i.
