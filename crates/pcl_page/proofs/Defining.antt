@@ -1,5 +1,5 @@
 -- The command that ends a definition counts, and runs no macro.
-use Rattle.std.proofs.Common.{◌≡◌, ℕ, Bool, true, cond, Option, Some, None, Result, refl, sym, ap, subst, ◌∙◌}
+use Rattle.std.proofs.Common.{◌≡◌, ℕ, Bool, true, cond, [], Option, Some, None, Result, Ok, refl, sym, ap, subst, ◌∙◌, append-nil}
 use Rattle.std.specs.Prelude.{is_some}
 use Rattle.pcl_base.specs.declared.dpi.Dpi.{Dpi}
 use Rattle.pcl_base.specs.declared.fault.CallFault.{CallFault}
@@ -15,7 +15,7 @@ use Rattle.pcl_page.specs.declared.interpreter.Interpreter.{Interpreter}
 use Rattle.pcl_page.specs.declared.macros.Action.{Action}
 use Rattle.pcl_page.specs.declared.macros.Action.TheVariants.{Begin, End, Execute, Call, Control}
 use Rattle.pcl_page.specs.declared.macros.Keeping.{Keeping}
-use Rattle.pcl_page.specs.declared.macros.Keeping.TheVariants.{Ends}
+use Rattle.pcl_page.specs.declared.macros.Keeping.TheVariants.{Kept, Ends}
 use Rattle.pcl_page.specs.Situation.{Situation}
 use Rattle.pcl_page.specs.Macros.{Run, action_of, control_keeping, keeping_of, counting, defining, after_command, run_by, run_from, run_of}
 use Rattle.pcl_page.specs.Unfolding.{IsAt, IsStepped}
@@ -59,6 +59,17 @@ stepped_as : {S : Type 0} (takes : S → Page → S → Type 0) (dpi : Dpi) (out
 stepped_as takes dpi outcome other run_after run_other s result old new sink later o r step =
     subst (λ (p : Result Situation Kind). IsStepped takes dpi p run_other s result old new sink later) (sym o)
     (subst (λ (f : Situation → Option Run). IsStepped takes dpi outcome f s result old new sink later) (sym r) step)
+
+-- a command that is kept changes nothing, and runs no macro
+pub stepped_kept : {S : Type 0} (takes : S → Page → S → Type 0) (dpi : Dpi) (place : ℕ) (command : Said) (s : Situation)
+    (old : Interpreter) (sink : S) → IsAt dpi s old → is_begun old.macros ≡ true
+    → keeping_of (operation_of command.name) command.value ≡ Kept
+    → IsStepped takes dpi (after_command dpi place command s) (run_of command s) s (Ok tt) old old sink sink
+stepped_kept takes dpi place command s old sink at some kept =
+    let begun : is_some s.begun ≡ true = ap (λ (b : Option Begun). is_some b) (sym at.begun) ∙ some in
+    stepped_as takes dpi (Ok s) (after_command dpi place command s) runs_none (run_of command s) s (Ok tt) old old sink sink
+    (command_inside dpi place command s begun kept) (run_inside command s begun)
+    (s, refl, at, (sym (append-nil old.running.items), tt), ([], sym (append-nil s.pages), refl))
 
 pub stepped_ending : {S : Type 0} (takes : S → Page → S → Type 0) (dpi : Dpi) (place : ℕ) (command : Said) (s : Situation)
     (result : Result (Unit {0}) CallFault) (old new : Interpreter) (sink later : S) → IsAt dpi s old → is_begun old.macros ≡ true

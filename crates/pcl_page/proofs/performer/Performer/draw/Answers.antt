@@ -1,4 +1,4 @@
-use Rattle.std.proofs.Common.{refl}
+use Rattle.std.proofs.Common.{rules, refl}
 use Rattle.pcl_escape.specs.Said.{view}
 use Rattle.pcl_page.proofs.Printed.{event_in, settings_in, rectangle_in, row_in}
 use Rattle.pcl_page.proofs.performer.Performer.draw.Goals as goal
@@ -25,3 +25,7 @@ returns-in-FillRectangle c = λ s i. rw c.in-FillRectangle.is
 pub returns-in_ok-send_row-in-RasterRow : goal.returns-in_ok-send_row-in-RasterRow
 returns-in_ok-send_row-in-RasterRow c = λ s i. rw c.in-RasterRow.is
     (refl, row_in (view c.args.command.now) i c.in_ok-send_row-in-RasterRow.ensures)
+
+-- each other command by itself
+pub returns-in_default : goal.returns-in_default
+returns-in_default c = search rules

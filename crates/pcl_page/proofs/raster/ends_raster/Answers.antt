@@ -1,0 +1,6 @@
+use Rattle.std.proofs.Common.{rules}
+use Rattle.pcl_page.proofs.raster.ends_raster.Goals as goal
+
+-- each other command by itself
+pub returns-then-not-goes_on : goal.returns-then-not-goes_on
+returns-then-not-goes_on c = search rules
