@@ -1,13 +1,33 @@
 -- What writers hold after a filter.
-use Rattle.std.proofs.Common.{ℕ, List, Option, Result, Ok, Err, inl, inr}
+use Rattle.std.proofs.Common.{ℕ, ◌≤◌, List, length, Option, Result, Ok, Err, inl, inr, arith}
 use Rattle.std.specs.Io.KnownBytes.{Appends}
 use Rattle.std.proofs.KnownBytes.{Keeps-refl}
 use Rattle.pcl_base.specs.declared.dpi.Dpi.{Dpi}
 use Rattle.pcl_cert.specs.declared.format.Format.{Format}
 use Rattle.pcl_tool.specs.declared.fault.Fault.{Fault}
 use Rattle.pcl_tool.specs.declared.fault.Fault.TheVariants.{Refused, Memory, ReadFault, TooLong, WriteFault, NoSuchPage}
-use Rattle.pcl_tool.specs.Transfer.{IsWritten}
-use Rattle.pcl_tool.specs.Minimizing.{IsJobOf, IsCertifiedJobOf, IsRead, IsFiltered, IsFilteredCert}
+use Rattle.pcl_tool.specs.Transfer.{IsReadAll, IsWritten}
+use Rattle.pcl_tool.specs.Minimizing.{IsJobOf, IsCertifiedJobOf, IsJobWritten, IsRead, IsFiltered, IsFilteredCert, input_limit}
+
+-- the job wasn't read whole, and nothing was written
+pub not_read : (dpi : Dpi) (given left out : Option (List ℕ)) (fault : Fault)
+    → IsReadAll given left input_limit (Err fault) → IsFiltered dpi given left out out (Err fault)
+not_read dpi given left out TooLong h = (h.0, h.1, h.2, Keeps-refl out)
+not_read dpi given left out ReadFault h = (h, Keeps-refl out)
+not_read dpi given left out Memory h = (h, Keeps-refl out)
+not_read dpi given left out (Refused refusal) h = absurd h
+not_read dpi given left out WriteFault h = absurd h
+not_read dpi given left out NoSuchPage h = absurd h
+
+-- the job was refused or memory ran out, and nothing was written
+pub not_performed : (dpi : Dpi) {given left : Option (List ℕ)} (out : Option (List ℕ)) {job : List ℕ} (fault : Fault)
+    → IsRead given left job → length job ≤ input_limit → IsJobWritten dpi job (Err fault) → IsFiltered dpi given left out out (Err fault)
+not_performed dpi out {job} (Refused refusal) r short h = (job, r, h, Keeps-refl out)
+not_performed dpi out {job} Memory r short h = ((job, r.given, omega arith), Keeps-refl out)
+not_performed dpi out TooLong r short h = absurd h
+not_performed dpi out ReadFault r short h = absurd h
+not_performed dpi out WriteFault r short h = absurd h
+not_performed dpi out NoSuchPage r short h = absurd h
 
 -- the job was written, or a front of it
 pub filtered : {dpi : Dpi} {given left : Option (List ℕ)} (old new : Option (List ℕ)) {job output : List ℕ}

@@ -1,7 +1,9 @@
 -- The page texts that a sink gathers.
-use Rattle.std.proofs.Common.{◌≡◌, ℕ, List, [], ◌∷◌, ◌++◌, refl, sym, ap, subst, ◌∙◌, append_assoc}
+use Rattle.std.proofs.Common.{◌≡◌, ℕ, List, [], ◌∷◌, ◌++◌, Err, refl, sym, ap, subst, ◌∙◌, append_assoc}
 use Rattle.std.proofs.lemmas.List.{append-nil}
 use Rattle.pcl_base.specs.declared.dpi.Dpi.{Dpi}
+use Rattle.pcl_base.specs.declared.fault.JobFault.{JobFault}
+use Rattle.pcl_base.specs.declared.fault.JobFault.TheVariants.{Refused, Memory}
 use Rattle.pcl_page.specs.declared.page.Page.{Page}
 use Rattle.pcl_page.specs.Situation.{Sheet}
 use Rattle.pcl_page.specs.Performing.{Hands}
@@ -10,7 +12,9 @@ use Rattle.pcl_plan.specs.Tokens.{frame_bytes}
 use Rattle.pcl_writer.specs.Appending.{AppendsPage}
 use Rattle.pcl_meaning.specs.Alike.{PrintSheets}
 use Rattle.pcl_meaning.proofs.Jobs.{written_again}
-use Rattle.pcl_tool.specs.Minimizing.{IsJobOf}
+use Rattle.pcl_tool.specs.JobFaults.{fault_of}
+use Rattle.pcl_tool.specs.Watching.{HasTaken}
+use Rattle.pcl_tool.specs.Minimizing.{IsJobOf, IsJobWritten}
 
 pub texts_gathered : (dpi : Dpi) (sheets : List Sheet) (old : List ℕ) {new : List ℕ}
     → Hands (λ (o : List ℕ) (page : Page) (n : List ℕ). AppendsPage page o n) dpi sheets old new
@@ -51,3 +55,10 @@ pub job_written : {dpi : Dpi} {job start : List ℕ} (body : List ℕ) {output :
 job_written {dpi} {job} {start} body {output} {pages} meaning opened handed closed =
     let t = texts_gathered dpi pages start handed in
     job_of_texts dpi job start body output t.0 pages meaning opened t.1 t.2 closed
+
+-- the job was refused or memory ran out, and so it is said
+pub not_written : (dpi : Dpi) (job start : List ℕ) (fault : JobFault)
+    → HasTaken (λ (o : List ℕ) (page : Page) (n : List ℕ). AppendsPage page o n) dpi job start (Err fault)
+    → IsJobWritten dpi job (Err (fault_of fault))
+not_written dpi job start (Refused refusal) h = h
+not_written dpi job start Memory h = tt

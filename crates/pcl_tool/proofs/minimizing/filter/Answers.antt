@@ -1,8 +1,24 @@
-use Rattle.std.proofs.Common.{List, ℕ, subst}
+use Rattle.std.proofs.Common.{List, ℕ, Err, subst}
+use Rattle.std.proofs.lemmas.Result.{err_from_is_err_and}
 use Rattle.pcl_tool.specs.Transfer.{IsWritten}
-use Rattle.pcl_tool.specs.Minimizing.{IsJobOf}
-use Rattle.pcl_tool.proofs.Filtered.{filtered}
+use Rattle.pcl_tool.specs.Minimizing.{IsJobOf, IsJobWritten}
+use Rattle.pcl_tool.proofs.Filtered.{filtered, not_read, not_performed}
 use Rattle.pcl_tool.proofs.minimizing.filter.Goals as goal
+
+pub returns-in_err-job : goal.returns-in_err-job
+returns-in_err-job g c =
+    let p = err_from_is_err_and c.from_residual.result c.from_residual.ensures.1 in
+    rw (p.1, p.2) (not_read c.args.dpi _ _ _ c.in_err-job.field-0.0 c.in_err-job.ensures)
+
+pub returns-in_err-output : goal.returns-in_err-output
+returns-in_err-output g c =
+    let r = c.in_ok-job.ensures in
+    let p = err_from_is_err_and c.from_residual-in_err-output.result c.from_residual-in_err-output.ensures.1 in
+    rw (p.1, p.2)
+    (not_performed c.args.dpi _ c.in_err-output.field-0.0
+    (record { given = r.0; ended = r.1 })
+    r.2
+    (subst (λ (job : List ℕ). IsJobWritten c.args.dpi job (Err c.in_err-output.field-0.0)) c.deref.ensures.value c.in_err-output.ensures))
 
 pub returns : goal.returns
 returns g c =

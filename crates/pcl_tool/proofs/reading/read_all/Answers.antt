@@ -1,8 +1,23 @@
-use Rattle.std.proofs.Common.{◌++◌, take, length-append, arith}
-use Rattle.std.proofs.KnownBytes.{Consumes-trans}
+use Rattle.std.proofs.Common.{◌≡◌, ◌<◌, ◌≤◌, ◌+◌, ◌++◌, ℕ, take, length-append, arith}
+use Rattle.std.proofs.KnownBytes.{Consumes-kept, Consumes-trans}
 use Rattle.std.proofs.lemmas.Result.{err_from_is_err_and}
 use Rattle.std.proofs.lemmas.List.{length-take}
 use Rattle.pcl_tool.proofs.reading.read_all.Goals as goal
+
+-- the length that was told is within the limit
+not_past : {limit told len count : ℕ} → told ≡ len → len ≡ count → told ≤ limit → count ≤ limit
+not_past t l h = omega arith
+
+-- the length that was told is more than the limit, and at most one more
+one_past : {limit told len count : ℕ} → told ≡ len → len ≡ count → limit < told → len ≤ limit + 1 → count ≡ limit + 1
+one_past t l h most = omega arith
+
+pub returns-in_default : goal.returns-in_default
+returns-in_default g c = (
+  c.loop-chunk.bytes.items,
+  Consumes-kept _ _ _ _ c.loop-chunk.invariant.given c.in_default.ensures.bytes,
+  not_past c.len.ensures c.loop-chunk.bytes.ok.0 c.loop-chunk-test.true,
+)
 
 pub returns-in_err-extend_from_slice : goal.returns-in_err-extend_from_slice
 returns-in_err-extend_from_slice g c =
@@ -23,3 +38,10 @@ returns-in_err-extend_from_slice g c =
         c.loop-chunk.bytes.ok.0,
       ),
     )
+
+pub returns : goal.returns
+returns g c = (
+  c.loop-chunk.bytes.items,
+  c.loop-chunk.invariant.given,
+  one_past c.len.ensures c.loop-chunk.bytes.ok.0 c.loop-chunk-test.false c.loop-chunk.invariant.within,
+)

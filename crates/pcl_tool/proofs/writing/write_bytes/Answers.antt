@@ -1,17 +1,36 @@
 use Rattle.std.proofs.Common.{◌≡◌, ◌++◌, ◌∙◌, List, ℕ, take, drop, append_assoc, ap, sym}
-use Rattle.std.proofs.KnownBytes.{Appends-trans}
+use Rattle.std.proofs.KnownBytes.{Appends-kept, Appends-trans}
 use Rattle.std.proofs.lemmas.List.{take-append-drop, take_rest}
 use Rattle.pcl_tool.proofs.writing.write_bytes.Goals as goal
+
+-- a front of the bytes, and more of the rest behind it
+more : {bytes : List ℕ} (front rest : List ℕ) (count : ℕ) → bytes ≡ front ++ rest → bytes ≡ (front ++ take count rest) ++ drop count rest
+more front rest count e =
+    e ∙ ap (λ (r : List ℕ). front ++ r) (sym (take-append-drop count rest))
+    ∙ sym (append_assoc front (take count rest) (drop count rest))
 
 pub loop-rest-preserved : goal.loop-rest-preserved
 loop-rest-preserved g c =
     let i = c.loop-rest.invariant in
     let count = c.in-Ok.count in
-    let rest = c.loop-rest.rest.now in
-    let parts : c.args.bytes.now ≡ (i.0 ++ take count rest) ++ drop count rest =
-    i.1 ∙ ap (λ (r : List ℕ). i.0 ++ r) (sym (take-append-drop count rest))
-    ∙ sym (append_assoc i.0 (take count rest) (drop count rest)) in (
+    let rest = c.loop-rest.rest.now in (
       i.0 ++ take count rest,
-      parts ∙ ap (λ (r : List ℕ). (i.0 ++ take count rest) ++ r) (sym (take_rest rest count)),
+      more i.0 rest count i.1 ∙ ap (λ (r : List ℕ). (i.0 ++ take count rest) ++ r) (sym (take_rest rest count)),
       Appends-trans _ _ _ _ _ i.2 c.in-Ok.ensures.bytes,
     )
+
+pub returns-in_default : goal.returns-in_default
+returns-in_default g c =
+    let i = c.loop-rest.invariant in
+    let count = c.in-Ok.count in
+    let rest = c.loop-rest.rest.now in (
+      i.0 ++ take count rest,
+      drop count rest,
+      more i.0 rest count i.1,
+      Appends-trans _ _ _ _ _ i.2 c.in-Ok.ensures.bytes,
+    )
+
+pub returns-in_default-2 : goal.returns-in_default-2
+returns-in_default-2 g c =
+    let i = c.loop-rest.invariant in
+    (i.0, c.loop-rest.rest.now, i.1, Appends-kept _ _ _ _ i.2 c.in_default.ensures.bytes)

@@ -1,5 +1,10 @@
+use Rattle.std.proofs.Common.{arith}
+use Rattle.std.proofs.lemmas.Grind.{common_steps}
 use Rattle.pcl_tool.proofs.SameCheckers.{again, on_err}
 use Rattle.pcl_tool.proofs.page_checks.CheckerPageSink.page.Goals as goal
 
 pub returns-in_err-self-clause-kept : goal.returns-in_err-self-clause-kept
 returns-in_err-self-clause-kept c = on_err c.from_residual.result (again _)
+
+pub returns-clause-taken : goal.returns-clause-taken
+returns-clause-taken c = grind (arith, common_steps)
