@@ -1,0 +1,8 @@
+use Rattle.std.proofs.Common.{rules}
+use Rattle.pcl_base.proofs.dpi.Dpi.unit.Goals as goal
+
+pub returns-in-Dpi300 : goal.returns-in-Dpi300
+returns-in-Dpi300 c = search rules
+
+pub returns-in-Dpi600 : goal.returns-in-Dpi600
+returns-in-Dpi600 c = search rules

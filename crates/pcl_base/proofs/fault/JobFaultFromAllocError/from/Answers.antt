@@ -1,0 +1,5 @@
+use Rattle.std.proofs.Common.{refl}
+use Rattle.pcl_base.proofs.fault.JobFaultFromAllocError.from.Goals as goal
+
+pub returns : goal.returns
+returns c = refl

@@ -1,0 +1,5 @@
+use Rattle.std.proofs.Common.{rules}
+use Rattle.pcl_base.proofs.kind.Kind.name.Goals as goal
+
+pub returns-in-BadSequence : goal.returns-in-BadSequence
+returns-in-BadSequence c = search rules

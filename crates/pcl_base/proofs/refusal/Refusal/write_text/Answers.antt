@@ -1,0 +1,10 @@
+use Rattle.std.proofs.Common.{◌∙◌, ℕ, take, ap}
+use Rattle.pcl_base.proofs.Results.{on_err}
+use Rattle.pcl_base.proofs.refusal.Refusal.write_text.Goals as goal
+
+-- what was appended is cut off
+pub returns-then-is_err-clause-err : goal.returns-then-is_err-clause-err
+returns-then-is_err-clause-err c =
+    on_err c.append_text-written.result
+    (c.truncate.ensures.items ∙ ap (λ (n : ℕ). take n c.append_text-written.new.out.items) (c.len-before.ensures ∙ c.args.out.now.ok.0)
+    ∙ c.append_text-written.ensures.front)
