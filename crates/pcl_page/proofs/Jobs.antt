@@ -1,5 +1,5 @@
 -- Performing a job, place by place, up to the whole.
-use Rattle.std.proofs.Common.{◌≡◌, ℕ, ◌+◌, List, [], ◌∷◌, ◌++◌, Option, Some, None, Result, Ok, Err, refl, sym, ap, subst, ◌∙◌, append_assoc, append-nil, inr}
+use Rattle.std.proofs.Common.{◌≡◌, ℕ, ◌+◌, List, [], ◌∷◌, ◌++◌, Option, Some, None, Result, Ok, Err, refl, sym, ap, subst, ◌∙◌, append_assoc, append-nil, inl, inr}
 use Rattle.pcl_base.specs.declared.dpi.Dpi.{Dpi}
 use Rattle.pcl_base.specs.declared.fault.JobFault.{JobFault}
 use Rattle.pcl_base.specs.declared.fault.JobFault.TheVariants.{Refused, Memory}
@@ -11,6 +11,7 @@ use Rattle.pcl_base.specs.Refusal.{refusal}
 use Rattle.pcl_bitmap.specs.Bitmap.{Picture, dot}
 use Rattle.pcl_escape.specs.Said.{Said}
 use Rattle.pcl_escape.specs.Pieces.{IsReading}
+use Rattle.pcl_escape.specs.Faults.{IsFaultOf}
 use Rattle.pcl_page.specs.declared.page.Page.{Page}
 use Rattle.pcl_page.specs.declared.interpreter.Interpreter.{Interpreter}
 use Rattle.pcl_page.specs.declared.interpreter.Running.{Running}
@@ -197,6 +198,12 @@ end_reached {S} takes dpi end all whole place interpreter old now then (Err Memo
     let o = end_grows dpi end s in
     subst (λ (p : Performance). HandsOver takes dpi p (Err Memory) old then) r.same
     (s.pages, o.0, o.1, subst (λ (x : S). Hands takes dpi s.pages old x) (sym (step dpi s r.is_at)) r.handed)
+
+-- of a job that is not read nothing is delivered
+pub undelivered : {S : Type 0} (takes : S → Page → S → Type 0) (dpi : Dpi) (job : List ℕ) (fault : JobFault) {old new : S}
+    → IsFaultOf job fault → new ≡ old → Delivers takes dpi job (Err fault) old new
+undelivered takes dpi job (Refused refusal) is same = inl (is, same)
+undelivered takes dpi job Memory is same = inl same
 
 -- what is performed of a job that is read is delivered
 pub delivered : {S : Type 0} (takes : S → Page → S → Type 0) (dpi : Dpi) (job : List ℕ) (commands : List Said)

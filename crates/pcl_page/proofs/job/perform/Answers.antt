@@ -1,10 +1,17 @@
-use Rattle.std.proofs.Common.{List, subst}
+use Rattle.std.proofs.Common.{List, refl, subst}
+use Rattle.std.proofs.lemmas.Result.{err_from_is_err_and}
 use Rattle.pcl_escape.specs.declared.command.Command.{Command}
 use Rattle.pcl_escape.specs.Said.{views}
 use Rattle.pcl_page.specs.Performing.{HandsOver}
 use Rattle.pcl_page.specs.Jobs.{performance_of}
-use Rattle.pcl_page.proofs.Jobs.{delivered}
+use Rattle.pcl_page.proofs.Jobs.{delivered, undelivered}
 use Rattle.pcl_page.proofs.job.perform.Goals as goal
+
+pub returns-in_err-commands : goal.returns-in_err-commands
+returns-in_err-commands g c =
+    let p = err_from_is_err_and c.from_residual.result c.from_residual.ensures.1 in
+    rw (p.1, p.2)
+    (undelivered g.S.PageSink.takes c.args.dpi c.args.job.now c.in_err-commands.field-0.0 c.in_err-commands.ensures.fault refl)
 
 pub returns : goal.returns
 returns g c =

@@ -2,7 +2,7 @@ use Rattle.std.proofs.Common.{◌≡◌, ◌∙◌, true, sym}
 use Rattle.pcl_base.specs.Operation.{operation_of}
 use Rattle.pcl_escape.specs.Said.{view}
 use Rattle.pcl_macros.specs.Table.{is_begun}
-use Rattle.pcl_page.specs.declared.macros.Keeping.TheVariants.{Kept, Ends}
+use Rattle.pcl_page.specs.declared.macros.Keeping.TheVariants.{Ends}
 use Rattle.pcl_page.specs.Macros.{keeping_of}
 use Rattle.pcl_page.proofs.Defining.{stepped_kept, stepped_ending}
 use Rattle.pcl_page.proofs.interpreter.Interpreter.try_command.Goals as goal

@@ -1,0 +1,15 @@
+use Rattle.std.proofs.Common.{rules, FitsSigned, to_z, of_z, ◌∙◌, ◌-ℤ◌, ◌*ℤ◌, pos, ℤ, ap, arith}
+use Rattle.std.proofs.lemmas.Int.{to_z_pos, to_z-of_z}
+use Rattle.std.specs.Int.{w16, w32}
+use Rattle.pcl_base.specs.Dpi.{fineness}
+use Rattle.pcl_page.proofs.text.above.Goals as goal
+
+pub returns : goal.returns
+returns c =
+    let bits : FitsSigned w16 c.args.bits = search rules in
+    let spread : FitsSigned w32 c.spread.result = search rules in
+    let fits : FitsSigned w32 (to_z w32 c.args.dot -ℤ to_z w32 (of_z w32 c.spread.result)) = search rules in
+    to_z-of_z w32 (to_z w32 c.args.dot -ℤ to_z w32 (of_z w32 c.spread.result)) fits
+    ∙ ap (λ (z : ℤ). z -ℤ to_z w32 (of_z w32 c.spread.result)) (to_z_pos w32 c.args.dot (omega arith))
+    ∙ ap (λ (z : ℤ). pos c.args.dot -ℤ z) (to_z-of_z w32 c.spread.result spread ∙ c.spread.ensures.value)
+    ∙ ap (λ (z : ℤ). pos c.args.dot -ℤ z *ℤ pos (fineness c.args.dpi)) (to_z-of_z w16 c.args.bits bits)
