@@ -1,6 +1,5 @@
 -- A checker whose fields are put together again.
-use Rattle.std.proofs.Common.{◌≡◌, length, drop, Result, Ok, Err, ap}
-use Rattle.std.specs.Prelude.{OnErr}
+use Rattle.std.proofs.Common.{◌≡◌, length, drop, ap}
 use denote.Struct.Props.{props}
 use Rattle.pcl_tool.specs.declared.job_verdict.JobVerdict.TheVariants as job
 use Rattle.pcl_tool.specs.declared.page_checks.Checker.{Checker}
@@ -13,7 +12,3 @@ again {c} kept =
     let one : IsProp (c.found ≡ job.Proved → length c.texts.now ≡ text_bytes (drop c.taken c.proofs.now)) = hlevel props in
     ap (λ (k : c.found ≡ job.Proved → length c.texts.now ≡ text_bytes (drop c.taken c.proofs.now)). record c { as_long = k })
     (one kept c.as_long)
-
-pub on_err : {A E : Type 0} {P : Type 0} (result : Result A E) → P → OnErr result P
-on_err (Ok x) p = tt
-on_err (Err e) p = p

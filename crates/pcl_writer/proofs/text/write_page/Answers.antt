@@ -1,10 +1,6 @@
-use Rattle.std.proofs.Common.{◌∙◌, ℕ, Result, Ok, Err, take, ap}
-use Rattle.std.specs.Prelude.{OnErr}
+use Rattle.std.proofs.Common.{◌∙◌, ℕ, take, ap}
+use Rattle.pcl_base.proofs.Results.{on_err}
 use Rattle.pcl_writer.proofs.text.write_page.Goals as goal
-
-on_err : {T E P : Type 0} (result : Result T E) → P → OnErr result P
-on_err (Ok x) p = tt
-on_err (Err e) p = p
 
 -- what was appended is cut off
 pub returns-then-is_err-clause-err : goal.returns-then-is_err-clause-err
