@@ -28,4 +28,4 @@ returns-in_ok-send_row-in-RasterRow c = λ s i. rw c.in-RasterRow.is
 
 -- each other command by itself
 pub returns-in_default : goal.returns-in_default
-returns-in_default c = search rules depth 1
+returns-in_default c = search rules depth 2
