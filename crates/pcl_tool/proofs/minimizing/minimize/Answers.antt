@@ -1,10 +1,24 @@
-use Rattle.std.proofs.Common.{◌∙◌, List, ℕ, ◌++◌, refl, ap, subst, sym}
+use Rattle.std.proofs.Common.{◌∙◌, List, ℕ, ◌++◌, Err, refl, ap, subst, sym}
+use Rattle.std.proofs.lemmas.Result.{err_from_is_err_and}
+use Rattle.pcl_base.specs.declared.dpi.Dpi.{Dpi}
+use Rattle.pcl_base.specs.declared.fault.JobFault.{JobFault}
+use Rattle.pcl_base.specs.declared.fault.JobFault.TheVariants.{Refused, Memory}
 use Rattle.pcl_plan.specs.Tokens.{frame_bytes}
+use Rattle.pcl_cert.specs.declared.format.Format.{Format}
 use Rattle.pcl_cert.specs.declared.page_proof.PageProof.{PageProof}
 use Rattle.pcl_cert.specs.Certificates.{AreProofs, certificate_bytes, proofs_in}
-use Rattle.pcl_tool.specs.Certifying.{SoFar}
+use Rattle.pcl_tool.specs.JobFaults.{fault_of}
+use Rattle.pcl_tool.specs.Watching.{HasTaken}
+use Rattle.pcl_tool.specs.Certifying.{SoFar, TakesProved}
+use Rattle.pcl_tool.specs.Minimizing.{IsMinimized}
 use Rattle.pcl_tool.proofs.Proved.{can_be_written, certified_job}
 use Rattle.pcl_tool.proofs.minimizing.minimize.Goals as goal
+
+-- the job was refused or memory ran out, and so it is said
+not_minimized : (dpi : Dpi) (format : Format) (job : List ℕ) (begun : SoFar) (fault : JobFault)
+    → HasTaken TakesProved dpi job begun (Err fault) → IsMinimized dpi format job (Err (fault_of fault))
+not_minimized dpi format job begun (Refused refusal) h = h
+not_minimized dpi format job begun Memory h = tt
 
 pub write_certificate-requires : goal.write_certificate-requires
 write_certificate-requires g c =
@@ -28,3 +42,24 @@ returns g c =
     ∙ ap (λ (b : List ℕ). b ++ certificate_bytes c.args.format (proofs_in c.args.format c.deref.result.now)) c.new-certificate.ensures.items
     ∙ ap (λ (proofs : List PageProof). certificate_bytes c.args.format (proofs_in c.args.format proofs))
     (c.deref.ensures.value ∙ ap (λ (s : SoFar). s.proofs) c.certified.view_is))
+
+pub returns-in_err-write_frame : goal.returns-in_err-write_frame
+returns-in_err-write_frame g c =
+    let p = err_from_is_err_and c.from_residual.result c.from_residual.ensures.1 in
+    rw (p.1, p.2) tt
+
+pub returns-in_err-certified : goal.returns-in_err-certified
+returns-in_err-certified g c =
+    let p = err_from_is_err_and c.from_residual-in_err-certified.result c.from_residual-in_err-certified.ensures.1 in
+    let begun : SoFar = record { format = c.args.format; bytes = c.write_frame.new.out.items; proofs = c.new.result.items } in
+    rw (p.1, p.2) (not_minimized c.args.dpi c.args.format c.args.job.now begun c.in_err-certified.field-0.0 c.in_err-certified.ensures)
+
+pub returns-in_err-write_frame-2 : goal.returns-in_err-write_frame-2
+returns-in_err-write_frame-2 g c =
+    let p = err_from_is_err_and c.from_residual-in_err-write_frame-2.result c.from_residual-in_err-write_frame-2.ensures.1 in
+    rw (p.1, p.2) tt
+
+pub returns-in_err-write_certificate : goal.returns-in_err-write_certificate
+returns-in_err-write_certificate g c =
+    let p = err_from_is_err_and c.from_residual-in_err-write_certificate.result c.from_residual-in_err-write_certificate.ensures.1 in
+    rw (p.1, p.2) tt

@@ -1,0 +1,18 @@
+use Rattle.std.proofs.Common.{◌≡◌, refl}
+use Rattle.pcl_tool.specs.declared.job_verdict.JobVerdict.{JobVerdict}
+use Rattle.pcl_tool.specs.declared.job_verdict.JobVerdict.TheVariants.{Certificate, PageCount, Frame, Page, Proved}
+use Rattle.pcl_command.specs.Checks.{verdict_status_for}
+use Rattle.pcl_command.proofs.verdicts.verdict_status.Goals as goal
+
+not_proved : (verdict : JobVerdict) → (verdict ≡ Proved → ⊥) → 1 ≡ verdict_status_for verdict
+not_proved (Certificate fault) other = refl
+not_proved PageCount other = refl
+not_proved Frame other = refl
+not_proved (Page page verdict) other = refl
+not_proved Proved other = absurd (other refl)
+
+pub returns-in-Proved : goal.returns-in-Proved
+returns-in-Proved c = rw c.in-Proved.is
+
+pub returns-in_default : goal.returns-in_default
+returns-in_default c = not_proved c.args.verdict.now c.in_default.not-Proved
