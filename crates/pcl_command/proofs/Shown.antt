@@ -1,5 +1,5 @@
 -- What was read and written where a page is shown.
-use Rattle.std.proofs.Common.{◌≤◌, ◌+◌, ℕ, List, Option, Result, Ok, Err, length, arith}
+use Rattle.std.proofs.Common.{◌≤◌, ℕ, List, Option, Result, Ok, Err, length, arith}
 use Rattle.pcl_base.specs.declared.dpi.Dpi.{Dpi}
 use Rattle.pcl_tool.specs.declared.fault.Fault.{Fault}
 use Rattle.pcl_tool.specs.declared.fault.Fault.TheVariants.{Refused, Memory, ReadFault, TooLong, WriteFault, NoSuchPage}
