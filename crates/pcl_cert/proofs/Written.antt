@@ -1,10 +1,8 @@
 -- Writing certificates: one thing behind the other.
-use Rattle.std.proofs.Common.{◌≡◌, ℕ, zero, suc, ◌+◌, ◌*◌, ◌<◌, ◌≤◌, List, [], ◌∷◌, ◌++◌, length, take, drop, get_or, refl, sym, ap, ◌∙◌, arith, lit≤}
-use Rattle.std.specs.List.{flat_map, AllByRecursion}
+use Rattle.std.proofs.Common.{◌≡◌, ℕ, zero, suc, ◌+◌, ◌*◌, ◌<◌, ◌≤◌, List, [], ◌∷◌, length, take, drop, get_or, refl, sym, ap, ◌∙◌, arith, lit≤}
+use Rattle.std.specs.List.{AllByRecursion}
 use Rattle.std.specs.Int.{w16, from_be_bytes}
-use Rattle.std.proofs.lemmas.List.{take_more, take_at, take-take, length-append, append-nil, get_or_past, drop-drop, length-map}
-use Rattle.std.proofs.lemmas.Grind.{flat_map-append}
-use Rattle.std.proofs.lemmas.List.Concat.{flat_map-cons}
+use Rattle.std.proofs.lemmas.List.{get_or_past, drop-drop, length-map}
 use Rattle.pcl_base.specs.declared.dpi.Dpi.{Dpi}
 use Rattle.pcl_base.specs.declared.method.Method.{Method}
 use Rattle.pcl_base.specs.declared.method.Method.TheVariants.{Plain, Runs, Packed, Delta}
