@@ -5,6 +5,7 @@
 mod dpi;
 mod fault;
 mod kind;
+mod laws;
 mod limits;
 mod method;
 mod name;
@@ -16,6 +17,7 @@ mod value;
 pub use dpi::Dpi;
 pub use fault::{CallFault, JobFault};
 pub use kind::Kind;
+pub use laws::codes_lead_back;
 pub use limits::{
     COMMAND_LIMIT, COPIES_LIMIT, DOT_UNITS, INPUT_LIMIT, MACRO_LIMIT, PAGE_LIMIT, ROW_LIMIT,
     STACK_LIMIT,

@@ -1,0 +1,16 @@
+//! Laws of the tables.
+
+ghost use Rattle.std.specs.Prelude.{◌≡◌, ℕ, Some};
+ghost use Rattle.pcl_base.specs.declared.method.Method.{Method};
+ghost use Rattle.pcl_base.specs.declared.size.Size.{Size};
+ghost use Rattle.pcl_base.specs.Method.{method_code, method_with_code};
+ghost use Rattle.pcl_base.specs.Size.{code_of, size_with_code};
+
+/// The numbers of page sizes and of methods lead back and forth: each has one, and no other number is its own. A law: the
+/// call does nothing.
+pub fn codes_lead_back()
+    ensures size { (size : Size) → size_with_code (code_of size) ≡ Some size }
+    ensures size_code { (code : ℕ) (size : Size) → size_with_code code ≡ Some size → code_of size ≡ code }
+    ensures method { (method : Method) → method_with_code (method_code method) ≡ Some method }
+    ensures method_code { (code : ℕ) (method : Method) → method_with_code code ≡ Some method → method_code method ≡ code }
+{}
