@@ -18,9 +18,9 @@ use Rattle.pcl_cert.specs.declared.check.Verdict.TheVariants as verdicts
 use Rattle.pcl_cert.specs.RowTables.{list_of, number_at_place}
 use Rattle.pcl_check.specs.Edges.{BoundData}
 use Rattle.pcl_check.specs.Places.{IsGoodPlace}
-use Rattle.pcl_cert.specs.Checking.{Tables, AreOfPage, ArePlacesGood, AreEdgesGood, IsVerdict}
+use Rattle.pcl_cert.specs.Checking.{Tables, AreOfPage, ArePlacesGood, AreEdgesGood, IsBounded, IsVerdict}
 use Rattle.pcl_cert.specs.PageTables.{table_of}
-use Rattle.pcl_check.proofs.GoodNumbers.{good_feasible, numbers_by_bounds}
+use Rattle.pcl_check.proofs.GoodNumbers.{feasible_good, good_feasible, numbers_by_bounds}
 use Rattle.pcl_check.proofs.Lengths.{height_small}
 
 first_padded : (n : ℕ) (list : List ℕ) → slice_index (table_of (suc n) list) 0 ≡ slice_index list 0
@@ -86,16 +86,40 @@ feasible_of page table None printed size places good =
 feasible_of page table (Some lists) printed size places good =
     let high = height_small page.size page.dpi in
     numbers_by_bounds (page_row_bytes page.size page.dpi) (bitmap_rows page.bitmap) table
-    (λ row method. number_at_place lists.now row method 0) (omega (arith, printed.count))
+    (λ row method. number_at_place lists row method 0) (omega (arith, printed.count))
     (size.0 ∙ ap (λ (n : ℕ). n + 1) (sym printed.count))
-    (bound_data page lists.now printed (λ row method lt.
+    (bound_data page lists printed (λ row method lt.
     let rows = bitmap_rows page.bitmap in
     let are = widths page.size page.dpi rows printed.rows_are in
     let wide = row_width rows row are (omega (arith, printed.count)) in
     table_of_good
-    (padded_length (list_of lists.now row method) ∙ ap (λ (n : ℕ). n + 1) (sym wide))
+    (padded_length (list_of lists row method) ∙ ap (λ (n : ℕ). n + 1) (sym wide))
     (λ place le. places row method place lt (omega (arith, wide)))))
     (λ row method inside le. good row method inside (omega (arith, printed.count)))
+
+-- what a yes says of the numbers of nodes, and what it takes for one without row tables
+pub proved_bounded : (page : Page) (text : List ℕ) (table : List RowNumbers) (tables : Tables)
+    → IsVerdict page text table tables verdicts.Proved → IsBounded page text table tables
+proved_bounded page text table tables is = record {
+  printed = is.0;
+  rows_agree = is.1;
+  feasible = feasible_of page table tables is.0 is.1 is.2 is.3;
+  of_length = is.4;
+}
+
+pub bounded_proved : (page : Page) (text : List ℕ) (table : List RowNumbers) → IsBounded page text table None
+    → IsVerdict page text table None verdicts.Proved
+bounded_proved page text table is =
+    let few : length (bitmap_rows page.bitmap) ≤ 65535 = omega (arith, is.printed.count, height_small page.size page.dpi) in
+    (
+      is.printed,
+      is.rows_agree,
+      tt,
+      λ row method inside within.
+          feasible_good (page_row_bytes page.size page.dpi) (node_number table) few is.feasible row method inside
+          (omega (arith, within, is.printed.count)),
+      is.of_length,
+    )
 
 pub proved_least : (page : Page) (text other : List ℕ) (table : List RowNumbers) (tables : Tables)
     → IsVerdict page text table tables verdicts.Proved → PrintsPage page other → length text ≤ length other

@@ -1,7 +1,6 @@
 -- Good places of a row.
 use Rattle.std.proofs.Common.{◌≡◌, ℕ, ◌+◌, ◌<◌, ◌≤◌, ◌⊎◌, inl, inr, List, Option, Some, None, is_some, true, false, length, refl, sym, subst, ◌∙◌, arith, lit<}
 use Rattle.std.proofs.Math.Nat.{eq-or-lt_of_le}
-use Rattle.std.specs.Borrow.{Bor}
 use Rattle.pcl_base.specs.declared.method.Method.{Method}
 use Rattle.pcl_base.specs.declared.method.Method.TheVariants.{Plain, Runs, Packed, Delta}
 use Rattle.pcl_base.specs.Method.{method_code}
@@ -129,10 +128,10 @@ pub rows_on : (page : Page) (lists : List (List ℕ)) (row : ℕ) (found : Optio
 rows_on page lists row None above here none = no_row_bad page lists above here
 rows_on page lists row (Some bad) above here none = absurd cc
 
-pub rows_end : (page : Page) {tables : Tables} {lists : Bor (List (List ℕ))} {row : ℕ} (found : Option BadPlace) → tables ≡ Some lists
+pub rows_end : (page : Page) {tables : Tables} {lists : List (List ℕ)} {row : ℕ} (found : Option BadPlace) → tables ≡ Some lists
     → row < page_height page.size page.dpi
-    → ((r : ℕ) (m : Method) (p : ℕ) → r < row → p ≤ page_row_bytes page.size page.dpi → IsGoodIn page lists.now r m p)
-    → FindsBadBelow page lists.now row 4 found → is_some found ≡ true → FindsBadIn page tables found
+    → ((r : ℕ) (m : Method) (p : ℕ) → r < row → p ≤ page_row_bytes page.size page.dpi → IsGoodIn page lists r m p)
+    → FindsBadBelow page lists row 4 found → is_some found ≡ true → FindsBadIn page tables found
 rows_end page None e lt above here some = absurd cc
 rows_end page (Some bad) e lt above here some =
     subst (λ (t : Tables). FindsBadIn page t (Some bad)) (sym e) (row_bad lt above here)

@@ -1,12 +1,12 @@
 -- What the checker answers of a text, with a table of numbers and perhaps row tables.
 use Rattle.std.specs.Prelude.{◌≡◌, ℕ, ◌+◌, ◌*◌, ◌<◌, ◌≤◌, ◌⊎◌, Bool, List, length, Option, Some, None, MatchOption}
-use Rattle.std.specs.Borrow.{Bor}
 use Rattle.pcl_base.specs.declared.method.Method.{Method}
 use Rattle.pcl_base.specs.Method.{method_code}
 use Rattle.pcl_base.specs.Size.{page_height, page_row_bytes}
 use Rattle.pcl_page.specs.declared.page.Page.{Page}
 use Rattle.pcl_plan.specs.PageText.{PrintsPage, bitmap_rows}
-use Rattle.pcl_plan.specs.Nodes.{row_at, row_above, start}
+use Rattle.pcl_coders.specs.Walks.{IsFeasible}
+use Rattle.pcl_plan.specs.Nodes.{row_at, row_above, start, Leads, Ends, cost}
 use Rattle.pcl_plan.specs.LeastTexts.{fixed_bytes}
 use Rattle.pcl_plan.specs.Table.{node_number}
 use Rattle.pcl_plan.specs.declared.table.RowNumbers.{RowNumbers}
@@ -23,22 +23,22 @@ use Rattle.pcl_check.specs.Places.{IsGoodPlace}
 
 -- row tables, where there are any
 abbrev pub Tables : Type 0
-Tables = Option (Bor (List (List ℕ)))
+Tables = Option (List (List ℕ))
 
 -- the rows of the tables are those of the page
 abbrev pub AreOfPage : Page → List RowNumbers → Tables → Type 0
 AreOfPage page table None = length table ≡ page_height page.size page.dpi + 1
 AreOfPage page table (Some lists) =
-    (length table ≡ page_height page.size page.dpi + 1) × (length lists.now ≡ 4 * page_height page.size page.dpi)
+    (length table ≡ page_height page.size page.dpi + 1) × (length lists ≡ 4 * page_height page.size page.dpi)
 
 abbrev pub AreTablesOf : Page → Tables → Type 0
 AreTablesOf page None = Unit {0}
-AreTablesOf page (Some lists) = length lists.now ≡ 4 * page_height page.size page.dpi
+AreTablesOf page (Some lists) = length lists ≡ 4 * page_height page.size page.dpi
 
 -- row tables of least numbers, where there are any
 abbrev pub AreLeastOf : Page → Tables → Type 0
 AreLeastOf page None = Unit {0}
-AreLeastOf page (Some lists) = AreLeastTablesOf page lists.now
+AreLeastOf page (Some lists) = AreLeastTablesOf page lists
 
 -- the same as they stand in a certificate: in the second format alone
 abbrev pub HasLeastLists : Page → Format → Option (List (List ℕ)) → Type 0
@@ -75,11 +75,11 @@ AreGoodIn page lists = (row : ℕ) (method : Method) (place : ℕ) → row < pag
 
 abbrev pub ArePlacesGood : Page → Tables → Type 0
 ArePlacesGood page None = Unit {0}
-ArePlacesGood page (Some lists) = AreGoodIn page lists.now
+ArePlacesGood page (Some lists) = AreGoodIn page lists
 
 abbrev pub IsFirstBadPlaceOf : Page → Tables → BadPlace → Type 0
 IsFirstBadPlaceOf page None bad = ⊥
-IsFirstBadPlaceOf page (Some lists) bad = IsFirstBadIn page lists.now bad
+IsFirstBadPlaceOf page (Some lists) bad = IsFirstBadIn page lists bad
 
 -- the first bad place, or none where all numbers are good
 abbrev pub FindsBadIn : Page → Tables → Option BadPlace → Type 0
@@ -105,7 +105,7 @@ FindsBadBelow page lists row code found = MatchOption found
 -- the length that a row is counted with: the least one, or the first number of its row table
 abbrev pub Counted : Page → Tables → ℕ → Method → ℕ → Type 0
 Counted page None row method bytes = IsLeastOfRow (page_row_bytes page.size page.dpi) (bitmap_rows page.bitmap) row method bytes
-Counted page (Some lists) row method bytes = bytes ≡ number_at_place lists.now row method 0
+Counted page (Some lists) row method bytes = bytes ≡ number_at_place lists row method 0
 
 -- the number of a node is good
 abbrev pub IsGoodOf : Page → List RowNumbers → Tables → ℕ → Method → Bool → Type 0
@@ -135,3 +135,14 @@ IsVerdict page text table tables Length = PrintsPage page text × AreOfPage page
     × AreEdgesGood page table tables × (IsOfLength page text table → ⊥)
 IsVerdict page text table tables Proved = PrintsPage page text × AreOfPage page table tables × ArePlacesGood page tables
     × AreEdgesGood page table tables × IsOfLength page text table
+
+-- ---- what a yes says
+
+-- the text prints the page, the tables have the page's rows, the numbers of nodes are undercut by no token that is true to the
+-- page, in any spelling and with any data, and the text is as long as the number of the first node says
+pub record IsBounded (page : Page) (text : List ℕ) (table : List RowNumbers) (tables : Tables) : Type 0 where
+  pub printed : PrintsPage page text
+  pub rows_agree : AreOfPage page table tables
+  pub feasible : IsFeasible (Leads (page_row_bytes page.size page.dpi) (bitmap_rows page.bitmap)) (Ends (bitmap_rows page.bitmap)) cost
+      (node_number table)
+  pub of_length : IsOfLength page text table

@@ -4,14 +4,16 @@ mod laws;
 mod lengths;
 mod places;
 
-ghost use Rattle.std.specs.Prelude.{◌≡◌, ℕ, ◌+◌, ◌<◌, ◌≤◌, ◌↔◌, length, decimal, IfOk, IsTrue};
+ghost use Rattle.std.specs.Prelude.{◌≡◌, ℕ, ◌+◌, ◌<◌, ◌≤◌, ◌↔◌, length, decimal, option_copied, IfOk, IsTrue};
 ghost use Rattle.pcl_base.specs.Size.{page_height};
 ghost use Rattle.pcl_plan.specs.LeastTexts.{fixed_bytes};
 ghost use Rattle.pcl_check.specs.Edges.{FindsBad};
 ghost use Rattle.pcl_cert.specs.Checking.{IsVerdict, AreOfPage, IsGoodOf};
 
 use crate::tables::RowTables;
-pub use laws::{plans_are_proved, plans_can_be_certified, proved_texts_are_least};
+pub use laws::{
+    plans_are_proved, plans_can_be_certified, proved_tables_are_feasible, proved_texts_are_least,
+};
 use lengths::ByRowTables;
 use pcl_base::Method;
 use pcl_check::{BadNumber, LeastByCoders, TextVerdict, first_bad_number, read_page_text};
@@ -58,7 +60,7 @@ pub fn check_page(
     table: &Table,
     tables: Option<&RowTables<'_>>,
 ) -> Result<Verdict, AllocError>
-    ensures { IfOk result (λ verdict. IsVerdict page.now text.now table.now tables.entry verdict) }
+    ensures { IfOk result (λ verdict. IsVerdict page.now text.now table.now (option_copied tables.entry) verdict) }
 {
     match read_page_text(page, text) {
         TextVerdict::NotGrammar => return Ok(Verdict::NotGrammar),
@@ -92,7 +94,7 @@ pub fn check_page(
 
 /// Whether the tables have the page's rows.
 fn are_of_page(page: &Page, table: &Table, tables: Option<&RowTables<'_>>) -> bool
-    ensures { IsTrue result ↔ AreOfPage page.now table.now tables.entry }
+    ensures { IsTrue result ↔ AreOfPage page.now table.now (option_copied tables.entry) }
 {
     let height = page.size.height(page.dpi);
     if table.rows() != height {
@@ -111,8 +113,8 @@ fn first_bad_edge(
     table: &Table,
     tables: Option<&RowTables<'_>>,
 ) -> Result<Option<BadNumber>, AllocError>
-    requires { AreOfPage page.now table.now tables }
-    ensures { IfOk result (FindsBad (IsGoodOf page.now table.now tables.entry) (page_height page.now.size page.now.dpi)) }
+    requires { AreOfPage page.now table.now (option_copied tables) }
+    ensures { IfOk result (FindsBad (IsGoodOf page.now table.now (option_copied tables.entry)) (page_height page.now.size page.now.dpi)) }
 {
     match tables {
         None => first_bad_number(alloc, &LeastByCoders, page, table),

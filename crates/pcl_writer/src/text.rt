@@ -1,9 +1,9 @@
 //! Page texts, and what stands around them.
 
-ghost use Rattle.std.specs.Prelude.{◌≡◌, ◌++◌, length, take, if◌then◌else◌, is_ok, OnOk, OnErr};
+ghost use Rattle.std.specs.Prelude.{◌≡◌, ◌+◌, ◌++◌, length, take, if◌then◌else◌, is_ok, OnOk, OnErr};
 ghost use Rattle.pcl_plan.specs.Tokens.{start_bytes, end_bytes, frame_bytes};
 ghost use Rattle.pcl_plan.specs.PagePlans.{IsPlanOf};
-ghost use Rattle.pcl_writer.specs.Appending.{AppendsPage};
+ghost use Rattle.pcl_writer.specs.Appending.{AppendsPage, planned_bytes};
 
 use crate::body::append_body;
 use crate::number::append_labelled;
@@ -13,10 +13,12 @@ use pcl_plan::Plan;
 use std::alloc::AllocError;
 
 /// Appends the page text that a plan of the page says (docs/OUTPUT.md, "Page texts"). It prints the page, and
-/// no page text that does is shorter. Where memory runs out `out` stays as it was.
+/// no page text that does is shorter: it has as many bytes as the plan costs, beside those that don't depend on
+/// the rows. Where memory runs out `out` stays as it was.
 pub fn write_page(page: &Page, plan: &Plan, out: &mut Vec<u8>) -> Result<(), AllocError>
     requires { IsPlanOf page.now plan.now }
     ensures ok { OnOk result (AppendsPage page.now out.old.items out.new.items) }
+    ensures cost { OnOk result (length out.new.items ≡ length out.old.items + planned_bytes page.now plan.now) }
     ensures err { OnErr result (out.new.items ≡ out.old.items) }
 {
     let before = out.len();

@@ -1,6 +1,6 @@
 //! What the checker's yes says.
 
-ghost use Rattle.std.specs.Prelude.{ℕ, ◌≤◌, List, length, Option};
+ghost use Rattle.std.specs.Prelude.{ℕ, ◌≤◌, List, length, Option, None};
 ghost use Rattle.pcl_page.specs.declared.page.Page.{Page};
 ghost use Rattle.pcl_plan.specs.PageText.{PrintsPage, bitmap_rows};
 ghost use Rattle.pcl_plan.specs.LeastTexts.{IsLeastText};
@@ -10,7 +10,17 @@ ghost use Rattle.pcl_plan.specs.declared.table.RowNumbers.{RowNumbers};
 ghost use Rattle.pcl_cert.specs.declared.check.Verdict.TheVariants as verdicts;
 ghost use Rattle.pcl_cert.specs.declared.format.Format.{Format};
 ghost use Rattle.pcl_cert.specs.Certificates.{IsProof};
-ghost use Rattle.pcl_cert.specs.Checking.{Tables, AreLeastOf, HasLeastLists, IsVerdict};
+ghost use Rattle.pcl_cert.specs.Checking.{Tables, AreLeastOf, HasLeastLists, IsVerdict, IsBounded};
+
+/// Where the checker answers Proved the numbers of the nodes are undercut by no token of the output grammar, in any spelling and
+/// with any row data, that is true to the page; with row tables or without. Without them it answers so wherever the text prints
+/// the page, the rows agree, the numbers are such, and the text is as long as that of the first node says.
+pub fn proved_tables_are_feasible()
+    ensures only { (page : Page) (text : List ℕ) (table : List RowNumbers) (tables : Tables)
+        → IsVerdict page text table tables verdicts.Proved → IsBounded page text table tables }
+    ensures all { (page : Page) (text : List ℕ) (table : List RowNumbers) → IsBounded page text table None
+        → IsVerdict page text table None verdicts.Proved }
+{}
 
 /// Where the checker answers Proved no text of the output grammar that prints the page is shorter, whoever made the tables,
 /// with row tables or without.

@@ -1,6 +1,6 @@
 //! The first bad number of a page's row tables.
 
-ghost use Rattle.std.specs.Prelude.{◌≡◌, ◌+◌, ◌*◌, ◌<◌, ◌≤◌, length, MatchOption};
+ghost use Rattle.std.specs.Prelude.{◌≡◌, ◌+◌, ◌*◌, ◌<◌, ◌≤◌, length, option_copied, MatchOption};
 ghost use Rattle.pcl_base.specs.Size.{page_height, page_row_bytes};
 ghost use Rattle.pcl_base.specs.Method.{method_code};
 ghost use Rattle.pcl_cert.specs.RowTables.{list_of};
@@ -23,8 +23,8 @@ pub struct BadPlace {
 /// The first bad number of the row tables of a page, in the order of certificates; none where there are no row tables or
 /// all their numbers are good.
 pub fn first_bad_row_place(page: &Page, tables: Option<&RowTables<'_>>) -> Option<BadPlace>
-    requires { AreTablesOf page.now tables }
-    ensures { FindsBadIn page.now tables.entry result }
+    requires { AreTablesOf page.now (option_copied tables) }
+    ensures { FindsBadIn page.now (option_copied tables.entry) result }
 {
     let tables = tables?;
     for row in 0..page.size.height(page.dpi) {

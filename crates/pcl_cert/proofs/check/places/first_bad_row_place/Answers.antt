@@ -1,11 +1,12 @@
-use Rattle.std.proofs.Common.{sym, ◌∙◌, arith}
+use Rattle.std.proofs.Common.{sym, ap, ◌∙◌, arith}
+use Rattle.std.specs.Prelude.{option_copied}
 use Rattle.pcl_cert.proofs.RowPlaces.{rows_on, rows_end}
 use Rattle.pcl_cert.proofs.check.places.first_bad_row_place.Goals as goal
 
 pub returns-then-is_some : goal.returns-then-is_some
 returns-then-is_some c =
     rows_end c.args.page.now c.first_bad_in_row-found.result
-    c.in_ok-tables.was (let below = c.loop-row-test.true in omega (arith, c.height-row-end.ensures)) c.loop-row.invariant
+    (ap option_copied c.in_ok-tables.was) (let below = c.loop-row-test.true in omega (arith, c.height-row-end.ensures)) c.loop-row.invariant
     c.first_bad_in_row-found.ensures (sym c.is_some.ensures ∙ c.if-is_some.true)
 
 pub loop-row-preserved : goal.loop-row-preserved
