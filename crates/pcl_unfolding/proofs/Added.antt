@@ -1,0 +1,98 @@
+-- Unfolding only adds items to a list, so the situation at a macro's begin is found again at its end.
+use Rattle.std.proofs.Common.{◌≡◌, ℕ, ◌+◌, ◌-◌, ◌≤◌, zero, suc, Bool, true, false, List, [], ◌∷◌, ◌++◌, length, Option, Some, None, Result, Ok, Err, refl, sym, ap, ◌∙◌, append_assoc, length-append, arith, if◌then◌else◌}
+use Rattle.pcl_base.specs.declared.dpi.Dpi.{Dpi}
+use Rattle.pcl_base.specs.declared.kind.Kind.{Kind}
+use Rattle.pcl_base.specs.declared.refusal.Refusal.{Refusal}
+use Rattle.pcl_escape.specs.Said.{Said}
+use Rattle.pcl_macros.specs.History.{MacroBody}
+use Rattle.pcl_page.specs.declared.macros.Action.{Action}
+use Rattle.pcl_page.specs.Situation.{Situation}
+use Rattle.pcl_page.specs.Macros.{after_command}
+use Rattle.pcl_unfolding.specs.FlatList.{Item, performed, enter, situations, now, ago, newest, Unfolding, goes_on, unless, and_on, in_turn, is_kept, control_of, body_run, end_of, commands_in, Bodies, with_body, with_command, add, ended_by, unfolded}
+
+-- ---- lists that go on
+
+-- one list has the other behind some items more
+abbrev pub GoesOn : List Item → List Item → Type 0
+GoesOn old new = (more : List Item) × (new ≡ more ++ old)
+
+goes_on_more : {old mid new : List Item} → GoesOn old mid → GoesOn mid new → GoesOn old new
+goes_on_more {old} a b = (b.0 ++ a.0, b.1 ∙ ap (λ (items : List Item). b.0 ++ items) a.1 ∙ sym (append_assoc b.0 a.0 old))
+
+one_more : {old items : List Item} (item : Item) → GoesOn old items → GoesOn old (item ∷ items)
+one_more item a = (item ∷ a.0, ap (λ (items : List Item). item ∷ items) a.1)
+
+and_goes_on : {old : List Item} (why : Option Refusal) (items : List Item) (next : List Item → Unfolding) → GoesOn old items
+    → GoesOn items (next items).items → GoesOn old (unless why items next).items
+and_goes_on None items next a b = goes_on_more a b
+and_goes_on (Some why) items next a b = a
+
+-- ---- unfolding adds
+
+pub turn_adds : (next : ℕ → Said → List Item → Unfolding)
+    → ((place : ℕ) (command : Said) (items : List Item) → GoesOn items (next place command items).items)
+    → (place : ℕ) (commands : List Said) (items : List Item) → GoesOn items (in_turn next place commands items).items
+turn_adds next adds place [] items = ([], refl)
+turn_adds next adds place (command ∷ commands) items =
+    let first = next place command items in
+    and_goes_on first.refusal first.items (in_turn next (place + 1) commands) (adds place command items)
+    (turn_adds next adds (place + 1) commands first.items)
+
+abbrev pub BodiesAdd : Bodies → Type 0
+BodiesAdd bodies = (command : Said) (control : Option Action) (body : MacroBody) (items : List Item)
+    → GoesOn items (bodies command control body items).items
+
+body_adds : (bodies : Bodies) → BodiesAdd bodies → (command : Said) (control : Option Action) (body : Option MacroBody) (items : List Item)
+    → GoesOn items (with_body bodies command control body items).items
+body_adds bodies adds command control None items = ([], refl)
+body_adds bodies adds command control (Some body) items = adds command control body items
+
+command_adds : (bodies : Bodies) → BodiesAdd bodies → (place : ℕ) (command : Said) (control : Option Action) (led : Result Situation Kind)
+    (items : List Item) → GoesOn items (with_command bodies place command control led items).items
+command_adds bodies adds place command control (Err kind) items = ([], refl)
+command_adds bodies adds place command control (Ok later) items =
+    goes_on_more (one_more (performed place command) ([], refl))
+    (body_adds bodies adds command control (body_run control later) (performed place command ∷ items))
+
+kept_adds : (kept : Bool) (items : List Item) (u : Unfolding) → GoesOn items u.items
+    → GoesOn items (if kept then goes_on items else u).items
+kept_adds true items u a = ([], refl)
+kept_adds false items u a = a
+
+add_adds : (dpi : Dpi) (bodies : Bodies) → BodiesAdd bodies → (place : ℕ) (command : Said) (items : List Item)
+    → GoesOn items (add dpi bodies place command items).items
+add_adds dpi bodies adds place command items =
+    kept_adds (is_kept command (now dpi items)) items _
+    (command_adds bodies adds place command (control_of command (now dpi items)) (after_command dpi place command (now dpi items)) items)
+
+-- what stands between a macro's begin and its end, where the macros that it runs add
+within : (dpi : Dpi) (bodies : Bodies) → BodiesAdd bodies → (all : List Said) (body : MacroBody) (items : List Item)
+    → GoesOn items (in_turn (add dpi bodies) body.from (commands_in all body) items).items
+within dpi bodies adds all body items =
+    turn_adds (add dpi bodies) (λ place command later. add_adds dpi bodies adds place command later) body.from (commands_in all body) items
+
+unfolded_adds : (levels : ℕ) (dpi : Dpi) (all : List Said) → BodiesAdd (unfolded levels dpi all)
+unfolded_adds zero dpi all command control body items = ([], refl)
+unfolded_adds (suc levels) dpi all command control body items =
+    let inner = in_turn (add dpi (unfolded levels dpi all)) body.from (commands_in all body) (enter ∷ items) in
+    and_goes_on inner.refusal inner.items (ended_by control (enter ∷ items))
+    (goes_on_more (one_more enter ([], refl))
+    (within dpi (unfolded levels dpi all) (unfolded_adds levels dpi all) all body (enter ∷ items)))
+    (one_more (end_of control (length inner.items - length (enter ∷ items))) ([], refl))
+
+pub body_within : (levels : ℕ) (dpi : Dpi) (all : List Said) (body : MacroBody) (items : List Item)
+    → GoesOn items (in_turn (add dpi (unfolded levels dpi all)) body.from (commands_in all body) items).items
+body_within levels dpi all body items = within dpi (unfolded levels dpi all) (unfolded_adds levels dpi all) all body items
+
+-- ---- the look back
+
+ago_same : {n m : ℕ} (past : List Situation) → n ≡ m → ago n past ≡ ago m past
+ago_same past e = ap (λ (k : ℕ). ago k past) e
+
+pub looked_back : (dpi : Dpi) (more old : List Item)
+    → ago (length (more ++ old) - length old) (situations dpi (more ++ old)) ≡ now dpi old
+looked_back dpi [] old = ago_same (situations dpi old) (let none : length old - length old ≡ 0 = omega arith in none)
+looked_back dpi (item ∷ more) old =
+    let long = length-append more old in
+    let next : length (item ∷ (more ++ old)) - length old ≡ suc (length (more ++ old) - length old) = omega (arith, long) in
+    ago_same (situations dpi (item ∷ (more ++ old))) next ∙ looked_back dpi more old

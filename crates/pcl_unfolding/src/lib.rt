@@ -1,0 +1,10 @@
+//! Performing, told a second time: macros unfolded into one flat list of commands, with a look back where a call ends.
+#![tactic(auto)]
+
+ghost use Rattle.pcl_unfolding.specs.FlatList.{PerformingIsUnfolding};
+
+/// For all commands, the unfolding of macros into one flat list says the same as performing them does: the same situation at
+/// the end, and so the same pages, and the same refusal (docs/LANGUAGE.md, "Macros"). A law: the call does nothing.
+pub fn performing_is_unfolding()
+    ensures { PerformingIsUnfolding }
+{}
