@@ -26,7 +26,7 @@ use crate::notation::{bracketed_bytes_of, bytes_of};
 use crate::table::{CasesOfLines, TableFault, number, resolution};
 use pcl_base::Dpi;
 use pcl_cert::Format;
-use pcl_tool::{Fault, Output, Unwatched, check_job, minimize};
+use pcl_tool::{Fault, Output, check_job, minimize};
 use std::alloc::{AllocError, Global};
 use std::rt::Files;
 
@@ -121,7 +121,7 @@ impl Certificates {
     fn write(&self, alloc: Global) -> Result<Output, TableFault> {
         let job = self.other.as_ref().unwrap_or(&self.job);
         let dpi = self.made.unwrap_or(self.dpi);
-        minimize(alloc, job, dpi, self.format, Unwatched).map_err(|_| TableFault::Unknown)
+        minimize(alloc, job, dpi, self.format).map_err(|_| TableFault::Unknown)
     }
 
     /// Begins a case with the certificate as it is made.
@@ -221,7 +221,7 @@ fn answer(
     certificate: &[u8],
     dpi: Dpi,
 ) -> Result<String, AllocError> {
-    match check_job(alloc, input, output, certificate, dpi, Unwatched) {
+    match check_job(alloc, input, output, certificate, dpi) {
         Ok(verdict) => format!(in alloc; "{verdict:?}"),
         Err(Fault::Memory) => Err(AllocError),
         Err(_) => String::from_str(alloc, "refused"),

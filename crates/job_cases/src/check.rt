@@ -6,7 +6,7 @@ use crate::shown::{show_job, show_pages};
 use pcl_base::{JobFault, Refusal};
 use pcl_cert::Format;
 use pcl_page::{Page, PageSink, perform};
-use pcl_tool::{Fault, Output, Unwatched, minimize};
+use pcl_tool::{Fault, Output, minimize};
 use std::alloc::{AllocError, Global};
 
 /// Compares the pages that come with those that a case expects.
@@ -86,7 +86,7 @@ fn refusal_fault(
     {
         return Ok(Some(format!(in alloc; "  refused {line}")?));
     }
-    match minimize(alloc, job, case.dpi, Format::One, Unwatched) {
+    match minimize(alloc, job, case.dpi, Format::One) {
         Err(Fault::Refused(same)) if same == refusal => Ok(None),
         Err(Fault::Memory) => Err(AllocError),
         _ => Ok(Some(String::from_str(alloc, "  not refused where it is written")?)),
@@ -95,7 +95,7 @@ fn refusal_fault(
 
 /// What is wrong with the job that an accepted job is written as: other pages, another length or another text.
 fn written_fault(alloc: Global, case: &Case, job: &[u8]) -> Result<Option<String>, AllocError> {
-    let output = match minimize(alloc, job, case.dpi, Format::One, Unwatched) {
+    let output = match minimize(alloc, job, case.dpi, Format::One) {
         Ok(output) => output,
         Err(Fault::Memory) => return Err(AllocError),
         Err(_) => return Ok(Some(String::from_str(alloc, "  not written")?)),
@@ -122,7 +122,7 @@ fn text_fault(alloc: Global, case: &Case, output: &Output) -> Result<Option<Stri
         let text = show_job(alloc, &output.job)?;
         return Ok(Some(format!(in alloc; "  written as{text}")?));
     }
-    match minimize(alloc, &output.job, case.dpi, Format::One, Unwatched) {
+    match minimize(alloc, &output.job, case.dpi, Format::One) {
         Ok(again) if again.job.as_slice() == expected.as_slice() => Ok(None),
         _ => Ok(Some(String::from_str(alloc, "  the written job is written in another way")?)),
     }

@@ -4,7 +4,7 @@ ghost use Rattle.pcl_command.specs.Checks.{IsCheckRun, IsFileRead};
 
 use crate::request::CheckedFiles;
 use crate::verdicts::verdict_line;
-use pcl_tool::{Fault, INPUT_LIMIT, JobVerdict, Watcher, check_job, read_all, write_bytes};
+use pcl_tool::{Fault, INPUT_LIMIT, JobVerdict, Watcher, check_job_watched, read_all, write_bytes};
 use std::alloc::Global;
 use std::fs;
 use std::io::Write;
@@ -25,7 +25,7 @@ pub fn check<F: Files, W: Write, P: Watcher>(
     let input = read_file(files, alloc, asked.input)?;
     let output = read_file(files, alloc, asked.output)?;
     let certificate = read_file(files, alloc, asked.certificate)?;
-    let verdict = check_job(alloc, &input, &output, &certificate, asked.dpi, watcher)?;
+    let verdict = check_job_watched(alloc, &input, &output, &certificate, asked.dpi, watcher)?;
     let line = verdict_line(alloc, &verdict)?;
     write_bytes(out, &line)?;
     match out.flush() {

@@ -9,7 +9,7 @@ use crate::request::{Request, Task, Usage};
 use crate::verdicts::verdict_status;
 use pcl_base::Dpi;
 use pcl_cert::Format;
-use pcl_tool::{Fault, INPUT_LIMIT, JobVerdict, Watcher, filter, filter_cert, preview, read_all};
+use pcl_tool::{Fault, INPUT_LIMIT, JobVerdict, Watcher, filter_cert_watched, filter_watched, preview, read_all};
 use std::alloc::Global;
 use std::fs;
 use std::io::{Read, Write};
@@ -91,7 +91,7 @@ fn do_task<F: Files, R: Read, W: Write, P: Watcher>(
     ensures { HasDone usage.entry (R.remaining reader.old) (R.remaining reader.new) (W.contents out.old) (W.contents out.new) result }
 {
     match usage.task {
-        Task::Minimize => filter(alloc, reader, usage.dpi, out, watcher),
+        Task::Minimize => filter_watched(alloc, reader, usage.dpi, out, watcher),
         Task::Certify { file, format } => {
             certify(files, alloc, file, format, usage.dpi, reader, out, watcher)
         }
@@ -113,7 +113,7 @@ fn certify<F: Files, R: Read, W: Write, P: Watcher>(
     ensures { IsCertifyRun dpi format (R.remaining reader.old) (R.remaining reader.new) (W.contents out.old) (W.contents out.new) result }
 {
     match fs::create(files, file) {
-        Ok(mut cert) => filter_cert(alloc, reader, dpi, format, out, &mut cert, watcher),
+        Ok(mut cert) => filter_cert_watched(alloc, reader, dpi, format, out, &mut cert, watcher),
         Err(_) => Err(Fault::WriteFault),
     }
 }

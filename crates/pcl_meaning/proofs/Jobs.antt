@@ -29,10 +29,10 @@ use Rattle.pcl_page.specs.Jobs.{HasPages, performance_of}
 use Rattle.pcl_plan.specs.Tokens.{Token, opening, method, skip, send, commands_in, command_count, token_bytes, start_bytes, end_bytes, frame_bytes}
 use Rattle.pcl_plan.specs.PageText.{IsPageText, bitmap_rows}
 use Rattle.pcl_writer.specs.Appending.{IsWrittenPage}
-use Rattle.pcl_meaning.specs.Alike.{AreAlike, AllAlike, PrintSheets}
+use Rattle.pcl_meaning.specs.Alike.{AreAlike, AllAlike, PrintSheets, most_commands}
 use Rattle.pcl_meaning.specs.PageTexts.{dot_of_rows, job_of, MeansRows}
 use Rattle.pcl_meaning.proofs.Deeds.{Deed}
-use Rattle.pcl_meaning.proofs.Readings.{ReadsAs, reads_joined, reads_none}
+use Rattle.pcl_meaning.proofs.Readings.{ReadsAs, reads_joined, reads_none, said_many}
 use Rattle.pcl_meaning.proofs.Sequences.{token_deeds, body_deeds, start_deeds, end_deeds, reset, body_read, start_read, end_read, frame_read}
 use Rattle.pcl_meaning.proofs.Following.{does, Leads, leads_append, commands_done}
 use Rattle.pcl_meaning.proofs.Dots.{page_dot}
@@ -112,10 +112,15 @@ ended_there : (dpi : Dpi) (end : ℕ) {pages : List Sheet} {n : ℕ} → length 
     → after_end dpi end (closed pages n) ≡ done (at_end dpi (closed pages n))
 ended_there dpi end {pages} {n} few = ap (λ (why : Option Kind). ended dpi end why (closed pages n)) (end_refused dpi pages n few)
 
+-- the job is accepted with these pages, and read as so many commands
+pub record IsAccepted (dpi : Dpi) (job : List ℕ) (pages : List Sheet) (count : ℕ) : Type 0 where
+  pub meaning : HasPages dpi job pages
+  pub counted : length meaning.commands ≡ count
+
 -- bytes that are read as deeds that eject these pages
 pub job_accepted : {dpi : Dpi} {text : List ℕ} {deeds : List Deed} (t : Settings) {pages : List Sheet} (n : ℕ)
     → ReadsAs text deeds → Leads dpi deeds (between defaults [] 1) (between t pages n) → length pages ≤ 256 → length deeds ≤ 99999998
-    → HasPages dpi (frame_bytes ++ text ++ frame_bytes) pages
+    → IsAccepted dpi (frame_bytes ++ text ++ frame_bytes) pages (length deeds + 2)
 job_accepted {dpi} {text} {deeds} t {pages} n read leads fits few =
     let all = reset ∷ (deeds ++ reset ∷ []) in
     let r = reads_joined frame_read
@@ -132,10 +137,13 @@ job_accepted {dpi} {text} {deeds} t {pages} n read leads fits few =
     let accepted : performance_of dpi (frame_bytes ++ text ++ frame_bytes) commands ≡ done (at_end dpi last) =
     ap (λ (p : Performance). then_on p (after_end dpi end)) c.0 ∙ ended_there dpi end fits in
     record {
-      commands = commands;
-      reading = record { pieces = r.pieces; each = r.each []; spelled = r.spelled; said = refl };
-      accepted = ap (λ (p : Performance). p.refusal) accepted;
-      ejected = sym (ap pages_of accepted);
+      meaning = record {
+        commands = commands;
+        reading = record { pieces = r.pieces; each = r.each []; spelled = r.spelled; said = refl };
+        accepted = ap (λ (p : Performance). p.refusal) accepted;
+        ejected = sym (ap pages_of accepted);
+      };
+      counted = omega (arith, said_many commands all (r.said 0), length-append deeds (reset ∷ []));
     }
 
 -- ---- a job of one text
@@ -146,11 +154,11 @@ pub text_means_page : (dpi : Dpi) (size : Size) (copies : ℕ) (rows : List (Lis
 text_means_page dpi size copies rows text printed few =
     let t = text_taken printed (record { method = refl; height = refl }) (lit≤ tt) in
     let sheet : Sheet = record { size = size; copies = copies; marks = t.inked } in
+    let job = job_accepted t.settings t.count (text_read printed) t.leads (lit≤ tt)
+    (omega (arith, few, text_counted dpi size copies printed.tokens)) in
     record {
       sheet = sheet;
-      meaning = job_accepted t.settings t.count
-          (text_read printed) t.leads (lit≤ tt)
-          (omega (arith, few, text_counted dpi size copies printed.tokens));
+      meaning = job.meaning;
       size_is = refl;
       copies_are = refl;
       dots = λ x y wide high. t.black x y wide;
@@ -168,7 +176,7 @@ pub record AreTextsTaken (dpi : Dpi) (meant : List Sheet) (texts : List ℕ) (fr
   pub leads : Leads dpi deeds from (between settings (pages ++ again) count)
   pub alike : AllAlike dpi meant again
   pub same_many : length again ≡ length meant
-  pub few : length deeds ≤ 25210 * length meant
+  pub few : length deeds + 2 ≤ most_commands dpi meant
 
 rows_dot : {size : Size} {dpi : Dpi} (page : Page) (x : ℕ) {y : ℕ} → page.bitmap.size ≡ size → page.bitmap.dpi ≡ dpi
     → y < page_height size dpi
@@ -250,7 +258,7 @@ texts_taken {dpi} (sheet ∷ meant) {t} {pages} {n} p b few =
         arith,
         rest.few,
         written.1,
-        height_small page.size dpi,
+        ap (λ (size : Size). page_height size dpi) shows.size,
         text_counted dpi page.size page.copies printed.tokens,
         length-append deeds rest.deeds,
       );
@@ -291,14 +299,23 @@ job_fits {dpi} {job} h =
 
 -- ---- a job that is written again
 
--- the written job is accepted, and its pages are alike
+-- no job has so many commands that one may not be written with them
+few_commands : (dpi : Dpi) (sheets : List Sheet) → most_commands dpi sheets ≤ 25210 * length sheets + 2
+few_commands dpi [] = omega arith
+few_commands dpi (sheet ∷ sheets) = omega (arith, few_commands dpi sheets, height_small sheet.size dpi)
+
+-- the written job is accepted, its pages are alike, and it has few commands
+pub record IsAgain (dpi : Dpi) (pages : List Sheet) (job : List ℕ) : Type 0 where
+  pub again : List Sheet
+  pub meaning : HasPages dpi job again
+  pub alike : AllAlike dpi pages again
+  pub few : length meaning.commands ≤ most_commands dpi pages
+
 pub written_again : {dpi : Dpi} {job : List ℕ} (texts : List ℕ) {pages : List Sheet} → HasPages dpi job pages → PrintSheets dpi pages texts
-    → (again : List Sheet) × HasPages dpi (frame_bytes ++ texts ++ frame_bytes) again × AllAlike dpi pages again
-written_again {dpi} {job} texts {pages} h p =
-    let few = job_fits h in
-    let t = texts_taken pages p (record { method = refl; height = refl }) (omega (arith, few)) in (
-      t.again,
-      job_accepted t.settings t.count t.read t.leads (omega (arith, t.same_many, few))
-          (omega (arith, few, t.few)),
-      t.alike,
-    )
+    → IsAgain dpi pages (frame_bytes ++ texts ++ frame_bytes)
+written_again {dpi} texts {pages} h p =
+    let fits = job_fits h in
+    let t = texts_taken pages p (record { method = refl; height = refl }) (omega (arith, fits)) in
+    let job = job_accepted t.settings t.count t.read t.leads (omega (arith, t.same_many, fits))
+    (omega (arith, fits, t.few, few_commands dpi pages)) in
+    record { again = t.again; meaning = job.meaning; alike = t.alike; few = omega (arith, job.counted, t.few) }

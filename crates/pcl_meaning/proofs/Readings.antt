@@ -39,6 +39,12 @@ said_append [] (deed ∷ before) two after a b = absurd a
 said_append (command ∷ one) [] two after a b = absurd a
 said_append (command ∷ one) (deed ∷ before) two after a b = (a.0, said_append one before two after a.1 b)
 
+pub said_many : (commands : List Said) (deeds : List Deed) → AreSaid commands deeds → length commands ≡ length deeds
+said_many [] [] said = refl
+said_many [] (deed ∷ deeds) said = absurd said
+said_many (command ∷ commands) [] said = absurd said
+said_many (command ∷ commands) (deed ∷ deeds) said = let rest = said_many commands deeds said.1 in omega (arith, rest)
+
 -- ---- pieces
 
 -- the bytes are whole pieces, whose commands are the deeds, whatever stands before them and behind them

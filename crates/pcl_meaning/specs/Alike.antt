@@ -1,5 +1,5 @@
 -- Pages that are the same, and texts that print them.
-use Rattle.std.specs.Prelude.{◌≡◌, ℕ, ◌<◌, List, [], ◌∷◌, ◌++◌}
+use Rattle.std.specs.Prelude.{◌≡◌, ℕ, ◌+◌, ◌*◌, ◌<◌, List, [], ◌∷◌, ◌++◌}
 use Rattle.pcl_base.specs.declared.dpi.Dpi.{Dpi}
 use Rattle.pcl_base.specs.Size.{page_width, page_height}
 use Rattle.pcl_page.specs.declared.page.Page.{Page}
@@ -27,3 +27,8 @@ PrintSheets dpi [] texts = texts ≡ []
 PrintSheets dpi (sheet ∷ sheets) texts =
     (page : Page) × (text rest : List ℕ) × Shows dpi page sheet × IsWrittenPage page text × (texts ≡ text ++ rest)
     × PrintSheets dpi sheets rest
+
+-- the most commands of a job that is written of these sheets: three for each row and ten around each page's rows, and two resets
+abbrev pub most_commands : Dpi → List Sheet → ℕ
+most_commands dpi [] = 2
+most_commands dpi (sheet ∷ sheets) = 3 * page_height sheet.size dpi + 10 + most_commands dpi sheets

@@ -18,7 +18,7 @@ use Rattle.pcl_cert.proofs.PagesSpelled.{certificate_again}
 use Rattle.pcl_meaning.proofs.SamePages.{pages_same}
 use Rattle.pcl_tool.specs.declared.job_verdict.JobVerdict.{JobVerdict}
 use Rattle.pcl_tool.specs.declared.job_verdict.JobVerdict.TheVariants as job
-use Rattle.pcl_tool.specs.Certified.{tables_of, AreProved}
+use Rattle.pcl_tool.specs.Certified.{AreProved}
 use Rattle.pcl_tool.specs.Minimizing.{IsCertifiedJobOf}
 use Rattle.pcl_tool.specs.LeastJobs.{IsCertifiedBy}
 use Rattle.pcl_tool.specs.JobVerdicts.{AreCompared, IsFirstFailure, IsJobVerdict, text_bytes}
@@ -71,16 +71,16 @@ none_fails {dpi} {texts} {proofs} {verdict} p f =
     f.texts_are whole in
     let cut = same_fronts f.text here.1 (f.as_long ∙ sym here.5) here.4 in
     f.not_proved
-    (verdict_again f.proof.table (tables_of f.proof.places) verdict
+    (verdict_again f.proof.table f.proof.places verdict
     (pages_same here.3 f.shows)
-    (subst (λ (t : List ℕ). IsVerdict here.0 t f.proof.table (tables_of f.proof.places) Proved) (sym cut.0) here.6) f.verdict_is)
+    (subst (λ (t : List ℕ). IsVerdict here.0 t f.proof.table f.proof.places Proved) (sym cut.0) here.6) f.verdict_is)
 
 -- ---- the verdict
 
 -- what is read of its certificate
-again : {dpi : Dpi} {input output certificate : List ℕ} (i : IsCertifiedBy dpi input output certificate)
+pub read_again : {dpi : Dpi} {input output certificate : List ℕ} (i : IsCertifiedBy dpi input output certificate)
     → certificate_at dpi certificate ≡ Ok (i.format, i.proofs)
-again {dpi} i = ap (certificate_at dpi) i.certificate_is ∙ certificate_again dpi i.format i.can_be_said
+read_again {dpi} i = ap (certificate_at dpi) i.certificate_is ∙ certificate_again dpi i.format i.can_be_said
 
 -- an input has one list of pages
 abbrev pub OnePages : Type 0
@@ -90,7 +90,7 @@ compared_same : OnePages → {dpi : Dpi} {input output certificate : List ℕ} (
     (compared : AreCompared dpi input certificate) → AreProved dpi compared.pages i.texts compared.proofs
 compared_same one {dpi} {input} {output} {certificate} i compared =
     let read : (i.format, i.proofs) ≡ (compared.format, compared.proofs) =
-    let both : Ok (i.format, i.proofs) ≡ Ok (compared.format, compared.proofs) = sym (again i)
+    let both : Ok (i.format, i.proofs) ≡ Ok (compared.format, compared.proofs) = sym (read_again i)
     ∙ compared.certified in cc in
     let proofs : i.proofs ≡ compared.proofs = ap (λ (r : Format × List PageProof). r.1) read in
     subst (λ (ps : List PageProof). AreProved dpi compared.pages i.texts ps) proofs
@@ -111,7 +111,7 @@ no_fault {found} {fault} e f = let both : Ok found ≡ Err fault = sym e ∙ f i
 fault_refused : {dpi : Dpi} {input output certificate : List ℕ} {fault : CertFault} → IsCertifiedBy dpi input output certificate
     → certificate_at dpi certificate ≡ Err fault → job.Certificate fault ≡ job.Proved
 fault_refused {dpi} {input} {output} {certificate} i e =
-    absurd (no_fault (again i) e)
+    absurd (no_fault (read_again i) e)
 
 pub certified_proved : OnePages → (dpi : Dpi) (input output certificate : List ℕ) (verdict : JobVerdict)
     → IsCertifiedBy dpi input output certificate → IsJobVerdict dpi input output certificate verdict → verdict ≡ job.Proved

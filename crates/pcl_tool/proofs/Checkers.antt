@@ -11,7 +11,7 @@ use Rattle.pcl_cert.specs.Checking.{IsVerdict}
 use Rattle.pcl_tool.specs.declared.job_verdict.JobVerdict.{JobVerdict}
 use Rattle.pcl_tool.specs.declared.job_verdict.JobVerdict.TheVariants as job
 use Rattle.pcl_tool.specs.declared.page_checks.Checker.{Checker}
-use Rattle.pcl_tool.specs.Certified.{tables_of, AreProved}
+use Rattle.pcl_tool.specs.Certified.{AreProved}
 use Rattle.pcl_tool.specs.JobVerdicts.{IsFirstFailure, text_bytes}
 use Rattle.pcl_tool.specs.PageChecks.{IsFound}
 use Rattle.pcl_tool.specs.CheckerSteps.{FindsNext, TakesNext, TakesPage, proofs_left, answer}
@@ -112,7 +112,7 @@ pub record IsProvedPage (dpi : Dpi) (sheet : Sheet) (text : List ℕ) (proof : P
   pub page : Page
   pub shows : Shows dpi page sheet
   pub as_long : length text ≡ proof.text_len
-  pub verdict : IsVerdict page text proof.table (tables_of proof.places) verdicts.Proved
+  pub verdict : IsVerdict page text proof.table proof.places verdicts.Proved
 
 -- behind a page that is proved
 behind : (dpi : Dpi) (sheet : Sheet) (sheets : List Sheet) (texts text rest : List ℕ) (proof : PageProof)

@@ -5,10 +5,10 @@ use Rattle.pcl_page.specs.Situation.{Sheet}
 use Rattle.pcl_cert.specs.declared.page_proof.PageProof.{PageProof}
 use Rattle.pcl_cert.proofs.ProvedLeast.{proved_least}
 use Rattle.pcl_meaning.specs.Alike.{PrintSheets}
-use Rattle.pcl_meaning.specs.JobTexts.{PrintLeast}
+use Rattle.pcl_meaning.specs.JobTexts.{PrintLeast, IsLeastJobText}
 use Rattle.pcl_meaning.proofs.SamePages.{least_job}
 use Rattle.pcl_tool.specs.declared.job_verdict.JobVerdict.TheVariants as job
-use Rattle.pcl_tool.specs.Certified.{tables_of, AreProved}
+use Rattle.pcl_tool.specs.Certified.{AreProved}
 use Rattle.pcl_tool.specs.JobVerdicts.{IsJobVerdict}
 use Rattle.pcl_tool.specs.Minimizing.{IsJobOf}
 use Rattle.pcl_tool.specs.LeastJobs.{IsLeastJobOf}
@@ -29,17 +29,16 @@ proved_texts dpi (sheet ∷ sheets) texts (proof ∷ proofs) p = (
   p.2,
   p.3,
   p.6.0,
-  λ other printed. proved_least p.0 p.1 other proof.table (tables_of proof.places) p.6 printed,
+  λ other printed. proved_least p.0 p.1 other proof.table proof.places p.6 printed,
   p.4,
   proved_texts dpi sheets p.2 proofs p.7,
 )
 
-pub written_least : (dpi : Dpi) (input output : List ℕ) → IsJobOf dpi input output → IsLeastJobOf dpi input output
-written_least dpi input output w = record {
-  pages = w.pages;
-  meaning = w.meaning;
-  is_least = least_job w.texts (written_texts dpi w.pages w.texts w.print) w.spelled;
-}
+pub written_least : {dpi : Dpi} {input output : List ℕ} (w : IsJobOf dpi input output) → IsLeastJobText dpi w.pages output
+written_least {dpi} w = least_job w.texts (written_texts dpi w.pages w.texts w.print) w.spelled
+
+pub written_least_job : (dpi : Dpi) (input output : List ℕ) → IsJobOf dpi input output → IsLeastJobOf dpi input output
+written_least_job dpi input output w = record { pages = w.pages; meaning = w.meaning; is_least = written_least w }
 
 pub proved_least_job : (dpi : Dpi) (input output certificate : List ℕ) → IsJobVerdict dpi input output certificate job.Proved
     → IsLeastJobOf dpi input output

@@ -11,3 +11,4 @@ pub mod SameVerdicts
 pub mod CertifiedJobs
 pub mod Proved
 pub mod Filtered
+pub mod Headline

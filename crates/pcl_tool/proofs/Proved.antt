@@ -21,7 +21,7 @@ use Rattle.pcl_cert.specs.declared.check.Verdict.TheVariants.{Proved}
 use Rattle.pcl_cert.proofs.PlansProved.{plan_proved, plan_certified}
 use Rattle.pcl_meaning.specs.Alike.{PrintSheets}
 use Rattle.pcl_meaning.proofs.Jobs.{job_fits}
-use Rattle.pcl_tool.specs.Certified.{tables_of, AreProved}
+use Rattle.pcl_tool.specs.Certified.{AreProved}
 use Rattle.pcl_tool.specs.Certifying.{SoFar, Proves, TakesProved}
 use Rattle.pcl_tool.specs.Minimizing.{IsCertifiedJobOf}
 use Rattle.pcl_tool.proofs.Texts.{job_of_texts}
@@ -29,7 +29,7 @@ use Rattle.pcl_tool.proofs.Texts.{job_of_texts}
 -- ---- one page
 
 least_lists : (page : Page) (format : Format) (places : Option (List (List ℕ))) → HasLeastLists page format places
-    → AreLeastOf page (tables_of places)
+    → AreLeastOf page places
 least_lists page One None has = tt
 least_lists page One (Some lists) has = absurd (let no : Some lists ≡ None = has in cc)
 least_lists page Two None has = absurd has
@@ -47,8 +47,8 @@ plan_proves format page text plan proof planned written has long same =
       text_len = sym long;
       can_be_said = subst (IsProof page.dpi format) is
           (plan_certified page text plan format proof.places planned written.0 written.2 has);
-      proved = subst (λ (table : List RowNumbers). IsVerdict page text table (tables_of proof.places) Proved) (sym same)
-          (plan_proved page text plan (tables_of proof.places) planned written.0 written.2 (least_lists page format proof.places has));
+      proved = subst (λ (table : List RowNumbers). IsVerdict page text table proof.places Proved) (sym same)
+          (plan_proved page text plan proof.places planned written.0 written.2 (least_lists page format proof.places has));
     }
 
 -- ---- all pages

@@ -25,7 +25,7 @@ of_page : {page other : Page} (table : List RowNumbers) (tables : Tables) → Ar
     → AreOfPage other table tables
 of_page table None same are = moved (λ size dpi copies bitmap. length table ≡ page_height size dpi + 1) same are
 of_page table (Some lists) same are =
-    moved (λ size dpi copies bitmap. (length table ≡ page_height size dpi + 1) × (length lists.now ≡ 4 * page_height size dpi)) same are
+    moved (λ size dpi copies bitmap. (length table ≡ page_height size dpi + 1) × (length lists ≡ 4 * page_height size dpi)) same are
 
 places_good : {page other : Page} (lists : List (List ℕ)) → AreSame page other → AreGoodIn page lists → AreGoodIn other lists
 places_good lists same good =
@@ -41,7 +41,7 @@ edges_good table None same good =
     (node_number table) row method inside) same good
 edges_good table (Some lists) same good =
     moved (λ size dpi copies bitmap. (row : ℕ) (method : Method) (inside : Bool) → row ≤ page_height size dpi
-    → IsGoodNumber (bitmap_rows bitmap) (λ r m bytes. bytes ≡ number_at_place lists.now r m 0) (node_number table) row method inside)
+    → IsGoodNumber (bitmap_rows bitmap) (λ r m bytes. bytes ≡ number_at_place lists r m 0) (node_number table) row method inside)
     same good
 
 of_length : {page other : Page} (text : List ℕ) (table : List RowNumbers) → AreSame page other
@@ -57,7 +57,7 @@ verdict_again {text} table tables OtherPage same p v = absurd (v.1 (prints_same 
 verdict_again table tables Rows same p v = absurd (v.1 (of_page table tables same p.1))
 verdict_again table None (Place row method place) same p v = absurd v.2
 verdict_again table (Some lists) (Place row method place) same p v =
-    let bad = v.2 in absurd (bad.is_bad (places_good lists.now same p.2 row method place bad.row_within bad.place_within))
+    let bad = v.2 in absurd (bad.is_bad (places_good lists same p.2 row method place bad.row_within bad.place_within))
 verdict_again table tables (Edge row method inside) same p v =
     let bad = v.3 in absurd (bad.is_bad (edges_good table tables same p.3 row method inside bad.within))
 verdict_again {text} table tables Length same p v = absurd (v.4 (of_length text table same p.4))

@@ -11,7 +11,7 @@ use Rattle.pcl_page.specs.Jobs.{HasPages}
 use Rattle.pcl_plan.specs.Tokens.{frame_bytes}
 use Rattle.pcl_writer.specs.Appending.{AppendsPage}
 use Rattle.pcl_meaning.specs.Alike.{PrintSheets}
-use Rattle.pcl_meaning.proofs.Jobs.{written_again}
+use Rattle.pcl_meaning.proofs.Jobs.{IsAgain, written_again}
 use Rattle.pcl_tool.specs.JobFaults.{fault_of}
 use Rattle.pcl_tool.specs.Watching.{HasTaken}
 use Rattle.pcl_tool.specs.Minimizing.{IsJobOf, IsJobWritten}
@@ -36,16 +36,17 @@ job_of_texts dpi job start body output texts pages meaning opened print joined c
     let spelled : output ≡ frame_bytes ++ texts ++ frame_bytes =
     closed ∙ ap (λ (b : List ℕ). b ++ frame_bytes) (joined ∙ ap (λ (s : List ℕ). s ++ texts) opened)
     ∙ append_assoc frame_bytes texts frame_bytes in
-    let w = written_again texts meaning print in
+    let w = subst (IsAgain dpi pages) (sym spelled) (written_again texts meaning print) in
     record {
       pages = pages;
       meaning = meaning;
       texts = texts;
       print = print;
       spelled = spelled;
-      again = w.0;
-      accepted = subst (λ (bytes : List ℕ). HasPages dpi bytes w.0) (sym spelled) w.1;
-      alike = w.2;
+      again = w.again;
+      accepted = w.meaning;
+      alike = w.alike;
+      few = w.few;
     }
 
 pub job_written : {dpi : Dpi} {job start : List ℕ} (body : List ℕ) {output : List ℕ} {pages : List Sheet} → HasPages dpi job pages

@@ -7,7 +7,6 @@ use Rattle.pcl_cert.specs.declared.page_proof.PageProof.{PageProof}
 use Rattle.pcl_cert.specs.declared.check.Verdict.TheVariants.{Proved}
 use Rattle.pcl_cert.specs.Certificates.{IsProof}
 use Rattle.pcl_cert.specs.Checking.{IsVerdict}
-use Rattle.pcl_tool.specs.Certified.{tables_of}
 use Rattle.pcl_tool.specs.declared.certifying.CertifiedJob.TheInside.{Inside}
 
 -- the bytes of a job so far, and what the certificate of a format says of its pages
@@ -23,7 +22,7 @@ so_far a = record { format = a.format; bytes = a.bytes.items; proofs = a.proofs.
 pub record Proves (format : Format) (page : Page) (text : List ℕ) (proof : PageProof) : Type 0 where
   pub text_len : length text ≡ proof.text_len
   pub can_be_said : IsProof page.dpi format proof
-  pub proved : IsVerdict page text proof.table (tables_of proof.places) Proved
+  pub proved : IsVerdict page text proof.table proof.places Proved
 
 -- a page text is appended, and what proves it
 pub record TakesProved (old : SoFar) (page : Page) (new : SoFar) : Type 0 where

@@ -17,7 +17,7 @@ use Rattle.pcl_tool.specs.declared.fault.Fault.{Fault}
 use Rattle.pcl_tool.specs.declared.fault.Fault.TheVariants.{Refused, Memory, ReadFault, TooLong, WriteFault, NoSuchPage}
 use Rattle.pcl_tool.specs.declared.job_verdict.JobVerdict.{JobVerdict}
 use Rattle.pcl_tool.specs.declared.job_verdict.JobVerdict.TheVariants as job
-use Rattle.pcl_tool.specs.Certified.{tables_of, AreProved}
+use Rattle.pcl_tool.specs.Certified.{AreProved}
 
 -- ---- what is compared
 
@@ -61,7 +61,7 @@ pub record IsFirstFailure (dpi : Dpi) (pages : List Sheet) (texts : List ℕ) (p
   pub page : Page
   pub shows : Shows dpi page sheet
   pub as_long : length text ≡ proof.text_len
-  pub verdict_is : IsVerdict page text proof.table (tables_of proof.places) verdict
+  pub verdict_is : IsVerdict page text proof.table proof.places verdict
   pub not_proved : verdict ≡ verdicts.Proved → ⊥
 
 -- ---- verdicts

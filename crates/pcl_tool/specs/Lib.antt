@@ -10,4 +10,5 @@ pub mod JobVerdicts
 pub mod PageChecks
 pub mod CheckerSteps
 pub mod LeastJobs
+pub mod Headline
 pub mod Watching

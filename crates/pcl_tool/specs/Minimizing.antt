@@ -1,12 +1,13 @@
 -- A job written again.
-use Rattle.std.specs.Prelude.{◌≡◌, ℕ, ◌+◌, List, ◌++◌, length, ◌⊎◌, Option, Result, Ok, Err}
+use Rattle.std.specs.Prelude.{◌≡◌, ℕ, ◌+◌, ◌≤◌, List, ◌++◌, length, ◌⊎◌, Option, Result, Ok, Err}
 use Rattle.std.specs.Global.{Vec}
 use Rattle.std.specs.Io.KnownBytes.{Consumes, Appends, IsAtEnd, Keeps}
 use Rattle.pcl_base.specs.declared.dpi.Dpi.{Dpi}
+pub use Rattle.pcl_base.specs.Limits.{input_limit}
 use Rattle.pcl_page.specs.Situation.{Sheet}
 use Rattle.pcl_page.specs.Jobs.{HasPages, IsRefusal}
 use Rattle.pcl_plan.specs.Tokens.{frame_bytes}
-use Rattle.pcl_meaning.specs.Alike.{AllAlike, PrintSheets}
+use Rattle.pcl_meaning.specs.Alike.{AllAlike, PrintSheets, most_commands}
 use Rattle.pcl_cert.specs.declared.format.Format.{Format}
 use Rattle.pcl_cert.specs.declared.page_proof.PageProof.{PageProof}
 use Rattle.pcl_cert.specs.Certificates.{AreProofs, certificate_bytes}
@@ -16,7 +17,8 @@ use Rattle.pcl_tool.specs.declared.minimizing.Output.{Output}
 use Rattle.pcl_tool.specs.Transfer.{GivesAtMost, AppendsFront}
 use Rattle.pcl_tool.specs.Certified.{AreProved}
 
--- A job text whose page texts print the pages of a job. It is accepted by the same rules, and its pages are the same.
+-- A job text whose page texts print the pages of a job. It is accepted by the same rules, in few commands, and its pages are the
+-- same.
 pub record IsJobOf (dpi : Dpi) (job output : List ℕ) : Type 0 where
   pub pages : List Sheet
   pub meaning : HasPages dpi job pages
@@ -26,6 +28,7 @@ pub record IsJobOf (dpi : Dpi) (job output : List ℕ) : Type 0 where
   pub again : List Sheet
   pub accepted : HasPages dpi output again
   pub alike : AllAlike dpi pages again
+  pub few : length accepted.commands ≤ most_commands dpi pages
 
 -- The certificate of the page texts of some pages: by what it says of each, the checker answers Proved on its text.
 pub record IsCertificate (dpi : Dpi) (format : Format) (pages : List Sheet) (texts certificate : List ℕ) : Type 0 where
@@ -57,9 +60,6 @@ IsJobWritten dpi job (Err ReadFault) = ⊥
 IsJobWritten dpi job (Err TooLong) = ⊥
 IsJobWritten dpi job (Err WriteFault) = ⊥
 IsJobWritten dpi job (Err NoSuchPage) = ⊥
-
-abbrev pub input_limit : ℕ
-input_limit = 2147483647
 
 -- the whole input was read
 pub record IsRead (old new : Option (List ℕ)) (job : List ℕ) : Type 0 where

@@ -6,13 +6,12 @@ use Rattle.pcl_cert.specs.declared.page_proof.PageProof.{PageProof}
 use Rattle.pcl_cert.specs.Checking.{IsVerdict}
 use Rattle.pcl_tool.specs.declared.job_verdict.JobVerdict.{JobVerdict}
 use Rattle.pcl_tool.specs.declared.job_verdict.JobVerdict.TheVariants as job
-use Rattle.pcl_tool.specs.Certified.{tables_of}
 
 -- what is found of the text of the page of this number
 abbrev pub IsFound : Page → List ℕ → PageProof → ℕ → JobVerdict → Type 0
-IsFound page text proof number job.Proved = IsVerdict page text proof.table (tables_of proof.places) verdicts.Proved
+IsFound page text proof number job.Proved = IsVerdict page text proof.table proof.places verdicts.Proved
 IsFound page text proof number (job.Page place verdict) =
-    (place ≡ number) × IsVerdict page text proof.table (tables_of proof.places) verdict × (verdict ≡ verdicts.Proved → ⊥)
+    (place ≡ number) × IsVerdict page text proof.table proof.places verdict × (verdict ≡ verdicts.Proved → ⊥)
 IsFound page text proof number (job.Certificate fault) = ⊥
 IsFound page text proof number job.PageCount = ⊥
 IsFound page text proof number job.Frame = ⊥

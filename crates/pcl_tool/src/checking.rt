@@ -6,7 +6,7 @@ ghost use Rattle.pcl_cert.specs.ReadingCertificates.{Fails, certificate_at};
 ghost use Rattle.pcl_tool.specs.JobVerdicts.{IsChecked};
 
 use crate::page_checks::Checker;
-use crate::watching::{Watcher, perform_watched};
+use crate::watching::{Unwatched, Watcher, perform_watched};
 use crate::{Fault, JobVerdict};
 use pcl_base::Dpi;
 use pcl_cert::{CertFault, PageProof, read_certificate};
@@ -14,9 +14,21 @@ use pcl_page::{Page, PageSink};
 use std::alloc::{AllocError, Global};
 
 /// Checks that an output prints the pages of an input, and that no job text that does is shorter, by a certificate,
-/// whoever made these (docs/CERTIFICATE.md); the watcher is told of each page that is done. A refusal is the input's; else it
-/// fails only where memory runs out.
-pub fn check_job<P: Watcher>(
+/// whoever made these (docs/CERTIFICATE.md). A refusal is the input's; else it fails only where memory runs out.
+pub fn check_job(
+    alloc: Global,
+    input: &[u8],
+    output: &[u8],
+    certificate: &[u8],
+    dpi: Dpi,
+) -> Result<JobVerdict, Fault>
+    ensures { IsChecked dpi input.now output.now certificate.now result }
+{
+    check_job_watched(alloc, input, output, certificate, dpi, Unwatched)
+}
+
+/// The same, and the watcher is called for each page that is done.
+pub fn check_job_watched<P: Watcher>(
     alloc: Global,
     input: &[u8],
     output: &[u8],

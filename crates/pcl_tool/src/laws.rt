@@ -1,15 +1,28 @@
-//! What is promised of written and of checked jobs, read aloud. Each law is a call that does nothing.
+//! The claim, and what is promised of written and of checked jobs. Each law is a call that does nothing.
 
-ghost use Rattle.std.specs.Prelude.{◌≡◌, ℕ, List};
+ghost use Rattle.std.specs.Prelude.{◌≡◌, ℕ, List, Ok};
 ghost use Rattle.pcl_base.specs.declared.dpi.Dpi.{Dpi};
 ghost use Rattle.pcl_cert.specs.declared.format.Format.{Format};
 ghost use Rattle.pcl_tool.specs.declared.job_verdict.JobVerdict.{JobVerdict};
 ghost use Rattle.pcl_tool.specs.declared.job_verdict.JobVerdict.TheVariants as verdicts;
-ghost use Rattle.pcl_tool.specs.Minimizing.{IsJobOf, IsCertifiedJobOf};
+ghost use Rattle.pcl_tool.specs.declared.minimizing.Output.{Output};
+ghost use Rattle.pcl_tool.specs.Headline.{TheClaim};
+ghost use Rattle.pcl_tool.specs.Minimizing.{IsJobOf, IsCertifiedJobOf, IsMinimized};
 ghost use Rattle.pcl_tool.specs.JobVerdicts.{IsJobVerdict};
 ghost use Rattle.pcl_tool.specs.LeastJobs.{IsLeastJobOf, IsCertifiedBy};
 
 use pcl_page::one_meaning;
+
+/// The claim. What `minimize` promises of a job and its certificate is all that it takes: the job is accepted by the same rules as
+/// the input and has the same pages, dot for dot; no job text of these pages is shorter, nor is any page text of one of them; the
+/// checker answers Proved on the two, and can answer nothing else; and whatever else it answers Proved, for a certificate from
+/// anybody, is a least job text of these pages too (docs/READING.md).
+pub fn the_headline()
+    ensures { (dpi : Dpi) (format : Format) (input : List ℕ) (output : Output) → IsMinimized dpi format input (Ok output)
+        → TheClaim dpi input output.job.items output.certificate.items }
+{
+    one_meaning();
+}
 
 /// A job that `minimize` and `filter` write is a job text of the input's pages, in order and dot for dot; no page text that
 /// prints one of the pages is shorter than the one that was written, and no job text of the same pages is shorter than the

@@ -14,12 +14,17 @@ mod reading;
 mod watching;
 mod writing;
 
-pub use checking::check_job;
+pub use checking::{check_job, check_job_watched};
 pub use fault::Fault;
 pub use job_verdict::JobVerdict;
-pub use laws::{certified_jobs_are_proved, proved_jobs_are_least, written_jobs_are_least};
-pub use minimizing::{INPUT_LIMIT, Output, filter, filter_cert, minimize};
+pub use laws::{
+    certified_jobs_are_proved, proved_jobs_are_least, the_headline, written_jobs_are_least,
+};
+pub use minimizing::{
+    Output, filter, filter_cert, filter_cert_watched, filter_watched, minimize, minimize_watched,
+};
 pub use page_preview::preview;
+pub use pcl_base::INPUT_LIMIT;
 pub use reading::read_all;
 pub use watching::{Unwatched, Watcher};
 pub use writing::write_bytes;

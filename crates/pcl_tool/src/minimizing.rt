@@ -6,9 +6,9 @@ ghost use Rattle.pcl_tool.specs.Minimizing.{IsMinimized, IsJobWritten, IsFiltere
 use crate::Fault;
 use crate::certifying::CertifiedJob;
 use crate::reading::read_all;
-use crate::watching::{Watcher, perform_watched};
+use crate::watching::{Unwatched, Watcher, perform_watched};
 use crate::writing::write_bytes;
-use pcl_base::Dpi;
+use pcl_base::{Dpi, INPUT_LIMIT};
 use pcl_cert::{Format, write_certificate};
 use pcl_page::{Page, PageSink};
 use pcl_plan::plan;
@@ -16,9 +16,6 @@ use pcl_writer::{write_frame, write_page};
 use std::alloc::{AllocError, Global};
 use std::io::{Read, Write};
 use std::marker::Model;
-
-/// The most bytes of an input.
-pub const INPUT_LIMIT: usize = 2_147_483_647;
 
 /// What a job is written as.
 #[derive(Debug, Drop)]
@@ -30,8 +27,15 @@ pub struct Output {
 }
 
 /// Writes a job again as a raster job of the same pages, with a certificate of this format, by which the checker answers
-/// Proved on each page text. The watcher is told of each page that is done. A refusal is the job's.
-pub fn minimize<P: Watcher>(
+/// Proved on each page text. A refusal is the job's.
+pub fn minimize(alloc: Global, job: &[u8], dpi: Dpi, format: Format) -> Result<Output, Fault>
+    ensures { IsMinimized dpi format job.now result }
+{
+    minimize_watched(alloc, job, dpi, format, Unwatched)
+}
+
+/// The same, and the watcher is called for each page that is done.
+pub fn minimize_watched<P: Watcher>(
     alloc: Global,
     job: &[u8],
     dpi: Dpi,
@@ -68,9 +72,21 @@ fn write_job<P: Watcher>(alloc: Global, job: &[u8], dpi: Dpi, watcher: P) -> Res
     Ok(written.bytes)
 }
 
-/// Reads a job to its end, writes it again, and flushes; the watcher is told of each page that is done. Nothing is written
-/// after any fault but of a write, and then a front of the job.
-pub fn filter<R: Read, W: Write, P: Watcher>(
+/// Reads a job to its end, writes it again, and flushes. Nothing is written after any fault but of a write, and then a
+/// prefix of the job.
+pub fn filter<R: Read, W: Write>(
+    alloc: Global,
+    reader: &mut R,
+    dpi: Dpi,
+    out: &mut W,
+) -> Result<(), Fault>
+    ensures { IsFiltered dpi (R.remaining reader.old) (R.remaining reader.new) (W.contents out.old) (W.contents out.new) result }
+{
+    filter_watched(alloc, reader, dpi, out, Unwatched)
+}
+
+/// The same, and the watcher is called for each page that is done.
+pub fn filter_watched<R: Read, W: Write, P: Watcher>(
     alloc: Global,
     reader: &mut R,
     dpi: Dpi,
@@ -84,10 +100,25 @@ pub fn filter<R: Read, W: Write, P: Watcher>(
     write_all(out, &output)
 }
 
-/// The same with a certificate of this format (docs/CERTIFICATE.md), which is written and flushed once the whole job is.
-/// Nothing is written after any fault but of a write; then a front of the job and nothing of the certificate, or the whole job
-/// and a front of the certificate.
-pub fn filter_cert<R: Read, W: Write, C: Write, P: Watcher>(
+/// Does what `filter` does, with a certificate of this format (docs/CERTIFICATE.md), which is written and flushed once the
+/// whole job is. Nothing is written after any fault but of a write; then a prefix of the job and nothing of the certificate,
+/// or the whole job and a prefix of the certificate.
+pub fn filter_cert<R: Read, W: Write, C: Write>(
+    alloc: Global,
+    reader: &mut R,
+    dpi: Dpi,
+    format: Format,
+    out: &mut W,
+    cert: &mut C,
+) -> Result<(), Fault>
+    ensures { IsFilteredCert dpi format (R.remaining reader.old) (R.remaining reader.new) (W.contents out.old) (W.contents out.new)
+        (C.contents cert.old) (C.contents cert.new) result }
+{
+    filter_cert_watched(alloc, reader, dpi, format, out, cert, Unwatched)
+}
+
+/// The same, and the watcher is called for each page that is done.
+pub fn filter_cert_watched<R: Read, W: Write, C: Write, P: Watcher>(
     alloc: Global,
     reader: &mut R,
     dpi: Dpi,
@@ -100,12 +131,12 @@ pub fn filter_cert<R: Read, W: Write, C: Write, P: Watcher>(
         (C.contents cert.old) (C.contents cert.new) result }
 {
     let job = read_all(alloc, reader, INPUT_LIMIT)?;
-    let output = minimize(alloc, &job, dpi, format, watcher)?;
+    let output = minimize_watched(alloc, &job, dpi, format, watcher)?;
     write_all(out, &output.job)?;
     write_all(cert, &output.certificate)
 }
 
-/// Writes all of the bytes and flushes. After a fault the writer holds a front of them.
+/// Writes all of the bytes and flushes. After a fault the writer holds a prefix of them.
 fn write_all<W: Write>(out: &mut W, bytes: &[u8]) -> Result<(), Fault>
     ensures { IsWritten (W.contents out.old) (W.contents out.new) bytes.now result }
 {

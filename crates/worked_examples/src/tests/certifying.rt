@@ -5,7 +5,7 @@ use super::devices::{Held, Source, failing, taking};
 use super::filtering::{JOB, WRITES, WRITTEN, taken};
 use pcl_base::Dpi;
 use pcl_cert::Format;
-use pcl_tool::{Fault, Unwatched, filter_cert, minimize};
+use pcl_tool::{Fault, filter_cert, minimize};
 use std::alloc::{AllocError, Global};
 use std::fmt::Debug;
 use std::io::{ErrorKind, Read};
@@ -54,7 +54,7 @@ fn assert_minimized(
     wanted: &(&[u8], usize, &[u8]),
 ) {
     let (written, len, certificate) = *wanted;
-    let output = minimize(alloc, job, Dpi::Dpi300, format, Unwatched);
+    let output = minimize(alloc, job, Dpi::Dpi300, format);
     let given = match &output {
         Ok(output) => Ok((
             output.job.as_slice(),
@@ -116,7 +116,6 @@ fn assert_filtered<C: Debug, R: Read>(
         Format::One,
         &mut out,
         &mut cert,
-        Unwatched,
     );
     let certified = (
         cert.bytes.len(),

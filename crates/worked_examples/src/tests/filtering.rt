@@ -3,7 +3,7 @@
 use super::assert_gives;
 use super::devices::{Held, Source, failing, taking};
 use pcl_base::{Dpi, Kind, Name, Refusal};
-use pcl_tool::{Fault, Unwatched, filter};
+use pcl_tool::{Fault, filter};
 use std::alloc::Global;
 use std::fmt::Debug;
 use std::io::{ErrorKind, Read};
@@ -31,7 +31,7 @@ fn assert_filtered<C: Debug, R: Read>(
     mut out: Held,
     wanted: &Filtered,
 ) {
-    let result = filter(alloc, source, Dpi::Dpi300, &mut out, Unwatched);
+    let result = filter(alloc, source, Dpi::Dpi300, &mut out);
     let (wanted, bytes, flushes) = *wanted;
     assert_gives(
         rt,

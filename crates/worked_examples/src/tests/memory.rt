@@ -6,7 +6,7 @@ use super::assert_gives;
 use pcl_base::{Dpi, JobFault, Kind, Name, Refusal};
 use pcl_cert::Format;
 use pcl_page::read_pages;
-use pcl_tool::{Fault, Output, Unwatched, filter, minimize, preview, read_all};
+use pcl_tool::{Fault, Output, filter, minimize, preview, read_all};
 use std::alloc::Global;
 use std::io;
 use std::io::Write;
@@ -76,10 +76,10 @@ fn assert_written(
     lengths: (usize, usize),
 ) {
     let lengths_of = |output: Output| (output.job.len(), output.certificate.len());
-    let mut result = minimize(alloc, job, Dpi::Dpi300, format, Unwatched).map(lengths_of);
+    let mut result = minimize(alloc, job, Dpi::Dpi300, format).map(lengths_of);
     if result == Err(Fault::Memory) {
         say_that_memory_ran_out(rt);
-        result = minimize(alloc, job, Dpi::Dpi300, format, Unwatched).map(lengths_of);
+        result = minimize(alloc, job, Dpi::Dpi300, format).map(lengths_of);
     }
     assert_gives(rt, &format, &result, &Ok(lengths));
 }
@@ -143,11 +143,11 @@ fn for_an_input(rt: HostRuntime) {
 #[test]
 fn for_a_filter(rt: HostRuntime) {
     let mut out = Counted(0);
-    let mut result = filter(rt.alloc(), &mut &*JOB, Dpi::Dpi300, &mut out, Unwatched);
+    let mut result = filter(rt.alloc(), &mut &*JOB, Dpi::Dpi300, &mut out);
     if result == Err(Fault::Memory) {
         say_that_memory_ran_out(&rt);
         assert_gives(&rt, &"out of memory", &out.0, &0);
-        result = filter(rt.alloc(), &mut &*JOB, Dpi::Dpi300, &mut out, Unwatched);
+        result = filter(rt.alloc(), &mut &*JOB, Dpi::Dpi300, &mut out);
     }
     assert_gives(&rt, &"a filter", &(result, out.0), &(Ok(()), 48));
 }

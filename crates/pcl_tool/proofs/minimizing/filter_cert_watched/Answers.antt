@@ -4,7 +4,7 @@ use Rattle.pcl_tool.specs.Minimizing.{IsCertifiedJobOf}
 use Rattle.std.specs.Io.KnownBytes.{Appends}
 use Rattle.pcl_tool.specs.Transfer.{IsWritten}
 use Rattle.pcl_tool.proofs.Filtered.{stopped_in_job, filtered_cert}
-use Rattle.pcl_tool.proofs.minimizing.filter_cert.Goals as goal
+use Rattle.pcl_tool.proofs.minimizing.filter_cert_watched.Goals as goal
 
 pub returns-in_err-write_all : goal.returns-in_err-write_all
 returns-in_err-write_all g c =

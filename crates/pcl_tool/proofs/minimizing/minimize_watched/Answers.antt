@@ -12,7 +12,7 @@ use Rattle.pcl_tool.specs.Watching.{HasTaken}
 use Rattle.pcl_tool.specs.Certifying.{SoFar, TakesProved}
 use Rattle.pcl_tool.specs.Minimizing.{IsMinimized}
 use Rattle.pcl_tool.proofs.Proved.{can_be_written, certified_job}
-use Rattle.pcl_tool.proofs.minimizing.minimize.Goals as goal
+use Rattle.pcl_tool.proofs.minimizing.minimize_watched.Goals as goal
 
 -- the job was refused or memory ran out, and so it is said
 not_minimized : (dpi : Dpi) (format : Format) (job : List ℕ) (begun : SoFar) (fault : JobFault)

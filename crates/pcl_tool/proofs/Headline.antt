@@ -1,0 +1,43 @@
+-- The claim holds of what is written with a certificate.
+use Rattle.std.proofs.Common.{◌≡◌, ℕ, List, sym, ap, subst, ◌∙◌}
+use Rattle.pcl_base.specs.declared.dpi.Dpi.{Dpi}
+use Rattle.pcl_page.specs.Situation.{Sheet}
+use Rattle.pcl_cert.specs.declared.format.Format.{Format}
+use Rattle.pcl_meaning.specs.JobTexts.{IsLeastJobText}
+use Rattle.pcl_tool.specs.declared.job_verdict.JobVerdict.TheVariants.{Proved}
+use Rattle.pcl_tool.specs.JobVerdicts.{IsJobVerdict}
+use Rattle.pcl_tool.specs.LeastJobs.{IsCertifiedBy}
+use Rattle.pcl_tool.specs.Minimizing.{IsCertifiedJobOf}
+use Rattle.pcl_tool.specs.Headline.{TheClaim}
+use Rattle.pcl_tool.proofs.CertifiedJobs.{OnePages, read_again, proved_length, certified_proved, written_certified}
+use Rattle.pcl_tool.proofs.LeastTexts.{written_least, proved_least_job}
+
+-- the proofs of a certificate prove the job that it certifies
+answered : {dpi : Dpi} {input output certificate : List ℕ} → IsCertifiedBy dpi input output certificate
+    → IsJobVerdict dpi input output certificate Proved
+answered {dpi} i = (
+  record { pages = i.pages; meaning = i.meaning; format = i.format; proofs = i.proofs; certified = read_again i },
+  i.texts,
+  record { spelled = i.spelled; as_long = proved_length dpi i.pages i.texts i.proofs i.proved },
+  i.proved,
+)
+
+pub claimed : OnePages → (dpi : Dpi) (format : Format) {input output certificate : List ℕ}
+    → IsCertifiedJobOf dpi format input output certificate → TheClaim dpi input output certificate
+claimed one dpi format {input} {output} {certificate} w =
+    let certified = written_certified w in
+    record {
+      pages = w.written.pages;
+      meaning = w.written.meaning;
+      again = w.written.again;
+      accepted = w.written.accepted;
+      same = w.written.alike;
+      few = w.written.few;
+      least = written_least w.written;
+      proved = answered certified;
+      no_other = λ verdict v. certified_proved one dpi input output certificate verdict certified v;
+      checked = λ other evidence v.
+          let is = proved_least_job dpi input other evidence v in
+          let same : is.pages ≡ w.written.pages = one dpi input is.pages w.written.pages is.meaning w.written.meaning in
+          subst (λ (pages : List Sheet). IsLeastJobText dpi pages other) same is.is_least;
+    }
