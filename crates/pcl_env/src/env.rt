@@ -1,7 +1,7 @@
 //! The settings of a job and its cursor.
 
 ghost use Rattle.std.specs.Prelude.{◌≡◌};
-ghost use Rattle.pcl_env.specs.Settings.{Settings, defaults, kept, restored, font_in_use};
+ghost use Rattle.pcl_env.specs.Settings.{Settings, defaults, kept, restored, font_of, font_in_use};
 ghost use Rattle.pcl_env.specs.Usable.{IsUsable};
 
 mod apply;
@@ -198,6 +198,72 @@ impl Env {
         self.setup.hmi
     }
 
+    /// The line spacing (VMI), in units of 1/7200 inch.
+    pub fn vmi(&self) -> u32
+        ensures { result ≡ self.now.vmi }
+    {
+        self.setup.vmi
+    }
+
+    /// The PCL unit, in units of 1/7200 inch.
+    pub fn pcl_unit(&self) -> u32
+        ensures { result ≡ self.now.pcl_unit }
+    {
+        self.setup.pcl_unit
+    }
+
+    /// The top margin, in units of 1/7200 inch from the page's upper edge.
+    pub fn top_margin(&self) -> u32
+        ensures { result ≡ self.now.top }
+    {
+        self.setup.top
+    }
+
+    /// Where the text ends, in units of 1/7200 inch from the page's upper edge.
+    pub fn bottom_margin(&self) -> u32
+        ensures { result ≡ self.now.bottom }
+    {
+        self.setup.bottom
+    }
+
+    /// The left margin, in units of 1/7200 inch from the page's left edge.
+    pub fn left_margin(&self) -> u32
+        ensures { result ≡ self.now.left }
+    {
+        self.setup.left
+    }
+
+    /// Whether a line feed skips the bottom margin.
+    pub fn skips_perforation(&self) -> bool
+        ensures { result ≡ self.now.skips }
+    {
+        self.setup.skips
+    }
+
+    /// Whether CR does LF too.
+    pub fn return_feeds(&self) -> bool
+        ensures { result ≡ self.now.return_feeds }
+    {
+        self.setup.return_feeds
+    }
+
+    /// Whether LF and FF do CR first.
+    pub fn feed_returns(&self) -> bool
+        ensures { result ≡ self.now.feed_returns }
+    {
+        self.setup.feed_returns
+    }
+
+    /// The ID of the font that is selected for a side, if one is.
+    pub fn font_of(&self, side: Side) -> Option<u16>
+        ensures { result ≡ font_of side self.now }
+    {
+        match side {
+            Side::Primary => self.setup.primary,
+            Side::Secondary => self.setup.secondary,
+        }
+    }
+
     /// Which of the two selected fonts is in use.
     pub fn in_use(&self) -> Side
         ensures { result ≡ self.now.in_use }
@@ -209,10 +275,7 @@ impl Env {
     pub fn font_in_use(&self) -> Option<u16>
         ensures { result ≡ font_in_use self.now }
     {
-        match self.setup.in_use {
-            Side::Primary => self.setup.primary,
-            Side::Secondary => self.setup.secondary,
-        }
+        self.font_of(self.setup.in_use)
     }
 
     /// The ID of the macro that is meant.

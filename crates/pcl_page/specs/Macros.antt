@@ -33,7 +33,7 @@ action_with n =
     else (if n == 9 then Some (Control MakeTemporary)
     else (if n == 10 then Some (Control MakePermanent) else None))))))))
 
--- none where a part of the value is below 0
+-- no control has a number below 0
 abbrev pub action_by : Option ℕ → Option Action
 action_by None = None
 action_by (Some n) = action_with n
@@ -50,7 +50,7 @@ control_keeping (Some Execute) = Kept
 control_keeping (Some Call) = Kept
 control_keeping other = Refused OutOfPlace
 
--- it keeps all commands but resets and macro controls
+-- it keeps every other command but resets
 abbrev pub keeping_of : Option Operation → Value → Keeping
 keeping_of (Some Reset) value = Refused MacroOpen
 keeping_of (Some UniversalExit) value = Refused MacroOpen

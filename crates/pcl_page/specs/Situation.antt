@@ -213,7 +213,7 @@ is_ignored operation s = is_some s.raster && is_ignored_in_raster operation
 abbrev pub counted : Situation → Situation
 counted s = record s { performed = s.performed + 1 }
 
--- the situation after a command, or why it is refused, pages and macros aside
+-- the situation after a command, the page that it ejects among its pages, or why it is refused; macros and limits aside
 unfoldable pub after : Dpi → Operation → Said → Situation → Result Situation Kind
 after dpi operation command s =
     if is_ignored operation s then Ok (counted s) else taken dpi operation command (prepared dpi operation (counted s))

@@ -53,7 +53,7 @@ character_refusal [] font = None
 character_refusal (byte ∷ bytes) None = None
 character_refusal (byte ∷ bytes) (Some font) = if is_character (byte ∷ bytes) then None else Some CharacterData
 
--- codes that print nothing in any font but may move the cursor
+-- codes of spaces and below, which ask for no font
 abbrev pub is_blank : List ℕ → Bool
 is_blank codes = list_all (λ code. nat_le code 32) codes
 
