@@ -11,7 +11,7 @@ use Rattle.pcl_base.specs.declared.size.Size.TheVariants.{Executive, Letter, Leg
 use Rattle.pcl_base.specs.Size.{code_of}
 use Rattle.pcl_plan.specs.Tokens.{start_bytes}
 use Rattle.pcl_plan.specs.LeastTexts.{fixed_bytes}
-use Rattle.pcl_check.specs.Reading.{raster_start}
+use Rattle.pcl_check.specs.inner.Reading.{raster_start}
 use Rattle.pcl_check.proofs.Beginnings.{start_is}
 
 raster_length : (size : Size) (dpi : Dpi) → length (raster_start size dpi) ≡ 26

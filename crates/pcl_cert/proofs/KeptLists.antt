@@ -21,7 +21,7 @@ use Rattle.pcl_plan.specs.Nodes.{row_at, row_above}
 use Rattle.pcl_plan.specs.PageText.{bitmap_rows}
 use Rattle.pcl_plan.proofs.RowsFrom.{length_rows}
 use Rattle.pcl_cert.specs.declared.listing.Lists.{Lists}
-use Rattle.pcl_cert.specs.Listing.{IsTrimmed, HasListMore, HasRowMore, HoldsRows, HoldsRowsOf, AreWhole, listed}
+use Rattle.pcl_cert.specs.inner.Listing.{IsTrimmed, HasListMore, HasRowMore, HoldsRows, HoldsRowsOf, AreWhole, listed}
 use Rattle.pcl_cert.proofs.FieldsRead.{two_bytes}
 use Rattle.pcl_cert.proofs.Numbers.{numbers_of_front}
 use Rattle.pcl_cert.proofs.ListsSpelled.{numbers_again, text_len}

@@ -7,7 +7,7 @@ use Rattle.pcl_base.specs.declared.method.Method.{Method}
 use Rattle.pcl_base.specs.declared.method.Method.TheVariants.{Plain, Runs, Packed, Delta}
 use Rattle.pcl_base.specs.Method.{method_code}
 use Rattle.pcl_rows.specs.Rows.{base, RowFrom, IsRowData}
-use Rattle.pcl_rows.specs.Fronts.{overlaid}
+use Rattle.pcl_rows.specs.inner.Fronts.{overlaid}
 use Rattle.pcl_rows.proofs.Overlays.{overlaid_within}
 use Rattle.pcl_rows.proofs.Readings.{plain_elements, row_of_plain}
 use Rattle.pcl_coders.specs.Coding.{IsCodable}

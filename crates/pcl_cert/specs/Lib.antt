@@ -2,5 +2,5 @@ pub mod RowTables
 pub mod Certificates
 pub mod ReadingCertificates
 pub mod PageTables
-pub mod Listing
 pub mod Checking
+pub mod inner

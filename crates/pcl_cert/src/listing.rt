@@ -3,7 +3,7 @@
 ghost use Rattle.std.specs.Prelude.{◌≡◌, ◌++◌, ◌∷◌, [], ◌^◌, ◌<◌, ◌≤◌, length, take, OnOk};
 ghost use Rattle.std.specs.Int.{w16, to_be_bytes};
 ghost use Rattle.std.specs.List.{flat_map};
-ghost use Rattle.pcl_cert.specs.Listing.{AreWhole, IsTrimmed, HasListMore};
+ghost use Rattle.pcl_cert.specs.inner.Listing.{AreWhole, IsTrimmed, HasListMore};
 
 use std::alloc::{AllocError, Global};
 

@@ -4,7 +4,7 @@ ghost use Rattle.std.specs.Prelude.{◌≡◌, ◌+◌, ◌<◌, ◌≤◌, repl
 ghost use Rattle.pcl_base.specs.Size.{page_height, page_row_bytes};
 ghost use Rattle.pcl_coders.specs.Coding.{IsCodable};
 ghost use Rattle.pcl_cert.specs.PageTables.{AreLeastTablesOf};
-ghost use Rattle.pcl_cert.specs.Listing.{AreWhole, HasRowMore, HoldsRowsOf};
+ghost use Rattle.pcl_cert.specs.inner.Listing.{AreWhole, HasRowMore, HoldsRowsOf};
 
 use crate::listing::Lists;
 use crate::tables::{Bytes, RowTables};

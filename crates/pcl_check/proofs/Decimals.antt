@@ -8,7 +8,7 @@ use Rattle.pcl_escape.specs.Pieces.{AreDigits}
 use Rattle.pcl_escape.proofs.Fronts.{StopsAt, front_split}
 use Rattle.pcl_plan.proofs.Numbers.{decimal_spelled}
 use Rattle.pcl_check.specs.declared.reading.parameter.Parameter.{Parameter}
-use Rattle.pcl_check.specs.Reading.{IsParameter}
+use Rattle.pcl_check.specs.inner.Reading.{IsParameter}
 use Rattle.pcl_check.proofs.Splits.{one_split, no_split}
 
 -- nothing is behind the digits

@@ -7,7 +7,7 @@ use Rattle.pcl_base.specs.declared.method.Method.TheVariants.{Plain, Runs, Packe
 use Rattle.pcl_plan.specs.Nodes.{Node}
 use Rattle.pcl_plan.proofs.Filled.{white_front, skippable_within, white_to_end, ink_left}
 use Rattle.pcl_check.specs.Edges.{AreGoodSwitches, AreGoodSkips, IsGoodOutside, IsGoodNumber}
-use Rattle.pcl_check.specs.EdgePasses.{At, Both, AreRunEnds, IsGoodStart, IsGoodSending, AreGoodSkipsTo, IsGoodBy, IsGoodIn}
+use Rattle.pcl_check.specs.inner.EdgePasses.{At, Both, AreRunEnds, IsGoodStart, IsGoodSending, AreGoodSkipsTo, IsGoodBy, IsGoodIn}
 
 -- ---- starts
 

@@ -7,7 +7,7 @@ use Rattle.pcl_base.specs.Method.{method_code}
 use Rattle.pcl_plan.proofs.RightRows.{method_small}
 use Rattle.pcl_check.specs.declared.edges.found.BadNumber.{BadNumber}
 use Rattle.pcl_check.specs.Edges.{inside_code, place_of, IsFirstBad, FindsBad}
-use Rattle.pcl_check.specs.EdgePasses.{found_place, first_found, At, Both}
+use Rattle.pcl_check.specs.inner.EdgePasses.{found_place, first_found, At, Both}
 
 inside_small : (inside : Bool) → inside_code inside ≤ 1
 inside_small true = omega arith

@@ -14,7 +14,7 @@ use Rattle.pcl_rows.specs.Rows.{IsRowData}
 use Rattle.pcl_plan.specs.Tokens.{Token, opening, method, skip, send, letter, token_bytes, AreWhite, PrintsRows, end_bytes}
 use Rattle.pcl_plan.specs.PageText.{IsRowOf}
 use Rattle.pcl_plan.proofs.Walking.{white_is_zeros}
-use Rattle.pcl_check.specs.Reading.{LeftOver, RestPrints}
+use Rattle.pcl_check.specs.inner.Reading.{LeftOver, RestPrints}
 use Rattle.pcl_check.proofs.Splits.{one_split}
 
 -- a letter as a number: a capital where it ends the sequence

@@ -19,7 +19,7 @@ use Rattle.pcl_rows.specs.Decoding.{decoded}
 use Rattle.pcl_plan.specs.Tokens.{Token, opening, method, skip, send, token_bytes, IsWhite, AreWhite, PrintsRows, end_bytes}
 use Rattle.pcl_plan.specs.PageText.{IsRowOf}
 use Rattle.pcl_plan.proofs.Walking.{white_is_zeros}
-use Rattle.pcl_check.specs.Reading.{LeftOver, RestPrints, GivesRows}
+use Rattle.pcl_check.specs.inner.Reading.{LeftOver, RestPrints, GivesRows}
 use Rattle.pcl_check.proofs.Splits.{no_split}
 use Rattle.pcl_check.proofs.Fronts.{letter_code, letter_is, left_over, white_rows, Foremost, is_method, is_skip, is_send, front_of, regroup, no_digit_77, no_digit_89}
 

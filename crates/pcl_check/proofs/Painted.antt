@@ -8,7 +8,7 @@ use Rattle.pcl_base.specs.Size.{page_width, page_row_bytes}
 use Rattle.pcl_bitmap.specs.Bitmap.{dot_of_row}
 use Rattle.pcl_rows.specs.Rows.{Decodes, IsWhole}
 use Rattle.pcl_rows.proofs.Decoded.{decoded_is}
-use Rattle.pcl_check.specs.Reading.{IsPaintedRow}
+use Rattle.pcl_check.specs.inner.Reading.{IsPaintedRow}
 
 abbrev pub HasClearPads : Size → Dpi → List ℕ → Type 0
 HasClearPads size dpi row = (x : ℕ) → page_width size dpi ≤ x → dot_of_row row x ≡ false

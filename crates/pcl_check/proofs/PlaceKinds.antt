@@ -4,11 +4,11 @@ use Rattle.std.specs.Prelude.{slice_index}
 use Rattle.std.proofs.lemmas.Bool.{cases_lt}
 use Rattle.std.proofs.lemmas.List.{ext_get_or, get_or-take, get_or-drop, length-drop, length-take-le, take-take, take-replicate}
 use Rattle.pcl_base.proofs.Lists.{alike_at}
-use Rattle.pcl_coders.specs.Replacement.{replacement_bytes}
+use Rattle.pcl_coders.specs.inner.Replacement.{replacement_bytes}
 use Rattle.pcl_coders.proofs.Prefixes.{run_len_of}
 use Rattle.pcl_coders.proofs.Shapes.{near_bytes, far_bytes}
-use Rattle.pcl_check.specs.EdgePasses.{AreEnds}
-use Rattle.pcl_check.specs.PlacePasses.{IsNotUndercut, AreGoodRuns, AreGoodLiterals, AreGoodReplacements, AreRunStops, AreStartEnds, ArePlaced, AreBehindStarts}
+use Rattle.pcl_check.specs.inner.EdgePasses.{AreEnds}
+use Rattle.pcl_check.specs.inner.PlacePasses.{IsNotUndercut, AreGoodRuns, AreGoodLiterals, AreGoodReplacements, AreRunStops, AreStartEnds, ArePlaced, AreBehindStarts}
 
 -- ---- runs
 

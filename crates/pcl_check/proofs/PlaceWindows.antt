@@ -3,10 +3,10 @@ use Rattle.std.proofs.Common.{◌≡◌, ℕ, ◌+◌, ◌-◌, ◌<◌, ◌≤�
 use Rattle.std.specs.Prelude.{slice_index}
 use Rattle.std.proofs.lemmas.Bool.{cases_lt}
 use Rattle.std.proofs.lemmas.List.{get_or-set_same, get_or-set_other, length-drop}
-use Rattle.pcl_coders.specs.Choosing.{IsLeastLen}
+use Rattle.pcl_coders.specs.inner.Choosing.{IsLeastLen}
 use Rattle.pcl_coders.specs.Windows.{IsLeastOf}
-use Rattle.pcl_check.specs.EdgePasses.{values}
-use Rattle.pcl_check.specs.PlacePasses.{IsNotUndercut}
+use Rattle.pcl_check.specs.inner.EdgePasses.{values}
+use Rattle.pcl_check.specs.inner.PlacePasses.{IsNotUndercut}
 use Rattle.pcl_check.proofs.Values.{length_values, value_in}
 use Rattle.pcl_check.proofs.StepWindows.{last_of}
 

@@ -3,7 +3,7 @@ use Rattle.std.proofs.Common.{◌≡◌, ℕ, ◌+◌, ◌<◌, ◌≤◌, min, 
 use Rattle.std.specs.Prelude.{Option, Some, None, MatchOption}
 use Rattle.std.proofs.lemmas.Bool.{cases_lt}
 use Rattle.pcl_check.specs.Places.{IsFirstPlace, FindsPlace}
-use Rattle.pcl_check.specs.PlacePasses.{first_found_place}
+use Rattle.pcl_check.specs.inner.PlacePasses.{first_found_place}
 
 -- both facts
 abbrev pub And : (ℕ → Type 0) → (ℕ → Type 0) → ℕ → Type 0

@@ -8,7 +8,7 @@ use Rattle.pcl_plan.specs.Tokens.{IsWhite}
 use Rattle.pcl_plan.specs.Nodes.{row_at}
 use Rattle.pcl_plan.specs.Filling.{IsWhiteRun}
 use Rattle.pcl_plan.proofs.Filled.{white_below, run_more, run_none, run_end}
-use Rattle.pcl_check.specs.EdgePasses.{AreRunEnds, AreEnds}
+use Rattle.pcl_check.specs.inner.EdgePasses.{AreRunEnds, AreEnds}
 
 -- the white rows from a row end no earlier where they begin a row later
 ends_grow : {rows : List (List ℕ)} {ends : List ℕ} (row : ℕ) → AreRunEnds rows ends 0 → row < length rows

@@ -8,7 +8,7 @@ use Rattle.pcl_plan.specs.Filling.{rest}
 use Rattle.pcl_plan.proofs.Digits.{count_is, count_le}
 use Rattle.pcl_plan.proofs.RightRows.{rest_below, best_end}
 use Rattle.pcl_check.specs.Edges.{number_at}
-use Rattle.pcl_check.specs.EdgePasses.{AreEnds, AreGoodSkipsOf, AreGoodSkipsTo, rests}
+use Rattle.pcl_check.specs.inner.EdgePasses.{AreEnds, AreGoodSkipsOf, AreGoodSkipsTo, rests}
 use Rattle.pcl_check.proofs.Values.{length_values, value_in}
 use Rattle.pcl_check.proofs.StepWindows.{last_of}
 

@@ -4,11 +4,11 @@ use Rattle.std.specs.Prelude.{slice_index}
 use Rattle.std.proofs.lemmas.Bool.{cases_lt, cases_eq}
 use Rattle.std.proofs.lemmas.List.{get_or-take, length-take-le}
 use Rattle.pcl_base.proofs.Lists.{alike_at, rest_of_alike, run_byte, rest_of_run, falls_on, start_within}
-use Rattle.pcl_coders.specs.Replacement.{replacement_bytes}
+use Rattle.pcl_coders.specs.inner.Replacement.{replacement_bytes}
 use Rattle.pcl_coders.proofs.Ends.{ends_at}
 use Rattle.pcl_coders.proofs.Shapes.{near_bytes, far_bytes}
-use Rattle.pcl_check.specs.PlacePasses.{IsGoodEnd, AreGoodRuns, AreGoodLiterals, AreGoodReplacements}
-use Rattle.pcl_check.specs.SteadyNumbers.{IsSteady, IsNeedEnd, FallsByRun, FallsByStart, AreLeastSums, TakesBehind, IsKeptBefore}
+use Rattle.pcl_check.specs.inner.PlacePasses.{IsGoodEnd, AreGoodRuns, AreGoodLiterals, AreGoodReplacements}
+use Rattle.pcl_check.specs.inner.SteadyNumbers.{IsSteady, IsNeedEnd, FallsByRun, FallsByStart, AreLeastSums, TakesBehind, IsKeptBefore}
 
 -- ---- steady numbers
 

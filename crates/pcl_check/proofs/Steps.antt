@@ -19,7 +19,7 @@ use Rattle.pcl_plan.specs.PageText.{IsRowOf, bitmap_rows}
 use Rattle.pcl_rows.specs.Rows.{IsRowData}
 use Rattle.pcl_check.specs.declared.reading.body.Place.{Place}
 use Rattle.pcl_check.specs.declared.reading.parameter.Parameter.{Parameter}
-use Rattle.pcl_check.specs.Reading.{LeftOver, IsParameter, RestPrints, GivesRows, left_at, AreRowsAt, IsStep}
+use Rattle.pcl_check.specs.inner.Reading.{LeftOver, IsParameter, RestPrints, GivesRows, left_at, AreRowsAt, IsStep}
 use Rattle.pcl_check.proofs.Fronts.{letter_code, left_over, white_rows}
 use Rattle.pcl_check.proofs.Outside.{opening_bytes, opening_becomes}
 use Rattle.pcl_check.proofs.Moves.{Told, with_code, no_method, no_skip, no_send, method_becomes, skip_becomes, send_becomes}

@@ -1,7 +1,7 @@
 -- The values at some places.
 use Rattle.std.proofs.Common.{◌≡◌, ℕ, zero, suc, ◌+◌, ◌-◌, ◌<◌, List, [], ◌∷◌, ◌++◌, length, drop, refl, ap, ◌∙◌, arith}
 use Rattle.std.specs.Prelude.{slice_index}
-use Rattle.pcl_check.specs.EdgePasses.{values}
+use Rattle.pcl_check.specs.inner.EdgePasses.{values}
 
 pub length_values : (value : ℕ → ℕ) (from count : ℕ) → length (values value from count) ≡ count
 unfolding values

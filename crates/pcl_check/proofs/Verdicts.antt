@@ -14,7 +14,7 @@ use Rattle.pcl_plan.specs.Tokens.{token_bytes, start_bytes, end_bytes}
 use Rattle.pcl_plan.specs.PageText.{IsPageText, bitmap_rows}
 use Rattle.pcl_plan.proofs.RowsFrom.{length_rows}
 use Rattle.pcl_check.specs.declared.reading.start.Start.{Start}
-use Rattle.pcl_check.specs.Reading.{IsStart, RestPrints, body_of, IsBodyVerdict, raster_start}
+use Rattle.pcl_check.specs.inner.Reading.{IsStart, RestPrints, body_of, IsBodyVerdict, raster_start}
 use Rattle.pcl_check.specs.TextVerdicts.{IsSomePageText}
 use Rattle.pcl_check.proofs.Beginnings.{start_is, code_small, size_coded, size_read, IsSize}
 

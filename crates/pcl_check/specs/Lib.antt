@@ -1,7 +1,4 @@
 pub mod TextVerdicts
-pub mod Reading
 pub mod Edges
-pub mod EdgePasses
 pub mod Places
-pub mod PlacePasses
-pub mod SteadyNumbers
+pub mod inner

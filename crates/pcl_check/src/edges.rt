@@ -12,7 +12,7 @@ ghost use Rattle.pcl_base.specs.Size.{page_height};
 ghost use Rattle.pcl_plan.specs.PageText.{bitmap_rows};
 ghost use Rattle.pcl_plan.specs.Table.{node_number};
 ghost use Rattle.pcl_check.specs.Edges.{number_at, setting_cost, row_cost, AreGoodSwitches, IsGoodNumber, FindsBad};
-ghost use Rattle.pcl_check.specs.EdgePasses.{At, AreRunEnds, AreEnds, IsGoodStart, IsGoodSending, IsGoodIn};
+ghost use Rattle.pcl_check.specs.inner.EdgePasses.{At, AreRunEnds, AreEnds, IsGoodStart, IsGoodSending, IsGoodIn};
 
 use crate::costs::{is_within, row_cost};
 pub use found::BadNumber;

@@ -10,7 +10,7 @@ ghost use Rattle.pcl_base.specs.declared.method.Method.TheVariants as methods;
 ghost use Rattle.pcl_rows.specs.Rows.{base};
 ghost use Rattle.pcl_coders.specs.Coding.{IsCodable};
 ghost use Rattle.pcl_check.specs.Places.{FindsPlace, FindsBadPlace};
-ghost use Rattle.pcl_check.specs.PlacePasses.{IsGoodEnd, IsGoodByte, AreGoodRuns, AreGoodLiterals, AreGoodReplacements, AreGoodSteps};
+ghost use Rattle.pcl_check.specs.inner.PlacePasses.{IsGoodEnd, IsGoodByte, AreGoodRuns, AreGoodLiterals, AreGoodReplacements, AreGoodSteps};
 
 use fill::{add_places, fill_behind_starts, fill_ends, fill_run_stops, fill_start_ends, widen};
 use found::first_place;

@@ -10,13 +10,13 @@ use Rattle.pcl_rows.specs.Heads.{offset_of}
 use Rattle.pcl_rows.specs.Elements.{Element, given, stop}
 use Rattle.pcl_coders.specs.Walks.{Walk, total}
 use Rattle.pcl_coders.specs.Starts.{IsLatestStart}
-use Rattle.pcl_coders.specs.Replacement.{replacement_bytes}
+use Rattle.pcl_coders.specs.inner.Replacement.{replacement_bytes}
 use Rattle.pcl_coders.specs.RowWalks.{Leads, Ends, cost}
-use Rattle.pcl_coders.specs.Choosing.{NoLiteral, IsLiteralLen}
-use Rattle.pcl_coders.specs.Filling.{AreRightFrom}
+use Rattle.pcl_coders.specs.inner.Choosing.{NoLiteral, IsLiteralLen}
+use Rattle.pcl_coders.specs.inner.Filling.{AreRightFrom}
 use Rattle.pcl_coders.specs.declared.shape.Shape.{Shape}
 use Rattle.pcl_coders.specs.declared.shape.Shape.TheVariants.{Run, LiteralRun, RepeatRun, Replace}
-use Rattle.pcl_coders.specs.Shape.{element_of, shape_stop, IsShapeChoice, IsReplacement}
+use Rattle.pcl_coders.specs.inner.Shape.{element_of, shape_stop, IsShapeChoice, IsReplacement}
 use Rattle.pcl_coders.proofs.Shapes.{packed_shape}
 use Rattle.pcl_coders.proofs.Prefixes.{IsRunLen, run_len_of, same_len_of}
 use Rattle.pcl_coders.proofs.Choices.{agrees_gives, IsShapeElement, step_choice, runs_choice, repeat_step, literal_step, replace_step, within_run}

@@ -8,12 +8,12 @@ use Rattle.pcl_base.specs.declared.method.Method.TheVariants.{Plain, Runs, Packe
 use Rattle.pcl_rows.specs.Heads.{Head, head_bytes, offset_of}
 use Rattle.pcl_rows.specs.Elements.{Element, IsElement, given, given_by, stop}
 use Rattle.pcl_coders.specs.RowWalks.{Agrees, cost}
-use Rattle.pcl_coders.specs.Choosing.{IsLeastLen, IsPlace}
+use Rattle.pcl_coders.specs.inner.Choosing.{IsLeastLen, IsPlace}
 use Rattle.pcl_coders.proofs.Prefixes.{IsRunLen, IsSameLen}
-use Rattle.pcl_coders.specs.Replacement.{replacement, replacement_bytes}
+use Rattle.pcl_coders.specs.inner.Replacement.{replacement, replacement_bytes}
 use Rattle.pcl_coders.specs.declared.shape.Shape.{Shape}
 use Rattle.pcl_coders.specs.declared.shape.Shape.TheVariants.{SingleByte, Run, LiteralRun, RepeatRun, Replace}
-use Rattle.pcl_coders.specs.Shape.{element_of, shape_stop, IsShapeWithin, IsShapeChoice, IsReplacement}
+use Rattle.pcl_coders.specs.inner.Shape.{element_of, shape_stop, IsShapeWithin, IsShapeChoice, IsReplacement}
 use Rattle.pcl_coders.proofs.RowWalks.{stop_within}
 use Rattle.pcl_coders.proofs.Shapes.{given_copies, IsRepeat, plain_shape, runs_shape, packed_shape, delta_shape, replacement_is}
 

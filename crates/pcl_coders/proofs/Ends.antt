@@ -4,7 +4,7 @@ use Rattle.std.proofs.lemmas.Bool.{cases_lt}
 use Rattle.std.proofs.lemmas.List.{ext_get_or, drop-drop, length-drop, length-replicate, get_or-drop, get_or-replicate, get_or_past}
 use Rattle.pcl_bitmap.specs.Kernels.{IsFirstDifference, IsTrimmedLen}
 use Rattle.pcl_coders.specs.RowWalks.{Ends}
-use Rattle.pcl_coders.specs.Filling.{IsFirstEnd}
+use Rattle.pcl_coders.specs.inner.Filling.{IsFirstEnd}
 
 -- the bytes of two rows from a place on, one by one
 pub ends_by : (old row : List ℕ) (place : ℕ) → length old ≡ length row

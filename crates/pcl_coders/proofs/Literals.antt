@@ -5,11 +5,11 @@ use Rattle.std.proofs.lemmas.Bool.{cases_lt}
 use Rattle.std.proofs.lemmas.List.{length-append, length-drop, get_or-drop, get_or_append_left, get_or_push}
 use Rattle.pcl_base.specs.declared.method.Method.TheVariants.{Packed}
 use Rattle.pcl_bitmap.specs.Kernels.{IsRunEnd}
-use Rattle.pcl_coders.specs.Choosing.{IsLeastLen}
-use Rattle.pcl_coders.specs.Filling.{AreRightFrom, IsBegun}
+use Rattle.pcl_coders.specs.inner.Choosing.{IsLeastLen}
+use Rattle.pcl_coders.specs.inner.Filling.{AreRightFrom, IsBegun}
 use Rattle.pcl_coders.specs.Windows.{IsLeastOf}
 use Rattle.pcl_coders.specs.declared.shape.Shape.{Shape}
-use Rattle.pcl_coders.specs.Shape.{IsShapeChoice}
+use Rattle.pcl_coders.specs.inner.Shape.{IsShapeChoice}
 use Rattle.pcl_coders.specs.declared.shape.Shape.TheVariants.{LiteralRun, RepeatRun}
 use Rattle.pcl_coders.proofs.Prefixes.{run_len_of}
 use Rattle.pcl_coders.proofs.Choices.{literal_choice, repeat_choice}

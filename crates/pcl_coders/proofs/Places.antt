@@ -9,12 +9,12 @@ use Rattle.pcl_base.specs.declared.method.Method.TheVariants.{Plain, Runs, Packe
 use Rattle.pcl_bitmap.specs.Kernels.{IsFirstDifference, IsRunEnd}
 use Rattle.pcl_rows.specs.Elements.{Element, IsElement, given, stop}
 use Rattle.pcl_coders.specs.RowWalks.{Agrees, Ends, cost}
-use Rattle.pcl_coders.specs.Choosing.{IsLeastLen, IsPlace}
-use Rattle.pcl_coders.specs.Replacement.{replacement_bytes}
-use Rattle.pcl_coders.specs.Filling.{IsPlaceNumber, AreRightFrom, IsBegun}
+use Rattle.pcl_coders.specs.inner.Choosing.{IsLeastLen, IsPlace}
+use Rattle.pcl_coders.specs.inner.Replacement.{replacement_bytes}
+use Rattle.pcl_coders.specs.inner.Filling.{IsPlaceNumber, AreRightFrom, IsBegun}
 use Rattle.pcl_coders.specs.declared.shape.Shape.{Shape}
 use Rattle.pcl_coders.specs.declared.shape.Shape.TheVariants.{SingleByte, Run, Replace}
-use Rattle.pcl_coders.specs.Shape.{element_of, shape_stop, IsShapeChoice}
+use Rattle.pcl_coders.specs.inner.Shape.{element_of, shape_stop, IsShapeChoice}
 use Rattle.pcl_coders.proofs.Shapes.{runs_shape, packed_shape, near_bytes, far_bytes}
 use Rattle.pcl_coders.proofs.Prefixes.{run_len_of, same_len_of}
 use Rattle.pcl_coders.proofs.Choices.{agrees_gives, IsShapeElement, run_step, repeat_step, literal_step, plain_choice, runs_choice, delta_choice}

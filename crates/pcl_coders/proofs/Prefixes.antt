@@ -4,7 +4,7 @@ use Rattle.std.specs.Prelude.{slice_index}
 use Rattle.std.proofs.lemmas.Bool.{cases_lt}
 use Rattle.std.proofs.lemmas.List.{ext_get_or, get_or-take, get_or-drop, get_or-replicate, length-drop, length-take-le, length-replicate}
 use Rattle.pcl_bitmap.specs.Kernels.{IsFirstDifference, IsRunEnd}
-use Rattle.pcl_coders.specs.Choosing.{IsLeastLen}
+use Rattle.pcl_coders.specs.inner.Choosing.{IsLeastLen}
 
 -- how many wanted bytes at the front are one byte again and again
 pub record IsRunLen (wanted : List ℕ) (len : ℕ) : Type 0 where

@@ -7,7 +7,7 @@ use Rattle.pcl_base.proofs.Lists.{once_each, single_byte}
 use Rattle.pcl_base.specs.declared.method.Method.TheVariants.{Plain, Runs, Packed, Delta}
 use Rattle.pcl_rows.specs.Heads.{Head, Itself, Count, Literal, Skipped, Repeat, Near, Far, method_of, IsInRange, head_bytes, new_count, offset_of, copies_of}
 use Rattle.pcl_rows.specs.Elements.{given_by}
-use Rattle.pcl_coders.specs.Replacement.{replacement, replacement_bytes}
+use Rattle.pcl_coders.specs.inner.Replacement.{replacement, replacement_bytes}
 
 -- one byte that is repeated
 pub given_copies : (copies : ℕ) {bytes : List ℕ} {byte : ℕ} → bytes ≡ byte ∷ []

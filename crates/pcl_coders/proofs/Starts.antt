@@ -10,9 +10,9 @@ use Rattle.pcl_rows.specs.Elements.{Element, given}
 use Rattle.pcl_coders.specs.Walks.{Walk, total}
 use Rattle.pcl_coders.specs.RowWalks.{Leads, Ends, cost}
 use Rattle.pcl_coders.specs.Starts.{IsLatestStart, StartsAt}
-use Rattle.pcl_coders.specs.Replacement.{replacement_bytes}
+use Rattle.pcl_coders.specs.inner.Replacement.{replacement_bytes}
 use Rattle.pcl_coders.specs.declared.shape.Shape.TheVariants.{Replace}
-use Rattle.pcl_coders.specs.Shape.{element_of}
+use Rattle.pcl_coders.specs.inner.Shape.{element_of}
 use Rattle.pcl_coders.proofs.Shapes.{delta_shape, replacement_is}
 use Rattle.pcl_coders.proofs.Prefixes.{IsSameLen, same_len_of}
 use Rattle.pcl_coders.proofs.Choices.{agrees_gives, replace_step}

@@ -7,16 +7,16 @@ use Rattle.pcl_base.specs.declared.method.Method.{Method}
 use Rattle.pcl_base.specs.declared.method.Method.TheVariants.{Plain}
 use Rattle.pcl_rows.specs.Elements.{Element, stop}
 use Rattle.pcl_rows.specs.Rows.{base, RowFrom, IsRowData}
-use Rattle.pcl_rows.specs.Fronts.{overlaid}
+use Rattle.pcl_rows.specs.inner.Fronts.{overlaid}
 use Rattle.pcl_rows.proofs.Overlays.{overlaid_within}
 use Rattle.pcl_rows.proofs.Readings.{plain_elements, row_of_plain}
 use Rattle.pcl_rows.proofs.Spellings.{spelling_has_byte}
 use Rattle.pcl_coders.specs.Walks.{Walk, total}
 use Rattle.pcl_coders.specs.RowWalks.{Leads, Ends, cost, IsRowTable, IsLeastTable}
 use Rattle.pcl_coders.specs.Coding.{IsCodable, IsLeastLength, AppendsLeast}
-use Rattle.pcl_coders.specs.Filling.{IsPlaceNumber, AreRightFrom, IsFirstEnd, IsBegun}
+use Rattle.pcl_coders.specs.inner.Filling.{IsPlaceNumber, AreRightFrom, IsFirstEnd, IsBegun}
 use Rattle.pcl_coders.specs.declared.shape.Shape.TheVariants.{SingleByte}
-use Rattle.pcl_coders.specs.Shape.{element_of}
+use Rattle.pcl_coders.specs.inner.Shape.{element_of}
 use Rattle.pcl_coders.proofs.Walks.{feasible_bounds}
 use Rattle.pcl_coders.proofs.RowWalks.{length-base}
 use Rattle.pcl_coders.proofs.Shapes.{plain_shape}

@@ -1,10 +1,7 @@
 pub mod Walks
 pub mod RowWalks
 pub mod Coding
-pub mod Replacement
-pub mod Shape
-pub mod Choosing
-pub mod Filling
 pub mod Windows
 pub mod WindowModel
 pub mod Starts
+pub mod inner

@@ -1,9 +1,9 @@
 //! The element that begins the least data for the rest of a row.
 
 ghost use Rattle.std.specs.Prelude.{◌≡◌, ℕ, ◌+◌, ◌-◌, ◌*◌, ◌<◌, ◌≤◌, min, length, slice_index, MatchOption};
-ghost use Rattle.pcl_coders.specs.Choosing.{IsLeastLen, IsLiteralLen, NoLiteral, IsPlace};
-ghost use Rattle.pcl_coders.specs.Filling.{AreRightFrom};
-ghost use Rattle.pcl_coders.specs.Replacement.{replacement_bytes};
+ghost use Rattle.pcl_coders.specs.inner.Choosing.{IsLeastLen, IsLiteralLen, NoLiteral, IsPlace};
+ghost use Rattle.pcl_coders.specs.inner.Filling.{AreRightFrom};
+ghost use Rattle.pcl_coders.specs.inner.Replacement.{replacement_bytes};
 
 use crate::shape::Shape;
 use pcl_base::Method;
@@ -17,7 +17,7 @@ pub struct Choice {
 }
 
 impl Choice {
-    ghost use Rattle.pcl_coders.specs.Shape.{IsShapeChoice, IsReplacement};
+    ghost use Rattle.pcl_coders.specs.inner.Shape.{IsShapeChoice, IsReplacement};
 
     /// The element that begins least data of a method for the wanted bytes, over the old ones, where the
     /// numbers are the least ones of their places and data is needed. Among several: of methods 1 and 2 the

@@ -4,8 +4,8 @@ ghost use Rattle.std.specs.Prelude.{◌≡◌, ℕ, ◌+◌, ◌<◌, ◌≤◌,
 ghost use Rattle.pcl_base.specs.declared.method.Method.TheVariants as methods;
 ghost use Rattle.pcl_rows.specs.Rows.{base};
 ghost use Rattle.pcl_coders.specs.Coding.{IsCodable};
-ghost use Rattle.pcl_coders.specs.Choosing.{IsLeastLen};
-ghost use Rattle.pcl_coders.specs.Filling.{AreRightFrom, IsFirstEnd, IsBegun, white_like};
+ghost use Rattle.pcl_coders.specs.inner.Choosing.{IsLeastLen};
+ghost use Rattle.pcl_coders.specs.inner.Filling.{AreRightFrom, IsFirstEnd, IsBegun, white_like};
 
 use crate::choice::{command_bytes, least_behind};
 use crate::window::Window;

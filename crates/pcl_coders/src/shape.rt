@@ -3,7 +3,7 @@
 ghost use Rattle.std.specs.Prelude.{◌≡◌, ◌+◌, ◌<◌, ◌≤◌, ◌/◌, ◌%◌, [], ◌∷◌, ◌++◌, length, replicate, take, OnOk, OnErr};
 ghost use Rattle.pcl_rows.specs.Elements.{element_bytes};
 ghost use Rattle.pcl_rows.specs.Heads.{head_bytes};
-ghost use Rattle.pcl_coders.specs.Replacement.{replacement};
+ghost use Rattle.pcl_coders.specs.inner.Replacement.{replacement};
 
 use std::alloc::AllocError;
 
@@ -23,7 +23,7 @@ pub enum Shape {
 }
 
 impl Shape {
-    ghost use Rattle.pcl_coders.specs.Shape.{shape_stop, element_of, IsShapeWithin};
+    ghost use Rattle.pcl_coders.specs.inner.Shape.{shape_stop, element_of, IsShapeWithin};
 
     /// How far it goes from its place.
     pub fn stop(self) -> usize

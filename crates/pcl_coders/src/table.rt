@@ -5,7 +5,7 @@ ghost use Rattle.pcl_base.specs.declared.method.Method.TheVariants as methods;
 ghost use Rattle.pcl_rows.specs.Rows.{base};
 ghost use Rattle.pcl_coders.specs.RowWalks.{IsLeastTable};
 ghost use Rattle.pcl_coders.specs.Coding.{IsCodable, IsLeastLength, AppendsLeast};
-ghost use Rattle.pcl_coders.specs.Filling.{AreRightFrom, AppendsWalk, IsFirstEnd};
+ghost use Rattle.pcl_coders.specs.inner.Filling.{AreRightFrom, AppendsWalk, IsFirstEnd};
 
 use crate::choice::Choice;
 use crate::fill::{MOST_BYTES, fill_before, needed_len};

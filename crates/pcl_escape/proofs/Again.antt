@@ -7,7 +7,7 @@ use Rattle.pcl_escape.specs.Letter.{prefix_bytes}
 use Rattle.pcl_escape.specs.Field.{field_bytes}
 use Rattle.pcl_escape.specs.Exit.{joined}
 use Rattle.pcl_escape.specs.Said.{Said}
-use Rattle.pcl_escape.specs.Scan.{Reads, start_at, parameter_at, commands_said, with_front, after, outcome, outcome_of}
+use Rattle.pcl_escape.specs.inner.Scan.{Reads, start_at, parameter_at, commands_said, with_front, after, outcome, outcome_of}
 use Rattle.pcl_escape.specs.Pieces.{Parameter, Piece, silent, control, text, two_character, combined, exit, IsPrefix, IsPiece, ArePieces, IsMiddle, IsEnd, IsReading, parameter_bytes, spelling, command_of, parameter_commands, first_place, commands_from, commands_of}
 use Rattle.pcl_escape.specs.Faults.{Fails, unknown_control, lone_escape, no_sequence, unknown_two, no_group, bad_group, in_parameter, in_line, IsUngrouped, FailsParameter, place_behind, IsFault}
 use Rattle.pcl_escape.proofs.Steps.{Inside, is_middle, is_end, is_wrong, middle_reads, end_reads, parameter_shorter, parameter_long, parameter_joined, middle_again, end_again, fault_again}

@@ -11,7 +11,7 @@ use Rattle.pcl_base.specs.Refusal.{refusal}
 use Rattle.pcl_base.specs.Value.{zero_value}
 use Rattle.pcl_escape.specs.Field.{field_at, field_value}
 use Rattle.pcl_escape.specs.Said.{Said}
-use Rattle.pcl_escape.specs.Scan.{named_at, text_at, parameter_at, ungrouped_at, prefix_at, sequence_at, start_at, outcome}
+use Rattle.pcl_escape.specs.inner.Scan.{named_at, text_at, parameter_at, ungrouped_at, prefix_at, sequence_at, start_at, outcome}
 use Rattle.pcl_escape.specs.Checks.{parameter_checks}
 use Rattle.pcl_escape.specs.Exit.{lines_from}
 use Rattle.pcl_escape.specs.Pieces.{IsReading}

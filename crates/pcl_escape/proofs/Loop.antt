@@ -3,7 +3,7 @@ use Rattle.std.proofs.Common.{◌≡◌, ℕ, suc, ◌+◌, ◌-◌, ◌<◌, �
 use Rattle.pcl_base.specs.declared.refusal.Refusal.{Refusal}
 use Rattle.pcl_escape.specs.declared.step.Prefix.{Prefix}
 use Rattle.pcl_escape.specs.Said.{Said}
-use Rattle.pcl_escape.specs.Scan.{Reads, step_at, commands_said, with_front, after, outcome}
+use Rattle.pcl_escape.specs.inner.Scan.{Reads, step_at, commands_said, with_front, after, outcome}
 use Rattle.pcl_escape.proofs.Steps.{parameter_shorter}
 use Rattle.pcl_escape.proofs.Starts.{start_step}
 use Rattle.pcl_escape.proofs.Runs.{with_fronts, start_shorter}

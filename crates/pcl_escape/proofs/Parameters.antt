@@ -15,7 +15,7 @@ use Rattle.pcl_escape.specs.Field.{Spelled, field_value, field_at, in_range}
 use Rattle.pcl_escape.specs.Checks.{operation_checks, parameter_checks, exit_name, is_exit}
 use Rattle.pcl_escape.specs.Exit.{lines_at}
 use Rattle.pcl_escape.specs.Said.{Said}
-use Rattle.pcl_escape.specs.Scan.{Reads, Gives, letter_at, checked_at, parameter_at, with_lines, ungrouped_at}
+use Rattle.pcl_escape.specs.inner.Scan.{Reads, Gives, letter_at, checked_at, parameter_at, with_lines, ungrouped_at}
 
 -- a fault that is returned is one that a step finds
 pub gives_fault : {given : Result Progress Refusal} {reads : Result Reads Refusal} {fault : Refusal} → given ≡ Err fault → reads ≡ Err fault

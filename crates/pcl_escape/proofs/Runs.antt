@@ -10,7 +10,7 @@ use Rattle.pcl_escape.specs.declared.command.Command.{Command}
 use Rattle.pcl_escape.specs.declared.step.Prefix.{Prefix}
 use Rattle.pcl_escape.specs.Letter.{goes_on, prefix_bytes}
 use Rattle.pcl_escape.specs.Said.{Said, views}
-use Rattle.pcl_escape.specs.Scan.{Reads, with_front, after, outcome, outcome_of, Yields}
+use Rattle.pcl_escape.specs.inner.Scan.{Reads, with_front, after, outcome, outcome_of, Yields}
 use Rattle.pcl_escape.specs.Pieces.{Parameter, Piece, combined, IsPrefix, IsPiece, ArePieces, IsMiddle, IsEnd, parameter_bytes, spelling, command_of, parameter_commands, first_place, commands_from, commands_of, IsReading}
 use Rattle.pcl_escape.specs.Faults.{Fails, IsFault, IsFaultOf, IsUngrouped, in_parameter, FailsParameter, place_behind}
 use Rattle.pcl_escape.proofs.Fields.{and_parts}

@@ -19,7 +19,7 @@ use Rattle.pcl_escape.specs.Field.{Spelled, is_digit, field_bytes, field_value, 
 use Rattle.pcl_escape.specs.Checks.{exit_name, is_exit, parameter_checks}
 use Rattle.pcl_escape.specs.Exit.{joined, IsLine, AreOtherLines, names_language, names_pcl, lines_at}
 use Rattle.pcl_escape.specs.Said.{Said}
-use Rattle.pcl_escape.specs.Scan.{Reads, refuse, named_by, named_at, text_at, leaves, skipped_by, with_lines, ungrouped_at, prefix_at, sequence_at, start_at, parameter_at, commands_said}
+use Rattle.pcl_escape.specs.inner.Scan.{Reads, refuse, named_by, named_at, text_at, leaves, skipped_by, with_lines, ungrouped_at, prefix_at, sequence_at, start_at, parameter_at, commands_said}
 use Rattle.pcl_escape.specs.Pieces.{Parameter, Piece, silent, control, text, two_character, exit, IsField, IsPrefix, IsNamed, IsNoText, IsRun, IsExit, IsPiece, parameter_bytes, spelling, bare_command, text_command, exit_command, commands_from}
 use Rattle.pcl_escape.specs.Faults.{Fails, unknown_control, lone_escape, no_sequence, unknown_two, no_group, bad_group, in_line, IsUngrouped, cut}
 use Rattle.pcl_escape.proofs.Fields.{and_parts}

@@ -9,7 +9,7 @@ use Rattle.pcl_escape.specs.declared.step.Prefix.{Prefix}
 use Rattle.pcl_escape.specs.Letter.{is_last, goes_on, may_go_on, is_letter, name_with_letter, parameter_name}
 use Rattle.pcl_escape.specs.Field.{Spelled, is_digit, field_bytes, field_value, field_at}
 use Rattle.pcl_escape.specs.Checks.{parameter_checks, is_exit}
-use Rattle.pcl_escape.specs.Scan.{Reads, letter_at, checked_at, parameter_at}
+use Rattle.pcl_escape.specs.inner.Scan.{Reads, letter_at, checked_at, parameter_at}
 use Rattle.pcl_escape.specs.Pieces.{Parameter, IsField, IsMiddle, IsEnd, PassesChecks, parameter_bytes, command_of}
 use Rattle.pcl_escape.specs.Faults.{FailsParameter, cut, no_letter, check, extends, is_bare}
 use Rattle.pcl_escape.proofs.Fields.{FieldStops, field_split, field_again, and_parts}

@@ -3,6 +3,6 @@ pub mod Letter
 pub mod Checks
 pub mod Exit
 pub mod Said
-pub mod Scan
 pub mod Pieces
 pub mod Faults
+pub mod inner

@@ -5,7 +5,7 @@ ghost use Rattle.pcl_base.specs.declared.refusal.Refusal.{Refusal};
 ghost use Rattle.pcl_escape.specs.Said.{Said, views};
 ghost use Rattle.pcl_escape.specs.Pieces.{IsReading};
 ghost use Rattle.pcl_escape.specs.Faults.{IsFault, IsFaultOf};
-ghost use Rattle.pcl_escape.specs.Scan.{Yields, outcome_of, commands_said, said_of};
+ghost use Rattle.pcl_escape.specs.inner.Scan.{Yields, outcome_of, commands_said, said_of};
 
 use crate::Command;
 use crate::step::read_step;

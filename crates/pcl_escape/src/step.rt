@@ -7,7 +7,7 @@ ghost use Rattle.pcl_base.specs.Operation.{operation_of};
 ghost use Rattle.pcl_base.specs.Refusal.{refusal};
 ghost use Rattle.pcl_escape.specs.Letter.{goes_on, is_text, is_letter, prefix_name, parameter_name};
 ghost use Rattle.pcl_escape.specs.Checks.{operation_checks, is_exit};
-ghost use Rattle.pcl_escape.specs.Scan.{Gives, step_view, step_at, start_at, sequence_at, prefix_at, ungrouped_at, parameter_at, named_at, text_at};
+ghost use Rattle.pcl_escape.specs.inner.Scan.{Gives, step_view, step_at, start_at, sequence_at, prefix_at, ungrouped_at, parameter_at, named_at, text_at};
 
 use crate::Command;
 use crate::exit::skip_lines;
@@ -57,7 +57,7 @@ pub fn read_step<'a>(
 }
 
 /// Reads what stands at the front of the bytes, outside sequences.
-#[tactic(auto, unfolding(crate::specs::Scan::start_at))]
+#[tactic(auto, unfolding(crate::specs::inner::Scan::start_at))]
 fn read_start<'a>(at: usize, bytes: &'a [u8]) -> Result<Progress<'a>, Refusal>
     requires { at + length bytes.now ≤ 18446744073709551615 }
     ensures { Gives result (start_at at bytes.now) }
@@ -75,7 +75,7 @@ fn read_start<'a>(at: usize, bytes: &'a [u8]) -> Result<Progress<'a>, Refusal>
 
 /// Reads the sequence whose ESC stands before the bytes, up to its first parameter. `at` is the place of
 /// ESC.
-#[tactic(auto, unfolding(crate::specs::Scan::sequence_at))]
+#[tactic(auto, unfolding(crate::specs::inner::Scan::sequence_at))]
 fn read_sequence<'a>(at: usize, bytes: &'a [u8]) -> Result<Progress<'a>, Refusal>
     requires { at + 1 + length bytes.now ≤ 18446744073709551615 }
     ensures { Gives result (sequence_at at bytes.now) }
@@ -91,7 +91,7 @@ fn read_sequence<'a>(at: usize, bytes: &'a [u8]) -> Result<Progress<'a>, Refusal
 }
 
 /// Reads the group character of a sequence, if it has one, and its first parameter.
-#[tactic(auto, unfolding(crate::specs::Scan::prefix_at))]
+#[tactic(auto, unfolding(crate::specs::inner::Scan::prefix_at))]
 fn read_prefix<'a>(at: usize, parameterized: u8, bytes: &'a [u8]) -> Result<Progress<'a>, Refusal>
     requires { at + 2 + length bytes.now ≤ 18446744073709551615 }
     ensures { Gives result (prefix_at at parameterized bytes.now) }
@@ -113,7 +113,7 @@ fn read_prefix<'a>(at: usize, parameterized: u8, bytes: &'a [u8]) -> Result<Prog
 }
 
 /// Reads the parameter of a sequence without a group character, and the lines behind a universal exit.
-#[tactic(auto, unfolding(crate::specs::Scan::ungrouped_at))]
+#[tactic(auto, unfolding(crate::specs::inner::Scan::ungrouped_at))]
 fn read_ungrouped<'a>(
     at: usize,
     parameterized: u8,
@@ -144,7 +144,7 @@ fn read_ungrouped<'a>(
 }
 
 /// A control code or a two-character sequence: a command whose name is one byte, without value or data.
-#[tactic(auto, unfolding(crate::specs::Scan::named_at))]
+#[tactic(auto, unfolding(crate::specs::inner::Scan::named_at))]
 fn read_named<'a>(at: usize, code: u8, rest: &'a [u8]) -> Result<Progress<'a>, Refusal>
     ensures { Gives result (named_at at code rest.now) }
 {
@@ -166,7 +166,7 @@ fn read_named<'a>(at: usize, code: u8, rest: &'a [u8]) -> Result<Progress<'a>, R
 }
 
 /// Reads the run of text at the front of the bytes, as long as it goes.
-#[tactic(auto, unfolding(crate::specs::Scan::text_at))]
+#[tactic(auto, unfolding(crate::specs::inner::Scan::text_at))]
 fn read_text<'a>(at: usize, bytes: &'a [u8]) -> Result<Progress<'a>, Refusal>
     ensures { Gives result (text_at at bytes.now) }
 {
@@ -200,7 +200,7 @@ fn text_len(bytes: &[u8]) -> usize
 /// Reads a parameter: its field, its letter, and its data.
 // Inlined, so that a step of each command isn't passed on through memory.
 #[inline(always)]
-#[tactic(auto, unfolding(crate::specs::Scan::parameter_at, crate::specs::Checks::parameter_checks))]
+#[tactic(auto, unfolding(crate::specs::inner::Scan::parameter_at, crate::specs::Checks::parameter_checks))]
 fn read_parameter<'a>(prefix: Prefix, at: usize, bytes: &'a [u8]) -> Result<Progress<'a>, Refusal>
     ensures { Gives result (parameter_at prefix at bytes.now) }
 {

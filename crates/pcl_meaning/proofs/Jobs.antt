@@ -29,7 +29,8 @@ use Rattle.pcl_page.specs.Jobs.{HasPages, performance_of}
 use Rattle.pcl_plan.specs.Tokens.{Token, opening, method, skip, send, commands_in, command_count, token_bytes, start_bytes, end_bytes, frame_bytes}
 use Rattle.pcl_plan.specs.PageText.{IsPageText, bitmap_rows}
 use Rattle.pcl_writer.specs.Appending.{IsWrittenPage}
-use Rattle.pcl_meaning.specs.Alike.{AreAlike, AllAlike, PrintSheets, most_commands}
+use Rattle.pcl_meaning.specs.Alike.{AreAlike, AllAlike, most_commands}
+use Rattle.pcl_meaning.specs.JobTexts.{PrintEach}
 use Rattle.pcl_meaning.specs.PageTexts.{dot_of_rows, job_of, MeansRows}
 use Rattle.pcl_meaning.proofs.Deeds.{Deed}
 use Rattle.pcl_meaning.proofs.Readings.{ReadsAs, reads_joined, reads_none, said_many}
@@ -210,7 +211,7 @@ at_resolution page {text} e w =
     × (command_count printed.tokens ≤ 3 * page_height page.size r)) e (w.0, w.1)
 
 pub texts_taken : {dpi : Dpi} (meant : List Sheet) {texts : List ℕ} {t : Settings} {pages : List Sheet} {n : ℕ}
-    → PrintSheets dpi meant texts → IsBetween t → length pages + length meant ≤ 256
+    → PrintEach IsWrittenPage dpi meant texts → IsBetween t → length pages + length meant ≤ 256
     → AreTextsTaken dpi meant texts (between t pages n) pages
 texts_taken [] {t} {pages} {n} p b few = record {
   deeds = [];
@@ -311,7 +312,8 @@ pub record IsAgain (dpi : Dpi) (pages : List Sheet) (job : List ℕ) : Type 0 wh
   pub alike : AllAlike dpi pages again
   pub few : length meaning.commands ≤ most_commands dpi pages
 
-pub written_again : {dpi : Dpi} {job : List ℕ} (texts : List ℕ) {pages : List Sheet} → HasPages dpi job pages → PrintSheets dpi pages texts
+pub written_again : {dpi : Dpi} {job : List ℕ} (texts : List ℕ) {pages : List Sheet} → HasPages dpi job pages
+    → PrintEach IsWrittenPage dpi pages texts
     → IsAgain dpi pages (frame_bytes ++ texts ++ frame_bytes)
 written_again {dpi} texts {pages} h p =
     let fits = job_fits h in

@@ -11,7 +11,7 @@ use Rattle.pcl_page.specs.Situation.{Sheet}
 use Rattle.pcl_page.specs.Performing.{Shows}
 use Rattle.pcl_plan.specs.Tokens.{frame_bytes}
 use Rattle.pcl_plan.specs.PageText.{IsPageText, PrintsPage, bitmap_rows}
-use Rattle.pcl_meaning.specs.JobTexts.{PrintInOrder, PrintLeast, IsLeastJobText}
+use Rattle.pcl_meaning.specs.JobTexts.{PrintEach, PrintsShortest, IsLeastJobText}
 
 -- two pages with the same contents, whatever the proofs that they keep
 pub record AreSame (page other : Page) : Type 0 where
@@ -58,18 +58,18 @@ prints_same {text} same printed = moved (λ size dpi copies bitmap. IsPageText d
 
 -- ---- texts in order
 
-pub least_together : (dpi : Dpi) (sheets : List Sheet) (texts others : List ℕ) → PrintLeast dpi sheets texts
-    → PrintInOrder dpi sheets others
+pub least_together : (dpi : Dpi) (sheets : List Sheet) (texts others : List ℕ) → PrintEach PrintsShortest dpi sheets texts
+    → PrintEach PrintsPage dpi sheets others
     → length texts ≤ length others
 least_together dpi [] texts others l p = let none : length texts ≡ 0 = ap length l in omega arith
 least_together dpi (sheet ∷ sheets) texts others l p =
-    let rest = least_together dpi sheets l.2 p.2 l.7 p.6 in
+    let rest = least_together dpi sheets l.2 p.2 l.6 p.6 in
     let first : length l.1 ≤ length p.1 =
-    l.5 p.1 (prints_same (pages_same p.3 l.3) p.4) in
-    let texts_are = ap length l.6 ∙ length-append l.1 l.2 in
+    l.4.1 p.1 (prints_same (pages_same p.3 l.3) p.4) in
+    let texts_are = ap length l.5 ∙ length-append l.1 l.2 in
     let others_are = ap length p.5 ∙ length-append p.1 p.2 in omega (arith, texts_are, others_are, rest, first)
 
-pub least_job : {dpi : Dpi} {sheets : List Sheet} (texts : List ℕ) {job : List ℕ} → PrintLeast dpi sheets texts
+pub least_job : {dpi : Dpi} {sheets : List Sheet} (texts : List ℕ) {job : List ℕ} → PrintEach PrintsShortest dpi sheets texts
     → job ≡ frame_bytes ++ texts ++ frame_bytes → IsLeastJobText dpi sheets job
 least_job {dpi} {sheets} texts l e = record {
   texts = texts;

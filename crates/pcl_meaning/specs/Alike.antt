@@ -1,12 +1,9 @@
--- Pages that are the same, and texts that print them.
-use Rattle.std.specs.Prelude.{◌≡◌, ℕ, ◌+◌, ◌*◌, ◌<◌, List, [], ◌∷◌, ◌++◌}
+-- Pages that are the same.
+use Rattle.std.specs.Prelude.{◌≡◌, ℕ, ◌+◌, ◌*◌, ◌<◌, List, [], ◌∷◌}
 use Rattle.pcl_base.specs.declared.dpi.Dpi.{Dpi}
 use Rattle.pcl_base.specs.Size.{page_width, page_height}
-use Rattle.pcl_page.specs.declared.page.Page.{Page}
 use Rattle.pcl_page.specs.Marks.{is_black}
 use Rattle.pcl_page.specs.Situation.{Sheet}
-use Rattle.pcl_page.specs.Performing.{Shows}
-use Rattle.pcl_writer.specs.Appending.{IsWrittenPage}
 
 -- two sheets of one size and with as many copies, of the same dots
 pub record AreAlike (dpi : Dpi) (one other : Sheet) : Type 0 where
@@ -20,13 +17,6 @@ AllAlike dpi [] [] = Unit {0}
 AllAlike dpi [] (other ∷ others) = ⊥
 AllAlike dpi (sheet ∷ sheets) [] = ⊥
 AllAlike dpi (sheet ∷ sheets) (other ∷ others) = AreAlike dpi sheet other × AllAlike dpi sheets others
-
--- page texts, one for each sheet in order, each printing a page that shows it dot for dot
-abbrev pub PrintSheets : Dpi → List Sheet → List ℕ → Type 0
-PrintSheets dpi [] texts = texts ≡ []
-PrintSheets dpi (sheet ∷ sheets) texts =
-    (page : Page) × (text rest : List ℕ) × Shows dpi page sheet × IsWrittenPage page text × (texts ≡ text ++ rest)
-    × PrintSheets dpi sheets rest
 
 -- the most commands of a job that is written of these sheets: three for each row and ten around each page's rows, and two resets
 abbrev pub most_commands : Dpi → List Sheet → ℕ

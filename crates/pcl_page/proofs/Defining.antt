@@ -18,7 +18,7 @@ use Rattle.pcl_page.specs.declared.macros.Keeping.{Keeping}
 use Rattle.pcl_page.specs.declared.macros.Keeping.TheVariants.{Kept, Ends}
 use Rattle.pcl_page.specs.Situation.{Situation}
 use Rattle.pcl_page.specs.Macros.{Run, action_of, control_keeping, keeping_of, counting, defining, after_command, run_by, run_from, run_of}
-use Rattle.pcl_page.specs.Unfolding.{IsAt, IsStepped}
+use Rattle.pcl_page.specs.inner.Unfolding.{IsAt, IsStepped}
 
 command_inside : (dpi : Dpi) (place : ℕ) (command : Said) (s : Situation) {keeping : Keeping} → is_some s.begun ≡ true
     → keeping_of (operation_of command.name) command.value ≡ keeping

@@ -32,8 +32,8 @@ use Rattle.pcl_page.specs.declared.macros.Action.TheVariants.{Begin, End, Execut
 use Rattle.pcl_page.specs.Situation.{Sheet, Situation, is_marked, turned, done_with, taken, counted, prepared, is_ignored, after, command_refusal, at_end, page_refusal}
 use Rattle.pcl_page.specs.Macros.{Run, definition_ended, acted, managed, and_then, after_at, if_not_refused, counting, run_by, run_from, run_with, macro_now}
 use Rattle.pcl_page.specs.Performing.{Hands, end_refusal}
-use Rattle.pcl_page.specs.Reflecting.{IsIn, HandsMore, IsTried, EndDone}
-use Rattle.pcl_page.specs.Unfolding.{IsAt, Enters, IsStepped, IsActed, IsEntered, InterpreterEnds}
+use Rattle.pcl_page.specs.inner.Reflecting.{IsIn, HandsMore, IsTried, EndDone}
+use Rattle.pcl_page.specs.inner.Unfolding.{IsAt, Enters, IsStepped, IsActed, IsEntered, InterpreterEnds}
 use Rattle.pcl_page.proofs.Keeping.{after_adds}
 use Rattle.pcl_page.proofs.Steps.{prepared_pages, stays_pages, no_more}
 use Rattle.pcl_page.proofs.Unfolded.{managed_acts}

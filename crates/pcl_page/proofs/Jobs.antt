@@ -18,7 +18,7 @@ use Rattle.pcl_page.specs.declared.interpreter.Running.{Running}
 use Rattle.pcl_page.specs.Situation.{Sheet, Situation, at_end}
 use Rattle.pcl_page.specs.Jobs.{AllShow, HasPages, IsPerformed, Delivers, performance_of}
 use Rattle.pcl_page.specs.Performing.{Shows, IsSamePage, Hands, Performance, done, unless, then_on, step, runs, after_all, end_refusal, ended, after_end, pages_of, HandsOver}
-use Rattle.pcl_page.specs.Unfolding.{IsAt, resumed, begun_among, GoesOn, InterpreterEnds}
+use Rattle.pcl_page.specs.inner.Unfolding.{IsAt, resumed, begun_among, GoesOn, InterpreterEnds}
 use Rattle.pcl_page.proofs.Keeping.{end_adds}
 use Rattle.pcl_page.proofs.Sinks.{stays_there, hands_append, hands_further, goes_from, goes_to}
 use Rattle.pcl_page.proofs.Unfolded.{Grows, then_done, then_assoc, then_grows, all_grow}

@@ -16,7 +16,7 @@ use Rattle.pcl_page.specs.declared.performer.Performer.{Performer}
 use Rattle.pcl_page.specs.Text.{prints, character_mark, is_blank, is_proportional, text_refusal, behind_character, behind_blank}
 use Rattle.pcl_page.specs.Raster.{Raster, row_sent, with_row, row_mark}
 use Rattle.pcl_page.specs.Situation.{Situation, with_event, with_row_in, raster_for_row, rectangle_mark, code_printed, codes_printed}
-use Rattle.pcl_page.specs.Reflecting.{IsIn, IsDrawn, IsSent, HasEvent, HasSettings}
+use Rattle.pcl_page.specs.inner.Reflecting.{IsIn, IsDrawn, IsSent, HasEvent, HasSettings}
 use Rattle.pcl_page.proofs.Turns.{painted_same, holds_same, drawn_in}
 
 pub event_in : {dpi : Dpi} {event : FontEvent} {s : Situation} {old new : Performer} → IsIn dpi s old → HasEvent event old new

@@ -23,8 +23,8 @@ use Rattle.pcl_page.specs.declared.interpreter.Running.{Running}
 use Rattle.pcl_page.specs.Situation.{Situation}
 use Rattle.pcl_page.specs.Macros.{Run, after_command, run_from, run_of, left}
 use Rattle.pcl_page.specs.Performing.{Performance, done, stopped, then_on, in_order, step, commands_left, runs}
-use Rattle.pcl_page.specs.Reflecting.{IsIn, HandsMore}
-use Rattle.pcl_page.specs.Unfolding.{IsAt, run_in, entered, Enters, rest_of, resumed, begun_among, left_in, work_left, GoesOn, IsStepped}
+use Rattle.pcl_page.specs.inner.Reflecting.{IsIn, HandsMore}
+use Rattle.pcl_page.specs.inner.Unfolding.{IsAt, run_in, entered, Enters, rest_of, resumed, begun_among, left_in, work_left, GoesOn, IsStepped}
 use Rattle.pcl_page.proofs.Sinks.{no_pages, first_of_more, none_of_more, goes_from, goes_to}
 use Rattle.pcl_page.proofs.Unfolded.{then_assoc, then_same, pushed, begun_refused, begun_deep, begun_entered, command_counts, begun_grow, begun_after}
 

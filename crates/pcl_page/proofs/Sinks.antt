@@ -8,8 +8,8 @@ use Rattle.pcl_page.specs.declared.page.Page.{Page}
 use Rattle.pcl_page.specs.declared.interpreter.Interpreter.{Interpreter}
 use Rattle.pcl_page.specs.Situation.{Sheet, Situation}
 use Rattle.pcl_page.specs.Performing.{Hands, Performance}
-use Rattle.pcl_page.specs.Reflecting.{HandsMore}
-use Rattle.pcl_page.specs.Unfolding.{HandsFirst, GoesOn}
+use Rattle.pcl_page.specs.inner.Reflecting.{HandsMore}
+use Rattle.pcl_page.specs.inner.Unfolding.{HandsFirst, GoesOn}
 
 pub hands_append : {S : Type 0} (takes : S → Page → S → Type 0) (dpi : Dpi) (front back : List Sheet) (old middle new : S)
     → Hands takes dpi front old middle → Hands takes dpi back middle new → Hands takes dpi (front ++ back) old new

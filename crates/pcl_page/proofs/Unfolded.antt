@@ -23,7 +23,7 @@ use Rattle.pcl_page.specs.declared.macros.Keeping.TheVariants.{Kept, Ends, Refus
 use Rattle.pcl_page.specs.Situation.{Situation, after, operation_refusal, command_refusal}
 use Rattle.pcl_page.specs.Macros.{Run, action_of, keeping_of, definition_ended, acted, managed, and_then, after_at, if_not_refused, counting, defining, after_command, run_of, left}
 use Rattle.pcl_page.specs.Performing.{Performance, done, stopped, unless, then_on, in_order, concluded, and_run, step, commands_left, runs}
-use Rattle.pcl_page.specs.Unfolding.{run_in, entered, HasLevel, rest_of, resumed, begun_among}
+use Rattle.pcl_page.specs.inner.Unfolding.{run_in, entered, HasLevel, rest_of, resumed, begun_among}
 use Rattle.pcl_page.proofs.Keeping.{after_adds}
 use Rattle.pcl_page.proofs.Sinks.{Onward, stays_there, onward_on}
 

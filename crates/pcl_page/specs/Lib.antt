@@ -4,6 +4,5 @@ pub mod Raster
 pub mod Situation
 pub mod Macros
 pub mod Performing
-pub mod Reflecting
-pub mod Unfolding
 pub mod Jobs
+pub mod inner

@@ -13,7 +13,7 @@ impl<'a> Performer<'a> {
     ghost use Rattle.pcl_fonts.specs.History.{control, font_after};
     ghost use Rattle.pcl_page.specs.Text.{select_by_id, header_refusal, character_refusal};
     ghost use Rattle.pcl_page.specs.Situation.{Situation, with_font, with_character, fonts_controlled, without_temporary};
-    ghost use Rattle.pcl_page.specs.Reflecting.{IsIn, HasEvent, HasSettings, Draws};
+    ghost use Rattle.pcl_page.specs.inner.Reflecting.{IsIn, HasEvent, HasSettings, Draws};
 
     /// Takes the header of a font for the ID that is meant. Without data nothing happens.
     pub fn download_font(&mut self, bytes: &'a [u8]) -> Result<(), CallFault>

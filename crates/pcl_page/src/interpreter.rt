@@ -45,8 +45,8 @@ impl<'a> Interpreter<'a> {
     ghost use Rattle.pcl_page.specs.Performing.{HandsOver, performance};
     ghost use Rattle.pcl_page.specs.Situation.{Situation, at_begin};
     ghost use Rattle.pcl_page.specs.Macros.{action_of, keeping_of, acted, managed, counting, after_command, run_by, run_from, run_of, run_with, left};
-    ghost use Rattle.pcl_page.specs.Reflecting.{EndDone};
-    ghost use Rattle.pcl_page.specs.Unfolding.{IsAt, IsSomewhere, resumed, begun_among, work_left, GoesOn, IsStepped, IsActed, IsEntered, InterpreterEnds};
+    ghost use Rattle.pcl_page.specs.inner.Reflecting.{EndDone};
+    ghost use Rattle.pcl_page.specs.inner.Unfolding.{IsAt, IsSomewhere, resumed, begun_among, work_left, GoesOn, IsStepped, IsActed, IsEntered, InterpreterEnds};
 
     /// The begin of a job.
     pub fn new(alloc: Global, dpi: Dpi) -> Result<Interpreter<'a>, AllocError>

@@ -19,7 +19,7 @@ impl<'a> Performer<'a> {
     ghost use Rattle.pcl_fonts.specs.Table.{character_in, info_of};
     ghost use Rattle.pcl_page.specs.Text.{prints, character_mark, text_refusal, is_proportional, behind_character, behind_blank};
     ghost use Rattle.pcl_page.specs.Situation.{Situation, font_now, text_printed, code_printed, codes_printed};
-    ghost use Rattle.pcl_page.specs.Reflecting.{IsIn, IsDrawn, HasSettings, Draws};
+    ghost use Rattle.pcl_page.specs.inner.Reflecting.{IsIn, IsDrawn, HasSettings, Draws};
 
     /// Prints the codes in the font that is selected and in use. Without one a code above that of a space is refused.
     pub fn print_text(&mut self, codes: &[u8], dpi: Dpi) -> Result<(), CallFault>

@@ -16,7 +16,7 @@ use Rattle.pcl_plan.specs.Spelling.{least_spelling}
 use Rattle.pcl_plan.specs.Table.{node_number}
 use Rattle.pcl_plan.specs.Filling.{outside, inside, rest}
 use Rattle.pcl_plan.specs.Plans.{IsTokenOf, stays_inside, opened, is_last, Spells}
-use Rattle.pcl_plan.specs.Reading.{IsBestStep, IsPlaceBehind, AreLeastSteps}
+use Rattle.pcl_plan.specs.inner.Reading.{IsBestStep, IsPlaceBehind, AreLeastSteps}
 use Rattle.pcl_plan.proofs.Walking.{node}
 use Rattle.pcl_plan.proofs.RightRows.{cost_opening, cost_method, cost_skip, cost_send, cost_some, method_small}
 use Rattle.pcl_plan.proofs.InkedRows.{spelled_cost, length_small}

@@ -5,9 +5,8 @@ pub mod LeastTexts
 pub mod Spelling
 pub mod Table
 pub mod TableModel
-pub mod Rows
 pub mod Filling
 pub mod Plans
-pub mod Reading
 pub mod PlanModel
 pub mod PagePlans
+pub mod inner

@@ -5,7 +5,7 @@ ghost use Rattle.pcl_base.specs.declared.method.Method.{Method as RowMethod};
 ghost use Rattle.pcl_coders.specs.Coding.{IsLeastLength};
 ghost use Rattle.pcl_plan.specs.Nodes.{row_at, row_above};
 ghost use Rattle.pcl_plan.specs.Table.{by_method, node_number};
-ghost use Rattle.pcl_plan.specs.Rows.{rows_of};
+ghost use Rattle.pcl_plan.specs.inner.Rows.{rows_of};
 ghost use Rattle.pcl_plan.specs.Filling.{skipping, IsWhiteRun, IsLeastSkip, IsReadable, IsLeastStart, AreRowNumbers, AreRightFrom};
 
 use crate::by_method::ByMethod;

@@ -1,7 +1,7 @@
 //! The least plan of a page.
 
 ghost use Rattle.std.specs.Prelude.{IfOk};
-ghost use Rattle.pcl_plan.specs.Rows.{rows_of};
+ghost use Rattle.pcl_plan.specs.inner.Rows.{rows_of};
 ghost use Rattle.pcl_plan.specs.Plans.{IsPlan};
 ghost use Rattle.pcl_plan.specs.PagePlans.{IsPlanOf};
 

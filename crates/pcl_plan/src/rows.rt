@@ -18,7 +18,7 @@ pub struct Rows<'a> {
 }
 
 impl<'a> Rows<'a> {
-    ghost use Rattle.pcl_plan.specs.Rows.{rows_of};
+    ghost use Rattle.pcl_plan.specs.inner.Rows.{rows_of};
     ghost use Rattle.pcl_plan.specs.Filling.{IsWhiteRun};
 
     /// Row `y`, the topmost row 0.

@@ -5,9 +5,9 @@ ghost use Rattle.pcl_base.specs.declared.method.Method.{Method as RowMethod};
 ghost use Rattle.pcl_coders.specs.Coding.{IsLeastLength};
 ghost use Rattle.pcl_plan.specs.Nodes.{row_at, row_above};
 ghost use Rattle.pcl_plan.specs.Table.{node_number};
-ghost use Rattle.pcl_plan.specs.Rows.{rows_of};
+ghost use Rattle.pcl_plan.specs.inner.Rows.{rows_of};
 ghost use Rattle.pcl_plan.specs.Filling.{outside, rest, switching, skipping, IsReadable, AreRightFrom};
-ghost use Rattle.pcl_plan.specs.Reading.{AreLeastSteps, IsBestStep};
+ghost use Rattle.pcl_plan.specs.inner.Reading.{AreLeastSteps, IsBestStep};
 
 use crate::costs::{digits, sending_cost};
 use crate::fill::least_skip;
@@ -27,7 +27,7 @@ pub struct Place {
 }
 
 impl Place {
-    ghost use Rattle.pcl_plan.specs.Reading.{IsPlaceBehind, row_behind};
+    ghost use Rattle.pcl_plan.specs.inner.Reading.{IsPlaceBehind, row_behind};
 
     /// The place behind a step. A sequence goes on behind rows that are skipped and a switch, unless the rest
     /// is white.

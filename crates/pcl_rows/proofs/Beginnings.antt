@@ -4,7 +4,7 @@ use Rattle.std.proofs.lemmas.List.{append-nil, take_all, take-append-drop, lengt
 use Rattle.std.specs.Prelude.{MatchBool}
 use Rattle.std.proofs.lemmas.Bool.{cases_lt, eqb-true, eqb-false}
 use Rattle.pcl_rows.specs.Heads.{Head, Itself, Count, Literal, Skipped, Repeat, Near, Far, head_bytes, new_count}
-use Rattle.pcl_rows.specs.Fronts.{Begins, IsWholeFront, IsCutFront}
+use Rattle.pcl_rows.specs.inner.Fronts.{Begins, IsWholeFront, IsCutFront}
 
 pub Begins-one : (bytes : List ℕ) (byte : ℕ) → 0 < length bytes → byte ≡ get_or bytes 0 0 → Begins bytes (byte ∷ [])
 Begins-one [] byte h e = absurd (omega arith)

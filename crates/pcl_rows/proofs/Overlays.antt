@@ -4,7 +4,7 @@ use Rattle.std.proofs.lemmas.Bool.{cases_lt}
 use Rattle.std.proofs.lemmas.List.{append-nil, take-append-le, take_at, drop_at, drop-drop, take_all, drop_all, take-append-drop, length-append, length-take, length-drop, take-take, length-replicate, replicate-append-replicate}
 use Rattle.std.specs.List.{flat_map}
 use Rattle.pcl_base.proofs.Lists.{once_each, flat_more}
-use Rattle.pcl_rows.specs.Fronts.{overlaid}
+use Rattle.pcl_rows.specs.inner.Fronts.{overlaid}
 
 -- where the new bytes fit
 pub overlaid_within : (old : List ℕ) (place : ℕ) (new : List ℕ) → place + length new ≤ length old

@@ -5,7 +5,7 @@ use Rattle.std.proofs.lemmas.List.{drop_more, length-drop, length-replicate, get
 use Rattle.pcl_base.specs.declared.method.Method.TheVariants.{Runs}
 use Rattle.pcl_rows.specs.Heads.{Count}
 use Rattle.pcl_rows.specs.Rows.{RowFrom}
-use Rattle.pcl_rows.specs.Fronts.{IsFront, overlaid}
+use Rattle.pcl_rows.specs.inner.Fronts.{IsFront, overlaid}
 use Rattle.pcl_rows.proofs.Overlays.{overlaid-nil}
 use Rattle.pcl_rows.proofs.Readings.{IsTreatedTo, treated_more, treated_all}
 

@@ -11,7 +11,7 @@ use Rattle.pcl_base.specs.declared.method.Method.TheVariants.{Plain, Runs, Packe
 use Rattle.pcl_rows.specs.Heads.{Head, Itself, Count, Skipped, Near, head_bytes, copies_of, offset_of}
 use Rattle.pcl_rows.specs.Elements.{Element, IsHead, IsElement, AreElements, element_bytes, given_by, stop, reach}
 use Rattle.pcl_rows.specs.Rows.{after_element, base, IsCutIntoElements, treated, RowFrom, Decodes, IsWhole}
-use Rattle.pcl_rows.specs.Fronts.{IsWholeFront, IsCutFront, IsFront, overlaid}
+use Rattle.pcl_rows.specs.inner.Fronts.{IsWholeFront, IsCutFront, IsFront, overlaid}
 use Rattle.pcl_rows.proofs.Overlays.{drop-overlaid, take-overlaid}
 use Rattle.pcl_rows.proofs.Spellings.{same_elements, spelling_has_byte, cut_is_not_whole}
 

@@ -2,4 +2,4 @@ pub mod Heads
 pub mod Elements
 pub mod Rows
 pub mod Decoding
-pub mod Fronts
+pub mod inner

@@ -2,7 +2,7 @@
 
 ghost use Rattle.std.specs.Prelude.{◌≡◌, ◌+◌, ◌≤◌, length, min, replicate, flat_map};
 ghost use Rattle.pcl_rows.specs.Rows.{RowFrom, Decodes};
-ghost use Rattle.pcl_rows.specs.Fronts.{overlaid};
+ghost use Rattle.pcl_rows.specs.inner.Fronts.{overlaid};
 ghost use Rattle.pcl_base.specs.declared.method.Method.TheVariants as methods;
 
 use crate::front::Front;

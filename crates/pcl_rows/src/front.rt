@@ -1,7 +1,7 @@
 //! The element at the front of row data.
 
 ghost use Rattle.std.specs.Prelude.{◌^◌, ◌<◌, ◌≤◌, length};
-ghost use Rattle.pcl_rows.specs.Fronts.{IsFront};
+ghost use Rattle.pcl_rows.specs.inner.Fronts.{IsFront};
 
 use crate::head::Opening;
 use pcl_base::Method;

@@ -1,7 +1,7 @@
 //! How an element of row data begins.
 
 ghost use Rattle.std.specs.Prelude.{◌+◌, ◌*◌, ◌^◌, ◌<◌, ◌≤◌, length};
-ghost use Rattle.pcl_rows.specs.Fronts.{IsFurther, Opens};
+ghost use Rattle.pcl_rows.specs.inner.Fronts.{IsFurther, Opens};
 ghost use Rattle.pcl_base.specs.declared.method.Method.TheVariants as methods;
 
 use pcl_base::Method;

@@ -13,8 +13,8 @@ use Rattle.pcl_tool.specs.declared.job_verdict.JobVerdict.TheVariants as job
 use Rattle.pcl_tool.specs.declared.page_checks.Checker.{Checker}
 use Rattle.pcl_tool.specs.Certified.{AreProved}
 use Rattle.pcl_tool.specs.JobVerdicts.{IsFirstFailure, text_bytes}
-use Rattle.pcl_tool.specs.PageChecks.{IsFound}
-use Rattle.pcl_tool.specs.CheckerSteps.{FindsNext, TakesNext, TakesPage, proofs_left, answer}
+use Rattle.pcl_tool.specs.inner.PageChecks.{IsFound}
+use Rattle.pcl_tool.specs.inner.CheckerSteps.{FindsNext, TakesNext, TakesPage, proofs_left, answer}
 
 abbrev pub takes : Checker → Page → Checker → Type 0
 takes = TakesPage

@@ -15,7 +15,7 @@ use Rattle.pcl_tool.specs.declared.fault.Fault.{Fault}
 use Rattle.pcl_tool.specs.declared.fault.Fault.TheVariants.{Refused, Memory, ReadFault, TooLong, WriteFault, NoSuchPage}
 use Rattle.pcl_tool.specs.Image.{image_of, IsImageWritten}
 use Rattle.pcl_tool.specs.Preview.{IsImageOf, HasNoPage, IsPreview}
-use Rattle.pcl_tool.specs.Choice.{chosen_after}
+use Rattle.pcl_tool.specs.inner.Choice.{chosen_after}
 
 abbrev pub takes : Chosen → Page → Chosen → Type 0
 takes old page new = new ≡ chosen_after old.skip old page.bitmap

@@ -13,7 +13,7 @@ use Rattle.pcl_tool.specs.declared.job_verdict.JobVerdict.{JobVerdict}
 use Rattle.pcl_tool.specs.declared.job_verdict.JobVerdict.TheVariants as job
 use Rattle.pcl_tool.specs.declared.page_checks.Checker.{Checker}
 use Rattle.pcl_tool.specs.JobVerdicts.{AreCompared, IsFramed, IsFirstFailure, IsJobVerdict}
-use Rattle.pcl_tool.specs.CheckerSteps.{BeginsWith, IsBegun, proofs_left, answer}
+use Rattle.pcl_tool.specs.inner.CheckerSteps.{BeginsWith, IsBegun, proofs_left, answer}
 use Rattle.pcl_tool.proofs.Checkers.{takes, stays, miscounted, IsOutcome, outcome}
 
 same_or : (a b : ℕ) → (a ≡ b) ⊎ (a ≡ b → ⊥)

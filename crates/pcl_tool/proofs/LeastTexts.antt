@@ -4,8 +4,8 @@ use Rattle.pcl_base.specs.declared.dpi.Dpi.{Dpi}
 use Rattle.pcl_page.specs.Situation.{Sheet}
 use Rattle.pcl_cert.specs.declared.page_proof.PageProof.{PageProof}
 use Rattle.pcl_cert.proofs.ProvedLeast.{proved_least}
-use Rattle.pcl_meaning.specs.Alike.{PrintSheets}
-use Rattle.pcl_meaning.specs.JobTexts.{PrintLeast, IsLeastJobText}
+use Rattle.pcl_writer.specs.Appending.{IsWrittenPage}
+use Rattle.pcl_meaning.specs.JobTexts.{PrintEach, PrintsShortest, IsLeastJobText}
 use Rattle.pcl_meaning.proofs.SamePages.{least_job}
 use Rattle.pcl_tool.specs.declared.job_verdict.JobVerdict.TheVariants as job
 use Rattle.pcl_tool.specs.Certified.{AreProved}
@@ -13,13 +13,14 @@ use Rattle.pcl_tool.specs.JobVerdicts.{IsJobVerdict}
 use Rattle.pcl_tool.specs.Minimizing.{IsJobOf}
 use Rattle.pcl_tool.specs.LeastJobs.{IsLeastJobOf}
 
-written_texts : (dpi : Dpi) (sheets : List Sheet) (texts : List ℕ) → PrintSheets dpi sheets texts → PrintLeast dpi sheets texts
+written_texts : (dpi : Dpi) (sheets : List Sheet) (texts : List ℕ) → PrintEach IsWrittenPage dpi sheets texts
+    → PrintEach PrintsShortest dpi sheets texts
 written_texts dpi [] texts p = p
 written_texts dpi (sheet ∷ sheets) texts p =
-    (p.0, p.1, p.2, p.3, p.4.0, λ other printed. p.4.2.shortest other printed, p.5, written_texts dpi sheets p.2 p.6)
+    (p.0, p.1, p.2, p.3, (p.4.0, λ other printed. p.4.2.shortest other printed), p.5, written_texts dpi sheets p.2 p.6)
 
 proved_texts : (dpi : Dpi) (sheets : List Sheet) (texts : List ℕ) (proofs : List PageProof) → AreProved dpi sheets texts proofs
-    → PrintLeast dpi sheets texts
+    → PrintEach PrintsShortest dpi sheets texts
 proved_texts dpi [] texts [] p = p
 proved_texts dpi [] texts (proof ∷ proofs) p = absurd p
 proved_texts dpi (sheet ∷ sheets) texts [] p = absurd p
@@ -28,8 +29,7 @@ proved_texts dpi (sheet ∷ sheets) texts (proof ∷ proofs) p = (
   p.1,
   p.2,
   p.3,
-  p.6.0,
-  λ other printed. proved_least p.0 p.1 other proof.table proof.places p.6 printed,
+  (p.6.0, λ other printed. proved_least p.0 p.1 other proof.table proof.places p.6 printed),
   p.4,
   proved_texts dpi sheets p.2 proofs p.7,
 )

@@ -3,7 +3,7 @@ use Rattle.std.proofs.Common.{◌≡◌, ℕ, zero, suc, ◌<◌, ◌≤◌, Lis
 use Rattle.pcl_cert.specs.declared.page_proof.PageProof.{PageProof}
 use Rattle.pcl_tool.specs.declared.job_verdict.JobVerdict.{JobVerdict}
 use Rattle.pcl_tool.specs.declared.job_verdict.JobVerdict.TheVariants as job
-use Rattle.pcl_tool.specs.CheckerSteps.{answer}
+use Rattle.pcl_tool.specs.inner.CheckerSteps.{answer}
 
 pub answer_more : (k : ℕ) (proofs : List PageProof) (found : JobVerdict) → k < length proofs → answer (drop k proofs) found ≡ job.PageCount
 answer_more zero [] found lt = absurd (omega arith)

@@ -19,10 +19,10 @@ use Rattle.pcl_cert.specs.Certificates.{AreProofs, IsProof, certificate_bytes, p
 use Rattle.pcl_cert.specs.Checking.{HasLeastLists, AreLeastOf, IsVerdict}
 use Rattle.pcl_cert.specs.declared.check.Verdict.TheVariants.{Proved}
 use Rattle.pcl_cert.proofs.PlansProved.{plan_proved, plan_certified}
-use Rattle.pcl_meaning.specs.Alike.{PrintSheets}
+use Rattle.pcl_meaning.specs.JobTexts.{PrintEach}
 use Rattle.pcl_meaning.proofs.Jobs.{job_fits}
 use Rattle.pcl_tool.specs.Certified.{AreProved}
-use Rattle.pcl_tool.specs.Certifying.{SoFar, Proves, TakesProved}
+use Rattle.pcl_tool.specs.inner.Certifying.{SoFar, Proves, TakesProved}
 use Rattle.pcl_tool.specs.Minimizing.{IsCertifiedJobOf}
 use Rattle.pcl_tool.proofs.Texts.{job_of_texts}
 
@@ -57,7 +57,7 @@ plan_proves format page text plan proof planned written has long same =
 pub record Gathered (dpi : Dpi) (sheets : List Sheet) (old new : SoFar) : Type 0 where
   pub texts : List ℕ
   pub bytes : new.bytes ≡ old.bytes ++ texts
-  pub print : PrintSheets dpi sheets texts
+  pub print : PrintEach IsWrittenPage dpi sheets texts
   pub proofs : List PageProof
   pub behind : new.proofs ≡ old.proofs ++ proofs
   pub count : length proofs ≡ length sheets

@@ -9,16 +9,16 @@ use Rattle.pcl_page.specs.Situation.{Sheet}
 use Rattle.pcl_page.specs.Performing.{Hands}
 use Rattle.pcl_page.specs.Jobs.{HasPages}
 use Rattle.pcl_plan.specs.Tokens.{frame_bytes}
-use Rattle.pcl_writer.specs.Appending.{AppendsPage}
-use Rattle.pcl_meaning.specs.Alike.{PrintSheets}
+use Rattle.pcl_writer.specs.Appending.{AppendsPage, IsWrittenPage}
+use Rattle.pcl_meaning.specs.JobTexts.{PrintEach}
 use Rattle.pcl_meaning.proofs.Jobs.{IsAgain, written_again}
 use Rattle.pcl_tool.specs.JobFaults.{fault_of}
-use Rattle.pcl_tool.specs.Watching.{HasTaken}
+use Rattle.pcl_tool.specs.inner.Watching.{HasTaken}
 use Rattle.pcl_tool.specs.Minimizing.{IsJobOf, IsJobWritten}
 
 pub texts_gathered : (dpi : Dpi) (sheets : List Sheet) (old : List ℕ) {new : List ℕ}
     → Hands (λ (o : List ℕ) (page : Page) (n : List ℕ). AppendsPage page o n) dpi sheets old new
-    → (texts : List ℕ) × PrintSheets dpi sheets texts × (new ≡ old ++ texts)
+    → (texts : List ℕ) × PrintEach IsWrittenPage dpi sheets texts × (new ≡ old ++ texts)
 texts_gathered dpi [] old h = ([], refl, h ∙ sym (append-nil old))
 texts_gathered dpi (sheet ∷ sheets) old h =
     let rest = texts_gathered dpi sheets h.1 h.4 in
@@ -31,7 +31,7 @@ texts_gathered dpi (sheet ∷ sheets) old h =
 -- page texts of the job's pages between two resets
 unfoldable pub job_of_texts : (dpi : Dpi) (job start body output texts : List ℕ) (pages : List Sheet) → HasPages dpi job pages
     → start ≡ frame_bytes
-    → PrintSheets dpi pages texts → body ≡ start ++ texts → output ≡ body ++ frame_bytes → IsJobOf dpi job output
+    → PrintEach IsWrittenPage dpi pages texts → body ≡ start ++ texts → output ≡ body ++ frame_bytes → IsJobOf dpi job output
 job_of_texts dpi job start body output texts pages meaning opened print joined closed =
     let spelled : output ≡ frame_bytes ++ texts ++ frame_bytes =
     closed ∙ ap (λ (b : List ℕ). b ++ frame_bytes) (joined ∙ ap (λ (s : List ℕ). s ++ texts) opened)

@@ -1,14 +1,10 @@
 pub mod JobFaults
 pub mod Transfer
 pub mod Image
-pub mod Choice
 pub mod Preview
 pub mod Certified
-pub mod Certifying
 pub mod Minimizing
 pub mod JobVerdicts
-pub mod PageChecks
-pub mod CheckerSteps
 pub mod LeastJobs
 pub mod Headline
-pub mod Watching
+pub mod inner

@@ -7,7 +7,9 @@ pub use Rattle.pcl_base.specs.Limits.{input_limit}
 use Rattle.pcl_page.specs.Situation.{Sheet}
 use Rattle.pcl_page.specs.Jobs.{HasPages, IsRefusal}
 use Rattle.pcl_plan.specs.Tokens.{frame_bytes}
-use Rattle.pcl_meaning.specs.Alike.{AllAlike, PrintSheets, most_commands}
+use Rattle.pcl_writer.specs.Appending.{IsWrittenPage}
+use Rattle.pcl_meaning.specs.Alike.{AllAlike, most_commands}
+use Rattle.pcl_meaning.specs.JobTexts.{PrintEach}
 use Rattle.pcl_cert.specs.declared.format.Format.{Format}
 use Rattle.pcl_cert.specs.declared.page_proof.PageProof.{PageProof}
 use Rattle.pcl_cert.specs.Certificates.{AreProofs, certificate_bytes}
@@ -23,7 +25,7 @@ pub record IsJobOf (dpi : Dpi) (job output : List ℕ) : Type 0 where
   pub pages : List Sheet
   pub meaning : HasPages dpi job pages
   pub texts : List ℕ
-  pub print : PrintSheets dpi pages texts
+  pub print : PrintEach IsWrittenPage dpi pages texts
   pub spelled : output ≡ frame_bytes ++ texts ++ frame_bytes
   pub again : List Sheet
   pub accepted : HasPages dpi output again

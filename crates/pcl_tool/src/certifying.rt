@@ -19,7 +19,7 @@ pub struct CertifiedJob {
 }
 
 impl Model for CertifiedJob {
-    ghost use Rattle.pcl_tool.specs.Certifying.{SoFar, so_far};
+    ghost use Rattle.pcl_tool.specs.inner.Certifying.{SoFar, so_far};
 
     ghost Value = { SoFar };
 
@@ -27,7 +27,7 @@ impl Model for CertifiedJob {
 }
 
 impl PageSink for CertifiedJob {
-    ghost use Rattle.pcl_tool.specs.Certifying.{TakesProved};
+    ghost use Rattle.pcl_tool.specs.inner.Certifying.{TakesProved};
 
     ghost takes = { TakesProved };
 

@@ -4,7 +4,7 @@ ghost use Rattle.std.specs.Prelude.{◌≡◌, ◌++◌, List, ℕ, length, drop
 ghost use Rattle.pcl_plan.specs.Tokens.{frame_bytes};
 ghost use Rattle.pcl_tool.specs.JobVerdicts.{text_bytes, IsFramed};
 ghost use Rattle.pcl_tool.specs.declared.job_verdict.JobVerdict.TheVariants as job;
-ghost use Rattle.pcl_tool.specs.PageChecks.{IsFound};
+ghost use Rattle.pcl_tool.specs.inner.PageChecks.{IsFound};
 
 use crate::JobVerdict;
 use pcl_cert::{PageProof, Verdict, check_page};
@@ -31,7 +31,7 @@ pub struct Checker<'p, 'c, 't> {
 
 impl<'p, 'c, 't> Checker<'p, 'c, 't> {
     ghost use Rattle.std.specs.Prelude.{◌≡◌, drop};
-    ghost use Rattle.pcl_tool.specs.CheckerSteps.{IsBegun, answer};
+    ghost use Rattle.pcl_tool.specs.inner.CheckerSteps.{IsBegun, answer};
 
     /// Before the first page, with the texts of an output.
     pub fn new(alloc: Global, output: &'t [u8], proofs: &'p [PageProof<'c>]) -> Checker<'p, 'c, 't>
@@ -63,7 +63,7 @@ impl<'p, 'c, 't> Checker<'p, 'c, 't> {
 }
 
 impl<'p, 'c, 't> PageSink for Checker<'p, 'c, 't> {
-    ghost use Rattle.pcl_tool.specs.CheckerSteps.{TakesPage};
+    ghost use Rattle.pcl_tool.specs.inner.CheckerSteps.{TakesPage};
 
     ghost takes = { TakesPage };
 

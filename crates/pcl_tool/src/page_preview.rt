@@ -44,7 +44,7 @@ pub struct Chosen {
 
 impl PageSink for Chosen {
     ghost use Rattle.std.specs.Prelude.{◌≡◌};
-    ghost use Rattle.pcl_tool.specs.Choice.{chosen_after};
+    ghost use Rattle.pcl_tool.specs.inner.Choice.{chosen_after};
 
     ghost takes = { λ old page new. new ≡ chosen_after old.skip old page.bitmap };
 

@@ -30,7 +30,7 @@ use Rattle.pcl_plan.proofs.RightRows.{cost_opening, cost_send}
 use Rattle.pcl_plan.proofs.ReadSteps.{node_is, opened_more, spells_any}
 use Rattle.pcl_plan.proofs.LeastWalks.{step_is_least, sent_is_least}
 use Rattle.pcl_writer.specs.declared.place.Place.{Place}
-use Rattle.pcl_writer.specs.Steps.{width_of, above, IsBitmapPlan, IsWritable, HasRowData, AppendsRow, AppendsStep, IsPlaceBehind, AppendsBody}
+use Rattle.pcl_writer.specs.inner.Steps.{width_of, above, IsBitmapPlan, IsWritable, HasRowData, AppendsRow, AppendsStep, IsPlaceBehind, AppendsBody}
 
 pub page_joined : (old : List ℕ) {one two three : List ℕ} (start body tail : List ℕ) → one ≡ old ++ start → two ≡ one ++ body
     → three ≡ two ++ tail → three

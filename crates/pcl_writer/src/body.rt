@@ -9,7 +9,7 @@ ghost use Rattle.pcl_plan.specs.PageText.{bitmap_rows};
 ghost use Rattle.pcl_plan.specs.Nodes.{row_at};
 ghost use Rattle.pcl_plan.specs.Spelling.{least_spelling};
 ghost use Rattle.pcl_plan.specs.Plans.{opened};
-ghost use Rattle.pcl_writer.specs.Steps.{above, IsBitmapPlan, IsWritable, AppendsBody, AppendsStep, AppendsParameter, AppendsRow};
+ghost use Rattle.pcl_writer.specs.inner.Steps.{above, IsBitmapPlan, IsWritable, AppendsBody, AppendsStep, AppendsParameter, AppendsRow};
 
 use crate::number::append_spelling;
 use crate::place::Place;

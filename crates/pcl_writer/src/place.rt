@@ -14,7 +14,7 @@ pub struct Place {
 }
 
 impl Place {
-    ghost use Rattle.pcl_writer.specs.Steps.{IsPlaceBehind};
+    ghost use Rattle.pcl_writer.specs.inner.Steps.{IsPlaceBehind};
 
     /// The place behind a step, which ends its sequence or doesn't.
     pub fn behind(self, step: Step, ends: bool) -> Place

@@ -1,7 +1,7 @@
 //! Bad numbers, and which of them stands first in a certificate.
 
 ghost use Rattle.std.specs.Prelude.{◌≡◌};
-ghost use Rattle.pcl_check.specs.EdgePasses.{found_place, first_found};
+ghost use Rattle.pcl_check.specs.inner.EdgePasses.{found_place, first_found};
 
 use pcl_base::Method;
 

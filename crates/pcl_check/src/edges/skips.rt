@@ -4,7 +4,7 @@ ghost use Rattle.std.specs.Prelude.{◌≡◌, ℕ, ◌+◌, ◌-◌, ◌<◌, �
 ghost use Rattle.pcl_plan.specs.Filling.{rest};
 ghost use Rattle.pcl_plan.specs.Table.{node_number};
 ghost use Rattle.pcl_check.specs.Edges.{FindsBad};
-ghost use Rattle.pcl_check.specs.EdgePasses.{At, AreEnds, AreGoodSkipsOf, AreGoodSkipsTo, rests};
+ghost use Rattle.pcl_check.specs.inner.EdgePasses.{At, AreEnds, AreGoodSkipsOf, AreGoodSkipsTo, rests};
 
 use super::found::{BadNumber, first_of};
 use crate::costs::is_within;

@@ -1,8 +1,8 @@
 //! What the places of a row are tested with: where elements stop at the latest, and what is counted there.
 
 ghost use Rattle.std.specs.Prelude.{◌≡◌, ℕ, ◌+◌, ◌-◌, ◌<◌, ◌≤◌, min, length, slice_index, drop};
-ghost use Rattle.pcl_coders.specs.Choosing.{IsLeastLen};
-ghost use Rattle.pcl_check.specs.PlacePasses.{AreRunStops, AreStartEnds, ArePlaced, AreBehindStarts};
+ghost use Rattle.pcl_coders.specs.inner.Choosing.{IsLeastLen};
+ghost use Rattle.pcl_check.specs.inner.PlacePasses.{AreRunStops, AreStartEnds, ArePlaced, AreBehindStarts};
 
 /// The numbers, wider.
 pub fn widen(numbers: &[u16], wide: &mut [u32])

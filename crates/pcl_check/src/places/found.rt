@@ -1,7 +1,7 @@
 //! Places that were found.
 
 ghost use Rattle.std.specs.Prelude.{◌≡◌};
-ghost use Rattle.pcl_check.specs.PlacePasses.{first_found_place};
+ghost use Rattle.pcl_check.specs.inner.PlacePasses.{first_found_place};
 
 /// The first of two places.
 pub fn first_place(one: Option<usize>, other: Option<usize>) -> Option<usize>

@@ -1,9 +1,9 @@
 //! Elements of a cost that stop at one of the next places, tested by a window.
 
 ghost use Rattle.std.specs.Prelude.{◌≡◌, ℕ, ◌+◌, ◌-◌, ◌<◌, ◌≤◌, ◌++◌, length, slice_index};
-ghost use Rattle.pcl_check.specs.EdgePasses.{AreEnds, values};
+ghost use Rattle.pcl_check.specs.inner.EdgePasses.{AreEnds, values};
 ghost use Rattle.pcl_check.specs.Places.{FindsPlace};
-ghost use Rattle.pcl_check.specs.PlacePasses.{IsNotUndercut};
+ghost use Rattle.pcl_check.specs.inner.PlacePasses.{IsNotUndercut};
 
 use super::PLACES;
 use crate::costs::is_within;

@@ -5,7 +5,7 @@ ghost use Rattle.pcl_base.specs.declared.size.Size.{Size};
 ghost use Rattle.pcl_base.specs.Size.{page_height, page_row_bytes};
 ghost use Rattle.pcl_bitmap.specs.Bitmap.{Picture};
 ghost use Rattle.pcl_plan.specs.Tokens.{end_bytes};
-ghost use Rattle.pcl_check.specs.Reading.{IsParameter, IsStep, IsBodyVerdict, IsPaintedRow};
+ghost use Rattle.pcl_check.specs.inner.Reading.{IsParameter, IsStep, IsBodyVerdict, IsPaintedRow};
 
 use super::comparison::Comparison;
 use super::parameter::{Parameter, read_parameter};

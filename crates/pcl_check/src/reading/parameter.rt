@@ -4,7 +4,7 @@ ghost use Rattle.std.specs.Prelude.{◌≡◌, ℕ, ◌≤◌, ◌<◌, false, L
 ghost use Rattle.std.specs.List.{prefix_len};
 ghost use Rattle.pcl_escape.specs.Field.{is_digit, number_of};
 ghost use Rattle.pcl_escape.specs.Pieces.{AreDigits};
-ghost use Rattle.pcl_check.specs.Reading.{IsParameter, IsSplit};
+ghost use Rattle.pcl_check.specs.inner.Reading.{IsParameter, IsSplit};
 
 use itoa::Buffer;
 

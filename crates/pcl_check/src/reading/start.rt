@@ -3,7 +3,7 @@
 ghost use Rattle.std.specs.Prelude.{◌≡◌, ◌++◌, ◌∷◌, codes, decimal};
 ghost use Rattle.pcl_base.specs.Dpi.{dots_per_inch};
 ghost use Rattle.pcl_base.specs.Size.{page_width};
-ghost use Rattle.pcl_check.specs.Reading.{IsStart, raster_start};
+ghost use Rattle.pcl_check.specs.inner.Reading.{IsStart, raster_start};
 
 use super::parameter::read_decimal;
 use pcl_base::{COPIES_LIMIT, Dpi, Size};

@@ -5,7 +5,7 @@ use Rattle.pcl_base.specs.Size.{page_height, page_row_bytes}
 use Rattle.pcl_page.specs.declared.page.Page.{Page}
 use Rattle.pcl_plan.specs.PageText.{bitmap_rows}
 use Rattle.pcl_cert.specs.PageTables.{AreLeastTables}
-use Rattle.pcl_cert.specs.Listing.{listed}
+use Rattle.pcl_cert.specs.inner.Listing.{listed}
 use Rattle.pcl_cert.proofs.KeptLists.{all_rows}
 use Rattle.pcl_cert.proofs.page_tables.row_tables.Goals as goal
 

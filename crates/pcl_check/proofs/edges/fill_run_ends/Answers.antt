@@ -8,7 +8,7 @@ use Rattle.pcl_plan.specs.Tokens.{IsWhite}
 use Rattle.pcl_plan.specs.Nodes.{row_at}
 use Rattle.pcl_plan.specs.PageText.{bitmap_rows}
 use Rattle.pcl_plan.proofs.RowsFrom.{length_rows, row_of_bytes}
-use Rattle.pcl_check.specs.EdgePasses.{AreRunEnds}
+use Rattle.pcl_check.specs.inner.EdgePasses.{AreRunEnds}
 use Rattle.pcl_check.proofs.RunEnds.{ends_begin, ends_more, white_more, inked_more}
 use Rattle.pcl_check.proofs.edges.fill_run_ends.Goals as goal
 use Rattle.pcl_check.proofs.edges.fill_run_ends.Goals.{then-is_blank, else-is_blank}

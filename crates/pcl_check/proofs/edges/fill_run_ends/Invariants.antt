@@ -1,5 +1,5 @@
 use Rattle.pcl_plan.specs.PageText.{bitmap_rows}
-use Rattle.pcl_check.specs.EdgePasses.{AreRunEnds}
+use Rattle.pcl_check.specs.inner.EdgePasses.{AreRunEnds}
 use Rattle.pcl_check.proofs.edges.fill_run_ends.Given as goal
 
 abbrev pub invariant-loop-row : goal.invariant-loop-row

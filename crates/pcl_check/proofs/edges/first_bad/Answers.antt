@@ -11,7 +11,7 @@ use Rattle.pcl_plan.specs.Table.{node_number}
 use Rattle.pcl_plan.proofs.RowsFrom.{length_rows}
 use Rattle.pcl_check.specs.declared.edges.found.BadNumber.{BadNumber}
 use Rattle.pcl_check.specs.Edges.{FindsBad, IsGoodNumber}
-use Rattle.pcl_check.specs.EdgePasses.{Both, AreRunEnds, AreEnds, IsGoodBy, IsGoodIn, first_found}
+use Rattle.pcl_check.specs.inner.EdgePasses.{Both, AreRunEnds, AreEnds, IsGoodBy, IsGoodIn, first_found}
 use Rattle.pcl_check.proofs.Lengths.{height_small}
 use Rattle.pcl_check.proofs.RunEnds.{ends_known}
 use Rattle.pcl_check.proofs.Found.{first_finds, finds_too}

@@ -5,7 +5,7 @@ use Rattle.pcl_base.specs.Size.{page_height}
 use Rattle.pcl_plan.specs.Table.{node_number}
 use Rattle.pcl_check.specs.declared.edges.found.BadNumber.{BadNumber}
 use Rattle.pcl_check.specs.Edges.{FindsBad, AreGoodSwitches}
-use Rattle.pcl_check.specs.EdgePasses.{At, Both, IsGoodStart, IsGoodSending, AreGoodSkipsTo, IsGoodIn, first_found}
+use Rattle.pcl_check.specs.inner.EdgePasses.{At, Both, IsGoodStart, IsGoodSending, AreGoodSkipsTo, IsGoodIn, first_found}
 use Rattle.pcl_check.proofs.Found.{first_finds, finds_too}
 use Rattle.pcl_check.proofs.EdgesByRows.{InParts, good_of_parts, parts_of_good}
 use Rattle.pcl_check.proofs.edges.first_bad_in.Goals as goal

@@ -1,6 +1,6 @@
 use Rattle.std.proofs.Common.{ℕ, ◌<◌}
 use Rattle.pcl_plan.specs.Table.{node_number}
-use Rattle.pcl_check.specs.EdgePasses.{IsGoodStart}
+use Rattle.pcl_check.specs.inner.EdgePasses.{IsGoodStart}
 use Rattle.pcl_check.proofs.edges.first_bad_start.Given as goal
 
 abbrev pub invariant-loop-row : goal.invariant-loop-row

@@ -1,5 +1,5 @@
 use Rattle.std.proofs.Common.{◌≤◌, length}
-use Rattle.pcl_check.specs.PlacePasses.{IsGoodEnd}
+use Rattle.pcl_check.specs.inner.PlacePasses.{IsGoodEnd}
 use Rattle.pcl_check.proofs.PlacesFound.{FindsFrom}
 use Rattle.pcl_coders.proofs.Ends.{AreSameFrom}
 use Rattle.pcl_check.proofs.places.first_bad_end.Given as goal

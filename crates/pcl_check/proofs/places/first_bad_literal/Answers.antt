@@ -1,6 +1,6 @@
 use Rattle.std.proofs.Common.{◌≡◌, ℕ, ◌-◌, length, subst, arith}
 use Rattle.pcl_check.specs.Places.{FindsPlace}
-use Rattle.pcl_check.specs.PlacePasses.{IsNotUndercut, AreGoodLiterals}
+use Rattle.pcl_check.specs.inner.PlacePasses.{IsNotUndercut, AreGoodLiterals}
 use Rattle.pcl_check.proofs.PlacesFound.{finds_place_too}
 use Rattle.pcl_check.proofs.PlaceKinds.{literals_by_window, window_by_literals}
 use Rattle.pcl_check.proofs.places.first_bad_literal.Goals as goal

@@ -1,7 +1,7 @@
 use Rattle.std.proofs.Common.{◌≡◌, ℕ, ◌-◌, List, length, sym, ap, subst, ◌∙◌, arith}
 use Rattle.std.specs.Prelude.{Option}
 use Rattle.pcl_check.specs.Places.{FindsPlace}
-use Rattle.pcl_check.specs.PlacePasses.{IsNotUndercut, AreGoodReplacements, first_found_place}
+use Rattle.pcl_check.specs.inner.PlacePasses.{IsNotUndercut, AreGoodReplacements, first_found_place}
 use Rattle.pcl_check.proofs.PlacesFound.{And, finds_both, finds_place_too}
 use Rattle.pcl_check.proofs.PlaceKinds.{replacements_by_windows, kept_starts}
 use Rattle.pcl_check.proofs.places.first_bad_replacement.Goals as goal

@@ -4,7 +4,7 @@ use Rattle.pcl_base.specs.declared.size.Size.{Size}
 use Rattle.pcl_page.specs.declared.page.Page.{Page}
 use Rattle.pcl_plan.specs.PageText.{IsPageText, bitmap_rows}
 use Rattle.pcl_check.specs.declared.reading.start.Start.{Start}
-use Rattle.pcl_check.specs.Reading.{IsStart, IsBodyVerdict}
+use Rattle.pcl_check.specs.inner.Reading.{IsStart, IsBodyVerdict}
 use Rattle.pcl_check.specs.TextVerdicts.{IsSomePageText}
 use Rattle.pcl_check.proofs.Verdicts.{MayBe, no_start, no_body, same_page, some_page, other_page, same_sizes, sizes_same}
 use Rattle.std.proofs.lemmas.Bool.Decides.{Decides-eqb}

@@ -2,7 +2,7 @@ use Rattle.std.proofs.Common.{◌≡◌, ◌<◌, ◌+◌, ◌-◌, ℕ, length,
 use Rattle.std.proofs.lemmas.List.{take_rest}
 use Rattle.std.proofs.lemmas.Bool.{cases_lt}
 use Rattle.pcl_base.specs.declared.method.Method.TheVariants.{Delta}
-use Rattle.pcl_coders.specs.Filling.{AreRightFrom}
+use Rattle.pcl_coders.specs.inner.Filling.{AreRightFrom}
 use Rattle.pcl_coders.proofs.Places.{IsNextStart, IsDeltaAt, begun_right, place_done, delta_place, delta_at, next_start_stays, next_start_here, last_differs}
 use Rattle.pcl_coders.proofs.fill.fill_delta.Goals as goal
 use Rattle.pcl_coders.proofs.fill.fill_delta.Goals.{then-old-place, else-old-place}

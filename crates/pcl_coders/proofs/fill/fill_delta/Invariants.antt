@@ -1,6 +1,6 @@
 use Rattle.std.proofs.Common.{◌<◌}
 use Rattle.pcl_base.specs.declared.method.Method.TheVariants.{Delta}
-use Rattle.pcl_coders.specs.Filling.{AreRightFrom}
+use Rattle.pcl_coders.specs.inner.Filling.{AreRightFrom}
 use Rattle.pcl_coders.proofs.Places.{IsDeltaAt}
 use Rattle.pcl_coders.proofs.fill.fill_delta.Given as goal
 

@@ -2,7 +2,7 @@ use Rattle.std.proofs.Common.{◌≡◌, ◌<◌, ◌+◌, ◌-◌, ℕ, List, l
 use Rattle.std.specs.Prelude.{slice_index}
 use Rattle.pcl_base.specs.declared.method.Method.TheVariants.{Packed}
 use Rattle.pcl_bitmap.specs.Kernels.{IsRunEnd}
-use Rattle.pcl_coders.specs.Filling.{AreRightFrom, white_like}
+use Rattle.pcl_coders.specs.inner.Filling.{AreRightFrom, white_like}
 use Rattle.pcl_coders.specs.Windows.{Numbers}
 use Rattle.pcl_coders.proofs.Places.{begun_right, place_done, run_last, run_starts, run_goes_on}
 use Rattle.pcl_coders.proofs.Literals.{IsPlaceWindow, place_window_none, place_window_put, place_window_slide, place_window_set, literal_small, packed_place}

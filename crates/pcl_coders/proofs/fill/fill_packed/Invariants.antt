@@ -1,6 +1,6 @@
 use Rattle.std.proofs.Common.{◌≡◌, ◌+◌}
 use Rattle.pcl_base.specs.declared.method.Method.TheVariants.{Packed}
-use Rattle.pcl_coders.specs.Filling.{AreRightFrom, white_like}
+use Rattle.pcl_coders.specs.inner.Filling.{AreRightFrom, white_like}
 use Rattle.pcl_coders.proofs.Places.{IsRunFrom}
 use Rattle.pcl_coders.proofs.Literals.{IsPlaceWindow}
 use Rattle.pcl_coders.proofs.fill.fill_packed.Given as goal

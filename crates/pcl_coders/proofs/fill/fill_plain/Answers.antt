@@ -1,6 +1,6 @@
 use Rattle.std.proofs.Common.{◌≡◌, ◌<◌, ◌+◌, ◌-◌, ℕ, length, ◌∙◌, subst, arith}
 use Rattle.pcl_base.specs.declared.method.Method.TheVariants.{Plain}
-use Rattle.pcl_coders.specs.Filling.{AreRightFrom, white_like}
+use Rattle.pcl_coders.specs.inner.Filling.{AreRightFrom, white_like}
 use Rattle.pcl_coders.proofs.Places.{begun_right, place_done, plain_place}
 use Rattle.pcl_coders.proofs.fill.fill_plain.Goals as goal
 

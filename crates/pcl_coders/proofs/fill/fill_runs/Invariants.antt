@@ -1,5 +1,5 @@
 use Rattle.pcl_base.specs.declared.method.Method.TheVariants.{Runs}
-use Rattle.pcl_coders.specs.Filling.{AreRightFrom, white_like}
+use Rattle.pcl_coders.specs.inner.Filling.{AreRightFrom, white_like}
 use Rattle.pcl_coders.proofs.Places.{IsRunFrom}
 use Rattle.pcl_coders.proofs.fill.fill_runs.Given as goal
 

@@ -1,6 +1,6 @@
 use Rattle.std.proofs.Common.{◌-◌, length, arith, sym, ap, ◌∙◌}
 use Rattle.pcl_escape.specs.Said.{views}
-use Rattle.pcl_escape.specs.Scan.{step_view}
+use Rattle.pcl_escape.specs.inner.Scan.{step_view}
 use Rattle.pcl_escape.proofs.Loop.{GoesOn, goes_on_bytes, goes_on_inside, step_shorter, so_far, one_more, stops_at, is_done, place_fits}
 use Rattle.pcl_escape.proofs.job.scan.Goals as goal
 use Rattle.pcl_escape.proofs.job.scan.Goals.{After-read_step, then-not-is_empty, else-not-is_empty+then-is_some}

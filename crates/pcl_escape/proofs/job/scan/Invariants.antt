@@ -1,6 +1,6 @@
 use Rattle.std.proofs.Common.{◌≡◌, ◌≤◌, length}
 use Rattle.pcl_escape.specs.Said.{views}
-use Rattle.pcl_escape.specs.Scan.{outcome_of}
+use Rattle.pcl_escape.specs.inner.Scan.{outcome_of}
 use Rattle.pcl_escape.proofs.Loop.{so_far}
 use Rattle.pcl_escape.proofs.job.scan.Given as goal
 

@@ -1,5 +1,5 @@
 use Rattle.std.proofs.Common.{ap, arith}
-use Rattle.pcl_escape.specs.Scan.{said_of}
+use Rattle.pcl_escape.specs.inner.Scan.{said_of}
 use Rattle.pcl_escape.proofs.Parameters.{gives_fault, exit_refused}
 use Rattle.pcl_escape.proofs.Steps.{parameter_shorter}
 use Rattle.pcl_escape.proofs.step.read_ungrouped.Goals as goal

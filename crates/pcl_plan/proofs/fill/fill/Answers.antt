@@ -1,5 +1,5 @@
 use Rattle.std.proofs.Common.{◌≡◌, ◌+◌, ◌-◌, ◌<◌, ℕ, length, sym, ap, subst, ◌∙◌, arith}
-use Rattle.pcl_plan.specs.Rows.{rows_of}
+use Rattle.pcl_plan.specs.inner.Rows.{rows_of}
 use Rattle.pcl_plan.specs.declared.table.RowNumbers.{RowNumbers}
 use Rattle.pcl_plan.specs.Table.{number_in, end_numbers}
 use Rattle.pcl_plan.specs.Filling.{AreRightFrom}

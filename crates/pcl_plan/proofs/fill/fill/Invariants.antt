@@ -1,4 +1,4 @@
-use Rattle.pcl_plan.specs.Rows.{rows_of}
+use Rattle.pcl_plan.specs.inner.Rows.{rows_of}
 use Rattle.pcl_plan.specs.Filling.{IsWhiteRun, AreRightFrom}
 use Rattle.pcl_plan.proofs.fill.fill.Given as goal
 

@@ -1,6 +1,6 @@
 use Rattle.std.proofs.Common.{◌+◌, ◌≤◌, ◌<◌, ℕ, List, false, arith}
 use Rattle.pcl_plan.specs.Table.{by_method}
-use Rattle.pcl_plan.specs.Rows.{rows_of}
+use Rattle.pcl_plan.specs.inner.Rows.{rows_of}
 use Rattle.pcl_plan.specs.declared.rows.Rows.{Rows}
 use Rattle.pcl_plan.specs.declared.table.RowNumbers.{RowNumbers}
 use Rattle.pcl_plan.specs.Filling.{IsReadable, IsWhiteRun, AreRightFrom}

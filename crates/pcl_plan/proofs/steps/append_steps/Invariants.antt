@@ -1,5 +1,5 @@
 use Rattle.pcl_plan.specs.Table.{node_number}
-use Rattle.pcl_plan.specs.Rows.{rows_of}
+use Rattle.pcl_plan.specs.inner.Rows.{rows_of}
 use Rattle.pcl_plan.proofs.ReadSteps.{IsReadTo, node_of}
 use Rattle.pcl_plan.proofs.steps.append_steps.Given as goal
 

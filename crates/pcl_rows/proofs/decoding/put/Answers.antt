@@ -1,5 +1,5 @@
 use Rattle.std.proofs.Common.{◌+◌, min, length, List, ℕ, sym, ap, ◌∙◌}
-use Rattle.pcl_rows.specs.Fronts.{overlaid}
+use Rattle.pcl_rows.specs.inner.Fronts.{overlaid}
 use Rattle.pcl_rows.proofs.Overlays.{put_more, copied_once}
 use Rattle.pcl_rows.proofs.decoding.put.Goals as goal
 

@@ -1,7 +1,7 @@
 use Rattle.std.proofs.Common.{ℕ, ◌+◌, ◌*◌, ◌++◌, ◌∷◌, [], List, drop, replicate, refl, subst, arith}
 use Rattle.std.proofs.lemmas.List.{take_rest, length-append, length-replicate}
 use Rattle.pcl_rows.specs.Heads.{Near, Far}
-use Rattle.pcl_rows.specs.Fronts.{Begins}
+use Rattle.pcl_rows.specs.inner.Fronts.{Begins}
 use Rattle.pcl_rows.proofs.Beginnings.{Begins-one, Begins-cons}
 use Rattle.pcl_rows.proofs.head.command.Goals as goal
 

@@ -1,6 +1,6 @@
 use Rattle.std.proofs.Common.{◌<◌, true, length, subst, sym, refl, ◌∙◌, arith}
 use Rattle.std.proofs.lemmas.Bool.{eqb-false}
-use Rattle.pcl_rows.specs.Fronts.{IsFront}
+use Rattle.pcl_rows.specs.inner.Fronts.{IsFront}
 use Rattle.pcl_rows.specs.Rows.{IsWhole}
 use Rattle.pcl_rows.proofs.Readings.{whole_more, whole_past, whole_cut}
 use Rattle.pcl_rows.proofs.whole.are_elements_whole.Goals as goal

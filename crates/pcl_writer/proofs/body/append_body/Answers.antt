@@ -8,7 +8,7 @@ use Rattle.pcl_plan.specs.declared.step.Step.{Step}
 use Rattle.pcl_plan.specs.declared.step.Step.TheVariants.{Skip}
 use Rattle.pcl_plan.specs.Plans.{is_last}
 use Rattle.pcl_plan.proofs.RowsFrom.{length_rows}
-use Rattle.pcl_writer.specs.Steps.{width_of, AppendsStep, IsPlaceBehind}
+use Rattle.pcl_writer.specs.inner.Steps.{width_of, AppendsStep, IsPlaceBehind}
 use Rattle.pcl_writer.proofs.Bodies.{IsWrittenTo, begin, writable, written_more, written_all, ends_at, height_small}
 use Rattle.pcl_writer.proofs.body.append_body.Goals as goal
 

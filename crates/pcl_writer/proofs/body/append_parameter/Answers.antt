@@ -6,7 +6,7 @@ use Rattle.pcl_plan.specs.declared.step.Step.{Step}
 use Rattle.pcl_plan.specs.Tokens.{method, skip, send, letter}
 use Rattle.pcl_plan.specs.Spelling.{least_spelling}
 use Rattle.pcl_plan.proofs.RowsFrom.{length_rows}
-use Rattle.pcl_writer.specs.Steps.{width_of, IsWritable, AppendsParameter}
+use Rattle.pcl_writer.specs.inner.Steps.{width_of, IsWritable, AppendsParameter}
 use Rattle.pcl_writer.proofs.body.append_parameter.Goals as goal
 
 pub append_row-requires-clause-row : goal.append_row-requires-clause-row

@@ -6,7 +6,7 @@ use Rattle.pcl_base.specs.Size.{page_height, page_row_bytes}
 use Rattle.pcl_plan.proofs.RowsFrom.{row_of_bytes, row_small}
 use Rattle.pcl_plan.proofs.Walking.{row_above_is}
 use Rattle.pcl_plan.specs.PageText.{bitmap_rows}
-use Rattle.pcl_writer.specs.Steps.{width_of, above}
+use Rattle.pcl_writer.specs.inner.Steps.{width_of, above}
 use Rattle.pcl_writer.proofs.body.row_above.Goals as goal
 
 pub returns-then-y-gt0-clause-row : goal.returns-then-y-gt0-clause-row

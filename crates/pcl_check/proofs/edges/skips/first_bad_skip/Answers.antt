@@ -4,7 +4,7 @@ use Rattle.pcl_base.specs.declared.method.Method.{Method}
 use Rattle.pcl_plan.specs.Table.{node_number}
 use Rattle.pcl_check.specs.declared.edges.found.BadNumber.{BadNumber}
 use Rattle.pcl_check.specs.Edges.{FindsBad}
-use Rattle.pcl_check.specs.EdgePasses.{At, Both, AreGoodSkipsOf, AreGoodSkipsTo, first_found}
+use Rattle.pcl_check.specs.inner.EdgePasses.{At, Both, AreGoodSkipsOf, AreGoodSkipsTo, first_found}
 use Rattle.pcl_check.proofs.Found.{first_finds, finds_too}
 use Rattle.pcl_check.proofs.SkipWindows.{by_digits, all_digits}
 use Rattle.pcl_check.proofs.edges.skips.first_bad_skip.Goals as goal

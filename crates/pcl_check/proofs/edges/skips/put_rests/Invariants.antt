@@ -1,6 +1,6 @@
 use Rattle.std.proofs.Common.{◌≡◌, ◌+◌, ◌-◌, ◌++◌}
 use Rattle.pcl_plan.specs.Table.{node_number}
-use Rattle.pcl_check.specs.EdgePasses.{rests}
+use Rattle.pcl_check.specs.inner.EdgePasses.{rests}
 use Rattle.pcl_check.proofs.edges.skips.put_rests.Given as goal
 
 abbrev pub invariant-loop-row : goal.invariant-loop-row

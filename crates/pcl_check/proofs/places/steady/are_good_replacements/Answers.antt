@@ -1,7 +1,7 @@
 use Rattle.std.proofs.Common.{◌≡◌, ◌≢◌, ℕ, ◌+◌, ◌-◌, ◌<◌, ◌≤◌, sym, ap, subst, ◌∙◌, inl, inr, arith}
 use Rattle.std.specs.Prelude.{slice_index}
 use Rattle.std.proofs.lemmas.Bool.{cases_lt}
-use Rattle.pcl_check.specs.PlacePasses.{AreGoodReplacements}
+use Rattle.pcl_check.specs.inner.PlacePasses.{AreGoodReplacements}
 use Rattle.pcl_check.proofs.SteadyPlaces.{replacements_by_start, replacements_past, replacements_from}
 use Rattle.pcl_check.proofs.places.steady.are_good_replacements.Goals as goal
 use Rattle.pcl_check.proofs.places.steady.are_good_replacements.Goals.{then-old-place, else-old-place}

@@ -1,8 +1,8 @@
 use Rattle.std.proofs.Common.{◌≡◌, ◌≢◌, ℕ, ◌+◌, ◌-◌, ◌<◌, ◌≤◌, min, sym, ap, subst, ◌∙◌, inl, inr, arith}
 use Rattle.std.specs.Prelude.{slice_index}
 use Rattle.std.proofs.lemmas.Bool.{cases_lt}
-use Rattle.pcl_check.specs.PlacePasses.{AreGoodRuns}
-use Rattle.pcl_check.specs.SteadyNumbers.{FallsByRun}
+use Rattle.pcl_check.specs.inner.PlacePasses.{AreGoodRuns}
+use Rattle.pcl_check.specs.inner.SteadyNumbers.{FallsByRun}
 use Rattle.pcl_check.proofs.SteadyPlaces.{runs_by_stop, runs_from}
 use Rattle.pcl_check.proofs.places.steady.are_good_runs.Goals as goal
 use Rattle.pcl_check.proofs.places.steady.are_good_runs.Goals.{then-place-end+then-row-place, else-place-end, then-fall_by_runs, else-fall_by_runs}

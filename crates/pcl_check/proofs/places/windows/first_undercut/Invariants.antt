@@ -1,6 +1,6 @@
 use Rattle.std.proofs.Common.{◌≡◌, ℕ, ◌+◌, ◌<◌}
 use Rattle.std.specs.Prelude.{slice_index}
-use Rattle.pcl_check.specs.PlacePasses.{IsNotUndercut}
+use Rattle.pcl_check.specs.inner.PlacePasses.{IsNotUndercut}
 use Rattle.pcl_check.proofs.StepWindows.{IsStepWindow}
 use Rattle.pcl_check.proofs.places.windows.first_undercut.Given as goal
 

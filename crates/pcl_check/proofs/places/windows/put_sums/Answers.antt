@@ -1,7 +1,7 @@
 use Rattle.std.proofs.Common.{◌≡◌, ℕ, ◌+◌, ◌-◌, List, [], ◌∷◌, ◌++◌, sym, ap, ◌∙◌, append_assoc, arith}
 use Rattle.std.specs.Prelude.{slice_index}
 use Rattle.std.proofs.lemmas.List.{append-nil}
-use Rattle.pcl_check.specs.EdgePasses.{values}
+use Rattle.pcl_check.specs.inner.EdgePasses.{values}
 use Rattle.pcl_check.proofs.Values.{values_more, no_values}
 use Rattle.pcl_check.proofs.places.windows.put_sums.Goals as goal
 

@@ -7,7 +7,7 @@ use Rattle.std.specs.Str.{bytes_eq}
 use Rattle.std.proofs.lemmas.Slice.Eq.{slice_eq-Decides}
 use Rattle.std.proofs.lemmas.Bool.Decides.{Decides-eqb}
 use Rattle.pcl_plan.specs.Tokens.{end_bytes}
-use Rattle.pcl_check.specs.Reading.{IsBodyVerdict, body_of, AreRowsAt}
+use Rattle.pcl_check.specs.inner.Reading.{IsBodyVerdict, body_of, AreRowsAt}
 use Rattle.pcl_check.proofs.Comparing.{both, neither, becomes_same, read_on, read_all, white_test}
 use Rattle.pcl_check.proofs.Fronts.{white_rows}
 use Rattle.pcl_check.proofs.Steps.{becomes_to}

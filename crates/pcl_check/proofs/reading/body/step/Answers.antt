@@ -1,7 +1,7 @@
 use Rattle.std.proofs.Common.{◌≡◌, Some, None, sym, subst, rules}
 use Rattle.std.proofs.lemmas.Slice.Eq.{strip_prefix_is}
 use Rattle.std.proofs.lemmas.Bool.Decides.{Decides-eqb}
-use Rattle.pcl_check.specs.Reading.{IsStep}
+use Rattle.pcl_check.specs.inner.Reading.{IsStep}
 use Rattle.pcl_check.proofs.Moves.{no_byte, no_letter}
 use Rattle.pcl_check.proofs.Outside.{opening_bytes, no_opening}
 use Rattle.pcl_check.proofs.Steps.{told, sequence_opened, neither_letter}

@@ -1,5 +1,5 @@
 use Rattle.std.proofs.Common.{sym, subst}
-use Rattle.pcl_check.specs.Reading.{IsStep}
+use Rattle.pcl_check.specs.inner.Reading.{IsStep}
 use Rattle.pcl_check.proofs.Steps.{no_switch, switched}
 use Rattle.pcl_check.proofs.reading.body.switch.Goals as goal
 

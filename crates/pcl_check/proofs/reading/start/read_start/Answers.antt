@@ -2,7 +2,7 @@ use Rattle.std.proofs.Common.{◌∷◌, ◌++◌, ℕ, List, Some, None, sym, a
 use Rattle.std.specs.Prelude.{decimal}
 use Rattle.std.proofs.lemmas.Slice.Eq.{strip_prefix_is}
 use Rattle.std.proofs.lemmas.Bool.Decides.{Decides-eqb}
-use Rattle.pcl_check.specs.Reading.{IsStart}
+use Rattle.pcl_check.specs.inner.Reading.{IsStart}
 use Rattle.pcl_check.proofs.Beginnings.{first_bytes, no_copies, no_code, no_size, no_raster, size_read, begun, IsCopies, IsSize}
 use Rattle.pcl_check.proofs.reading.start.read_start.Goals as goal
 use Rattle.pcl_check.proofs.reading.start.read_start.Goals.{then-copies-eq0-via-then-copies-eq0, then-copies-eq0-via-else-copies-eq0+then-copies-from}

@@ -1,6 +1,6 @@
 use Rattle.std.proofs.Common.{ℕ, sym, ◌∙◌, subst, arith}
 use Rattle.std.proofs.lemmas.Bool.{eqb-true, leb-true}
-use Rattle.pcl_coders.specs.Choosing.{IsLiteralLen, NoLiteral}
+use Rattle.pcl_coders.specs.inner.Choosing.{IsLiteralLen, NoLiteral}
 use Rattle.pcl_coders.proofs.Choices.{plain_choice}
 use Rattle.pcl_coders.proofs.Along.{along_run, along_start, along_replacement, numbers_fall, literal_bounds, along_literal, along_repeat, no_literal_repeat}
 use Rattle.pcl_coders.proofs.choice.Choice.along.Goals as goal

@@ -1,5 +1,5 @@
 use Rattle.std.proofs.Common.{◌≡◌, ℕ, ◌+◌, ◌-◌, subst, arith}
-use Rattle.pcl_coders.specs.Choosing.{IsLeastLen}
+use Rattle.pcl_coders.specs.inner.Choosing.{IsLeastLen}
 use Rattle.pcl_coders.proofs.Prefixes.{least_len_one, least_len_next, least_len_stays}
 use Rattle.pcl_coders.proofs.choice.LeastLen.among.Goals as goal
 use Rattle.pcl_coders.proofs.choice.LeastLen.among.Goals.{then-next-best, else-next-best}

@@ -2,7 +2,7 @@ use Rattle.std.proofs.Common.{◌≤◌, ◌++◌, ◌∷◌, [], ◌⊎◌, Lis
 use Rattle.std.proofs.lemmas.Result.{on_ok_weaker}
 use Rattle.pcl_escape.specs.Said.{views}
 use Rattle.pcl_page.specs.declared.interpreter.Running.{Running}
-use Rattle.pcl_page.specs.Unfolding.{work_left}
+use Rattle.pcl_page.specs.inner.Unfolding.{work_left}
 use Rattle.pcl_page.specs.declared.interpreter.Interpreter.{Interpreter}
 use Rattle.pcl_page.proofs.Progress.{advanced, at_running, command_goes, end_goes, advanced_less, ended_less}
 use Rattle.pcl_page.proofs.interpreter.Interpreter.go_on.Goals as goal

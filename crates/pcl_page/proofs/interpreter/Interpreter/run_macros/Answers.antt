@@ -3,7 +3,7 @@ use Rattle.std.proofs.lemmas.Result.{err_from_is_err_and}
 use Rattle.pcl_base.specs.Limits.{macro_limit}
 use Rattle.pcl_escape.specs.Said.{views}
 use Rattle.pcl_page.specs.declared.interpreter.Interpreter.{Interpreter}
-use Rattle.pcl_page.specs.Unfolding.{resumed}
+use Rattle.pcl_page.specs.inner.Unfolding.{resumed}
 use Rattle.pcl_page.proofs.Progress.{macro_on, macro_fault}
 use Rattle.pcl_page.proofs.interpreter.Interpreter.run_macros.Goals as goal
 

@@ -2,7 +2,7 @@ use Rattle.std.proofs.Common.{◌≤◌, length}
 use Rattle.pcl_base.specs.Limits.{macro_limit}
 use Rattle.pcl_escape.specs.Said.{views}
 use Rattle.pcl_page.specs.Situation.{Situation}
-use Rattle.pcl_page.specs.Unfolding.{IsAt, resumed, work_left}
+use Rattle.pcl_page.specs.inner.Unfolding.{IsAt, resumed, work_left}
 use Rattle.pcl_page.proofs.Progress.{GoesBack}
 use Rattle.pcl_page.proofs.interpreter.Interpreter.run_macros.Given as goal
 

@@ -1,6 +1,6 @@
 use Rattle.std.proofs.Common.{drop}
 use Rattle.pcl_page.specs.Situation.{Situation}
-use Rattle.pcl_page.specs.Reflecting.{IsIn}
+use Rattle.pcl_page.specs.inner.Reflecting.{IsIn}
 use Rattle.pcl_page.proofs.Printed.{IsPrintedTo}
 use Rattle.pcl_page.proofs.performer.Performer.print_codes.Given as goal
 

@@ -1,7 +1,7 @@
 use Rattle.std.proofs.Common.{◌≡◌, ◌-◌, length, refl, ap, subst, arith}
 use Rattle.std.proofs.lemmas.List.{length-append}
 use Rattle.pcl_cert.specs.declared.page_proof.PageProof.{PageProof}
-use Rattle.pcl_tool.specs.Certifying.{SoFar, TakesProved}
+use Rattle.pcl_tool.specs.inner.Certifying.{SoFar, TakesProved}
 use Rattle.pcl_tool.proofs.Proved.{plan_proves}
 use Rattle.pcl_tool.proofs.certifying.CertifiedJobPageSink.page.Goals as goal
 

@@ -1,4 +1,4 @@
--- The performer and the situation that it is in. Only contracts of private functions cite this.
+-- The performer and the situation that it is in.
 use Rattle.std.specs.Prelude.{◌≡◌, ℕ, ◌+◌, ◌<◌, true, false, if◌then◌else◌, List, ◌++◌, length, ◌⊎◌, Option, Some, None, Result, Ok, Err}
 use Rattle.pcl_base.specs.declared.dpi.Dpi.{Dpi}
 use Rattle.pcl_base.specs.declared.fault.JobFault.{JobFault}

@@ -1,4 +1,4 @@
--- Lists that are put one behind the other. Only contracts of private functions cite this.
+-- Lists that are put one behind the other.
 use Rattle.std.specs.Prelude.{◌≡◌, ℕ, ◌+◌, ◌*◌, ◌^◌, ◌<◌, ◌≤◌, false, List, [], ◌∷◌, ◌++◌, length, take, slice_index}
 use Rattle.std.specs.List.{AllByRecursion}
 use Rattle.pcl_base.specs.declared.method.Method.{Method}

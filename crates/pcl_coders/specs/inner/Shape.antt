@@ -3,8 +3,8 @@ use Rattle.std.specs.Prelude.{◌≡◌, ℕ, ◌+◌, ◌-◌, ◌≤◌, min, 
 use Rattle.pcl_base.specs.declared.method.Method.{Method}
 use Rattle.pcl_rows.specs.Heads.{Itself, Count, Literal, Repeat}
 use Rattle.pcl_rows.specs.Elements.{Element, stop}
-use Rattle.pcl_coders.specs.Replacement.{replacement, replacement_bytes}
-use Rattle.pcl_coders.specs.Choosing.{IsChoice, IsLeastLen}
+use Rattle.pcl_coders.specs.inner.Replacement.{replacement, replacement_bytes}
+use Rattle.pcl_coders.specs.inner.Choosing.{IsChoice, IsLeastLen}
 use Rattle.pcl_coders.specs.declared.shape.Shape.{Shape}
 use Rattle.pcl_coders.specs.declared.shape.Shape.TheVariants.{SingleByte, Run, LiteralRun, RepeatRun, Replace}
 

@@ -1,4 +1,4 @@
--- The passes by which bad numbers are found. Only contracts of private functions cite this.
+-- The passes by which bad numbers are found.
 use Rattle.std.specs.Prelude.{◌≡◌, ℕ, zero, suc, ◌+◌, ◌-◌, ◌<◌, ◌≤◌, nat_lt, if◌then◌else◌, Bool, true, false, List, [], ◌∷◌, length, slice_index, Option, Some, None}
 use Rattle.pcl_base.specs.declared.method.Method.{Method}
 use Rattle.pcl_plan.specs.Nodes.{Node}

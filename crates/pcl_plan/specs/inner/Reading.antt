@@ -1,4 +1,4 @@
--- Steps while they are read off a table. Only contracts of private functions cite this.
+-- Steps while they are read off a table.
 use Rattle.std.specs.Prelude.{◌≡◌, ℕ, ◌+◌, ◌<◌, true, false, List, length}
 use Rattle.pcl_base.specs.declared.method.Method.{Method}
 use Rattle.pcl_coders.specs.Coding.{IsLeastLength}

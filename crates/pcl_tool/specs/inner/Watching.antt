@@ -1,4 +1,4 @@
--- What a sink holds that took the pages of a job. Only contracts of private functions cite this file.
+-- What a sink holds that took the pages of a job.
 use Rattle.std.specs.Prelude.{ℕ, List, Result, Ok, Err}
 use Rattle.pcl_base.specs.declared.dpi.Dpi.{Dpi}
 use Rattle.pcl_base.specs.declared.fault.JobFault.{JobFault}

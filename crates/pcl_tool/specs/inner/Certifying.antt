@@ -1,4 +1,4 @@
--- A job while it is written with a certificate. Only contracts of private functions cite this.
+-- A job while it is written with a certificate.
 use Rattle.std.specs.Prelude.{◌≡◌, ℕ, List, [], ◌∷◌, ◌++◌, length}
 use Rattle.pcl_page.specs.declared.page.Page.{Page}
 use Rattle.pcl_writer.specs.Appending.{IsWrittenPage}

@@ -1,4 +1,4 @@
--- A body while it is written. Only contracts of private functions cite this.
+-- A body while it is written.
 use Rattle.std.specs.Prelude.{◌≡◌, ℕ, ◌<◌, ◌&&◌, Bool, not, List, [], ◌∷◌, ◌++◌, length}
 use Rattle.std.specs.List.{flat_map}
 use Rattle.pcl_base.specs.declared.method.Method.{Method}
@@ -15,7 +15,7 @@ use Rattle.pcl_plan.specs.Nodes.{start, row_at, row_above, Leads, Ends, cost}
 use Rattle.pcl_plan.specs.Spelling.{least_spelling}
 use Rattle.pcl_plan.specs.Table.{node_number}
 use Rattle.pcl_plan.specs.Plans.{StepsAndTable, IsTokenOf, IsPlan, stays_inside, opened}
-use Rattle.pcl_plan.specs.Reading.{row_behind, method_behind}
+use Rattle.pcl_plan.specs.inner.Reading.{row_behind, method_behind}
 use Rattle.pcl_writer.specs.declared.place.Place.{Place}
 
 -- the rows of a bitmap, and the row above a row

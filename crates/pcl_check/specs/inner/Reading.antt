@@ -1,4 +1,4 @@
--- A page text while it is read. Only contracts of private functions cite this.
+-- A page text while it is read.
 use Rattle.std.specs.Prelude.{◌≡◌, ℕ, ◌+◌, ◌-◌, ◌<◌, ◌≤◌, ◌↔◌, Bool, true, false, IsTrue, List, ◌∷◌, ◌++◌, length, take, drop, replicate, min, codes, decimal, Option, Some, None}
 use Rattle.std.specs.Borrow.{Bor}
 use Rattle.std.specs.List.{flat_map, AllByRecursion}

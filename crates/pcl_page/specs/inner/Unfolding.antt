@@ -1,4 +1,4 @@
--- The interpreter, the situation that it is in, and what it has still to perform. Only contracts of private functions cite this.
+-- The interpreter, the situation that it is in, and what it has still to perform.
 use Rattle.std.specs.Prelude.{◌≡◌, ℕ, zero, suc, ◌+◌, ◌-◌, ◌*◌, ◌<◌, List, [], ◌∷◌, ◌++◌, length, ◌⊎◌, Option, Some, None, Result, Ok, Err}
 use Rattle.pcl_base.specs.declared.dpi.Dpi.{Dpi}
 use Rattle.pcl_base.specs.declared.fault.JobFault.{JobFault}
@@ -18,7 +18,7 @@ use Rattle.pcl_page.specs.declared.interpreter.Running.{Running}
 use Rattle.pcl_page.specs.Situation.{Sheet, Situation, at_end}
 use Rattle.pcl_page.specs.Macros.{Run, left}
 use Rattle.pcl_page.specs.Performing.{Hands, Performance, done, then_on, in_order, step, commands_left, runs, end_refusal}
-use Rattle.pcl_page.specs.Reflecting.{IsIn, HandsMore}
+use Rattle.pcl_page.specs.inner.Reflecting.{IsIn, HandsMore}
 
 -- the interpreter is in the situation
 pub record IsAt (dpi : Dpi) (s : Situation) (interpreter : Interpreter) : Type 0 where

@@ -1,8 +1,8 @@
--- Numbers that never grow along a row, and what is tested of them. Only contracts of private functions cite this.
+-- Numbers that never grow along a row, and what is tested of them.
 use Rattle.std.specs.Prelude.{◌≡◌, ◌≢◌, ℕ, ◌+◌, ◌-◌, ◌<◌, ◌≤◌, max, List, length, slice_index}
 use Rattle.pcl_base.specs.declared.method.Method.{Method}
-use Rattle.pcl_coders.specs.Replacement.{replacement_bytes}
-use Rattle.pcl_check.specs.PlacePasses.{IsGoodEnd, AreGoodSteps}
+use Rattle.pcl_coders.specs.inner.Replacement.{replacement_bytes}
+use Rattle.pcl_check.specs.inner.PlacePasses.{IsGoodEnd, AreGoodSteps}
 
 -- no number is above one before it, or above what least numbers can be
 pub record IsSteady (numbers : List ℕ) : Type 0 where

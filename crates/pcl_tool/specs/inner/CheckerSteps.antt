@@ -1,4 +1,4 @@
--- What becomes of the checker of pages with a page. Only contracts of private functions cite this.
+-- What becomes of the checker of pages with a page.
 use Rattle.std.specs.Prelude.{◌≡◌, ℕ, ◌+◌, List, [], ◌∷◌, take, drop}
 use Rattle.pcl_page.specs.declared.page.Page.{Page}
 use Rattle.pcl_cert.specs.declared.page_proof.PageProof.{PageProof}
@@ -6,7 +6,7 @@ use Rattle.pcl_tool.specs.declared.job_verdict.JobVerdict.{JobVerdict}
 use Rattle.pcl_tool.specs.declared.job_verdict.JobVerdict.TheVariants as job
 use Rattle.pcl_tool.specs.declared.page_checks.Checker.{Checker}
 use Rattle.pcl_tool.specs.JobVerdicts.{IsFramed}
-use Rattle.pcl_tool.specs.PageChecks.{IsFound}
+use Rattle.pcl_tool.specs.inner.PageChecks.{IsFound}
 
 -- as long as nothing is wrong, the next text is looked at; what is found wrong stays
 abbrev pub FindsNext : JobVerdict → PageProof → Checker → Page → Checker → Type 0

@@ -1,10 +1,10 @@
--- The passes by which bad places are found. Only contracts of private functions cite this.
+-- The passes by which bad places are found.
 use Rattle.std.specs.Prelude.{◌≡◌, ◌≢◌, ℕ, ◌+◌, ◌-◌, ◌<◌, ◌≤◌, min, List, length, take, drop, replicate, slice_index, Option, Some, None}
 use Rattle.pcl_bitmap.specs.Kernels.{IsRunEnd}
-use Rattle.pcl_coders.specs.Choosing.{IsLeastLen}
+use Rattle.pcl_coders.specs.inner.Choosing.{IsLeastLen}
 use Rattle.pcl_base.specs.declared.method.Method.{Method}
 use Rattle.pcl_rows.specs.Elements.{Element}
-use Rattle.pcl_coders.specs.Replacement.{replacement_bytes}
+use Rattle.pcl_coders.specs.inner.Replacement.{replacement_bytes}
 use Rattle.pcl_coders.specs.RowWalks.{Leads, Ends, cost}
 
 -- the first of two places

@@ -1,4 +1,4 @@
--- What the checker of pages finds of one page. Only contracts of private functions cite this.
+-- What the checker of pages finds of one page.
 use Rattle.std.specs.Prelude.{◌≡◌, ℕ, List}
 use Rattle.pcl_page.specs.declared.page.Page.{Page}
 use Rattle.pcl_cert.specs.declared.check.Verdict.TheVariants as verdicts
