@@ -17,10 +17,10 @@ build:
 test:
 	rt ci
 
-# The most allocations of a test of want of memory; it has to be above what any of them makes.
+# The most allocations of a test in which memory runs out; it has to be above what any of them makes.
 ALLOCATIONS := 100
 
-# Makes the first allocation of each test of want of memory fail, then the second, and so on, until a run in which
+# Makes the first allocation of each test in which memory runs out fail, then the second, and so on, until a run in which
 # memory ran out nowhere. In each run each of these tests has to pass; the first fails in all of them. It takes some
 # minutes.
 test-memory:

@@ -6,8 +6,10 @@ use Rattle.std.specs.List.{flat_map, AllByRecursion}
 use Rattle.std.proofs.lemmas.Bool.{cases_lt, true≢false}
 use Rattle.std.proofs.lemmas.List.{ext_get_or, get_or_append_left, get_or-append_right, get_or-replicate, get_or_past, get_or-take, length-append, length-replicate, length-take, length-drop, take_more, take_more_set, drop_at, append-nil, take-append-le, drop-append-le, map_push, length-map}
 use Rattle.std.proofs.Math.ListN.{drop_of_length-le}
-use Rattle.pcl_cert.specs.Certificates.{ends_in_zero, IsList, list_bytes}
-use Rattle.pcl_cert.specs.RowTables.{numbers_from, count_of, list_from, lists_within, IsListAt}
+use Rattle.pcl_cert.specs.Certificates.{IsList, list_bytes}
+use Rattle.pcl_cert.specs.CertificateFields.{ends_in_zero}
+use Rattle.pcl_cert.specs.RowTables.{numbers_from}
+use Rattle.pcl_cert.specs.TablesModel.{count_of, list_from, lists_within, IsListAt}
 use Rattle.pcl_cert.specs.PageTables.{table_of, AreLeastTables}
 use Rattle.pcl_base.specs.declared.method.Method.{Method}
 use Rattle.pcl_base.specs.declared.method.Method.TheVariants.{Plain, Runs, Packed, Delta}

@@ -9,7 +9,8 @@ use Rattle.std.proofs.lemmas.List.Concat.{flat_map-cons}
 use Rattle.pcl_cert.specs.declared.format.Format.{Format}
 use Rattle.pcl_cert.specs.declared.format.Format.TheVariants.{One, Two}
 use Rattle.pcl_cert.specs.Certificates.{IsList, list_bytes, lists_bytes, HasLists}
-use Rattle.pcl_cert.specs.RowTables.{numbers_from, count_of}
+use Rattle.pcl_cert.specs.RowTables.{numbers_from}
+use Rattle.pcl_cert.specs.TablesModel.{count_of}
 use Rattle.pcl_cert.specs.ReadingCertificates.{list_at, lists_at, places_at}
 use Rattle.pcl_cert.proofs.FieldsRead.{AreBytes, rest_bytes, front_bytes, Splits, step_ok, same_ok, two_bytes, number_again}
 use Rattle.pcl_cert.proofs.Numbers.{length_numbers, list_spelled}

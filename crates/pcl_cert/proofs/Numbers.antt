@@ -5,8 +5,10 @@ use Rattle.std.specs.List.{flat_map}
 use Rattle.std.proofs.lemmas.List.{drop-drop, drop-take, take-take, length-drop}
 use Rattle.std.proofs.lemmas.List.Concat.{flat_map-cons}
 use Rattle.std.proofs.Math.Seq.{take-add}
-use Rattle.pcl_cert.specs.Certificates.{ends_in_zero, list_bytes}
-use Rattle.pcl_cert.specs.RowTables.{numbers_from, count_of, list_from}
+use Rattle.pcl_cert.specs.Certificates.{list_bytes}
+use Rattle.pcl_cert.specs.CertificateFields.{ends_in_zero}
+use Rattle.pcl_cert.specs.RowTables.{numbers_from}
+use Rattle.pcl_cert.specs.TablesModel.{count_of, list_from}
 use Rattle.pcl_cert.proofs.FieldsRead.{AreBytes, rest_bytes, two_bytes, front_spelled}
 
 pub length_numbers : (n : ℕ) (bytes : List ℕ) → length (numbers_from n bytes) ≡ n

@@ -19,7 +19,8 @@ use Rattle.pcl_cert.specs.declared.fault.CertFault.TheVariants.{BadMagic, Extra}
 use Rattle.pcl_cert.specs.declared.format.Format.{Format}
 use Rattle.pcl_cert.specs.declared.format.Format.TheVariants.{One, Two}
 use Rattle.pcl_cert.specs.declared.page_proof.PageProof.{PageProof}
-use Rattle.pcl_cert.specs.Certificates.{magic, pair_bytes, row_bytes, table_bytes, lists_bytes, rows_in, proof_bytes, certificate_bytes, AreSmall, size_with_height, HasLists, IsProof, AreProofs}
+use Rattle.pcl_cert.specs.Certificates.{pair_bytes, row_bytes, table_bytes, lists_bytes, rows_in, proof_bytes, certificate_bytes, AreSmall, HasLists, IsProof, AreProofs}
+use Rattle.pcl_cert.specs.CertificateFields.{magic, size_with_height}
 use Rattle.pcl_cert.specs.ReadingCertificates.{Gives, contents_of, number_at, format_at, sized, pair_at, row_at, table_at, places_at, proof_at, proofs_at, certificate_at}
 use Rattle.pcl_cert.proofs.FieldsRead.{AreBytes, rest_bytes, Splits, splits_both, step_ok, same_ok, two_bytes, four_bytes}
 use Rattle.pcl_cert.proofs.PagesRead.{tables_are_many, proofs_are_many}

@@ -13,7 +13,8 @@ use Rattle.pcl_plan.specs.PageText.{bitmap_rows}
 use Rattle.pcl_plan.specs.Nodes.{row_at, row_above}
 use Rattle.pcl_cert.specs.RowTables.{list_of}
 use Rattle.pcl_check.specs.Places.{IsGoodPlace, IsFirstPlace, FindsPlace}
-use Rattle.pcl_cert.specs.Checking.{IsGoodIn, Tables, FindsBadBelow, FindsBadIn, IsFirstBadInRow, IsFirstBadIn}
+use Rattle.pcl_cert.specs.Checking.{IsGoodIn, Tables, IsFirstBadIn}
+use Rattle.pcl_cert.specs.inner.FirstBad.{FindsBadBelow, FindsBadIn, IsFirstBadInRow}
 use Rattle.pcl_cert.specs.PageTables.{table_of}
 
 split_or : {a b : ℕ} → a < b + 1 → (a < b) ⊎ (a ≡ b)

@@ -11,7 +11,8 @@ use Rattle.pcl_cert.specs.declared.format.Format.{Format}
 use Rattle.pcl_cert.specs.declared.format.Format.TheVariants.{One, Two}
 use Rattle.pcl_cert.specs.declared.page_proof.PageProof.{PageProof}
 use Rattle.pcl_cert.specs.Certificates.{IsProof, AreProofs, proof_in, proofs_in}
-use Rattle.pcl_cert.specs.RowTables.{count_of, list_from, list_of, lists_within, IsListAt}
+use Rattle.pcl_cert.specs.RowTables.{list_of}
+use Rattle.pcl_cert.specs.TablesModel.{count_of, list_from, lists_within, IsListAt}
 use Rattle.pcl_cert.proofs.Numbers.{length_numbers, number_within}
 
 -- ---- pages

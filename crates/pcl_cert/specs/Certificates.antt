@@ -1,21 +1,15 @@
 -- Certificates: what pages they speak of, and the bytes that they are (docs/CERTIFICATE.md).
-use Rattle.std.specs.Prelude.{◌≡◌, ℕ, ◌+◌, ◌-◌, ◌*◌, ◌^◌, ◌<◌, ◌≤◌, ◌==◌, if◌then◌else◌, nat_eq, Bool, false, List, [], ◌∷◌, ◌++◌, length, map, codes, Option, None, Some}
+use Rattle.std.specs.Prelude.{◌≡◌, ℕ, ◌+◌, ◌-◌, ◌*◌, ◌^◌, ◌<◌, ◌≤◌, false, List, [], ◌++◌, length, map, Option, None, Some}
 use Rattle.std.specs.Int.{w16, w32, to_be_bytes}
 use Rattle.std.specs.List.{flat_map, AllByRecursion}
 use Rattle.pcl_base.specs.declared.dpi.Dpi.{Dpi}
 use Rattle.pcl_base.specs.declared.size.Size.{Size}
-use Rattle.pcl_base.specs.declared.size.Size.TheVariants.{Executive, Letter, Legal, A4}
 use Rattle.pcl_base.specs.Size.{page_height, page_row_bytes}
 use Rattle.pcl_plan.specs.declared.table.RowNumbers.{RowNumbers}
 use Rattle.pcl_cert.specs.declared.format.Format.{Format}
 use Rattle.pcl_cert.specs.declared.format.Format.TheVariants.{One, Two}
 use Rattle.pcl_cert.specs.declared.page_proof.PageProof.{PageProof}
-
--- ---- bytes: the higher bytes of a number come first
-
-abbrev pub magic : Format → List ℕ
-magic One = codes "PCLCERT1"
-magic Two = codes "PCLCERT2"
+use Rattle.pcl_cert.specs.CertificateFields.{ends_in_zero, magic}
 
 -- the numbers behind some rows: for methods 0 to 3 in turn that outside a sequence, then that inside
 abbrev pub pair_bytes : ℕ → ℕ → List ℕ
@@ -49,27 +43,11 @@ proof_bytes proof =
 abbrev pub certificate_bytes : Format → List PageProof → List ℕ
 certificate_bytes format proofs = magic format ++ to_be_bytes w32 (length proofs) ++ flat_map proof_bytes proofs
 
--- ---- what a certificate can hold
-
--- the size of pages that have so many rows
-abbrev pub size_with_height : Dpi → ℕ → Option Size
-size_with_height dpi rows =
-    if rows == page_height Executive dpi then Some Executive
-    else (if rows == page_height Letter dpi then Some Letter
-    else (if rows == page_height Legal dpi then Some Legal
-    else (if rows == page_height A4 dpi then Some A4 else None)))
-
 abbrev pub AreSmall : RowNumbers → Type 0
 AreSmall numbers =
     (numbers.outside.plain < 2 ^ 32) × (numbers.inside.plain < 2 ^ 32) × (numbers.outside.runs < 2 ^ 32)
     × (numbers.inside.runs < 2 ^ 32) × (numbers.outside.packed < 2 ^ 32) × (numbers.inside.packed < 2 ^ 32)
     × (numbers.outside.delta < 2 ^ 32) × (numbers.inside.delta < 2 ^ 32)
-
--- the last of some numbers is 0
-abbrev pub ends_in_zero : List ℕ → Bool
-ends_in_zero [] = false
-ends_in_zero (n ∷ []) = nat_eq n 0
-ends_in_zero (n ∷ m ∷ more) = ends_in_zero (m ∷ more)
 
 -- a list has at most so many numbers, and doesn't end in 0
 pub record IsList (most : ℕ) (numbers : List ℕ) : Type 0 where

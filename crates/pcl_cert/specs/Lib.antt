@@ -4,3 +4,5 @@ pub mod ReadingCertificates
 pub mod PageTables
 pub mod Checking
 pub mod inner
+pub mod CertificateFields
+pub mod TablesModel

@@ -12,7 +12,7 @@ use Rattle.pcl_cert.specs.declared.fault.CertFault.TheVariants.{BadMagic, Short,
 use Rattle.pcl_cert.specs.declared.format.Format.{Format}
 use Rattle.pcl_cert.specs.declared.format.Format.TheVariants.{One, Two}
 use Rattle.pcl_cert.specs.declared.page_proof.PageProof.{PageProof}
-use Rattle.pcl_cert.specs.Certificates.{magic, size_with_height, ends_in_zero}
+use Rattle.pcl_cert.specs.CertificateFields.{magic, size_with_height, ends_in_zero}
 use Rattle.pcl_cert.specs.RowTables.{numbers_from}
 
 infixl 10 ◌>>=◌

@@ -1,7 +1,7 @@
 //! The formats of certificates.
 
 ghost use Rattle.std.specs.Prelude.{◌≡◌};
-ghost use Rattle.pcl_cert.specs.Certificates.{magic};
+ghost use Rattle.pcl_cert.specs.CertificateFields.{magic};
 
 /// A format of certificates (docs/CERTIFICATE.md).
 #[derive(Clone, Copy, Debug, PartialEq, Eq)]

@@ -4,7 +4,8 @@ ghost use Rattle.std.specs.Prelude.{◌≡◌, ◌+◌, ◌*◌, ◌<◌, ◌≤
 ghost use Rattle.pcl_base.specs.Size.{page_height, page_row_bytes};
 ghost use Rattle.pcl_cert.specs.declared.format.Format.{Format as CertificateFormat};
 ghost use Rattle.pcl_cert.specs.declared.page_proof.PageProof.{PageProof as Proof};
-ghost use Rattle.pcl_cert.specs.Certificates.{size_with_height, ends_in_zero, AreProofs, certificate_bytes};
+ghost use Rattle.pcl_cert.specs.Certificates.{AreProofs, certificate_bytes};
+ghost use Rattle.pcl_cert.specs.CertificateFields.{size_with_height, ends_in_zero};
 ghost use Rattle.pcl_cert.specs.RowTables.{numbers_from};
 ghost use Rattle.pcl_cert.specs.ReadingCertificates.{Gives, contents_of, sized, table_at, list_at, lists_at, places_at, proof_at, proofs_at, certificate_at, behind};
 

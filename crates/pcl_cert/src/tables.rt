@@ -2,7 +2,8 @@
 
 ghost use Rattle.std.specs.Prelude.{◌≡◌, ◌++◌, ◌+◌, ◌*◌, ◌/◌, ◌^◌, ◌<◌, ◌≤◌, ◌↔◌, [], length, take, drop, IsTrue, OnOk};
 ghost use Rattle.std.specs.Int.{w16, from_be_bytes};
-ghost use Rattle.pcl_cert.specs.RowTables.{contents, count_of, numbers_from, list_from, list_of, number_at_place, lists_within, IsListAt};
+ghost use Rattle.pcl_cert.specs.RowTables.{numbers_from, list_of, number_at_place};
+ghost use Rattle.pcl_cert.specs.TablesModel.{contents, count_of, list_from, lists_within, IsListAt};
 ghost use Rattle.std.specs.List.{flat_map, AllByRecursion};
 ghost use Rattle.pcl_cert.specs.Certificates.{list_bytes};
 ghost use Rattle.pcl_cert.specs.PageTables.{table_of};
@@ -42,7 +43,7 @@ pub struct RowTables<'a> {
 
 impl<'a> Model for RowTables<'a> {
     ghost use Rattle.std.specs.Prelude.{ℕ, List};
-    ghost use Rattle.pcl_cert.specs.RowTables.{tables_view, AreTables};
+    ghost use Rattle.pcl_cert.specs.TablesModel.{tables_view, AreTables};
 
     ghost Value = { List (List ℕ) };
 

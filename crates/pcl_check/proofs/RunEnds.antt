@@ -6,7 +6,7 @@ use Rattle.std.proofs.lemmas.Bool.{cases_lt, cases_eq}
 use Rattle.std.proofs.lemmas.List.{get_or-set_same, get_or-set_other}
 use Rattle.pcl_plan.specs.Tokens.{IsWhite}
 use Rattle.pcl_plan.specs.Nodes.{row_at}
-use Rattle.pcl_plan.specs.Filling.{IsWhiteRun}
+use Rattle.pcl_plan.specs.inner.Filling.{IsWhiteRun}
 use Rattle.pcl_plan.proofs.Filled.{white_below, run_more, run_none, run_end}
 use Rattle.pcl_check.specs.inner.EdgePasses.{AreRunEnds, AreEnds}
 

@@ -9,11 +9,12 @@ use Rattle.pcl_base.specs.declared.value.Sign.TheVariants.{Absent, Plus, Minus}
 use Rattle.pcl_base.specs.Operation.{operation_of}
 use Rattle.pcl_base.specs.Refusal.{refusal}
 use Rattle.pcl_base.specs.Value.{zero_value}
-use Rattle.pcl_escape.specs.Field.{field_at, field_value}
+use Rattle.pcl_escape.specs.Field.{field_value}
+use Rattle.pcl_escape.specs.inner.Fields.{field_at}
 use Rattle.pcl_escape.specs.Said.{Said}
 use Rattle.pcl_escape.specs.inner.Scan.{named_at, text_at, parameter_at, ungrouped_at, prefix_at, sequence_at, start_at, outcome}
 use Rattle.pcl_escape.specs.Checks.{parameter_checks}
-use Rattle.pcl_escape.specs.Exit.{lines_from}
+use Rattle.pcl_escape.specs.inner.Lines.{lines_from}
 use Rattle.pcl_escape.specs.Pieces.{IsReading}
 use Rattle.pcl_escape.specs.Faults.{IsFault}
 use Rattle.pcl_escape.proofs.Runs.{reading_of, fault_of}

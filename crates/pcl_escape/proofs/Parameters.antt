@@ -11,9 +11,10 @@ use Rattle.pcl_base.specs.Refusal.{refusal}
 use Rattle.pcl_escape.specs.declared.step.Prefix.{Prefix}
 use Rattle.pcl_escape.specs.declared.step.Progress.{Progress}
 use Rattle.pcl_escape.specs.Letter.{goes_on, is_letter, prefix_name, parameter_name}
-use Rattle.pcl_escape.specs.Field.{Spelled, field_value, field_at, in_range}
+use Rattle.pcl_escape.specs.Field.{Spelled, field_value, in_range}
+use Rattle.pcl_escape.specs.inner.Fields.{field_at}
 use Rattle.pcl_escape.specs.Checks.{operation_checks, parameter_checks, exit_name, is_exit}
-use Rattle.pcl_escape.specs.Exit.{lines_at}
+use Rattle.pcl_escape.specs.inner.Lines.{lines_at}
 use Rattle.pcl_escape.specs.Said.{Said}
 use Rattle.pcl_escape.specs.inner.Scan.{Reads, Gives, letter_at, checked_at, parameter_at, with_lines, ungrouped_at}
 

@@ -1,7 +1,6 @@
 -- The lines of the printer's job language behind a universal exit.
-use Rattle.std.specs.Prelude.{◌≡◌, ℕ, zero, suc, ◌+◌, Bool, false, ◌==◌, ◌||◌, not, nat_eq, if◌then◌else◌, IsTrue, List, [], ◌∷◌, ◌++◌, length, take, drop, map, filter, codes, ◌⊎◌, Result, Ok, Err}
+use Rattle.std.specs.Prelude.{◌≡◌, ℕ, ◌+◌, Bool, false, ◌==◌, ◌||◌, not, nat_eq, IsTrue, List, [], ◌∷◌, ◌++◌, map, filter, codes, ◌⊎◌}
 use Rattle.std.specs.List.{starts_with, flat_map, AllByRecursion}
-use Rattle.std.specs.Borrow.{Bor}
 use Rattle.std.specs.Char.{to_ascii_uppercase}
 use Rattle.std.specs.Str.{bytes_eq}
 
@@ -54,29 +53,3 @@ pub data AreLines : List (List ℕ) → List ℕ → Type 0 where
   to_pcl : {behind : List ℕ} (lines : List (List ℕ)) (line : List ℕ)
       → AreOtherLines lines (line ++ behind) → IsLine line behind → IsTrue (names_language line) → IsTrue (names_pcl line)
       → AreLines (lines ++ line ∷ []) behind
-
--- ---- the same from the left
-
--- how many bytes a line has
-abbrev pub line_len : List ℕ → ℕ
-line_len [] = 0
-line_len (byte ∷ bytes) = if byte == 10 then 1 else suc (line_len bytes)
-
--- what stands behind the lines, or where a line asks for another language; the bytes begin at a place
-unfoldable pub lines_from : ℕ → ℕ → List ℕ → Result (List ℕ) ℕ
-lines_from zero place bytes = Ok bytes
-lines_from (suc more) place bytes =
-    let line = take (line_len bytes) bytes in
-    let behind = drop (line_len bytes) bytes in
-    if not (is_job_line bytes) then Ok bytes
-    else (if not (names_language line) then lines_from more (place + line_len bytes) behind
-    else (if names_pcl line then Ok behind else Err place))
-
--- each line has bytes
-abbrev pub lines_at : ℕ → List ℕ → Result (List ℕ) ℕ
-lines_at place bytes = lines_from (suc (length bytes)) place bytes
-
--- what a function returned is what stands behind the lines
-abbrev pub GivesRest : Result (Bor (List ℕ)) ℕ → Result (List ℕ) ℕ → Type 0
-GivesRest (Ok rest) read = read ≡ Ok rest.now
-GivesRest (Err place) read = read ≡ Err place

@@ -1,7 +1,8 @@
 //! The lines of the printer's job language behind a universal exit.
 
 ghost use Rattle.std.specs.Prelude.{◌≡◌, ◌≤◌, ◌+◌, length, take};
-ghost use Rattle.pcl_escape.specs.Exit.{GivesRest, is_blank, line_len, lines_at, squeezed};
+ghost use Rattle.pcl_escape.specs.Exit.{is_blank, squeezed};
+ghost use Rattle.pcl_escape.specs.inner.Lines.{GivesRest, line_len, lines_at};
 
 use arrayvec::ArrayVec;
 

@@ -2,7 +2,8 @@
 
 ghost use Rattle.std.specs.Prelude.{◌≡◌, ◌≤◌, if◌then◌else◌, Some, None, min, length};
 ghost use Rattle.std.specs.List.{prefix_len};
-ghost use Rattle.pcl_escape.specs.Field.{spelled, contents, is_digit, digits_at, sign_at, fraction_at, field_at, number_of, digit_at, ten_thousandths, field_value, in_range};
+ghost use Rattle.pcl_escape.specs.Field.{spelled, contents, is_digit, number_of, digit_at, ten_thousandths, field_value, in_range};
+ghost use Rattle.pcl_escape.specs.inner.Fields.{digits_at, sign_at, fraction_at, field_at};
 
 use pcl_base::{Sign, Value};
 
@@ -27,7 +28,7 @@ const GREATEST: u32 = 655_350_000;
 const GREATEST_BELOW_ZERO: u32 = 327_670_000;
 
 /// The value field at the front of the bytes, and the bytes after it. Each of its parts may be missing.
-#[tactic(auto, unfolding(crate::specs::Field::field_at))]
+#[tactic(auto, unfolding(crate::specs::inner::Fields::field_at))]
 pub fn read_field(bytes: &[u8]) -> (Field<'_>, &[u8])
     ensures { (spelled result.0, result.1.now) ≡ field_at bytes.now }
 {

@@ -31,7 +31,8 @@ use Rattle.pcl_page.specs.declared.interpreter.Running.{Running}
 use Rattle.pcl_page.specs.declared.macros.Action.TheVariants.{Begin, End, Execute, Call, Control}
 use Rattle.pcl_page.specs.Situation.{Sheet, Situation, is_marked, turned, done_with, taken, counted, prepared, is_ignored, after, command_refusal, at_end, page_refusal}
 use Rattle.pcl_page.specs.Macros.{Run, definition_ended, acted, managed, and_then, after_at, if_not_refused, counting, run_by, run_from, run_with, macro_now}
-use Rattle.pcl_page.specs.Performing.{Hands, end_refusal}
+use Rattle.pcl_page.specs.Performing.{end_refusal}
+use Rattle.pcl_page.specs.Delivering.{Hands}
 use Rattle.pcl_page.specs.inner.Reflecting.{IsIn, HandsMore, IsTried, EndDone}
 use Rattle.pcl_page.specs.inner.Unfolding.{IsAt, Enters, IsStepped, IsActed, IsEntered, InterpreterEnds}
 use Rattle.pcl_page.proofs.Keeping.{after_adds}

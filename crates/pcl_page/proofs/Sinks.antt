@@ -7,7 +7,8 @@ use Rattle.pcl_escape.specs.Said.{Said}
 use Rattle.pcl_page.specs.declared.page.Page.{Page}
 use Rattle.pcl_page.specs.declared.interpreter.Interpreter.{Interpreter}
 use Rattle.pcl_page.specs.Situation.{Sheet, Situation}
-use Rattle.pcl_page.specs.Performing.{Hands, Performance}
+use Rattle.pcl_page.specs.Performing.{Performance}
+use Rattle.pcl_page.specs.Delivering.{Hands}
 use Rattle.pcl_page.specs.inner.Reflecting.{HandsMore}
 use Rattle.pcl_page.specs.inner.Unfolding.{HandsFirst, GoesOn}
 

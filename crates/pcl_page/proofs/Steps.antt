@@ -21,7 +21,8 @@ use Rattle.pcl_page.specs.declared.page.Page.{Page}
 use Rattle.pcl_page.specs.declared.performer.Performer.{Performer}
 use Rattle.pcl_page.specs.Raster.{Raster, ends_raster, is_ignored_in_raster}
 use Rattle.pcl_page.specs.Situation.{Sheet, Situation, without_temporary, draw_refusal, unless_refused, drawn_on, settings_below, end_raster, is_marked, sheet_of, turned, drawn, done_with, taken, counted, prepared, is_ignored, after, at_end, page_refusal, refusal_after, operation_refusal, command_refusal}
-use Rattle.pcl_page.specs.Performing.{Shows, Hands}
+use Rattle.pcl_page.specs.Performing.{Shows}
+use Rattle.pcl_page.specs.Delivering.{Hands}
 use Rattle.pcl_page.specs.inner.Reflecting.{IsIn, Takes, Draws, HandsMore, IsTurned, IsTried}
 use Rattle.pcl_page.proofs.Turns.{holds_same, painted_same, prepared_page, with_settings, turned_page, pages_fit, pages_past, handed_sheet}
 use Rattle.pcl_page.proofs.Keeping.{drawn_keeps}

@@ -6,3 +6,4 @@ pub mod Macros
 pub mod Performing
 pub mod Jobs
 pub mod inner
+pub mod Delivering

@@ -1,8 +1,6 @@
 -- What performing a job does: how far it comes, what it refuses, and which pages it hands over.
-use Rattle.std.specs.Prelude.{◌≡◌, ℕ, zero, suc, ◌+◌, ◌-◌, ◌<◌, is_some, if◌then◌else◌, List, [], ◌∷◌, ◌++◌, take, drop, Option, Some, None, Result, Ok, Err}
+use Rattle.std.specs.Prelude.{◌≡◌, ℕ, zero, suc, ◌+◌, ◌-◌, ◌<◌, is_some, if◌then◌else◌, List, [], ◌∷◌, take, drop, Option, Some, None, Result, Ok, Err}
 use Rattle.pcl_base.specs.declared.dpi.Dpi.{Dpi}
-use Rattle.pcl_base.specs.declared.fault.JobFault.{JobFault}
-use Rattle.pcl_base.specs.declared.fault.JobFault.TheVariants.{Refused, Memory}
 use Rattle.pcl_base.specs.declared.kind.Kind.{Kind}
 use Rattle.pcl_base.specs.declared.kind.Kind.TheVariants.{MacroOpen, MacroDepth}
 use Rattle.pcl_base.specs.declared.name.Name.TheVariants.{Empty}
@@ -25,19 +23,6 @@ pub record Shows (dpi : Dpi) (page : Page) (sheet : Sheet) : Type 0 where
   pub resolution : page.dpi ≡ dpi
   pub copies : page.copies ≡ sheet.copies
   pub dots : (x y : ℕ) → x < page_width sheet.size dpi → y < page_height sheet.size dpi → dot page.bitmap x y ≡ is_black sheet.marks x y
-
--- two pages with the same contents
-pub record IsSamePage (page other : Page) : Type 0 where
-  pub size : other.size ≡ page.size
-  pub copies : other.copies ≡ page.copies
-  pub resolution : other.dpi ≡ page.dpi
-  pub bitmap : other.bitmap ≡ page.bitmap
-
--- a sink takes pages that show these sheets, in order, each once
-abbrev pub Hands : {S : Type 0} → (S → Page → S → Type 0) → Dpi → List Sheet → S → S → Type 0
-Hands {S} takes dpi [] old new = new ≡ old
-Hands {S} takes dpi (sheet ∷ later) old new =
-    (page : Page) × (mid : S) × Shows dpi page sheet × takes old page mid × Hands takes dpi later mid new
 
 -- ---- commands in order
 
@@ -118,12 +103,3 @@ performance dpi end commands = then_on (after_all dpi commands 0 commands at_beg
 -- the pages that were ejected
 abbrev pub pages_of : Performance → List Sheet
 pages_of performance = performance.situation.pages
-
--- the pages go to the sink: each of them where the job is accepted, those before the refused command, or the first of these
--- where memory runs
--- out
-abbrev pub HandsOver : {S : Type 0} → (S → Page → S → Type 0) → Dpi → Performance → Result (Unit {0}) JobFault → S → S → Type 0
-HandsOver {S} takes dpi done (Ok unit) old new = (done.refusal ≡ None) × Hands takes dpi (pages_of done) old new
-HandsOver {S} takes dpi done (Err (Refused why)) old new = (done.refusal ≡ Some why) × Hands takes dpi (pages_of done) old new
-HandsOver {S} takes dpi done (Err Memory) old new =
-    (front rest : List Sheet) × (pages_of done ≡ front ++ rest) × Hands takes dpi front old new

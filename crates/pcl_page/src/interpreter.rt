@@ -42,7 +42,8 @@ impl<'a> Interpreter<'a> {
     ghost use Rattle.pcl_base.specs.Operation.{operation_of};
     ghost use Rattle.pcl_escape.specs.Said.{Said, view, views};
     ghost use Rattle.pcl_macros.specs.Table.{is_begun, macro_at};
-    ghost use Rattle.pcl_page.specs.Performing.{HandsOver, performance};
+    ghost use Rattle.pcl_page.specs.Performing.{performance};
+    ghost use Rattle.pcl_page.specs.Delivering.{HandsOver};
     ghost use Rattle.pcl_page.specs.Situation.{Situation, at_begin};
     ghost use Rattle.pcl_page.specs.Macros.{action_of, keeping_of, acted, managed, counting, after_command, run_by, run_from, run_of, run_with, left};
     ghost use Rattle.pcl_page.specs.inner.Reflecting.{EndDone};

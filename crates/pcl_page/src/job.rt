@@ -1,12 +1,14 @@
 //! Performing whole jobs.
 
 ghost use Rattle.pcl_escape.specs.Said.{views};
-ghost use Rattle.pcl_page.specs.Performing.{HandsOver, performance};
+ghost use Rattle.pcl_page.specs.Performing.{performance};
+ghost use Rattle.pcl_page.specs.Delivering.{HandsOver};
 ghost use Rattle.std.specs.Prelude.{◌≡◌, ℕ, List};
 ghost use Rattle.pcl_base.specs.declared.dpi.Dpi.{Dpi};
 ghost use Rattle.pcl_base.specs.declared.refusal.Refusal.{Refusal};
 ghost use Rattle.pcl_page.specs.Situation.{Sheet};
-ghost use Rattle.pcl_page.specs.Jobs.{HasPages, IsRefusal, Delivers, IsPagesOf};
+ghost use Rattle.pcl_page.specs.Jobs.{HasPages};
+ghost use Rattle.pcl_page.specs.Delivering.{IsRefusal, Delivers, IsPagesOf};
 
 use crate::interpreter::Interpreter;
 use crate::{Page, PageSink};
@@ -88,7 +90,7 @@ impl Model for Collected {
 impl PageSink for Collected {
     ghost use Rattle.std.specs.Prelude.{◌≡◌, ◌++◌, ◌∷◌, []};
     ghost use Rattle.pcl_page.specs.declared.page.Page.{Page};
-    ghost use Rattle.pcl_page.specs.Performing.{IsSamePage};
+    ghost use Rattle.pcl_page.specs.Delivering.{IsSamePage};
 
     ghost takes = { λ old page new. (copy : Page) × (new ≡ old ++ copy ∷ []) × IsSamePage page copy };
 

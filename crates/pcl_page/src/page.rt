@@ -26,7 +26,7 @@ pub struct Page {
 
 impl Page {
     ghost use Rattle.std.specs.Prelude.{IfOk};
-    ghost use Rattle.pcl_page.specs.Performing.{IsSamePage};
+    ghost use Rattle.pcl_page.specs.Delivering.{IsSamePage};
 
     /// The same page once more.
     pub fn try_clone(&self) -> Result<Page, AllocError>

@@ -9,7 +9,8 @@ use Rattle.pcl_plan.specs.declared.table.RowNumbers.{RowNumbers}
 use Rattle.pcl_plan.specs.Tokens.{IsWhite, AreWhite}
 use Rattle.pcl_plan.specs.Nodes.{Node, row_at, row_above}
 use Rattle.pcl_plan.specs.Table.{number_in, node_number, end_numbers}
-use Rattle.pcl_plan.specs.Filling.{rest, skipping, AreSkippable, IsWhiteRun, IsReadable, IsLeastStart, IsDirect, AreRowNumbers, IsRowRight, AreRightFrom}
+use Rattle.pcl_plan.specs.Filling.{rest}
+use Rattle.pcl_plan.specs.inner.Filling.{skipping, AreSkippable, IsWhiteRun, IsReadable, IsLeastStart, IsDirect, AreRowNumbers, IsRowRight, AreRightFrom}
 use Rattle.pcl_plan.proofs.Walking.{node, white_at}
 use Rattle.pcl_plan.proofs.RightRows.{row_stays, white_row_right}
 use Rattle.pcl_plan.proofs.InkedRows.{inked_row_right}

@@ -12,7 +12,8 @@ use Rattle.pcl_plan.specs.Tokens.{Token, opening, method, skip, send, IsSpelled,
 use Rattle.pcl_plan.specs.Nodes.{Node, row_at, row_above, Leads, Ends, cost}
 use Rattle.pcl_plan.specs.Spelling.{least_spelling, digit_count}
 use Rattle.pcl_plan.specs.Table.{number_in}
-use Rattle.pcl_plan.specs.Filling.{switching, sending, outside, inside, rest, skipping, AreSkippable, IsDirect, IsSwitched, IsRowRight}
+use Rattle.pcl_plan.specs.Filling.{switching, outside, inside, rest, IsSwitched}
+use Rattle.pcl_plan.specs.inner.Filling.{sending, skipping, AreSkippable, IsDirect, IsRowRight}
 use Rattle.pcl_plan.proofs.Digits.{count_le, count_grows, spelled_long, least_spelled, length-least_spelling}
 use Rattle.pcl_plan.proofs.Walking.{node}
 use Rattle.pcl_plan.proofs.RightRows.{cost_opening, cost_method, cost_skip, cost_send, method_small, at_row, rest_below, best_end}

@@ -3,7 +3,7 @@ use Rattle.std.proofs.Common.{◌≡◌, ℕ, List, sym, subst}
 use Rattle.pcl_plan.specs.declared.table.RowNumbers.{RowNumbers}
 use Rattle.pcl_plan.specs.declared.step.Step.{Step}
 use Rattle.pcl_plan.specs.Table.{node_number}
-use Rattle.pcl_plan.specs.Filling.{AreRightFrom}
+use Rattle.pcl_plan.specs.inner.Filling.{AreRightFrom}
 use Rattle.pcl_plan.specs.inner.Reading.{AreLeastSteps}
 use Rattle.pcl_plan.specs.Plans.{StepsAndTable, IsPlan}
 use Rattle.pcl_plan.proofs.Reading.{feasible_table, least_table}

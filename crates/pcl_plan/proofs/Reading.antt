@@ -16,7 +16,8 @@ use Rattle.pcl_plan.specs.Tokens.{Token, opening, method, skip, send, IsSpelled,
 use Rattle.pcl_plan.specs.Nodes.{Node, row_at, row_above, Leads, Ends, cost}
 use Rattle.pcl_plan.specs.Spelling.{least_spelling}
 use Rattle.pcl_plan.specs.Table.{number_in, no_numbers, node_number}
-use Rattle.pcl_plan.specs.Filling.{switching, sending, outside, inside, rest, skipping, AreSkippable, IsWhiteRun, IsReadable, AreRightFrom}
+use Rattle.pcl_plan.specs.Filling.{switching, outside, inside, rest}
+use Rattle.pcl_plan.specs.inner.Filling.{sending, skipping, AreSkippable, IsWhiteRun, IsReadable, AreRightFrom}
 use Rattle.pcl_plan.proofs.Digits.{count_grows, spelled_long}
 use Rattle.pcl_plan.proofs.Walking.{node}
 use Rattle.pcl_plan.proofs.RightRows.{cost_opening, cost_method, cost_skip, cost_send, cost_some, method_small, rest_below, best_end}

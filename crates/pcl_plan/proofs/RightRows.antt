@@ -9,7 +9,8 @@ use Rattle.pcl_base.specs.Method.{method_code}
 use Rattle.pcl_coders.specs.Walks.{IsAttained}
 use Rattle.pcl_plan.specs.Tokens.{Token, opening, method, skip, send, letter, AreWhite}
 use Rattle.pcl_plan.specs.Nodes.{Node, Leads, Ends, cost}
-use Rattle.pcl_plan.specs.Filling.{outside, inside, rest, IsRowRight}
+use Rattle.pcl_plan.specs.Filling.{outside, inside, rest}
+use Rattle.pcl_plan.specs.inner.Filling.{IsRowRight}
 use Rattle.pcl_plan.proofs.Walking.{node}
 
 -- ---- tokens

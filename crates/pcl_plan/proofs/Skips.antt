@@ -6,7 +6,7 @@ use Rattle.pcl_plan.specs.Spelling.{digit_count}
 use Rattle.pcl_plan.specs.declared.fill.Skip.{Skip}
 use Rattle.pcl_plan.specs.declared.table.RowNumbers.{RowNumbers}
 use Rattle.pcl_plan.specs.Table.{node_number}
-use Rattle.pcl_plan.specs.Filling.{skipping, IsLeastSkip, IsReadable}
+use Rattle.pcl_plan.specs.inner.Filling.{skipping, IsLeastSkip, IsReadable}
 use Rattle.pcl_plan.proofs.Digits.{count_le, count_above}
 
 -- more rows are as good, where they need no more digits

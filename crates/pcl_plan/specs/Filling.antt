@@ -1,25 +1,17 @@
 -- A table while it is filled, from behind the last row upwards. Only contracts of private functions cite this.
-use Rattle.std.specs.Prelude.{◌≡◌, ℕ, ◌+◌, ◌-◌, ◌*◌, ◌<◌, ◌≤◌, ◌⊎◌, min, true, false, List, length, take, drop}
+use Rattle.std.specs.Prelude.{◌≡◌, ℕ, ◌+◌, ◌-◌, ◌≤◌, ◌⊎◌, min, true, false}
 use Rattle.pcl_base.specs.declared.method.Method.{Method}
 use Rattle.pcl_base.specs.Method.{method_code}
-use Rattle.pcl_coders.specs.Coding.{IsLeastLength}
-use Rattle.pcl_coders.specs.Walks.{IsAttained}
-use Rattle.pcl_plan.specs.Tokens.{Token, IsWhite, AreWhite}
-use Rattle.pcl_plan.specs.Nodes.{Node, row_at, row_above, Leads, Ends, cost}
+use Rattle.pcl_plan.specs.Nodes.{Node, cost}
 use Rattle.pcl_plan.specs.Spelling.{digit_count}
-use Rattle.pcl_plan.specs.declared.fill.Skip.{Skip}
 use Rattle.pcl_plan.specs.declared.table.RowNumbers.{RowNumbers}
-use Rattle.pcl_plan.specs.Table.{number_in, node_number}
+use Rattle.pcl_plan.specs.Table.{number_in}
 
 -- ---- what parameters cost
 
 -- a method
 abbrev pub switching : Method → ℕ
 switching next = digit_count (method_code next) + 1
-
--- a row of so many bytes of data
-abbrev pub sending : ℕ → ℕ
-sending bytes = digit_count bytes + 1 + bytes
 
 -- the number behind so many rows, outside a sequence and inside one, and the lesser of the two
 abbrev pub outside : (Node → ℕ) → ℕ → Method → ℕ
@@ -31,57 +23,6 @@ inside number row method = number (record { row = row; method = method; inside =
 abbrev pub rest : (Node → ℕ) → ℕ → Method → ℕ
 rest number row method = min (outside number row method) (inside number row method)
 
--- so many rows that are skipped, and what comes behind them
-abbrev pub skipping : (Node → ℕ) → ℕ → Method → ℕ → ℕ
-skipping number row method count = digit_count count + 1 + rest number (row + count) method
-
--- ---- white rows
-
--- some rows from a row on that are white
-abbrev pub AreSkippable : List (List ℕ) → ℕ → ℕ → Type 0
-AreSkippable rows row count = (0 < count) × (row + count ≤ length rows) × AreWhite (take count (drop row rows))
-
--- how many rows are white from a row on
-pub record IsWhiteRun (rows : List (List ℕ)) (row run : ℕ) : Type 0 where
-  pub within : row + run ≤ length rows
-  pub white : AreWhite (take run (drop row rows))
-  pub longest : row + run < length rows → IsWhite (row_at rows (row + run)) → ⊥
-
--- ---- the numbers of a row that isn't in white rest
-
--- a count of rows whose skipping costs least, among those up to a count
-pub record IsLeastSkip (number : Node → ℕ) (row : ℕ) (method : Method) (run : ℕ) (skip : Skip) : Type 0 where
-  pub bound : (count : ℕ) → 0 < count → count ≤ run → skip.number ≤ skipping number row method count
-  pub some : 0 < skip.count
-  pub within : skip.count ≤ run
-  pub number_is : skip.number ≡ skipping number row method skip.count
-
--- what is known of a table where a row is sent or some of so many rows are skipped: the numbers that are read are
--- small, and don't grow across the rows that may be skipped
-pub record IsReadable (table : List RowNumbers) (row run : ℕ) : Type 0 where
-  pub next : row + 1 < length table
-  pub within : row + run < length table
-  pub few : length table ≤ 10000
-  pub falls : (method : Method) (near far : ℕ) → 0 < near → near ≤ far → far ≤ run
-      → rest (node_number table) (row + far) method ≤ rest (node_number table) (row + near) method
-  pub small : (a : Node) → row < a.row → a.row < length table → node_number table a ≤ 655374457
-
--- the least of sending a row by so many bytes, and of skipping some of so many rows
-pub record IsLeastStart (number : Node → ℕ) (row : ℕ) (method : Method) (run bytes least : ℕ) : Type 0 where
-  pub sent : least ≤ sending bytes + outside number (row + 1) method
-  pub skipped : (count : ℕ) → 0 < count → count ≤ run → least ≤ skipping number row method count
-  pub attained : (least ≡ sending bytes + outside number (row + 1) method)
-      ⊎ ((count : ℕ) × (0 < count) × (count ≤ run) × (least ≡ skipping number row method count))
-
--- the least that comes in an open sequence where no method is set first: the row is sent, or rows are skipped
-pub record IsDirect (width : ℕ) (rows : List (List ℕ)) (number : Node → ℕ) (row : ℕ) (method : Method) (least : ℕ) : Type 0 where
-  pub bytes : ℕ
-  pub is_length : IsLeastLength method (row_above width rows row) (row_at rows row) bytes
-  pub sent : least ≤ sending bytes + outside number (row + 1) method
-  pub skipped : (count : ℕ) → AreSkippable rows row count → least ≤ skipping number row method count
-  pub attained : (least ≡ sending bytes + outside number (row + 1) method)
-      ⊎ ((count : ℕ) × AreSkippable rows row count × (least ≡ skipping number row method count))
-
 -- the numbers of a row: with a switch before that, or none, and with a sequence opened
 pub record IsSwitched (direct : Method → ℕ) (numbers : RowNumbers) : Type 0 where
   pub stays : (method : Method) → number_in numbers method true ≤ direct method
@@ -89,25 +30,3 @@ pub record IsSwitched (direct : Method → ℕ) (numbers : RowNumbers) : Type 0 
   pub attained : (method : Method) → (number_in numbers method true ≡ direct method)
       ⊎ ((next : Method) × (number_in numbers method true ≡ switching next + direct next))
   pub opens : (method : Method) → number_in numbers method false ≡ 3 + number_in numbers method true
-
--- the least that comes in each method with no switch before it, and the numbers by that
-pub record AreRowNumbers (width : ℕ) (rows : List (List ℕ)) (number : Node → ℕ) (row : ℕ) (numbers : RowNumbers) : Type 0 where
-  pub direct : Method → ℕ
-  pub are_direct : (method : Method) → IsDirect width rows number row method (direct method)
-  pub switched : IsSwitched direct numbers
-
--- ---- rows that are done
-
--- the numbers behind so many rows are right, where those behind more are
-pub record IsRowRight (width : ℕ) (rows : List (List ℕ)) (number : Node → ℕ) (row : ℕ) : Type 0 where
-  pub steps : (a : Node) (token : Token) (b : Node) → a.row ≡ row → Leads width rows a token b → number a ≤ cost token + number b
-  pub ends : (a : Node) → a.row ≡ row → Ends rows a → number a ≡ 0
-  pub attained : (a : Node) → a.row ≡ row → IsAttained (Leads width rows) (Ends rows) cost a (number a)
-  -- a walk from a white row is as good without it
-  pub falls : (method : Method) → row < length rows → IsWhite (row_at rows row) → rest number (row + 1) method ≤ rest number row method
-  pub small : (a : Node) → a.row ≡ row → number a ≤ 65544 * (length rows - row) + 1
-
--- the numbers of a table are right from a row on
-pub record AreRightFrom (width : ℕ) (rows : List (List ℕ)) (table : List RowNumbers) (from : ℕ) : Type 0 where
-  pub size : length table ≡ length rows + 1
-  pub right : (row : ℕ) → from ≤ row → row ≤ length rows → IsRowRight width rows (node_number table) row

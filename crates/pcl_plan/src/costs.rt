@@ -2,7 +2,7 @@
 
 ghost use Rattle.std.specs.Prelude.{◌≡◌, ◌+◌, ◌<◌, ◌≤◌};
 ghost use Rattle.pcl_plan.specs.Spelling.{digit_count};
-ghost use Rattle.pcl_plan.specs.Filling.{sending};
+ghost use Rattle.pcl_plan.specs.inner.Filling.{sending};
 
 /// How many digits a number needs: 0 has none.
 pub fn digits(number: u32) -> u32

@@ -6,7 +6,7 @@ ghost use Rattle.pcl_coders.specs.Coding.{IsLeastLength};
 ghost use Rattle.pcl_plan.specs.Nodes.{row_at, row_above};
 ghost use Rattle.pcl_plan.specs.Table.{by_method, node_number};
 ghost use Rattle.pcl_plan.specs.inner.Rows.{rows_of};
-ghost use Rattle.pcl_plan.specs.Filling.{skipping, IsWhiteRun, IsLeastSkip, IsReadable, IsLeastStart, AreRowNumbers, AreRightFrom};
+ghost use Rattle.pcl_plan.specs.inner.Filling.{skipping, IsWhiteRun, IsLeastSkip, IsReadable, IsLeastStart, AreRowNumbers, AreRightFrom};
 
 use crate::by_method::ByMethod;
 use crate::costs::{digits, sending_cost};

@@ -19,7 +19,7 @@ pub struct Rows<'a> {
 
 impl<'a> Rows<'a> {
     ghost use Rattle.pcl_plan.specs.inner.Rows.{rows_of};
-    ghost use Rattle.pcl_plan.specs.Filling.{IsWhiteRun};
+    ghost use Rattle.pcl_plan.specs.inner.Filling.{IsWhiteRun};
 
     /// Row `y`, the topmost row 0.
     pub fn row(&self, y: u32) -> &[u8]

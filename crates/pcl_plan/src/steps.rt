@@ -6,7 +6,8 @@ ghost use Rattle.pcl_coders.specs.Coding.{IsLeastLength};
 ghost use Rattle.pcl_plan.specs.Nodes.{row_at, row_above};
 ghost use Rattle.pcl_plan.specs.Table.{node_number};
 ghost use Rattle.pcl_plan.specs.inner.Rows.{rows_of};
-ghost use Rattle.pcl_plan.specs.Filling.{outside, rest, switching, skipping, IsReadable, AreRightFrom};
+ghost use Rattle.pcl_plan.specs.Filling.{outside, rest, switching};
+ghost use Rattle.pcl_plan.specs.inner.Filling.{skipping, IsReadable, AreRightFrom};
 ghost use Rattle.pcl_plan.specs.inner.Reading.{AreLeastSteps, IsBestStep};
 
 use crate::costs::{digits, sending_cost};

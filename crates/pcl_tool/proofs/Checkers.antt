@@ -4,7 +4,8 @@ use Rattle.std.proofs.lemmas.List.{length-drop, length-take-le, take-append-drop
 use Rattle.pcl_base.specs.declared.dpi.Dpi.{Dpi}
 use Rattle.pcl_page.specs.declared.page.Page.{Page}
 use Rattle.pcl_page.specs.Situation.{Sheet}
-use Rattle.pcl_page.specs.Performing.{Shows, Hands}
+use Rattle.pcl_page.specs.Performing.{Shows}
+use Rattle.pcl_page.specs.Delivering.{Hands}
 use Rattle.pcl_cert.specs.declared.check.Verdict.TheVariants as verdicts
 use Rattle.pcl_cert.specs.declared.page_proof.PageProof.{PageProof}
 use Rattle.pcl_cert.specs.Checking.{IsVerdict}

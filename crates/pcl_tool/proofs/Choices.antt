@@ -8,12 +8,14 @@ use Rattle.pcl_base.specs.declared.dpi.Dpi.{Dpi}
 use Rattle.pcl_bitmap.specs.Bitmap.{Picture}
 use Rattle.pcl_page.specs.declared.page.Page.{Page}
 use Rattle.pcl_page.specs.Situation.{Sheet}
-use Rattle.pcl_page.specs.Performing.{Shows, Hands}
+use Rattle.pcl_page.specs.Performing.{Shows}
+use Rattle.pcl_page.specs.Delivering.{Hands}
 use Rattle.pcl_tool.specs.declared.page_preview.Chosen.{Chosen}
 use Rattle.pcl_page.specs.Jobs.{HasPages}
 use Rattle.pcl_tool.specs.declared.fault.Fault.{Fault}
 use Rattle.pcl_tool.specs.declared.fault.Fault.TheVariants.{Refused, Memory, ReadFault, TooLong, WriteFault, NoSuchPage}
-use Rattle.pcl_tool.specs.Image.{image_of, IsImageWritten}
+use Rattle.pcl_tool.specs.Image.{image_of}
+use Rattle.pcl_tool.specs.inner.Writing.{IsImageWritten}
 use Rattle.pcl_tool.specs.Preview.{IsImageOf, HasNoPage, IsPreview}
 use Rattle.pcl_tool.specs.inner.Choice.{chosen_after}
 

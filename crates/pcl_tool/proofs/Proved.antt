@@ -5,7 +5,7 @@ use Rattle.std.proofs.lemmas.List.{append-nil}
 use Rattle.pcl_base.specs.declared.dpi.Dpi.{Dpi}
 use Rattle.pcl_page.specs.declared.page.Page.{Page}
 use Rattle.pcl_page.specs.Situation.{Sheet}
-use Rattle.pcl_page.specs.Performing.{Hands}
+use Rattle.pcl_page.specs.Delivering.{Hands}
 use Rattle.pcl_page.specs.Jobs.{HasPages}
 use Rattle.pcl_plan.specs.Tokens.{frame_bytes}
 use Rattle.pcl_plan.specs.PagePlans.{IsPlanOf}

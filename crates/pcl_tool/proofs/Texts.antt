@@ -6,7 +6,7 @@ use Rattle.pcl_base.specs.declared.fault.JobFault.{JobFault}
 use Rattle.pcl_base.specs.declared.fault.JobFault.TheVariants.{Refused, Memory}
 use Rattle.pcl_page.specs.declared.page.Page.{Page}
 use Rattle.pcl_page.specs.Situation.{Sheet}
-use Rattle.pcl_page.specs.Performing.{Hands}
+use Rattle.pcl_page.specs.Delivering.{Hands}
 use Rattle.pcl_page.specs.Jobs.{HasPages}
 use Rattle.pcl_plan.specs.Tokens.{frame_bytes}
 use Rattle.pcl_writer.specs.Appending.{AppendsPage, IsWrittenPage}
@@ -14,7 +14,8 @@ use Rattle.pcl_meaning.specs.JobTexts.{PrintEach}
 use Rattle.pcl_meaning.proofs.Jobs.{IsAgain, written_again}
 use Rattle.pcl_tool.specs.JobFaults.{fault_of}
 use Rattle.pcl_tool.specs.inner.Watching.{HasTaken}
-use Rattle.pcl_tool.specs.Minimizing.{IsJobOf, IsJobWritten}
+use Rattle.pcl_tool.specs.Minimizing.{IsJobOf}
+use Rattle.pcl_tool.specs.inner.Writing.{IsJobWritten}
 
 pub texts_gathered : (dpi : Dpi) (sheets : List Sheet) (old : List ℕ) {new : List ℕ}
     → Hands (λ (o : List ℕ) (page : Page) (n : List ℕ). AppendsPage page o n) dpi sheets old new

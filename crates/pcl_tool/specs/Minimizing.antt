@@ -1,11 +1,11 @@
 -- A job written again.
 use Rattle.std.specs.Prelude.{◌≡◌, ℕ, ◌+◌, ◌≤◌, List, ◌++◌, length, ◌⊎◌, Option, Result, Ok, Err}
-use Rattle.std.specs.Global.{Vec}
 use Rattle.std.specs.Io.KnownBytes.{Consumes, Appends, IsAtEnd, Keeps}
 use Rattle.pcl_base.specs.declared.dpi.Dpi.{Dpi}
 pub use Rattle.pcl_base.specs.Limits.{input_limit}
 use Rattle.pcl_page.specs.Situation.{Sheet}
-use Rattle.pcl_page.specs.Jobs.{HasPages, IsRefusal}
+use Rattle.pcl_page.specs.Jobs.{HasPages}
+use Rattle.pcl_page.specs.Delivering.{IsRefusal}
 use Rattle.pcl_plan.specs.Tokens.{frame_bytes}
 use Rattle.pcl_writer.specs.Appending.{IsWrittenPage}
 use Rattle.pcl_meaning.specs.Alike.{AllAlike, most_commands}
@@ -52,16 +52,6 @@ IsMinimized dpi format job (Err ReadFault) = ⊥
 IsMinimized dpi format job (Err TooLong) = ⊥
 IsMinimized dpi format job (Err WriteFault) = ⊥
 IsMinimized dpi format job (Err NoSuchPage) = ⊥
-
--- the same of the job alone
-abbrev pub IsJobWritten : Dpi → List ℕ → Result (Vec ℕ) Fault → Type 0
-IsJobWritten dpi job (Ok output) = IsJobOf dpi job output.items
-IsJobWritten dpi job (Err (Refused refusal)) = IsRefusal dpi job refusal
-IsJobWritten dpi job (Err Memory) = Unit {0}
-IsJobWritten dpi job (Err ReadFault) = ⊥
-IsJobWritten dpi job (Err TooLong) = ⊥
-IsJobWritten dpi job (Err WriteFault) = ⊥
-IsJobWritten dpi job (Err NoSuchPage) = ⊥
 
 -- the whole input was read
 pub record IsRead (old new : Option (List ℕ)) (job : List ℕ) : Type 0 where

@@ -1,7 +1,8 @@
 //! A job written again.
 
 ghost use Rattle.pcl_tool.specs.Transfer.{IsWritten};
-ghost use Rattle.pcl_tool.specs.Minimizing.{IsMinimized, IsJobWritten, IsFiltered, IsFilteredCert};
+ghost use Rattle.pcl_tool.specs.Minimizing.{IsMinimized, IsFiltered, IsFilteredCert};
+ghost use Rattle.pcl_tool.specs.inner.Writing.{IsJobWritten};
 
 use crate::Fault;
 use crate::certifying::CertifiedJob;

@@ -7,8 +7,9 @@ use Rattle.pcl_coders.specs.RowWalks.{IsLeastTable}
 use Rattle.pcl_bitmap.specs.Bitmap.{Picture}
 use Rattle.pcl_plan.specs.Nodes.{row_at, row_above}
 use Rattle.pcl_plan.specs.PageText.{bitmap_rows}
-use Rattle.pcl_cert.specs.Certificates.{ends_in_zero, IsList}
-use Rattle.pcl_cert.specs.RowTables.{lists_within, IsListAt}
+use Rattle.pcl_cert.specs.Certificates.{IsList}
+use Rattle.pcl_cert.specs.CertificateFields.{ends_in_zero}
+use Rattle.pcl_cert.specs.TablesModel.{lists_within, IsListAt}
 use Rattle.pcl_cert.specs.PageTables.{table_of, row_table}
 use Rattle.pcl_cert.specs.declared.listing.Lists.{Lists}
 

@@ -5,7 +5,8 @@ ghost use Rattle.pcl_base.specs.Size.{page_height, page_row_bytes};
 ghost use Rattle.pcl_base.specs.Method.{method_code};
 ghost use Rattle.pcl_cert.specs.RowTables.{list_of};
 ghost use Rattle.pcl_check.specs.Places.{FindsPlace};
-ghost use Rattle.pcl_cert.specs.Checking.{AreTablesOf, FindsBadBelow, FindsBadIn, IsGoodIn};
+ghost use Rattle.pcl_cert.specs.Checking.{IsGoodIn};
+ghost use Rattle.pcl_cert.specs.inner.FirstBad.{AreTablesOf, FindsBadBelow, FindsBadIn};
 
 use crate::tables::RowTables;
 use pcl_base::{Method, ROW_LIMIT};

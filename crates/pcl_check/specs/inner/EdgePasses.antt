@@ -2,7 +2,8 @@
 use Rattle.std.specs.Prelude.{◌≡◌, ℕ, zero, suc, ◌+◌, ◌-◌, ◌<◌, ◌≤◌, nat_lt, if◌then◌else◌, Bool, true, false, List, [], ◌∷◌, length, slice_index, Option, Some, None}
 use Rattle.pcl_base.specs.declared.method.Method.{Method}
 use Rattle.pcl_plan.specs.Nodes.{Node}
-use Rattle.pcl_plan.specs.Filling.{rest, IsWhiteRun}
+use Rattle.pcl_plan.specs.Filling.{rest}
+use Rattle.pcl_plan.specs.inner.Filling.{IsWhiteRun}
 use Rattle.pcl_check.specs.declared.edges.found.BadNumber.{BadNumber}
 use Rattle.pcl_check.specs.Edges.{number_at, place_of, AreGoodSwitches, row_cost, setting_cost}
 

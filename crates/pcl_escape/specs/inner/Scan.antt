@@ -17,9 +17,10 @@ use Rattle.pcl_escape.specs.declared.step.Prefix.{Prefix}
 use Rattle.pcl_escape.specs.declared.step.Progress.{Progress}
 use Rattle.std.specs.List.{prefix_len}
 use Rattle.pcl_escape.specs.Letter.{is_silent, is_control, is_text, is_two_character, is_parameterized, is_ungrouped, is_group, goes_on, is_letter, prefix_name, parameter_name}
-use Rattle.pcl_escape.specs.Field.{Spelled, field_at, field_value}
+use Rattle.pcl_escape.specs.Field.{Spelled, field_value}
+use Rattle.pcl_escape.specs.inner.Fields.{field_at}
 use Rattle.pcl_escape.specs.Checks.{parameter_checks, exit_name, is_exit}
-use Rattle.pcl_escape.specs.Exit.{lines_at}
+use Rattle.pcl_escape.specs.inner.Lines.{lines_at}
 use Rattle.std.specs.Global.{Vec}
 use Rattle.pcl_escape.specs.Said.{Said, view, views}
 

@@ -25,7 +25,7 @@ use Rattle.pcl_bitmap.specs.Dots.{is_black_ink}
 use Rattle.pcl_page.specs.Marks.{Mark, is_black}
 use Rattle.pcl_page.specs.Raster.{Raster, row_sent, with_row, row_mark, ends_raster}
 use Rattle.pcl_page.specs.Situation.{Sheet, Situation, raster_for_row, settings_below, is_marked, turned, at_end, page_refusal, command_refusal, after}
-use Rattle.pcl_page.specs.Performing.{Hands}
+use Rattle.pcl_page.specs.Delivering.{Hands}
 
 -- a bitmap of this size shows marks
 pub record IsPainted (dpi : Dpi) (size : Size) (marks : List Mark) (bitmap : Picture) : Type 0 where

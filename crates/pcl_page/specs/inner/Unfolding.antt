@@ -17,7 +17,8 @@ use Rattle.pcl_page.specs.declared.interpreter.Interpreter.{Interpreter}
 use Rattle.pcl_page.specs.declared.interpreter.Running.{Running}
 use Rattle.pcl_page.specs.Situation.{Sheet, Situation, at_end}
 use Rattle.pcl_page.specs.Macros.{Run, left}
-use Rattle.pcl_page.specs.Performing.{Hands, Performance, done, then_on, in_order, step, commands_left, runs, end_refusal}
+use Rattle.pcl_page.specs.Performing.{Performance, done, then_on, in_order, step, commands_left, runs, end_refusal}
+use Rattle.pcl_page.specs.Delivering.{Hands}
 use Rattle.pcl_page.specs.inner.Reflecting.{IsIn, HandsMore}
 
 -- the interpreter is in the situation

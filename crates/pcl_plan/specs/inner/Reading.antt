@@ -5,7 +5,8 @@ use Rattle.pcl_coders.specs.Coding.{IsLeastLength}
 use Rattle.pcl_coders.specs.Walks.{Walk, total}
 use Rattle.pcl_plan.specs.Tokens.{Token}
 use Rattle.pcl_plan.specs.Nodes.{Node, start, row_at, row_above, Leads, Ends, cost}
-use Rattle.pcl_plan.specs.Filling.{switching, sending, outside, inside, rest, skipping, AreSkippable}
+use Rattle.pcl_plan.specs.Filling.{switching, outside, inside, rest}
+use Rattle.pcl_plan.specs.inner.Filling.{sending, skipping, AreSkippable}
 use Rattle.pcl_plan.specs.Plans.{Spells, stays_inside}
 use Rattle.pcl_plan.specs.declared.steps.Place.{Place}
 use Rattle.pcl_plan.specs.declared.step.Step.{Step}

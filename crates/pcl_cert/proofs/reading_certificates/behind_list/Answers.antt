@@ -1,7 +1,7 @@
 use Rattle.std.proofs.Common.{◌≡◌, ◌*◌, ap, ◌∙◌, true, false, take, drop, List, ℕ, Ok, Err, arith}
 use Rattle.std.specs.Prelude.{if◌then◌else◌}
 use Rattle.pcl_cert.specs.declared.fault.CertFault.TheVariants.{Places}
-use Rattle.pcl_cert.specs.Certificates.{ends_in_zero}
+use Rattle.pcl_cert.specs.CertificateFields.{ends_in_zero}
 use Rattle.pcl_cert.specs.RowTables.{numbers_from}
 use Rattle.pcl_cert.proofs.Lists.{list_checked}
 use Rattle.pcl_cert.proofs.reading_certificates.behind_list.Goals as goal

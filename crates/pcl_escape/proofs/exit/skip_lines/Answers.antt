@@ -1,5 +1,5 @@
 use Rattle.std.proofs.Common.{◌≤◌, ◌+◌, ◌-◌, length, take, drop, sym, ap, ◌∙◌, arith}
-use Rattle.pcl_escape.specs.Exit.{lines_at}
+use Rattle.pcl_escape.specs.inner.Lines.{lines_at}
 use Rattle.pcl_escape.proofs.Lines.{IsCut, at_other_bytes, at_other_line, at_asking_line, place_later}
 use Rattle.pcl_escape.proofs.Squeezed.{slice_names_language, slice_names_pcl}
 use Rattle.pcl_escape.proofs.exit.skip_lines.Goals as goal

@@ -3,7 +3,8 @@ use Rattle.pcl_base.specs.declared.dpi.Dpi.{Dpi}
 use Rattle.pcl_base.specs.declared.refusal.Refusal.{Refusal}
 use Rattle.pcl_escape.specs.Said.{Said}
 use Rattle.pcl_page.specs.Performing.{pages_of}
-use Rattle.pcl_page.specs.Jobs.{IsStopped, performance_of}
+use Rattle.pcl_page.specs.Jobs.{performance_of}
+use Rattle.pcl_page.specs.Delivering.{IsStopped}
 use Rattle.pcl_page.proofs.job.one_meaning.Goals as goal
 
 pub returns-clause-pages : goal.returns-clause-pages

@@ -2,7 +2,7 @@ use Rattle.std.proofs.Common.{List, refl, subst}
 use Rattle.std.proofs.lemmas.Result.{err_from_is_err_and}
 use Rattle.pcl_escape.specs.declared.command.Command.{Command}
 use Rattle.pcl_escape.specs.Said.{views}
-use Rattle.pcl_page.specs.Performing.{HandsOver}
+use Rattle.pcl_page.specs.Delivering.{HandsOver}
 use Rattle.pcl_page.specs.Jobs.{performance_of}
 use Rattle.pcl_page.proofs.Jobs.{delivered, undelivered}
 use Rattle.pcl_page.proofs.job.perform.Goals as goal

@@ -2,7 +2,7 @@ use Rattle.std.proofs.Common.{◌≡◌, ◌+◌, ◌-◌, ◌<◌, ℕ, length,
 use Rattle.pcl_plan.specs.inner.Rows.{rows_of}
 use Rattle.pcl_plan.specs.declared.table.RowNumbers.{RowNumbers}
 use Rattle.pcl_plan.specs.Table.{number_in, end_numbers}
-use Rattle.pcl_plan.specs.Filling.{AreRightFrom}
+use Rattle.pcl_plan.specs.inner.Filling.{AreRightFrom}
 use Rattle.pcl_plan.proofs.RowsFrom.{length_rows, no_rows}
 use Rattle.pcl_plan.proofs.Filled.{IsPut, put_white, put_inked, put_last, run_end, white_to_end}
 use Rattle.pcl_plan.proofs.fill.fill.Goals as goal

@@ -3,7 +3,7 @@ use Rattle.pcl_plan.specs.Table.{by_method}
 use Rattle.pcl_plan.specs.inner.Rows.{rows_of}
 use Rattle.pcl_plan.specs.declared.rows.Rows.{Rows}
 use Rattle.pcl_plan.specs.declared.table.RowNumbers.{RowNumbers}
-use Rattle.pcl_plan.specs.Filling.{IsReadable, IsWhiteRun, AreRightFrom}
+use Rattle.pcl_plan.specs.inner.Filling.{IsReadable, IsWhiteRun, AreRightFrom}
 use Rattle.pcl_plan.proofs.RowsFrom.{length_rows}
 use Rattle.pcl_plan.proofs.Walking.{node}
 use Rattle.pcl_plan.proofs.InkedRows.{length_small, sending_small}

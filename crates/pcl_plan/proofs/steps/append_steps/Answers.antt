@@ -3,7 +3,7 @@ use Rattle.pcl_plan.specs.declared.rows.Rows.{Rows}
 use Rattle.pcl_plan.specs.declared.table.RowNumbers.{RowNumbers}
 use Rattle.pcl_plan.specs.declared.step.Step.{Step}
 use Rattle.pcl_plan.specs.inner.Rows.{rows_of}
-use Rattle.pcl_plan.specs.Filling.{AreRightFrom}
+use Rattle.pcl_plan.specs.inner.Filling.{AreRightFrom}
 use Rattle.pcl_plan.proofs.RowsFrom.{length_rows}
 use Rattle.pcl_plan.proofs.Reading.{IsRightTable, row_left}
 use Rattle.pcl_plan.proofs.ReadSteps.{IsReadTo, ink_left, read_more, read_less, read_all}

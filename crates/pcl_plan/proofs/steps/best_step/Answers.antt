@@ -2,7 +2,7 @@ use Rattle.std.proofs.Common.{◌+◌, ◌≤◌, ◌<◌, List, length, false, 
 use Rattle.pcl_plan.specs.declared.rows.Rows.{Rows}
 use Rattle.pcl_plan.specs.declared.table.RowNumbers.{RowNumbers}
 use Rattle.pcl_plan.specs.inner.Rows.{rows_of}
-use Rattle.pcl_plan.specs.Filling.{AreRightFrom}
+use Rattle.pcl_plan.specs.inner.Filling.{AreRightFrom}
 use Rattle.pcl_plan.proofs.RowsFrom.{length_rows}
 use Rattle.pcl_plan.proofs.Walking.{node}
 use Rattle.pcl_plan.proofs.Filled.{skippable_within}

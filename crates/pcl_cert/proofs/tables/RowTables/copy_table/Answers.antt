@@ -1,5 +1,5 @@
 use Rattle.std.proofs.Common.{ℕ, List, length, drop, sym, ap, ◌∙◌}
-use Rattle.pcl_cert.specs.RowTables.{contents, list_from}
+use Rattle.pcl_cert.specs.TablesModel.{contents, list_from}
 use Rattle.pcl_cert.specs.PageTables.{table_of}
 use Rattle.pcl_cert.proofs.Written.{list_kept}
 use Rattle.pcl_cert.proofs.tables.RowTables.copy_table.Goals as goal

@@ -1,6 +1,6 @@
 use Rattle.std.proofs.Common.{◌≡◌, ◌+◌, ◌*◌, ◌<◌, ◌≤◌, ℕ, List, [], get_or, take, drop, sym, ap, subst, ◌∙◌, arith}
 use Rattle.std.specs.Int.{w16, from_be_bytes}
-use Rattle.pcl_cert.specs.RowTables.{contents, count_of, lists_within}
+use Rattle.pcl_cert.specs.TablesModel.{contents, count_of, lists_within}
 use Rattle.pcl_cert.proofs.Written.{number_there, number_past, list_within}
 use Rattle.pcl_cert.proofs.tables.RowTables.number.Goals as goal
 
