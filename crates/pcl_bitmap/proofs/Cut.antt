@@ -1,52 +1,28 @@
 -- What is seen of a pattern.
-use Rattle.std.proofs.Common.{◌≡◌, ℕ, ℤ, ◌+◌, ◌-◌, ◌*◌, ◌/◌, ◌%◌, ◌^◌, ◌<◌, ◌≤◌, min, nat_le, nat_lt, Bool, true, false, ◌&&◌, ◌||◌, if◌then◌else◌, Option, Some, None, List, ◌++◌, length, take, get_or, set, drop, bit_and, get_or-set_same, get_or-set_other, refl, sym, ap, ◌∙◌, inl, inr, ◌⊎◌, arith}
-use Rattle.std.specs.Int.{bit_at}
+use Rattle.std.proofs.Common.{◌≡◌, ℕ, ℤ, ◌+◌, ◌-◌, ◌*◌, ◌/◌, ◌%◌, ◌^◌, ◌<◌, ◌≤◌, min, nat_le, nat_lt, Bool, true, false, ◌&&◌, ◌||◌, if◌then◌else◌, Option, Some, None, List, ◌++◌, length, get_or, set, drop, bit_and, get_or-set_same, get_or-set_other, refl, sym, ap, ◌∙◌, inl, inr, ◌⊎◌, arith}
 use Rattle.std.proofs.lemmas.Bool.{cases_lt, cases_eq, cases_order, le-leb, lt-leb, and_left, and_right}
-use Rattle.std.proofs.lemmas.Nat.{mul-le, div_below, le-div, mod_below, div-add-mod'}
+use Rattle.std.proofs.lemmas.Nat.{mul-le, div_below, le-div, mod_below, div-add-mod', div-mul-add}
 use Rattle.std.proofs.lemmas.List.{get_or_append_left}
 use Rattle.pcl_bitmap.specs.Bitmap.{bit_of_byte, dot_of_row}
 use Rattle.pcl_bitmap.specs.Dots.{in_run, run_dot, rectangle_dot, dots_past, pattern_bit, pattern_dot}
 use Rattle.pcl_bitmap.proofs.Bytes.{bit_of_byte-first, bit_of_byte-second, dot_at}
-use Rattle.pcl_bitmap.proofs.Runs.{same_test, take_dots, run_dot-before, run_dot-past}
+use Rattle.pcl_bitmap.proofs.Runs.{same_test, run_dot-before, run_dot-past}
 use Rattle.pcl_bitmap.proofs.Pages.{rows_apart}
 use Rattle.pcl_bitmap.proofs.Inked.{in_run-before, in_run-past}
-use Rattle.pcl_bitmap.proofs.Spread.{part_bits, quotient_moved}
 
--- a byte of a spread row
-pub spread_at_bits :
-    (row : List ℕ) (wide s index m : ℕ)
-    → 1 ≤ s → ((j : ℕ) → bit_at wide j ≡ bit_at (get_or row (index / s) 0) (j / s)) → m < 8
-    → bit_of_byte (bit_and (wide / 2 ^ (8 * (s - 1 - index % s))) 255) m ≡ dot_of_row row ((8 * index + m) / s)
-spread_at_bits row wide s index m some bits small =
-    let j : ℕ = index / s in
-    let part : ℕ = index % s in
-    let whole : index / s * s + index % s ≡ index = div-add-mod' index s in
-    let short : index % s < s = mod_below index s some in
-    let turned : 8 * (index / s) * s ≡ 8 * (index / s * s) = omega arith in
-    let rest : 8 * index + m - 8 * (index / s) * s ≡ 8 * (index % s) + m = omega arith in
-    let place : (8 * index + m) / s ≡ 8 * (index / s) + (8 * (index % s) + m) / s =
-    quotient_moved (8 * (index / s)) some (omega arith) ∙ ap (λ n. 8 * (index / s) + n / s) rest in
-    let inside : (8 * (index % s) + m) / s < 8 = div_below (8 * (index % s) + m) s 8 some (omega arith) in
-    part_bits wide (get_or row j 0) s part some short bits m small
-    ∙ sym (dot_at row j inside place)
-
--- eight dots of a spread row, which two of its bytes hold
+-- eight bits of a row, which two of its bytes hold
 pub window_bits :
-    (row : List ℕ) (p q s start k : ℕ)
-    → q < 256
-    → ((m : ℕ) → m < 8 → bit_of_byte p m ≡ dot_of_row row ((8 * (start / 8) + m) / s))
-    → ((m : ℕ) → m < 8 → bit_of_byte q m ≡ dot_of_row row ((8 * (start / 8 + 1) + m) / s))
-    → k < 8 → bit_of_byte (bit_and ((p * 256 + q) / 2 ^ (8 - start % 8)) 255) k ≡ dot_of_row row ((start + k) / s)
-window_bits row p q s start k fits first second small =
+    (row : List ℕ) (p q start k : ℕ)
+    → q < 256 → p ≡ get_or row (start / 8) 0 → q ≡ get_or row (start / 8 + 1) 0
+    → k < 8 → bit_of_byte (bit_and ((p * 256 + q) / 2 ^ (8 - start % 8)) 255) k ≡ dot_of_row row (start + k)
+window_bits row p q start k fits first second small =
     elim (cases_lt k (8 - start % 8)) [
       | inl low ↦
-          let place : 8 * (start / 8) + (8 + k - (8 - start % 8)) ≡ start + k = omega arith in
-          bit_of_byte-first p fits low (omega arith)
-          ∙ first (8 + k - (8 - start % 8)) (omega arith) ∙ ap (λ n. dot_of_row row (n / s)) place
+          bit_of_byte-first p fits low (omega arith) ∙ ap (λ b. bit_of_byte b (8 + k - (8 - start % 8))) first
+          ∙ sym (dot_at row (start / 8) (omega arith) (omega arith))
       | inr high ↦
-          let place : 8 * (start / 8 + 1) + (k - (8 - start % 8)) ≡ start + k = omega arith in
-          bit_of_byte-second p q high small
-          ∙ second (k - (8 - start % 8)) (omega arith) ∙ ap (λ n. dot_of_row row (n / s)) place
+          bit_of_byte-second p q high small ∙ ap (λ b. bit_of_byte b (k - (8 - start % 8))) second
+          ∙ sym (dot_at row (start / 8 + 1) (omega arith) (omega arith))
     ]
 
 -- one byte more of bits that are given by their places
@@ -105,10 +81,24 @@ run_or_at source r x w i px py p d wide within bits =
     ]
 
 -- the bytes that were written to the front of a list
-pub seen_dots : (dots new : List ℕ) {n k : ℕ} → length new ≡ n → k < 8 * n → dot_of_row (take n (new ++ drop n dots)) k ≡ dot_of_row new k
-seen_dots dots new {n} {k} long h =
-    take_dots n (new ++ drop n dots) h
-    ∙ ap (λ b. bit_of_byte b (k % 8)) (get_or_append_left new (drop n dots) 0 (k / 8) (omega arith))
+pub front_dots : (dots new : List ℕ) {n k : ℕ} → length new ≡ n → k < 8 * n → dot_of_row (new ++ drop n dots) k ≡ dot_of_row new k
+front_dots dots new {n} {k} long h =
+    ap (λ b. bit_of_byte b (k % 8)) (get_or_append_left new (drop n dots) 0 (k / 8) (omega arith))
+
+-- a line whose bits are those of the line above
+pub same_bits_above : (line s : ℕ) → 1 ≤ s → (line % s ≡ 0 → ⊥) → (line - 1) / s ≡ line / s
+same_bits_above line s some h =
+    let q : ℕ = line / s in
+    let whole : line / s * s + line % s ≡ line = div-add-mod' line s in
+    let short : line % s < s = mod_below line s some in
+    let rest : 0 < line % s = elim (cases_eq (line % s) 0) [ inl none ↦ absurd (h none) | inr rest ↦ omega arith ] in
+    let place : line - 1 ≡ line / s * s + (line % s - 1) = omega arith in
+    ap (λ n. n / s) place ∙ div-mul-add q s (line % s - 1) (omega arith)
+
+-- dots hold the bits of a line, from dot u on
+abbrev pub HasLine : (dots rows : List ℕ) (line u s n count : ℕ) → Type 0
+HasLine dots rows line u s n count =
+    (k : ℕ) → k < 8 * count → dot_of_row dots k ≡ dot_of_row (drop (line / s * n) rows) ((u + k) / s)
 
 -- how the code cuts an edge: at `start` on the page, `skip` dots before the page
 pub dots_past-in : (edge : ℤ) {start : ℕ} (skip : ℕ) {p : ℕ} → start ≤ p

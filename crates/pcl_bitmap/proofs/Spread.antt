@@ -1,15 +1,14 @@
 -- Bits that are spread to squares of dots.
-use Rattle.std.proofs.Common.{◌≡◌, ℕ, ◌+◌, ◌-◌, ◌*◌, ◌/◌, ◌%◌, ◌^◌, ◌<◌, ◌≤◌, min, max, nat_le, nat_lt, nat_eq, Bool, true, false, ◌&&◌, ◌||◌, if◌then◌else◌, List, length, get_or, set, take, length-take, bit_and, bit_or, get_or-set_same, get_or-set_other, add-zero, refl, sym, ap, ◌∙◌, inl, inr, arith}
+use Rattle.std.proofs.Common.{◌≡◌, ℕ, ◌+◌, ◌-◌, ◌*◌, ◌/◌, ◌%◌, ◌^◌, ◌<◌, ◌≤◌, min, max, nat_le, nat_lt, nat_eq, Bool, true, false, ◌&&◌, ◌||◌, if◌then◌else◌, List, length, get_or, set, bit_and, bit_or, get_or-set_same, get_or-set_other, add-zero, refl, sym, ap, ◌∙◌, inl, inr, arith}
 use Rattle.std.specs.Int.{bit_at, div_ceil}
 use Rattle.std.proofs.lemmas.Grind.{div_ceil_times}
-use Rattle.std.proofs.lemmas.List.{length-take-le}
 use Rattle.std.proofs.lemmas.Bool.{cases_lt, cases_eq, cases_order, lt-ltb, le-ltb, le-leb, lt-leb, eq-eqb, ne_eqb, and_left, and_right}
 use Rattle.std.proofs.lemmas.Nat.{pow_pos, shr-shr, shl_whole, mul-le, div_below, le-div, mod_below, div-add-mod', div-mul-add}
 use Rattle.std.proofs.lemmas.Nat.Bits.{bit_at-zero, bit_at_or, bit_at_ones, bit_at_ones_above, ones_shr, bit_at_cat_low, bit_at_cat_high, bit_at_above}
 use Rattle.pcl_bitmap.specs.Bitmap.{bit_of_byte, dot_of_row}
 use Rattle.pcl_bitmap.specs.Dots.{in_run, run_dot, rectangle_dot, raster_dot}
 use Rattle.pcl_bitmap.proofs.Bytes.{bit_of_byte-low, dot_at}
-use Rattle.pcl_bitmap.proofs.Runs.{same_test, take_dots, run_dot-before, run_dot-past}
+use Rattle.pcl_bitmap.proofs.Runs.{same_test, run_dot-before, run_dot-past}
 use Rattle.pcl_bitmap.proofs.Pages.{rows_apart}
 use Rattle.pcl_bitmap.proofs.Inked.{in_run-in, in_run-before, in_run-past, right_of}
 
@@ -168,30 +167,31 @@ quotient_moved {s} b {k} some h =
 
 -- one byte more of a row is spread
 pub spread_more :
-    (row now new : List ℕ) (s i k : ℕ)
+    (row now new : List ℕ) (s first i k : ℕ)
     → 1 ≤ s
-    → (k < 8 * (s * i) → dot_of_row now k ≡ dot_of_row row (k / s))
+    → (k < 8 * (s * i) → dot_of_row now k ≡ dot_of_row row (8 * first + k / s))
     → dot_of_row new k
-    ≡ (if in_run (8 * (s * i)) (8 * (s * i + s)) k then bit_of_byte (get_or row i 0) ((k - 8 * (s * i)) / s) else dot_of_row now k)
-    → k < 8 * (s * (i + 1)) → dot_of_row new k ≡ dot_of_row row (k / s)
-spread_more row now new s i k some above added within =
+    ≡ (if in_run (8 * (s * i)) (8 * (s * i + s)) k then bit_of_byte (get_or row (first + i) 0) ((k - 8 * (s * i)) / s) else dot_of_row now k)
+    → k < 8 * (s * (i + 1)) → dot_of_row new k ≡ dot_of_row row (8 * first + k / s)
+spread_more row now new s first i k some above added within =
+    let byte : ℕ = get_or row (first + i) 0 in
     elim (cases_lt k (8 * (s * i))) [
       | inl before ↦
           added
-          ∙ ap (λ t. if t then bit_of_byte (get_or row i 0) ((k - 8 * (s * i)) / s) else dot_of_row now k)
+          ∙ ap (λ t. if t then bit_of_byte byte ((k - 8 * (s * i)) / s) else dot_of_row now k)
           (in_run-before (8 * (s * i + s)) before)
           ∙ above before
       | inr since ↦
           let next : s * (i + 1) ≡ s * i + s = omega arith in
           let turned : 8 * i * s ≡ 8 * (s * i) = omega arith in
-          let m : ℕ = (k - 8 * (s * i)) / s in
           let small : (k - 8 * (s * i)) / s < 8 = div_below (k - 8 * (s * i)) s 8 some (omega arith) in
-          let place : k / s ≡ 8 * i + (k - 8 * (s * i)) / s =
+          let moved : k / s ≡ 8 * i + (k - 8 * (s * i)) / s =
           quotient_moved (8 * i) some (omega arith) ∙ ap (λ n. 8 * i + (k - n) / s) turned in
+          let place : 8 * first + k / s ≡ 8 * (first + i) + (k - 8 * (s * i)) / s = omega (arith, moved) in
           added
-          ∙ ap (λ t. if t then bit_of_byte (get_or row i 0) ((k - 8 * (s * i)) / s) else dot_of_row now k)
+          ∙ ap (λ t. if t then bit_of_byte byte ((k - 8 * (s * i)) / s) else dot_of_row now k)
           (in_run-in (8 * (s * i)) (8 * (s * i + s)) k since (omega arith))
-          ∙ sym (dot_at row i small place)
+          ∙ sym (dot_at row (first + i) small place)
     ]
 
 tested_or : (t s d : Bool) → ((t && s) || d) ≡ (if t then s || d else d)
@@ -307,27 +307,12 @@ spread_count {s} {w} {n} some e =
     let product : n * (8 * s) ≡ div_ceil w (8 * s) * (8 * s) = ap (λ m. m * (8 * s)) e in
     (omega (arith, both.0), omega (arith, both.1))
 
--- they are bytes of the row where its squares reach so far
-spread_within : {s w n : ℕ} (len : ℕ) → 1 ≤ s → n ≡ div_ceil w (8 * s) → w ≤ 8 * (s * len) → n ≤ len
-spread_within {s} {n} len some e reach =
-    elim (cases_lt len n) [
-      | inl past ↦ absurd (let more : s * (len + 1) ≤ s * n = mul-le s (len + 1) s n (omega arith) (omega arith) in
-          omega (arith, (spread_count some e).1))
-      | inr within ↦ within
-    ]
-
-pub spread_room : {s w n : ℕ} (row : List ℕ) → 1 ≤ s → s ≤ 8 → w ≤ 4800 → n ≡ div_ceil w (8 * s) → s * length (take n row) ≤ 608
-spread_room {s} {n} row some few narrow e =
-    omega (arith, mul-le s (length (take n row)) s n (omega arith) (omega (arith, length-take n row)), (spread_count some e).1)
-
--- each of the w dots is one of the spread row
-pub spread_dots :
-    (row spread : List ℕ) (s w n k : ℕ)
-    → 1 ≤ s → n ≡ div_ceil w (8 * s) → w ≤ 8 * (s * length row) → k < w
-    → (k < 8 * (s * length (take n row)) → dot_of_row spread k ≡ dot_of_row (take n row) (k / s))
-    → dot_of_row spread k ≡ dot_of_row row (k / s)
-spread_dots row spread s w n k some e reach within bits =
-    let long : length (take n row) ≡ n = length-take-le n row (spread_within (length row) some e reach) in
-    let product : s * length (take n row) ≡ s * n = ap (λ m. s * m) long in
-    bits (omega (arith, (spread_count some e).0))
-    ∙ take_dots n row (div_below k s (8 * n) some (omega (arith, (spread_count some e).0)))
+-- a row that is seen from dot u on: its bits from a byte on, and the dots of these that are skipped
+pub seen_from : (row : List ℕ) (s u k : ℕ) → 1 ≤ s
+    → dot_of_row row (8 * (u / (8 * s)) + (u % (8 * s) + k) / s) ≡ dot_of_row row ((u + k) / s)
+seen_from row s u k some =
+    let first : ℕ = u / (8 * s) in
+    let whole : u / (8 * s) * (8 * s) + u % (8 * s) ≡ u = div-add-mod' u (8 * s) in
+    let turned : 8 * (u / (8 * s)) * s ≡ u / (8 * s) * (8 * s) = omega arith in
+    let rest : u + k - 8 * (u / (8 * s)) * s ≡ u % (8 * s) + k = omega arith in
+    sym (ap (λ n. dot_of_row row n) (quotient_moved (8 * first) some (omega arith) ∙ ap (λ n. 8 * first + n / s) rest))

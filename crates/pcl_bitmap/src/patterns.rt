@@ -6,7 +6,7 @@ ghost use Rattle.pcl_bitmap.specs.Dots.{rectangle_dot, dots_past};
 
 use crate::area::Area;
 use crate::bits::{byte_at, or_bits};
-use crate::squares::spread_bits;
+use crate::squares::{SPREAD_LIMIT, spread_row};
 use pcl_base::ROW_LIMIT;
 
 /// What of a pattern is seen: all from the dot `(x, y)` of its own on, where its rows have `row_bytes` bytes
@@ -32,27 +32,24 @@ pub fn start_and_skip(place: i32) -> (usize, usize)
     }
 }
 
-// Byte `index` of a row whose bits are written `scale` times each.
-fn spread_at(row: &[u8], scale: usize, index: usize) -> u8
-    requires { (1 ≤ scale) × (scale ≤ 8) }
-    ensures { (k : ℕ) → k < 8 → bit_of_byte result k ≡ dot_of_row row.now ((8 * index + k) / scale) }
+// Eight bits of a row from bit `start` on. Bits past its end are clear.
+fn eight_bits_from(row: &[u8], start: usize) -> u8
+    ensures { (k : ℕ) → k < 8 → bit_of_byte result k ≡ dot_of_row row.now (start + k) }
 {
-    if scale == 1 {
-        return byte_at(row, index);
-    }
-    let wide = spread_bits(byte_at(row, index / scale), scale);
-    ((wide >> (8 * (scale - 1 - index % scale))) & 0xFF) as u8
-}
-
-// Eight dots of a row whose bits are written `scale` times each, from the dot `start` on.
-fn eight_dots_from(row: &[u8], scale: usize, start: usize) -> u8
-    requires { (1 ≤ scale) × (scale ≤ 8) }
-    ensures { (k : ℕ) → k < 8 → bit_of_byte result k ≡ dot_of_row row.now ((start + k) / scale) }
-{
-    let first = spread_at(row, scale, start / 8);
-    let second = spread_at(row, scale, start / 8 + 1);
+    let first = byte_at(row, start / 8);
+    let second = byte_at(row, start / 8 + 1);
     let pair = u16::from(first) * 256 + u16::from(second);
     ((pair >> (8 - start % 8)) & 0xFF) as u8
+}
+
+// Writes the bits of a row from bit `start` on to all of `target`. Bits past its end are clear.
+fn write_bits(target: &mut [u8], row: &[u8], start: usize)
+    requires { (start ≤ 2 ^ 32) × (length target.old ≤ 600) }
+    ensures { (k : ℕ) → k < 8 * length target.old → dot_of_row target.new k ≡ dot_of_row row.now (start + k) }
+{
+    for i in 0..target.len() {
+        target[i] = eight_bits_from(row, start + 8 * i);
+    }
 }
 
 // Writes the dots of a row whose bits are written `scale` times each, from the dot `start` on, to all of
@@ -62,8 +59,15 @@ fn write_dots(target: &mut [u8], row: &[u8], scale: usize, start: usize)
     requires small { (start ≤ 2 ^ 32) × (length target.old ≤ 600) }
     ensures { (k : ℕ) → k < 8 * length target.old → dot_of_row target.new k ≡ dot_of_row row.now ((start + k) / scale) }
 {
-    for i in 0..target.len() {
-        target[i] = eight_dots_from(row, scale, start + 8 * i);
+    if scale == 1 {
+        write_bits(target, row, start);
+    } else {
+        let mut spread = [0; SPREAD_LIMIT];
+        let first = start / (8 * scale);
+        let rest = start % (8 * scale);
+        let count = (rest + 8 * target.len()).div_ceil(8 * scale);
+        spread_row(&mut spread, scale, row, first, count);
+        write_bits(target, &spread, rest);
     }
 }
 
@@ -89,9 +93,11 @@ pub fn or_pattern(page: &mut [u8], row_bytes: usize, area: Area, window: Window,
     let mut dots = [0; ROW_LIMIT];
     let count = area.width.div_ceil(8);
     for row in area.y..area.y + area.height {
-        let bit_row = (row - area.y + window.y) / window.scale;
-        let source = &rows[bit_row * window.row_bytes..];
-        write_dots(&mut dots[..count], source, window.scale, window.x);
+        let line = row - area.y + window.y;
+        if row == area.y || line % window.scale == 0 {
+            let source = &rows[line / window.scale * window.row_bytes..];
+            write_dots(&mut dots[..count], source, window.scale, window.x);
+        }
         let start = 8 * (row * row_bytes) + area.x;
         or_bits(page, start, start + area.width, &dots[..count]);
     }

@@ -9,14 +9,28 @@ use crate::area::Area;
 use crate::bits;
 use pcl_base::ROW_LIMIT;
 
-// Room for a row of the page, and for what the last byte of a row of raster data spreads to behind it.
-const SPREAD_LIMIT: usize = ROW_LIMIT + 8;
+/// Room for a row of the page, and for what else the first and the last byte spread to that it has dots of.
+pub const SPREAD_LIMIT: usize = ROW_LIMIT + 16;
+
+// The bits of a byte, each twice: halves, then pairs, then single bits move apart.
+fn doubled_bits(byte: u8) -> u16
+    ensures { (j : ℕ) → bit_at result j ≡ bit_at byte (j / 2) }
+{
+    let byte = u16::from(byte);
+    let halves = (byte | byte << 4) & 0x0F0F;
+    let pairs = (halves | halves << 2) & 0x3333;
+    let bits = (pairs | pairs << 1) & 0x5555;
+    bits | bits << 1
+}
 
 /// The bits of a byte, each `scale` times, from the lowest on.
 pub fn spread_bits(byte: u8, scale: usize) -> u64
     requires { (1 ≤ scale) × (scale ≤ 8) }
     ensures { (j : ℕ) → bit_at result j ≡ bit_at byte (j / scale) }
 {
+    if scale == 2 {
+        return u64::from(doubled_bits(byte));
+    }
     let square = 0xFF_u64 >> (8 - scale);
     let mut wide = 0;
     for i in 0..8 {
@@ -40,15 +54,16 @@ fn spread_byte(target: &mut [u8], at: usize, scale: usize, byte: u8)
     }
 }
 
-// Writes the bits of `row`, each `scale` times, to the front of `target`.
-fn spread_row(target: &mut [u8], scale: usize, row: &[u8])
+/// Writes the bits of `count` bytes of `row` from byte `first` on, each `scale` times, to the front of
+/// `target`. Bytes past the end of `row` are 0.
+pub fn spread_row(target: &mut [u8], scale: usize, row: &[u8], first: usize, count: usize)
     requires scale { (1 ≤ scale) × (scale ≤ 8) }
-    requires room { scale * length row.now ≤ length target.old }
-    requires small { length target.old < 2 ^ 32 }
-    ensures { (k : ℕ) → k < 8 * (scale * length row.now) → dot_of_row target.new k ≡ dot_of_row row.now (k / scale) }
+    requires room { scale * count ≤ length target.old }
+    requires small { (length target.old < 2 ^ 32) × (first ≤ 2 ^ 32) }
+    ensures { (k : ℕ) → k < 8 * (scale * count) → dot_of_row target.new k ≡ dot_of_row row.now (8 * first + k / scale) }
 {
-    for (i, byte) in row.iter().enumerate() {
-        spread_byte(target, scale * i, scale, *byte);
+    for i in 0..count {
+        spread_byte(target, scale * i, scale, bits::byte_at(row, first + i));
     }
 }
 
@@ -73,7 +88,6 @@ fn or_rows(page: &mut [u8], row_bytes: usize, area: Area, source: &[u8])
 /// bit a square of `scale` dots and the first at the left edge.
 pub fn paint_squares(page: &mut [u8], row_bytes: usize, area: Area, scale: usize, row: &[u8])
     requires scale { (1 ≤ scale) × (scale ≤ 8) }
-    requires bits { area.width ≤ 8 * (scale * length row.now) }
     requires narrow { area.width ≤ 8 * 600 }
     requires wide { area.x + area.width ≤ 8 * row_bytes }
     requires high { (area.y + area.height) * row_bytes ≤ length page.old }
@@ -89,7 +103,7 @@ pub fn paint_squares(page: &mut [u8], row_bytes: usize, area: Area, scale: usize
     } else {
         let mut spread = [0; SPREAD_LIMIT];
         let count = area.width.div_ceil(8 * scale);
-        spread_row(&mut spread, scale, &row[..count]);
+        spread_row(&mut spread, scale, row, 0, count);
         or_rows(page, row_bytes, area, &spread);
     }
 }

@@ -1,9 +1,10 @@
 use Rattle.std.proofs.Common.{◌≡◌, ℕ, ◌+◌, ◌-◌, ◌*◌, ◌/◌, ◌<◌, ◌||◌, if◌then◌else◌, drop, All}
 use Rattle.pcl_bitmap.specs.Bitmap.{dot_of_row}
 use Rattle.pcl_bitmap.specs.Dots.{rectangle_dot}
+use Rattle.pcl_bitmap.proofs.Cut.{HasLine}
 use Rattle.pcl_bitmap.proofs.patterns.or_pattern.Given as goal
 
--- the rows above are in place
+-- the rows above are in place, and the dots are those of the line above
 abbrev pub invariant-loop-row : goal.invariant-loop-row
 invariant-loop-row l = record {
   so_far : (px py : ℕ) → px < 8 * l.row_bytes → let place = 8 * (py * l.row_bytes) + px in
@@ -13,4 +14,6 @@ invariant-loop-row l = record {
       || dot_of_row l.initial.page place
       else dot_of_row l.initial.page place);
   in_bytes : All (λ byte. byte < 256) l.page;
+  held : (line : ℕ) → line + 1 + l.area.y ≡ l.row + l.window.y → l.area.y < l.row
+      → HasLine l.dots l.rows line l.window.x l.window.scale l.window.row_bytes l.count;
 }

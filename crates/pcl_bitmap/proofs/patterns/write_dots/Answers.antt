@@ -1,14 +1,22 @@
-use Rattle.std.proofs.Common.{◌≡◌, ℕ, ◌+◌, ◌*◌, ◌/◌, ap, ◌∙◌, arith}
+use Rattle.std.proofs.Common.{◌≡◌, ◌+◌, ◌*◌, ◌/◌, ◌%◌, ◌<◌, ◌≤◌, sym, ap, ◌∙◌, arith}
+use Rattle.std.proofs.Math.Nat.{div-one}
+use Rattle.std.proofs.lemmas.Nat.{mod_below}
 use Rattle.pcl_bitmap.specs.Bitmap.{dot_of_row}
-use Rattle.pcl_bitmap.proofs.Cut.{dots_more}
+use Rattle.pcl_bitmap.proofs.Spread.{spread_count, seen_from}
 use Rattle.pcl_bitmap.proofs.patterns.write_dots.Goals as goal
 
-pub loop-i-preserved : goal.loop-i-preserved
-loop-i-preserved c k =
-    let a = c.args in
-    let i = c.loop-i.i in
-    dots_more c.loop-i.target i c.eight_dots_from.result k (λ (n : ℕ). dot_of_row a.row.now ((a.start + n) / a.scale)) (omega arith)
-    (λ m h.
-    let place : a.start + 8 * i + m ≡ a.start + (8 * i + m) = omega arith in
-    c.eight_dots_from.ensures m h ∙ ap (λ n. dot_of_row a.row.now (n / a.scale)) place)
-    (c.loop-i.invariant k)
+pub returns-then-scale-eq1 : goal.returns-then-scale-eq1
+returns-then-scale-eq1 c k small =
+    let m = c.args.start + k in
+    let one : m ≡ m / c.args.scale = sym (ap (λ n. m / n) c.if-scale-eq1.true ∙ div-one m) in
+    c.write_bits.ensures k small ∙ ap (λ n. dot_of_row c.args.row.now n) one
+
+pub returns-else-scale-eq1 : goal.returns-else-scale-eq1
+returns-else-scale-eq1 c k small =
+    let s = c.args.scale in
+    let u = c.args.start in
+    let few : 8 * s ≤ 64 = omega arith in
+    let rest : u % (8 * s) < 8 * s = mod_below u (8 * s) (omega arith) in
+    c.write_bits-else-scale-eq1.ensures k small
+    ∙ c.spread_row.ensures (u % (8 * s) + k) (omega (arith, (spread_count {s = c.args.scale} (omega arith) c.div_ceil-count.ensures).0))
+    ∙ seen_from c.args.row.now s u k (omega arith)

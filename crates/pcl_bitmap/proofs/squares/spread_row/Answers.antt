@@ -1,8 +1,16 @@
-use Rattle.std.proofs.Common.{arith}
+use Rattle.std.proofs.Common.{◌+◌, ◌-◌, ◌*◌, ◌/◌, ap, ◌∙◌, if◌then◌else◌, arith}
+use Rattle.pcl_bitmap.specs.Bitmap.{bit_of_byte, dot_of_row}
+use Rattle.pcl_bitmap.specs.Dots.{in_run}
 use Rattle.pcl_bitmap.proofs.Spread.{spread_more}
 use Rattle.pcl_bitmap.proofs.squares.spread_row.Goals as goal
 
 pub loop-i-preserved : goal.loop-i-preserved
 loop-i-preserved c k =
-    spread_more c.args.row.now c.loop-i.target c.spread_byte.new.target c.args.scale c.loop-i.i k (omega arith)
-    (c.loop-i.invariant k) (c.spread_byte.ensures k)
+    let a = c.args in
+    let i = c.loop-i.i in
+    let s = c.args.scale in
+    spread_more a.row.now c.loop-i.target c.spread_byte.new.target s a.first i k (omega arith)
+    (c.loop-i.invariant k)
+    (c.spread_byte.ensures k
+    ∙ ap (λ b. if in_run (8 * (s * i)) (8 * (s * i + s)) k then bit_of_byte b ((k - 8 * (s * i)) / s) else dot_of_row c.loop-i.target k)
+    c.byte_at.ensures)

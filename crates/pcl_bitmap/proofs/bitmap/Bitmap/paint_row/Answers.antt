@@ -1,6 +1,5 @@
 use Rattle.std.proofs.Common.{◌≡◌, ℕ, ◌-◌, ◌*◌, ◌/◌, ◌||◌, List, length, sym, ap, ◌∙◌, subst, arith}
 use Rattle.std.proofs.lemmas.List.{with_items_is}
-use Rattle.std.proofs.lemmas.Nat.{mul-le}
 use Rattle.std.specs.Vec.{with_items}
 use Rattle.pcl_base.specs.Size.{page_width, page_height}
 use Rattle.pcl_bitmap.specs.Bitmap.{IsPicture, dot, dot_of_row}
@@ -23,12 +22,6 @@ row_painted c =
     c.row_bytes-row_bytes.result (λ px _ before. dot_of_row c.args.row.now ((px - c.args.x) / c.args.scale) || before)
     c.deref_mut.ensures.value c.paint_squares.auto.page c.paint_squares.ensures.in_bytes
     (omega arith) c.row_bytes-row_bytes.ensures c.paint_squares.ensures.dots
-
-pub paint_squares-requires-clause-bits : goal.paint_squares-requires-clause-bits
-paint_squares-requires-clause-bits c =
-    let product : c.from.result * c.from-2.result ≡ c.args.width * c.args.scale =
-    ap (λ n. n * c.from-2.result) c.from.ensures ∙ ap (λ n. c.args.width * n) c.from-2.ensures in
-    omega (arith, mul-le c.args.width c.args.scale (8 * length c.args.row.now) c.args.scale c.requires.bits (omega arith))
 
 pub invariant_of-self : goal.invariant_of-self
 invariant_of-self c =
