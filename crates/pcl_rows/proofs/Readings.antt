@@ -1,5 +1,5 @@
 -- What a reading of data makes of a row, an element at a time.
-use Rattle.std.proofs.Common.{◌≡◌, ℕ, suc, ◌+◌, ◌-◌, ◌*◌, ◌<◌, ◌≤◌, ◌↔◌, min, Bool, true, false, List, [], ◌∷◌, ◌++◌, length, take, drop, replicate, refl, sym, ap, ◌∙◌, subst, inl, inr, append_assoc, add-zero, arith}
+use Rattle.std.proofs.Common.{◌≡◌, ℕ, zero, suc, ◌+◌, ◌-◌, ◌*◌, ◌<◌, ◌≤◌, ◌↔◌, min, Bool, true, false, List, [], ◌∷◌, ◌++◌, length, take, drop, replicate, refl, sym, ap, ◌∙◌, subst, inl, inr, append_assoc, add-zero, arith}
 use Rattle.std.specs.Prelude.{MatchBool}
 use Rattle.std.specs.List.{flat_map}
 use Rattle.std.proofs.lemmas.Bool.{cases_lt}
@@ -11,7 +11,7 @@ use Rattle.pcl_base.specs.declared.method.Method.TheVariants.{Plain, Runs, Packe
 use Rattle.pcl_rows.specs.Heads.{Head, Itself, Count, Skipped, Near, head_bytes, copies_of, offset_of}
 use Rattle.pcl_rows.specs.Elements.{Element, IsHead, IsElement, AreElements, element_bytes, given_by, stop, reach}
 use Rattle.pcl_rows.specs.Rows.{after_element, base, IsCutIntoElements, treated, RowFrom, Decodes, IsWhole}
-use Rattle.pcl_rows.specs.inner.Fronts.{IsWholeFront, IsCutFront, IsFront, overlaid}
+use Rattle.pcl_rows.specs.inner.Fronts.{IsWholeFront, IsCutFront, IsFront, IsPastSkipped, overlaid}
 use Rattle.pcl_rows.proofs.Overlays.{drop-overlaid, take-overlaid}
 use Rattle.pcl_rows.proofs.Spellings.{same_elements, spelling_has_byte, cut_is_not_whole}
 
@@ -209,6 +209,31 @@ treated_more {method} {old} {rest} row {place} {start} {offset} {copies} {new} {
         ap (λ (p : ℕ). take p row) (omega arith) ∙ take_min (place + offset_of h) row in
         sym (append_assoc (take place row) (take (offset_of h) (drop place row)) after)
         ∙ ap (λ (bs : List ℕ). bs ++ after) (sym (take-add place (offset_of h) row) ∙ sym cut)
+
+-- controls that give nothing stand before data that makes the row
+Fills-skipped : (count : ℕ) (rest old row : List ℕ) → Fills Packed rest old row → Fills Packed (replicate count 128 ++ rest) old row
+Fills-skipped zero rest old row f = f
+Fills-skipped (suc count) rest old row f =
+    Fills-cons Packed (128 ∷ (replicate count 128 ++ rest)) Skipped [] (replicate count 128 ++ rest) old row
+    (record { method_is = refl; in_range = tt }) (record { complete = refl; joined = refl }) (Fills-skipped count rest old row f)
+
+-- and the same at any method
+pub treated_skipped : {method : Method} {bytes old data' : List ℕ} (rest row : List ℕ) (place : ℕ) → IsPastSkipped method data' rest
+    → IsTreatedTo method bytes old data' row place → IsTreatedTo method bytes old rest row place
+treated_skipped {method} {data' = data'} rest row place (zero, joined, packed) so_far made f =
+    so_far made (subst (λ (bs : List ℕ). Fills method bs (drop place row) made) (sym joined) f)
+treated_skipped {method} {data' = data'} rest row place (suc count, joined, packed) so_far made f =
+    let named : method ≡ Packed = packed (omega arith) in
+    let packed_f : Fills Packed rest (drop place row) made =
+    subst (λ (m : Method). Fills m rest (drop place row) made) named f in
+    let skipped : Fills Packed (replicate (suc count) 128 ++ rest) (drop place row) made =
+    Fills-skipped (suc count) rest (drop place row) made packed_f in
+    so_far made
+    (subst (λ (m : Method). Fills m data' (drop place row) made) (sym named)
+    (subst (λ (bs : List ℕ). Fills Packed bs (drop place row) made) (sym joined) skipped))
+
+pub past_skipped_length : {method : Method} (bytes rest : List ℕ) → IsPastSkipped method bytes rest → length rest ≤ length bytes
+past_skipped_length bytes rest (count, joined, packed) = omega (arith, ap length joined, length-append (replicate count 128) rest)
 
 -- where all data is treated
 pub treated_all : {method : Method} {bytes old row : List ℕ} (place : ℕ) → length row ≡ length old

@@ -1,12 +1,15 @@
 //! Row data, decoded.
 
-ghost use Rattle.std.specs.Prelude.{◌≡◌, ◌+◌, ◌≤◌, length, min, replicate, flat_map};
+ghost use Rattle.std.specs.Prelude.{◌≡◌, ◌+◌, ◌≤◌, length, min, take, replicate, flat_map};
 ghost use Rattle.pcl_rows.specs.Rows.{RowFrom, Decodes};
-ghost use Rattle.pcl_rows.specs.inner.Fronts.{overlaid};
+ghost use Rattle.pcl_rows.specs.inner.Fronts.{overlaid, IsPastSkipped};
 ghost use Rattle.pcl_base.specs.declared.method.Method.TheVariants as methods;
 
 use crate::front::Front;
 use pcl_base::Method;
+
+/// The control of method 2 that gives nothing.
+const SKIPPED: u8 = 128;
 
 /// Decodes row data over a seed row (PCL 5 manual, "Set Compression Method"; docs/LANGUAGE.md, "Row
 /// data"). What lies past the row is dropped, and a cut last element gives the new bytes that stand in it.
@@ -50,14 +53,38 @@ fn put_runs(row: &mut [u8], bytes: &[u8])
 fn treat(method: Method, bytes: &[u8], row: &mut [u8])
     ensures { RowFrom method bytes.now row.old row.new }
 {
-    let mut rest = bytes;
+    let mut rest = past_skipped(method, bytes);
     let mut place = 0;
     while !rest.is_empty() {
         let front = Front::read(method, rest);
         place = skip(row.len(), place, front.offset);
         place = put(row, place, front.copies, front.bytes);
-        rest = front.rest;
+        rest = past_skipped(method, front.rest);
     }
+}
+
+/// The data behind the elements at its begin that give nothing, which method 2 alone has.
+#[inline(always)]
+fn past_skipped(method: Method, bytes: &[u8]) -> &[u8]
+    ensures { IsPastSkipped method bytes.now result.now }
+{
+    match method {
+        Method::Packed => &bytes[skipped_count(bytes)..],
+        Method::Plain | Method::Runs | Method::Delta => bytes,
+    }
+}
+
+/// How many controls that give nothing stand at the begin of the data.
+fn skipped_count(bytes: &[u8]) -> usize
+    ensures within { result ≤ length bytes.now }
+    ensures skipped { take result bytes.now ≡ replicate result 128 }
+{
+    for (count, byte) in bytes.iter().enumerate() {
+        if *byte != SKIPPED {
+            return count;
+        }
+    }
+    bytes.len()
 }
 
 /// The place that lies `offset` bytes further, or the row's end.

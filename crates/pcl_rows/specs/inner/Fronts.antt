@@ -1,6 +1,7 @@
 -- What the front of row data says, as numbers and lists.
 use Rattle.std.specs.Prelude.{◌≡◌, ℕ, ◌+◌, ◌*◌, ◌<◌, List, [], ◌∷◌, ◌++◌, length, take, drop, replicate, Bool, MatchBool}
 use Rattle.pcl_base.specs.declared.method.Method.{Method}
+use Rattle.pcl_base.specs.declared.method.Method.TheVariants.{Packed}
 use Rattle.pcl_rows.specs.Heads.{Head, head_bytes, new_count, copies_of, offset_of}
 use Rattle.pcl_rows.specs.Elements.{IsHead}
 
@@ -53,3 +54,7 @@ pub record IsFront (method : Method) (bytes : List ℕ) (offset copies : ℕ) (n
 -- a list over another one from a place on; what lies past its end is dropped
 abbrev pub overlaid : List ℕ → ℕ → List ℕ → List ℕ
 overlaid old place new = take (length old) (take place old ++ (new ++ drop (place + length new) old))
+
+-- what stands behind elements that give nothing, which method 2 alone has
+abbrev pub IsPastSkipped : Method → List ℕ → List ℕ → Type 0
+IsPastSkipped method bytes rest = (count : ℕ) × (bytes ≡ replicate count 128 ++ rest) × (0 < count → method ≡ Packed)

@@ -1,20 +1,25 @@
 use Rattle.std.proofs.Common.{◌≡◌, ◌<◌, length, List, ℕ, [], subst, sym, ◌∙◌, arith}
 use Rattle.std.proofs.lemmas.Bool.{eqb-true, eqb-false}
 use Rattle.std.proofs.lemmas.List.{nil_from_length}
-use Rattle.pcl_rows.proofs.Readings.{IsTreatedTo, treated_more, treated_all, treated_none, rest_shorter}
+use Rattle.pcl_rows.proofs.Readings.{IsTreatedTo, treated_more, treated_all, treated_none, treated_skipped, past_skipped_length, rest_shorter}
 use Rattle.pcl_rows.proofs.decoding.treat.Goals as goal
 
 pub loop-rest-init : goal.loop-rest-init
-loop-rest-init c = record { within = omega arith; treated = treated_none }
+loop-rest-init c = record {
+  within = omega arith;
+  treated = treated_skipped c.past_skipped-rest.result.now c.args.row.now 0 c.past_skipped-rest.ensures treated_none;
+}
 
 pub loop-rest-preserved : goal.loop-rest-preserved
 loop-rest-preserved c =
     let front = c.read-front.result in
     record {
       within = omega (arith, c.put-place.ensures.end, c.put-place.auto.row);
-      treated = treated_more c.loop-rest.row
+      treated = treated_skipped c.past_skipped-rest-in-loop-rest.result.now c.put-place.new.row c.put-place.result
+          c.past_skipped-rest-in-loop-rest.ensures
+          (treated_more c.loop-rest.row
           c.loop-rest.auto.row c.loop-rest.invariant.within c.skip-place.ensures c.read-front.ensures.front c.put-place.ensures.row
-          c.put-place.ensures.end c.loop-rest.invariant.treated;
+          c.put-place.ensures.end c.loop-rest.invariant.treated);
     }
 
 pub loop-rest-smaller : goal.loop-rest-smaller
@@ -22,8 +27,12 @@ loop-rest-smaller c =
     let front = c.read-front.result in
     let some : 0 < length c.loop-rest.rest.now =
     omega (arith, eqb-false (length c.loop-rest.rest.now) 0 (sym c.is_empty.ensures ∙ c.loop-rest-test.true)) in
-    rest_shorter some
-    c.read-front.ensures.front
+    let shorter : length front.rest.now < length c.loop-rest.rest.now = rest_shorter some c.read-front.ensures.front in
+    omega (
+      arith,
+      past_skipped_length front.rest.now c.past_skipped-rest-in-loop-rest.result.now
+          c.past_skipped-rest-in-loop-rest.ensures,
+    )
 
 pub returns : goal.returns
 returns c =
