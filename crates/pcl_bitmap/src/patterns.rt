@@ -67,7 +67,11 @@ fn write_dots(target: &mut [u8], row: &[u8], scale: usize, start: usize)
         let rest = start % (8 * scale);
         let count = (rest + 8 * target.len()).div_ceil(8 * scale);
         spread_row(&mut spread, scale, row, first, count);
-        write_bits(target, &spread, rest);
+        if rest == 0 {
+            target.copy_from_slice(&spread[..target.len()]);
+        } else {
+            write_bits(target, &spread, rest);
+        }
     }
 }
 
