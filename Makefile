@@ -4,7 +4,14 @@
 PREFIX ?= /usr/local
 PROGRAM := crates/pclmin/out/pclmin
 
-.PHONY: build test test-memory examples bench bench-certificates install clean
+.PHONY: demo build test test-memory examples bench bench-certificates install clean
+
+# Previews the sample job into build/demo.pbm by the kit's quick run, a minute or two after a fresh clone: nothing is proved.
+demo:
+	mkdir -p build
+	cd crates/pclmin && rt try -- pbm --page 1 < ../../examples/picture.pcl > ../../build/demo.pbm
+	@echo "build/demo.pbm is page 1 of examples/picture.pcl, by a program that isn't proved yet: see make build"
+	@if command -v pnmtopng > /dev/null; then pnmtopng -quiet build/demo.pbm > build/demo.png && echo "build/demo.png is the same"; fi
 
 # Proves and builds the program, and previews the sample job into build/sample.pbm.
 build:
@@ -54,6 +61,7 @@ bench-certificates:
 
 # Copies the program that `make build` left to $(PREFIX)/bin.
 install:
+	@test -x $(PROGRAM) || { echo "there is no $(PROGRAM): run make build first" >&2; exit 1; }
 	install -D -m 755 $(PROGRAM) $(DESTDIR)$(PREFIX)/bin/pclmin
 
 # Removes what was built, and the proofs that were kept: the next build proves everything again.
