@@ -184,7 +184,7 @@ pub right_of : (x y w h : ℕ) {px : ℕ} (py : ℕ) → x + w ≤ px → rectan
 right_of x y w h {px} py off = rw (le-ltb px (x + w) off) (and_left _ _ (and_left _ _ (and_right (nat_le x px) false refl)))
 
 -- a rectangle that is cut at the page's edges has the same dots on the page
-clipped :
+pub clipped :
     (width height x y w h wide high px py : ℕ)
     → x < width → y < height → w ≡ min wide (width - x) → h ≡ min high (height - y) → px < width → py < height
     → rectangle_dot x y w h px py ≡ rectangle_dot x y wide high px py

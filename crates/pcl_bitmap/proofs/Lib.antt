@@ -2,6 +2,7 @@ pub mod Bytes
 pub mod Runs
 pub mod Pages
 pub mod Pictures
+pub mod OneInk
 pub mod Inked
 pub mod Spread
 pub mod KernelLanes

@@ -1,3 +1,4 @@
 pub mod Bitmap
 pub mod Dots
+pub mod Filled
 pub mod Kernels

@@ -1,7 +1,7 @@
 //! Rectangles of dots that lie on a page.
 
 /// A rectangle of dots within a page: its upper left dot, and how many dots wide and high it is.
-#[derive(Clone, Copy)]
+#[derive(Clone, Copy, Debug)]
 pub struct Area {
     pub x: usize,
     pub y: usize,

@@ -6,6 +6,7 @@ ghost use Rattle.pcl_bitmap.specs.Bitmap.{IsPicture, row_of, dot_of_row, dot, bl
 ghost use Rattle.pcl_bitmap.specs.Dots.{is_black_ink, raster_dot, rectangle_dot, pattern_dot};
 
 use crate::area::Area;
+use crate::filled::Filled;
 use crate::patterns::{self, Window};
 use crate::{Ink, bits, fills, kernels, squares};
 use pcl_base::{Dpi, Size};
@@ -19,16 +20,19 @@ pub struct Bitmap {
     size: Size,
     dpi: Dpi,
     bytes: Vec<u8>,
+    // What was filled last, as far as its dots are known to have the ink still.
+    filled: Filled,
 }
 
 impl Model for Bitmap {
-    ghost use Rattle.pcl_bitmap.specs.Bitmap.{Picture, IsPicture};
+    ghost use Rattle.pcl_bitmap.specs.Bitmap.{Picture};
+    ghost use Rattle.pcl_bitmap.specs.Filled.{IsBitmap};
 
     ghost Value = { Picture };
 
     ghost view = { λ a. record { size = a.size; dpi = a.dpi; bytes = a.bytes.items } };
 
-    ghost invariant = { λ a. IsPicture record { size = a.size; dpi = a.dpi; bytes = a.bytes.items } };
+    ghost invariant = { λ a. IsBitmap record { size = a.size; dpi = a.dpi; bytes = a.bytes.items } a.filled };
 }
 
 impl Bitmap {
@@ -43,6 +47,7 @@ impl Bitmap {
             size,
             dpi,
             bytes: vec![in alloc; 0; count]?,
+            filled: Filled::nothing(),
         })
     }
 
@@ -98,6 +103,7 @@ impl Bitmap {
         ensures dots { (x y : ℕ) → dot self.new x y ≡ false }
         ensures picture { IsPicture self.new }
     {
+        self.filled = Filled::nothing();
         self.bytes.fill(0);
     }
 
@@ -127,6 +133,7 @@ impl Bitmap {
             height: u64::from(scale).min(page_height - y) as usize,
         };
         let row_bytes = self.size.row_bytes(self.dpi);
+        self.filled = self.filled.under_black();
         squares::paint_squares(&mut self.bytes, row_bytes, area, scale as usize, row);
     }
 
@@ -151,7 +158,11 @@ impl Bitmap {
             width: w.min(u64::from(page_width - x)) as usize,
             height: h.min(u64::from(page_height - y)) as usize,
         };
+        if self.filled.has(area, ink) {
+            return;
+        }
         let row_bytes = self.size.row_bytes(self.dpi);
+        self.filled = Filled { area, ink };
         fills::fill_rows(&mut self.bytes, row_bytes, area, ink);
     }
 
@@ -191,6 +202,7 @@ impl Bitmap {
             y: skip_y,
         };
         let row_bytes = self.size.row_bytes(self.dpi);
+        self.filled = self.filled.under_black();
         patterns::or_pattern(&mut self.bytes, row_bytes, area, window, rows);
     }
 }

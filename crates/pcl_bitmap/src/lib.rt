@@ -4,6 +4,7 @@
 mod area;
 mod bitmap;
 mod bits;
+mod filled;
 mod fills;
 mod ink;
 mod kernels;

@@ -2,6 +2,7 @@ use Rattle.std.proofs.Common.{sym, ap, ◌∙◌, subst, arith}
 use Rattle.std.proofs.lemmas.Nat.{mul-le}
 use Rattle.pcl_bitmap.specs.Bitmap.{Picture, IsPicture, dot}
 use Rattle.pcl_bitmap.proofs.Pictures.{blank_from_zeros, blank_dots, blank_is_picture, page_limits}
+use Rattle.pcl_bitmap.proofs.OneInk.{nothing_inked}
 use Rattle.pcl_bitmap.proofs.bitmap.Bitmap.new.Goals as goal
 
 pub returns-clause-blank : goal.returns-clause-blank
@@ -19,9 +20,12 @@ overflow_mul-count c =
     omega (arith, mul-le c.height.result c.row_bytes.result 8400 600 (omega arith) (omega arith))
 
 pub invariant_of-result : goal.invariant_of-result
-invariant_of-result c =
-    let P : Picture → Type 0 = λ page. IsPicture page in
-    subst P (sym (returns-clause-blank c)) (blank_is_picture c.args.size c.args.dpi)
+invariant_of-result c = record {
+  picture =
+      let P : Picture → Type 0 = λ page. IsPicture page in
+      subst P (sym (returns-clause-blank c)) (blank_is_picture c.args.size c.args.dpi);
+  inked = nothing_inked _ _ c.nothing.ensures;
+}
 
 pub returns-clause-picture : goal.returns-clause-picture
-returns-clause-picture c = invariant_of-result c
+returns-clause-picture c = (invariant_of-result c).picture

@@ -9,8 +9,8 @@ overflow_mul-start c =
     omega (
       arith,
       page_bytes_limit a.size a.dpi,
-      c.self.invariant.whole,
-      row_on_page a.size a.dpi a.bytes.items c.args.y c.row_bytes-len.result c.self.invariant.whole
+      c.self.invariant.picture.whole,
+      row_on_page a.size a.dpi a.bytes.items c.args.y c.row_bytes-len.result c.self.invariant.picture.whole
           (rw (← c.self.view_is) at c.requires) c.row_bytes-len.ensures,
     )
 
@@ -20,8 +20,8 @@ overflow_add-result c =
     omega (
       arith,
       page_bytes_limit a.size a.dpi,
-      c.self.invariant.whole,
-      row_on_page a.size a.dpi a.bytes.items c.args.y c.row_bytes-len.result c.self.invariant.whole
+      c.self.invariant.picture.whole,
+      row_on_page a.size a.dpi a.bytes.items c.args.y c.row_bytes-len.result c.self.invariant.picture.whole
           (rw (← c.self.view_is) at c.requires) c.row_bytes-len.ensures,
     )
 
@@ -31,7 +31,7 @@ slice_bounds-result-end c =
     omega (
       arith,
       row_on_page a.size a.dpi c.deref.result.now c.args.y c.row_bytes-len.result
-          (rw (← c.deref.ensures.value) at c.self.invariant.whole)
+          (rw (← c.deref.ensures.value) at c.self.invariant.picture.whole)
           (rw (← c.self.view_is) at c.requires) c.row_bytes-len.ensures,
     )
 
@@ -52,4 +52,4 @@ returns-clause-bytes c = rw (← c.self.view_is) (row_inside c)
 pub returns-clause-clear_pads : goal.returns-clause-clear_pads
 returns-clause-clear_pads c =
     rw (← c.self.view_is) (λ x pad.
-    ap (λ (t : List ℕ). dot_of_row t x) (row_inside c) ∙ c.self.invariant.clear_pads x c.args.y pad)
+    ap (λ (t : List ℕ). dot_of_row t x) (row_inside c) ∙ c.self.invariant.picture.clear_pads x c.args.y pad)
