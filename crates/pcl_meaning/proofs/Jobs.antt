@@ -29,8 +29,8 @@ use Rattle.pcl_page.specs.Jobs.{HasPages, performance_of}
 use Rattle.pcl_plan.specs.Tokens.{Token, opening, method, skip, send, commands_in, command_count, token_bytes, start_bytes, end_bytes, frame_bytes}
 use Rattle.pcl_plan.specs.PageText.{IsPageText, bitmap_rows}
 use Rattle.pcl_writer.specs.Appending.{IsWrittenPage}
-use Rattle.pcl_meaning.specs.Alike.{AreAlike, AllAlike, most_commands}
-use Rattle.pcl_meaning.specs.JobTexts.{PrintEach}
+use Rattle.pcl_page.specs.Alike.{AreAlike, AllAlike}
+use Rattle.pcl_meaning.specs.JobTexts.{PrintEach, most_commands}
 use Rattle.pcl_meaning.specs.PageTexts.{dot_of_rows, job_of, MeansRows}
 use Rattle.pcl_meaning.proofs.Deeds.{Deed}
 use Rattle.pcl_meaning.proofs.Readings.{ReadsAs, reads_joined, reads_none, said_many}

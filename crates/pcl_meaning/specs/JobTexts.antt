@@ -1,6 +1,7 @@
 -- Job texts that print pages, and the least of them.
-use Rattle.std.specs.Prelude.{◌≡◌, ℕ, ◌≤◌, List, [], ◌∷◌, ◌++◌, length}
+use Rattle.std.specs.Prelude.{◌≡◌, ℕ, ◌+◌, ◌*◌, ◌≤◌, List, [], ◌∷◌, ◌++◌, length}
 use Rattle.pcl_base.specs.declared.dpi.Dpi.{Dpi}
+use Rattle.pcl_base.specs.Size.{page_height}
 use Rattle.pcl_page.specs.declared.page.Page.{Page}
 use Rattle.pcl_page.specs.Situation.{Sheet}
 use Rattle.pcl_page.specs.Performing.{Shows}
@@ -34,3 +35,8 @@ pub record IsLeastJobText (dpi : Dpi) (pages : List Sheet) (job : List ℕ) : Ty
   pub print : PrintEach PrintsShortest dpi pages texts
   pub spelled : job ≡ frame_bytes ++ texts ++ frame_bytes
   pub shortest : (other : List ℕ) → IsJobText dpi pages other → length job ≤ length other
+
+-- the most commands of a job that is written of these pages: three for each row and ten around each page's rows, and two resets
+abbrev pub most_commands : Dpi → List Sheet → ℕ
+most_commands dpi [] = 2
+most_commands dpi (sheet ∷ sheets) = 3 * page_height sheet.size dpi + 10 + most_commands dpi sheets

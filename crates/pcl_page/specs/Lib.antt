@@ -5,5 +5,6 @@ pub mod Situation
 pub mod Macros
 pub mod Performing
 pub mod Jobs
-pub mod inner
+pub mod Alike
 pub mod Delivering
+pub mod inner

@@ -3,8 +3,8 @@ use Rattle.std.specs.Prelude.{◌≡◌, ℕ, ◌≤◌, List, length}
 use Rattle.pcl_base.specs.declared.dpi.Dpi.{Dpi}
 use Rattle.pcl_page.specs.Situation.{Sheet}
 use Rattle.pcl_page.specs.Jobs.{HasPages}
-use Rattle.pcl_meaning.specs.Alike.{AllAlike, most_commands}
-use Rattle.pcl_meaning.specs.JobTexts.{IsLeastJobText}
+use Rattle.pcl_page.specs.Alike.{AllAlike}
+use Rattle.pcl_meaning.specs.JobTexts.{IsLeastJobText, most_commands}
 use Rattle.pcl_tool.specs.declared.job_verdict.JobVerdict.{JobVerdict}
 use Rattle.pcl_tool.specs.declared.job_verdict.JobVerdict.TheVariants.{Proved}
 use Rattle.pcl_tool.specs.JobVerdicts.{IsJobVerdict}

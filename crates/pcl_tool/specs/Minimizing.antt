@@ -7,9 +7,9 @@ use Rattle.pcl_page.specs.Situation.{Sheet}
 use Rattle.pcl_page.specs.Jobs.{HasPages}
 use Rattle.pcl_page.specs.Delivering.{IsRefusal}
 use Rattle.pcl_plan.specs.Tokens.{frame_bytes}
+use Rattle.pcl_page.specs.Alike.{AllAlike}
 use Rattle.pcl_writer.specs.Appending.{IsWrittenPage}
-use Rattle.pcl_meaning.specs.Alike.{AllAlike, most_commands}
-use Rattle.pcl_meaning.specs.JobTexts.{PrintEach}
+use Rattle.pcl_meaning.specs.JobTexts.{PrintEach, most_commands}
 use Rattle.pcl_cert.specs.declared.format.Format.{Format}
 use Rattle.pcl_cert.specs.declared.page_proof.PageProof.{PageProof}
 use Rattle.pcl_cert.specs.Certificates.{AreProofs, certificate_bytes}

@@ -1,5 +1,5 @@
 -- Pages that are the same.
-use Rattle.std.specs.Prelude.{◌≡◌, ℕ, ◌+◌, ◌*◌, ◌<◌, List, [], ◌∷◌}
+use Rattle.std.specs.Prelude.{◌≡◌, ℕ, ◌<◌, List, [], ◌∷◌}
 use Rattle.pcl_base.specs.declared.dpi.Dpi.{Dpi}
 use Rattle.pcl_base.specs.Size.{page_width, page_height}
 use Rattle.pcl_page.specs.Marks.{is_black}
@@ -17,8 +17,3 @@ AllAlike dpi [] [] = Unit {0}
 AllAlike dpi [] (other ∷ others) = ⊥
 AllAlike dpi (sheet ∷ sheets) [] = ⊥
 AllAlike dpi (sheet ∷ sheets) (other ∷ others) = AreAlike dpi sheet other × AllAlike dpi sheets others
-
--- the most commands of a job that is written of these sheets: three for each row and ten around each page's rows, and two resets
-abbrev pub most_commands : Dpi → List Sheet → ℕ
-most_commands dpi [] = 2
-most_commands dpi (sheet ∷ sheets) = 3 * page_height sheet.size dpi + 10 + most_commands dpi sheets
