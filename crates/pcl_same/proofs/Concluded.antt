@@ -1,0 +1,30 @@
+-- What is concluded of what was found of the pages.
+use Rattle.std.proofs.Common.{◌≡◌, ℕ, suc, ◌+◌, ◌<◌, List, [], ◌∷◌, ◌++◌, length, take, drop, get_or, Option, Some, None, sym, ap, subst, ◌∙◌, arith}
+use Rattle.std.specs.List.{AllByRecursion}
+use Rattle.std.proofs.lemmas.List.{take_more, take-append-drop, length-take-le}
+use Rattle.std.proofs.Math.Seq.{drop-cons}
+use Rattle.pcl_same.specs.declared.comparison.Difference.{Difference}
+use Rattle.pcl_same.specs.Pages.{IsAlike, IsFirstFound}
+
+-- nothing is found of one page more
+more_alike : (found : List (Option Difference)) {next : Option Difference} → AllByRecursion IsAlike found → IsAlike next
+    → AllByRecursion IsAlike (found ++ next ∷ [])
+more_alike [] all one = (one, tt)
+more_alike (first ∷ found) all one = (all.0, more_alike found all.1 one)
+
+pub next_alike : (found : List (Option Difference)) {n : ℕ} → n < length found → AllByRecursion IsAlike (take n found)
+    → get_or found n None ≡ None → AllByRecursion IsAlike (take (n + 1) found)
+next_alike found {n} lt all none =
+    subst (AllByRecursion IsAlike) (sym (take_more found n None lt)) (more_alike (take n found) all none)
+
+pub first_found : (found : List (Option Difference)) {n : ℕ} {difference : Difference} → n < length found
+    → AllByRecursion IsAlike (take n found) → get_or found n None ≡ Some difference → IsFirstFound found (n + 1) difference
+first_found found {n} {difference} lt all some = record {
+  before = take n found;
+  after = drop (suc n) found;
+  found_are = sym (take-append-drop n found)
+      ∙ ap (λ (rest : List (Option Difference)). take n found ++ rest)
+      (drop-cons found n None lt ∙ ap (λ (one : Option Difference). one ∷ drop (suc n) found) some);
+  alike_before = all;
+  counted = ap (λ (k : ℕ). k + 1) (sym (length-take-le n found (omega arith)));
+}

@@ -1,0 +1,5 @@
+pub mod FirstBits
+pub mod KeptRows
+pub mod Beside
+pub mod Concluded
+pub mod Answered

@@ -1,0 +1,5 @@
+use Rattle.std.proofs.Common.{rules}
+use Rattle.pcl_same.proofs.keeping.KeeperPageSink.page.Goals as goal
+
+pub returns-clause-taken : goal.returns-clause-taken
+returns-clause-taken c = (_, search rules, c.in_ok-new.ensures)

@@ -1,0 +1,5 @@
+pub mod Differing
+pub mod Comparing
+pub mod Rows
+pub mod Kept
+pub mod Pages

@@ -1,0 +1,115 @@
+-- The pages of the first job, kept, and those of the second beside them. Only contracts of private functions cite this.
+use Rattle.std.specs.Prelude.{◌≡◌, ◌≢◌, ℕ, ◌+◌, List, [], ◌∷◌, ◌++◌, length, drop, Option, Some, None, Result, Ok, Err}
+use Rattle.std.specs.Global.{Vec}
+use Rattle.std.specs.List.{AllByRecursion}
+use Rattle.pcl_base.specs.declared.dpi.Dpi.{Dpi}
+use Rattle.pcl_base.specs.declared.fault.JobFault.{JobFault}
+use Rattle.pcl_base.specs.declared.fault.JobFault.TheVariants.{Refused, Memory}
+use Rattle.pcl_base.specs.Size.{page_width, page_height}
+use Rattle.pcl_bitmap.specs.Bitmap.{dot}
+use Rattle.pcl_page.specs.declared.page.Page.{Page}
+use Rattle.pcl_page.specs.Situation.{Sheet}
+use Rattle.pcl_page.specs.Performing.{Shows}
+use Rattle.pcl_page.specs.Jobs.{HasPages, IsRefusal}
+use Rattle.pcl_same.specs.declared.comparison.Comparison.{Comparison}
+use Rattle.pcl_same.specs.declared.comparison.Comparison.TheVariants as comparison
+use Rattle.pcl_same.specs.declared.comparison.Difference.{Difference}
+use Rattle.pcl_same.specs.declared.comparison.Difference.TheVariants as difference
+use Rattle.pcl_same.specs.declared.keeping.KeptPage.{KeptPage}
+use Rattle.pcl_same.specs.declared.comparing.Comparer.TheInside.{Inside}
+use Rattle.pcl_same.specs.Differing.{IsFirstDot}
+use Rattle.pcl_same.specs.Kept.{KeepsPicture}
+
+-- ---- the first job
+
+-- the page is kept
+pub record KeepsPage (page : Page) (kept : KeptPage) : Type 0 where
+  pub copies : kept.copies ≡ page.copies
+  pub bitmap : KeepsPicture page.bitmap kept.bitmap
+
+-- a page more is kept
+abbrev pub KeepsMore : List KeptPage → Page → List KeptPage → Type 0
+KeepsMore old page new = (kept : KeptPage) × (new ≡ old ++ kept ∷ []) × KeepsPage page kept
+
+-- pages that show the sheets are kept, one by one
+abbrev pub KeepAll : Dpi → List Sheet → List KeptPage → Type 0
+KeepAll dpi [] [] = Unit {0}
+KeepAll dpi [] (kept ∷ others) = ⊥
+KeepAll dpi (sheet ∷ sheets) [] = ⊥
+KeepAll dpi (sheet ∷ sheets) (kept ∷ others) =
+    (page : Page) × Shows dpi page sheet × KeepsPage page kept × KeepAll dpi sheets others
+
+abbrev pub AreKept : Dpi → List ℕ → Result (Vec KeptPage) JobFault → Type 0
+AreKept dpi job (Ok kept) = (pages : List Sheet) × HasPages dpi job pages × KeepAll dpi pages kept.items
+AreKept dpi job (Err (Refused refusal)) = IsRefusal dpi job refusal
+AreKept dpi job (Err Memory) = Unit {0}
+
+-- ---- a page of the second job
+
+-- how two pages of one resolution differ
+abbrev pub PagesDiffer : Page → Page → Option Difference → Type 0
+PagesDiffer one other None = (one.size ≡ other.size) × (one.copies ≡ other.copies) × (one.bitmap ≡ other.bitmap)
+PagesDiffer one other (Some (difference.Size first second)) = (one.size ≡ first) × (other.size ≡ second) × (first ≢ second)
+PagesDiffer one other (Some (difference.Copies first second)) =
+    (one.size ≡ other.size) × (one.copies ≡ first) × (other.copies ≡ second) × (first ≢ second)
+PagesDiffer one other (Some (difference.Dot x y)) =
+    (one.size ≡ other.size) × (one.copies ≡ other.copies)
+    × IsFirstDot (page_width one.size one.dpi) (page_height one.size one.dpi) (dot one.bitmap) (dot other.bitmap) x y
+
+-- what is found of a page beside a kept one
+abbrev pub IsFound : KeptPage → Page → Option Difference → Type 0
+IsFound kept other found = (page : Page) → KeepsPage page kept → page.dpi ≡ other.dpi → PagesDiffer page other found
+
+-- the kept pages, and what was found of each page so far
+pub record Compared : Type 0 where
+  pub kept : List KeptPage
+  pub found : List (Option Difference)
+
+abbrev pub compared : Inside → Compared
+compared a = record { kept = a.kept.items; found = a.found.items }
+
+-- what is found of a page by the kept pages that are left: nothing is said where there is none
+abbrev pub IsFoundNext : List KeptPage → Page → Option Difference → Type 0
+IsFoundNext [] page found = Unit {0}
+IsFoundNext (kept ∷ later) page found = IsFound kept page found
+
+-- a page is compared with the kept one of its number
+pub record ComparesNext (old : Compared) (page : Page) (new : Compared) : Type 0 where
+  pub kept : new.kept ≡ old.kept
+  pub next : Option Difference
+  pub found : new.found ≡ old.found ++ next ∷ []
+  pub is : IsFoundNext (drop (length old.found) old.kept) page next
+
+-- ---- all pages of the second job
+
+-- nothing is found
+abbrev pub IsAlike : Option Difference → Type 0
+IsAlike found = found ≡ None
+
+-- the first that was found
+pub record IsFirstFound (found : List (Option Difference)) (number : ℕ) (difference : Difference) : Type 0 where
+  pub before : List (Option Difference)
+  pub after : List (Option Difference)
+  pub found_are : found ≡ before ++ Some difference ∷ after
+  pub alike_before : AllByRecursion IsAlike before
+  pub counted : number ≡ length before + 1
+
+abbrev pub IsConcluded : ℕ → List (Option Difference) → Comparison → Type 0
+IsConcluded count found comparison.Same = (length found ≡ count) × AllByRecursion IsAlike found
+IsConcluded count found (comparison.PageCount first second) = (first ≡ count) × (second ≡ length found) × (first ≢ second)
+IsConcluded count found (comparison.Page number difference) = (length found ≡ count) × IsFirstFound found number difference
+
+-- the job's pages, each found beside the kept one of its number
+abbrev pub FindAll : Dpi → List KeptPage → List Sheet → List (Option Difference) → Type 0
+FindAll dpi kept [] [] = Unit {0}
+FindAll dpi kept [] (found ∷ more) = ⊥
+FindAll dpi kept (sheet ∷ sheets) [] = ⊥
+FindAll dpi kept (sheet ∷ sheets) (found ∷ more) =
+    (page : Page) × Shows dpi page sheet × IsFoundNext kept page found × FindAll dpi (drop 1 kept) sheets more
+
+abbrev pub AreCompared : Dpi → List KeptPage → List ℕ → Result Comparison JobFault → Type 0
+AreCompared dpi kept job (Ok comparison) =
+    (pages : List Sheet) × HasPages dpi job pages × (found : List (Option Difference)) × FindAll dpi kept pages found
+    × IsConcluded (length kept) found comparison
+AreCompared dpi kept job (Err (Refused refusal)) = IsRefusal dpi job refusal
+AreCompared dpi kept job (Err Memory) = Unit {0}

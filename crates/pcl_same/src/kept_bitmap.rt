@@ -1,0 +1,86 @@
+//! The dots of a page, kept as row data.
+
+ghost use Rattle.std.specs.Prelude.{◌≡◌, ◌+◌, ℕ, ◌<◌, length, IfOk};
+ghost use Rattle.pcl_base.specs.Size.{page_height};
+ghost use Rattle.pcl_bitmap.specs.Bitmap.{Picture, IsPicture};
+ghost use Rattle.pcl_same.specs.Rows.{IsPiece};
+
+use crate::bits::first_dot_of_row;
+use pcl_base::{Dpi, Method, ROW_LIMIT, Size};
+use pcl_bitmap::Bitmap;
+use pcl_coders::{Delta, RowCoder};
+use pcl_rows::decode;
+use std::alloc::{AllocError, Global};
+
+/// The dots of a page as least row data, by method 3 over the row above, which is nothing for a row like the one above.
+#[derive(Drop)]
+pub struct KeptBitmap {
+    /// The size of the page.
+    pub size: Size,
+    /// The resolution of the page.
+    pub dpi: Dpi,
+    /// The data of all rows, one after the other.
+    pub data: Vec<u8>,
+    /// Where the data of each row begins, and where that of the last one ends.
+    pub starts: Vec<usize>,
+    ghost count: { length starts.items ≡ page_height size dpi + 1 },
+    ghost pieces: { (y : ℕ) → y < page_height size dpi → IsPiece data.items starts.items y },
+}
+
+impl KeptBitmap {
+    ghost use Rattle.pcl_same.specs.Kept.{data_of, KeepsPicture, IsFirstDotOf};
+
+    /// Keeps the dots of a bitmap. It fails where memory runs out.
+    pub fn new(alloc: Global, bitmap: &Bitmap) -> Result<KeptBitmap, AllocError>
+        ensures { IfOk result (KeepsPicture bitmap.now) }
+    {
+        let size = bitmap.size();
+        let dpi = bitmap.dpi();
+        let mut data = Vec::new(alloc);
+        let mut starts = Vec::new(alloc);
+        starts.push(0)?;
+        let mut above = [0; ROW_LIMIT];
+        for y in 0..size.height(dpi) {
+            let row = bitmap.row(y);
+            Delta.write(row, &above[..row.len()], &mut data)?;
+            starts.push(data.len())?;
+            above[..row.len()].copy_from_slice(row);
+        }
+        Ok(KeptBitmap {
+            size,
+            dpi,
+            data,
+            starts,
+        })
+    }
+
+    /// The data of row `y`, the topmost row 0.
+    fn row_data(&self, y: u32) -> &[u8]
+        requires { y < page_height self.now.size self.now.dpi }
+        ensures { result.now ≡ data_of self.now y }
+    {
+        let y = y as usize;
+        &self.data[self.starts[y]..self.starts[y + 1]]
+    }
+
+    /// The place `(x, y)` of the first dot, in row order, at which another bitmap of the same size and resolution
+    /// differs.
+    pub fn first_dot(&self, other: &Bitmap) -> Option<(u32, u32)>
+        requires size { self.now.size ≡ other.now.size }
+        requires dpi { self.now.dpi ≡ other.now.dpi }
+        ensures { (kept : Picture) → IsPicture kept → KeepsPicture kept self.now → IsFirstDotOf kept other.now result }
+    {
+        let mut above = [0; ROW_LIMIT];
+        let mut buffer = [0; ROW_LIMIT];
+        for y in 0..other.size().height(other.dpi()) {
+            let row = other.row(y);
+            let kept = &mut buffer[..row.len()];
+            decode(Method::Delta, &above[..row.len()], self.row_data(y), kept);
+            if let Some(x) = first_dot_of_row(kept, row) {
+                return Some((x, y));
+            }
+            above[..row.len()].copy_from_slice(row);
+        }
+        None
+    }
+}
