@@ -18,7 +18,7 @@ use Rattle.pcl_same.specs.declared.comparison.Difference.TheVariants.{Size, Copi
 use Rattle.pcl_same.specs.declared.keeping.KeptPage.{KeptPage}
 use Rattle.pcl_same.specs.Comparing.{IsComparison}
 use Rattle.pcl_same.specs.Differing.{IsFirstDot, DifferBy, DifferFirst}
-use Rattle.pcl_same.specs.Pages.{KeepsPage, KeepAll, PagesDiffer, IsFound, FindAll, IsAlike, IsConcluded}
+use Rattle.pcl_same.specs.inner.Pages.{KeepsPage, KeepAll, PagesDiffer, IsFound, FindAll, IsAlike, IsConcluded}
 
 -- ---- two pages, by the sheets that they show
 

@@ -8,12 +8,12 @@ use Rattle.pcl_base.specs.Size.{page_width, page_height}
 use Rattle.pcl_bitmap.specs.Bitmap.{dot}
 use Rattle.pcl_page.specs.declared.page.Page.{Page}
 use Rattle.pcl_page.specs.Situation.{Sheet}
-use Rattle.pcl_page.specs.Performing.{Hands}
+use Rattle.pcl_page.specs.Delivering.{Hands}
 use Rattle.pcl_same.specs.declared.comparison.Comparison.{Comparison}
 use Rattle.pcl_same.specs.declared.comparison.Difference.{Difference}
 use Rattle.pcl_same.specs.declared.keeping.KeptPage.{KeptPage}
 use Rattle.pcl_same.specs.Differing.{IsFirstDot}
-use Rattle.pcl_same.specs.Pages.{KeepsMore, KeepAll, Compared, IsFound, IsFoundNext, ComparesNext, FindAll, IsConcluded}
+use Rattle.pcl_same.specs.inner.Pages.{KeepsMore, KeepAll, Compared, IsFound, IsFoundNext, ComparesNext, FindAll, IsConcluded}
 
 -- ---- the first job
 

@@ -4,7 +4,7 @@ use Rattle.std.specs.List.{AllByRecursion}
 use Rattle.std.proofs.lemmas.List.{take_more, take-append-drop, length-take-le}
 use Rattle.std.proofs.Math.Seq.{drop-cons}
 use Rattle.pcl_same.specs.declared.comparison.Difference.{Difference}
-use Rattle.pcl_same.specs.Pages.{IsAlike, IsFirstFound}
+use Rattle.pcl_same.specs.inner.Pages.{IsAlike, IsFirstFound}
 
 -- nothing is found of one page more
 more_alike : (found : List (Option Difference)) {next : Option Difference} → AllByRecursion IsAlike found → IsAlike next

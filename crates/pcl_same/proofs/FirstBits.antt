@@ -7,7 +7,7 @@ use Rattle.std.proofs.lemmas.Bool.{cases_lt}
 use Rattle.std.proofs.lemmas.Bool.Decides.{nat_tests}
 use Rattle.std.proofs.lemmas.Nat.{xor_of_8, leading_top}
 use Rattle.std.proofs.lemmas.Nat.Bits.{bit_at_xor, bit_at-lt, bit_at-zero, bit_at_above, bit_at_cat_high, same_from_bits_below}
-use Rattle.pcl_same.specs.Rows.{IsFirstBit}
+use Rattle.pcl_same.specs.inner.Rows.{IsFirstBit}
 
 -- two bits are the same where their sum is even
 same_bits : {u v : ℕ} → u < 2 → v < 2 → (u + v) % 2 ≡ 0 → u ≡ v

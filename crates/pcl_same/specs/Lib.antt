@@ -1,5 +1,3 @@
 pub mod Differing
 pub mod Comparing
-pub mod Rows
-pub mod Kept
-pub mod Pages
+pub mod inner

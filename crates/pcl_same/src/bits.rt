@@ -1,7 +1,7 @@
 //! The first dot at which rows of bytes differ.
 
 ghost use Rattle.std.specs.Prelude.{◌≡◌, ◌≢◌, ℕ, ◌^◌, ◌<◌, ◌≤◌, length, MatchOption};
-ghost use Rattle.pcl_same.specs.Rows.{IsFirstBit, IsFirstDotOfRow};
+ghost use Rattle.pcl_same.specs.inner.Rows.{IsFirstBit, IsFirstDotOfRow};
 
 use pcl_bitmap::first_difference;
 

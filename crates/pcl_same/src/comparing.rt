@@ -2,7 +2,7 @@
 
 ghost use Rattle.std.specs.Prelude.{◌≡◌, ℕ, MatchOption};
 ghost use Rattle.pcl_page.specs.declared.page.Page.{Page as MeantPage};
-ghost use Rattle.pcl_same.specs.Pages.{IsFound, AreCompared, IsConcluded};
+ghost use Rattle.pcl_same.specs.inner.Pages.{IsFound, AreCompared, IsConcluded};
 
 use crate::keeping::KeptPage;
 use crate::{Comparison, Difference};
@@ -78,7 +78,7 @@ struct Comparer {
 }
 
 impl Model for Comparer {
-    ghost use Rattle.pcl_same.specs.Pages.{Compared, compared};
+    ghost use Rattle.pcl_same.specs.inner.Pages.{Compared, compared};
 
     ghost Value = { Compared };
 
@@ -86,7 +86,7 @@ impl Model for Comparer {
 }
 
 impl PageSink for Comparer {
-    ghost use Rattle.pcl_same.specs.Pages.{ComparesNext};
+    ghost use Rattle.pcl_same.specs.inner.Pages.{ComparesNext};
 
     ghost takes = { ComparesNext };
 

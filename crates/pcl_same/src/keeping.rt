@@ -1,6 +1,6 @@
 //! The pages of the first job, kept.
 
-ghost use Rattle.pcl_same.specs.Pages.{AreKept};
+ghost use Rattle.pcl_same.specs.inner.Pages.{AreKept};
 
 use crate::kept_bitmap::KeptBitmap;
 use pcl_base::{Dpi, JobFault};
@@ -19,7 +19,7 @@ pub struct KeptPage {
 
 impl KeptPage {
     ghost use Rattle.std.specs.Prelude.{IfOk};
-    ghost use Rattle.pcl_same.specs.Pages.{KeepsPage};
+    ghost use Rattle.pcl_same.specs.inner.Pages.{KeepsPage};
 
     /// Keeps a page. It fails where memory runs out.
     pub fn new(alloc: Global, page: &Page) -> Result<KeptPage, AllocError>
@@ -59,7 +59,7 @@ impl Model for Keeper {
 }
 
 impl PageSink for Keeper {
-    ghost use Rattle.pcl_same.specs.Pages.{KeepsMore};
+    ghost use Rattle.pcl_same.specs.inner.Pages.{KeepsMore};
 
     ghost takes = { KeepsMore };
 

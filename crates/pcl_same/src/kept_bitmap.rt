@@ -3,7 +3,7 @@
 ghost use Rattle.std.specs.Prelude.{◌≡◌, ◌+◌, ℕ, ◌<◌, length, IfOk};
 ghost use Rattle.pcl_base.specs.Size.{page_height};
 ghost use Rattle.pcl_bitmap.specs.Bitmap.{Picture, IsPicture};
-ghost use Rattle.pcl_same.specs.Rows.{IsPiece};
+ghost use Rattle.pcl_same.specs.inner.Rows.{IsPiece};
 
 use crate::bits::first_dot_of_row;
 use pcl_base::{Dpi, Method, ROW_LIMIT, Size};
@@ -28,7 +28,7 @@ pub struct KeptBitmap {
 }
 
 impl KeptBitmap {
-    ghost use Rattle.pcl_same.specs.Kept.{data_of, KeepsPicture, IsFirstDotOf};
+    ghost use Rattle.pcl_same.specs.inner.Kept.{data_of, KeepsPicture, IsFirstDotOf};
 
     /// Keeps the dots of a bitmap. It fails where memory runs out.
     pub fn new(alloc: Global, bitmap: &Bitmap) -> Result<KeptBitmap, AllocError>

@@ -1,6 +1,6 @@
 use Rattle.std.proofs.Common.{◌≡◌, length, refl, ap, ◌∙◌, arith}
 use Rattle.pcl_page.proofs.Jobs.{accepted_pages, has_pages}
-use Rattle.pcl_same.specs.Pages.{Compared}
+use Rattle.pcl_same.specs.inner.Pages.{Compared}
 use Rattle.pcl_same.proofs.Beside.{found_all, concluded}
 use Rattle.pcl_same.proofs.comparing.compare_pages.Goals as goal
 

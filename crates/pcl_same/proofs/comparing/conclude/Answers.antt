@@ -1,7 +1,7 @@
 use Rattle.std.proofs.Common.{◌≡◌, length, take, ap, subst, ◌∙◌, ℕ, arith}
 use Rattle.std.specs.List.{AllByRecursion}
 use Rattle.std.proofs.Math.Seq.{take-length}
-use Rattle.pcl_same.specs.Pages.{IsAlike}
+use Rattle.pcl_same.specs.inner.Pages.{IsAlike}
 use Rattle.pcl_same.proofs.Concluded.{next_alike, first_found}
 use Rattle.pcl_same.proofs.comparing.conclude.Goals as goal
 

@@ -1,6 +1,6 @@
 use Rattle.std.proofs.Common.{take}
 use Rattle.std.specs.List.{AllByRecursion}
-use Rattle.pcl_same.specs.Pages.{IsAlike}
+use Rattle.pcl_same.specs.inner.Pages.{IsAlike}
 use Rattle.pcl_same.proofs.comparing.conclude.Given as goal
 
 abbrev pub invariant-loop-before : goal.invariant-loop-before

@@ -1,7 +1,7 @@
 use Rattle.std.proofs.Common.{◌≡◌, ◌<◌, ◌≤◌, ℕ, List, length, get_or, sym, ap, subst, ◌∙◌, arith}
 use Rattle.pcl_same.specs.declared.comparing.Comparer.TheInside.{Inside}
 use Rattle.pcl_same.specs.declared.keeping.KeptPage.{KeptPage}
-use Rattle.pcl_same.specs.Pages.{IsFound}
+use Rattle.pcl_same.specs.inner.Pages.{IsFound}
 use Rattle.pcl_same.proofs.Beside.{found_there, found_past, compares}
 use Rattle.pcl_same.proofs.comparing.ComparerPageSink.page.Goals.{in-Some, in-None}
 use Rattle.pcl_same.proofs.comparing.ComparerPageSink.page.Goals as goal

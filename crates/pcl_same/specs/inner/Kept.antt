@@ -1,10 +1,10 @@
--- The dots of a page, kept as row data. Only contracts of private functions cite this.
+-- The dots of a page, kept as row data.
 use Rattle.std.specs.Prelude.{◌≡◌, ℕ, ◌<◌, List, Option, Some, None}
 use Rattle.pcl_base.specs.Size.{page_width, page_height}
 use Rattle.pcl_bitmap.specs.Bitmap.{Picture, dot}
 use Rattle.pcl_same.specs.declared.kept_bitmap.KeptBitmap.{KeptBitmap}
 use Rattle.pcl_same.specs.Differing.{IsFirstDot}
-use Rattle.pcl_same.specs.Rows.{piece, MakesRow}
+use Rattle.pcl_same.specs.inner.Rows.{piece, MakesRow}
 
 -- the data of row y
 abbrev pub data_of : KeptBitmap → ℕ → List ℕ

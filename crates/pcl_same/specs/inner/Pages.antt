@@ -1,4 +1,4 @@
--- The pages of the first job, kept, and those of the second beside them. Only contracts of private functions cite this.
+-- The pages of the first job, kept, and those of the second beside them.
 use Rattle.std.specs.Prelude.{◌≡◌, ◌≢◌, ℕ, ◌+◌, List, [], ◌∷◌, ◌++◌, length, drop, Option, Some, None, Result, Ok, Err}
 use Rattle.std.specs.Global.{Vec}
 use Rattle.std.specs.List.{AllByRecursion}
@@ -10,7 +10,8 @@ use Rattle.pcl_bitmap.specs.Bitmap.{dot}
 use Rattle.pcl_page.specs.declared.page.Page.{Page}
 use Rattle.pcl_page.specs.Situation.{Sheet}
 use Rattle.pcl_page.specs.Performing.{Shows}
-use Rattle.pcl_page.specs.Jobs.{HasPages, IsRefusal}
+use Rattle.pcl_page.specs.Jobs.{HasPages}
+use Rattle.pcl_page.specs.Delivering.{IsRefusal}
 use Rattle.pcl_same.specs.declared.comparison.Comparison.{Comparison}
 use Rattle.pcl_same.specs.declared.comparison.Comparison.TheVariants as comparison
 use Rattle.pcl_same.specs.declared.comparison.Difference.{Difference}
@@ -18,7 +19,7 @@ use Rattle.pcl_same.specs.declared.comparison.Difference.TheVariants as differen
 use Rattle.pcl_same.specs.declared.keeping.KeptPage.{KeptPage}
 use Rattle.pcl_same.specs.declared.comparing.Comparer.TheInside.{Inside}
 use Rattle.pcl_same.specs.Differing.{IsFirstDot}
-use Rattle.pcl_same.specs.Kept.{KeepsPicture}
+use Rattle.pcl_same.specs.inner.Kept.{KeepsPicture}
 
 -- ---- the first job
 

@@ -1,4 +1,4 @@
--- Rows of dots, and rows as row data. Only contracts of private functions cite this.
+-- Rows of dots, and rows as row data.
 use Rattle.std.specs.Prelude.{◌≡◌, ◌≢◌, ℕ, zero, suc, ◌+◌, ◌<◌, ◌≤◌, List, length, replicate, slice_index, slice_range}
 use Rattle.pcl_base.specs.declared.method.Method.TheVariants.{Delta}
 use Rattle.pcl_base.specs.Size.{page_row_bytes}
