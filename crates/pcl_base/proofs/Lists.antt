@@ -1,4 +1,4 @@
--- Facts of lists that the crates share: fronts and what is behind them, copies, and bytes that are given more than once.
+-- Facts of lists that the crates share: fronts and what is after them, copies, and bytes that are given more than once.
 use Rattle.std.proofs.Common.{◌≡◌, ◌≢◌, ℕ, zero, suc, ◌+◌, ◌-◌, ◌*◌, ◌<◌, ◌≤◌, inl, inr, List, [], ◌∷◌, ◌++◌, length, take, drop, replicate, get_or, refl, sym, ap, ◌∙◌, arith}
 use Rattle.std.specs.Prelude.{slice_index, flat_map, All}
 use Rattle.std.proofs.lemmas.List.{ext_get_or, get_or-take, get_or-drop, get_or-replicate, take_at, take_more, take-take, take-replicate, drop-drop, drop-take, length-append, length-take, length-take-le, length-drop, length-replicate, append-nil, get_or_past}
@@ -8,7 +8,7 @@ use Rattle.std.proofs.lemmas.Grind.{flat_map-append}
 
 -- ---- fronts
 
--- two fronts of one length, of one list, are one, and so is what stands behind them
+-- two fronts of one length, of one list, are one, and so is what stands after them
 pub same_fronts : (a b : List ℕ) {x y : List ℕ} → length a ≡ length b → a ++ x ≡ b ++ y → (a ≡ b) × (x ≡ y)
 same_fronts [] [] l e = (refl, e)
 same_fronts [] (d ∷ b) l e = absurd cc
@@ -40,7 +40,7 @@ longer_front (suc zero) [] byte h = refl
 longer_front (suc (suc n)) [] byte h = refl
 longer_front (suc n) (first ∷ said) byte h = ap (λ (bs : List ℕ). first ∷ bs) (longer_front n said byte (omega arith))
 
--- a front of two parts, and its parts
+-- a prefix of two parts, and its parts
 pub parts_of : (a : List (List ℕ)) {b : List (List ℕ)} (all : List (List ℕ)) → a ++ b ≡ take (length (a ++ b)) all
     → (a ≡ take (length a) all) × (b ≡ take (length b) (drop (length a) all))
 parts_of [] all e = (refl, e)

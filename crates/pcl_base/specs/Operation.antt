@@ -125,7 +125,7 @@ operation_in (row ∷ rows) name = if is_name name row.0 then Some row.1 else op
 unfoldable pub operation_of : Name → Option Operation
 operation_of name = operation_in operations name
 
--- a parameter of a sequence with data behind it
+-- a parameter of a sequence with data after it
 abbrev pub takes_data : Operation → Bool
 takes_data RasterRow = true
 takes_data DownloadFont = true

@@ -40,7 +40,7 @@ impl Refusal {
         written
     }
 
-    /// Appends the text, or a front of it where memory runs out.
+    /// Appends the text, or a prefix of it where memory runs out.
     fn append_text(&self, out: &mut Vec<u8>) -> Result<(), AllocError>
         ensures ok { OnOk result (out.new.items ≡ out.old.items ++ refusal_text self.now) }
         ensures front { take (length out.old.items) out.new.items ≡ out.old.items }

@@ -1,4 +1,4 @@
--- Lists that are put one behind the other, and the tables that they stand for.
+-- Lists that are put one after the other, and the tables that they stand for.
 use Rattle.std.proofs.Common.{◌≡◌, ℕ, zero, suc, ◌+◌, ◌-◌, ◌*◌, ◌^◌, ◌<◌, ◌≤◌, false, List, [], ◌∷◌, ◌++◌, length, take, drop, get_or, set, replicate, refl, sym, ap, subst, ◌∙◌, append_assoc, arith, inl, inr, lit≤}
 use Rattle.std.specs.Prelude.{nat_eq}
 use Rattle.std.specs.Int.{w16, from_be_bytes, to_be_bytes}
@@ -236,7 +236,7 @@ code_below_four Runs = lit≤ tt
 code_below_four Packed = lit≤ tt
 code_below_four Delta = lit≤ tt
 
--- the lists of a row are put behind the others, one after the other
+-- the lists of a row are put after the others, one after the other
 pub record HasFourMore (seed row : List ℕ) (old new : Lists) : Type 0 where
   pub first : Lists
   pub second : Lists

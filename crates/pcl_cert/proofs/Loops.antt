@@ -1,4 +1,4 @@
--- Reading several things one behind the other, as loops do.
+-- Reading several things one after the other, as loops do.
 use Rattle.std.proofs.Common.{◌≡◌, ℕ, suc, ◌+◌, ◌-◌, ◌<◌, ◌≤◌, List, [], ◌∷◌, ◌++◌, Result, Ok, Err, refl, sym, ap, ◌∙◌, append_assoc, arith}
 use Rattle.std.proofs.lemmas.List.{append-nil}
 use Rattle.pcl_cert.specs.declared.fault.CertFault.{CertFault}

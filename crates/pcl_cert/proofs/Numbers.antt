@@ -1,4 +1,4 @@
--- Numbers of two bytes, one behind the other.
+-- Numbers of two bytes, one after the other.
 use Rattle.std.proofs.Common.{◌≡◌, ℕ, zero, suc, ◌+◌, ◌-◌, ◌*◌, ◌<◌, ◌≤◌, false, nat_eq, List, ◌++◌, length, get_or, take, drop, refl, sym, ap, ◌∙◌, arith}
 use Rattle.std.specs.Int.{w16, from_be_bytes, to_be_bytes}
 use Rattle.std.specs.List.{flat_map}
@@ -48,7 +48,7 @@ unfolding numbers_from
 no_numbers_end zero bytes none = refl
 no_numbers_end (suc n) bytes none = absurd (omega arith)
 
--- number k of them, and 0 behind all
+-- number k of them, and 0 after all
 pub number_within : (n k : ℕ) (bytes : List ℕ) → k < n
     → get_or (numbers_from n bytes) k 0 ≡ from_be_bytes w16 (take 2 (drop (2 * k) bytes))
 unfolding numbers_from

@@ -1,4 +1,4 @@
--- Writing certificates: one thing behind the other.
+-- Writing certificates: one thing after the other.
 use Rattle.std.proofs.Common.{◌≡◌, ℕ, zero, suc, ◌+◌, ◌*◌, ◌<◌, ◌≤◌, List, [], ◌∷◌, length, take, drop, get_or, refl, sym, ap, ◌∙◌, arith, lit≤}
 use Rattle.std.specs.List.{AllByRecursion}
 use Rattle.std.specs.Int.{w16, from_be_bytes}
@@ -38,7 +38,7 @@ listed_number bytes (s ∷ starts) zero lt is = ap (λ (p : ℕ). list_from (dro
 listed_number bytes (s ∷ starts) (suc k) lt is = listed_number bytes starts k (omega arith) is
 listed_number bytes [] k lt is = absurd (omega arith)
 
--- the number of a place, and 0 behind the list
+-- the number of a place, and 0 after the list
 pub number_there : (bytes starts : List ℕ) {k start place : ℕ} → k < length starts → start ≡ get_or starts k start
     → place < count_of (drop start bytes)
     → get_or (get_or (lists_within bytes starts) k []) place 0 ≡ from_be_bytes w16 (take 2 (drop (start + 2 + 2 * place) bytes))

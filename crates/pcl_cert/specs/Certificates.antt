@@ -11,7 +11,7 @@ use Rattle.pcl_cert.specs.declared.format.Format.TheVariants.{One, Two}
 use Rattle.pcl_cert.specs.declared.page_proof.PageProof.{PageProof}
 use Rattle.pcl_cert.specs.CertificateFields.{ends_in_zero, magic}
 
--- the numbers behind some rows: for methods 0 to 3 in turn that outside a sequence, then that inside
+-- the numbers after some rows: for methods 0 to 3 in turn that outside a sequence, then that inside
 abbrev pub pair_bytes : ℕ → ℕ → List ℕ
 pair_bytes outside inside = to_be_bytes w32 outside ++ to_be_bytes w32 inside
 

@@ -33,11 +33,11 @@ Gives view (Err fault) read = Fails fault read
 abbrev pub contents_of : Format × Vec PageProof → Format × List PageProof
 contents_of read = (read.0, read.1.items)
 
--- the bytes behind what is read
+-- the bytes after what is read
 abbrev pub behind : {X : Type 0} → Result (X × List ℕ) CertFault → Result (List ℕ) CertFault
 behind read = read >>= λ x. Ok x.1
 
--- ---- fields: a value, and the bytes behind it
+-- ---- fields: a value, and the bytes after it
 
 -- a number of some bytes
 abbrev pub number_at : Width → List ℕ → Result (ℕ × List ℕ) CertFault
@@ -78,7 +78,7 @@ row_at bytes = do
     delta.1,
   )
 
--- the numbers behind so many rows
+-- the numbers after so many rows
 unfoldable pub table_at : ℕ → List ℕ → Result (List RowNumbers × List ℕ) CertFault
 table_at zero bytes = Ok ([], bytes)
 table_at (suc n) bytes = do
@@ -88,7 +88,7 @@ table_at (suc n) bytes = do
 
 -- ---- row tables
 
--- a list of at most so many numbers: its count is looked at before they are read, and the last of them behind all
+-- a list of at most so many numbers: its count is looked at before they are read, and the last of them after all
 abbrev pub list_behind : ℕ → ℕ × List ℕ → Result (List ℕ × List ℕ) CertFault
 list_behind most count =
     if nat_lt most count.0 then Err Places

@@ -10,7 +10,7 @@ use Rattle.pcl_base.specs.Method.{method_code}
 abbrev pub list_of : List (List ℕ) → ℕ → Method → List ℕ
 list_of lists row method = slice_index_or lists (4 * row + method_code method) []
 
--- the number of a place: those behind the end of a list are 0
+-- the number of a place: those after the end of a list are 0
 abbrev pub number_at_place : List (List ℕ) → ℕ → Method → ℕ → ℕ
 number_at_place lists row method place = slice_index_or (list_of lists row method) place 0
 

@@ -15,7 +15,7 @@ pub enum CertFault {
     /// A field isn't whole.
     #[error("a field isn't whole")]
     Short,
-    /// There are bytes behind the last page.
+    /// There are bytes after the last page.
     #[error("there are bytes behind the last page")]
     Extra,
     /// No size of page has so many rows.

@@ -1,4 +1,4 @@
-//! Fields of certificates, and the bytes behind them.
+//! Fields of certificates, and the bytes after them.
 
 ghost use Rattle.std.specs.Prelude.{◌≡◌};
 ghost use Rattle.std.specs.Int.{w16, w32};
@@ -44,7 +44,7 @@ pub fn format_at(bytes: &[u8]) -> Result<(Format, &[u8]), CertFault>
     }
 }
 
-/// The numbers behind some rows.
+/// The numbers after some rows.
 #[tactic(auto, unfolding(crate::specs::ReadingCertificates::row_at))]
 pub fn row_at(bytes: &[u8]) -> Result<(RowNumbers, &[u8]), CertFault>
     ensures { Gives (λ x. (x.0, x.1.now)) result (row_at bytes.now) }

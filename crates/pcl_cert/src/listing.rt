@@ -1,4 +1,4 @@
-//! Lists of numbers, put one behind the other.
+//! Lists of numbers, put one after the other.
 
 ghost use Rattle.std.specs.Prelude.{◌≡◌, ◌++◌, ◌∷◌, [], ◌^◌, ◌<◌, ◌≤◌, length, take, OnOk};
 ghost use Rattle.std.specs.Int.{w16, to_be_bytes};
@@ -26,7 +26,7 @@ impl Lists {
         }
     }
 
-    /// Puts a list behind the others, without the zeros at its end. Where memory runs out it is to be dropped.
+    /// Puts a list after the others, without the zeros at its end. Where memory runs out it is to be dropped.
     pub fn push(&mut self, numbers: &[u16]) -> Result<(), AllocError>
         requires whole { AreWhole self.old }
         requires few { length numbers.now < 2 ^ 16 }
@@ -51,7 +51,7 @@ fn trimmed(numbers: &[u16]) -> &[u16]
     &numbers[..len]
 }
 
-/// Appends numbers of two bytes, or a front of them where memory runs out.
+/// Appends numbers of two bytes, or a prefix of them where memory runs out.
 fn append_numbers(numbers: &[u16], out: &mut Vec<u8>) -> Result<(), AllocError>
     ensures { OnOk result (out.new.items ≡ out.old.items ++ flat_map (to_be_bytes w16) numbers.now) }
 {

@@ -28,7 +28,7 @@ pub fn row_tables(alloc: Global, page: &Page) -> Result<RowTables<'static>, Allo
     Ok(RowTables::within(Bytes::Kept(lists.bytes), lists.starts))
 }
 
-/// Puts the lists of a row behind the others.
+/// Puts the lists of a row after the others.
 fn push_row(bitmap: &Bitmap, row: u32, lists: &mut Lists) -> Result<(), AllocError>
     requires row { row < page_height bitmap.now.size bitmap.now.dpi }
     requires holds { HoldsRowsOf bitmap.now row lists.old }
@@ -43,7 +43,7 @@ fn push_row(bitmap: &Bitmap, row: u32, lists: &mut Lists) -> Result<(), AllocErr
     push_list(&Delta, bytes, seed, lists)
 }
 
-/// Puts the least numbers of a row by a method behind the others.
+/// Puts the least numbers of a row by a method after the others.
 fn push_list<C: RowCoder>(
     coder: &C,
     row: &[u8],

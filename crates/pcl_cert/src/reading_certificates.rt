@@ -170,7 +170,7 @@ fn lists_at(
     Ok((RowTables::within(Bytes::Lent(bytes), starts), rest))
 }
 
-/// The bytes behind a list of at most so many numbers.
+/// The bytes after a list of at most so many numbers.
 #[tactic(auto, unfolding(crate::specs::ReadingCertificates::list_at))]
 fn behind_list(bytes: &[u8], most: usize) -> Result<&[u8], CertFault>
     ensures { Gives (λ rest. rest.now) result (behind (list_at most bytes.now)) }

@@ -31,7 +31,7 @@ impl<'a> Bytes<'a> {
     }
 }
 
-/// For each row of a page and each method a list of numbers, one for each place of the row; those behind the list's end
+/// For each row of a page and each method a list of numbers, one for each place of the row; those after the list's end
 /// are 0 (docs/CERTIFICATE.md, "Row tables"). The lists of a certificate stay in its bytes.
 #[derive(Drop, Debug)]
 pub struct RowTables<'a> {
@@ -98,7 +98,7 @@ impl<'a> RowTables<'a> {
         numbers_at(self.bytes.as_slice(), self.starts[list]).is_empty()
     }
 
-    /// Appends the lists as they stand in a certificate, or a front of them where memory runs out.
+    /// Appends the lists as they stand in a certificate, or a prefix of them where memory runs out.
     pub fn append(&self, out: &mut Vec<u8>) -> Result<(), AllocError>
         ensures ok { OnOk result (out.new.items ≡ out.old.items ++ flat_map list_bytes self.now) }
         ensures front { take (length out.old.items) out.new.items ≡ out.old.items }
@@ -114,7 +114,7 @@ impl<'a> RowTables<'a> {
     }
 }
 
-/// Appends the lists that begin at these places, or a front of them where memory runs out.
+/// Appends the lists that begin at these places, or a prefix of them where memory runs out.
 fn append_lists(bytes: &[u8], starts: &[usize], out: &mut Vec<u8>) -> Result<(), AllocError>
     requires { AllByRecursion (IsListAt bytes.now) starts.now }
     ensures ok { OnOk result (out.new.items ≡ out.old.items ++ flat_map list_bytes (lists_within bytes.now starts.now)) }
@@ -145,7 +145,7 @@ fn numbers_at(bytes: &[u8], start: usize) -> &[u8]
     &bytes[start + 2..start + 2 + 2 * count]
 }
 
-/// Writes out numbers of two bytes each, and 0 behind them.
+/// Writes out numbers of two bytes each, and 0 after them.
 fn copy_numbers(bytes: &[u8], out: &mut [u16])
     ensures { out.new ≡ table_of (length out.old) (numbers_from (length bytes.now / 2) bytes.now) }
 {

@@ -29,7 +29,7 @@ pub fn write_certificate(
     written
 }
 
-/// Appends a certificate, or a front of it where memory runs out.
+/// Appends a certificate, or a prefix of it where memory runs out.
 fn append_certificate(
     proofs: &[PageProof<'_>],
     format: Format,
@@ -47,7 +47,7 @@ fn append_certificate(
     Ok(())
 }
 
-/// Appends what is said of a page, or a front of it where memory runs out.
+/// Appends what is said of a page, or a prefix of it where memory runs out.
 fn append_proof(proof: &PageProof<'_>, format: Format, out: &mut Vec<u8>) -> Result<(), AllocError>
     requires { (dpi : Dpi) × IsProof dpi format (proof_in format proof.now) }
     ensures ok { OnOk result (out.new.items ≡ out.old.items ++ proof_bytes (proof_in format proof.now)) }
@@ -62,7 +62,7 @@ fn append_proof(proof: &PageProof<'_>, format: Format, out: &mut Vec<u8>) -> Res
     Ok(())
 }
 
-/// Appends the numbers of a table, or a front of them where memory runs out.
+/// Appends the numbers of a table, or a prefix of them where memory runs out.
 fn append_table(table: &Table, out: &mut Vec<u8>) -> Result<(), AllocError>
     ensures ok { OnOk result (out.new.items ≡ out.old.items ++ table_bytes table.now) }
     ensures front { take (length out.old.items) out.new.items ≡ out.old.items }
@@ -73,7 +73,7 @@ fn append_table(table: &Table, out: &mut Vec<u8>) -> Result<(), AllocError>
     Ok(())
 }
 
-/// Appends the numbers behind some rows, or a front of them where memory runs out.
+/// Appends the numbers after some rows, or a prefix of them where memory runs out.
 fn append_row(numbers: RowNumbers, out: &mut Vec<u8>) -> Result<(), AllocError>
     ensures ok { OnOk result (out.new.items ≡ out.old.items ++ row_bytes numbers) }
     ensures front { take (length out.old.items) out.new.items ≡ out.old.items }
@@ -85,7 +85,7 @@ fn append_row(numbers: RowNumbers, out: &mut Vec<u8>) -> Result<(), AllocError>
     append_pair(outside.delta, inside.delta, out)
 }
 
-/// Appends the numbers of a method, or a front of them where memory runs out.
+/// Appends the numbers of a method, or a prefix of them where memory runs out.
 fn append_pair(outside: u32, inside: u32, out: &mut Vec<u8>) -> Result<(), AllocError>
     ensures ok { OnOk result (out.new.items ≡ out.old.items ++ pair_bytes outside inside) }
     ensures front { take (length out.old.items) out.new.items ≡ out.old.items }

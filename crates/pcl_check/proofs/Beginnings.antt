@@ -1,4 +1,4 @@
--- The begin of a page text, number by number.
+-- The start of a page text, number by number.
 use Rattle.std.proofs.Common.{◌≡◌, ℕ, ◌<◌, ◌≤◌, ◌==◌, Bool, true, false, List, [], ◌∷◌, ◌++◌, Some, None, refl, sym, ap, ◌∙◌, append_assoc, arith, lit≤}
 use Rattle.std.specs.Prelude.{decimal, codes, if◌then◌else◌}
 use Rattle.std.proofs.lemmas.Bool.Decides.{nat_tests}

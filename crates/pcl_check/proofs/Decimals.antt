@@ -11,7 +11,7 @@ use Rattle.pcl_check.specs.declared.reading.parameter.Parameter.{Parameter}
 use Rattle.pcl_check.specs.inner.Reading.{IsParameter}
 use Rattle.pcl_check.proofs.Splits.{one_split, no_split}
 
--- nothing is behind the digits
+-- nothing is after the digits
 pub all_digits : (text : List ℕ) {behind : List ℕ} → behind ≡ drop (prefix_len is_digit text) text → length behind ≡ 0 → AreDigits text
 all_digits text {behind} e none =
     let front = front_split is_digit text in
@@ -20,7 +20,7 @@ all_digits text {behind} e none =
     ∙ ap (λ (z : List ℕ). take (prefix_len is_digit text) text ++ z) no_more ∙ append-nil (take (prefix_len is_digit text) text) in
     subst AreDigits (sym whole) front.pass
 
--- digits, and the byte behind them
+-- digits, and the byte after them
 pub record IsCutAt (text front : List ℕ) (byte : ℕ) (rest : List ℕ) : Type 0 where
   pub are_digits : AreDigits front
   pub no_digit : is_digit byte ≡ false
@@ -50,7 +50,7 @@ decimal_number {n} le = (decimal_spelled n (omega arith)).1
 pub same_decimal : {m n : ℕ} → m ≤ 65536 → n ≤ 65536 → decimal m ≡ decimal n → m ≡ n
 same_decimal a b e = sym (decimal_number a) ∙ ap number_of e ∙ decimal_number b
 
--- decimals with the same byte behind them
+-- decimals with the same byte after them
 pub same_front : {m n : ℕ} (byte : ℕ) {x y : List ℕ} → m ≤ 65536 → n ≤ 65536 → is_digit byte ≡ false
     → decimal m ++ byte ∷ x ≡ decimal n ++ byte ∷ y → (m ≡ n) × (x ≡ y)
 same_front {m} {n} byte a b off e =

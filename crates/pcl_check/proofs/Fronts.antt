@@ -33,7 +33,7 @@ left_over inside current above rows text = record { inside = inside; method = cu
 abbrev pub white_rows : Size → Dpi → ℕ → List (List ℕ)
 white_rows size dpi count = replicate count (replicate (page_row_bytes size dpi) 0)
 
--- what a number and the byte behind it say, inside a sequence
+-- what a number and the byte after it say, inside a sequence
 pub data Foremost (size : Size) (dpi : Dpi) (current : Method) (above : List ℕ) (left number byte : ℕ) (rest : List ℕ)
     (rows : List (List ℕ)) : Type 0 where
   is_method : (next : Method) (ends : Bool) → byte ≡ letter_code 77 ends → number ≡ method_code next

@@ -72,7 +72,7 @@ end_from : (rows : List (List ℕ)) (Counts : ℕ → Method → ℕ → Type 0)
 end_from rows Counts number true good end = let no : true ≡ false = end.0 in absurd cc
 end_from rows Counts number false good end = good.ends end.1
 
--- behind more rows than a table has, its numbers are 0
+-- after more rows than a table has, its numbers are 0
 none_in : (current : Method) (is_open : Bool) → number_in no_numbers current is_open ≡ 0
 none_in Plain true = refl
 none_in Runs true = refl

@@ -1,4 +1,4 @@
--- From what is left before a token to what is left behind it.
+-- From what is left before a token to what is left after it.
 use Rattle.std.proofs.Common.{◌≡◌, ℕ, zero, suc, ◌-◌, ◌/◌, ◌%◌, ◌<◌, ◌≤◌, Bool, true, false, List, [], ◌∷◌, ◌++◌, length, take, drop, replicate, Some, refl, sym, ap, subst, ◌∙◌, arith}
 use Rattle.std.specs.Prelude.{not, slice_index}
 use Rattle.std.specs.List.{flat_map, AllByRecursion}
@@ -89,7 +89,7 @@ all_white size dpi (row ∷ rows) are white =
     ap (λ (r : List ℕ). r ∷ rows) first
     ∙ ap (λ (rs : List (List ℕ)). replicate (page_row_bytes size dpi) 0 ∷ rs) (all_white size dpi rows are.1 white.1)
 
--- ---- a number and the byte behind it at the front
+-- ---- a number and the byte after it at the front
 
 pub record Told (left : LeftOver) (digits : List ℕ) (byte : ℕ) (rest : List ℕ) : Type 0 where
   pub inside : left.inside ≡ true

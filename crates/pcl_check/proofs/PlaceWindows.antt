@@ -34,7 +34,7 @@ window_by_kept numbers sums ends cost most {place} is kept =
     let at = value_in (slice_index sums) (place + 1) (last_of ends most place - place) k inside in
     omega (arith, kept (place + 1 + k) (omega arith) (omega (arith, inside)) (omega (arith, inside)), is.among.2, at)
 
--- ---- what is counted behind starts
+-- ---- what is counted after starts
 
 abbrev pub IsBehindStart : List ℕ → List ℕ → ℕ → Type 0
 IsBehindStart numbers sums start =

@@ -52,7 +52,7 @@ finds_place_too One Other (Some bad) to back found = record {
   first = λ before lt. to before (omega (arith, lt, found.within)) (found.first before lt);
 }
 
--- ---- found from behind
+-- ---- found from the end
 
 -- the first place from one on
 pub record IsFirstFrom (Good : ℕ → Type 0) (from last place : ℕ) : Type 0 where

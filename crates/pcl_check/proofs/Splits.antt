@@ -1,4 +1,4 @@
--- Bytes that pass a test with another one behind them: they can be told in one way.
+-- Bytes that pass a test with another one after them: they can be told in one way.
 use Rattle.std.proofs.Common.{◌≡◌, ℕ, Bool, true, false, List, [], ◌∷◌, ◌++◌, refl, ap}
 use Rattle.pcl_escape.proofs.Fronts.{Pass}
 

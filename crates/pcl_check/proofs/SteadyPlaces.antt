@@ -122,7 +122,7 @@ one_byte offset = elim (cases_lt offset 31) [
 pub more_bytes : (offset cost : ℕ) → 31 ≤ offset → cost ≤ 2 + (offset - 31) / 255 → cost ≤ replacement_bytes offset
 more_bytes offset cost far le = omega (arith, far_bytes offset far)
 
--- the least sum of a front, where the numbers are 0 behind it
+-- the least sum of a front, where the numbers are 0 after it
 front_sums : (numbers least : List ℕ) {end : ℕ} (place stop : ℕ) → end < length numbers → AreLeastSums (take (end + 1) numbers) 8 least
     → place ≤ stop → stop < place + 8 → stop ≤ end → slice_index least place ≤ stop + slice_index numbers stop
 front_sums numbers least {end} place stop inside sums low high within =
@@ -247,7 +247,7 @@ replaced_here numbers least {end} place len none inside sums before some few kep
           omega (arith, kept, front_sums numbers least (place + 1) end inside sums (omega arith) (omega arith) (omega arith), none)
     ]
 
--- one that starts at the next place or behind it undercuts more
+-- one that starts at the next place or after it undercuts more
 replaced_next : (old row numbers : List ℕ) (place offset len : ℕ) → slice_index numbers place ≤ slice_index numbers (place + 1)
     → AreGoodReplacements old row numbers (place + 1) → 0 < len → len ≤ 8 → place + (1 + offset) + len ≤ length row
     → take (1 + offset) (drop place row) ≡ take (1 + offset) (drop place old)

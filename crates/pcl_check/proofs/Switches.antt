@@ -9,7 +9,7 @@ use Rattle.pcl_plan.proofs.RightRows.{rest_below, best_end}
 use Rattle.pcl_plan.proofs.Switching.{switch_cost, switching_is}
 use Rattle.pcl_check.specs.Edges.{number_at, AreGoodSwitches}
 
--- what may come behind a switch: to method 0, and to another
+-- what may come after a switch: to method 0, and to another
 pub record AreRests (number : Node → ℕ) (row plain others : ℕ) : Type 0 where
   pub plain_is : plain ≡ rest number row Plain
   pub others_are : others ≡ min (min (rest number row Runs) (rest number row Packed)) (rest number row Delta)

@@ -33,7 +33,7 @@ printed_text {dpi} {size} {copies} some few e p = record {
   prints = p.prints;
 }
 
--- the body behind the begin of a page text
+-- the body after the start of a page text
 pub text_body : {dpi : Dpi} {size : Size} {copies : ℕ} {rows : List (List ℕ)} {text : List ℕ} → IsPageText dpi size copies rows text
     → (rest : List ℕ) × (text ≡ start_bytes dpi copies size ++ rest) × RestPrints size dpi (body_of size dpi rest) rows
 text_body {dpi} {size} {copies} is = (
@@ -100,7 +100,7 @@ whole_page picture {rows} n e =
     length_rows (page_height picture.size picture.dpi) (page_row_bytes picture.size picture.dpi) picture.bytes ∙ sym n in
     e ∙ ap (λ (k : ℕ). take k all) (sym many) ∙ take_all (length all) all (omega arith)
 
--- whether the begin is that of a page
+-- whether the start is that of a page
 abbrev pub MayBe : Picture → ℕ → Start → Bool → Type 0
 MayBe picture copies start may_be = IsTrue may_be ↔ ((start.size ≡ picture.size) × (start.copies ≡ copies))
 

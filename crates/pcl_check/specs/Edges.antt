@@ -21,7 +21,7 @@ row_cost bytes = setting_cost bytes + bytes
 
 -- ---- good numbers
 
--- the number of the node behind so many rows, in a method, inside a sequence or outside
+-- the number of the node after so many rows, in a method, inside a sequence or outside
 abbrev pub number_at : (Node → ℕ) → ℕ → Method → Bool → ℕ
 number_at number row method inside = number (record { row = row; method = method; inside = inside })
 

@@ -144,7 +144,7 @@ fn first_bad_literal(numbers: &[u16], sums: &mut [u32], ends: &mut [u32]) -> Opt
 /// Method 3: the first place whose number a replacement undercuts. An offset of few bytes is tried also where it is spelled
 /// with more: that undercuts less. So the places where a replacement may start are always those from the place on, up to
 /// a greatest offset or to the first byte that differs. One byte spells offsets up to 30, two up to 285, three up to 540,
-/// and four up to all others; a replacement stops at least one place behind its start.
+/// and four up to all others; a replacement stops at least one place after its start.
 fn first_bad_replacement(
     old: &[u8],
     row: &[u8],

@@ -148,7 +148,7 @@ literal_step old wanted len some few within =
       bytes_are = omega (arith, size);
     }
 
--- a command byte and the bytes that replace those behind its offset
+-- a command byte and the bytes that replace those after its offset
 pub replace_step : (old wanted : List ℕ) (offset len : ℕ) → 1 ≤ len → len ≤ 8 → offset + len ≤ length wanted
     → take offset wanted ≡ take offset old → IsShapeElement Delta old wanted (Replace offset len) (replacement_bytes offset + len)
 replace_step old wanted offset len some few within same =
@@ -265,7 +265,7 @@ repeat_choice {old} {wanted} {numbers} {run} {len} size is best literals =
     step_choice e (omega (arith, best.above)) (omega (arith, best.sum_is))
     (packed_below old numbers size is literals best.least)
 
--- the best replacement behind the offsets up to one of them
+-- the best replacement after the offsets up to one of them
 pub record IsBestReplacement (wanted numbers : List ℕ) (last : ℕ) (shape : Shape) (sum : ℕ) : Type 0 where
   pub offset : ℕ
   pub within : offset ≤ last

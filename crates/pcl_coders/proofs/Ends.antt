@@ -20,7 +20,7 @@ ends_at old row {place} k end low =
     ap (λ (n : ℕ). get_or row n 0) (sym at) ∙ sym (get_or-drop place row (k - place) 0) ∙ ap (λ (bs : List ℕ). get_or bs (k - place) 0) end
     ∙ get_or-drop place old (k - place) 0 ∙ ap (λ (n : ℕ). get_or old n 0) at
 
--- behind such a place there are only such places
+-- after such a place there are only such places
 pub ends_on : (old row : List ℕ) {place q : ℕ} → Ends old row place → place ≤ q → Ends old row q
 ends_on old row {place} {q} end low =
     let at : place + (q - place) ≡ q = omega arith in

@@ -47,7 +47,7 @@ one_byte Delta old wanted some = one_byte_of
 
 -- ---- the numbers of a table
 
--- a number behind the place that is set
+-- a number after the place that is set
 pub number_behind : (table : List ℕ) (at number place : ℕ) → at < place → slice_index (set table at number) place ≡ slice_index table place
 number_behind table at number place behind = let other : place ≢ at = omega arith in get_or-set_other table at place number 0 other
 
@@ -109,7 +109,7 @@ number_of_choice {row} table {place} {shape} {sum} inside size more c small =
       small = omega (arith, here, small);
     }
 
--- the best element has no more than two bytes for each byte of the row, where that holds behind it
+-- the best element has no more than two bytes for each byte of the row, where that holds after it
 pub choice_small : {method : Method} (old row table : List ℕ) {place : ℕ} {shape : Shape} {sum : ℕ} → place < length row
     → IsShapeChoice method (drop place old) (drop place row) (drop place table) shape sum
     → slice_index table (place + 1) ≤ 2 * (length row - (place + 1)) → sum ≤ 2 * (length row - place)

@@ -1,4 +1,4 @@
--- The best literal of a place, by a window over the places behind it.
+-- The best literal of a place, by a window over the places after it.
 use Rattle.std.proofs.Common.{◌≡◌, ℕ, ◌+◌, ◌-◌, ◌<◌, ◌≤◌, min, List, [], ◌∷◌, ◌++◌, length, get_or, set, drop, replicate, refl, sym, ap, ◌∙◌, subst, inl, inr, arith}
 use Rattle.std.specs.Prelude.{slice_index}
 use Rattle.std.proofs.lemmas.Bool.{cases_lt}
@@ -16,7 +16,7 @@ use Rattle.pcl_coders.proofs.Choices.{literal_choice, repeat_choice}
 use Rattle.pcl_coders.proofs.Filling.{number_behind}
 use Rattle.pcl_coders.proofs.Places.{packed_shorten, falls}
 
--- a window over the places from one behind a place to the last of 128, or to the end, that one first: a place and its number
+-- a window over the places from one after a place to the last of 128, or to the end, that one first: a place and its number
 pub record IsPlaceWindow (table numbers : List ℕ) (end place : ℕ) : Type 0 where
   pub count : length numbers ≡ min (end - place) 128
   pub each : (k : ℕ) → k < length numbers → slice_index numbers k
@@ -104,7 +104,7 @@ literal_least {row} {table} {numbers} {end} {place} {least} begun size inside be
           least = λ n low high.
               elim (cases_lt hi (place + n)) [
                 | inl past ↦
-                    -- behind the end the numbers are 0
+                    -- after the end the numbers are 0
                     let e = w.each 0 (omega (arith, w.count)) in
                     let zero : slice_index table end ≡ 0 =
                     (behind end (omega arith) (omega (arith, begun.first_end.within))).ends begun.first_end.ends in

@@ -307,7 +307,7 @@ command_joins o k l some order =
           ]
     ]
 
--- the least of the replaced bytes and the number behind them, where a replacement starts at a place
+-- the least of the replaced bytes and the number after them, where a replacement starts at a place
 pub record IsLeastBehind (table : List ℕ) (start most best : ℕ) : Type 0 where
   pub len : ℕ
   pub above : 1 ≤ len
@@ -315,7 +315,7 @@ pub record IsLeastBehind (table : List ℕ) (start most best : ℕ) : Type 0 whe
   pub best_is : best ≡ len + slice_index table (start + len)
   pub least : (k : ℕ) → 1 ≤ k → k ≤ most → best ≤ k + slice_index table (start + k)
 
--- the next place that differs from the row before, the best behind it, and the numbers up to it
+-- the next place that differs from the row before, the best after it, and the numbers up to it
 pub record IsNextStart (old row table : List ℕ) (place start best : ℕ) : Type 0 where
   pub order : place ≤ start
   pub within : start < length row
@@ -393,7 +393,7 @@ delta_place {old} {row} {table} {place} {start} {best} begun size inside next =
           }),
     )
 
--- the numbers behind a place that is set
+-- the numbers after a place that is set
 pub next_start_set : {old row table : List ℕ} {place start best : ℕ} → length table ≡ length row + 1 → place < length row
     → IsNextStart old row table place start best
     → IsNextStart old row (set table place (replacement_bytes (start - place) + best)) place start best

@@ -15,7 +15,7 @@ use Rattle.pcl_rows.proofs.OneReading.{one_row}
 use Rattle.pcl_coders.specs.Walks.{Walk, total}
 use Rattle.pcl_coders.specs.RowWalks.{Agrees, Leads, Ends, cost}
 
--- the untreated bytes stay behind the elements
+-- the untreated bytes stay after the elements
 abbrev pub kept : List ℕ → List ℕ
 kept rest = rest
 
@@ -101,7 +101,7 @@ walk_makes method old row (e ∷ es) place size w =
       ap (λ (bs : List ℕ). before ++ (given e ++ bs)) made ∙ sym w.1.agrees,
     )
 
--- behind the elements a cut one with no bytes changes nothing
+-- after the elements a cut one with no bytes changes nothing
 after_elements_cut : (es : List Element) (h : Head) {none : List ℕ} (old : List ℕ) → none ≡ []
     → after_elements es (after_element h none (λ rest. rest)) old ≡ after_elements es kept old
 after_elements_cut [] h {none} old e = after_none h old e
@@ -127,7 +127,7 @@ elements_decode {method} old es are =
       ap (take (length old)) (sym (after_elements_cut es e.0.head old none)),
     )
 
--- how many bytes there are behind elements that stop within the row
+-- how many bytes there are after elements that stop within the row
 length-after : (es : List Element) (old : List ℕ) → reach es ≤ length old → length (after_elements es kept old) ≡ length old
 length-after [] old within = refl
 length-after (e ∷ es) old within =

@@ -9,7 +9,7 @@ use crate::shape::Shape;
 use pcl_base::Method;
 use pcl_bitmap::{first_difference, run_end};
 
-/// An element, and how many bytes it and least data behind it have together.
+/// An element, and how many bytes it and least data after it have together.
 #[derive(Clone, Copy)]
 pub struct Choice {
     pub shape: Shape,
@@ -61,7 +61,7 @@ impl Choice {
         }
     }
 
-    /// The replacement behind an offset that begins least data.
+    /// The replacement after an offset that begins least data.
     fn behind(offset: usize, row_bytes: usize, numbers: &[u16]) -> Choice
         requires inside { offset < row_bytes }
         requires size { length numbers.now ≡ row_bytes + 1 }
@@ -96,7 +96,7 @@ pub fn command_bytes(offset: usize) -> usize
     }
 }
 
-/// The least of the replaced bytes and the number behind them, where a replacement starts at the first place.
+/// The least of the replaced bytes and the number after them, where a replacement starts at the first place.
 pub fn least_behind(numbers: &[u16]) -> usize
     requires some { 1 < length numbers.now }
     requires short { length numbers.now ≤ 601 }
@@ -110,7 +110,7 @@ pub fn least_behind(numbers: &[u16]) -> usize
     }
 }
 
-/// The same where eight places are behind the first: one instruction for vectors.
+/// The same where eight places are after the first: one instruction for vectors.
 #[inline(always)]
 fn least_of_eight(numbers: &[u16]) -> u16
     requires long { 8 < length numbers.now }
@@ -148,7 +148,7 @@ fn literal_len(numbers: &[u16], most: usize) -> Option<usize>
     None
 }
 
-/// A length of an element, and how many bytes it and least data behind it have together.
+/// A length of an element, and how many bytes it and least data after it have together.
 #[derive(Clone, Copy)]
 struct LeastLen {
     len: usize,
@@ -157,7 +157,7 @@ struct LeastLen {
 
 impl LeastLen {
     /// The shortest of the best lengths from `from` to `to`, where an element has `head` bytes, and `each` more for
-    /// each byte that it gives. `numbers` are those of the places behind.
+    /// each byte that it gives. `numbers` are those of the places after.
     fn among(numbers: &[u16], from: usize, to: usize, head: usize, each: usize) -> LeastLen
         requires order { from ≤ to }
         requires within { to < length numbers.now }

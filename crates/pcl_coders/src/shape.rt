@@ -18,7 +18,7 @@ pub enum Shape {
     LiteralRun { len: usize },
     /// A control and a byte that it repeats (method 2).
     RepeatRun { len: usize },
-    /// A command byte and the bytes that replace those behind an offset (method 3).
+    /// A command byte and the bytes that replace those after an offset (method 3).
     Replace { offset: usize, len: usize },
 }
 

@@ -49,7 +49,7 @@ impl<'a> Window<'a> {
         }
     }
 
-    /// Puts a number in, behind the others.
+    /// Puts a number in, after the others.
     pub fn put(&mut self, number: u32)
         requires { 0 < self.old.room }
         ensures numbers { self.new.numbers ≡ self.old.numbers ++ number ∷ [] }

@@ -69,7 +69,7 @@ end_on {n} {prefix} at begin {end} {sent} behind is h gives =
     (place_of begin (parameter_bytes end ++ sent) behind)
     ∙ ap (with_front (command_of prefix at end sent ∷ [])) (gives n fits)
 
--- the steps from a middle parameter on: one step, and the steps behind it
+-- the steps from a middle parameter on: one step, and the steps after it
 middle_on : (n : ℕ) {prefix : Prefix} (at begin : ℕ) {parameter : Parameter} (rest : List ℕ) → IsMiddle prefix parameter
     → steps_in (suc n) prefix at begin (parameter_bytes parameter ++ rest)
     ≡ with_front (command_of prefix at parameter [] ∷ [])
@@ -82,7 +82,7 @@ middle_on n {prefix} at begin {parameter} rest is =
     ∙ ap (λ (k : ℕ). with_front (command_of prefix at parameter [] ∷ []) (outcome (suc n) (Some prefix) k rest))
     (place_of begin (parameter_bytes parameter) rest)
 
--- the bytes behind a parameter are fewer
+-- the bytes after a parameter are fewer
 shorter_rest : (parameter : Parameter) (rest : List ℕ) (n : ℕ) → length (parameter_bytes parameter ++ rest) ≤ suc n → length rest ≤ n
 shorter_rest parameter rest n h = let l = length-append (parameter_bytes parameter) rest in let long = parameter_long parameter in
     omega arith
@@ -98,7 +98,7 @@ too_long_front parameter middle bytes h =
     not_empty parameter (flat_map parameter_bytes middle ++ bytes)
     (subst (λ (bs : List ℕ). length bs ≤ 0) (append_assoc (parameter_bytes parameter) (flat_map parameter_bytes middle) bytes) h)
 
--- the same with two parts behind
+-- the same with two parts after
 too_long : (parameter : Parameter) (middle : List Parameter) (bytes behind : List ℕ)
     → length ((flat_map parameter_bytes (parameter ∷ middle) ++ bytes) ++ behind) ≤ 0 → ⊥
 too_long parameter middle bytes behind h =
@@ -218,7 +218,7 @@ broken_on n {prefix} at (parameter ∷ middle) {bytes} is apart each f =
 
 -- ---- pieces
 
--- the steps from a byte on: one step, and the steps behind it
+-- the steps from a byte on: one step, and the steps after it
 start_on : (n at : ℕ) (bytes : List ℕ) → 0 < length bytes
     → outcome (suc n) None at bytes ≡ after (start_at at bytes)
     (λ reads. outcome n reads.inside (at + (length bytes - length reads.rest)) reads.rest)
@@ -301,7 +301,7 @@ fault_found {n} {at} (in_line {bytes = rest} field lines line f x e each ends l 
     at_once n at 27 (37 ∷ (field_bytes field ++ 88 ∷ (joined lines ++ (line ++ rest))))
     (in_line_again at field lines f x e each ends l p)
 
--- what stands behind the last piece is read so
+-- what stands after the last piece is read so
 last_again : (n : ℕ) {at : ℕ} {behind : List ℕ} {last : Result (List Said) Refusal} → Last at behind last → length behind < n
     → outcome n None at behind ≡ last
 unfolding outcome
@@ -309,7 +309,7 @@ last_again zero ends h = absurd (omega arith)
 last_again (suc n) no_more h = refl
 last_again (suc n) (first_fault {refusal = refusal} f) h = fault_found f h
 
--- pieces and what is behind them are read so
+-- pieces and what is after them are read so
 pieces_again : (pieces : List Piece) {n : ℕ} (at : ℕ) {behind : List ℕ} {last : Result (List Said) Refusal} → ArePieces pieces behind
     → Last (at + length (flat_map spelling pieces)) behind last
     → length (flat_map spelling pieces ++ behind) < n → outcome n None at (flat_map spelling pieces ++ behind)

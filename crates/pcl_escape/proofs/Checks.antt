@@ -1,4 +1,4 @@
--- The checks of a parameter look at the bytes behind it only to see whether they are enough.
+-- The checks of a parameter look at the bytes after it only to see whether they are enough.
 use Rattle.std.proofs.Common.{◌≡◌, ℕ, ◌≤◌, Bool, true, false, ◌==◌, nat_lt, if◌then◌else◌, Option, Some, None, Result, Ok, Err, refl, sym, ap, ◌∙◌, arith}
 use Rattle.std.proofs.lemmas.Bool.{ltb-false, le-ltb}
 use Rattle.pcl_base.specs.declared.name.Name.{Name}
@@ -53,7 +53,7 @@ named_takes true letter value e = sized_takes (is_below_zero value) (whole_of va
     (whole_of value) e
 named_takes false letter value e = none_takes (λ more. refl) e
 
--- the checks behind the range
+-- the checks after the range
 operation_takes : (operation : Option Operation) (letter : ℕ) (value : Value) {left len : ℕ}
     → operation_checks operation letter value left ≡ Ok len → Take (operation_checks operation letter value) left len
 operation_takes None letter value e = absurd cc
@@ -72,9 +72,9 @@ pub checks_take : (name : Name) (letter : ℕ) (value : Value) {left len : ℕ} 
 unfolding parameter_checks
 checks_take name letter value e = ranged_takes (in_range value) (operation_of name) letter value e
 
--- ---- behind a parameter that isn't the last there are no data
+-- ---- after a parameter that isn't the last there are no data
 
--- as sized_takes, for a letter behind which the sequence goes on
+-- as sized_takes, for a letter after which the sequence goes on
 sized_on : (below none : Bool) (whole left : ℕ) {len : ℕ} → sized below none true whole left ≡ Ok len → len ≡ 0
 sized_on true none whole left e = absurd cc
 sized_on false true whole left e = cc

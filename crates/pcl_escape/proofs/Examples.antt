@@ -49,7 +49,7 @@ silent_and_feed : IsReading (7 ∷ 12 ∷ []) (record { at = 1; name = One 12; v
 unfolding outcome start_at named_at operation_of
 silent_and_feed = reading_of refl
 
--- the first parameter of a sequence stands at ESC, the second right behind the first one's letter
+-- the first parameter of a sequence stands at ESC, the second right after the first one's letter
 two_moves : IsReading (escape (codes "*p0x0Y")) (said 0 (Three 42 112 88) Absent 0 [] ∷ said 5 (Three 42 112 89) Absent 0 [] ∷ [])
 unfolding outcome start_at sequence_at prefix_at parameter_at field_at parameter_checks operation_of
 two_moves = reading_of refl
@@ -69,7 +69,7 @@ clipping : IsReading (escape (codes "&d`0@")) (said 0 (Three 38 100 64) Absent 0
 unfolding outcome start_at sequence_at prefix_at ungrouped_at parameter_at field_at parameter_checks operation_of lines_from
 clipping = reading_of refl
 
--- behind a universal exit a line is skipped up to its LF, and then one that asks for PCL; what is behind that is read
+-- after a universal exit a line is skipped up to its LF, and then one that asks for PCL; what is after that is read
 leaving : IsReading (escape (codes "%-12345X@PJL x") ++ 10 ∷ (codes "@PJL Enter Language=P C L" ++ 13 ∷ 10 ∷ 12 ∷ []))
     (said 0 (Two 37 88) Minus 123450000 [] ∷ said 43 (One 12) Absent 0 [] ∷ [])
 unfolding outcome start_at sequence_at prefix_at ungrouped_at parameter_at field_at parameter_checks operation_of lines_from named_at

@@ -63,7 +63,7 @@ abbrev pub NoSign : List ℕ → Type 0
 NoSign [] = Unit {0}
 NoSign (byte ∷ bytes) = is_sign byte ≡ false
 
--- a sign or none at the front, and what is behind it
+-- a sign or none at the front, and what is after it
 record IsSignFront (bytes : List ℕ) (parts : Sign × List ℕ) : Type 0 where
   joined : bytes ≡ sign_bytes parts.0 ++ parts.1
   stops : is_absent parts.0 ≡ true → NoSign parts.1
@@ -102,7 +102,7 @@ abbrev pub NoPoint : List ℕ → Type 0
 NoPoint [] = Unit {0}
 NoPoint (byte ∷ bytes) = eqb byte 46 ≡ false
 
--- a point with its digits or none at the front, and what is behind it
+-- a point with its digits or none at the front, and what is after it
 record IsFractionFront (bytes : List ℕ) (parts : Option (List ℕ) × List ℕ) : Type 0 where
   joined : bytes ≡ fraction_bytes parts.0 ++ parts.1
   digits : IfSome parts.0 AreDigits
@@ -144,7 +144,7 @@ abbrev pub FieldStops : Spelled → List ℕ → Type 0
 FieldStops field [] = Unit {0}
 FieldStops field (byte ∷ bytes) = extends field byte ≡ false
 
--- a field at the front, and what is behind it, where it stops
+-- a field at the front, and what is after it, where it stops
 pub record IsFieldFront (bytes : List ℕ) (parts : Spelled × List ℕ) : Type 0 where
   pub joined : bytes ≡ field_bytes parts.0 ++ parts.1
   pub field : IsField parts.0
@@ -213,12 +213,12 @@ stops_parts {field} (byte ∷ rest) s =
 digit_no_sign : (byte : ℕ) → is_digit byte ≡ true → is_sign byte ≡ false
 digit_no_sign byte d = grind (arith, nat_tests)
 
--- no digit comes behind the whole digits
+-- no digit comes after the whole digits
 no_digit_behind : (fraction : Option (List ℕ)) (rest : List ℕ) → NoDigit rest → NoDigit (fraction_bytes fraction ++ rest)
 no_digit_behind None rest n = n
 no_digit_behind (Some digits) rest n = refl
 
--- no sign comes behind an absent one
+-- no sign comes after an absent one
 no_sign_behind : (whole : List ℕ) (fraction : Option (List ℕ)) (rest : List ℕ) → AreDigits whole
     → (is_empty whole ≡ true → is_none fraction ≡ true → NoSign rest) → NoSign (whole ++ (fraction_bytes fraction ++ rest))
 no_sign_behind [] None rest d n = n refl refl

@@ -15,7 +15,7 @@ StopsAt test (byte ∷ bytes) = test byte ≡ false
 abbrev pub front_at : (ℕ → Bool) → List ℕ → List ℕ × List ℕ
 front_at test bytes = (take (prefix_len test bytes) bytes, drop (prefix_len test bytes) bytes)
 
--- all bytes at the front that pass, and what is behind them
+-- all bytes at the front that pass, and what is after them
 pub record IsFront (test : ℕ → Bool) (bytes : List ℕ) (parts : List ℕ × List ℕ) : Type 0 where
   pub joined : bytes ≡ parts.0 ++ parts.1
   pub pass : Pass test parts.0

@@ -1,4 +1,4 @@
--- The lines behind a universal exit: what is skipped is what they are, both ways.
+-- The lines after a universal exit: what is skipped is what they are, both ways.
 use Rattle.std.proofs.Common.{◌≡◌, ℕ, zero, suc, ◌+◌, ◌-◌, ◌<◌, ◌≤◌, Bool, true, false, ◌==◌, not, nat_eq, if◌then◌else◌, IsTrue, List, [], ◌∷◌, ◌++◌, length, take, drop, ◌⊎◌, inl, inr, Result, Ok, Err, refl, sym, ap, subst, subst₂, ◌∙◌, append_assoc, append-nil, length-append, length-drop, length-take-le, take-append-drop, take_at, drop_at, add-zero, eqb-true, arith}
 use Rattle.std.specs.Prelude.{codes}
 use Rattle.std.specs.Str.{bytes_eq}
@@ -90,12 +90,12 @@ found_again {line} (inr (same, none)) = subst (λ (bs : List ℕ). line_len (lin
 
 -- ---- one step
 
--- lines_from, by the outcomes of its tests; next is what comes behind a line that asks for no language
+-- lines_from, by the outcomes of its tests; next is what comes after a line that asks for no language
 abbrev by_tests : Bool → Bool → Bool → ℕ → List ℕ → List ℕ → Result (List ℕ) ℕ → Result (List ℕ) ℕ
 by_tests job language pcl place bytes behind next =
     if not job then Ok bytes else (if not language then next else (if pcl then Ok behind else Err place))
 
--- a step where the line and what is behind it are known
+-- a step where the line and what is after it are known
 abbrev line_step : ℕ → ℕ → List ℕ → List ℕ → ℕ → List ℕ → Result (List ℕ) ℕ
 line_step more place bytes line len behind = by_tests (is_job_line bytes) (names_language line) (names_pcl line) place bytes behind
     (lines_from more (place + len) behind)
@@ -120,7 +120,7 @@ next_same : (job language pcl : Bool) (place : ℕ) (bytes behind : List ℕ) {a
 next_same true language pcl place bytes behind h = ap (by_tests true language pcl place bytes behind) (h refl)
 next_same false language pcl place bytes behind h = refl
 
--- the bytes behind a line are fewer
+-- the bytes after a line are fewer
 behind_shorter : (bytes : List ℕ) → is_job_line bytes ≡ true → length (drop (line_len bytes) bytes) < length bytes
 behind_shorter bytes e =
     let long = line_long bytes e in
@@ -139,7 +139,7 @@ lines_enough (suc n) (suc m) place bytes h k =
     next_same (is_job_line bytes) (names_language line) (names_pcl line) place bytes behind
     (λ e. let shorter = behind_shorter bytes e in lines_enough n m (place + line_len bytes) behind (omega arith) (omega arith))
 
--- behind a line that asks for no language, the next ones come
+-- after a line that asks for no language, the next ones come
 pub next_line : (place : ℕ) (bytes : List ℕ) → is_job_line bytes ≡ true → names_language (take (line_len bytes) bytes) ≡ false
     → lines_at place bytes ≡ lines_at (place + line_len bytes) (drop (line_len bytes) bytes)
 unfolding lines_from
@@ -219,7 +219,7 @@ lines_split (suc n) {bytes} h =
 
 -- ---- from the lines to the steps
 
--- behind lines that ask for no language, the steps go on
+-- after lines that ask for no language, the steps go on
 others_again : (lines : List (List ℕ)) (n place : ℕ) (behind : List ℕ) {read : Result (List ℕ) ℕ} → AreOtherLines lines behind
     → length (joined lines ++ behind) < n
     → ((m : ℕ) → length behind < m → lines_from m (place + length (joined lines)) behind ≡ read)
@@ -304,7 +304,7 @@ at_asking_line place {bytes} {pcl} cut l p =
     let says : names_pcl (take (line_len bytes) bytes) ≡ pcl = ap names_pcl (sym cut.line_is) ∙ sym p in
     rw (sym cut.job, asks, says, cut.behind_is) refl
 
--- a place behind two parts, counted from the end
+-- a place after two parts, counted from the end
 pub place_later : (place : ℕ) {all rest behind : ℕ} → rest ≤ all → behind ≤ rest
     → (place + (all - rest)) + (rest - behind) ≡ place + (all - behind)
 place_later place h k = omega arith

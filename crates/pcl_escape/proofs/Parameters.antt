@@ -28,25 +28,25 @@ pub gives_cut : {given : Result Progress Refusal} {reads : Result Reads Refusal}
     → given ≡ Err (refusal Truncated at name) → name ≡ known → reads ≡ Err (refusal Truncated at known) → Gives given reads
 gives_cut {at = at} e n f = gives_fault e (f ∙ ap (λ (name : Name). Err (refusal Truncated at name)) (sym n))
 
--- the field at the front, with what is behind it
+-- the field at the front, with what is after it
 pub behind_field : (prefix : Prefix) (at : ℕ) (bytes : List ℕ) {field : Spelled} {rest : List ℕ} → (field, rest) ≡ field_at bytes
     → parameter_at prefix at bytes ≡ letter_at prefix at field rest
 unfolding parameter_at
 behind_field prefix at bytes e = ap (λ (p : Spelled × List ℕ). letter_at prefix at p.0 p.1) (sym e)
 
--- nothing is behind it
+-- nothing is after it
 pub nothing_behind : (prefix : Prefix) (at : ℕ) (bytes : List ℕ) {field : Spelled} (rest : List ℕ) → (field, rest) ≡ field_at bytes
     → length rest ≡ 0 → parameter_at prefix at bytes ≡ Err (refusal Truncated at (prefix_name prefix))
 nothing_behind prefix at bytes [] e z = behind_field prefix at bytes e
 nothing_behind prefix at bytes (byte ∷ rest) e z = absurd cc
 
--- a byte is behind it that is no letter
+-- a byte is after it that is no letter
 pub no_letter_behind : (prefix : Prefix) (at : ℕ) (bytes : List ℕ) {field : Spelled} {byte : ℕ} {rest : List ℕ} {name : Name}
     → (field, byte ∷ rest) ≡ field_at bytes → false ≡ is_letter prefix byte → name ≡ prefix_name prefix
     → parameter_at prefix at bytes ≡ Err (refusal BadSequence at name)
 no_letter_behind prefix at bytes e l n = behind_field prefix at bytes e ∙ rw (← l, n) refl
 
--- a field at the front, and a letter behind it
+-- a field at the front, and a letter after it
 pub record IsLettered (prefix : Prefix) (bytes : List ℕ) (field : Spelled) (letter : ℕ) (after : List ℕ) (name : Name) : Type 0 where
   pub front : (field, letter ∷ after) ≡ field_at bytes
   pub ends : true ≡ is_letter prefix letter
@@ -113,7 +113,7 @@ pub data_behind : {prefix : Prefix} (at : ℕ) (bytes : List ℕ) {field : Spell
 data_behind {prefix} at bytes {letter = letter} is v e d r i =
     let on = i ∙ some_if (goes_on letter) prefix in operation_behind at bytes is v e ∙ rw (is.named, d, r, on) refl
 
--- a line behind a universal exit that asks for another language
+-- a line after a universal exit that asks for another language
 pub exit_refused : (at parameterized : ℕ) (bytes : List ℕ) {step : Reads} {said : Said} {place : ℕ}
     → parameter_at (record { parameterized = parameterized; group = None }) at bytes ≡ Ok step → step.said ≡ Some said
     → true ≡ is_exit said.name said.value → lines_at (at + 2 + (length bytes - length step.rest)) step.rest ≡ Err place

@@ -19,12 +19,12 @@ use Rattle.pcl_escape.proofs.Starts.{Outside, whole_piece, sequence, wrong, star
 
 -- ---- what bytes are
 
--- what stands behind the last whole piece: nothing, or what first fails
+-- what stands after the last whole piece: nothing, or what first fails
 pub data Last (at : ℕ) : List ℕ → Result (List Said) Refusal → Type 0 where
   no_more : Last at [] (Ok [])
   first_fault : {bytes : List ℕ} {refusal : Refusal} → Fails at bytes refusal → Last at bytes (Err refusal)
 
--- bytes outside sequences are whole pieces and what stands behind them
+-- bytes outside sequences are whole pieces and what stands after them
 pub data Reading (at : ℕ) : List ℕ → Result (List Said) Refusal → Type 0 where
   reading : (pieces : List Piece) (behind : List ℕ) (last : Result (List Said) Refusal) → ArePieces pieces behind
       → Last (at + length (flat_map spelling pieces)) behind last
@@ -34,12 +34,12 @@ pub data Reading (at : ℕ) : List ℕ → Result (List Said) Refusal → Type 0
 abbrev pub sequence_bytes : List Parameter → Parameter → List ℕ → List ℕ
 sequence_bytes middle end bytes = flat_map parameter_bytes middle ++ (parameter_bytes end ++ bytes)
 
--- the place of the parameter behind these: of the first one, the place of its command
+-- the place of the parameter after these: of the first one, the place of its command
 abbrev pub place_from : ℕ → ℕ → List Parameter → ℕ
 place_from at begin [] = at
 place_from at begin (parameter ∷ middle) = begin + length (flat_map parameter_bytes (parameter ∷ middle))
 
--- Bytes inside a sequence, which begin at the place begin, are the rest of the sequence, and behind it whole pieces and so on; or what
+-- Bytes inside a sequence, which begin at the place begin, are the rest of the sequence, and after it whole pieces and so on; or what
 -- first
 -- fails is in one of its parameters.
 pub data Rest (prefix : Prefix) (at begin : ℕ) : List ℕ → Result (List Said) Refusal → Type 0 where
@@ -70,11 +70,11 @@ pub no_front : (read : Result (List Said) Refusal) → with_front [] read ≡ re
 no_front (Ok commands) = refl
 no_front (Err fault) = refl
 
--- the place behind the front of the bytes
+-- the place after the front of the bytes
 pub place_of : (at : ℕ) (front rest : List ℕ) → at + (length (front ++ rest) - length rest) ≡ at + length front
 place_of at front rest = let e = length-append front rest in omega arith
 
--- the place behind two parts
+-- the place after two parts
 pub place_further : (at : ℕ) (front more : List ℕ) → (at + length front) + length more ≡ at + length (front ++ more)
 place_further at front more = let e = length-append front more in omega arith
 
@@ -97,7 +97,7 @@ end_first {prefix} {at} {begin} {end} {bytes} {behind} {read} is r =
     subst (λ (bs : List ℕ). Rest prefix at begin bs (with_front (command_of prefix at end bytes ∷ []) read))
     (append_assoc (parameter_bytes end) bytes behind) (whole [] end bytes behind read tt is r)
 
--- the place behind one more parameter
+-- the place after one more parameter
 pub place_from_more : (begin : ℕ) (parameter : Parameter) (middle : List Parameter)
     → place_from (begin + length (parameter_bytes parameter)) (begin + length (parameter_bytes parameter)) middle
     ≡ begin + length (flat_map parameter_bytes (parameter ∷ middle))
@@ -127,27 +127,27 @@ middle_first {prefix} {at} {begin} {parameter} is (broken middle behind refusal 
     (broken (parameter ∷ middle) behind refusal (is, each)
     (subst (λ (n : ℕ). FailsParameter prefix n behind refusal) (place_from_more begin parameter middle) f))
 
--- in a sequence that begins at ESC the parameters begin behind its prefix
+-- in a sequence that begins at ESC the parameters begin after its prefix
 pub place_in_sequence : (at : ℕ) (prefix : Prefix) (middle : List Parameter)
     → place_from at (first_place at prefix) middle ≡ place_behind at prefix middle
 place_in_sequence at prefix [] = refl
 place_in_sequence at prefix (parameter ∷ middle) = refl
 
--- the place behind the prefix and more
+-- the place after the prefix and more
 pub place_prefixed : (at : ℕ) (prefix : Prefix) (more : List ℕ)
     → first_place at prefix + length more ≡ at + length (27 ∷ (prefix_bytes prefix ++ more))
 place_prefixed at prefix more = let e = length-append (prefix_bytes prefix) more in omega arith
 
--- with a group character, the bytes behind it may be any
+-- with a group character, the bytes after it may be any
 pub grouped_any : (group : Option ℕ) (bytes : List ℕ) → is_some group ≡ true → IsUngrouped group bytes
 grouped_any None bytes g = absurd cc
 grouped_any (Some group) bytes g = tt
 
--- a middle parameter stands behind a group character
+-- a middle parameter stands after a group character
 pub middle_grouped : {prefix : Prefix} {parameter : Parameter} → IsMiddle prefix parameter → is_some prefix.group ≡ true
 middle_grouped {prefix} {parameter} m = (and_parts (is_some prefix.group) (goes_on parameter.letter) m.letter).0
 
--- the same of the bytes behind middle parameters
+-- the same of the bytes after middle parameters
 ungrouped_behind : (prefix : Prefix) (middle : List Parameter) (bytes : List ℕ) → AllByRecursion (IsMiddle prefix) middle
     → IsUngrouped prefix.group (flat_map parameter_bytes middle ++ bytes) → IsUngrouped prefix.group bytes
 ungrouped_behind prefix [] bytes each n = n
@@ -190,7 +190,7 @@ start_shorter (sequence prefix more same is n inside) e =
     omega arith
 start_shorter (wrong f) e = absurd cc
 
--- one step inside a sequence, and what the bytes behind it are, say what all the bytes are
+-- one step inside a sequence, and what the bytes after it are, say what all the bytes are
 rest_after : {prefix : Prefix} {at begin : ℕ} {bytes : List ℕ} {read : Result Reads Refusal} {go_on : Reads → Result (List Said) Refusal}
     → Inside prefix at bytes read
     → ((reads : Reads) → read ≡ Ok reads → IsRead reads.inside (begin + (length bytes - length reads.rest)) reads.rest (go_on reads))
@@ -212,7 +212,7 @@ rest_after {prefix} {at} {begin} {go_on} (is_end parameter sent rest is) next =
     (subst (λ (n : ℕ). Reading n rest (go_on reads)) place (next reads refl))
 rest_after {bytes} (is_wrong {fault = refusal} f) next = broken [] bytes refusal tt f
 
--- a place behind a sequence's step, counted from ESC and from the first parameter
+-- a place after a sequence's step, counted from ESC and from the first parameter
 pub place_in : (at : ℕ) (prefix : Prefix) (more : List ℕ) {rest : ℕ} → rest < length more
     → at + (length (27 ∷ (prefix_bytes prefix ++ more)) - rest) ≡ first_place at prefix + (length more - rest)
 place_in at prefix more h = let e = length-append (prefix_bytes prefix) more in omega arith
@@ -222,7 +222,7 @@ moved : (inside : Option Prefix) (n m : ℕ) (bytes : List ℕ) (read : Result (
     → IsRead inside m bytes read
 moved inside n m bytes read e is = subst (λ (k : ℕ). IsRead inside k bytes read) e is
 
--- one step outside sequences, and what the bytes behind it are, say so too
+-- one step outside sequences, and what the bytes after it are, say so too
 reading_after : {at : ℕ} {bytes : List ℕ} {read : Result Reads Refusal} {go_on : Reads → Result (List Said) Refusal}
     → Outside at bytes read
     → ((reads : Reads) → read ≡ Ok reads → IsRead reads.inside (at + (length bytes - length reads.rest)) reads.rest (go_on reads))
@@ -257,7 +257,7 @@ is_read (suc n) (Some prefix) at bytes h = λ g.
 
 -- ---- what a whole job is
 
--- the commands that were read are those of the pieces, and nothing is behind these
+-- the commands that were read are those of the pieces, and nothing is after these
 pieces_read : (pieces : List Piece) {behind : List ℕ} {last : Result (List Said) Refusal} {commands : List Said} → ArePieces pieces behind
     → Last (0 + length (flat_map spelling pieces)) behind last
     → with_front (commands_of 0 pieces) last ≡ Ok commands → IsReading (flat_map spelling pieces ++ behind) commands
@@ -272,7 +272,7 @@ pieces_read pieces {commands} each no_more e =
     }
 pieces_read pieces each (first_fault f) e = absurd cc
 
--- the fault that was found is the one behind the pieces
+-- the fault that was found is the one after the pieces
 pieces_broken : (pieces : List Piece) {behind : List ℕ} {last : Result (List Said) Refusal} {fault : Refusal} → ArePieces pieces behind
     → Last (0 + length (flat_map spelling pieces)) behind last
     → with_front (commands_of 0 pieces) last ≡ Err fault → IsFault (flat_map spelling pieces ++ behind) fault

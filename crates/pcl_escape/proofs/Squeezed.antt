@@ -10,7 +10,7 @@ use Rattle.std.proofs.lemmas.Bool.Decides.{nat_tests}
 use Rattle.pcl_base.proofs.Lists.{full_front, longer_front}
 use Rattle.pcl_escape.specs.Exit.{is_blank, squeezed, names_language, names_pcl}
 
--- a byte behind the line says what it says alone
+-- a byte after the line says what it says alone
 squeezed_more : (line : List ℕ) (byte : ℕ) → squeezed (line ++ byte ∷ []) ≡ squeezed line ++ squeezed (byte ∷ [])
 squeezed_more line byte =
     ap (map to_ascii_uppercase) (filter-append (λ (byte : ℕ). not (is_blank byte)) line (byte ∷ []))

@@ -94,12 +94,12 @@ percent = record { parameterized = 37; group = None }
 abbrev exit_parameter : Spelled → Parameter
 exit_parameter field = record { field = field; letter = 88 }
 
--- the bytes of a universal exit with its lines, and what is behind them
+-- the bytes of a universal exit with its lines, and what is after them
 pub exit_joined : (field : Spelled) (lines rest : List ℕ)
     → (field_bytes field ++ 88 ∷ lines) ++ rest ≡ parameter_bytes (exit_parameter field) ++ (lines ++ rest)
 exit_joined field lines rest = append_assoc (field_bytes field) (88 ∷ lines) rest ∙ sym (parameter_joined field 88 (lines ++ rest))
 
--- the lines of an exit begin behind its letter
+-- the lines of an exit begin after its letter
 exit_place : (at : ℕ) (field : Spelled) (bytes : List ℕ)
     → (at + 2) + (length (parameter_bytes (exit_parameter field) ++ bytes) - length bytes) ≡ at + 3 + length (field_bytes field)
 exit_place at field bytes =
@@ -107,7 +107,7 @@ exit_place at field bytes =
     let own = length-append (field_bytes field) (88 ∷ []) in
     omega arith
 
--- an exit without data and the lines behind it
+-- an exit without data and the lines after it
 exit_lines : {at : ℕ} (field : Spelled) {bytes : List ℕ} {read : Result (List ℕ) ℕ} → IsField field
     → is_exit exit_name (field_value field) ≡ true → parameter_checks exit_name 88 (field_value field) 0 ≡ Ok 0
     → Lines (at + 3 + length (field_bytes field)) bytes read → Outside at (27 ∷ 37 ∷ (parameter_bytes (exit_parameter field) ++ bytes))
@@ -123,7 +123,7 @@ exit_lines {at} field f x e (foreign lines line rest each ends l p) =
     (sym (parameter_joined field 88 (joined lines ++ (line ++ rest))))
     (wrong (in_line field lines line f x e each ends l p))
 
--- what a step reads of the bytes of an exit and those behind it
+-- what a step reads of the bytes of an exit and those after it
 exit_reads : (at : ℕ) (field : Spelled) (bytes : List ℕ) → is_exit exit_name (field_value field) ≡ true
     → with_lines (at + 2) (length (parameter_bytes (exit_parameter field) ++ bytes)) (end_reads percent at (exit_parameter field) [] bytes)
     ≡ skipped_by (Some (exit_command at field)) (lines_at (at + 3 + length (field_bytes field)) bytes)
@@ -210,7 +210,7 @@ group_by {at} {byte} {group} {rest} true may g u p =
 group_by false true g u p = ungrouped_step u g
 group_by false false g u p = wrong (bad_group p u g)
 
--- nothing behind the second byte
+-- nothing after the second byte
 none_behind_second : {at byte : ℕ} (may : Bool) → is_ungrouped byte ≡ may → IsTrue (is_parameterized byte)
     → Outside at (27 ∷ byte ∷ []) (refuse Truncated at (One byte))
 none_behind_second {at} {byte} true u p =
@@ -449,12 +449,12 @@ pub unknown_control_again : {at code : ℕ} (rest : List ℕ) → is_control cod
     → is_some (operation_of (One code)) ≡ false → start_at at (code ∷ rest) ≡ Err (refusal UnsupportedCommand at (One code))
 unknown_control_again {at} {code} rest c s n = at_control at code rest c s ∙ unknown_again rest (operation_of (One code)) n
 
--- a step refuses an ESC with nothing behind it
+-- a step refuses an ESC with nothing after it
 pub lone_escape_again : {at : ℕ} → start_at at (27 ∷ []) ≡ Err (refusal Truncated at Empty)
 unfolding start_at sequence_at
 lone_escape_again = refl
 
--- a step refuses an ESC with no second byte of a sequence behind it
+-- a step refuses an ESC with no second byte of a sequence after it
 pub no_sequence_again : {at : ℕ} (byte : ℕ) (rest : List ℕ) → is_two_character byte ≡ false → is_parameterized byte ≡ false
     → start_at at (27 ∷ byte ∷ rest) ≡ Err (refusal BadSequence at Empty)
 unfolding start_at sequence_at

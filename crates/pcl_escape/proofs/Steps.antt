@@ -49,7 +49,7 @@ pub data Found (prefix : Prefix) (at : ℕ) : List ℕ → Result Reads Refusal 
 
 -- ---- letters
 
--- a letter behind which the sequence doesn't go on is a last one
+-- a letter after which the sequence doesn't go on is a last one
 last_letter : (last grouped on : Bool) → (last || (grouped && on)) ≡ true → on ≡ false → last ≡ true
 last_letter true grouped on p q = refl
 last_letter false true true p q = absurd cc
@@ -67,7 +67,7 @@ any_letter true grouped on p = refl
 any_letter false true on p = p
 any_letter false false on p = absurd cc
 
--- behind a last letter the sequence doesn't go on
+-- after a last letter the sequence doesn't go on
 pub last_stops : (letter : ℕ) → is_last letter ≡ true → goes_on letter ≡ false
 last_stops letter l = grind (arith, nat_tests)
 
@@ -77,12 +77,12 @@ on_not_last letter g = grind (arith, nat_tests)
 
 -- ---- from the step to the parts
 
--- a parameter's bytes and what is behind them, split behind the field
+-- a parameter's bytes and what is after them, split after the field
 pub parameter_joined : (field : Spelled) (letter : ℕ) (rest : List ℕ)
     → parameter_bytes (record { field = field; letter = letter }) ++ rest ≡ field_bytes field ++ letter ∷ rest
 parameter_joined field letter rest = append_assoc (field_bytes field) (letter ∷ []) rest
 
--- where the reading goes on behind a parameter, by whether its letter is the last one
+-- where the reading goes on after a parameter, by whether its letter is the last one
 checked_on : (prefix : Prefix) {at : ℕ} (letter : ℕ) {value : Value} (rest : List ℕ) (len : ℕ) {on : Bool} → goes_on letter ≡ on
     → checked_at prefix at letter value rest (Ok len)
     ≡ Ok record {
@@ -104,7 +104,7 @@ checked_on prefix {at} letter {value} rest len g =
       inside = if b then Some prefix else None;
     }) g
 
--- a letter behind which the sequence goes on, with the checks passed, makes a middle parameter
+-- a letter after which the sequence goes on, with the checks passed, makes a middle parameter
 middle_step : {prefix : Prefix} {at : ℕ} (field : Spelled) (letter : ℕ) (rest : List ℕ) {len : ℕ} → IsField field
     → IsTrue (is_letter prefix letter) → goes_on letter ≡ true
     → parameter_checks (parameter_name prefix letter) letter (field_value field) (length rest) ≡ Ok len
@@ -156,7 +156,7 @@ checked_step field letter rest true (Ok len) f l g e = middle_step field letter 
 checked_step field letter rest false (Ok len) f l g e = end_step field letter rest f l g e
 checked_step field letter rest on (Err kind) f l g e = is_inside (is_wrong (check field letter rest kind f l e))
 
--- behind a field that stops stands a letter, or a byte that is none
+-- after a field that stops stands a letter, or a byte that is none
 letter_step : {prefix : Prefix} {at : ℕ} (field : Spelled) (byte : ℕ) (rest : List ℕ) (letter : Bool) → IsField field
     → extends field byte ≡ false → is_letter prefix byte ≡ letter
     → Found prefix at (field_bytes field ++ byte ∷ rest) (letter_at prefix at field (byte ∷ rest))
@@ -165,7 +165,7 @@ letter_step {prefix} field byte rest true f s l =
     (parameter_checks (parameter_name prefix byte) byte (field_value field) (length rest)) f l refl refl)
 letter_step field byte rest false f s l = rw l (is_inside (is_wrong (no_letter field byte rest f s l)))
 
--- behind a field that stops stands a byte, or nothing
+-- after a field that stops stands a byte, or nothing
 behind_field : {prefix : Prefix} {at : ℕ} (field : Spelled) (rest : List ℕ) → IsField field → FieldStops field rest
     → Found prefix at (field_bytes field ++ rest) (letter_at prefix at field rest)
 behind_field field [] f s = rw append-nil (is_inside (is_wrong (cut field f)))
@@ -212,7 +212,7 @@ grouped_step g = inside_found g (parameter_step)
 pub parameter_long : (parameter : Parameter) → 0 < length (parameter_bytes parameter)
 parameter_long parameter = let e = length-append (field_bytes parameter.field) (parameter.letter ∷ []) in omega arith
 
--- what is behind a parameter is shorter
+-- what is after a parameter is shorter
 rest_shorter : (parameter : Parameter) (sent rest : List ℕ) → length rest < length (parameter_bytes parameter ++ (sent ++ rest))
 rest_shorter parameter sent rest =
     let joined = length-append (parameter_bytes parameter) (sent ++ rest) in

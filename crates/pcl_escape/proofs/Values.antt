@@ -40,7 +40,7 @@ pub value_read : {value : Option Value} (sign : Sign) (n t : ℕ) {number digits
     → value ≡ (if in_range (value_with sign n t) then Some (value_with sign n t) else None)
 value_read sign n t v e d g = v ∙ rw (e, d, g) (cut_value (nat_le (n * 10000 + t) (greatest_parts sign)) sign n t refl)
 
--- the digits behind the point, none where there is no point
+-- the digits after the point, none where there is no point
 pub fraction_read : (fraction : Option (Bor (List ℕ))) (none : Bor (List ℕ)) → none.now ≡ []
     → ten_thousandths (unwrap_or fraction none).now ≡ fraction_parts (contents fraction)
 fraction_read None none e = rw e refl

@@ -35,6 +35,6 @@ parameter_checks name letter value left =
 abbrev pub exit_name : Name
 exit_name = Two 37 88
 
--- whether the command is a universal exit, behind which lines of the job language are skipped
+-- whether the command is a universal exit, after which lines of the job language are skipped
 abbrev pub is_exit : Name → Value → Bool
 is_exit name value = is_name exit_name name && (is_minus value.sign && whole_of value == 12345)

@@ -1,4 +1,4 @@
--- The lines of the printer's job language behind a universal exit.
+-- The lines of the printer's job language after a universal exit.
 use Rattle.std.specs.Prelude.{◌≡◌, ℕ, ◌+◌, Bool, false, ◌==◌, ◌||◌, not, nat_eq, IsTrue, List, [], ◌∷◌, ◌++◌, map, filter, codes, ◌⊎◌}
 use Rattle.std.specs.List.{starts_with, flat_map, AllByRecursion}
 use Rattle.std.specs.Char.{to_ascii_uppercase}
@@ -36,16 +36,16 @@ IsLine line behind =
     IsTrue (is_job_line line)
     × (((text : List ℕ) × (line ≡ text ++ 10 ∷ []) × HasNoFeed text) ⊎ ((behind ≡ []) × HasNoFeed line))
 
--- lines one behind the other
+-- lines one after the other
 abbrev pub joined : List (List ℕ) → List ℕ
 joined lines = flat_map (λ line. line) lines
 
--- lines that ask for no language, before what stands behind them
+-- lines that ask for no language, before what stands after them
 abbrev pub AreOtherLines : List (List ℕ) → List ℕ → Type 0
 AreOtherLines [] behind = Unit {0}
 AreOtherLines (line ∷ lines) behind = IsLine line (joined lines ++ behind) × (names_language line ≡ false) × AreOtherLines lines behind
 
--- All lines behind a universal exit: lines that ask for no language, as far as they go; or such lines and one that asks for PCL, behind
+-- All lines after a universal exit: lines that ask for no language, as far as they go; or such lines and one that asks for PCL, after
 -- which nothing more is skipped.
 pub data AreLines : List (List ℕ) → List ℕ → Type 0 where
   to_other_bytes : {behind : List ℕ} (lines : List (List ℕ))

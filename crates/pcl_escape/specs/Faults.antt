@@ -1,4 +1,4 @@
--- What the first fault of a job is: a front that reads without fault, and what first fails behind it.
+-- What the first fault of a job is: a front that reads without fault, and what first fails after it.
 use Rattle.std.specs.Prelude.{◌≡◌, ℕ, ◌+◌, Bool, true, false, ◌==◌, ◌&&◌, ◌||◌, is_none, IsTrue, IsNone, List, [], ◌∷◌, ◌++◌, length, Option, Some, None, Ok, Err}
 use Rattle.std.specs.List.{flat_map, AllByRecursion}
 use Rattle.pcl_base.specs.declared.name.Name.TheVariants.{Empty, One}
@@ -46,12 +46,12 @@ pub data FailsParameter : Prefix → ℕ → List ℕ → Refusal → Type 0 whe
       → parameter_checks (parameter_name prefix letter) letter (field_value field) (length bytes) ≡ Err kind
       → FailsParameter prefix at (field_bytes field ++ letter ∷ bytes) (refusal kind at (parameter_name prefix letter))
 
--- the place of the parameter behind these: of the first one, the place of ESC
+-- the place of the parameter after these: of the first one, the place of ESC
 abbrev pub place_behind : ℕ → Prefix → List Parameter → ℕ
 place_behind at prefix [] = at
 place_behind at prefix (parameter ∷ middle) = first_place at prefix + length (flat_map parameter_bytes (parameter ∷ middle))
 
--- what stands behind ESC and one of ( ) % is no group character
+-- what stands after ESC and one of ( ) % is no group character
 abbrev pub IsUngrouped : Option ℕ → List ℕ → Type 0
 IsUngrouped (Some group) bytes = Unit {0}
 IsUngrouped None [] = Unit {0}
@@ -80,7 +80,7 @@ pub data Fails : ℕ → List ℕ → Refusal → Type 0 where
       → Fails at (27 ∷ 37 ∷ (field_bytes field ++ 88 ∷ (joined lines ++ (line ++ bytes))))
       (refusal NotPcl (at + 3 + length (field_bytes field) + length (joined lines)) exit_name)
 
--- the first fault of a job: behind a front of whole pieces something fails
+-- the first fault of a job: after a prefix of whole pieces something fails
 pub record IsFault (job : List ℕ) (fault : Refusal) : Type 0 where
   pub front : List Piece
   pub behind : List ℕ
@@ -88,7 +88,7 @@ pub record IsFault (job : List ℕ) (fault : Refusal) : Type 0 where
   pub spelled : job ≡ flat_map spelling front ++ behind
   pub fails : Fails (length (flat_map spelling front)) behind fault
 
--- a fault of a call that reads the job: want of memory is no fault of the job
+-- a fault of a call that reads the job: out of memory is no fault of the job
 abbrev pub IsFaultOf : List ℕ → JobFault → Type 0
 IsFaultOf job (Refused fault) = IsFault job fault
 IsFaultOf job Memory = Unit {0}

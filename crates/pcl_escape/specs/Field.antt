@@ -25,7 +25,7 @@ abbrev pub fraction_bytes : Option (List ℕ) → List ℕ
 fraction_bytes None = []
 fraction_bytes (Some digits) = 46 ∷ digits
 
--- the three one behind the other
+-- the three one after the other
 abbrev pub field_bytes : Spelled → List ℕ
 field_bytes field = sign_bytes field.sign ++ field.whole ++ fraction_bytes field.fraction
 

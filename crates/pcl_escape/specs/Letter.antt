@@ -32,7 +32,7 @@ is_ungrouped byte = byte == 40 || byte == 41 || byte == 37
 abbrev pub is_group : ℕ → Bool
 is_group byte = nat_le 96 byte && nat_le byte 126
 
--- a parameter byte behind which the sequence goes on
+-- a parameter byte after which the sequence goes on
 abbrev pub goes_on : ℕ → Bool
 goes_on byte = nat_le 96 byte && nat_le byte 126
 
@@ -66,7 +66,7 @@ prefix_name prefix = name_with prefix.parameterized prefix.group
 abbrev pub parameter_name : Prefix → ℕ → Name
 parameter_name prefix byte = name_with_letter prefix.parameterized prefix.group (if goes_on byte then byte - 32 else byte)
 
--- how a prefix is spelled, behind ESC
+-- how a prefix is spelled, after ESC
 abbrev pub group_bytes : Option ℕ → List ℕ
 group_bytes None = []
 group_bytes (Some group) = group ∷ []

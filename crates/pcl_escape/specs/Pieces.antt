@@ -19,8 +19,8 @@ pub record Parameter : Type 0 where
   pub field : Spelled
   pub letter : ℕ
 
--- A text run is as long as text goes. A combined sequence has middle parameters, a last one, and the data behind it; one without a group
--- character has no middle ones. A universal exit takes the lines of the job language behind it.
+-- A text run is as long as text goes. A combined sequence has middle parameters, a last one, and the data after it; one without a group
+-- character has no middle ones. A universal exit takes the lines of the job language after it.
 pub data Piece : Type 0 where
   silent : ℕ → Piece
   control : ℕ → Piece
@@ -58,17 +58,17 @@ abbrev pub IsPrefixOf : ℕ → Option ℕ → Type 0
 IsPrefixOf parameterized None = IsTrue (is_ungrouped parameterized)
 IsPrefixOf parameterized (Some group) = IsTrue (is_parameterized parameterized) × IsTrue (is_group group)
 
--- the bytes behind ESC begin a sequence
+-- the bytes after ESC begin a sequence
 abbrev pub IsPrefix : Prefix → Type 0
 IsPrefix prefix = IsPrefixOf prefix.parameterized prefix.group
 
--- a parameter that passes the checks with these data behind it
+-- a parameter that passes the checks with these data after it
 abbrev pub PassesChecks : Prefix → Parameter → List ℕ → Type 0
 PassesChecks prefix parameter bytes =
     let name = parameter_name prefix parameter.letter in
     parameter_checks name parameter.letter (field_value parameter.field) (length bytes) ≡ Ok (length bytes)
 
--- a parameter behind which the sequence goes on has no data
+-- a parameter after which the sequence goes on has no data
 pub record IsMiddle (prefix : Prefix) (parameter : Parameter) : Type 0 where
   pub field : IsField parameter.field
   pub letter : IsTrue (may_go_on prefix parameter.letter)
@@ -95,14 +95,14 @@ abbrev pub IsRun : List ℕ → List ℕ → Type 0
 IsRun [] behind = ⊥
 IsRun (byte ∷ bytes) behind = AllByRecursion (λ byte. IsTrue (is_text byte)) (byte ∷ bytes) × IsNoText behind
 
--- a universal exit, before the bytes that stand behind its lines
+-- a universal exit, before the bytes that stand after its lines
 pub record IsExit (field : Spelled) (lines : List (List ℕ)) (behind : List ℕ) : Type 0 where
   pub field_is : IsField field
   pub leaves : IsTrue (is_exit exit_name (field_value field))
   pub checks : parameter_checks exit_name 88 (field_value field) 0 ≡ Ok 0
   pub lines_are : AreLines lines behind
 
--- a piece, before the bytes that stand behind it
+-- a piece, before the bytes that stand after it
 abbrev pub IsPiece : Piece → List ℕ → Type 0
 IsPiece (silent byte) behind = IsTrue (is_silent byte)
 IsPiece (control code) behind = IsTrue (is_control code) × (is_silent code ≡ false) × IsNamed (One code)
@@ -111,7 +111,7 @@ IsPiece (two_character byte) behind = IsTrue (is_two_character byte) × IsNamed 
 IsPiece (combined prefix middle end bytes) behind = IsPrefix prefix × AllByRecursion (IsMiddle prefix) middle × IsEnd prefix end bytes
 IsPiece (exit field lines) behind = IsExit field lines behind
 
--- pieces one behind the other, and what stands behind the last
+-- pieces one after the other, and what stands after the last
 abbrev pub ArePieces : List Piece → List ℕ → Type 0
 ArePieces [] behind = Unit {0}
 ArePieces (piece ∷ pieces) behind = IsPiece piece (flat_map spelling pieces ++ behind) × ArePieces pieces behind
@@ -136,7 +136,7 @@ command_of prefix at parameter bytes =
     record { at = at; name = parameter_name prefix parameter.letter; value = field_value parameter.field; bytes = bytes }
 
 -- The parameters begin at the place begin. The first command is placed at the place at; a later one at the
--- place right behind the parameter before it.
+-- place right after the parameter before it.
 abbrev pub parameter_commands : Prefix → ℕ → ℕ → List Parameter → Parameter → List ℕ → List Said
 parameter_commands prefix at begin [] end bytes = command_of prefix at end bytes ∷ []
 parameter_commands prefix at begin (parameter ∷ middle) end bytes =

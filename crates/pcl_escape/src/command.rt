@@ -6,7 +6,7 @@ use pcl_base::{Name, Value};
 #[derive(Clone, Copy, Debug)]
 pub struct Command<'a> {
     /// Where the command stands, in bytes from the job's begin: the place of ESC for the first command of
-    /// a sequence, the place behind the parameter before it for a later one, its own place for a control
+    /// a sequence, the place after the parameter before it for a later one, its own place for a control
     /// code, and that of its first byte for a run of text.
     pub at: usize,
     /// The name.

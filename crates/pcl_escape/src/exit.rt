@@ -1,4 +1,4 @@
-//! The lines of the printer's job language behind a universal exit.
+//! The lines of the printer's job language after a universal exit.
 
 ghost use Rattle.std.specs.Prelude.{◌≡◌, ◌≤◌, ◌+◌, length, take};
 ghost use Rattle.pcl_escape.specs.Exit.{is_blank, squeezed};
@@ -18,7 +18,7 @@ const PCL: &[u8] = b"@PJLENTERLANGUAGE=PCL";
 /// So many bytes of a line tell what it asks for: one more than the line has that asks for PCL.
 const FRONT: usize = 22;
 
-/// The bytes behind the lines of the job language, or the place of a line that asks for another language
+/// The bytes after the lines of the job language, or the place of a line that asks for another language
 /// than PCL. The bytes begin at a place.
 pub fn skip_lines(place: usize, bytes: &[u8]) -> Result<&[u8], usize>
     requires { place + length bytes.now ≤ 18446744073709551615 }

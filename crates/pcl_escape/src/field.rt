@@ -14,7 +14,7 @@ pub struct Field<'a> {
     pub sign: Sign,
     /// The digits before the point.
     pub whole: &'a [u8],
-    /// The digits behind the point, if there is one.
+    /// The digits after the point, if there is one.
     pub fraction: Option<&'a [u8]>,
 }
 

@@ -13,7 +13,7 @@ use pcl_base::JobFault;
 use std::alloc::{AllocError, Global};
 
 /// The commands of a job (docs/LANGUAGE.md, "Reading"), from its first byte to its last; or its first
-/// fault, by kind, place and name; or want of memory. The data of a command are a slice of the job.
+/// fault, by kind, place and name; or out of memory. The data of a command are a slice of the job.
 pub fn read_job<'a>(alloc: Global, job: &'a [u8]) -> Result<Vec<Command<'a>>, JobFault>
     // The commands are those of a reading of the job.
     ensures reading { IfOk result (λ commands. IsReading job.now (views commands.items)) }

@@ -1,5 +1,5 @@
 //! One step of the reading: a silent byte, a control code, a run of text, a two-character sequence, or one
-//! parameter; and behind a universal exit the lines of the job language.
+//! parameter; and after a universal exit the lines of the job language.
 
 ghost use Rattle.std.specs.Prelude.{◌≡◌, ◌≤◌, ◌+◌, length, IsTrue, IfOk, Err, None};
 ghost use Rattle.std.specs.List.{prefix_len};
@@ -34,7 +34,7 @@ pub struct Prefix {
 pub struct Progress<'a> {
     /// The command, if the step gave one.
     pub command: Option<Command<'a>>,
-    /// The bytes behind it.
+    /// The bytes after it.
     pub rest: &'a [u8],
     /// The sequence that goes on there, if one does.
     pub inside: Option<Prefix>,
@@ -112,7 +112,7 @@ fn read_prefix<'a>(at: usize, parameterized: u8, bytes: &'a [u8]) -> Result<Prog
     }
 }
 
-/// Reads the parameter of a sequence without a group character, and the lines behind a universal exit.
+/// Reads the parameter of a sequence without a group character, and the lines after a universal exit.
 #[tactic(auto, unfolding(crate::specs::inner::Scan::ungrouped_at))]
 fn read_ungrouped<'a>(
     at: usize,
@@ -283,7 +283,7 @@ impl Prefix {
     }
 }
 
-/// Whether the sequence goes on behind a parameter with this letter.
+/// Whether the sequence goes on after a parameter with this letter.
 fn goes_on(letter: u8) -> bool
     ensures { result ≡ goes_on letter }
 {

@@ -93,7 +93,7 @@ reset_first : (dpi : Dpi) → does dpi reset at_begin ≡ Ok (between defaults [
 unfolding after outcome
 reset_first dpi = refl
 
--- behind the second reset, which deletes the temporary fonts and macros too
+-- after the second reset, which deletes the temporary fonts and macros too
 abbrev closed : List Sheet → ℕ → Situation
 closed pages n =
     record (between defaults pages n) {
@@ -105,7 +105,7 @@ reset_last : (dpi : Dpi) (t : Settings) {pages : List Sheet} (n : ℕ) → does 
 unfolding after outcome
 reset_last dpi t n = refl
 
--- the end of the input changes nothing behind a reset
+-- the end of the input changes nothing after a reset
 end_refused : (dpi : Dpi) (pages : List Sheet) (n : ℕ) → length pages ≤ 256 → page_refusal (at_end dpi (closed pages n)) ≡ None
 end_refused dpi pages n few = pages_fit (at_end dpi (closed pages n)) few
 

@@ -53,7 +53,7 @@ pub record IsBetween (t : Settings) : Type 0 where
   pub method : t.method ≡ Plain
   pub height : t.raster_height ≡ None
 
--- what a job of page texts does to fonts: the reset at its begin deletes the temporary ones
+-- what a job of page texts does to fonts: the reset at its start deletes the temporary ones
 abbrev pub reset_fonts : List FontEvent
 reset_fonts = control Temporary 0 0 ∷ []
 
@@ -111,7 +111,7 @@ set_between dpi operation value t {t'} {pages} n o e d q =
     ap (λ (r : Result Situation Kind). and_then r (quietly operation value)) (drawn_between dpi operation value t n o e d)
     ∙ q (between t' pages (n + 1))
 
--- ---- what the begin of a text sets
+-- ---- what the start of a text sets
 
 copies_out : (dpi : Dpi) (copies : ℕ) (t : Settings) → 0 < copies → copies < 100
     → outcome dpi Copies (number_value copies) false t ≡ Some (record t { copies = copies }, page.Stay)
@@ -392,7 +392,7 @@ rows_below zero size dpi rows a = a
 rows_below (suc count) size dpi [] a = a
 rows_below (suc count) size dpi (row ∷ rows) a = rows_below count size dpi rows a.1
 
--- the tokens are performed behind row k, and ink the dots of the rows that they print
+-- the tokens are performed after row k, and ink the dots of the rows that they print
 record IsPrinted (size : Size) (dpi : Dpi) (t : Settings) (deeds : List Deed) (rows : List (List ℕ)) (k : ℕ) (from : Situation)
     (inked : List Mark) (pages : List Sheet) : Type 0 where
   last : Method
@@ -500,7 +500,7 @@ body_printed true (send digits bytes ∷ tokens) {size} {dpi} t {m} {seed} (row 
 
 -- ---- the end
 
--- behind the raster of a text
+-- after the raster of a text
 abbrev behind : Size → Dpi → Settings → Method → ℕ → List ℕ → Settings
 behind size dpi t m k seed = record (put (below dpi (body_raster size dpi k seed)) (record t { method = m })) { method = Plain }
 

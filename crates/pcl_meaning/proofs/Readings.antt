@@ -47,7 +47,7 @@ said_many (command ∷ commands) (deed ∷ deeds) said = let rest = said_many co
 
 -- ---- pieces
 
--- the bytes are whole pieces, whose commands are the deeds, whatever stands before them and behind them
+-- the bytes are whole pieces, whose commands are the deeds, whatever stands before them and after them
 pub record ReadsAs (bytes : List ℕ) (deeds : List Deed) : Type 0 where
   pub pieces : List Piece
   pub each : (behind : List ℕ) → ArePieces pieces behind

@@ -58,7 +58,7 @@ start_deeds dpi copies size =
     ∷ deed StartRaster (number_value 0) []
     ∷ []
 
--- what those behind it do
+-- what those after it do
 abbrev pub end_deeds : List Deed
 end_deeds = deed EndRasterResetMethod (number_value 0) [] ∷ deed FormFeed zero_value [] ∷ []
 
@@ -84,7 +84,7 @@ code_small Runs = lit≤ tt
 code_small Packed = lit≤ tt
 code_small Delta = lit≤ tt
 
--- the bytes of a sequence's parameters so far, and behind them those of tokens
+-- the bytes of a sequence's parameters so far, and after them those of tokens
 abbrev inside_bytes : List Parameter → List Token → List ℕ
 inside_bytes middle tokens = 27 ∷ 42 ∷ 98 ∷ (flat_map parameter_bytes middle ++ flat_map token_bytes tokens)
 
@@ -98,7 +98,7 @@ IsTokensRead tokens =
     → AllByRecursion (IsMiddle row_prefix) middle → AreMeant row_prefix middle deeds
     → ReadsAs (inside_bytes middle tokens) (deeds ++ body_deeds tokens))
 
--- a setting behind which the sequence goes on
+-- a setting after which the sequence goes on
 more_inside : (tokens : List Token) (digits : List ℕ) (n letter : ℕ) (operation : Operation) (middle : List Parameter) (deeds : List Deed)
     → ReadsAs (inside_bytes (middle ++ number_parameter digits letter ∷ []) tokens)
     ((deeds ++ set_to operation n ∷ []) ++ body_deeds tokens)
@@ -137,7 +137,7 @@ ended_inside tokens digits n letter operation bytes middle deeds first rest =
     subst₂ ReadsAs (ap (λ (t : List ℕ). 27 ∷ 42 ∷ 98 ∷ t) spelled) (append_assoc deeds (done ∷ []) (body_deeds tokens))
     (reads_joined first rest)
 
--- what is read of a row's token and what stands behind it
+-- what is read of a row's token and what stands after it
 record IsSent (digits bytes : List ℕ) (tokens : List Token) (rows : List (List ℕ)) (current : Method) : Type 0 where
   spelled : IsSpelled digits (length bytes)
   small : length bytes ≤ 65535

@@ -21,7 +21,7 @@ dot_of_rows (row ∷ rows) x (suc y) = dot_of_rows rows x y
 abbrev pub job_of : List ℕ → List ℕ
 job_of text = frame_bytes ++ text ++ frame_bytes
 
--- the commands of that job: the two resets, eight before the body and two behind it
+-- the commands of that job: the two resets, eight before the body and two after it
 abbrev pub job_commands : {dpi : Dpi} {size : Size} {copies : ℕ} {rows : List (List ℕ)} {text : List ℕ}
     → IsPageText dpi size copies rows text → ℕ
 job_commands printed = command_count printed.tokens + 12

@@ -64,7 +64,7 @@ run_end e = record { within = omega arith; white = tt; longest = λ before white
 pub white_to_end : {rows : List (List ℕ)} {row run : ℕ} → IsWhiteRun rows row run → row + run ≡ length rows → AreWhite (drop row rows)
 white_to_end {rows} {row} {run} is e = subst AreWhite (take_all run (drop row rows) (omega (arith, length-drop row rows))) is.white
 
--- ink behind a run
+-- ink after a run
 pub ink_left : {rows : List (List ℕ)} {row run : ℕ} → IsWhiteRun rows row run → row + run < length rows → AreWhite (drop row rows) → ⊥
 ink_left {rows} {row} {run} is lt white =
     let all : AreWhite (take (run + 1) (drop row rows)) = white_front (length rows) (run + 1) (drop row rows)
@@ -153,7 +153,7 @@ direct_stays {number} {other} {row} {method} same is =
 
 -- ---- a row that is put
 
--- the numbers behind one row were changed, and no others
+-- the numbers after one row were changed, and no others
 pub record IsPut (old new : List RowNumbers) (row : ℕ) (numbers : RowNumbers) : Type 0 where
   pub size : length new ≡ length old
   pub changed : (method : Method) (is_open : Bool) → node_number new (node row method is_open) ≡ number_in numbers method is_open
@@ -228,7 +228,7 @@ put_inked {rows} {row} {run} {numbers} few put right is ink are =
       later = stays_behind put right;
     }))
 
--- behind all rows
+-- after all rows
 pub put_last : {width : ℕ} {rows : List (List ℕ)} {old new : List RowNumbers} {row : ℕ} → row ≡ length rows → length old ≡ length rows + 1
     → IsPut old new row end_numbers → drop row rows ≡ [] → AreRightFrom width rows new row
 put_last {width} {rows} {new} {row} e size put none = record {

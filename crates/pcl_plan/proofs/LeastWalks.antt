@@ -36,7 +36,7 @@ switch_follows width feasible row first next ends =
     (refl, s.0, refl) in
     omega (arith, step, s.1, cost_method (least_spelling (method_code next)) next ends)
 
--- The commands of a walk of least cost: two for each row that is left at most, and one more; not that one behind a switch.
+-- The commands of a walk of least cost: two for each row that is left at most, and one more; not that one after a switch.
 pub record AreFewCommands (rows : List (List ℕ)) (number : Node → ℕ) (a : Node) (tokens : List Token) : Type 0 where
   pub bound : command_count tokens ≤ 2 * (length rows - a.row) + 1
   pub behind_switch : (first : Method) → switching a.method + number a ≤ number (node a.row first true)

@@ -1,4 +1,4 @@
--- The steps that were read so far, and what comes behind them, are a walk of least cost.
+-- The steps that were read so far, and what comes after them, are a walk of least cost.
 use Rattle.std.proofs.Common.{◌≡◌, ℕ, ◌+◌, ◌<◌, ◌≤◌, ◌⊎◌, Bool, true, false, List, [], ◌∷◌, ◌++◌, length, refl, sym, ap, subst, ◌∙◌, inl, inr, arith, append_assoc}
 use Rattle.std.specs.Prelude.{not}
 use Rattle.std.proofs.lemmas.Bool.{cases_lt}
@@ -36,7 +36,7 @@ not_not : (b : Bool) → b ≡ not (not b)
 not_not true = refl
 not_not false = refl
 
--- behind a step that isn't a row, the number is the lesser one
+-- after a step that isn't a row, the number is the lesser one
 rest_is : {width : ℕ} {rows : List (List ℕ)} {table : List RowNumbers} {row : ℕ} (current : Method) (is_open : Bool)
     → IsRightTable width rows table → row ≤ length rows
     → (is_open ≡ true → 0 < outside (node_number table) row current) → (is_open ≡ false → outside (node_number table) row current ≡ 0)
@@ -211,7 +211,7 @@ inside_some {width} {rows} {table} row current is within =
       | inr none ↦ let never : true ≡ false = (ends width rows table (node row current true) is within (omega arith)).0 in absurd cc
     ]
 
--- whether other steps follow, by what is known behind a step
+-- whether other steps follow, by what is known after a step
 pub record IsFollowed (width : ℕ) (rows : List (List ℕ)) (table : List RowNumbers) (behind : Place) (step : Step) (more : List Step) :
     Type 0 where
   pub stops : behind.inside ≡ false → stays_inside step ≡ true → is_last more ≡ true

@@ -1,4 +1,4 @@
--- The numbers behind some rows are right, where those behind more are.
+-- The numbers after some rows are right, where those after more are.
 use Rattle.std.proofs.Common.{◌≡◌, ℕ, ◌+◌, ◌-◌, ◌*◌, ◌<◌, ◌≤◌, Bool, true, false, List, [], ◌∷◌, length, drop, refl, sym, ap, subst, ◌∙◌, inl, inr, arith}
 use Rattle.std.specs.Prelude.{not}
 use Rattle.std.proofs.lemmas.Bool.{cases_lt}
@@ -52,7 +52,7 @@ method_small Delta = omega arith
 
 -- ---- nodes
 
--- what holds in each method, inside a sequence and outside, holds of all nodes behind so many rows
+-- what holds in each method, inside a sequence and outside, holds of all nodes after so many rows
 pub at_row : (P : Node → Type 0) (row : ℕ) → ((current : Method) (is_open : Bool) → P (node row current is_open)) → (a : Node) → a.row
     ≡ row → P a
 at_row P row h a e = subst (λ (r : ℕ). P (node r a.method a.inside)) (sym e) (h a.method a.inside)

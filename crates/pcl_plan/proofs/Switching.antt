@@ -22,7 +22,7 @@ switching_is Runs = omega (arith, count_is 0 1 (omega arith) (omega arith) (omeg
 switching_is Packed = omega (arith, count_is 0 2 (omega arith) (omega arith) (omega arith))
 switching_is Delta = omega (arith, count_is 0 3 (omega arith) (omega arith) (omega arith))
 
--- the least that comes behind a switch
+-- the least that comes after a switch
 pub record IsLeastSwitch (direct : ByMethod) (switched : ℕ) : Type 0 where
   pub bound : (next : Method) → switched ≤ switch_cost next + by_method direct next
   pub attained : (next : Method) × (switched ≡ switch_cost next + by_method direct next)

@@ -1,4 +1,4 @@
--- A table while it is filled, from behind the last row upwards. Only contracts of private functions cite this.
+-- A table while it is filled, from the last row upwards. Only contracts of private functions cite this.
 use Rattle.std.specs.Prelude.{◌≡◌, ℕ, ◌+◌, ◌-◌, ◌≤◌, ◌⊎◌, min, true, false}
 use Rattle.pcl_base.specs.declared.method.Method.{Method}
 use Rattle.pcl_base.specs.Method.{method_code}
@@ -13,7 +13,7 @@ use Rattle.pcl_plan.specs.Table.{number_in}
 abbrev pub switching : Method → ℕ
 switching next = digit_count (method_code next) + 1
 
--- the number behind so many rows, outside a sequence and inside one, and the lesser of the two
+-- the number after so many rows, outside a sequence and inside one, and the lesser of the two
 abbrev pub outside : (Node → ℕ) → ℕ → Method → ℕ
 outside number row method = number (record { row = row; method = method; inside = false })
 

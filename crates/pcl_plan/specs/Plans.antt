@@ -22,7 +22,7 @@ IsTokenOf (Switch next) ends (method digits current capital) = (current ≡ next
 IsTokenOf (Row count) ends (send digits bytes) = (length bytes ≡ count) × (digits ≡ least_spelling count)
 IsTokenOf _ ends _ = ⊥
 
--- behind a row no sequence is open
+-- after a row no sequence is open
 abbrev pub stays_inside : Step → Bool
 stays_inside (Skip rows) = true
 stays_inside (Switch next) = true

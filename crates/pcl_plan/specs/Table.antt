@@ -29,6 +29,6 @@ no_numbers = record { outside = all_alike 0; inside = all_alike 0 }
 abbrev pub end_numbers : RowNumbers
 end_numbers = record { outside = all_alike 0; inside = all_alike 1 }
 
--- The number of a node in a table. Contracts see a table as the numbers behind no row, behind one, and so on to all.
+-- The number of a node in a table. Contracts see a table as the numbers after no row, after one, and so on to all.
 abbrev pub node_number : List RowNumbers → Node → ℕ
 node_number table node = number_in (slice_index_or table node.row no_numbers) node.method node.inside

@@ -74,7 +74,7 @@ start_bytes dpi copies size =
 abbrev pub end_bytes : List ℕ
 end_bytes = 27 ∷ codes "*rC" ++ 12 ∷ []
 
--- what stands before the page texts of a job, and behind them
+-- what stands before the page texts of a job, and after them
 abbrev pub frame_bytes : List ℕ
 frame_bytes = 27 ∷ codes "E"
 

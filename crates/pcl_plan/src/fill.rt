@@ -1,4 +1,4 @@
-//! The table of a plan, filled from behind the last row upwards.
+//! The table of a plan, filled from the last row upwards.
 
 ghost use Rattle.std.specs.Prelude.{◌≡◌, ◌+◌, ◌<◌, ◌≤◌, length};
 ghost use Rattle.pcl_base.specs.declared.method.Method.{Method as RowMethod};
@@ -44,7 +44,7 @@ fn white_run(rows: &Rows<'_>, row: u32, below: u32) -> u32
     if rows.is_white(row) { below + 1 } else { 0 }
 }
 
-/// The least numbers of a row, where `run` rows are white from it on and there is ink behind them.
+/// The least numbers of a row, where `run` rows are white from it on and there is ink after them.
 fn row_numbers<L: LeastLengths>(
     lengths: &L,
     rows: &Rows<'_>,
@@ -79,7 +79,7 @@ fn least_lengths<L: LeastLengths>(lengths: &L, rows: &Rows<'_>, row: u32) -> ByM
 }
 
 /// For each method the least of what sending a row and skipping some of `run` rows costs, with all that comes
-/// behind them. `bytes` is how many the row's data has.
+/// after them. `bytes` is how many the row's data has.
 fn least_starts(table: &Table, row: u32, run: u32, bytes: ByMethod) -> ByMethod
     requires readable { IsReadable table.now row run }
     requires bytes { (method : RowMethod) → by_method bytes method ≤ 65535 }
@@ -94,7 +94,7 @@ fn least_starts(table: &Table, row: u32, run: u32, bytes: ByMethod) -> ByMethod
     }
 }
 
-/// The least of what sending a row by so many bytes of data costs, with all that comes behind it, and of
+/// The least of what sending a row by so many bytes of data costs, with all that comes after it, and of
 /// what skipping some of `run` rows costs.
 fn least_start(table: &Table, row: u32, method: Method, run: u32, bytes: u32) -> u32
     requires readable { IsReadable table.now row run }
@@ -109,7 +109,7 @@ fn least_start(table: &Table, row: u32, method: Method, run: u32, bytes: u32) ->
     }
 }
 
-/// How many rows are skipped, and what that costs with all that comes behind them.
+/// How many rows are skipped, and what that costs with all that comes after them.
 #[derive(Clone, Copy)]
 pub struct Skip {
     pub count: u32,

@@ -6,7 +6,7 @@ ghost use Rattle.pcl_plan.specs.Nodes.{row_at, row_above};
 
 use pcl_bitmap::trimmed_len;
 
-/// Rows of one length, the bytes of one behind those of the other. There may be fewer than a page has.
+/// Rows of one length, the bytes of one after those of the other. There may be fewer than a page has.
 #[derive(Clone, Copy)]
 pub struct Rows<'a> {
     pub bytes: &'a [u8],

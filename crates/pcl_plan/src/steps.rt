@@ -30,7 +30,7 @@ pub struct Place {
 impl Place {
     ghost use Rattle.pcl_plan.specs.inner.Reading.{IsPlaceBehind, row_behind};
 
-    /// The place behind a step. A sequence goes on behind rows that are skipped and a switch, unless the rest
+    /// The place after a step. A sequence goes on after rows that are skipped and a switch, unless the rest
     /// is white.
     fn behind(self, step: Step, table: &Table) -> Place
         requires row { self.row + 65535 < 2 ^ 32 }
@@ -147,7 +147,7 @@ fn lowest_switch(table: &Table, row: u32, least: u32) -> Method
     }
 }
 
-/// What a switch costs, with all that comes behind it.
+/// What a switch costs, with all that comes after it.
 fn switch_number(table: &Table, row: u32, next: Method) -> u32
     requires within { row < length table.now }
     requires small { rest (node_number table.now) row next < 2 ^ 30 }

@@ -9,7 +9,7 @@ use pcl_base::Method;
 use std::alloc::{AllocError, Global};
 use std::marker::Model;
 
-/// The numbers of the nodes behind the same rows.
+/// The numbers of the nodes after the same rows.
 #[derive(Clone, Copy, Debug)]
 pub struct RowNumbers {
     pub outside: ByMethod,
@@ -51,7 +51,7 @@ impl RowNumbers {
 /// still to come.
 #[derive(Drop, Debug)]
 pub struct Table {
-    // Behind no row first, behind all rows last.
+    // After no row first, after all rows last.
     numbers: Vec<RowNumbers>,
 }
 
@@ -87,7 +87,7 @@ impl Table {
         })
     }
 
-    /// A table of the numbers behind no row, behind one, and so on to all.
+    /// A table of the numbers after no row, after one, and so on to all.
     pub fn of(numbers: Vec<RowNumbers>) -> Table
         requires some { 0 < length numbers.items }
         requires few { length numbers.items ≤ 65536 }
@@ -96,7 +96,7 @@ impl Table {
         Table { numbers }
     }
 
-    /// The numbers behind so many rows.
+    /// The numbers after so many rows.
     pub fn row(&self, row: u32) -> RowNumbers
         requires { row < length self.now }
         ensures { result ≡ slice_index_or self.now row no_numbers }
@@ -111,7 +111,7 @@ impl Table {
         self.numbers.len() as u32 - 1
     }
 
-    /// The number of a node: behind so many rows, in a method, inside a sequence or outside.
+    /// The number of a node: after so many rows, in a method, inside a sequence or outside.
     pub fn number(&self, row: u32, method: Method, inside: bool) -> u32
         requires { row < length self.now }
         ensures { result ≡ node_number self.now record { row = row; method = method; inside = inside } }
@@ -124,7 +124,7 @@ impl Table {
         }
     }
 
-    /// The lesser of the two numbers behind so many rows in a method: inside a sequence and outside.
+    /// The lesser of the two numbers after so many rows in a method: inside a sequence and outside.
     pub fn rest(&self, row: u32, method: Method) -> u32
         requires { row < length self.now }
         ensures { result ≡ rest (node_number self.now) row method }
@@ -150,7 +150,7 @@ impl Table {
         self.numbers[row as usize] = numbers;
     }
 
-    /// Changes the numbers of all nodes behind so many rows.
+    /// Changes the numbers of all nodes after so many rows.
     pub fn put(&mut self, row: u32, numbers: RowNumbers)
         requires { row < length self.old }
         ensures rows { length self.new ≡ length self.old }

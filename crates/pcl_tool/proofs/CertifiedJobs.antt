@@ -44,7 +44,7 @@ proved_length dpi (sheet ∷ sheets) texts (proof ∷ proofs) p =
 
 -- ---- texts that are cut at the same place
 
--- what stands behind pages and texts that are proved
+-- what stands after pages and texts that are proved
 proved_behind : {dpi : Dpi} (before : List Sheet) {sheet : Sheet} (behind : List Sheet) (proofs_before : List PageProof) (proof : PageProof)
     (proofs_behind : List PageProof) {texts : List ℕ} (texts_before : List ℕ) {rest : List ℕ}
     → AreProved dpi before texts_before proofs_before

@@ -1,4 +1,4 @@
--- What the checker of pages has found behind the last page.
+-- What the checker of pages has found after the last page.
 use Rattle.std.proofs.Common.{◌≡◌, ℕ, ◌+◌, ◌≤◌, List, [], ◌∷◌, ◌++◌, length, take, drop, refl, sym, ap, subst, ◌∙◌, append_assoc, arith}
 use Rattle.std.proofs.lemmas.List.{length-drop, length-take-le, take-append-drop, drop-drop, nil_from_length}
 use Rattle.pcl_base.specs.declared.dpi.Dpi.{Dpi}
@@ -30,7 +30,7 @@ wrong_stays (job.Certificate fault) proof old new page wrong f = f
 wrong_stays job.PageCount proof old new page wrong f = f
 wrong_stays job.Frame proof old new page wrong f = f
 
--- the proofs that are left behind the next one
+-- the proofs that are left after the next one
 next_left : (k : ℕ) (all : List PageProof) {proof : PageProof} {later : List PageProof} → drop k all ≡ proof ∷ later
     → drop (k + 1) all ≡ later
 next_left k all e =
@@ -115,7 +115,7 @@ pub record IsProvedPage (dpi : Dpi) (sheet : Sheet) (text : List ℕ) (proof : P
   pub as_long : length text ≡ proof.text_len
   pub verdict : IsVerdict page text proof.table proof.places verdicts.Proved
 
--- behind a page that is proved
+-- after a page that is proved
 behind : (dpi : Dpi) (sheet : Sheet) (sheets : List Sheet) (texts text rest : List ℕ) (proof : PageProof)
     (proofs : List PageProof) (taken : ℕ)
     (found : JobVerdict) → IsProvedPage dpi sheet text proof → texts ≡ text ++ rest → IsOutcome dpi sheets rest proofs (taken + 1) found
@@ -157,7 +157,7 @@ pub record AreLeft (texts : List ℕ) (proofs : List PageProof) (checker : Check
   pub proofs_are : proofs_left checker ≡ proofs
   pub as_long : length texts ≡ text_bytes proofs
 
--- what becomes of pages behind one, by what is found of that one
+-- what becomes of pages after one, by what is found of that one
 abbrev Follows : Dpi → List Sheet → List ℕ → List PageProof → ℕ → Checker → Checker → Type 0
 Follows dpi sheets texts proofs taken old new =
     (old.found ≡ job.Proved) → (old.taken ≡ taken) → AreLeft texts proofs old → length sheets ≡ length proofs

@@ -30,7 +30,7 @@ not_performed dpi out ReadFault r short h = absurd h
 not_performed dpi out WriteFault r short h = absurd h
 not_performed dpi out NoSuchPage r short h = absurd h
 
--- the job was written, or a front of it
+-- the job was written, or a prefix of it
 pub filtered : {dpi : Dpi} {given left : Option (List ℕ)} (old new : Option (List ℕ)) {job output : List ℕ}
     (result : Result (Unit {0}) Fault) → IsRead given left job → IsJobOf dpi job output → IsWritten old new output result
     → IsFiltered dpi given left old new result
@@ -55,7 +55,7 @@ stopped_in_job old new cert ReadFault r j w = absurd w
 stopped_in_job old new cert TooLong r j w = absurd w
 stopped_in_job old new cert NoSuchPage r j w = absurd w
 
--- it was, and then the certificate or a front of it
+-- it was, and then the certificate or a prefix of it
 pub filtered_cert : {dpi : Dpi} {format : Format} {given left : Option (List ℕ)} (old new cert_old cert_new : Option (List ℕ))
     {job output certificate : List ℕ} (result : Result (Unit {0}) Fault) → IsRead given left job
     → IsCertifiedJobOf dpi format job output certificate → Appends old new output → IsWritten cert_old cert_new certificate result

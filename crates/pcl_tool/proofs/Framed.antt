@@ -5,7 +5,7 @@ use Rattle.std.specs.Borrow.{Bor}
 use Rattle.std.proofs.lemmas.List.{append_cancel_left}
 use Rattle.pcl_plan.specs.Tokens.{frame_bytes}
 
--- the front is a reset, and what stands behind it ends in one or doesn't
+-- the front is a reset, and what stands after it ends in one or doesn't
 pub framed_is : {output rest : List ℕ} (texts : Option (Bor (List ℕ))) → output ≡ frame_bytes ++ rest
     → MatchOption texts ((front : List ℕ) → rest ≢ front ++ frame_bytes) (λ t. rest ≡ t.now ++ frame_bytes)
     → MatchOption texts ((others : List ℕ) → output ≡ frame_bytes ++ others ++ frame_bytes → ⊥)

@@ -1,4 +1,4 @@
--- What the checker of a job answers behind the last page.
+-- What the checker of a job answers after the last page.
 use Rattle.std.proofs.Common.{◌≡◌, ℕ, zero, suc, ◌⊎◌, inl, inr, List, [], length, drop, refl, sym, ap, subst, ◌∙◌, arith, Ok}
 use Rattle.pcl_base.specs.declared.dpi.Dpi.{Dpi}
 use Rattle.pcl_page.specs.Situation.{Sheet}

@@ -1,4 +1,4 @@
--- What is left behind a place of a list.
+-- What is left after a place of a list.
 use Rattle.std.proofs.Common.{◌≡◌, ℕ, zero, suc, ◌<◌, ◌≤◌, List, [], ◌∷◌, length, drop, refl, arith}
 use Rattle.pcl_cert.specs.declared.page_proof.PageProof.{PageProof}
 use Rattle.pcl_tool.specs.declared.job_verdict.JobVerdict.{JobVerdict}

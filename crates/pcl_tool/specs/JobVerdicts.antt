@@ -86,7 +86,7 @@ IsJobVerdict dpi input output certificate job.Proved =
     (compared : AreCompared dpi input certificate) × (texts : List ℕ) × IsFramed output texts compared.proofs
     × AreProved dpi compared.pages texts compared.proofs
 
--- a job that is refused is refused as by its performing; no fault comes but this and want of memory
+-- a job that is refused is refused as by its performing; no fault comes but this and out of memory
 abbrev pub IsChecked : Dpi → List ℕ → List ℕ → List ℕ → Result JobVerdict Fault → Type 0
 IsChecked dpi input output certificate (Ok verdict) = IsJobVerdict dpi input output certificate verdict
 IsChecked dpi input output certificate (Err (Refused refusal)) = IsRefusal dpi input refusal

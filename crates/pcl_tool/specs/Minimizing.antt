@@ -72,8 +72,8 @@ IsFiltered dpi given left old new (Err TooLong) =
     (bytes : List ℕ) × Consumes given left bytes × (length bytes ≡ input_limit + 1) × Keeps old new
 IsFiltered dpi given left old new (Err NoSuchPage) = ⊥
 
--- what a reader gave, and what a writer and a second one hold after a filter with a certificate: a front of the job and nothing of
--- the certificate, or the job and a front of the certificate, where a write fails
+-- what a reader gave, and what a writer and a second one hold after a filter with a certificate: a prefix of the job and nothing of
+-- the certificate, or the job and a prefix of the certificate, where a write fails
 abbrev pub IsFilteredCert : Dpi → Format → (given left old new cert_old cert_new : Option (List ℕ)) → Result (Unit {0}) Fault → Type 0
 IsFilteredCert dpi format given left old new cert_old cert_new (Ok unit) =
     (job output certificate : List ℕ) × IsRead given left job × IsCertifiedJobOf dpi format job output certificate

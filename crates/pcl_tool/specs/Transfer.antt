@@ -20,7 +20,7 @@ IsReadAll old new limit (Err (Refused refusal)) = ⊥
 IsReadAll old new limit (Err WriteFault) = ⊥
 IsReadAll old new limit (Err NoSuchPage) = ⊥
 
--- all of the bytes were written, or a front of them
+-- all of the bytes were written, or a prefix of them
 abbrev pub AppendsFront : Option (List ℕ) → Option (List ℕ) → List ℕ → Type 0
 AppendsFront old new bytes = (front rest : List ℕ) × (bytes ≡ front ++ rest) × Appends old new front
 

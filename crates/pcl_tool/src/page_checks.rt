@@ -11,7 +11,7 @@ use pcl_cert::{PageProof, Verdict, check_page};
 use pcl_page::{Page, PageSink};
 use std::alloc::{AllocError, Global};
 
-/// What stands before the page texts of a job, and behind them: a reset.
+/// What stands before the page texts of a job, and after them: a reset.
 const FRAME: &[u8] = b"\x1bE";
 
 /// Checks page after page of a job, until one isn't proved.
@@ -20,7 +20,7 @@ pub struct Checker<'p, 'c, 't> {
     alloc: Global,
     /// What is said of each page.
     proofs: &'p [PageProof<'c>],
-    /// The texts of the pages to come, one behind the other.
+    /// The texts of the pages to come, one after the other.
     texts: &'t [u8],
     /// How many pages have come of which something is said.
     taken: usize,
@@ -50,7 +50,7 @@ impl<'p, 'c, 't> Checker<'p, 'c, 't> {
         }
     }
 
-    /// What is answered behind the last page.
+    /// What is answered after the last page.
     pub fn verdict(&self) -> JobVerdict
         ensures { result ≡ answer (drop self.now.taken self.now.proofs.now) self.now.found }
     {

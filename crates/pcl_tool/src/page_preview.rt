@@ -11,7 +11,7 @@ use std::alloc::{AllocError, Global};
 use std::io::Write;
 
 /// Writes page number `page` of a job, counted from 1, as a PBM image, and flushes. NoSuchPage comes only
-/// for an accepted job without that page. After a write fault a front of the image was written, after any
+/// for an accepted job without that page. After a write fault a prefix of the image was written, after any
 /// other fault nothing.
 pub fn preview<W: Write>(
     alloc: Global,

@@ -6,7 +6,7 @@ use crate::Fault;
 use std::io::Write;
 
 /// Writes all of the bytes, in as many writes as the writer needs. WriteFault comes where a write failed
-/// or took none of some bytes; the writer then holds a front of them.
+/// or took none of some bytes; the writer then holds a prefix of them.
 pub fn write_bytes<W: Write>(out: &mut W, bytes: &[u8]) -> Result<(), Fault>
     ensures { IsWritten (W.contents out.old) (W.contents out.new) bytes.now result }
 {

@@ -1,4 +1,4 @@
--- Unfolding only adds items to a list, so the situation at a macro's begin is found again at its end.
+-- Unfolding only adds items to a list, so the situation at a macro's start is found again at its end.
 use Rattle.std.proofs.Common.{◌≡◌, ℕ, ◌+◌, ◌-◌, ◌≤◌, zero, suc, Bool, true, false, List, [], ◌∷◌, ◌++◌, length, Option, Some, None, Result, Ok, Err, refl, sym, ap, ◌∙◌, append_assoc, length-append, arith, if◌then◌else◌}
 use Rattle.pcl_base.specs.declared.dpi.Dpi.{Dpi}
 use Rattle.pcl_base.specs.declared.kind.Kind.{Kind}
@@ -12,7 +12,7 @@ use Rattle.pcl_unfolding.specs.FlatList.{Item, performed, enter, situations, now
 
 -- ---- lists that go on
 
--- one list has the other behind some items more
+-- one list has the other after some items more
 abbrev pub GoesOn : List Item → List Item → Type 0
 GoesOn old new = (more : List Item) × (new ≡ more ++ old)
 
@@ -65,7 +65,7 @@ add_adds dpi bodies adds place command items =
     kept_adds (is_kept command (now dpi items)) items _
     (command_adds bodies adds place command (control_of command (now dpi items)) (after_command dpi place command (now dpi items)) items)
 
--- what stands between a macro's begin and its end, where the macros that it runs add
+-- what stands between a macro's start and its end, where the macros that it runs add
 within : (dpi : Dpi) (bodies : Bodies) → BodiesAdd bodies → (all : List Said) (body : MacroBody) (items : List Item)
     → GoesOn items (in_turn (add dpi bodies) body.from (commands_in all body) items).items
 within dpi bodies adds all body items =

@@ -133,7 +133,7 @@ step_told dpi run bodies told place command items =
 
 -- ---- macros
 
--- the end of a macro finds the situation at its begin
+-- the end of a macro finds the situation at its start
 end_told : (dpi : Dpi) (control : Option Action) (items inner : List Item) → GoesOn (enter ∷ items) inner
     → done (left dpi (saved_by control (now dpi items)) (now dpi inner)) ≡ performed_by dpi (ended_by control (enter ∷ items) inner)
 end_told dpi None items inner goes = refl

@@ -23,8 +23,8 @@ use Rattle.pcl_page.specs.Performing.{Performance, then_on, after_end, performan
 
 -- ---- a flat list, and the situation after it
 
--- A command with its place in the job's list of commands; the begin of a macro that is run; the end of one that was executed; and
--- the end of one that was called, with how many items stand between its begin and this. A list has its newest item first.
+-- A command with its place in the job's list of commands; the start of a macro that is run; the end of one that was executed; and
+-- the end of one that was called, with how many items stand between its start and this. A list has its newest item first.
 pub data Item : Type 0 where
   performed : ℕ → Said → Item
   enter : Item
@@ -124,7 +124,7 @@ end_of other items = leave
 abbrev pub commands_in : List Said → MacroBody → List Said
 commands_in all body = take (body.to - body.from) (drop body.from all)
 
--- what unfolding a body adds behind its begin: by a command and the control that it is
+-- what unfolding a body adds after its start: by a command and the control that it is
 abbrev pub Bodies : Type 0
 Bodies = Said → Option Action → MacroBody → List Item → Unfolding
 
@@ -145,11 +145,11 @@ add dpi bodies place command items =
 
 -- ---- macros
 
--- the end of a body is put behind what was unfolded of it
+-- the end of a body is put after what was unfolded of it
 abbrev pub ended_by : Option Action → List Item → List Item → Unfolding
 ended_by control begun items = goes_on (end_of control (length items - length begun) ∷ items)
 
--- A macro that a command runs, with so many levels left: its begin, its commands in order, each with one level less, and its end.
+-- A macro that a command runs, with so many levels left: its start, its commands in order, each with one level less, and its end.
 -- Where no level is left the command is refused.
 abbrev pub unfolded : ℕ → Dpi → List Said → Bodies
 unfolded zero dpi all command control body items = refused MacroDepth command items

@@ -229,7 +229,7 @@ pub writable : {picture : Picture} {plan : StepsAndTable} {old now : List ℕ} {
 writable {step} is w = writable_from step is
     (next_token is w)
 
--- behind the last step it makes no difference whether a sequence is open
+-- after the last step it makes no difference whether a sequence is open
 goes_on_open : (step : Step) {last : Bool} → last ≡ false → stays_inside step ≡ (stays_inside step && not last)
 goes_on_open (Skip count) e = sym (ap not e)
 goes_on_open (Switch next) e = sym (ap not e)
@@ -294,7 +294,7 @@ one_least a b =
     let over = b.shortest a.attained.0 a.attained.1 in
     omega (arith, a.attained.2, b.attained.2, below, over)
 
--- a token behind the opening of its sequence
+-- a token after the opening of its sequence
 pub opened_bytes : (is_open : Bool) (token : Token) → flat_map token_bytes (opened is_open []) ++ token_bytes token
     ≡ flat_map token_bytes (opened is_open (token ∷ []))
 opened_bytes true token = sym (append-nil (token_bytes token))
@@ -319,7 +319,7 @@ ends_at steps {k} le =
           ap is_last (drop_of_length-le steps ge) ∙ sym (ap (λ (n : ℕ). k == n) (sym same) ∙ equal_is k)
     ]
 
--- a row's data behind its length
+-- a row's data after its length
 pub appended_row : (picture : Picture) (y : ℕ) {current : Method} {count : ℕ} (old : List ℕ) {one mid new seed row : List ℕ} → row
     ≡ row_at (bitmap_rows picture) y → seed ≡ above picture y
     → IsLeastLength current (above picture y) (row_at (bitmap_rows picture) y) count → one ≡ old ++ least_spelling count → mid

@@ -1,4 +1,4 @@
--- The begin of a page text, as it is written.
+-- The start of a page text, as it is written.
 use Rattle.std.proofs.Common.{◌≡◌, ℕ, List, [], ◌∷◌, ◌++◌, ap, ◌∙◌, append_assoc}
 use Rattle.std.specs.Prelude.{decimal}
 use Rattle.pcl_base.specs.declared.dpi.Dpi.{Dpi}

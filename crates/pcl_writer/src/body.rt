@@ -19,7 +19,7 @@ use pcl_coders::{Delta, Packed, Plain, RowCoder, Runs};
 use pcl_plan::{Plan, Step};
 use std::alloc::AllocError;
 
-/// Appends the body of a page along the steps of its plan. Where memory runs out a front of it is appended.
+/// Appends the body of a page along the steps of its plan. Where memory runs out a prefix of it is appended.
 pub fn append_body(bitmap: &Bitmap, plan: &Plan, out: &mut Vec<u8>) -> Result<(), AllocError>
     requires { IsBitmapPlan bitmap.now plan.now }
     ensures ok { OnOk result (AppendsBody bitmap.now plan.now out.old.items out.new.items) }
@@ -39,7 +39,7 @@ pub fn append_body(bitmap: &Bitmap, plan: &Plan, out: &mut Vec<u8>) -> Result<()
     Ok(())
 }
 
-/// Appends the parameter of a step, in a new sequence where none is open, or a front of it where memory runs
+/// Appends the parameter of a step, in a new sequence where none is open, or a prefix of it where memory runs
 /// out.
 fn append_step(
     bitmap: &Bitmap,
@@ -56,7 +56,7 @@ fn append_step(
     append_parameter(bitmap, place.row, place.method, step, ends, out)
 }
 
-/// Opens a sequence where none is open, or appends a front of that where memory runs out.
+/// Opens a sequence where none is open, or appends a prefix of that where memory runs out.
 fn append_opening(inside: bool, out: &mut Vec<u8>) -> Result<(), AllocError>
     ensures ok { OnOk result (out.new.items ≡ out.old.items ++ flat_map token_bytes (opened inside [])) }
     ensures front { take (length out.old.items) out.new.items ≡ out.old.items }
@@ -68,7 +68,7 @@ fn append_opening(inside: bool, out: &mut Vec<u8>) -> Result<(), AllocError>
     }
 }
 
-/// Appends the parameter of a step, or a front of it where memory runs out.
+/// Appends the parameter of a step, or a prefix of it where memory runs out.
 fn append_parameter(
     bitmap: &Bitmap,
     row: u32,
@@ -88,7 +88,7 @@ fn append_parameter(
     }
 }
 
-/// Appends a number and its letter, a capital where it ends its sequence, or a front of it where memory runs
+/// Appends a number and its letter, a capital where it ends its sequence, or a prefix of it where memory runs
 /// out.
 fn append_setting(number: u32, capital: u8, ends: bool, out: &mut Vec<u8>) -> Result<(), AllocError>
     requires { capital < 128 }
@@ -100,7 +100,7 @@ fn append_setting(number: u32, capital: u8, ends: bool, out: &mut Vec<u8>) -> Re
     Ok(())
 }
 
-/// Appends the length of a row's data and the data, or a front of it where memory runs out.
+/// Appends the length of a row's data and the data, or a prefix of it where memory runs out.
 fn append_row(
     bitmap: &Bitmap,
     row: u32,

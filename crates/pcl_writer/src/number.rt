@@ -14,7 +14,7 @@ fn append_number(number: u32, out: &mut Vec<u8>) -> Result<(), AllocError>
     out.extend_from_slice(digits.format(number).as_bytes())
 }
 
-/// Appends a label and a number in decimal behind it, or a front of these where memory runs out.
+/// Appends a label and a number in decimal after it, or a prefix of these where memory runs out.
 pub fn append_labelled(label: &[u8], number: u32, out: &mut Vec<u8>) -> Result<(), AllocError>
     ensures ok { OnOk result (out.new.items ≡ out.old.items ++ (label.now ++ decimal number)) }
     ensures front { take (length out.old.items) out.new.items ≡ out.old.items }

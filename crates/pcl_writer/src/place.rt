@@ -16,7 +16,7 @@ pub struct Place {
 impl Place {
     ghost use Rattle.pcl_writer.specs.inner.Steps.{IsPlaceBehind};
 
-    /// The place behind a step, which ends its sequence or doesn't.
+    /// The place after a step, which ends its sequence or doesn't.
     pub fn behind(self, step: Step, ends: bool) -> Place
         requires { self.row + 65535 < 2 ^ 32 }
         ensures { IsPlaceBehind self step ends result }

@@ -29,7 +29,7 @@ pub fn write_page(page: &Page, plan: &Plan, out: &mut Vec<u8>) -> Result<(), All
     written
 }
 
-/// Appends what stands before the page texts of a job and behind them: a reset. Where memory runs out
+/// Appends what stands before the page texts of a job and after them: a reset. Where memory runs out
 /// `out` stays as it was.
 pub fn write_frame(out: &mut Vec<u8>) -> Result<(), AllocError>
     ensures { out.new.items ≡ (if is_ok result then out.old.items ++ frame_bytes else out.old.items) }
@@ -37,7 +37,7 @@ pub fn write_frame(out: &mut Vec<u8>) -> Result<(), AllocError>
     out.extend_from_slice(b"\x1bE")
 }
 
-/// Appends a page text, or a front of it where memory runs out.
+/// Appends a page text, or a prefix of it where memory runs out.
 fn append_page(page: &Page, plan: &Plan, out: &mut Vec<u8>) -> Result<(), AllocError>
     requires { IsPlanOf page.now plan.now }
     ensures ok { OnOk result (AppendsPage page.now out.old.items out.new.items) }
@@ -50,7 +50,7 @@ fn append_page(page: &Page, plan: &Plan, out: &mut Vec<u8>) -> Result<(), AllocE
     Ok(())
 }
 
-/// Appends the copies, the size and the begin of the raster, or a front of it where memory runs out.
+/// Appends the copies, the size and the start of the raster, or a prefix of it where memory runs out.
 fn append_start(copies: u8, size: Size, dpi: Dpi, out: &mut Vec<u8>) -> Result<(), AllocError>
     ensures ok { OnOk result (out.new.items ≡ out.old.items ++ start_bytes dpi copies size) }
     ensures front { take (length out.old.items) out.new.items ≡ out.old.items }

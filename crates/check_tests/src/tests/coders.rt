@@ -25,7 +25,7 @@ fn assert_decodes(
     Ok(())
 }
 
-/// What a coder writes behind a byte 9, by a table of its own and along the numbers of the row: the same.
+/// What a coder writes after a byte 9, by a table of its own and along the numbers of the row: the same.
 fn written_behind<C: RowCoder>(
     rt: &impl Abort,
     alloc: Global,
@@ -61,7 +61,7 @@ fn data_of<C: RowCoder>(
     Ok(bytes)
 }
 
-/// These bytes, with zeros behind them.
+/// These bytes, with zeros after them.
 fn padded(front: &[u8]) -> [u8; 600] {
     let mut row = [0; 600];
     for (slot, byte) in row.iter_mut().zip(front) {
@@ -71,7 +71,7 @@ fn padded(front: &[u8]) -> [u8; 600] {
 }
 
 /// What the coder of a method writes for a row of so many bytes. The row and its seed row are given by their first
-/// bytes; those behind are zeros.
+/// bytes; those after are zeros.
 fn data_by(
     rt: &impl Abort,
     alloc: Global,

@@ -109,7 +109,7 @@ fn mixed_row() -> [u8; 300] {
 }
 
 /// Numbers of coders never grow, and are row tables by each method. One that is raised by 1 is the first bad one, at the first
-/// place, in the middle, and at the last places; so is one that is raised to more than the one before it, or behind all that is
+/// place, in the middle, and at the last places; so is one that is raised to more than the one before it, or after all that is
 /// needed.
 #[test]
 fn raised_numbers(rt: HostRuntime) {

@@ -21,7 +21,7 @@ struct Element {
     literals: usize,
     /// Where the next element stands, from its own place on.
     stop: usize,
-    /// How many bytes it and the best elements behind it have.
+    /// How many bytes it and the best elements after it have.
     sum: usize,
 }
 

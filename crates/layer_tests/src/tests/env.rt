@@ -409,7 +409,7 @@ fn text(env: &Env) -> (u32, Side, Option<u16>) {
 
 const DEFAULTS: Settings = ((1, 0, 0, 0), (0, 0), (75, None, None), Method::Plain);
 
-// Commands that a call is made behind, and what they set.
+// Commands that a call is made after, and what they set.
 const CHANGES: [(Operation, u32); 11] = [
     (Copies, 2),
     (MacroId, 3),

@@ -61,7 +61,7 @@ fn rows_of_data(rt: HostRuntime) -> Result<(), AllocError> {
     Ok(())
 }
 
-/// Long offsets of method 3, and the place of the one byte that stands behind them.
+/// Long offsets of method 3, and the place of the one byte that stands after them.
 const LONG_OFFSETS: [(&[u8], usize); 6] = [
     (&[30, 255], 30),
     (&[31, 0, 255], 31),

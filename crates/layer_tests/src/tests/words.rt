@@ -157,7 +157,7 @@ fn refusals(rt: HostRuntime) -> Result<(), Fail> {
     assert_lines(&rt, rt.alloc(), &LINES)
 }
 
-/// Asserts the number and the text of each line, behind bytes that stay.
+/// Asserts the number and the text of each line, after bytes that stay.
 fn assert_lines(rt: &impl Abort, alloc: Global, lines: &[Line]) -> Result<(), Fail> {
     for (number, kind, at, name, text) in lines {
         let mut line = Vec::from_slice(alloc, b"# ")?;

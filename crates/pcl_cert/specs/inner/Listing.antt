@@ -1,4 +1,4 @@
--- Lists that are put one behind the other.
+-- Lists that are put one after the other.
 use Rattle.std.specs.Prelude.{◌≡◌, ℕ, ◌+◌, ◌*◌, ◌^◌, ◌<◌, ◌≤◌, false, List, [], ◌∷◌, ◌++◌, length, take, slice_index}
 use Rattle.std.specs.List.{AllByRecursion}
 use Rattle.pcl_base.specs.declared.method.Method.{Method}
@@ -28,7 +28,7 @@ pub record IsTrimmed (numbers trimmed : List ℕ) : Type 0 where
   pub zeros : (k : ℕ) → len ≤ k → k < length numbers → slice_index numbers k ≡ 0
   pub ends : ends_in_zero trimmed ≡ false
 
--- a list more stands behind the others
+-- a list more stands after the others
 pub record HasListMore (old new : Lists) (numbers : List ℕ) : Type 0 where
   pub list : List ℕ
   pub trimmed : IsTrimmed numbers list

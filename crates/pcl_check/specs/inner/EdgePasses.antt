@@ -79,6 +79,6 @@ unfoldable pub values : (ℕ → ℕ) → ℕ → ℕ → List ℕ
 values value from zero = []
 values value from (suc count) = value from ∷ values value (from + 1) count
 
--- the numbers behind so many rows from one on, for each the lesser of those inside a sequence and outside
+-- the numbers after so many rows from one on, for each the lesser of those inside a sequence and outside
 abbrev pub rests : (Node → ℕ) → Method → ℕ → ℕ → List ℕ
 rests number method = values (λ row. rest number row method)

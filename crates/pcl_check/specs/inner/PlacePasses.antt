@@ -38,7 +38,7 @@ abbrev pub AreGoodLiterals : List ℕ → ℕ → Type 0
 AreGoodLiterals numbers place = (count : ℕ) → 0 < count → count ≤ 128 → place + count < length numbers
     → slice_index numbers place ≤ 1 + count + slice_index numbers (place + count)
 
--- bytes that replace those behind an offset
+-- bytes that replace those after an offset
 abbrev pub AreGoodReplacements : List ℕ → List ℕ → List ℕ → ℕ → Type 0
 AreGoodReplacements old row numbers place = (offset len : ℕ) → 0 < len → len ≤ 8 → place + offset + len ≤ length row
     → take offset (drop place row) ≡ take offset (drop place old)
@@ -51,13 +51,13 @@ AreGoodSteps method old row numbers place = (e : Element) (next : ℕ) → Leads
 
 -- ---- where steps stop at the latest, for the places from one on
 
--- in one run of equal bytes; behind the row there are none
+-- in one run of equal bytes; after the row there are none
 pub record AreRunStops (row ends : List ℕ) (from : ℕ) : Type 0 where
   pub size : length ends ≡ length row + 1
   pub last : slice_index ends (length row) ≡ length row
   pub runs : (place : ℕ) → from ≤ place → place < length row → IsRunEnd row place (slice_index ends place)
 
--- behind the first byte that differs, or behind the row
+-- after the first byte that differs, or after the row
 pub record IsStartEnd (old row : List ℕ) (place end : ℕ) : Type 0 where
   pub after : place < end
   pub within : end ≤ length row
@@ -75,7 +75,7 @@ pub record AreStartEnds (old row ends : List ℕ) (from : ℕ) : Type 0 where
 abbrev pub ArePlaced : List ℕ → List ℕ → Type 0
 ArePlaced numbers sums = (place : ℕ) → place < length numbers → slice_index sums place ≡ place + slice_index numbers place
 
--- the least of the replaced bytes and the number behind them, for each place behind a start
+-- the least of the replaced bytes and the number after them, for each place after a start
 abbrev pub AreBehindStarts : List ℕ → List ℕ → Type 0
 AreBehindStarts numbers sums = (start : ℕ) → start + 1 < length numbers
     → (len : ℕ) × IsLeastLen (drop start numbers) 1 (min (length numbers - 1 - start) 8) 0 1 len (slice_index sums (start + 1))

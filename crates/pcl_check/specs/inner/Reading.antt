@@ -20,26 +20,26 @@ use Rattle.pcl_check.specs.declared.reading.start.Start.{Start}
 
 -- ---- numbers
 
--- digits, as many as there are, the byte behind them, and what stands behind that
+-- digits, as many as there are, the byte after them, and what stands after that
 pub record IsParameter (text : List ℕ) (found : Parameter) : Type 0 where
   pub are_digits : AreDigits found.digits.now
   pub no_digit : is_digit found.letter ≡ false
   pub spelled : text ≡ found.digits.now ++ found.letter ∷ found.rest.now
   pub number_is : found.number ≡ min (number_of found.digits.now) 65536
 
--- so many bytes and those behind them, where there are so many and no row has more
+-- so many bytes and those after them, where there are so many and no row has more
 abbrev pub IsSplit : ℕ → List ℕ → Option (Bor (List ℕ) × Bor (List ℕ)) → Type 0
 IsSplit number bytes None = number ≤ 65535 → length bytes < number
 IsSplit number bytes (Some parts) = (number ≤ 65535) × (length parts.0.now ≡ number) × (bytes ≡ parts.0.now ++ parts.1.now)
 
--- ---- the begin of a text
+-- ---- the start of a text
 
--- what stands behind the letter of the size
+-- what stands after the letter of the size
 abbrev pub raster_start : Size → Dpi → List ℕ
 raster_start size dpi = codes "0E" ++ 27 ∷ codes "*p0x0Y" ++ 27 ∷ codes "*t" ++ decimal (dots_per_inch dpi) ++ codes "R"
     ++ 27 ∷ codes "*r" ++ decimal (page_width size dpi) ++ codes "s0A"
 
--- the begin of a text and what stands behind it, or none where it doesn't begin as a text does
+-- the start of a text and what stands after it, or none where it doesn't begin as a text does
 abbrev pub IsStart : Dpi → List ℕ → Option Start → Type 0
 IsStart dpi text None = (copies : ℕ) (size : Size) (rest : List ℕ)
     → 0 < copies → copies < 100 → text ≡ start_bytes dpi copies size ++ rest → ⊥
@@ -64,7 +64,7 @@ pub record RestPrints (size : Size) (dpi : Dpi) (left : LeftOver) (rows : List (
   pub spelled : left.text ≡ flat_map token_bytes tokens ++ end_bytes
   pub prints : PrintsRows left.inside left.method left.above tokens rows
 
--- what is left before a token and behind it: the first prints given rows and then those that the second prints
+-- what is left before a token and after it: the first prints given rows and then those that the second prints
 pub record GivesRows (size : Size) (dpi : Dpi) (old : LeftOver) (given : List (List ℕ)) (new : LeftOver) : Type 0 where
   pub splits : (rows : List (List ℕ)) → RestPrints size dpi old rows
       → (rest : List (List ℕ)) × (rows ≡ given ++ rest) × RestPrints size dpi new rest

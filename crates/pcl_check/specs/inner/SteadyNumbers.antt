@@ -16,7 +16,7 @@ pub record IsNeedEnd (old row numbers : List ℕ) (end : ℕ) : Type 0 where
   pub needed : 0 < end → slice_index old (end - 1) ≢ slice_index row (end - 1)
 
 -- a number falls to the next one by what a run costs where that ends, and not where it goes on; of two equal bytes, which may
--- be literal bytes too, the number may fall to the one behind both
+-- be literal bytes too, the number may fall to the one after both
 pub record FallsByRun (row numbers : List ℕ) (place : ℕ) : Type 0 where
   pub one : slice_index row place ≢ slice_index row (place + 1) → slice_index numbers place ≤ 2 + slice_index numbers (place + 1)
   pub two : slice_index row place ≡ slice_index row (place + 1) → slice_index row (place + 1) ≢ slice_index row (place + 2)
@@ -24,7 +24,7 @@ pub record FallsByRun (row numbers : List ℕ) (place : ℕ) : Type 0 where
   pub more : slice_index row place ≡ slice_index row (place + 1) → slice_index row (place + 1) ≡ slice_index row (place + 2)
       → slice_index numbers place ≤ slice_index numbers (place + 1)
 
--- a number is at most a byte and what is least behind it where the bytes differ, and at most the next one where they don't
+-- a number is at most a byte and what is least after it where the bytes differ, and at most the next one where they don't
 pub record FallsByStart (old row numbers least : List ℕ) (place : ℕ) : Type 0 where
   pub same : slice_index old place ≡ slice_index row place → slice_index numbers place ≤ slice_index numbers (place + 1)
   pub differs : slice_index old place ≢ slice_index row place
@@ -35,7 +35,7 @@ abbrev pub AreLeastSums : List ℕ → ℕ → List ℕ → Type 0
 AreLeastSums numbers count least = (place stop : ℕ) → place ≤ stop → stop < place + count → stop < length numbers
     → slice_index least place ≤ stop + slice_index numbers stop
 
--- no value is above what it was, or above what was that far behind it
+-- no value is above what it was, or above what was that far after it
 pub record TakesBehind (count : ℕ) (old new : List ℕ) : Type 0 where
   pub size : length new ≡ length old
   pub here : (place : ℕ) → slice_index new place ≤ slice_index old place

@@ -5,7 +5,7 @@ ghost use Rattle.pcl_check.specs.inner.EdgePasses.{found_place, first_found};
 
 use pcl_base::Method;
 
-/// A node whose number is above what a step costs and the number where that leads, or isn't 0 at an end: behind
+/// A node whose number is above what a step costs and the number where that leads, or isn't 0 at an end: after
 /// so many rows, in a method, inside a sequence or outside.
 #[derive(Clone, Copy, Debug, PartialEq, Eq)]
 pub struct BadNumber {

@@ -69,7 +69,7 @@ fn first_bad_skip_of(
     None
 }
 
-/// Puts the numbers behind some rows on into a window, for each the lesser of those inside a sequence and outside.
+/// Puts the numbers after some rows on into a window, for each the lesser of those inside a sequence and outside.
 fn put_rests(window: &mut Window<'_>, table: &Table, method: Method, from: u32, to: u32)
     requires order { from ≤ to }
     requires within { to ≤ length table.now }

@@ -53,7 +53,7 @@ pub fn fill_run_stops(row: &[u8], ends: &mut [u32])
     }
 }
 
-/// For each place of a row the place behind the first byte that differs from the row before, or the row's end.
+/// For each place of a row the place after the first byte that differs from the row before, or the row's end.
 pub fn fill_start_ends(old: &[u8], row: &[u8], ends: &mut [u32])
     requires same { length old.now ≡ length row.now }
     requires small { length row.now ≤ 600 }
@@ -71,7 +71,7 @@ pub fn fill_start_ends(old: &[u8], row: &[u8], ends: &mut [u32])
     }
 }
 
-/// For each start of a replacement, at the place behind it, the least of the replaced bytes and the number behind them.
+/// For each start of a replacement, at the place after it, the least of the replaced bytes and the number after them.
 pub fn fill_behind_starts(numbers: &[u16], sums: &mut [u32])
     requires size { length sums.old ≡ length numbers.now }
     requires some { 0 < length numbers.now }
@@ -83,7 +83,7 @@ pub fn fill_behind_starts(numbers: &[u16], sums: &mut [u32])
     }
 }
 
-/// The least of the replaced bytes, one to eight, and the number behind them, where a replacement starts at the first
+/// The least of the replaced bytes, one to eight, and the number after them, where a replacement starts at the first
 /// place.
 fn least_behind(numbers: &[u16]) -> u32
     requires some { 1 < length numbers.now }

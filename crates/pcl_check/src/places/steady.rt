@@ -117,8 +117,8 @@ fn are_good_runs(row: &[u8], numbers: &[u16], end: usize, most: usize) -> bool
     true
 }
 
-/// Whether each number before an end is at most the next one, or the one behind that, and what a run costs that ends there:
-/// with two equal bytes left, the number behind both counts, since they may be literal bytes too. This tests runs of any
+/// Whether each number before an end is at most the next one, or the one after that, and what a run costs that ends there:
+/// with two equal bytes left, the number after both counts, since they may be literal bytes too. This tests runs of any
 /// length, and says no where a run is longer than one element can be.
 fn fall_by_runs(row: &[u8], numbers: &[u16], end: usize) -> bool
     requires size { length numbers.now ≡ length row.now + 1 }
@@ -192,7 +192,7 @@ fn fill_least_of_eight(numbers: &[u16], least: &mut [u16])
     take_behind(least, 4);
 }
 
-/// Takes for each value the lesser one of it and the one that far behind it.
+/// Takes for each value the lesser one of it and the one that far after it.
 #[inline(always)]
 fn take_behind(least: &mut [u16], count: usize)
     requires { count ≤ 64 }
@@ -232,7 +232,7 @@ fn are_good_replacements(old: &[u8], row: &[u8], numbers: &[u16], end: usize) ->
 }
 
 /// Whether the numbers before an end fall by at most what replacements cost: not at a byte that stays, since a replacement
-/// that starts behind it may also be tried at the next place, and at a byte that differs by one that starts there. This says
+/// that starts after it may also be tried at the next place, and at a byte that differs by one that starts there. This says
 /// no where an offset takes bytes of its own.
 fn fall_by_starts(old: &[u8], row: &[u8], numbers: &[u16], least: &[u16], end: usize) -> bool
     requires same { length old.now ≡ length row.now }
@@ -271,7 +271,7 @@ fn is_kept_before(number: u16, least: &[u16], place: usize, start: usize) -> boo
                         && is_kept(number, least, start, 4)))
 }
 
-/// Whether no replacement that starts at a place, behind a command of so many bytes, undercuts a number.
+/// Whether no replacement that starts at a place, after a command of so many bytes, undercuts a number.
 fn is_kept(number: u16, least: &[u16], start: usize, cost: usize) -> bool
     requires within { start + 1 < length least.now }
     requires small { (length least.now ≤ 601) × (cost ≤ 4) }

@@ -12,7 +12,7 @@ use super::parameter::{Parameter, read_parameter};
 use pcl_base::{Method, ROW_LIMIT};
 use pcl_rows::{decode, is_whole};
 
-/// The end of a page text, behind its body.
+/// The end of a page text, after its body.
 const END: &[u8] = b"\x1b*rC\x0c";
 
 /// What opens a sequence.

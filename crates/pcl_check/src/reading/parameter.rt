@@ -1,4 +1,4 @@
-//! Numbers of a text, and the letters behind them.
+//! Numbers of a text, and the letters after them.
 
 ghost use Rattle.std.specs.Prelude.{◌≡◌, ℕ, ◌≤◌, ◌<◌, false, List, ◌∷◌, ◌++◌, length, min, decimal, MatchOption};
 ghost use Rattle.std.specs.List.{prefix_len};
@@ -11,20 +11,20 @@ use itoa::Buffer;
 /// The largest number that a page text says.
 const GREATEST: u32 = 65_535;
 
-/// A number as it is spelled, the letter behind it, and what stands behind that.
+/// A number as it is spelled, the letter after it, and what stands after that.
 #[derive(Clone, Copy)]
 pub struct Parameter<'a> {
     /// The digits, which may begin with zeros; 0 may have none.
     pub digits: &'a [u8],
     /// The number, or 65536 where it is larger.
     pub number: u32,
-    /// The byte behind the digits.
+    /// The byte after the digits.
     pub letter: u8,
-    /// What stands behind that.
+    /// What stands after that.
     pub rest: &'a [u8],
 }
 
-/// Reads a number and the letter behind it, which isn't there where all of the text is digits.
+/// Reads a number and the letter after it, which isn't there where all of the text is digits.
 pub fn read_parameter(text: &[u8]) -> Option<Parameter<'_>>
     ensures { MatchOption result (AreDigits text.now) (λ found. IsParameter text.now found) }
 {
@@ -38,7 +38,7 @@ pub fn read_parameter(text: &[u8]) -> Option<Parameter<'_>>
     })
 }
 
-/// Reads a number without leading zeros and this letter behind it: the number, and what stands behind the letter.
+/// Reads a number without leading zeros and this letter after it: the number, and what stands after the letter.
 pub fn read_decimal(text: &[u8], letter: u8) -> Option<(u32, &[u8])>
     requires { is_digit letter ≡ false }
     ensures { MatchOption result ((n : ℕ) (rest : List ℕ) → n ≤ 65535 → text.now ≡ decimal n ++ letter ∷ rest → ⊥)
@@ -55,7 +55,7 @@ pub fn read_decimal(text: &[u8], letter: u8) -> Option<(u32, &[u8])>
 }
 
 impl<'a> Parameter<'a> {
-    /// As many bytes as the number says, and what stands behind them.
+    /// As many bytes as the number says, and what stands after them.
     pub fn split_data(self) -> Option<(&'a [u8], &'a [u8])>
         ensures { IsSplit self.entry.number self.entry.rest.now result }
     {

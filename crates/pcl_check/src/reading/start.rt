@@ -1,4 +1,4 @@
-//! The begin of a page text: all that stands before its body.
+//! The start of a page text: all that stands before its body.
 
 ghost use Rattle.std.specs.Prelude.{◌≡◌, ◌++◌, ◌∷◌, codes, decimal};
 ghost use Rattle.pcl_base.specs.Dpi.{dots_per_inch};
@@ -8,18 +8,18 @@ ghost use Rattle.pcl_check.specs.inner.Reading.{IsStart, raster_start};
 use super::parameter::read_decimal;
 use pcl_base::{COPIES_LIMIT, Dpi, Size};
 
-/// What the begin of a page text says, and the body behind it.
+/// What the start of a page text says, and the body after it.
 #[derive(Clone, Copy)]
 pub struct Start<'a> {
     /// How many copies are printed, 1 to 99.
     pub copies: u32,
     /// The size of the page.
     pub size: Size,
-    /// What stands behind the begin.
+    /// What stands after the start.
     pub rest: &'a [u8],
 }
 
-/// Reads the begin of a page text at a resolution (docs/OUTPUT.md, "Page texts").
+/// Reads the start of a page text at a resolution (docs/OUTPUT.md, "Page texts").
 pub fn read_start(dpi: Dpi, text: &[u8]) -> Option<Start<'_>>
     ensures { IsStart dpi text.now result }
 {
@@ -33,7 +33,7 @@ pub fn read_start(dpi: Dpi, text: &[u8]) -> Option<Start<'_>>
     Some(Start { copies, size, rest })
 }
 
-/// What stands between the letter behind a size's number and the body.
+/// What stands between the letter after a size's number and the body.
 fn raster_start(size: Size, dpi: Dpi) -> &'static [u8]
     ensures { result.now ≡ raster_start size dpi }
 {

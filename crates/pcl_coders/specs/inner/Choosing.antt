@@ -5,7 +5,7 @@ use Rattle.pcl_rows.specs.Elements.{Element, IsElement, stop}
 use Rattle.pcl_coders.specs.RowWalks.{Agrees, cost}
 
 -- among the lengths from one to another, one whose bytes and number are the least together: `head` bytes,
--- `each` more for each of its own, and the number behind them
+-- `each` more for each of its own, and the number after them
 pub record IsLeastLen (numbers : List ℕ) (from to head each : ℕ) (len sum : ℕ) : Type 0 where
   pub above : from ≤ len
   pub below : len ≤ to

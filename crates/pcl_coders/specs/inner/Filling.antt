@@ -12,7 +12,7 @@ pub record IsNext (method : Method) (old row table : List ℕ) (place : ℕ) (e 
   pub goes_on : 0 < stop e
   pub number_is : slice_index table place ≡ cost e + slice_index table (place + stop e)
 
--- the number of a place is right, where those behind it are
+-- the number of a place is right, where those after it are
 pub record IsPlaceNumber (method : Method) (old row table : List ℕ) (place : ℕ) : Type 0 where
   pub steps : (e : Element) → IsElement method e → Agrees (drop place old) (drop place row) e
       → slice_index table place ≤ cost e + slice_index table (place + stop e)

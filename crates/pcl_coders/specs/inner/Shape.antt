@@ -38,7 +38,7 @@ pub record IsShapeChoice (method : Method) (old wanted numbers : List ℕ) (shap
   pub stop_is : stop (element_of shape wanted) ≡ shape_stop shape
   pub choice : IsChoice method old wanted numbers (element_of shape wanted) sum
 
--- the best replacement behind an offset
+-- the best replacement after an offset
 pub record IsReplacement (offset row_bytes : ℕ) (numbers : List ℕ) (shape : Shape) (sum : ℕ) : Type 0 where
   pub len : ℕ
   pub step_is : shape ≡ Replace offset len

@@ -1,4 +1,4 @@
--- The lines behind a universal exit, from left to right.
+-- The lines after a universal exit, from left to right.
 use Rattle.std.specs.Prelude.{◌≡◌, ℕ, zero, suc, ◌+◌, ◌==◌, not, if◌then◌else◌, List, [], ◌∷◌, length, take, drop, Result, Ok, Err}
 use Rattle.std.specs.Borrow.{Bor}
 use Rattle.pcl_escape.specs.Exit.{is_job_line, names_language, names_pcl}
@@ -10,7 +10,7 @@ abbrev pub line_len : List ℕ → ℕ
 line_len [] = 0
 line_len (byte ∷ bytes) = if byte == 10 then 1 else suc (line_len bytes)
 
--- what stands behind the lines, or where a line asks for another language; the bytes begin at a place
+-- what stands after the lines, or where a line asks for another language; the bytes begin at a place
 unfoldable pub lines_from : ℕ → ℕ → List ℕ → Result (List ℕ) ℕ
 lines_from zero place bytes = Ok bytes
 lines_from (suc more) place bytes =
@@ -24,7 +24,7 @@ lines_from (suc more) place bytes =
 abbrev pub lines_at : ℕ → List ℕ → Result (List ℕ) ℕ
 lines_at place bytes = lines_from (suc (length bytes)) place bytes
 
--- what a function returned is what stands behind the lines
+-- what a function returned is what stands after the lines
 abbrev pub GivesRest : Result (Bor (List ℕ)) ℕ → Result (List ℕ) ℕ → Type 0
 GivesRest (Ok rest) read = read ≡ Ok rest.now
 GivesRest (Err place) read = read ≡ Err place

@@ -24,7 +24,7 @@ use Rattle.pcl_escape.specs.inner.Lines.{lines_at}
 use Rattle.std.specs.Global.{Vec}
 use Rattle.pcl_escape.specs.Said.{Said, view, views}
 
--- what a step reads: a command or none, the bytes behind it, and the sequence that goes on there
+-- what a step reads: a command or none, the bytes after it, and the sequence that goes on there
 pub record Reads : Type 0 where
   pub said : Option Said
   pub rest : List ℕ
@@ -61,7 +61,7 @@ checked_at prefix at letter value bytes (Ok len) =
     }
 checked_at prefix at letter value bytes (Err kind) = refuse kind at (parameter_name prefix letter)
 
--- the byte behind a value field, and then the checks
+-- the byte after a value field, and then the checks
 abbrev pub letter_at : Prefix → ℕ → Spelled → List ℕ → Result Reads Refusal
 letter_at prefix at field [] = refuse Truncated at (prefix_name prefix)
 letter_at prefix at field (letter ∷ bytes) =
@@ -83,7 +83,7 @@ abbrev pub skipped_by : Option Said → Result (List ℕ) ℕ → Result Reads R
 skipped_by said (Ok rest) = Ok record { said = said; rest = rest; inside = None }
 skipped_by said (Err place) = refuse NotPcl place exit_name
 
--- what was read of so many bytes, which begin at a place, and the lines behind it where it is a universal exit
+-- what was read of so many bytes, which begin at a place, and the lines after it where it is a universal exit
 abbrev pub with_lines : ℕ → ℕ → Result Reads Refusal → Result Reads Refusal
 with_lines begin len (Ok reads) =
     if leaves reads.said then skipped_by reads.said (lines_at (begin + (len - length reads.rest)) reads.rest) else Ok reads
@@ -101,7 +101,7 @@ prefix_at at parameterized (group ∷ bytes) =
     if is_group group then parameter_at (record { parameterized = parameterized; group = Some group }) at bytes
     else (if is_ungrouped parameterized then ungrouped_at at parameterized (group ∷ bytes) else refuse BadSequence at (One parameterized))
 
--- the byte behind ESC, and so on
+-- the byte after ESC, and so on
 unfoldable pub sequence_at : ℕ → List ℕ → Result Reads Refusal
 sequence_at at [] = refuse Truncated at Empty
 sequence_at at (byte ∷ bytes) =

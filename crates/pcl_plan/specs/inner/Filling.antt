@@ -1,4 +1,4 @@
--- A table while it is filled, from behind the last row upwards.
+-- A table while it is filled, from the last row upwards.
 use Rattle.std.specs.Prelude.{◌≡◌, ℕ, ◌+◌, ◌-◌, ◌*◌, ◌<◌, ◌≤◌, ◌⊎◌, List, length, take, drop}
 use Rattle.pcl_base.specs.declared.method.Method.{Method}
 use Rattle.pcl_coders.specs.Coding.{IsLeastLength}
@@ -15,7 +15,7 @@ use Rattle.pcl_plan.specs.Filling.{outside, rest, IsSwitched}
 abbrev pub sending : ℕ → ℕ
 sending bytes = digit_count bytes + 1 + bytes
 
--- so many rows that are skipped, and what comes behind them
+-- so many rows that are skipped, and what comes after them
 abbrev pub skipping : (Node → ℕ) → ℕ → Method → ℕ → ℕ
 skipping number row method count = digit_count count + 1 + rest number (row + count) method
 
@@ -74,7 +74,7 @@ pub record AreRowNumbers (width : ℕ) (rows : List (List ℕ)) (number : Node �
 
 -- ---- rows that are done
 
--- the numbers behind so many rows are right, where those behind more are
+-- the numbers after so many rows are right, where those after more are
 pub record IsRowRight (width : ℕ) (rows : List (List ℕ)) (number : Node → ℕ) (row : ℕ) : Type 0 where
   pub steps : (a : Node) (token : Token) (b : Node) → a.row ≡ row → Leads width rows a token b → number a ≤ cost token + number b
   pub ends : (a : Node) → a.row ≡ row → Ends rows a → number a ≡ 0

@@ -21,7 +21,7 @@ IsBestStep width rows number row method (Row bytes) =
     (row < length rows) × IsLeastLength method (row_above width rows row) (row_at rows row) bytes
     × (inside number row method ≡ sending bytes + outside number (row + 1) method)
 
--- how many rows are printed behind a step, and the method there
+-- how many rows are printed after a step, and the method there
 abbrev pub row_behind : ℕ → Step → ℕ
 row_behind row (Skip count) = row + count
 row_behind row (Switch next) = row
@@ -32,7 +32,7 @@ method_behind method (Skip count) = method
 method_behind method (Switch next) = next
 method_behind method (Row bytes) = method
 
--- the place behind a step: a sequence goes on unless it ends with a row, or because the rest is white
+-- the place after a step: a sequence goes on unless it ends with a row, or because the rest is white
 pub record IsPlaceBehind (number : Node → ℕ) (row : ℕ) (method : Method) (step : Step) (place : Place) : Type 0 where
   pub row_is : place.row ≡ row_behind row step
   pub method_is : place.method ≡ method_behind method step

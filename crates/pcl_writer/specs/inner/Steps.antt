@@ -45,7 +45,7 @@ HasRowData picture row current (send digits bytes) = IsRowData current (above pi
 
 -- ---- what is appended
 
--- a row's data behind its length
+-- a row's data after its length
 abbrev pub AppendsRow : Picture → ℕ → Method → ℕ → List ℕ → List ℕ → Type 0
 AppendsRow picture row current bytes old new =
     (whole : List ℕ) × IsRowData current (above picture row) (row_at (bitmap_rows picture) row) whole × (length whole ≡ bytes)
@@ -62,7 +62,7 @@ AppendsStep picture place step ends old new =
     (token : Token) × IsTokenOf step ends token × HasRowData picture place.row place.method token
     × (new ≡ old ++ flat_map token_bytes (opened place.inside (token ∷ [])))
 
--- the place behind a step
+-- the place after a step
 pub record IsPlaceBehind (place : Place) (step : Step) (ends : Bool) (behind : Place) : Type 0 where
   pub row_is : behind.row ≡ row_behind place.row step
   pub method_is : behind.method ≡ method_behind place.method step

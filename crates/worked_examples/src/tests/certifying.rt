@@ -11,8 +11,8 @@ use std::fmt::Debug;
 use std::io::{ErrorKind, Read};
 use std::process::Abort;
 
-/// The certificate of the job with the dot (0, 0) behind the bytes with which those of its format begin, as it is worked out
-/// by hand: parts, and how often each comes. The first format ends behind the first two.
+/// The certificate of the job with the dot (0, 0) after the bytes with which those of its format begin, as it is worked out
+/// by hand: parts, and how often each comes. The first format ends after the first two.
 const PARTS: [(&[u8], usize); 4] = [
     (
         &[
@@ -164,7 +164,7 @@ fn each_read_fails(rt: HostRuntime) {
     }
 }
 
-/// Asserts that the job is written so far where the write behind `good` ones fails, or the flush behind the last one.
+/// Asserts that the job is written so far where the write after `good` ones fails, or the flush after the last one.
 fn assert_job_fails(
     rt: &impl Abort,
     alloc: Global,
@@ -197,7 +197,7 @@ fn each_write_of_the_job_fails(rt: HostRuntime) {
     }
 }
 
-/// Asserts that the certificate is written so far where the write behind `good` ones fails, or the flush behind the last one.
+/// Asserts that the certificate is written so far where the write after `good` ones fails, or the flush after the last one.
 fn assert_certificate_fails(
     rt: &impl Abort,
     alloc: Global,

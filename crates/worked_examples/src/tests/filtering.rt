@@ -51,7 +51,7 @@ const READS: [(ErrorKind, usize, usize); 6] = [
     (ErrorKind::Interrupted, usize::MAX, 2),
 ];
 
-/// Asserts what is written of the job where the read behind `good` ones fails.
+/// Asserts what is written of the job where the read after `good` ones fails.
 fn assert_read_fails(
     rt: &impl Abort,
     alloc: Global,
@@ -70,7 +70,7 @@ fn assert_read_fails(
     assert_filtered(rt, alloc, &(most, good), &mut source, out, wanted);
 }
 
-// Each read fails in turn, whether it gives a byte, a few, or all. Then nothing is written. Behind the last
+// Each read fails in turn, whether it gives a byte, a few, or all. Then nothing is written. After the last
 // one none is made.
 #[test]
 fn each_read_fails(rt: HostRuntime) {
@@ -93,7 +93,7 @@ pub(super) fn taken(writes: usize, most: usize) -> &'static [u8] {
         .unwrap_or(WRITTEN)
 }
 
-// Each write fails in turn, whether it takes a byte, a few, or all. The writer then holds what it took. Behind
+// Each write fails in turn, whether it takes a byte, a few, or all. The writer then holds what it took. After
 // the last one none is made.
 #[test]
 fn each_write_fails(rt: HostRuntime) {
@@ -144,7 +144,7 @@ const REFUSED: [(&[u8], Refusal); 2] = [
     ),
 ];
 
-// Of one page too many, and of a fault behind a page, nothing is written.
+// Of one page too many, and of a fault after a page, nothing is written.
 #[test]
 fn nothing_of_a_refused_job(rt: HostRuntime) {
     let alloc = rt.alloc();

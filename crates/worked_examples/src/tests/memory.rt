@@ -1,6 +1,6 @@
-//! Want of memory: under `make test-memory` each allocation of these calls fails in turn, one a run. A call
-//! that it made fail answers want of memory and writes nothing, and made once more it succeeds: so a call that
-//! answers want of memory where there is none fails its test, also in a run in which nothing fails.
+//! Out of memory: under `make test-memory` each allocation of these calls fails in turn, one a run. A call
+//! that it made fail answers out of memory and writes nothing, and made once more it succeeds: so a call that
+//! answers out of memory where there is none fails its test, also in a run in which nothing fails.
 
 use super::assert_gives;
 use pcl_base::{Dpi, JobFault, Kind, Name, Refusal};

@@ -48,7 +48,7 @@ const ROWS: [Row; 14] = [
     (usize::MAX, WHOLE, None, false, Err(Fault::NoSuchPage), 0, 0),
 ];
 
-/// Asserts that a row's writer holds a front of the image.
+/// Asserts that a row's writer holds a prefix of the image.
 fn assert_front(rt: &impl Abort, alloc: Global, image: &[u8], row: &Row) {
     let (page, most, good, flush_fails, wanted, len, flushes) = *row;
     let mut held = failing(alloc, most, good, flush_fails);
@@ -97,7 +97,7 @@ fn nothing(rt: HostRuntime) {
 /// Two pages of Letter: a dot on the first, and one in each of two rows of the second.
 const PAGES: &[u8] = b"\x1b*t600R\x1b&l0E\x1b*b1W\x80\x0c\x1b*b1W\x40\x1b*b1W\x20";
 
-/// How many bytes behind the head of an image aren't 0.
+/// How many bytes after the head of an image aren't 0.
 fn count_black(image: &[u8]) -> usize {
     image.iter().skip(13).filter(|byte| **byte != 0).count()
 }

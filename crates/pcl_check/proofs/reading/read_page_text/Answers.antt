@@ -23,7 +23,7 @@ as_bitmap page P p = subst (λ (z : Size). P z page.bitmap.dpi) (sym page.size_i
 begun_at : (page : Page) {text : List ℕ} (start : Start) → IsStart page.dpi text (Some start) → IsStart page.bitmap.dpi text (Some start)
 begun_at page {text} start begun = subst (λ (d : Dpi). IsStart d text (Some start)) (sym page.dpi_is) begun
 
--- the begin is that of the page where size and copies are
+-- the start is that of the page where size and copies are
 may_by_size : (page : Page) (start : Start) {test may_be : Bool} → test ≡ sameb the_type start.size page.size → test ≡ false → may_be ≡ test
     → MayBe page.bitmap page.copies start may_be
 may_by_size page start e t m = (

@@ -6,7 +6,7 @@ use Rattle.pcl_escape.proofs.Parameters.{IsLettered, gives_fault, gives_cut, not
 use Rattle.pcl_escape.proofs.step.read_parameter.Goals as goal
 use Rattle.pcl_escape.proofs.step.read_parameter.Goals.{After-parameter_name-name}
 
--- a letter was found behind the field
+-- a letter was found after the field
 lettered : (c : After-parameter_name-name)
     → IsLettered c.args.prefix c.args.bytes.now (spelled c.read_field.result.0) c.in-Some.field-0-0.now c.in-Some.after.now
     c.parameter_name-name.result

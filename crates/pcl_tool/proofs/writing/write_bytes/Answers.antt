@@ -3,7 +3,7 @@ use Rattle.std.proofs.KnownBytes.{Appends-kept, Appends-trans}
 use Rattle.std.proofs.lemmas.List.{take-append-drop, take_rest}
 use Rattle.pcl_tool.proofs.writing.write_bytes.Goals as goal
 
--- a front of the bytes, and more of the rest behind it
+-- a prefix of the bytes, and more of the rest after it
 more : {bytes : List ℕ} (front rest : List ℕ) (count : ℕ) → bytes ≡ front ++ rest → bytes ≡ (front ++ take count rest) ++ drop count rest
 more front rest count e =
     e ∙ ap (λ (r : List ℕ). front ++ r) (sym (take-append-drop count rest))
