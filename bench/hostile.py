@@ -1,0 +1,100 @@
+#!/usr/bin/env python3
+"""Makes small jobs that ask for much work, and times programs on them.
+
+    python3 bench/hostile.py FOLDER [PCLMIN PLAIN]
+
+glyph.pcl       the largest character, printed 2,000 times at one place by a run of text, from the page's left edge on
+shifted.pcl     the same one dot further right, so that it begins within a byte
+controls.pcl    a row of 65,535 controls 128 in method 2, sent 10,000 times by macros
+rectangles.pcl  100,000 black rectangles of the whole page
+rows.pcl        the same with a raster row of one dot between every two of 20,000
+macros.pcl      32,767 permanent macros, and then the temporary ones are deleted 200,000 times
+fonts.pcl       the same with fonts, 30,000 times
+
+Without programs it only makes the jobs. PCLMIN is the program of this repository and PLAIN that of plain/: each previews page
+1 of each job at 300 and at 600 dots per inch, and both have to write the same bytes. A time is that of one run, in seconds.
+"""
+
+import subprocess
+import sys
+import time
+from pathlib import Path
+
+# A fixed font of all codes and a pitch of 0, so that text doesn't move the cursor.
+HEADER = bytes([0, 64, 0, 2] + 60 * [0])
+FONT = b"\x1b)s64W" + HEADER
+TOP_LEFT = b"\x1b&l0E\x1b*p0x0Y"
+PAGE = b"\x0c"
+
+
+def printed(dot):
+    rows = bytes((7 * i * i + 3 * i) % 256 for i in range(255 * 256))
+    size = (2040).to_bytes(2, "big") + (256).to_bytes(2, "big")
+    data = bytes([4, 0, 14, 1, 0, 0, 0, 0, 0, 0]) + size + bytes(2) + rows
+    character = b"\x1b*c65E\x1b(s%dW" % len(data) + data
+    return FONT + character + b"\x1b(0X" + TOP_LEFT + b"\x1b*p%dX" % dot + 2000 * b"A"
+
+
+def glyph():
+    return printed(0)
+
+
+def shifted():
+    return printed(1)
+
+
+def controls():
+    row = b"\x1b*b2m65535W" + 65535 * b"\x80"
+    once = b"\x1b&f1y0X" + row + b"\x1b&f1X"
+    hundred = b"\x1b&f2y0X\x1b&f1y" + 99 * b"2x" + b"2X\x1b&f1X"
+    return TOP_LEFT + once + hundred + b"\x1b&f2y" + 99 * b"3x" + b"3X"
+
+
+def rectangles():
+    return TOP_LEFT + b"\x1b*c2400a3300b" + 99_999 * b"p" + b"P"
+
+
+def rows():
+    return TOP_LEFT + b"\x1b*c2400a3300B" + 20_000 * b"\x1b*cP\x1b*b1W\x80\x1b*rB\x1b*p0Y"
+
+
+def macros():
+    kept = b"".join(b"\x1b&f%dy0x1x10X" % number for number in range(1, 32_768))
+    return kept + b"\x1b&f" + 199_999 * b"7x" + b"7X" + PAGE
+
+
+def fonts():
+    one = b"\x1b&f0X" + FONT + b"\x1b*c5F\x1b&f1X"
+    kept = b"".join(b"\x1b*c%dD\x1b&f2X" % number for number in range(1, 32_768))
+    return one + kept + b"\x1b*c" + 29_999 * b"1f" + b"1F" + PAGE
+
+
+JOBS = [glyph, shifted, controls, rectangles, rows, macros, fonts]
+
+
+def preview(program, path, dpi):
+    start = time.perf_counter()
+    done = subprocess.run([program, "pbm", "--page", "1", "--dpi", str(dpi)], stdin=path.open("rb"), stdout=subprocess.PIPE, check=False)
+    return time.perf_counter() - start, done.stdout
+
+
+def main():
+    folder, programs = Path(sys.argv[1]), sys.argv[2:]
+    folder.mkdir(parents=True, exist_ok=True)
+    for make in JOBS:
+        (folder / f"{make.__name__}.pcl").write_bytes(make())
+    if not programs:
+        return
+    print("| Job | Bytes | dpi | pclmin, s | plain, s |\n|---|---:|---:|---:|---:|")
+    for make in JOBS:
+        path = folder / f"{make.__name__}.pcl"
+        for dpi in (300, 600):
+            runs = [preview(program, path, dpi) for program in programs]
+            if any(output != runs[0][1] for _, output in runs):
+                sys.exit(f"{path.name} at {dpi}: the programs write other bytes")
+            times = " | ".join(f"{seconds:.2f}" for seconds, _ in runs)
+            print(f"| {make.__name__} | {path.stat().st_size:,} | {dpi} | {times} |", flush=True)
+
+
+if __name__ == "__main__":
+    main()
