@@ -7,7 +7,6 @@ use Rattle.pcl_base.specs.Size.{page_width, page_height}
 use Rattle.pcl_bitmap.specs.Bitmap.{Picture, dot}
 use Rattle.pcl_page.specs.declared.page.Page.{Page}
 use Rattle.pcl_page.specs.Alike.{AreAlike, AllAlike}
-use Rattle.pcl_page.specs.Jobs.{HasPages}
 use Rattle.pcl_page.specs.Marks.{is_black}
 use Rattle.pcl_page.specs.Performing.{Shows}
 use Rattle.pcl_page.specs.Situation.{Sheet}
@@ -16,7 +15,7 @@ use Rattle.pcl_same.specs.declared.comparison.Comparison.TheVariants as comparis
 use Rattle.pcl_same.specs.declared.comparison.Difference.{Difference}
 use Rattle.pcl_same.specs.declared.comparison.Difference.TheVariants.{Size, Copies, Dot}
 use Rattle.pcl_same.specs.declared.keeping.KeptPage.{KeptPage}
-use Rattle.pcl_same.specs.Comparing.{IsComparison}
+use Rattle.pcl_same.specs.Comparing.{Compare}
 use Rattle.pcl_same.specs.Differing.{IsFirstDot, DifferBy, DifferFirst}
 use Rattle.pcl_same.specs.inner.Pages.{KeepsPage, KeepAll, PagesDiffer, IsFound, FindAll, IsAlike, IsConcluded}
 
@@ -149,25 +148,17 @@ first_differ dpi (page ∷ pages) (one ∷ kept) (other ∷ others) (b ∷ befor
 
 -- ---- the jobs
 
-pub compared_so : {dpi : Dpi} {first second : List ℕ} (pages : List Sheet) (kept : List KeptPage) (others : List Sheet)
-    (found : List (Option Difference)) (result : Comparison) → HasPages dpi first pages → HasPages dpi second others
-    → KeepAll dpi pages kept → FindAll dpi kept others found → IsConcluded (length kept) found result → IsComparison dpi first second result
-compared_so {dpi} pages kept others found comparison.Same p q k f is = (
-  record { pages = pages; meaning = p; others = others; other_meaning = q },
-  all_alike dpi pages kept others found k f is.0 is.1,
-)
-compared_so {dpi} pages kept others found (comparison.PageCount count other_count) p q k f is = (
-  record { pages = pages; meaning = p; others = others; other_meaning = q },
-  kept_count dpi pages kept k ∙ sym is.0,
-  found_count dpi kept others found f ∙ sym is.1,
-  is.2,
-)
-compared_so {dpi} pages kept others found (comparison.Page number difference) p q k f is =
+pub compared_so : (dpi : Dpi) (pages : List Sheet) (kept : List KeptPage) (others : List Sheet) (found : List (Option Difference))
+    (result : Comparison) → KeepAll dpi pages kept → FindAll dpi kept others found → IsConcluded (length kept) found result
+    → Compare dpi pages others result
+compared_so dpi pages kept others found comparison.Same k f is = all_alike dpi pages kept others found k f is.0 is.1
+compared_so dpi pages kept others found (comparison.PageCount count other_count) k f is =
+    (kept_count dpi pages kept k ∙ sym is.0, found_count dpi kept others found f ∙ sym is.1, is.2)
+compared_so dpi pages kept others found (comparison.Page number difference) k f is =
     let first = is.1 in
     let all : FindAll dpi kept others (first.before ++ Some difference ∷ first.after) =
     subst (FindAll dpi kept others) first.found_are f in
     let count = ap length (sym first.found_are) ∙ is.0 in (
-      record { pages = pages; meaning = p; others = others; other_meaning = q },
       kept_count dpi pages kept k ∙ sym is.0 ∙ sym (found_count dpi kept others found f),
       subst (λ (n : ℕ). DifferFirst dpi pages others n difference) (sym first.counted)
           (first_differ dpi pages kept others first.before first.after k all count first.alike_before),

@@ -3,3 +3,4 @@ pub mod KeptRows
 pub mod Beside
 pub mod Concluded
 pub mod Answered
+pub mod OneAnswer

@@ -15,22 +15,21 @@ use Rattle.pcl_same.specs.declared.fault.SameFault.{SameFault}
 use Rattle.pcl_same.specs.declared.fault.SameFault.TheVariants.{Refused, Memory}
 use Rattle.pcl_same.specs.Differing.{DifferFirst}
 
--- both jobs are accepted, and these are their pages
-pub record AreAccepted (dpi : Dpi) (first second : List ℕ) : Type 0 where
+-- two lists of pages are the same, one by one; or not as many; or as many, of which one pair is the first that differs
+abbrev pub Compare : Dpi → List Sheet → List Sheet → Comparison → Type 0
+Compare dpi pages others Same = AllAlike dpi pages others
+Compare dpi pages others (PageCount count other_count) =
+    (length pages ≡ count) × (length others ≡ other_count) × (count ≢ other_count)
+Compare dpi pages others (Page number difference) =
+    (length pages ≡ length others) × DifferFirst dpi pages others number difference
+
+-- both jobs are accepted, and their pages compare so
+pub record IsComparison (dpi : Dpi) (first second : List ℕ) (comparison : Comparison) : Type 0 where
   pub pages : List Sheet
   pub meaning : HasPages dpi first pages
   pub others : List Sheet
   pub other_meaning : HasPages dpi second others
-
--- Of two jobs that are accepted: they have the same pages, in order; or not as many; or as many, of which one pair is the first
--- that differs.
-abbrev pub IsComparison : Dpi → List ℕ → List ℕ → Comparison → Type 0
-IsComparison dpi first second Same = (jobs : AreAccepted dpi first second) × AllAlike dpi jobs.pages jobs.others
-IsComparison dpi first second (PageCount count other_count) =
-    (jobs : AreAccepted dpi first second) × (length jobs.pages ≡ count) × (length jobs.others ≡ other_count) × (count ≢ other_count)
-IsComparison dpi first second (Page number difference) =
-    (jobs : AreAccepted dpi first second) × (length jobs.pages ≡ length jobs.others)
-    × DifferFirst dpi jobs.pages jobs.others number difference
+  pub compare : Compare dpi pages others comparison
 
 -- a job that is refused, the first before the second; no fault comes but this and out of memory
 abbrev pub IsCompared : Dpi → List ℕ → List ℕ → Result Comparison SameFault → Type 0

@@ -1,0 +1,20 @@
+//! Laws of comparing.
+
+ghost use Rattle.std.specs.Prelude.{◌≡◌, ◌≢◌, ℕ, List, Result, Err};
+ghost use Rattle.pcl_base.specs.declared.dpi.Dpi.{Dpi};
+ghost use Rattle.pcl_same.specs.Comparing.{IsCompared};
+ghost use Rattle.pcl_same.specs.declared.comparison.Comparison.{Comparison};
+ghost use Rattle.pcl_same.specs.declared.fault.SameFault.{SameFault};
+ghost use Rattle.pcl_same.specs.declared.fault.SameFault.TheVariants.{Memory};
+
+use pcl_page::one_meaning;
+
+/// Two jobs have one answer at most, out of memory aside: it is `Same` exactly where they have the same pages, and a
+/// job is refused exactly where the answer says so. A law: the call does nothing.
+pub fn one_answer()
+    ensures { (dpi : Dpi) (first second : List ℕ) (answer other : Result Comparison SameFault)
+        → IsCompared dpi first second answer → IsCompared dpi first second other → answer ≢ Err Memory → other ≢ Err Memory
+        → answer ≡ other }
+{
+    one_meaning();
+}
