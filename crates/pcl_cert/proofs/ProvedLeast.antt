@@ -110,8 +110,7 @@ proved_bounded page text table tables is = record {
 pub bounded_proved : (page : Page) (text : List ℕ) (table : List RowNumbers) → IsBounded page text table None
     → IsVerdict page text table None verdicts.Proved
 bounded_proved page text table is =
-    let few : length (bitmap_rows page.bitmap) ≤ 65535 = omega (arith, is.printed.count, height_small page.size page.dpi) in
-    (
+    let few : length (bitmap_rows page.bitmap) ≤ 65535 = omega (arith, is.printed.count, height_small page.size page.dpi) in (
       is.printed,
       is.rows_agree,
       tt,

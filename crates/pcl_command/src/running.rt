@@ -9,7 +9,9 @@ use crate::request::{Request, Task, Usage};
 use crate::verdicts::verdict_status;
 use pcl_base::Dpi;
 use pcl_cert::Format;
-use pcl_tool::{Fault, INPUT_LIMIT, JobVerdict, Watcher, filter_cert_watched, filter_watched, preview, read_all};
+use pcl_tool::{
+    Fault, INPUT_LIMIT, JobVerdict, Watcher, filter_cert_watched, filter_watched, preview, read_all,
+};
 use std::alloc::Global;
 use std::fs;
 use std::io::{Read, Write};

@@ -109,14 +109,7 @@ fn assert_filtered<C: Debug, R: Read>(
     mut cert: Held,
     wanted: &Filtered,
 ) {
-    let result = filter_cert(
-        alloc,
-        source,
-        Dpi::Dpi300,
-        Format::One,
-        &mut out,
-        &mut cert,
-    );
+    let result = filter_cert(alloc, source, Dpi::Dpi300, Format::One, &mut out, &mut cert);
     let certified = (
         cert.bytes.len(),
         cert.bytes.as_slice() == wanted.certificate,
