@@ -28,7 +28,6 @@ use pcl_base::Dpi;
 use pcl_cert::Format;
 use pcl_tool::{Fault, Output, check_job, minimize};
 use std::alloc::{AllocError, Global};
-use std::rt::Files;
 
 /// Lengths to which a certificate is cut.
 #[derive(Clone, Copy)]
@@ -195,9 +194,8 @@ impl CasesOfLines for Certificates {
         self.name.as_str()
     }
 
-    fn take_line<F: Files>(
+    fn take_line(
         &mut self,
-        _files: &F,
         alloc: Global,
         line: &str,
     ) -> Result<Option<Option<String>>, TableFault> {

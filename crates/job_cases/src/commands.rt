@@ -7,10 +7,10 @@
 //! more ESC*c1a1b0P                   more of it
 //! reader fails                       it can't be read, up to the next job
 //! writer fails                       standard output can't be written, up to the line `writer holds`
-//! file page.pcl ESCE                 a file with these bytes is made; the runs below find it
+//! file page.pcl ESCE                 a file with these bytes is made, in a folder in memory; the runs below find it
 //! remove page.pcl                    a file is removed
 //! case a page that isn't there       a case. What is wanted of it, in any order:
-//!   writes 48: ESCE                  how many bytes are written, and how they begin; none where it isn't said
+//!   writes 48: ESCE                  how many bytes are written and flushed, and how they begin; none where it isn't said
 //!   says pclmin: no page 2           the whole line on standard error; none where nothing is said
 //!   mentions --page <N>              in its place a part of the text of help or of a usage fault
 //!   tells 2 pages, 1 end             how many pages are told of, and how often the end; none where it isn't said
@@ -19,17 +19,16 @@
 //!   status 1                         the status; this ends the case
 //! ```
 
+use crate::folder::{Folder, Held};
 use crate::notation::bytes_of;
 use crate::table::{CasesOfLines, TableFault, number};
 use clap::Error;
 use pcl_command::Ending;
-use pcl_tool::{INPUT_LIMIT, Watcher, read_all};
+use pcl_tool::Watcher;
 use pcl_words::{exit_status, run};
 use std::alloc::{AllocError, Global};
 use std::cell::Cell;
-use std::fs;
 use std::io::{self, ErrorKind, Read, Write};
-use std::rt::Files;
 
 /// Standard input: the bytes that are left of it, or none where it can't be read.
 #[derive(Drop)]
@@ -46,19 +45,21 @@ impl Read for Given<'_> {
 
 /// Standard output: what was written to it, or none where it can't be written.
 #[derive(Drop)]
-struct Taken(Option<Vec<u8>>);
+struct Taken(Option<Held>);
 
 impl Write for Taken {
     fn write(&mut self, buf: &[u8]) -> io::Result<usize> {
         match &mut self.0 {
-            Some(bytes) => bytes.extend_from_slice(buf)?,
-            None => return Err(io::Error::from(ErrorKind::BrokenPipe)),
+            Some(held) => held.write(buf),
+            None => Err(io::Error::from(ErrorKind::BrokenPipe)),
         }
-        Ok(buf.len())
     }
 
     fn flush(&mut self) -> io::Result<()> {
-        Ok(())
+        match &mut self.0 {
+            Some(held) => held.flush(),
+            None => Err(io::Error::from(ErrorKind::BrokenPipe)),
+        }
     }
 }
 
@@ -110,6 +111,8 @@ impl Begin {
 /// What the lines of a table say up to one of them.
 #[derive(Drop)]
 pub struct Commands {
+    /// The files that are there.
+    folder: Folder,
     /// What standard input gives, where it can be read.
     job: Option<Vec<u8>>,
     /// Whether standard output can be written.
@@ -132,6 +135,7 @@ impl Commands {
     /// Before the first line.
     pub(crate) fn new(alloc: Global) -> Commands {
         Commands {
+            folder: Folder::new(alloc),
             job: None,
             is_held: true,
             name: String::new(alloc),
@@ -176,13 +180,7 @@ impl Commands {
     }
 
     /// Takes a line that holds for all cases below it.
-    fn set<F: Files>(
-        &mut self,
-        files: &F,
-        alloc: Global,
-        word: &str,
-        rest: &str,
-    ) -> Result<(), TableFault> {
+    fn set(&mut self, alloc: Global, word: &str, rest: &str) -> Result<(), TableFault> {
         match (word, rest) {
             ("job", _) => self.job = Some(bytes_of(alloc, rest)?),
             ("more", _) => {
@@ -195,38 +193,41 @@ impl Commands {
             ("writer", "holds") => self.is_held = true,
             ("file", _) => {
                 let (file, notation) = rest.split_once(' ').unwrap_or((rest, ""));
-                let bytes = bytes_of(alloc, notation)?;
-                fs::write(files, file, &bytes).map_err(|_| TableFault::File)?;
+                self.folder.put(file, bytes_of(alloc, notation)?)?;
             }
-            ("remove", _) => fs::remove_file(files, rest).map_err(|_| TableFault::File)?,
+            ("remove", _) => self.folder.remove(rest),
             _ => return self.want(alloc, word, rest),
         }
         Ok(())
     }
 
     /// What came in place of what is wanted; none where the case holds.
-    fn fault_of<F: Files>(
-        &self,
-        files: &F,
-        alloc: Global,
-        status: usize,
-    ) -> Result<Option<String>, TableFault> {
+    fn fault_of(&mut self, alloc: Global, status: usize) -> Result<Option<String>, TableFault> {
         let words = self.line.as_str().split(' ').collect::<Vec<&str>>(alloc)?;
         let mut given = Given(self.job.as_deref());
-        let mut taken = Taken(self.is_held.then_some(Vec::new(alloc)));
+        let mut taken = Taken(self.is_held.then_some(Held::new(alloc)));
         let told = Told {
             pages: Cell::new(0),
             times: Cell::new(0),
             ends: Cell::new(0),
         };
-        let ended = run(files, alloc, &words, &mut given, &mut taken, &told);
+        let ended = run(
+            &mut self.folder,
+            alloc,
+            &words,
+            &mut given,
+            &mut taken,
+            &told,
+        );
         let said = text_of(alloc, &ended)?;
-        let written = taken.0.as_deref().unwrap_or(&[]);
+        let held = taken.0.unwrap_or(Held::new(alloc));
+        let written = held.bytes();
         let is_right = usize::from(exit_status(&ended)) == status
             && self.written.is_of(written)
+            && held.is_flushed()
             && self.is_said(&said)
             && self.is_told(&told)
-            && self.is_made(files, alloc)?;
+            && self.is_made();
         if is_right {
             return Ok(None);
         }
@@ -259,14 +260,13 @@ impl Commands {
     }
 
     /// Whether the file that is wanted was made.
-    fn is_made<F: Files>(&self, files: &F, alloc: Global) -> Result<bool, TableFault> {
-        let Some((file, begin)) = &self.made else {
-            return Ok(true);
-        };
-        let mut file = fs::open(files, file.as_str()).map_err(|_| TableFault::File)?;
-        match read_all(alloc, &mut file, INPUT_LIMIT) {
-            Ok(bytes) => Ok(begin.is_of(&bytes)),
-            Err(_) => Err(TableFault::File),
+    fn is_made(&self) -> bool {
+        match &self.made {
+            Some((file, begin)) => match self.folder.bytes_of(file.as_str()) {
+                Some(bytes) => begin.is_of(bytes),
+                None => false,
+            },
+            None => true,
         }
     }
 }
@@ -276,9 +276,8 @@ impl CasesOfLines for Commands {
         self.name.as_str()
     }
 
-    fn take_line<F: Files>(
+    fn take_line(
         &mut self,
-        files: &F,
         alloc: Global,
         line: &str,
     ) -> Result<Option<Option<String>>, TableFault> {
@@ -286,8 +285,8 @@ impl CasesOfLines for Commands {
         match word {
             "" | "#" => {}
             "case" => self.begin_case(alloc, rest)?,
-            "status" => return Ok(Some(self.fault_of(files, alloc, number(rest)?)?)),
-            _ => self.set(files, alloc, word, rest)?,
+            "status" => return Ok(Some(self.fault_of(alloc, number(rest)?)?)),
+            _ => self.set(alloc, word, rest)?,
         }
         Ok(None)
     }

@@ -6,14 +6,15 @@
 //! It prints how many cases hold; `stdout` has how many there are. A case that doesn't is printed with its job and
 //! with what came instead, and the status is then 1. The tables lie in the folder that its argument names, or
 //! where it runs: the gate runs it in `data/`, and beside `src/` it is `rt run -- data`. `bench/reference.py`
-//! checks the tables of jobs without a line of this repository's code. The command lines make files where it runs, and
-//! remove them.
+//! checks the tables of jobs without a line of this repository's code. The command lines find and make files in a
+//! folder in memory.
 #![tactic(auto)]
 
 mod case;
 mod certificates;
 mod check;
 mod commands;
+mod folder;
 mod notation;
 mod shown;
 mod table;
@@ -117,7 +118,7 @@ fn check_lines<C: CasesOfLines + Drop>(
     let (mut count, mut wrong) = (0usize, 0usize);
     for words in text.lines() {
         line = line.saturating_add(1);
-        let taken = cases.take_line(rt, alloc, words.trim());
+        let taken = cases.take_line(alloc, words.trim());
         let ended = taken.map_err(|fault| RunFault::Table { name, line, fault })?;
         if let Some(came) = ended {
             count = count.saturating_add(1);

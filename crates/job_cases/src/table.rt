@@ -25,7 +25,6 @@ use crate::notation::{NotationFault, bracketed_bytes_of, bytes_of};
 use crate::shown::name_of;
 use pcl_base::{Dpi, Size};
 use std::alloc::{AllocError, AllocFailed, Global};
-use std::rt::Files;
 use thiserror::Error;
 
 /// The most bytes of a row, which an A4 page has at 600 dots per inch, rounded up.
@@ -44,8 +43,6 @@ pub enum TableFault {
     Number,
     #[error("a row is longer than a page is wide")]
     Row,
-    #[error("a file can't be made, read or removed")]
-    File,
     #[error(transparent)]
     Notation(NotationFault),
 }
@@ -74,9 +71,8 @@ pub(crate) trait CasesOfLines {
     fn name(&self) -> &str;
 
     /// Takes a line. Where it ends a case, what came, if it isn't what is expected.
-    fn take_line<F: Files>(
+    fn take_line(
         &mut self,
-        files: &F,
         alloc: Global,
         line: &str,
     ) -> Result<Option<Option<String>>, TableFault>;

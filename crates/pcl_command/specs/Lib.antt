@@ -1,4 +1,5 @@
 pub mod Messages
 pub mod Verdicts
+pub mod Files
 pub mod Checks
 pub mod Runs

@@ -9,10 +9,12 @@ use Rattle.pcl_tool.specs.Minimizing.{IsFiltered, IsFilteredCert, IsRead, input_
 use Rattle.pcl_tool.specs.Preview.{IsPreview}
 use Rattle.pcl_tool.specs.Transfer.{GivesAtMost}
 use Rattle.pcl_command.specs.Messages.{line_of, status_for}
+use Rattle.pcl_command.specs.Files.{FileAct, Made, Unmade, Closed}
 use Rattle.pcl_command.specs.Checks.{IsCheckRun, verdict_status_for}
 use Rattle.pcl_command.specs.declared.request.Task.{Task}
 use Rattle.pcl_command.specs.declared.request.Task.TheVariants.{Minimize, Certify, Preview}
 use Rattle.pcl_command.specs.declared.request.Usage.{Usage}
+use Rattle.pcl_command.specs.declared.request.CheckedFiles.{CheckedFiles}
 use Rattle.pcl_command.specs.declared.request.Request.{Request}
 use Rattle.pcl_command.specs.declared.request.Request.TheVariants.{Run, Check}
 use Rattle.pcl_command.specs.declared.running.Ending.{Ending}
@@ -32,25 +34,30 @@ IsPreviewRun dpi page given left old new (Err TooLong) =
     (bytes : List ℕ) × Consumes given left bytes × (length bytes ≡ input_limit + 1) × Keeps old new
 IsPreviewRun dpi page given left old new shown = (job : List ℕ) × IsRead given left job × IsPreview dpi job page old new shown
 
--- nothing was read and nothing written
-abbrev pub HasStayed : (given left old new : Option (List ℕ)) → Type 0
-HasStayed given left old new = (left ≡ given) × (new ≡ old)
+-- no file was made, nothing was read and nothing written
+abbrev pub HasStayed : {F : Type 0} → (files kept : F) → (given left old new : Option (List ℕ)) → Type 0
+HasStayed files kept given left old new = (kept ≡ files) × (left ≡ given) × (new ≡ old)
 
--- what a reader gave and a writer holds after the job that it gives was written with a certificate to a file, of which nothing is
--- claimed but by what a writer may say of itself; or the file can't be made, and then nothing was read or written
-abbrev pub IsCertifyRun : Dpi → Format → (given left old new : Option (List ℕ)) → Result (Unit {0}) Fault → Type 0
-IsCertifyRun dpi format given left old new done =
-    ((done ≡ Err WriteFault) × HasStayed given left old new)
-    ⊎ ((held holds : Option (List ℕ)) × IsFilteredCert dpi format given left old new held holds done)
+-- What a reader gave, a writer holds and a file of this name holds after the job was written with a certificate: the file is made
+-- before anything is read, gets the certificate, and is closed. Or it can't be made, and then nothing was read or written.
+abbrev pub IsCertifyRun : {F : Type 0} → (F → FileAct → F → Type 0) → List ℕ → Dpi → Format → (files kept : F)
+    → (given left old new : Option (List ℕ)) → Result (Unit {0}) Fault → Type 0
+IsCertifyRun {F} acts name dpi format files kept given left old new done =
+    (acts files (Unmade name) kept × (done ≡ Err WriteFault) × (left ≡ given) × (new ≡ old))
+    ⊎ ((made : F) × (held holds : Option (List ℕ)) × acts files (Made name held) made
+    × IsFilteredCert dpi format given left old new held holds done × acts made (Closed name holds) kept)
 
 -- what was asked for is done, or failed so
-abbrev pub HasDoneTask : Task → Dpi → (given left old new : Option (List ℕ)) → Result (Unit {0}) Fault → Type 0
-HasDoneTask Minimize dpi given left old new done = IsFiltered dpi given left old new done
-HasDoneTask (Certify file format) dpi given left old new done = IsCertifyRun dpi format given left old new done
-HasDoneTask (Preview page) dpi given left old new done = IsPreviewRun dpi page given left old new done
+abbrev pub HasDoneTask : {F : Type 0} → (F → FileAct → F → Type 0) → Task → Dpi → (files kept : F)
+    → (given left old new : Option (List ℕ)) → Result (Unit {0}) Fault → Type 0
+HasDoneTask acts Minimize dpi files kept given left old new done = (kept ≡ files) × IsFiltered dpi given left old new done
+HasDoneTask acts (Certify file format) dpi files kept given left old new done =
+    IsCertifyRun acts file.now dpi format files kept given left old new done
+HasDoneTask acts (Preview page) dpi files kept given left old new done = (kept ≡ files) × IsPreviewRun dpi page given left old new done
 
-abbrev pub HasDone : Usage → (given left old new : Option (List ℕ)) → Result (Unit {0}) Fault → Type 0
-HasDone usage given left old new done = HasDoneTask usage.task usage.dpi given left old new done
+abbrev pub HasDone : {F : Type 0} → (F → FileAct → F → Type 0) → Usage → (files kept : F) → (given left old new : Option (List ℕ))
+    → Result (Unit {0}) Fault → Type 0
+HasDone acts usage files kept given left old new done = HasDoneTask acts usage.task usage.dpi files kept given left old new done
 
 -- the end of a run that failed
 abbrev pub HasFailed : Fault → ℕ → Ending → Type 0
@@ -60,23 +67,27 @@ HasFailed fault page Done = ⊥
 HasFailed fault page (Checked verdict) = ⊥
 
 -- how a run ends, by what it read and wrote
-abbrev pub HasRun : Usage → (given left old new : Option (List ℕ)) → Ending → Type 0
-HasRun usage given left old new Done = HasDone usage given left old new (Ok tt)
-HasRun usage given left old new (Checked verdict) = ⊥
-HasRun usage given left old new failed =
-    (fault : Fault) × HasDone usage given left old new (Err fault) × HasFailed fault (page_of usage.task) failed
+abbrev pub HasRun : {F : Type 0} → (F → FileAct → F → Type 0) → Usage → (files kept : F) → (given left old new : Option (List ℕ))
+    → Ending → Type 0
+HasRun acts usage files kept given left old new Done = HasDone acts usage files kept given left old new (Ok tt)
+HasRun acts usage files kept given left old new (Checked verdict) = ⊥
+HasRun acts usage files kept given left old new failed =
+    (fault : Fault) × HasDone acts usage files kept given left old new (Err fault) × HasFailed fault (page_of usage.task) failed
 
--- how a check ends: nothing was read of the reader
-abbrev pub HasChecked : Dpi → (given left old new : Option (List ℕ)) → Ending → Type 0
-HasChecked dpi given left old new Done = ⊥
-HasChecked dpi given left old new (Checked verdict) = (left ≡ given) × IsCheckRun dpi old new (Ok verdict)
-HasChecked dpi given left old new failed =
-    (fault : Fault) × (left ≡ given) × IsCheckRun dpi old new (Err fault) × HasFailed fault 0 failed
+-- how a check ends: no file was made, and nothing was read of the reader
+abbrev pub HasChecked : {F : Type 0} → (F → FileAct → F → Type 0) → CheckedFiles → (files kept : F)
+    → (given left old new : Option (List ℕ)) → Ending → Type 0
+HasChecked acts asked files kept given left old new Done = ⊥
+HasChecked acts asked files kept given left old new (Checked verdict) =
+    (kept ≡ files) × (left ≡ given) × IsCheckRun acts files asked old new (Ok verdict)
+HasChecked acts asked files kept given left old new failed =
+    (fault : Fault) × (kept ≡ files) × (left ≡ given) × IsCheckRun acts files asked old new (Err fault) × HasFailed fault 0 failed
 
--- how what was asked for ends, by what it read and wrote
-abbrev pub HasEnded : Request → (given left old new : Option (List ℕ)) → Ending → Type 0
-HasEnded (Run usage) given left old new ending = HasRun usage given left old new ending
-HasEnded (Check asked) given left old new ending = HasChecked asked.dpi given left old new ending
+-- how what was asked for ends, by what it did with files, read and wrote
+abbrev pub HasEnded : {F : Type 0} → (F → FileAct → F → Type 0) → Request → (files kept : F) → (given left old new : Option (List ℕ))
+    → Ending → Type 0
+HasEnded acts (Run usage) files kept given left old new ending = HasRun acts usage files kept given left old new ending
+HasEnded acts (Check asked) files kept given left old new ending = HasChecked acts asked files kept given left old new ending
 
 -- the status of the program; 3 where memory ran out
 abbrev pub IsStatus : Ending → ℕ → Type 0

@@ -2,25 +2,24 @@
 
 ghost use Rattle.pcl_command.specs.Checks.{IsCheckRun, IsFileRead};
 
+use crate::files::JobFiles;
 use crate::request::CheckedFiles;
 use crate::verdicts::verdict_line;
 use pcl_tool::{Fault, INPUT_LIMIT, JobVerdict, Watcher, check_job_watched, read_all, write_bytes};
 use std::alloc::Global;
-use std::fs;
 use std::io::Write;
-use std::rt::Files;
 
 /// Reads the files, the input first, checks the job, and writes the line of the answer; the watcher is told of each page that is
 /// done, and that the last one is before the line is written. Nothing is written after any fault but of a write, and then a
 /// front of the line.
-pub fn check<F: Files, W: Write, P: Watcher>(
+pub fn check<F: JobFiles, W: Write, P: Watcher>(
     files: &F,
     alloc: Global,
     asked: CheckedFiles<'_>,
     out: &mut W,
     watcher: P,
 ) -> Result<JobVerdict, Fault>
-    ensures { IsCheckRun asked.entry.dpi (W.contents out.old) (W.contents out.new) result }
+    ensures { IsCheckRun F.acts files.now asked.entry (W.contents out.old) (W.contents out.new) result }
 {
     let input = read_file(files, alloc, asked.input)?;
     let output = read_file(files, alloc, asked.output)?;
@@ -34,11 +33,11 @@ pub fn check<F: Files, W: Write, P: Watcher>(
     }
 }
 
-/// The bytes of a file.
-fn read_file<F: Files>(files: &F, alloc: Global, name: &str) -> Result<Vec<u8>, Fault>
-    ensures { IsFileRead result }
+/// The bytes of the file of a name. ReadFault comes too where it can't be opened.
+fn read_file<F: JobFiles>(files: &F, alloc: Global, name: &str) -> Result<Vec<u8>, Fault>
+    ensures { IsFileRead F.acts files.now name.now result }
 {
-    match fs::open(files, name) {
+    match files.open(name) {
         Ok(mut file) => read_all(alloc, &mut file, INPUT_LIMIT),
         Err(_) => Err(Fault::ReadFault),
     }

@@ -2,10 +2,12 @@
 #![tactic(auto)]
 
 mod checks;
+mod files;
 mod messages;
 mod request;
 mod running;
 mod verdicts;
 
+pub use files::JobFiles;
 pub use request::{CheckedFiles, Request, Task, Usage, resolution};
 pub use running::{Ending, carry_out};

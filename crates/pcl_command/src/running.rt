@@ -4,6 +4,7 @@ ghost use Rattle.std.specs.Prelude.{◌≡◌, if◌then◌else◌, None, Some};
 ghost use Rattle.pcl_command.specs.Runs.{HasDone, HasEnded, HasFailed, IsCertifyRun, IsPreviewRun, IsStatus};
 
 use crate::checks::check;
+use crate::files::JobFiles;
 use crate::messages::{MEMORY_STATUS, fault_line, status_of};
 use crate::request::{Request, Task, Usage};
 use crate::verdicts::verdict_status;
@@ -13,9 +14,7 @@ use pcl_tool::{
     Fault, INPUT_LIMIT, JobVerdict, Watcher, filter_cert_watched, filter_watched, preview, read_all,
 };
 use std::alloc::Global;
-use std::fs;
 use std::io::{Read, Write};
-use std::rt::Files;
 
 /// How a run ended, and what is left to be printed.
 #[derive(Drop)]
@@ -46,15 +45,16 @@ impl Ending {
 
 /// Does what is asked for, a run with the job that a reader gives. The watcher is told of each page that is done, unless the
 /// request is a quiet one.
-pub fn carry_out<F: Files, R: Read, W: Write, P: Watcher>(
-    files: &F,
+pub fn carry_out<F: JobFiles, R: Read, W: Write, P: Watcher>(
+    files: &mut F,
     alloc: Global,
     request: Request<'_>,
     reader: &mut R,
     out: &mut W,
     watcher: P,
 ) -> Ending
-    ensures { HasEnded request.entry (R.remaining reader.old) (R.remaining reader.new) (W.contents out.old) (W.contents out.new) result }
+    ensures { HasEnded F.acts request.entry files.old files.new (R.remaining reader.old) (R.remaining reader.new)
+        (W.contents out.old) (W.contents out.new) result }
 {
     match request {
         Request::Run(usage) => {
@@ -82,15 +82,16 @@ fn told_of<P: Watcher>(quiet: bool, watcher: P) -> Option<P>
 }
 
 /// Does the task of a run with the job that a reader gives.
-fn do_task<F: Files, R: Read, W: Write, P: Watcher>(
-    files: &F,
+fn do_task<F: JobFiles, R: Read, W: Write, P: Watcher>(
+    files: &mut F,
     alloc: Global,
     usage: Usage<'_>,
     reader: &mut R,
     out: &mut W,
     watcher: P,
 ) -> Result<(), Fault>
-    ensures { HasDone usage.entry (R.remaining reader.old) (R.remaining reader.new) (W.contents out.old) (W.contents out.new) result }
+    ensures { HasDone F.acts usage.entry files.old files.new (R.remaining reader.old) (R.remaining reader.new)
+        (W.contents out.old) (W.contents out.new) result }
 {
     match usage.task {
         Task::Minimize => filter_watched(alloc, reader, usage.dpi, out, watcher),
@@ -101,23 +102,27 @@ fn do_task<F: Files, R: Read, W: Write, P: Watcher>(
     }
 }
 
-/// Writes the job that a reader gives again, and its certificate to the file of this name, which is made before anything is read.
-fn certify<F: Files, R: Read, W: Write, P: Watcher>(
-    files: &F,
+/// Writes the job that a reader gives again, and its certificate to the file of this name, which is made before anything is read,
+/// and closed at the end. WriteFault comes too where it can't be made.
+fn certify<F: JobFiles, R: Read, W: Write, P: Watcher>(
+    files: &mut F,
     alloc: Global,
-    file: &str,
+    name: &str,
     format: Format,
     dpi: Dpi,
     reader: &mut R,
     out: &mut W,
     watcher: P,
 ) -> Result<(), Fault>
-    ensures { IsCertifyRun dpi format (R.remaining reader.old) (R.remaining reader.new) (W.contents out.old) (W.contents out.new) result }
+    ensures { IsCertifyRun F.acts name.now dpi format files.old files.new (R.remaining reader.old) (R.remaining reader.new)
+        (W.contents out.old) (W.contents out.new) result }
 {
-    match fs::create(files, file) {
-        Ok(mut cert) => filter_cert_watched(alloc, reader, dpi, format, out, &mut cert, watcher),
-        Err(_) => Err(Fault::WriteFault),
-    }
+    let Ok(mut file) = files.make(name) else {
+        return Err(Fault::WriteFault);
+    };
+    let written = filter_cert_watched(alloc, reader, dpi, format, out, &mut file, watcher);
+    files.close(name, file);
+    written
 }
 
 /// Writes the image of a page of the job that a reader gives.

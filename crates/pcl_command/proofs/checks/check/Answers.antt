@@ -1,37 +1,132 @@
-use Rattle.std.proofs.Common.{◌≡◌, ◌∙◌, List, ℕ, [], Option, Err, sym, subst}
+use Rattle.std.proofs.Common.{◌≡◌, ◌∙◌, List, ℕ, [], Option, Result, Ok, Err, inl, inr, sym, subst}
+use Rattle.std.specs.Global.{Vec}
 use Rattle.std.proofs.lemmas.List.{append-nil}
 use Rattle.std.proofs.lemmas.Result.{err_from_is_err_and}
 use Rattle.std.specs.Io.KnownBytes.{Appends}
-use Rattle.std.proofs.KnownBytes.{Appends-kept}
+use Rattle.std.proofs.KnownBytes.{Appends-kept, Keeps-refl}
 use Rattle.pcl_base.specs.declared.dpi.Dpi.{Dpi}
 use Rattle.pcl_tool.specs.declared.fault.Fault.{Fault}
 use Rattle.pcl_tool.specs.declared.fault.Fault.TheVariants.{Refused, Memory, ReadFault, TooLong, WriteFault, NoSuchPage}
 use Rattle.pcl_tool.specs.declared.job_verdict.JobVerdict.{JobVerdict}
+use Rattle.pcl_tool.specs.JobVerdicts.{IsChecked}
 use Rattle.pcl_tool.specs.Transfer.{AppendsFront, IsWritten}
+use Rattle.pcl_command.specs.declared.request.CheckedFiles.{CheckedFiles}
+use Rattle.pcl_command.specs.Files.{FileAct}
 use Rattle.pcl_command.specs.Verdicts.{verdict_line_of}
-use Rattle.pcl_command.specs.Checks.{IsAnswer, IsCheckRun}
+use Rattle.pcl_command.specs.Checks.{AreRead, IsAnswer, IsCheckRun, IsFileRead, IsUnread}
 use Rattle.pcl_command.proofs.checks.check.Goals as goal
 
 -- a write of the line that fails
-stops : (dpi : Dpi) (old new : Option (List ℕ)) (verdict : JobVerdict) (line : List ℕ) (fault : Fault) → IsAnswer dpi verdict
-    → line ≡ verdict_line_of verdict → IsWritten old new line (Err fault) → IsCheckRun dpi old new (Err fault)
-stops dpi old new verdict line WriteFault a e w = (verdict, a, subst (AppendsFront old new) e w)
-stops dpi old new verdict line (Refused refusal) a e w = absurd w
-stops dpi old new verdict line Memory a e w = absurd w
-stops dpi old new verdict line ReadFault a e w = absurd w
-stops dpi old new verdict line TooLong a e w = absurd w
-stops dpi old new verdict line NoSuchPage a e w = absurd w
+stops : {F : Type 0} {acts : F → FileAct → F → Type 0} {files : F} {asked : CheckedFiles} (old new : Option (List ℕ))
+    (verdict : JobVerdict) (line : List ℕ) (fault : Fault) → IsAnswer acts files asked verdict
+    → line ≡ verdict_line_of verdict → IsWritten old new line (Err fault) → IsCheckRun acts files asked old new (Err fault)
+stops old new verdict line WriteFault a e w = (verdict, a, subst (AppendsFront old new) e w)
+stops old new verdict line (Refused refusal) a e w = absurd w
+stops old new verdict line Memory a e w = absurd w
+stops old new verdict line ReadFault a e w = absurd w
+stops old new verdict line TooLong a e w = absurd w
+stops old new verdict line NoSuchPage a e w = absurd w
+
+-- a read that can't come of a file
+abbrev IsFailedRead : Result (Vec ℕ) Fault → Type 0
+IsFailedRead (Err ReadFault) = Unit {0}
+IsFailedRead (Err (Refused refusal)) = ⊥
+IsFailedRead (Err Memory) = ⊥
+IsFailedRead (Err TooLong) = ⊥
+IsFailedRead (Err WriteFault) = ⊥
+IsFailedRead (Err NoSuchPage) = ⊥
+IsFailedRead (Ok bytes) = ⊥
+
+-- the first of the files that can't be read
+unread : {F : Type 0} (acts : F → FileAct → F → Type 0) {files : F} (asked : CheckedFiles) (name : List ℕ) (held : Option (List ℕ))
+    (fault : Fault) → IsFileRead acts files name (Err fault) → IsUnread acts files asked fault
+    → IsCheckRun acts files asked held held (Err fault)
+unread acts asked name held ReadFault r u = (u, Keeps-refl held)
+unread acts asked name held TooLong r u = (u, Keeps-refl held)
+unread acts asked name held Memory r u = Keeps-refl held
+unread acts asked name held (Refused refusal) (inl r) u = absurd (subst IsFailedRead (sym r.1) tt)
+unread acts asked name held (Refused refusal) (inr r) u = absurd r.3
+unread acts asked name held WriteFault (inl r) u = absurd (subst IsFailedRead (sym r.1) tt)
+unread acts asked name held WriteFault (inr r) u = absurd r.3
+unread acts asked name held NoSuchPage (inl r) u = absurd (subst IsFailedRead (sym r.1) tt)
+unread acts asked name held NoSuchPage (inr r) u = absurd r.3
+
+-- the same answer of the same bytes
+checked_of : (dpi : Dpi) (result : Result JobVerdict Fault) {i o k input output certificate : List ℕ} → i ≡ input → o ≡ output
+    → k ≡ certificate → IsChecked dpi i o k result → IsChecked dpi input output certificate result
+checked_of dpi result {o} {k} {input} {output} p q s h =
+    subst (λ (x : List ℕ). IsChecked dpi input output x result) s
+    (subst (λ (x : List ℕ). IsChecked dpi input x k result) q (subst (λ (x : List ℕ). IsChecked dpi x o k result) p h))
+
+-- the bytes of the three files
+read_of : {F : Type 0} {acts : F → FileAct → F → Type 0} {files : F} {asked : CheckedFiles} {input output certificate : Vec ℕ}
+    → IsFileRead acts files asked.input.now (Ok input) → IsFileRead acts files asked.output.now (Ok output)
+    → IsFileRead acts files asked.certificate.now (Ok certificate) → AreRead acts files asked input output certificate
+read_of i o k = record { input_is = i; output_is = o; certificate_is = k }
+
+-- the answer of the bytes that were read, whatever lent them to the checker
+answered : {F : Type 0} {acts : F → FileAct → F → Type 0} {files : F} (asked : CheckedFiles) (input output certificate : Vec ℕ)
+    (verdict : JobVerdict) {i o k : List ℕ} → AreRead acts files asked input output certificate → i ≡ input.items → o ≡ output.items
+    → k ≡ certificate.items → IsChecked asked.dpi i o k (Ok verdict) → IsAnswer acts files asked verdict
+answered asked input output certificate verdict a p q s h =
+    (input, output, certificate, a, checked_of asked.dpi (Ok verdict) p q s h)
+
+-- a job of the files that isn't performed
+unchecked : {F : Type 0} {acts : F → FileAct → F → Type 0} {files : F} {asked : CheckedFiles} (held : Option (List ℕ))
+    (input output certificate : Vec ℕ) (fault : Fault) → AreRead acts files asked input output certificate
+    → IsChecked asked.dpi input.items output.items certificate.items (Err fault) → IsCheckRun acts files asked held held (Err fault)
+unchecked held input output certificate (Refused refusal) a h = ((input, output, certificate, a, h), Keeps-refl held)
+unchecked held input output certificate Memory a h = Keeps-refl held
+unchecked held input output certificate ReadFault a h = absurd h
+unchecked held input output certificate TooLong a h = absurd h
+unchecked held input output certificate WriteFault a h = absurd h
+unchecked held input output certificate NoSuchPage a h = absurd h
+
+pub returns-in_err-input : goal.returns-in_err-input
+returns-in_err-input g c =
+    let p = err_from_is_err_and c.from_residual.result c.from_residual.ensures.1 in
+    rw (p.1, p.2)
+    (unread g.F.JobFiles.acts c.args.asked c.args.asked.input.now _ c.in_err-input.field-0.0 c.in_err-input.ensures
+    (inl c.in_err-input.ensures))
+
+pub returns-in_err-output : goal.returns-in_err-output
+returns-in_err-output g c =
+    let p = err_from_is_err_and c.from_residual-in_err-output.result c.from_residual-in_err-output.ensures.1 in
+    rw (p.1, p.2)
+    (unread g.F.JobFiles.acts c.args.asked c.args.asked.output.now _ c.in_err-output.field-0.0 c.in_err-output.ensures
+    (inr (inl (c.in_ok-input.input, c.in_ok-input.ensures, c.in_err-output.ensures))))
+
+pub returns-in_err-certificate : goal.returns-in_err-certificate
+returns-in_err-certificate g c =
+    let p = err_from_is_err_and c.from_residual-in_err-certificate.result c.from_residual-in_err-certificate.ensures.1 in
+    rw (p.1, p.2)
+    (unread g.F.JobFiles.acts c.args.asked c.args.asked.certificate.now _ c.in_err-certificate.field-0.0 c.in_err-certificate.ensures
+    (inr (inr (c.in_ok-input.input, c.in_ok-output.output, c.in_ok-input.ensures, c.in_ok-output.ensures, c.in_err-certificate.ensures))))
+
+pub returns-in_err-verdict : goal.returns-in_err-verdict
+returns-in_err-verdict g c =
+    let p = err_from_is_err_and c.from_residual-in_err-verdict.result c.from_residual-in_err-verdict.ensures.1 in
+    rw (p.1, p.2)
+    (unchecked _ c.in_ok-input.input c.in_ok-output.output c.in_ok-certificate.certificate c.in_err-verdict.field-0.0
+    (read_of c.in_ok-input.ensures c.in_ok-output.ensures c.in_ok-certificate.ensures)
+    (checked_of c.args.asked.dpi (Err c.in_err-verdict.field-0.0) c.deref.ensures.value c.deref-2.ensures.value c.deref-3.ensures.value
+    c.in_err-verdict.ensures))
 
 pub returns-in_err-write_bytes : goal.returns-in_err-write_bytes
 returns-in_err-write_bytes g c =
     let p = err_from_is_err_and c.from_residual-in_err-write_bytes.result c.from_residual-in_err-write_bytes.ensures.1 in
     rw (p.1, p.2)
-    (stops c.args.asked.dpi _ _ c.in_ok-verdict.verdict c.deref-4.result.now c.in_err-write_bytes.field-0.0
-    (_, _, _, c.in_ok-verdict.ensures) (c.deref-4.ensures.value ∙ c.in_ok-line.ensures) c.in_err-write_bytes.ensures)
+    (stops _ _ c.in_ok-verdict.verdict c.deref-4.result.now c.in_err-write_bytes.field-0.0
+    (answered c.args.asked _ _ _ c.in_ok-verdict.verdict
+    (read_of c.in_ok-input.ensures c.in_ok-output.ensures c.in_ok-certificate.ensures)
+    c.deref.ensures.value c.deref-2.ensures.value c.deref-3.ensures.value c.in_ok-verdict.ensures)
+    (c.deref-4.ensures.value ∙ c.in_ok-line.ensures) c.in_err-write_bytes.ensures)
 
 pub returns-in-Ok : goal.returns-in-Ok
 returns-in-Ok g c = (
-  (_, _, _, c.in_ok-verdict.ensures),
+  answered c.args.asked _ _ _ c.in_ok-verdict.verdict
+      (read_of c.in_ok-input.ensures c.in_ok-output.ensures c.in_ok-certificate.ensures)
+      c.deref.ensures.value c.deref-2.ensures.value c.deref-3.ensures.value c.in_ok-verdict.ensures,
   Appends-kept _ _ _ (verdict_line_of c.in_ok-verdict.verdict)
       (subst (Appends (g.W.Write.contents c.args.out.now) (g.W.Write.contents c.write_bytes.new.out))
       (c.deref-4.ensures.value ∙ c.in_ok-line.ensures) c.in_ok-write_bytes.ensures) c.in-Ok.ensures.bytes,
@@ -40,7 +135,9 @@ returns-in-Ok g c = (
 pub returns : goal.returns
 returns g c = (
   c.in_ok-verdict.verdict,
-  (_, _, _, c.in_ok-verdict.ensures),
+  answered c.args.asked _ _ _ c.in_ok-verdict.verdict
+      (read_of c.in_ok-input.ensures c.in_ok-output.ensures c.in_ok-certificate.ensures)
+      c.deref.ensures.value c.deref-2.ensures.value c.deref-3.ensures.value c.in_ok-verdict.ensures,
   (
     verdict_line_of c.in_ok-verdict.verdict,
     [],

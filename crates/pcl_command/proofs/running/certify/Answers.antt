@@ -1,5 +1,5 @@
 use Rattle.std.proofs.Common.{inr}
 use Rattle.pcl_command.proofs.running.certify.Goals as goal
 
-pub returns-in-Ok : goal.returns-in-Ok
-returns-in-Ok g c = inr (_, _, c.filter_cert_watched.ensures)
+pub returns : goal.returns
+returns g c = inr (_, _, _, c.in-Ok.ensures.made, c.filter_cert_watched-written.ensures, c.close.ensures)

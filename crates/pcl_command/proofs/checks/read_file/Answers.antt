@@ -1,0 +1,5 @@
+use Rattle.std.proofs.Common.{inr}
+use Rattle.pcl_command.proofs.checks.read_file.Goals as goal
+
+pub returns-in-Ok : goal.returns-in-Ok
+returns-in-Ok g c = inr (_, _, c.in-Ok.ensures.opened, c.read_all.ensures)

@@ -1,0 +1,8 @@
+//! The process of `pclmin`: its words, its standard streams, the files of the system, its line and its status.
+#![tactic(auto)]
+
+mod files;
+mod progress;
+mod running;
+
+pub use running::run_process;

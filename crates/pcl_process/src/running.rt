@@ -1,0 +1,66 @@
+//! A run of the process.
+
+use crate::files::SystemFiles;
+use crate::progress::Progress;
+use clap::Error;
+use pcl_command::Ending;
+use pcl_words::{USAGE_STATUS, exit_status, run};
+use std::alloc::AllocError;
+use std::env;
+use std::io::{self, ErrorKind};
+use std::process::ExitCode;
+
+/// The status where help or the version can't be written.
+const WRITE_STATUS: u8 = 3;
+
+/// Does what the words of the command line ask for with the files of the system, standard input and standard output, prints on
+/// standard error what is to be said of it, and answers the status.
+pub fn run_process(rt: &HostRuntime) -> ExitCode {
+    let ended = match arguments(rt) {
+        Ok(Some(words)) => run(
+            &mut SystemFiles::new(rt),
+            rt.alloc(),
+            &words,
+            &mut rt.reader(),
+            &mut io::writer(rt),
+            Progress::new(rt),
+        ),
+        Ok(None) => {
+            let _ = rt.eprint("pclmin: the arguments aren't text\n");
+            return ExitCode::from(USAGE_STATUS);
+        }
+        Err(AllocError) => Ok(Ending::NoMemory),
+    };
+    ExitCode::from(end(rt, &ended))
+}
+
+/// The words of the command line, the program's name first; none where one of them isn't text.
+fn arguments(rt: &HostRuntime) -> Result<Option<Vec<String>>, AllocError> {
+    match env::args(rt) {
+        Ok(words) => Ok(Some(words.collect(rt.alloc())?)),
+        Err(error) if error.kind() == ErrorKind::OutOfMemory => Err(AllocError),
+        Err(_) => Ok(None),
+    }
+}
+
+/// Prints what is left to be printed, and answers the status. What standard error doesn't take is lost.
+fn end(rt: &(impl Print + Eprint), ended: &Result<Ending, Error>) -> u8 {
+    match ended {
+        Ok(Ending::Done | Ending::Checked(_)) => {}
+        Ok(Ending::Failed { line, .. }) => {
+            if let Ok(text) = std::str::from_utf8(line) {
+                let _ = rt.eprint(text);
+            }
+        }
+        Ok(Ending::NoMemory) => {
+            let _ = rt.eprint("pclmin: out of memory\n");
+        }
+        Err(error) => {
+            if error.print(rt).is_err() && !error.use_stderr() {
+                let _ = rt.eprint("pclmin: cannot write\n");
+                return WRITE_STATUS;
+            }
+        }
+    }
+    exit_status(ended)
+}
