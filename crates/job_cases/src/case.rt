@@ -44,7 +44,7 @@ pub struct Pages {
 pub struct Rows {
     /// The first row.
     pub first: u32,
-    /// The last row, or one behind it.
+    /// The last row, or one after it.
     pub last: u32,
     /// From one to the next.
     pub step: u32,
@@ -93,7 +93,7 @@ impl Rows {
     }
 }
 
-/// Whether a row begins with some bytes and is white behind them.
+/// Whether a row begins with some bytes and is white after them.
 fn is_row(row: &[u8], bytes: &[u8]) -> bool {
     row.strip_prefix(bytes)
         .is_some_and(|behind| behind.iter().all(|byte| *byte == 0))

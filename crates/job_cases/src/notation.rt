@@ -137,7 +137,7 @@ impl<'a> Reader<'a> {
         }
     }
 
-    /// Begins a repetition of what stands behind its count.
+    /// Begins a repetition of what stands after its count.
     fn begin(&mut self, times: usize, behind: &'a [u8]) -> Result<(), NotationFault> {
         let (repeated, rest) = match behind.split_first() {
             Some((b'<', inside)) => (Repeated::Angles, inside),
@@ -210,7 +210,7 @@ impl<'a> Reader<'a> {
     }
 }
 
-/// The count of a repetition that begins here, and what stands behind its star.
+/// The count of a repetition that begins here, and what stands after its star.
 fn repetition_at(rest: &[u8], in_brackets: bool) -> Option<(usize, &[u8])> {
     let digits = rest.iter().take_while(|byte| byte.is_ascii_digit()).count();
     let (count, behind) = rest.split_at_checked(digits)?;

@@ -8,7 +8,7 @@
 //!   job ESC&l0E ESC*p0x0Y            the job, in the notation that `notation` tells;
 //!   job ESC*c1a1b0P                  several such lines are one job
 //!   page A4, 3 copies                a page that is expected, and then its rows; without copies one
-//!     0: FF 0F                       row 0 begins with these bytes, as in brackets, and is white behind them
+//!     0: FF 0F                       row 0 begins with these bytes, as in brackets, and is white after them
 //!     1-4: 300*FF                    rows 1 to 4 are so
 //!     5-99 by 2: @31 FF @286 FF      rows 5, 7, 9 to 99: byte 31, byte 286; those between are white
 //!     100: dots 240 300-303          row 100 has these dots

@@ -86,7 +86,7 @@ white_bit byte m k t in_byte small h =
     ∙ ap (λ u. bit_of_byte byte k && u) (bit_of_byte-not in_byte small)
     ∙ and_is_white (bit_of_byte byte k) (bit_of_byte m k) ∙ ap (λ u. if u then false else bit_of_byte byte k) h
 
--- a run and the run behind it
+-- a run and the run after it
 pub runs_joined :
     (from m end k : ℕ) (b d0 d1 d2 : Bool)
     → from ≤ m → m ≤ end

@@ -19,7 +19,7 @@ pub struct Window {
     pub y: usize,
 }
 
-/// Where on a page an edge at `place` stands, and how many dots behind it lie before the page.
+/// Where on a page an edge at `place` stands, and how many dots after it lie before the page.
 pub fn start_and_skip(place: i32) -> (usize, usize)
     ensures dots { (p : ℕ) → dots_past place p ≡ (if nat_le result.0 p then Some (p + result.1 - result.0) else None) }
     ensures small { (result.0 ≤ 2 ^ 31) × (result.1 ≤ 2 ^ 31) }

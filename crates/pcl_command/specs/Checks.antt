@@ -47,7 +47,7 @@ abbrev pub IsRefused : {F : Type 0} → (F → FileAct → F → Type 0) → F �
 IsRefused acts files asked refusal =
     (input output certificate : Vec ℕ) × AreRead acts files asked input output certificate × IsRefusal asked.dpi input.items refusal
 
--- the line of an answer is written; nothing where a fault came before, and a front of the line where its write failed
+-- the line of an answer is written; nothing where a fault came before, and a prefix of the line where its write failed
 abbrev pub IsCheckRun : {F : Type 0} → (F → FileAct → F → Type 0) → F → CheckedFiles → (old new : Option (List ℕ))
     → Result JobVerdict Fault → Type 0
 IsCheckRun acts files asked old new (Ok verdict) = IsAnswer acts files asked verdict × Appends old new (verdict_line_of verdict)

@@ -43,7 +43,7 @@ impl Ending {
     }
 }
 
-/// Does what is asked for, a run with the job that a reader gives. The watcher is told of each page that is done, unless the
+/// Does what is asked for, a run with the job that a reader gives. The watcher is called for each page that is done, unless the
 /// request is a quiet one.
 pub fn carry_out<F: JobFiles, R: Read, W: Write, P: Watcher>(
     files: &mut F,

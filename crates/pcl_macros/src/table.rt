@@ -28,7 +28,7 @@ pub enum MacroControl {
 pub struct Body {
     /// The place of the first command.
     pub from: usize,
-    /// The place behind the last command.
+    /// The place after the last command.
     pub to: usize,
     pub is_permanent: bool,
 }

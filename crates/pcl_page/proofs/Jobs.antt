@@ -42,7 +42,7 @@ rest_grows : (dpi : Dpi) (end : ℕ) (all : List Said) (place : ℕ) (commands :
 rest_grows dpi end all place commands = λ s.
     then_grows (after_all dpi all place commands s) s (after_end dpi end) (all_grow dpi all place commands s) (end_grows dpi end)
 
--- the next command, and the rest behind it
+-- the next command, and the rest after it
 abbrev next_step : Dpi → List Said → ℕ → Said → Situation → Performance
 next_step dpi all place command s = step dpi (runs macro_limit dpi all) place command s
 

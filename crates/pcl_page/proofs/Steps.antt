@@ -157,7 +157,7 @@ stays_sink : {S : Type 0} (takes : S → Page → S → Type 0) (dpi : Dpi) (don
 stays_sink takes dpi done s sink later e h =
     subst (λ (more : List Sheet). Hands takes dpi more sink later) (no_more s.pages h.0 (sym (stays_pages done s e) ∙ h.1)) h.2
 
--- the pages of a turn, behind those from before the command
+-- the pages of a turn, after those from before the command
 handed_on : {S : Type 0} (takes : S → Page → S → Type 0) (dpi : Dpi) (operation : Operation) (command : Said) (s now : Situation)
     (sink later : S)
     → HandsMore takes dpi (prepared dpi operation (counted s)) now sink later
@@ -218,7 +218,7 @@ drawn_accepted takes dpi operation command s now old sink later a g e =
     ∙ ap refusal_after (drawn_after takes dpi operation command s now sink later g e)
     ∙ drawn_fits dpi operation command now ∙ g.fits
 
--- memory ran out behind the turn
+-- memory ran out after the turn
 gone_short : {S : Type 0} (takes : S → Page → S → Type 0) (dpi : Dpi) (operation : Operation) (command : Said) (s now : Situation)
     (old new : Performer) (sink later : S) (why : Option Kind)
     → AtTurn dpi operation command s old → IsGone takes dpi operation command s now sink later
@@ -304,7 +304,7 @@ tried_refused takes dpi operation command s old new sink later (Refused kind) a 
 tried_refused takes dpi operation command s old new sink later Memory a t =
     turn_short takes dpi operation command s old new sink later _ a refl t
 
--- the performer is at the situation behind the turn
+-- the performer is at the situation after the turn
 pub record Gone {S : Type 0} (takes : S → Page → S → Type 0) (dpi : Dpi) (operation : Operation) (command : Said) (s : Situation)
     (middle : Performer) (sink later : S) : Type 0 where
   pub turned_to : Situation

@@ -300,7 +300,7 @@ begun_grow dpi all place command running = λ s.
     (step_grows dpi (runs (macro_limit - length running) dpi all) place
     (runs_grow (macro_limit - length running) dpi all command) s) (resumed_grow macro_limit dpi all running)
 
--- behind a command that isn't refused
+-- after a command that isn't refused
 pub begun_after : (dpi : Dpi) (all : List Said) (place : ℕ) (command : Said) (running : List Running) (s : Situation) {later : Situation}
     → after_command dpi place command s ≡ Ok later → Onward later (begun_among dpi all place command running s).situation
 begun_after dpi all place command running s {later} e =

@@ -62,7 +62,7 @@ keeping_of other value = Kept
 abbrev pub with_macro_event : MacroEvent → Situation → Situation
 with_macro_event event s = record s { macros = event ∷ s.macros }
 
--- a definition of the macro whose ID is set begins behind this place
+-- a definition of the macro whose ID is set begins after this place
 abbrev pub definition_begun : ℕ → Situation → Situation
 definition_begun place s = record s { begun = Some (record { id = s.settings.macro_id; from = place + 1 }) }
 
@@ -118,7 +118,7 @@ after_command dpi place command s =
 
 -- ---- macros that run
 
--- a macro that runs: the place of its next command, the place behind its last one, and what is set again at its end, where it
+-- a macro that runs: the place of its next command, the place after its last one, and what is set again at its end, where it
 -- was called
 pub record Run : Type 0 where
   pub next : ℕ

@@ -24,7 +24,7 @@ pub record Raster : Type 0 where
   pub rows : ℕ
   pub seed : List ℕ
 
--- ---- the begin
+-- ---- the start
 
 -- a resolution finer than the page's isn't taken, so this is a whole number from 1 on
 abbrev pub scale_of : Dpi → ℕ → ℕ

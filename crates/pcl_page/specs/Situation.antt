@@ -218,7 +218,7 @@ unfoldable pub after : Dpi → Operation → Said → Situation → Result Situa
 after dpi operation command s =
     if is_ignored operation s then Ok (counted s) else taken dpi operation command (prepared dpi operation (counted s))
 
--- the end of the input acts as a reset that counts nothing; no macro runs behind it
+-- the end of the input acts as a reset that counts nothing; no macro runs after it
 abbrev pub at_end : Dpi → Situation → Situation
 at_end dpi s = without_temporary (turned defaults EjectMarked (end_raster dpi s))
 

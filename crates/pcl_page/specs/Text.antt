@@ -87,10 +87,10 @@ abbrev pub is_proportional : Option Font → Bool
 is_proportional None = false
 is_proportional (Some font) = font.proportional
 
--- the cursor behind a character
+-- the cursor after a character
 abbrev pub behind_character : Bool → Character → Settings → Settings
 behind_character proportional c s = advance (if proportional then c.delta *ℤ pos 6 else pos s.hmi) s
 
--- the cursor behind a code that prints no character
+-- the cursor after a code that prints no character
 abbrev pub behind_blank : ℕ → Settings → Settings
 behind_blank code s = if code == 32 then advance (pos s.hmi) s else s

@@ -17,7 +17,7 @@ use std::alloc::{AllocError, Global};
 pub struct Running {
     /// The place of its next command in the list of commands.
     pub next: usize,
-    /// The place behind its last command.
+    /// The place after its last command.
     pub end: usize,
     /// What is set again at its end, where it was called.
     pub saved: Option<Saved>,
@@ -49,7 +49,7 @@ impl<'a> Interpreter<'a> {
     ghost use Rattle.pcl_page.specs.inner.Reflecting.{EndDone};
     ghost use Rattle.pcl_page.specs.inner.Unfolding.{IsAt, IsSomewhere, resumed, begun_among, work_left, GoesOn, IsStepped, IsActed, IsEntered, InterpreterEnds};
 
-    /// The begin of a job.
+    /// The start of a job.
     pub fn new(alloc: Global, dpi: Dpi) -> Result<Interpreter<'a>, AllocError>
         ensures { IfOk result (λ interpreter. IsAt dpi at_begin interpreter × (interpreter.running.items ≡ [])) }
     {
@@ -60,7 +60,7 @@ impl<'a> Interpreter<'a> {
         })
     }
 
-    /// Performs the commands of a job of `end` bytes from its begin to its end.
+    /// Performs the commands of a job of `end` bytes from its start to its end.
     pub fn perform_all<S: PageSink>(
         &mut self,
         commands: &[Command<'a>],
@@ -141,7 +141,7 @@ impl<'a> Interpreter<'a> {
         }
     }
 
-    /// Performs the command at a place, up to the begin of a macro that it runs.
+    /// Performs the command at a place, up to the start of a macro that it runs.
     fn perform_at<S: PageSink>(
         &mut self,
         command: &Command<'a>,
@@ -271,7 +271,7 @@ impl<'a> Interpreter<'a> {
         }
     }
 
-    /// Does what the end of the input does, `end` bytes from its begin.
+    /// Does what the end of the input does, `end` bytes from its start.
     fn finish<S: PageSink>(&mut self, end: usize, sink: &mut S) -> Result<(), JobFault>
         ensures { (dpi : Dpi) (s : Situation) → IsAt dpi s self.old → InterpreterEnds S.takes dpi end s result sink.old sink.new }
     {

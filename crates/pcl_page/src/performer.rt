@@ -52,7 +52,7 @@ impl<'a> Performer<'a> {
     ghost use Rattle.pcl_page.specs.declared.page.Page.{Page};
     ghost use Rattle.pcl_page.specs.inner.Reflecting.{IsIn, IsPrepared, HasRaster, Takes, IsFollowed, IsEjected, IsDrawn, Draws, IsSent, IsTurned, IsTried, EndDone};
 
-    /// The begin of a job: a white page, and the defaults.
+    /// The start of a job: a white page, and the defaults.
     pub fn new(alloc: Global, dpi: Dpi) -> Result<Performer<'a>, AllocError>
         ensures { IfOk result (λ performer. IsIn dpi at_begin performer) }
     {
@@ -273,7 +273,7 @@ impl<'a> Performer<'a> {
         Ok(())
     }
 
-    /// Does what the end of the input does, `end` bytes from its begin: it acts as a reset.
+    /// Does what the end of the input does, `end` bytes from its start: it acts as a reset.
     pub fn finish<S: PageSink>(&mut self, end: usize, sink: &mut S) -> Result<(), JobFault>
         ensures { (dpi : Dpi) (s : Situation) → IsIn dpi s self.old → EndDone S.takes dpi end s result sink.old sink.new }
     {

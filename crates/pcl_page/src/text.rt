@@ -91,7 +91,7 @@ impl<'a> Performer<'a> {
         self.is_marked = true;
     }
 
-    /// Moves on behind a character.
+    /// Moves on after a character.
     fn pass_glyph(&mut self, glyph: &Glyph<'a>, proportional: bool)
         ensures { HasSettings (behind_character proportional (character_in glyph.now) self.old.environment) self.old self.new }
     {

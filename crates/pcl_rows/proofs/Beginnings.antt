@@ -16,7 +16,7 @@ Begins-cons [] front byte h e b = absurd (omega arith)
 Begins-cons (x ∷ bytes) front byte h e b =
     (b.0, ap (λ (y : ℕ). y ∷ (take (length front) bytes ++ b.0)) (sym e) ∙ ap (λ (xs : List ℕ). byte ∷ xs) b.1)
 
--- data that begins with these bytes goes on behind them
+-- data that begins with these bytes goes on after them
 pub Begins-whole : (bytes front : List ℕ) → length front ≤ length bytes → Begins bytes front → bytes ≡ front ++ drop (length front) bytes
 Begins-whole bytes front long b =
     let none : b.0 ≡ [] = nil_from_length b.0

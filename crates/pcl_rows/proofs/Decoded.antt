@@ -105,7 +105,7 @@ whole_front (Far count full last) new more r n =
 
 -- ---- the front of data that a cut element ends
 
--- what a front makes of a row where no data stands behind it
+-- what a front makes of a row where no data stands after it
 abbrev last_of : Front → List ℕ → List ℕ
 last_of front old = take front.offset old ++ (front.given ++ drop (front.offset + length front.given) old)
 
@@ -136,7 +136,7 @@ ends_none {head} {byte} {rest} {front} n g d = record {
   same = λ old. last_none front g ∙ sym (after_none head old d);
 }
 
--- a front that gives new bytes once, behind the head's offset
+-- a front that gives new bytes once, after the head's offset
 ends_once : {head : Head} {byte : ℕ} {rest new : List ℕ} {front : Front} → copies_of head ≡ 1
     → front ≡ record { offset = offset_of head; given = new; rest = [] }
     → drop (length (head_bytes head)) (byte ∷ rest) ≡ new → EndsAs head byte rest front
@@ -287,7 +287,7 @@ treated_first (suc n) method byte rest old {front} e some =
     ap (λ (k : ℕ). take front.offset old ++ (front.given ++ treated_by k method front.rest (drop (front.offset + length front.given) old)))
     less)
 
--- behind an element are fewer bytes
+-- after an element are fewer bytes
 behind_shorter : {e : Element} (more : List ℕ) {bytes : List ℕ} {method : Method} → IsElement method e → bytes ≡ element_bytes e ++ more
     → length more < length bytes
 behind_shorter {e} more {method} is joined =

@@ -28,7 +28,7 @@ packed_row = refl
 packed_spelling : element_bytes (element (Literal 1) (7 ∷ 8 ∷ [])) ≡ 1 ∷ 7 ∷ 8 ∷ []
 packed_spelling = refl
 
--- 21 07 08 00 09: two bytes behind an offset of 1, and one right behind them
+-- 21 07 08 00 09: two bytes after an offset of 1, and one right after them
 delta_row : made_by (element (Near 1 1) (7 ∷ 8 ∷ []) ∷ element (Near 0 0) (9 ∷ []) ∷ []) (1 ∷ 2 ∷ 3 ∷ 4 ∷ 5 ∷ []) ≡ 1 ∷ 7 ∷ 8 ∷ 9 ∷ 5 ∷ []
 delta_row = refl
 

@@ -73,7 +73,7 @@ overlaid_copies old {place} copies {fitting} byte within e =
 pub copied_once : {copies : ℕ} (bytes : List ℕ) → copies ≡ 1 → flat_map (λ byte. replicate copies byte) bytes ≡ bytes
 copied_once bytes once = ap (λ (k : ℕ). flat_map (λ byte. replicate k byte) bytes) once ∙ once_each bytes
 
--- what lies behind the new bytes
+-- what lies after the new bytes
 pub drop-overlaid : (old : List ℕ) {place : ℕ} (new : List ℕ) → place ≤ length old
     → drop (min (length old) (place + length new)) (overlaid old place new) ≡ drop (place + length new) old
 drop-overlaid old {place} new within =

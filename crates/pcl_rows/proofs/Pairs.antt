@@ -61,7 +61,7 @@ pair_more {bytes} {old} row {pair} {place} {count} size within lt small count-is
     (omega (arith, place-is, ap length (append-nil run), length-replicate (count + 1) byte))
     (subst (λ (rest : List ℕ). IsTreatedTo Runs bytes old rest row place) two so_far)
 
--- what is left behind all pairs
+-- what is left after all pairs
 rest_all : {bytes old : List ℕ} (rest : List ℕ) {row : List ℕ} {place : ℕ} → length rest ≤ 1 → (0 < length rest → slice_index rest 0 < 256)
     → length row ≡ length old → place ≤ length row → IsTreatedTo Runs bytes old rest row place → RowFrom Runs bytes old row
 rest_all [] {row} {place} few small size within so_far = treated_all place size so_far

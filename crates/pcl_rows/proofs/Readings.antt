@@ -115,7 +115,7 @@ Fills-parts method bytes h new rest old row false is front f =
     let same : row ≡ behind = Fills-nothing method behind row (subst (λ (bs : List ℕ). Fills method bs behind row) front.rest_is f) in
     subst (λ (bs : List ℕ). Fills method bytes old (with_front h new old bs)) (sym same) (Fills-cut method bytes h new rest old is front)
 
--- bytes that stand for themselves lie over the row from its begin on
+-- bytes that stand for themselves lie over the row from its start on
 pub Fills-plain : (bytes old : List ℕ) → Fills Plain bytes old (bytes ++ drop (length bytes) old)
 Fills-plain [] old = Fills-none Plain old
 Fills-plain (byte ∷ bytes) old =

@@ -4,7 +4,7 @@ use Rattle.pcl_base.specs.declared.method.Method.{Method}
 use Rattle.pcl_base.specs.declared.method.Method.TheVariants.{Plain, Runs, Packed, Delta}
 use Rattle.pcl_rows.specs.Rows.{base}
 
--- the element at the front of data: how many bytes of the row stay, what it gives, and the data behind it
+-- the element at the front of data: how many bytes of the row stay, what it gives, and the data after it
 pub record Front : Type 0 where
   pub offset : ℕ
   pub given : List ℕ
@@ -15,7 +15,7 @@ abbrev pub repeated : ℕ → List ℕ → Front
 repeated copies [] = record { offset = 0; given = []; rest = [] }
 repeated copies (byte ∷ bytes) = record { offset = 0; given = replicate copies byte; rest = bytes }
 
--- bytes that stand for themselves, behind an offset
+-- bytes that stand for themselves, after an offset
 abbrev pub literal : ℕ → ℕ → List ℕ → Front
 literal offset count bytes = record { offset = offset; given = take count bytes; rest = drop count bytes }
 

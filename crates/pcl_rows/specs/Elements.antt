@@ -4,7 +4,7 @@ use Rattle.std.specs.List.{AllByRecursion}
 use Rattle.pcl_base.specs.declared.method.Method.{Method}
 use Rattle.pcl_rows.specs.Heads.{Head, method_of, IsInRange, head_bytes, new_count, copies_of, offset_of}
 
--- a head and the new bytes behind it
+-- a head and the new bytes after it
 pub record Element : Type 0 where
   pub head : Head
   pub bytes : List ℕ
@@ -23,7 +23,7 @@ pub record IsElement (method : Method) (e : Element) : Type 0 where
 abbrev pub element_bytes : Element → List ℕ
 element_bytes e = head_bytes e.head ++ e.bytes
 
--- what new bytes behind a head give: each of them as often as the head says
+-- what new bytes after a head give: each of them as often as the head says
 abbrev pub given_by : Head → List ℕ → List ℕ
 given_by head new = flat_map (λ byte. replicate (copies_of head) byte) new
 

@@ -44,7 +44,7 @@ head_bytes (Repeat control) = control ∷ []
 head_bytes (Near more offset) = (32 * more + offset) ∷ []
 head_bytes (Far more full last) = (32 * more + 31) ∷ (replicate full 255 ++ last ∷ [])
 
--- how many new bytes stand behind it
+-- how many new bytes stand after it
 abbrev pub new_count : Head → ℕ
 new_count Itself = 1
 new_count (Count count) = 1

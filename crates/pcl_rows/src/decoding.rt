@@ -63,7 +63,7 @@ fn treat(method: Method, bytes: &[u8], row: &mut [u8])
     }
 }
 
-/// The data behind the elements at its begin that give nothing, which method 2 alone has.
+/// The data after the elements at its start that give nothing, which method 2 alone has.
 #[inline(always)]
 fn past_skipped(method: Method, bytes: &[u8]) -> &[u8]
     ensures { IsPastSkipped method bytes.now result.now }
@@ -74,7 +74,7 @@ fn past_skipped(method: Method, bytes: &[u8]) -> &[u8]
     }
 }
 
-/// How many controls that give nothing stand at the begin of the data.
+/// How many controls that give nothing stand at the start of the data.
 fn skipped_count(bytes: &[u8]) -> usize
     ensures within { result ≤ length bytes.now }
     ensures skipped { take result bytes.now ≡ replicate result 128 }

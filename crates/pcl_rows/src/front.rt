@@ -15,7 +15,7 @@ pub struct Front<'a> {
     pub copies: usize,
     /// The new bytes that stand in it.
     pub bytes: &'a [u8],
-    /// The data behind it.
+    /// The data after it.
     pub rest: &'a [u8],
     /// Whether it has all its bytes.
     pub is_whole: bool,

@@ -13,7 +13,7 @@ pub struct Opening {
     pub len: usize,
     /// How many bytes of the row stay before the given ones. Many bytes 255 say more than a `usize` holds.
     pub offset: u128,
-    /// How many new bytes stand behind it.
+    /// How many new bytes stand after it.
     pub new_count: usize,
     /// How often each new byte is given.
     pub copies: usize,

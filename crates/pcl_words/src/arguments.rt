@@ -53,7 +53,7 @@ fn checked_files<'w>(check: &ArgMatches<'w>) -> Option<CheckedFiles<'w>> {
     })
 }
 
-/// What the words behind `min` ask for.
+/// What the words after `min` ask for.
 fn min_task<'w>(min: &ArgMatches<'w>) -> Task<'w> {
     let format = match min.get_one::<u16>("format") {
         Some(2) => Format::Two,
@@ -65,7 +65,7 @@ fn min_task<'w>(min: &ArgMatches<'w>) -> Task<'w> {
     }
 }
 
-/// What the words behind `pbm` ask for.
+/// What the words after `pbm` ask for.
 fn preview_task<'w>(pbm: &ArgMatches<'w>) -> Option<Task<'w>> {
     Some(Task::Preview {
         page: pbm.get_one::<usize>("page")?,

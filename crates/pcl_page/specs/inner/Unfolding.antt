@@ -92,7 +92,7 @@ GoesOn {S} takes dpi all whole s (Err (job.Refused why)) new old_sink new_sink =
     (whole.refusal ≡ Some why) × HandsMore takes dpi s whole.situation old_sink new_sink
 GoesOn {S} takes dpi all whole s (Err job.Memory) new old_sink new_sink = HandsFirst takes dpi s whole.situation old_sink new_sink
 
--- a command led to this outcome, up to the begin of the macro that it runs, or it is refused, or memory ran out
+-- a command led to this outcome, up to the start of the macro that it runs, or it is refused, or memory ran out
 abbrev pub IsStepped : {S : Type 0} → (S → Page → S → Type 0) → Dpi → Result Situation Kind → (Situation → Option Run) → Situation
     → Result (Unit {0}) CallFault → Interpreter → Interpreter → S → S → Type 0
 IsStepped {S} takes dpi outcome run_after s (Ok unit) old new old_sink new_sink =

@@ -43,7 +43,7 @@ pub record IsCutFront (bytes : List ℕ) (head : Head) (new rest : List ℕ) : T
   pub new_is : new ≡ drop (length (head_bytes head)) bytes
   pub rest_is : rest ≡ []
 
--- the element at the front of data, whole or cut: what it says, its new bytes, and the data behind it
+-- the element at the front of data, whole or cut: what it says, its new bytes, and the data after it
 pub record IsFront (method : Method) (bytes : List ℕ) (offset copies : ℕ) (new rest : List ℕ) (whole : Bool) : Type 0 where
   pub head : Head
   pub head_is : IsHead method head
@@ -55,6 +55,6 @@ pub record IsFront (method : Method) (bytes : List ℕ) (offset copies : ℕ) (n
 abbrev pub overlaid : List ℕ → ℕ → List ℕ → List ℕ
 overlaid old place new = take (length old) (take place old ++ (new ++ drop (place + length new) old))
 
--- what stands behind elements that give nothing, which method 2 alone has
+-- what stands after elements that give nothing, which method 2 alone has
 abbrev pub IsPastSkipped : Method → List ℕ → List ℕ → Type 0
 IsPastSkipped method bytes rest = (count : ℕ) × (bytes ≡ replicate count 128 ++ rest) × (0 < count → method ≡ Packed)

@@ -8,7 +8,7 @@ use Rattle.pcl_command.specs.Verdicts.{numbers_text, side_text, verdict_text}
 use Rattle.pcl_command.proofs.verdicts.append_verdict.Goals as goal
 use Rattle.pcl_command.proofs.verdicts.append_verdict.Goals.{then-inside, else-inside}
 
--- the side is said behind the row and the method of an edge
+-- the side is said after the row and the method of an edge
 edge_said : {T E : Type 0} (result : Result T E) (old named numbered new side : List ℕ) (row : ℕ) (method : Method) (inside : Bool)
     → named ≡ old ++ codes "Edge" → numbered ≡ named ++ numbers_text row method
     → new ≡ (if is_ok result then numbered ++ side else numbered) → side ≡ side_text inside

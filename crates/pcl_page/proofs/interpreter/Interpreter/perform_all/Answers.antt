@@ -7,7 +7,7 @@ use Rattle.pcl_page.specs.Performing.{performance}
 use Rattle.pcl_page.proofs.Jobs.{IsReached, rest_of_job, command_stopped, has_begun, macros_stopped, macros_reached, end_reached}
 use Rattle.pcl_page.proofs.interpreter.Interpreter.perform_all.Goals as goal
 
--- the next command and those behind it
+-- the next command and those after it
 next_is : (commands : List Command) {i : ℕ} (default : Command) → i < length commands
     → views (drop i commands) ≡ view (get_or commands i default) ∷ views (drop (i + 1) commands)
 next_is commands {i} default lt =

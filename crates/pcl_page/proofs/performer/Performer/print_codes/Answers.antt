@@ -5,7 +5,7 @@ use Rattle.pcl_page.proofs.Printed.{IsPrintedTo, code_done, blank_printed}
 use Rattle.pcl_page.proofs.performer.Performer.print_codes.Goals as goal
 use Rattle.pcl_page.proofs.performer.Performer.print_codes.Goals.{in-Some, in-None}
 
--- the next code and those behind it
+-- the next code and those after it
 next_is : (codes : List ℕ) {i : ℕ} (default : ℕ) → i < length codes → drop i codes ≡ get_or codes i default ∷ drop (i + 1) codes
 next_is codes {i} default lt = rw (add-one, drop-cons codes i default lt) refl
 
