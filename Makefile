@@ -4,7 +4,7 @@
 PREFIX ?= /usr/local
 PROGRAM := crates/pclmin/out/pclmin
 
-.PHONY: demo build test test-memory examples bench bench-certificates install clean
+.PHONY: demo build test test-memory test-process examples bench bench-certificates install clean
 
 # Previews the sample job into build/demo.pbm by the kit's quick run, a minute or two after a fresh clone: nothing is proved.
 demo:
@@ -43,6 +43,11 @@ test-memory:
 		if [ "$$failures" -eq 0 ]; then exit 0; fi; \
 	done; \
 	echo "memory still ran out"; exit 1
+
+# Compares what the process says and its status where files, standard streams and memory fail, and what a terminal is told
+# (process/cases.txt). Needs Python 3, and the program that `make build` left.
+test-process:
+	process/run.py $(PROGRAM)
 
 # Makes the jobs of examples/ and the picture of the README anew. Needs Python 3, and pbmtolj of netpbm.
 examples:

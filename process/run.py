@@ -1,0 +1,183 @@
+#!/usr/bin/env python3
+"""What the process of pclmin does where its surroundings fail: for each case of cases.txt the whole of standard error and
+the status are compared, and what is left in files. Prints the cases that don't hold and how many do; status 1 if one doesn't.
+
+    process/run.py [PROGRAM]        PROGRAM is crates/pclmin/out/pclmin where none is given
+
+A line of cases.txt is a command of the shell, `=>`, the status, `|`, and what standard error has to be, without its line feed.
+The command runs in a folder of its own, which has the files of FILES; `pclmin` is the program. Empty lines and lines that begin
+with `#` say nothing. Standard input is empty and standard output is a file, where the command doesn't say otherwise. Where root
+runs it, files that can't be read or written are opened by nobody's rights.
+
+The limits of memory and the terminal have tests of their own below the table.
+"""
+import os
+import pty
+import shutil
+import subprocess
+import sys
+import tempfile
+import time
+
+HERE = os.path.dirname(os.path.abspath(__file__))
+DOT = b"\x1b&l0E\x1b*p0x0Y\x1b*t300R\x1b*r0A\x1b*b1W\x80"
+WRITTEN = b"\x1bE\x1b&l1x2a0E\x1b*p0x0Y\x1b*t300R\x1b*r2400s0A\x1b*b1W\x80\x1b*rC\x0c\x1bE"
+FILES = {"dot.pcl": DOT, "dot.out": WRITTEN, "bad.pcl": b"\x1b"}
+NOBODY = 65534
+# The steps of `ulimit -v`, in KB, and after how many of them that suffice a run is taken to have plenty.
+STEP, ENOUGH = 16, 50
+PLENTY = 4_000_000
+OUT_OF_MEMORY = "pclmin: out of memory"
+
+
+def cases():
+    """The cases of the table: number of the line, command, status and what is said."""
+    with open(os.path.join(HERE, "cases.txt")) as table:
+        for number, line in enumerate(table, 1):
+            line = line.rstrip("\n")
+            if line and not line.startswith("#"):
+                command, wanted = line.rsplit(" => ", 1)
+                status, _, said = wanted.partition(" |")
+                yield number, command.strip(), int(status), said.strip()
+
+
+def fill(folder, program):
+    """Makes the files that each case finds."""
+    os.chmod(folder, 0o755)
+    for name, content in FILES.items():
+        with open(os.path.join(folder, name), "wb") as file:
+            file.write(content)
+    for name, mode in (("unread.pcl", 0o200), ("unwritten.cert", 0o444)):
+        path = os.path.join(folder, name)
+        with open(path, "wb") as file:
+            file.write(DOT)
+        os.chmod(path, mode)
+    os.mkdir(os.path.join(folder, "folder"))
+    os.chmod(os.path.join(folder, "folder"), 0o755)
+    os.symlink(program, os.path.join(folder, "pclmin"))
+    if os.geteuid() == 0:
+        for name in [folder] + [os.path.join(folder, name) for name in FILES]:
+            os.chown(name, NOBODY, NOBODY)
+
+
+def without_rights():
+    """Gives root's rights away."""
+    if os.geteuid() == 0:
+        os.setgid(NOBODY)
+        os.setuid(NOBODY)
+
+
+def run_case(program, command):
+    """The status of a command, and what it says on standard error."""
+    with tempfile.TemporaryDirectory() as folder:
+        fill(folder, program)
+        done = subprocess.run(
+            ["bash", "-c", 'PATH="$PWD:$PATH"; ' + command], cwd=folder, stdin=subprocess.DEVNULL,
+            stdout=subprocess.DEVNULL, stderr=subprocess.PIPE, preexec_fn=without_rights, timeout=60, check=False)
+        return done.returncode, done.stderr.decode().strip()
+
+
+def check_table(program):
+    """The faults of the table, and how many cases it has."""
+    wrong, count = [], 0
+    for number, command, status, said in cases():
+        count += 1
+        came = run_case(program, command)
+        if came != (status, said):
+            wrong.append(f"cases.txt, line {number}: {command}\n  wanted {status} | {said}\n  came   {came[0]} | {came[1]}")
+    return wrong, count
+
+
+def run_within(program, words, job, limit):
+    """The status of a run within so many KB of address space, and what it writes; none where no process begins."""
+    done = subprocess.run(
+        ["sh", "-c", 'ulimit -v "$0"; exec "$@"', str(limit), program] + words, input=job, capture_output=True, timeout=60, check=False)
+    if done.returncode < 0 or done.returncode in (126, 127):
+        return None
+    return done.returncode, done.stderr.decode().strip(), done.stdout
+
+
+def check_memory(program):
+    """From the least memory that begins a process, and up to plenty, a right command line is done or ends as out of memory."""
+    wrong, count = [], 0
+    for words, job in ((["min"], DOT), (["pbm", "--page", "1"], DOT), (["--help"], b""), (["--version"], b"")):
+        plenty = run_within(program, words, job, PLENTY)
+        begins, done, enough = None, None, 0
+        for limit in range(STEP, PLENTY, STEP):
+            came = run_within(program, words, job, limit)
+            if came is None and begins is None:
+                continue
+            begins = begins or limit
+            count += 1
+            enough = enough + 1 if came == plenty else 0
+            done = done or (limit if enough else None)
+            if came is None or (came != plenty and came != (3, OUT_OF_MEMORY, b"")):
+                wrong.append(f"{' '.join(words)} within {limit} KB: {'a signal' if came is None else came[:2]}")
+            if enough == ENOUGH:
+                break
+        print(f"{' '.join(words)}: begins within {begins} KB, is first done within {done} KB")
+    return wrong, count
+
+
+def run_on_terminal(program, words, job):
+    """What a run writes to a terminal that is its standard error, and how many seconds it took."""
+    leader, follower = pty.openpty()
+    begun = time.monotonic()
+    process = subprocess.Popen([program] + words, stdin=subprocess.PIPE, stdout=subprocess.DEVNULL, stderr=follower)
+    os.close(follower)
+    process.communicate(job)
+    taken = time.monotonic() - begun
+    said = b""
+    while True:
+        try:
+            part = os.read(leader, 4096)
+        except OSError:
+            break
+        if not part:
+            break
+        said += part
+    os.close(leader)
+    return said.decode(), taken
+
+
+def check_terminal(program):
+    """A terminal is told how many pages are done, from the first second on and not before, and the line is cleared at the end."""
+    wrong = []
+    said, taken = run_on_terminal(program, ["min"], DOT)
+    if taken < 1 and said:
+        wrong.append(f"a run of {taken:.1f} seconds says {said!r}")
+    page = b"\x1b*p0x0Y\x1b*t300R\x1b*r0A" + b"".join(
+        b"\x1b*b300W" + bytes((row * 37 + column * 11 + row * column) % 251 for column in range(300)) for row in range(400)) + b"\x0c"
+    long = b"\x1b&l0E" + page * 200
+    said, taken = run_on_terminal(program, ["min"], long)
+    if taken < 1.5:
+        wrong.append(f"the long run took {taken:.1f} seconds only")
+    elif not said.startswith("\rpclmin: pages done: ") or "pages done: 1\r" in said or not said.endswith("\r\x1b[K"):
+        wrong.append(f"a run of {taken:.1f} seconds says {said[:80]!r} .. {said[-40:]!r}")
+    said, _ = run_on_terminal(program, ["min", "--quiet"], long)
+    if said:
+        wrong.append(f"a quiet run says {said[:80]!r}")
+    return wrong, 3
+
+
+def main():
+    program = os.path.abspath(sys.argv[1] if len(sys.argv) > 1 else os.path.join(HERE, "../crates/pclmin/out/pclmin"))
+    if not os.access(program, os.X_OK):
+        sys.exit(f"{program}: not there; `make build` makes it")
+    with tempfile.TemporaryDirectory() as folder:
+        os.chmod(folder, 0o755)
+        copy = shutil.copy(program, os.path.join(folder, "program"))
+        os.chmod(copy, 0o755)
+        wrong, count = [], 0
+        for check in (check_table, check_memory, check_terminal):
+            faults, cases_of_it = check(copy)
+            wrong += faults
+            count += cases_of_it
+    for fault in wrong:
+        print(fault)
+    print(f"{count - len(wrong)} of {count} hold")
+    sys.exit(1 if wrong else 0)
+
+
+if __name__ == "__main__":
+    main()
