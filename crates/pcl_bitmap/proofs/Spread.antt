@@ -171,7 +171,8 @@ pub spread_more :
     → 1 ≤ s
     → (k < 8 * (s * i) → dot_of_row now k ≡ dot_of_row row (8 * first + k / s))
     → dot_of_row new k
-    ≡ (if in_run (8 * (s * i)) (8 * (s * i + s)) k then bit_of_byte (get_or row (first + i) 0) ((k - 8 * (s * i)) / s) else dot_of_row now k)
+    ≡ (if in_run (8 * (s * i)) (8 * (s * i + s)) k then bit_of_byte (get_or row (first + i) 0) ((k - 8 * (s * i)) / s)
+    else dot_of_row now k)
     → k < 8 * (s * (i + 1)) → dot_of_row new k ≡ dot_of_row row (8 * first + k / s)
 spread_more row now new s first i k some above added within =
     let byte : ℕ = get_or row (first + i) 0 in

@@ -27,7 +27,8 @@ black_as : {dpi : Dpi} {page : Page} (one : Sheet) {other : Sheet} → one.size 
 black_as {dpi} one size shows x y across down =
     shows.dots x y (subst (λ (z : PageSize). x < page_width z dpi) size across) (subst (λ (z : PageSize). y < page_height z dpi) size down)
 
-sheets_alike : {dpi : Dpi} {page page' : Page} {one other : Sheet} → Shows dpi page one → Shows dpi page' other → PagesDiffer page page' None
+sheets_alike : {dpi : Dpi} {page page' : Page} {one other : Sheet} → Shows dpi page one → Shows dpi page' other
+    → PagesDiffer page page' None
     → AreAlike dpi one other
 sheets_alike {dpi} {page} {page'} {one} {other} shows shows' same =
     let size : one.size ≡ other.size = sym shows.size ∙ same.0 ∙ shows'.size in

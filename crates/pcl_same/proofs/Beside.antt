@@ -67,7 +67,13 @@ finds_on dpi (sheet ∷ sheets) old new h =
       more = took.next ∷ rest.more;
       found = rest.found ∙ ap (λ (front : List (Option Difference)). front ++ rest.more) took.found
           ∙ append_assoc old.found (took.next ∷ []) rest.more;
-      find = (h.0, h.2, took.is, subst (λ (kept : List KeptPage). FindAll dpi kept sheets rest.more) (left_after old h.1 took.next took.kept took.found) rest.find);
+      find = (
+        h.0,
+        h.2,
+        took.is,
+        subst (λ (kept : List KeptPage). FindAll dpi kept sheets rest.more)
+            (left_after old h.1 took.next took.kept took.found) rest.find,
+      );
     }
 
 pub record FoundAll (dpi : Dpi) (kept : List KeptPage) (sheets : List Sheet) (new : Compared) : Type 0 where

@@ -147,7 +147,8 @@ written_over p y {n} buffer {row} {bytes} above long is d =
 -- ---- two bitmaps beside the same row data
 
 -- data that was decoded over the front of a buffer
-pub decoded_over : (p : Picture) (y : ℕ) {n : ℕ} (buffer row : List ℕ) {bytes held made : List ℕ} → take n buffer ≡ row_above p y → length row ≡ n
+pub decoded_over : (p : Picture) (y : ℕ) {n : ℕ} (buffer row : List ℕ) {bytes held made : List ℕ} → take n buffer ≡ row_above p y
+    → length row ≡ n
     → bytes ≡ held → Decodes Delta (take (length row) buffer) bytes made → Decodes Delta (row_above p y) held made
 decoded_over p y {n} buffer row {bytes} {held} {made} above long is d =
     subst (λ (b : List ℕ). Decodes Delta (row_above p y) b made) is
@@ -199,7 +200,8 @@ same_height {kept} {other} b =
 
 rows_same : {kept other : Picture} {held : KeptBitmap} {count : ℕ} → AreBeside kept other held count → (k : ℕ) → k < count
     → row_of kept k ≡ row_of other k
-rows_same {kept} {other} b zero lt = made_same (white_same kept other b.size b.resolution) (b.keeps.rows 0 (omega (arith, b.within, same_height b))) (b.makes 0 lt)
+rows_same {kept} {other} b zero lt = made_same (white_same kept other b.size b.resolution)
+    (b.keeps.rows 0 (omega (arith, b.within, same_height b))) (b.makes 0 lt)
 rows_same b (suc k) lt =
     made_same (rows_same b k (omega arith)) (b.keeps.rows (suc k) (omega (arith, b.within, same_height b))) (b.makes (suc k) lt)
 

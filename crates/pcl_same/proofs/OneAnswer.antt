@@ -99,7 +99,8 @@ is_at {dpi} {pages} {others} {number} {d} f = record {
   counted = f.counted;
   differ = subst (λ (ps : List Sheet). DifferAt dpi ps others (length f.pages_before) d) (sym f.pages_are)
       (subst (λ (os : List Sheet). DifferAt dpi (f.pages_before ++ f.page ∷ f.pages_after) os (length f.pages_before) d)
-      (sym f.others_are) (differ_at dpi f.pages_before f.page f.pages_after f.others_before f.other f.others_after d f.alike_before f.differ));
+      (sym f.others_are) (differ_at dpi f.pages_before f.page f.pages_after f.others_before f.other f.others_after d f.alike_before
+      f.differ));
 }
 
 one_place : (dpi : Dpi) (pages others : List Sheet) (n m : ℕ) {d e : Difference} → DifferAt dpi pages others n d

@@ -117,7 +117,8 @@ step_by : (dpi : Dpi) (run : Said → Run → Situation → Performance) (bodies
     (if begun then None else control_in (operation_of command.name) command.value)
     (if begun then defining dpi place keeping command (now dpi items) else counting dpi place command (now dpi items)) items)
 step_by dpi run bodies told place command items true Kept e = refl
-step_by dpi run bodies told place command items true Ends e = led_told dpi run bodies told place command None items (counting dpi place command (now dpi items)) e
+step_by dpi run bodies told place command items true Ends e = led_told dpi run bodies told place command None items
+    (counting dpi place command (now dpi items)) e
 step_by dpi run bodies told place command items true (Refused kind) e = refl
 step_by dpi run bodies told place command items false keeping e =
     let led = counting dpi place command (now dpi items) in
@@ -129,7 +130,8 @@ step_told : (dpi : Dpi) (run : Said → Run → Situation → Performance) (bodi
     → (place : ℕ) (command : Said) (items : List Item)
     → step dpi run place command (now dpi items) ≡ performed_by dpi (add dpi bodies place command items)
 step_told dpi run bodies told place command items =
-    step_by dpi run bodies told place command items (is_some (now dpi items).begun) (keeping_of (operation_of command.name) command.value) refl
+    step_by dpi run bodies told place command items (is_some (now dpi items).begun)
+    (keeping_of (operation_of command.name) command.value) refl
 
 -- ---- macros
 

@@ -68,7 +68,8 @@ dots_after :
     (c : goal.After-self-2-1) (px py : ℕ)
     → px < page_width c.self.inside.size c.self.inside.dpi → py < page_height c.self.inside.size c.self.inside.dpi
     → dot (picture_of c.self.inside.size c.self.inside.dpi (with_items c.self.inside.bytes c.or_pattern.new.page).items) px py
-    ≡ (pattern_dot c.args.x c.args.y c.args.scale c.args.width c.args.height c.args.rows.now px py || dot (picture_of c.self.inside.size c.self.inside.dpi c.self.inside.bytes.items) px py)
+    ≡ (pattern_dot c.args.x c.args.y c.args.scale c.args.width c.args.height c.args.rows.now px py || dot
+    (picture_of c.self.inside.size c.self.inside.dpi c.self.inside.bytes.items) px py)
 dots_after c =
     let a = c.self.inside in
     let args = c.args in
@@ -97,8 +98,10 @@ invariant_of-self c = record {
       subst P (sym (kept c))
       (filled_picture a.size a.dpi a.bytes.items c.or_pattern.new.page x.0 y.0 c.min.result c.min-2.result
       (inked c.args.rows.now x.0 y.0 x.1 y.1 c.args.scale c.div_ceil.result) c.self.invariant.picture (pattern_painted c));
-  inked = black_stays c.self.inside.size c.self.inside.dpi c.self.inside.bytes.items (with_items c.self.inside.bytes c.or_pattern.new.page).items
-      c.self.inside.filled c.under_black-self-inside.result (λ px py. pattern_dot c.args.x c.args.y c.args.scale c.args.width c.args.height c.args.rows.now px py)
+  inked = black_stays c.self.inside.size c.self.inside.dpi c.self.inside.bytes.items
+      (with_items c.self.inside.bytes c.or_pattern.new.page).items
+      c.self.inside.filled c.under_black-self-inside.result (λ px py. pattern_dot c.args.x c.args.y c.args.scale c.args.width
+      c.args.height c.args.rows.now px py)
       c.self.invariant.inked c.under_black-self-inside.ensures (dots_after c);
 }
 

@@ -30,7 +30,8 @@ dots_after :
     (c : goal.After-self-2-1) (px py : ℕ)
     → px < page_width c.self.inside.size c.self.inside.dpi → py < page_height c.self.inside.size c.self.inside.dpi
     → dot (picture_of c.self.inside.size c.self.inside.dpi (with_items c.self.inside.bytes c.paint_squares.new.page).items) px py
-    ≡ (raster_dot c.args.x c.args.y c.args.scale c.args.width c.args.row.now px py || dot (picture_of c.self.inside.size c.self.inside.dpi c.self.inside.bytes.items) px py)
+    ≡ (raster_dot c.args.x c.args.y c.args.scale c.args.width c.args.row.now px py || dot
+    (picture_of c.self.inside.size c.self.inside.dpi c.self.inside.bytes.items) px py)
 dots_after c =
     let a = c.self.inside in
     let args = c.args in
@@ -52,8 +53,10 @@ invariant_of-self c = record {
       subst P (sym (kept c))
       (filled_picture a.size a.dpi a.bytes.items c.paint_squares.new.page c.args.x c.args.y c.min.result c.min-2.result
       (λ px _ before. dot_of_row c.args.row.now ((px - c.args.x) / c.args.scale) || before) c.self.invariant.picture (row_painted c));
-  inked = black_stays c.self.inside.size c.self.inside.dpi c.self.inside.bytes.items (with_items c.self.inside.bytes c.paint_squares.new.page).items
-      c.self.inside.filled c.under_black-self-inside.result (λ px py. raster_dot c.args.x c.args.y c.args.scale c.args.width c.args.row.now px py)
+  inked = black_stays c.self.inside.size c.self.inside.dpi c.self.inside.bytes.items
+      (with_items c.self.inside.bytes c.paint_squares.new.page).items
+      c.self.inside.filled c.under_black-self-inside.result (λ px py. raster_dot c.args.x c.args.y c.args.scale c.args.width
+      c.args.row.now px py)
       c.self.invariant.inked c.under_black-self-inside.ensures (dots_after c);
 }
 

@@ -13,7 +13,8 @@ returns-in-Some c = λ kept is_kept keeps.
     let height = height_is other c.height-y-end.ensures c.size.ensures.value c.dpi.ensures.value in
     let down : y < page_height other.size other.dpi = omega (arith, c.loop-y-test.true, height) in
     row_differs is_kept (beside keeps c.requires.size c.requires.dpi (omega (arith, down)) c.loop-y.invariant.makes) down
-    (decoded_over other y c.loop-y.above c.row-row.result.now c.loop-y.invariant.above c.row-row.ensures.len c.row_data.ensures c.decode.ensures)
+    (decoded_over other y c.loop-y.above c.row-row.result.now c.loop-y.invariant.above c.row-row.ensures.len c.row_data.ensures
+    c.decode.ensures)
     c.row-row.ensures.bytes c.row-row.ensures.clear_pads c.in-Some.ensures
 
 pub loop-y-preserved : goal.loop-y-preserved
@@ -24,7 +25,8 @@ loop-y-preserved c =
       above = next_above other y (drop (length c.row-row.result.now) c.loop-y.above) c.row-row.ensures.bytes
           c.copy_from_slice.ensures.after c.row-row.ensures.len;
       makes = makes_more other c.args.self.now c.loop-y.invariant.makes
-          (decoded_over other y c.loop-y.above c.row-row.result.now c.loop-y.invariant.above c.row-row.ensures.len c.row_data.ensures c.decode.ensures)
+          (decoded_over other y c.loop-y.above c.row-row.result.now c.loop-y.invariant.above c.row-row.ensures.len c.row_data.ensures
+          c.decode.ensures)
           (c.in_default.ensures ∙ c.row-row.ensures.bytes);
     }
 
