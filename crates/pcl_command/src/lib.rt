@@ -9,5 +9,7 @@ mod running;
 mod verdicts;
 
 pub use files::JobFiles;
+pub use messages::{fault_line, status_of};
 pub use request::{CheckedFiles, Request, Task, Usage, resolution};
 pub use running::{Ending, carry_out};
+pub use verdicts::{verdict_line, verdict_status};

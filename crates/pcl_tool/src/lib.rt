@@ -25,6 +25,7 @@ pub use minimizing::{
 };
 pub use page_preview::preview;
 pub use pcl_base::INPUT_LIMIT;
+pub use pcl_meaning::page_texts_mean_their_pages;
 pub use reading::read_all;
 pub use watching::{Unwatched, Watcher};
 pub use writing::write_bytes;

@@ -9,7 +9,7 @@ pub returns-in_ok-clone-in-Some-eq0-clause-taken : goal.returns-in_ok-clone-in-S
 returns-in_ok-clone-in-Some-eq0-clause-taken c =
     let none_before : c.in-Some-eq0.field-0 ≡ 0 = sym c.in-Some-eq0.field-0-is ∙ c.in-Some-eq0.field-0-test in
     let copied = c.in_ok-clone-in-Some-eq0.ensures.cases in
-    let bytes = same_from_all_zip _ _ _ copied.4.1.1.0 (λ x y e. e) in
+    let bytes = same_from_all_zip _ _ _ copied.4.1.1.0.0 (λ x y e. e) in
     let same : c.in_ok-clone-in-Some-eq0.field-0 ≡ c.args.page.now.bitmap = cc in
     rw (c.in-Some-eq0.is, none_before, same)
 
