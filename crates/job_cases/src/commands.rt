@@ -29,6 +29,7 @@ use pcl_words::{exit_status, run};
 use std::alloc::{AllocError, Global};
 use std::cell::Cell;
 use std::io::{self, ErrorKind, Read, Write};
+use std::mem;
 
 /// Standard input: the bytes that are left of it, or none where it can't be read.
 #[derive(Drop)]
@@ -201,8 +202,21 @@ impl Commands {
         Ok(())
     }
 
+    /// Runs the case over the folder, and answers as `fault_of` does.
+    fn end_case(&mut self, alloc: Global, status: usize) -> Result<Option<String>, TableFault> {
+        let mut folder = mem::replace(&mut self.folder, Folder::new(alloc));
+        let fault = self.fault_of(alloc, &mut folder, status);
+        self.folder = folder;
+        fault
+    }
+
     /// What came in place of what is wanted; none where the case holds.
-    fn fault_of(&mut self, alloc: Global, status: usize) -> Result<Option<String>, TableFault> {
+    fn fault_of(
+        &self,
+        alloc: Global,
+        folder: &mut Folder,
+        status: usize,
+    ) -> Result<Option<String>, TableFault> {
         let words = self.line.as_str().split(' ').collect::<Vec<&str>>(alloc)?;
         let mut given = Given(self.job.as_deref());
         let mut taken = Taken(self.is_held.then_some(Held::new(alloc)));
@@ -211,14 +225,7 @@ impl Commands {
             times: Cell::new(0),
             ends: Cell::new(0),
         };
-        let ended = run(
-            &mut self.folder,
-            alloc,
-            &words,
-            &mut given,
-            &mut taken,
-            &told,
-        );
+        let ended = run(folder, alloc, &words, &mut given, &mut taken, &told);
         let said = text_of(alloc, &ended)?;
         let held = taken.0.unwrap_or(Held::new(alloc));
         let written = held.bytes();
@@ -227,7 +234,7 @@ impl Commands {
             && held.is_flushed()
             && self.is_said(&said)
             && self.is_told(&told)
-            && self.is_made();
+            && self.is_made(folder);
         if is_right {
             return Ok(None);
         }
@@ -260,9 +267,9 @@ impl Commands {
     }
 
     /// Whether the file that is wanted was made.
-    fn is_made(&self) -> bool {
+    fn is_made(&self, folder: &Folder) -> bool {
         match &self.made {
-            Some((file, begin)) => match self.folder.bytes_of(file.as_str()) {
+            Some((file, begin)) => match folder.bytes_of(file.as_str()) {
                 Some(bytes) => begin.is_of(bytes),
                 None => false,
             },
@@ -285,7 +292,7 @@ impl CasesOfLines for Commands {
         match word {
             "" | "#" => {}
             "case" => self.begin_case(alloc, rest)?,
-            "status" => return Ok(Some(self.fault_of(alloc, number(rest)?)?)),
+            "status" => return Ok(Some(self.end_case(alloc, number(rest)?)?)),
             _ => self.set(alloc, word, rest)?,
         }
         Ok(None)
