@@ -4,7 +4,7 @@
 PREFIX ?= /usr/local
 PROGRAM := crates/pclmin/out/pclmin
 
-.PHONY: demo build test test-memory test-process examples bench bench-certificates install clean
+.PHONY: demo build test test-memory test-process oracle examples bench bench-certificates install clean
 
 # Previews the sample job into build/demo.pbm by the kit's quick run, a minute or two after a fresh clone: nothing is proved.
 demo:
@@ -48,6 +48,11 @@ test-memory:
 # (process/cases.txt). Needs Python 3, and the program that `make build` left.
 test-process:
 	process/run.py $(PROGRAM)
+
+# A short run of the programs of oracle/, which share no line with this one, beside it. Needs rustc, Python 3, and the
+# program that `make build` left.
+oracle:
+	oracle/run.sh
 
 # Makes the jobs of examples/ and the picture of the README anew. Needs Python 3, and pbmtolj of netpbm.
 examples:

@@ -17,6 +17,7 @@ impl Generator {
     }
 }
 
+#[path = "../oracle/plain/linear.rs"]
 mod linear;
 
 enum Step {

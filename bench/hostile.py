@@ -11,7 +11,7 @@ rows.pcl        the same with a raster row of one dot between every two of 20,00
 macros.pcl      32,767 permanent macros, and then the temporary ones are deleted 200,000 times
 fonts.pcl       the same with fonts, 30,000 times
 
-Without programs it only makes the jobs. PCLMIN is the program of this repository and PLAIN that of plain/: each previews page
+Without programs it only makes the jobs. PCLMIN is the program of this repository and PLAIN that of oracle/plain: each previews page
 1 of each job at 300 and at 600 dots per inch, and both have to write the same bytes. A time is that of one run, in seconds.
 """
 

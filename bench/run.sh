@@ -1,5 +1,5 @@
 #!/usr/bin/env bash
-# Times pclmin beside a plain Rust program that does the same (plain/), and prints a table for the README.
+# Times pclmin beside a plain Rust program that does the same (oracle/plain), and prints a table for the README.
 # PCLMIN names another build of pclmin. Needs rustc, Python 3, and GNU time, which is installed if it is missing.
 set -euo pipefail
 cd "$(dirname "$0")/.."
@@ -8,6 +8,6 @@ source bench/program.sh
 if [ ! -x /usr/bin/time ]; then
     apt-get update -qq && apt-get install -y -qq time > /dev/null
 fi
-rustc -O -C codegen-units=1 --edition 2024 -o build/bench/plain bench/plain/main.rs
+rustc -O -C codegen-units=1 --edition 2024 -o build/bench/plain oracle/plain/main.rs
 python3 bench/make_jobs.py build/bench
 python3 bench/measure.py "$PCLMIN" build/bench/plain build/bench

@@ -5,7 +5,7 @@
 //!
 //! It prints how many cases hold; `stdout` has how many there are. A case that doesn't is printed with its job and
 //! with what came instead, and the status is then 1. The tables lie in the folder that its argument names, or
-//! where it runs: the gate runs it in `data/`, and beside `src/` it is `rt run -- data`. `bench/reference.py`
+//! where it runs: the gate runs it in `data/`, and beside `src/` it is `rt run -- data`. `oracle/reference.py`
 //! checks the tables of jobs without a line of this repository's code. The command lines find and make files in a
 //! folder in memory.
 #![tactic(auto)]

@@ -16,7 +16,6 @@
 mod bitmap;
 mod commands;
 mod fonts;
-#[path = "../linear.rs"]
 mod linear;
 mod macros;
 mod performing;

@@ -1,7 +1,7 @@
 #!/usr/bin/env python3
 """Compares pclmin with the plain program (plain/), and with the second model (reference.py), on random and mutated jobs.
 
-    python3 bench/fuzz.py PCLMIN PLAIN COUNT SEED [--model] [--workers N] [--folder FOLDER]
+    python3 oracle/fuzz.py PCLMIN PLAIN COUNT SEED [--model] [--workers N] [--folder FOLDER]
 
 Each job is made of random commands of every part of docs/LANGUAGE.md, with values at and near their bounds, and every
 fourth one is then changed in some of its bytes, cut, or joined from two. At a resolution that is drawn too, both programs

@@ -1,8 +1,8 @@
 #!/usr/bin/env python3
 """Checks the tables of whole jobs against a second program that says what a job means.
 
-    python3 bench/reference.py TABLE..            checks each case
-    python3 bench/reference.py --fill TABLE..     prints the tables with what is expected written into the cases
+    python3 oracle/reference.py TABLE..            checks each case
+    python3 oracle/reference.py --fill TABLE..     prints the tables with what is expected written into the cases
                                                   that say nothing of it
 
 The tables are those of crates/job_cases/data; src/notation.rt and src/table.rt there tell how they are

@@ -1,0 +1,18 @@
+#!/usr/bin/env bash
+# A short run of the other programs (README.md): tables by reference.py and least.py, and random jobs by all.
+# PCLMIN names another build of pclmin. Needs rustc and Python 3.
+set -euo pipefail
+cd "$(dirname "$0")/.."
+PCLMIN=${PCLMIN:-crates/pclmin/out/pclmin}
+[ -x "$PCLMIN" ] || { echo "there is no $PCLMIN: run make build first" >&2; exit 1; }
+
+mkdir -p build/oracle
+rustc -O -C codegen-units=1 --edition 2024 -o build/oracle/plain oracle/plain/main.rs
+for table in crates/job_cases/data/*.txt; do
+    case $(basename "$table") in
+        certificates.txt | commands.txt) ;;
+        *) python3 oracle/reference.py "$table" ;;
+    esac
+done
+python3 oracle/fuzz.py "$PCLMIN" build/oracle/plain 1800 1 --workers 2 --folder build/oracle
+python3 oracle/fuzz.py "$PCLMIN" build/oracle/plain 200 2 --model --workers 2 --folder build/oracle
