@@ -1,2 +1,5 @@
 pub mod Lists
 pub mod Results
+pub mod Walks
+pub mod Fronts
+pub mod PageBounds

@@ -7,3 +7,5 @@ pub mod Kind
 pub mod Name
 pub mod Operation
 pub mod Refusal
+pub mod Digits
+pub mod Walks

@@ -8,6 +8,7 @@ use Rattle.pcl_base.specs.declared.size.Size.{Size}
 use Rattle.pcl_base.specs.declared.dpi.Dpi.TheVariants.{Dpi300, Dpi600}
 use Rattle.pcl_base.specs.declared.size.Size.TheVariants.{Executive, Letter, Legal, A4}
 use Rattle.pcl_base.specs.Size.{page_width, page_height, page_row_bytes}
+use Rattle.pcl_base.proofs.PageBounds.{width_small, height_small}
 use Rattle.pcl_bitmap.specs.Bitmap.{Picture, IsPicture, dot, blank_bytes, blank_picture}
 use Rattle.pcl_bitmap.proofs.Pages.{same_pages, dot_of_zeros, rows_apart}
 
@@ -49,21 +50,9 @@ same_dots p q is_p is_q s d same =
 pub wide_rows : (size : Size) (dpi : Dpi) → page_width size dpi ≤ 8 * page_row_bytes size dpi
 wide_rows size dpi = omega arith
 
--- no page has more dots across or down than Letter and Legal at 600 dots per inch
-pub page_limits : (size : Size) (dpi : Dpi) → (page_width size dpi ≤ 4800) × (page_height size dpi ≤ 8400)
-page_limits Executive Dpi300 = (omega arith, omega arith)
-page_limits Executive Dpi600 = (omega arith, omega arith)
-page_limits Letter Dpi300 = (omega arith, omega arith)
-page_limits Letter Dpi600 = (omega arith, omega arith)
-page_limits Legal Dpi300 = (omega arith, omega arith)
-page_limits Legal Dpi600 = (omega arith, omega arith)
-page_limits A4 Dpi300 = (omega arith, omega arith)
-page_limits A4 Dpi600 = (omega arith, omega arith)
-
 pub page_bytes_limit : (size : Size) (dpi : Dpi) → page_height size dpi * page_row_bytes size dpi < 2 ^ 32
 page_bytes_limit size dpi =
-    let limits = page_limits size dpi in
-    omega (arith, mul-le (page_height size dpi) (page_row_bytes size dpi) 8400 600 limits.1 (omega arith))
+    omega (arith, mul-le (page_height size dpi) (page_row_bytes size dpi) 8400 600 (height_small size dpi) (omega (arith, width_small size dpi)))
 
 -- the bytes of the first rows of a page are bytes of it
 pub rows_on_page :

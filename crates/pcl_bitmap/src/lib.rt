@@ -1,4 +1,5 @@
-//! The dots of a page, one bit each: rows of whole bytes, the left dot in the highest bit, 1 black.
+//! The dots of a page, one bit each: rows of whole bytes, the left dot in the highest bit, 1 black. A page has its size and
+//! copies beside them, and a sink takes the pages of a job.
 #![tactic(auto)]
 
 mod area;
@@ -9,6 +10,7 @@ mod fills;
 mod ink;
 mod kernels;
 mod laws;
+mod page;
 mod patterns;
 mod squares;
 
@@ -16,3 +18,4 @@ pub use bitmap::Bitmap;
 pub use ink::Ink;
 pub use kernels::{first_difference, run_end, trimmed_len};
 pub use laws::same_dots_same_bitmap;
+pub use page::{Page, PageSink};

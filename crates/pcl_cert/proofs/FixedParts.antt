@@ -1,5 +1,5 @@
 -- The length of the fixed part of a page text.
-use Rattle.std.proofs.Common.{◌≡◌, ℕ, ◌+◌, ◌/◌, ◌%◌, ◌<◌, ◌≤◌, [], ◌∷◌, ◌++◌, length, refl, ap, ◌∙◌, arith, lit<}
+use Rattle.std.proofs.Common.{◌≡◌, ℕ, ◌+◌, ◌/◌, ◌%◌, ◌<◌, ◌≤◌, [], ◌∷◌, ◌++◌, length, refl, ap, ◌∙◌, arith, lit<, lit≤}
 use Rattle.std.specs.Prelude.{decimal}
 use Rattle.std.specs.Fmt.{digits}
 use Rattle.std.proofs.lemmas.Fmt.{decimal_digit, decimal_step}
@@ -9,8 +9,8 @@ use Rattle.pcl_base.specs.declared.dpi.Dpi.TheVariants.{Dpi300, Dpi600}
 use Rattle.pcl_base.specs.declared.size.Size.{Size}
 use Rattle.pcl_base.specs.declared.size.Size.TheVariants.{Executive, Letter, Legal, A4}
 use Rattle.pcl_base.specs.Size.{code_of}
-use Rattle.pcl_plan.specs.Tokens.{start_bytes}
-use Rattle.pcl_plan.specs.LeastTexts.{fixed_bytes}
+use Rattle.pcl_output.specs.Tokens.{start_bytes}
+use Rattle.pcl_output.specs.LeastTexts.{fixed_bytes}
 use Rattle.pcl_check.specs.inner.Reading.{raster_start}
 use Rattle.pcl_check.proofs.Beginnings.{start_is}
 
@@ -52,3 +52,9 @@ code_few Executive = lit< tt
 code_few Letter = lit< tt
 code_few Legal = lit< tt
 code_few A4 = lit< tt
+
+pub code_some : (size : Size) → 1 ≤ code_of size
+code_some Executive = lit≤ tt
+code_some Letter = lit≤ tt
+code_some Legal = lit≤ tt
+code_some A4 = lit≤ tt

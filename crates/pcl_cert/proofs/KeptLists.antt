@@ -19,9 +19,9 @@ use Rattle.pcl_coders.specs.RowWalks.{IsLeastTable}
 use Rattle.pcl_coders.proofs.RowWalks.{length-base}
 use Rattle.pcl_base.specs.Size.{page_height, page_row_bytes}
 use Rattle.pcl_bitmap.specs.Bitmap.{Picture}
-use Rattle.pcl_plan.specs.Nodes.{row_at, row_above}
-use Rattle.pcl_plan.specs.PageText.{bitmap_rows}
-use Rattle.pcl_plan.proofs.RowsFrom.{length_rows}
+use Rattle.pcl_output.specs.Nodes.{row_at, row_above}
+use Rattle.pcl_output.specs.PageText.{bitmap_rows}
+use Rattle.pcl_output.proofs.RowsFrom.{length_rows}
 use Rattle.pcl_cert.specs.declared.listing.Lists.{Lists}
 use Rattle.pcl_cert.specs.inner.Listing.{IsTrimmed, HasListMore, HasRowMore, HoldsRows, HoldsRowsOf, AreWhole, listed}
 use Rattle.pcl_cert.proofs.FieldsRead.{two_bytes}

@@ -12,4 +12,4 @@ pub mod FixedParts
 pub mod RowPlaces
 pub mod ProvedLeast
 pub mod SmallNumbers
-pub mod PlansProved
+pub mod TablesProved

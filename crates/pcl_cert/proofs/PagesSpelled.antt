@@ -12,8 +12,8 @@ use Rattle.pcl_base.specs.declared.dpi.Dpi.TheVariants.{Dpi300, Dpi600}
 use Rattle.pcl_base.specs.declared.size.Size.{Size}
 use Rattle.pcl_base.specs.declared.size.Size.TheVariants.{Executive, Letter, Legal, A4}
 use Rattle.pcl_base.specs.Size.{page_height, page_row_bytes}
-use Rattle.pcl_plan.specs.declared.table.RowNumbers.{RowNumbers}
-use Rattle.pcl_plan.proofs.RowsFrom.{row_small}
+use Rattle.pcl_output.specs.declared.table.RowNumbers.{RowNumbers}
+use Rattle.pcl_base.proofs.PageBounds.{row_small, height_small}
 use Rattle.pcl_cert.specs.declared.fault.CertFault.{CertFault}
 use Rattle.pcl_cert.specs.declared.fault.CertFault.TheVariants.{BadMagic, Extra}
 use Rattle.pcl_cert.specs.declared.format.Format.{Format}
@@ -142,16 +142,6 @@ size_again Dpi600 Letter = refl
 size_again Dpi600 Legal = refl
 size_again Dpi600 A4 = refl
 
-height_small : (size : Size) (dpi : Dpi) → page_height size dpi < 2 ^ 16
-height_small Executive Dpi300 = lit≤ tt
-height_small Letter Dpi300 = lit≤ tt
-height_small Legal Dpi300 = lit≤ tt
-height_small A4 Dpi300 = lit≤ tt
-height_small Executive Dpi600 = lit≤ tt
-height_small Letter Dpi600 = lit≤ tt
-height_small Legal Dpi600 = lit≤ tt
-height_small A4 Dpi600 = lit≤ tt
-
 row_bytes_small : (size : Size) (dpi : Dpi) → page_row_bytes size dpi < 2 ^ 16
 row_bytes_small size dpi = omega (arith, row_small size dpi)
 
@@ -177,17 +167,19 @@ proof_spells {dpi} {format} = record {
             lists_bytes places.0.0) places.0.1)
             rows_are (splits_both a.0 (splits_both b.0 (splits_both c.0 d.0))),
         record {
-          size = size.0;
+          fits = record {
+            size = size.0;
+            height = omega (arith, c.1.0, height);
+            lists = subst (λ (n : ℕ). HasLists format n (page_row_bytes size.0 dpi) places.0.0) (sym height) d.1;
+          };
           text_len = a.1;
-          height = omega (arith, c.1.0, height);
           numbers = c.1.1;
-          lists = subst (λ (n : ℕ). HasLists format n (page_row_bytes size.0 dpi) places.0.0) (sym height) d.1;
         },
       );
   again = λ proof rest is.
       let rows : ℕ = rows_in proof.table in
-      let height : page_height is.size dpi ≡ rows = omega (arith, is.height) in
-      let small : rows < 2 ^ 16 = omega (arith, height, height_small is.size dpi) in
+      let height : page_height is.fits.size dpi ≡ rows = omega (arith, is.fits.height) in
+      let small : rows < 2 ^ 16 = omega (arith, height, height_small is.fits.size dpi) in
       let lists : List ℕ = lists_bytes proof.places ++ rest in
       let table : List ℕ = table_bytes proof.table ++ lists in
       let joined : proof_bytes proof ++ rest ≡ to_be_bytes w32 proof.text_len ++ (to_be_bytes w16 rows ++ table) =
@@ -195,16 +187,16 @@ proof_spells {dpi} {format} = record {
       ∙ ap (λ (t : List ℕ). to_be_bytes w32 proof.text_len ++ t)
       (append_assoc (to_be_bytes w16 rows) (table_bytes proof.table ++ lists_bytes proof.places) rest
       ∙ ap (λ (t : List ℕ). to_be_bytes w16 rows ++ t) (append_assoc (table_bytes proof.table) (lists_bytes proof.places) rest)) in
-      let found : size_with_height dpi rows ≡ Some is.size = ap (size_with_height dpi) (sym height) ∙ size_again dpi is.size in
-      let count : length proof.table ≡ rows + 1 = omega (arith, is.height) in
-      let has : HasLists format rows (page_row_bytes is.size dpi) proof.places =
-      subst (λ (n : ℕ). HasLists format n (page_row_bytes is.size dpi) proof.places) height is.lists in
+      let found : size_with_height dpi rows ≡ Some is.fits.size = ap (size_with_height dpi) (sym height) ∙ size_again dpi is.fits.size in
+      let count : length proof.table ≡ rows + 1 = omega (arith, is.fits.height) in
+      let has : HasLists format rows (page_row_bytes is.fits.size dpi) proof.places =
+      subst (λ (n : ℕ). HasLists format n (page_row_bytes is.fits.size dpi) proof.places) height is.fits.lists in
       ap (proof_at dpi format) joined ∙ rw (
         four.again proof.text_len (to_be_bytes w16 rows ++ table) is.text_len,
         two.again rows table small,
         found,
         (table_spells (rows + 1)).again proof.table lists (count, is.numbers),
-        (places_spell format rows (row_bytes_small is.size dpi)).again proof.places rest has,
+        (places_spell format rows (row_bytes_small is.fits.size dpi)).again proof.places rest has,
       ) refl;
 }
 

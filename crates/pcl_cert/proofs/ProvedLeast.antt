@@ -4,16 +4,16 @@ use Rattle.std.specs.Prelude.{slice_index}
 use Rattle.std.proofs.lemmas.List.{length-append, length-replicate, length-take-le, get_or_past}
 use Rattle.pcl_base.specs.declared.method.Method.{Method}
 use Rattle.pcl_base.specs.Size.{page_height, page_row_bytes}
-use Rattle.pcl_page.specs.declared.page.Page.{Page}
-use Rattle.pcl_coders.specs.Walks.{IsFeasible}
+use Rattle.pcl_bitmap.specs.declared.page.Page.{Page}
+use Rattle.pcl_base.specs.Walks.{IsFeasible}
 use Rattle.pcl_coders.specs.RowWalks.{IsRowTable}
 use Rattle.pcl_coders.proofs.Filling.{first_bounds}
-use Rattle.pcl_plan.specs.PageText.{PrintsPage, bitmap_rows}
-use Rattle.pcl_plan.specs.Nodes.{Leads, Ends, cost, row_at, row_above}
-use Rattle.pcl_plan.specs.Table.{node_number}
-use Rattle.pcl_plan.specs.declared.table.RowNumbers.{RowNumbers}
-use Rattle.pcl_plan.proofs.Texts.{widths, text_bounded}
-use Rattle.pcl_plan.proofs.Walking.{row_width, above_width}
+use Rattle.pcl_output.specs.PageText.{PrintsPage, bitmap_rows}
+use Rattle.pcl_output.specs.Nodes.{Leads, Ends, cost, row_at, row_above}
+use Rattle.pcl_output.specs.Table.{node_number}
+use Rattle.pcl_output.specs.declared.table.RowNumbers.{RowNumbers}
+use Rattle.pcl_output.proofs.Texts.{widths, text_bounded}
+use Rattle.pcl_output.proofs.Walking.{row_width, above_width}
 use Rattle.pcl_cert.specs.declared.check.Verdict.TheVariants as verdicts
 use Rattle.pcl_cert.specs.RowTables.{list_of, number_at_place}
 use Rattle.pcl_check.specs.Edges.{BoundData}
@@ -21,7 +21,7 @@ use Rattle.pcl_check.specs.Places.{IsGoodPlace}
 use Rattle.pcl_cert.specs.Checking.{Tables, AreOfPage, ArePlacesGood, AreEdgesGood, IsBounded, IsVerdict}
 use Rattle.pcl_cert.specs.PageTables.{table_of}
 use Rattle.pcl_check.proofs.GoodNumbers.{feasible_good, good_feasible, numbers_by_bounds}
-use Rattle.pcl_check.proofs.Lengths.{height_small}
+use Rattle.pcl_base.proofs.PageBounds.{height_small}
 
 first_padded : (n : ℕ) (list : List ℕ) → slice_index (table_of (suc n) list) 0 ≡ slice_index list 0
 first_padded n [] = refl

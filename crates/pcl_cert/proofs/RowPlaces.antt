@@ -7,10 +7,10 @@ use Rattle.pcl_base.specs.Method.{method_code}
 use Rattle.pcl_cert.specs.declared.check.places.BadPlace.{BadPlace}
 use Rattle.pcl_check.proofs.Moves.{same_method}
 use Rattle.pcl_base.specs.Size.{page_height, page_row_bytes}
-use Rattle.pcl_page.specs.declared.page.Page.{Page}
+use Rattle.pcl_bitmap.specs.declared.page.Page.{Page}
 use Rattle.pcl_coders.specs.RowWalks.{IsRowTable}
-use Rattle.pcl_plan.specs.PageText.{bitmap_rows}
-use Rattle.pcl_plan.specs.Nodes.{row_at, row_above}
+use Rattle.pcl_output.specs.PageText.{bitmap_rows}
+use Rattle.pcl_output.specs.Nodes.{row_at, row_above}
 use Rattle.pcl_cert.specs.RowTables.{list_of}
 use Rattle.pcl_check.specs.Places.{IsGoodPlace, IsFirstPlace, FindsPlace}
 use Rattle.pcl_cert.specs.Checking.{IsGoodIn, Tables, IsFirstBadIn}

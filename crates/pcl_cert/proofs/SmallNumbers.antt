@@ -12,15 +12,15 @@ use Rattle.pcl_rows.proofs.Overlays.{overlaid_within}
 use Rattle.pcl_rows.proofs.Readings.{plain_elements, row_of_plain}
 use Rattle.pcl_coders.specs.Coding.{IsCodable}
 use Rattle.pcl_coders.proofs.RowWalks.{length-base}
-use Rattle.pcl_coders.specs.Walks.{IsFeasible}
-use Rattle.pcl_plan.specs.Tokens.{opening, method, send, AreWhite}
-use Rattle.pcl_plan.specs.Nodes.{Node, row_at, row_above, Leads, Ends, cost, AreOfWidth}
-use Rattle.pcl_plan.specs.Spelling.{least_spelling}
-use Rattle.pcl_plan.specs.Table.{node_number, no_numbers}
-use Rattle.pcl_plan.specs.declared.table.RowNumbers.{RowNumbers}
-use Rattle.pcl_plan.proofs.Walking.{node, row_width, above_width}
-use Rattle.pcl_plan.proofs.RightRows.{cost_opening, cost_method, cost_send, method_small}
-use Rattle.pcl_plan.proofs.InkedRows.{spelled_cost, sending_small}
+use Rattle.pcl_base.specs.Walks.{IsFeasible}
+use Rattle.pcl_output.specs.Tokens.{opening, method, send, AreWhite}
+use Rattle.pcl_output.specs.declared.node.Node.{Node}
+use Rattle.pcl_output.specs.Nodes.{row_at, row_above, Leads, Ends, cost, AreOfWidth}
+use Rattle.pcl_output.specs.Spelling.{least_spelling}
+use Rattle.pcl_output.specs.Table.{node_number, no_numbers}
+use Rattle.pcl_output.specs.declared.table.RowNumbers.{RowNumbers}
+use Rattle.pcl_output.proofs.Walking.{node, row_width, above_width}
+use Rattle.pcl_output.proofs.TokenCosts.{cost_opening, cost_method, cost_send, method_small, spelled_cost, row_cost_small}
 use Rattle.pcl_cert.specs.Certificates.{AreSmall}
 
 -- ---- plain data
@@ -60,7 +60,7 @@ sent_plain {width} {rows} are narrow feasible row within =
           (refl, s.0, within, plain_row codable, refl),
       cost_send (least_spelling (length bytes)) bytes,
       s.1,
-      sending_small (length bytes) (omega (arith, long)),
+      row_cost_small (length bytes) (omega (arith, long)),
     )
 
 -- outside a sequence, where so many rows are left

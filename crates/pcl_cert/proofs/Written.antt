@@ -10,7 +10,7 @@ use Rattle.pcl_base.specs.Method.{method_code}
 use Rattle.pcl_cert.specs.declared.format.Format.{Format}
 use Rattle.pcl_cert.specs.declared.format.Format.TheVariants.{One, Two}
 use Rattle.pcl_cert.specs.declared.page_proof.PageProof.{PageProof}
-use Rattle.pcl_cert.specs.Certificates.{IsProof, AreProofs, proof_in, proofs_in}
+use Rattle.pcl_cert.specs.Certificates.{FitsFormat, FitFormat, IsProof, AreProofs, proof_in, proofs_in}
 use Rattle.pcl_cert.specs.RowTables.{list_of}
 use Rattle.pcl_cert.specs.TablesModel.{count_of, list_from, lists_within, IsListAt}
 use Rattle.pcl_cert.proofs.Numbers.{length_numbers, number_within}
@@ -18,15 +18,15 @@ use Rattle.pcl_cert.proofs.Numbers.{length_numbers, number_within}
 -- ---- pages
 
 proof_at_index : {dpi : Dpi} {format : Format} (proofs : List PageProof) (i : ℕ) (d : PageProof)
-    → AllByRecursion (IsProof dpi format) (proofs_in format proofs) → i < length proofs
-    → IsProof dpi format (proof_in format (get_or proofs i d))
+    → AllByRecursion (FitsFormat dpi format) (proofs_in format proofs) → i < length proofs
+    → FitsFormat dpi format (proof_in format (get_or proofs i d))
 proof_at_index [] i d are lt = absurd (omega arith)
 proof_at_index (proof ∷ proofs) zero d are lt = are.0
 proof_at_index (proof ∷ proofs) (suc i) d are lt = proof_at_index proofs i d are.1 (omega arith)
 
-pub proof_is : {dpi : Dpi} {format : Format} (proofs : List PageProof) {i : ℕ} (d : PageProof) → AreProofs dpi format
+pub proof_is : {dpi : Dpi} {format : Format} (proofs : List PageProof) {i : ℕ} (d : PageProof) → FitFormat dpi format
     (proofs_in format proofs)
-    → i < length proofs → IsProof dpi format (proof_in format (get_or proofs i d))
+    → i < length proofs → FitsFormat dpi format (proof_in format (get_or proofs i d))
 proof_is proofs {i} d are lt = proof_at_index proofs i d are.1 lt
 
 -- ---- numbers of lists
@@ -88,19 +88,19 @@ list_kept bytes starts row method {code} view there is at =
 
 -- ---- proofs of pages in the format that they were read in
 
-proof_of_format : {dpi : Dpi} (format : Format) {proof : PageProof} → IsProof dpi format proof → IsProof dpi format (proof_in format proof)
-proof_of_format One is =
-    record { size = is.size; text_len = is.text_len; height = is.height; numbers = is.numbers; lists = refl }
+proof_of_format : {dpi : Dpi} (format : Format) {proof : PageProof} → FitsFormat dpi format proof
+    → FitsFormat dpi format (proof_in format proof)
+proof_of_format One is = record { size = is.size; height = is.height; lists = refl }
 proof_of_format Two is = is
 
 proofs_of_format : (dpi : Dpi) (format : Format) (proofs : List PageProof) → AllByRecursion (IsProof dpi format) proofs
-    → AllByRecursion (IsProof dpi format) (proofs_in format proofs)
+    → AllByRecursion (FitsFormat dpi format) (proofs_in format proofs)
 proofs_of_format dpi format [] are = tt
 proofs_of_format dpi format (proof ∷ proofs) are =
-    (proof_of_format format are.0, proofs_of_format dpi format proofs are.1)
+    (proof_of_format format are.0.fits, proofs_of_format dpi format proofs are.1)
 
 -- what is read can be written again
 pub can_be_written : (dpi : Dpi) (format : Format) (proofs : List PageProof) → AreProofs dpi format proofs
-    → AreProofs dpi format (proofs_in format proofs)
+    → FitFormat dpi format (proofs_in format proofs)
 can_be_written dpi format proofs are =
     (omega (arith, are.0, length-map proofs (proof_in format)), proofs_of_format dpi format proofs are.1)

@@ -5,7 +5,7 @@ use Rattle.std.specs.List.{flat_map, AllByRecursion}
 use Rattle.pcl_base.specs.declared.dpi.Dpi.{Dpi}
 use Rattle.pcl_base.specs.declared.size.Size.{Size}
 use Rattle.pcl_base.specs.Size.{page_height, page_row_bytes}
-use Rattle.pcl_plan.specs.declared.table.RowNumbers.{RowNumbers}
+use Rattle.pcl_output.specs.declared.table.RowNumbers.{RowNumbers}
 use Rattle.pcl_cert.specs.declared.format.Format.{Format}
 use Rattle.pcl_cert.specs.declared.format.Format.TheVariants.{One, Two}
 use Rattle.pcl_cert.specs.declared.page_proof.PageProof.{PageProof}
@@ -61,13 +61,20 @@ HasLists One rows most places = places ≡ None
 HasLists Two rows most None = ⊥
 HasLists Two rows most (Some lists) = (length lists ≡ 4 * rows) × AllByRecursion (IsList most) lists
 
--- what a certificate says of a page: the page has a size, and its table a number for each of its nodes
-pub record IsProof (dpi : Dpi) (format : Format) (proof : PageProof) : Type 0 where
+-- a format can say this of a page: its table is as long as a page is high, and it has row tables where the format has them
+pub record FitsFormat (dpi : Dpi) (format : Format) (proof : PageProof) : Type 0 where
   pub size : Size
-  pub text_len : proof.text_len < 2 ^ 32
   pub height : length proof.table ≡ page_height size dpi + 1
-  pub numbers : AllByRecursion AreSmall proof.table
   pub lists : HasLists format (page_height size dpi) (page_row_bytes size dpi) proof.places
+
+abbrev pub FitFormat : Dpi → Format → List PageProof → Type 0
+FitFormat dpi format proofs = (length proofs < 2 ^ 32) × AllByRecursion (FitsFormat dpi format) proofs
+
+-- what a certificate says of a page: it fits the format, and its numbers have four bytes
+pub record IsProof (dpi : Dpi) (format : Format) (proof : PageProof) : Type 0 where
+  pub fits : FitsFormat dpi format proof
+  pub text_len : proof.text_len < 2 ^ 32
+  pub numbers : AllByRecursion AreSmall proof.table
 
 abbrev pub AreProofs : Dpi → Format → List PageProof → Type 0
 AreProofs dpi format proofs = (length proofs < 2 ^ 32) × AllByRecursion (IsProof dpi format) proofs

@@ -3,13 +3,13 @@ use Rattle.std.specs.Prelude.{◌≡◌, ℕ, ◌+◌, ◌*◌, ◌<◌, ◌≤�
 use Rattle.pcl_base.specs.declared.method.Method.{Method}
 use Rattle.pcl_base.specs.Method.{method_code}
 use Rattle.pcl_base.specs.Size.{page_height, page_row_bytes}
-use Rattle.pcl_page.specs.declared.page.Page.{Page}
-use Rattle.pcl_plan.specs.PageText.{PrintsPage, bitmap_rows}
-use Rattle.pcl_coders.specs.Walks.{IsFeasible}
-use Rattle.pcl_plan.specs.Nodes.{row_at, row_above, start, Leads, Ends, cost}
-use Rattle.pcl_plan.specs.LeastTexts.{fixed_bytes}
-use Rattle.pcl_plan.specs.Table.{node_number}
-use Rattle.pcl_plan.specs.declared.table.RowNumbers.{RowNumbers}
+use Rattle.pcl_bitmap.specs.declared.page.Page.{Page}
+use Rattle.pcl_output.specs.PageText.{PrintsPage, bitmap_rows}
+use Rattle.pcl_base.specs.Walks.{IsFeasible}
+use Rattle.pcl_output.specs.Nodes.{row_at, row_above, start, Leads, Ends, cost}
+use Rattle.pcl_output.specs.LeastTexts.{fixed_bytes}
+use Rattle.pcl_output.specs.Table.{node_number}
+use Rattle.pcl_output.specs.declared.table.RowNumbers.{RowNumbers}
 use Rattle.pcl_cert.specs.declared.check.Verdict.{Verdict}
 use Rattle.pcl_cert.specs.declared.check.Verdict.TheVariants.{NotGrammar, OtherPage, Rows, Place, Edge, Length, Proved}
 use Rattle.pcl_cert.specs.declared.check.places.BadPlace.{BadPlace}

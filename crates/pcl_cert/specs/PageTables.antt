@@ -4,9 +4,9 @@ use Rattle.std.specs.List.{AllByRecursion}
 use Rattle.pcl_base.specs.declared.method.Method.{Method}
 use Rattle.pcl_base.specs.Size.{page_row_bytes}
 use Rattle.pcl_coders.specs.RowWalks.{IsLeastTable}
-use Rattle.pcl_page.specs.declared.page.Page.{Page}
-use Rattle.pcl_plan.specs.Nodes.{row_at, row_above}
-use Rattle.pcl_plan.specs.PageText.{bitmap_rows}
+use Rattle.pcl_bitmap.specs.declared.page.Page.{Page}
+use Rattle.pcl_output.specs.Nodes.{row_at, row_above}
+use Rattle.pcl_output.specs.PageText.{bitmap_rows}
 use Rattle.pcl_cert.specs.Certificates.{IsList}
 use Rattle.pcl_cert.specs.RowTables.{list_of}
 

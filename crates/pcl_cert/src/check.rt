@@ -4,21 +4,21 @@ mod laws;
 mod lengths;
 mod places;
 
-ghost use Rattle.std.specs.Prelude.{◌≡◌, ℕ, ◌+◌, ◌<◌, ◌≤◌, ◌↔◌, length, decimal, option_copied, IfOk, IsTrue};
+ghost use Rattle.std.specs.Prelude.{◌≡◌, ℕ, ◌+◌, ◌<◌, ◌≤◌, ◌↔◌, length, option_copied, IfOk, IsTrue};
 ghost use Rattle.pcl_base.specs.Size.{page_height};
-ghost use Rattle.pcl_plan.specs.LeastTexts.{fixed_bytes};
+ghost use Rattle.pcl_output.specs.LeastTexts.{fixed_bytes};
 ghost use Rattle.pcl_check.specs.Edges.{FindsBad};
 ghost use Rattle.pcl_cert.specs.Checking.{IsVerdict, AreOfPage, IsGoodOf};
 
 use crate::tables::RowTables;
 pub use laws::{
-    plans_are_proved, plans_can_be_certified, proved_tables_are_feasible, proved_texts_are_least,
+    tables_are_proved, tables_can_be_certified, proved_tables_are_feasible, proved_texts_are_least,
 };
 use lengths::ByRowTables;
 use pcl_base::Method;
-use pcl_check::{BadNumber, LeastByCoders, TextVerdict, first_bad_number, read_page_text};
-use pcl_page::Page;
-use pcl_plan::Table;
+use pcl_check::{LeastByCoders, TextVerdict, first_bad_number, read_page_text};
+use pcl_bitmap::Page;
+use pcl_output::{Node, Table, digits};
 use places::first_bad_row_place;
 use std::alloc::{AllocError, Global};
 
@@ -112,7 +112,7 @@ fn first_bad_edge(
     page: &Page,
     table: &Table,
     tables: Option<&RowTables<'_>>,
-) -> Result<Option<BadNumber>, AllocError>
+) -> Result<Option<Node>, AllocError>
     requires { AreOfPage page.now table.now (option_copied tables) }
     ensures { IfOk result (FindsBad (IsGoodOf page.now table.now (option_copied tables.entry)) (page_height page.now.size page.now.dpi)) }
 {
@@ -126,14 +126,5 @@ fn first_bad_edge(
 fn fixed_len(page: &Page) -> usize
     ensures { result ≡ fixed_bytes page.now.dpi page.now.size page.now.copies }
 {
-    36 + digits(u32::from(page.copies)) + digits(page.size.code())
-}
-
-/// How many digits a number needs that has one or two.
-fn digits(number: u32) -> usize
-    requires { number < 100 }
-    ensures count { result ≡ length (decimal number) }
-    ensures few { result ≤ 2 }
-{
-    if number < 10 { 1 } else { 2 }
+    (36 + digits(u32::from(page.copies)) + digits(page.size.code())) as usize
 }

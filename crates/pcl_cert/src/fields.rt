@@ -6,7 +6,7 @@ ghost use Rattle.pcl_cert.specs.ReadingCertificates.{Gives, number_at, format_at
 
 use crate::fault::CertFault;
 use crate::format::Format;
-use pcl_plan::{ByMethod, RowNumbers};
+use pcl_output::{ByMethod, RowNumbers};
 
 /// A number of two bytes.
 pub fn word_at(bytes: &[u8]) -> Result<(u16, &[u8]), CertFault>

@@ -14,7 +14,7 @@ mod tables;
 mod writing_certificates;
 
 pub use check::{
-    Verdict, check_page, plans_are_proved, plans_can_be_certified, proved_tables_are_feasible,
+    Verdict, check_page, tables_are_proved, tables_can_be_certified, proved_tables_are_feasible,
     proved_texts_are_least,
 };
 pub use fault::CertFault;

@@ -1,7 +1,7 @@
 //! What a certificate says of a page.
 
 use crate::tables::RowTables;
-use pcl_plan::Table;
+use pcl_output::Table;
 
 /// What a certificate says of a page: the length of its text in bytes, a number for each node of the page, and in the
 /// second format a table for each of its rows and each method.

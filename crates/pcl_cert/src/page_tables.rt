@@ -10,9 +10,9 @@ use crate::listing::Lists;
 use crate::tables::{Bytes, RowTables};
 use pcl_base::ROW_LIMIT;
 use pcl_bitmap::Bitmap;
-use pcl_check::row_above;
+use pcl_output::row_above;
 use pcl_coders::{Delta, Packed, Plain, RowCoder, Runs};
-use pcl_page::Page;
+use pcl_bitmap::Page;
 use std::alloc::{AllocError, Global};
 
 /// The least numbers of each row of a page over the row above it, by each method (docs/CERTIFICATE.md, "Row tables"). It

@@ -15,7 +15,7 @@ use crate::format::Format;
 use crate::page_proof::PageProof;
 use crate::tables::{Bytes, RowTables, word};
 use pcl_base::{Dpi, Size};
-use pcl_plan::Table;
+use pcl_output::Table;
 use std::alloc::Global;
 
 /// What a certificate of pages at this resolution says of each page, and the format in which it says so

@@ -2,12 +2,12 @@
 
 ghost use Rattle.std.specs.Prelude.{◌≡◌, ◌++◌, length, take, OnOk, OnErr};
 ghost use Rattle.pcl_base.specs.declared.dpi.Dpi.{Dpi};
-ghost use Rattle.pcl_plan.specs.declared.table.RowNumbers.{RowNumbers as Numbers};
-ghost use Rattle.pcl_cert.specs.Certificates.{AreProofs, IsProof, proof_in, proofs_in, proof_bytes, certificate_bytes, table_bytes, row_bytes, pair_bytes, lists_bytes};
+ghost use Rattle.pcl_output.specs.declared.table.RowNumbers.{RowNumbers as Numbers};
+ghost use Rattle.pcl_cert.specs.Certificates.{FitsFormat, FitFormat, proof_in, proofs_in, proof_bytes, certificate_bytes, table_bytes, row_bytes, pair_bytes, lists_bytes};
 
 use crate::format::Format;
 use crate::page_proof::PageProof;
-use pcl_plan::{RowNumbers, Table};
+use pcl_output::{RowNumbers, Table};
 use std::alloc::AllocError;
 
 /// Appends the certificate of these pages in a format (docs/CERTIFICATE.md). The first format leaves row tables out; in the
@@ -17,7 +17,7 @@ pub fn write_certificate(
     format: Format,
     out: &mut Vec<u8>,
 ) -> Result<(), AllocError>
-    requires { (dpi : Dpi) × AreProofs dpi format (proofs_in format proofs.now) }
+    requires { (dpi : Dpi) × FitFormat dpi format (proofs_in format proofs.now) }
     ensures ok { OnOk result (out.new.items ≡ out.old.items ++ certificate_bytes format (proofs_in format proofs.now)) }
     ensures err { OnErr result (out.new.items ≡ out.old.items) }
 {
@@ -35,7 +35,7 @@ fn append_certificate(
     format: Format,
     out: &mut Vec<u8>,
 ) -> Result<(), AllocError>
-    requires { (dpi : Dpi) × AreProofs dpi format (proofs_in format proofs.now) }
+    requires { (dpi : Dpi) × FitFormat dpi format (proofs_in format proofs.now) }
     ensures ok { OnOk result (out.new.items ≡ out.old.items ++ certificate_bytes format (proofs_in format proofs.now)) }
     ensures front { take (length out.old.items) out.new.items ≡ out.old.items }
 {
@@ -49,7 +49,7 @@ fn append_certificate(
 
 /// Appends what is said of a page, or a prefix of it where memory runs out.
 fn append_proof(proof: &PageProof<'_>, format: Format, out: &mut Vec<u8>) -> Result<(), AllocError>
-    requires { (dpi : Dpi) × IsProof dpi format (proof_in format proof.now) }
+    requires { (dpi : Dpi) × FitsFormat dpi format (proof_in format proof.now) }
     ensures ok { OnOk result (out.new.items ≡ out.old.items ++ proof_bytes (proof_in format proof.now)) }
     ensures front { take (length out.old.items) out.new.items ≡ out.old.items }
 {

@@ -8,7 +8,7 @@ use Rattle.pcl_base.specs.declared.size.Size.{Size}
 use Rattle.pcl_base.specs.declared.size.Size.TheVariants.{Executive, Letter, Legal, A4}
 use Rattle.pcl_base.specs.Dpi.{dots_per_inch}
 use Rattle.pcl_base.specs.Size.{code_of, size_with_code, page_width}
-use Rattle.pcl_plan.specs.Tokens.{start_bytes}
+use Rattle.pcl_output.specs.Tokens.{start_bytes}
 use Rattle.pcl_check.specs.inner.Reading.{raster_start}
 use Rattle.pcl_check.proofs.Decimals.{same_front}
 

@@ -7,8 +7,8 @@ use Rattle.pcl_base.specs.declared.dpi.Dpi.{Dpi}
 use Rattle.pcl_base.specs.declared.size.Size.{Size}
 use Rattle.pcl_base.specs.Size.{page_height, page_row_bytes}
 use Rattle.pcl_bitmap.specs.Bitmap.{Picture}
-use Rattle.pcl_plan.specs.Tokens.{end_bytes}
-use Rattle.pcl_plan.specs.PageText.{bitmap_rows}
+use Rattle.pcl_output.specs.Tokens.{end_bytes}
+use Rattle.pcl_output.specs.PageText.{bitmap_rows}
 use Rattle.pcl_check.specs.declared.reading.body.Place.{Place}
 use Rattle.pcl_check.specs.inner.Reading.{LeftOver, RestPrints, GivesRows, left_at, body_of, AreRowsAt, Advances, IsOnlyPrinted}
 use Rattle.pcl_check.proofs.Fronts.{white_rows}

@@ -3,10 +3,9 @@ use Rattle.std.proofs.Common.{◌≡◌, ℕ, ◌≤◌, false, List, [], ◌∷
 use Rattle.std.specs.Prelude.{decimal}
 use Rattle.std.specs.List.{prefix_len}
 use Rattle.std.proofs.lemmas.List.{append-nil, nil_from_length}
-use Rattle.pcl_escape.specs.Field.{is_digit, number_of}
-use Rattle.pcl_escape.specs.Pieces.{AreDigits}
-use Rattle.pcl_escape.proofs.Fronts.{StopsAt, front_split}
-use Rattle.pcl_plan.proofs.Numbers.{decimal_spelled}
+use Rattle.pcl_base.specs.Digits.{is_digit, number_of, AreDigits}
+use Rattle.pcl_base.proofs.Fronts.{StopsAt, front_split}
+use Rattle.pcl_output.proofs.Numbers.{decimal_spelled}
 use Rattle.pcl_check.specs.declared.reading.parameter.Parameter.{Parameter}
 use Rattle.pcl_check.specs.inner.Reading.{IsParameter}
 use Rattle.pcl_check.proofs.Splits.{one_split, no_split}

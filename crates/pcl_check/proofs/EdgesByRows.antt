@@ -4,8 +4,8 @@ use Rattle.std.specs.Prelude.{slice_index}
 use Rattle.std.proofs.lemmas.Bool.{cases_lt}
 use Rattle.pcl_base.specs.declared.method.Method.{Method}
 use Rattle.pcl_base.specs.declared.method.Method.TheVariants.{Plain, Runs, Packed, Delta}
-use Rattle.pcl_plan.specs.Nodes.{Node}
-use Rattle.pcl_plan.proofs.Filled.{white_front, skippable_within, white_to_end, ink_left}
+use Rattle.pcl_output.specs.declared.node.Node.{Node}
+use Rattle.pcl_output.proofs.WhiteRows.{white_front, skippable_within, white_to_end, ink_left}
 use Rattle.pcl_check.specs.Edges.{AreGoodSwitches, AreGoodSkips, IsGoodOutside, IsGoodNumber}
 use Rattle.pcl_check.specs.inner.EdgePasses.{At, Both, AreRunEnds, IsGoodStart, IsGoodSending, AreGoodSkipsTo, IsGoodBy, IsGoodIn}
 

@@ -4,8 +4,8 @@ use Rattle.std.specs.Prelude.{nat_lt, if◌then◌else◌, Option, Some, None}
 use Rattle.std.proofs.lemmas.Bool.{ltb-true, ltb-false}
 use Rattle.pcl_base.specs.declared.method.Method.{Method}
 use Rattle.pcl_base.specs.Method.{method_code}
-use Rattle.pcl_plan.proofs.RightRows.{method_small}
-use Rattle.pcl_check.specs.declared.edges.found.BadNumber.{BadNumber}
+use Rattle.pcl_output.proofs.TokenCosts.{method_small}
+use Rattle.pcl_output.specs.declared.node.Node.{Node}
 use Rattle.pcl_check.specs.Edges.{inside_code, place_of, IsFirstBad, FindsBad}
 use Rattle.pcl_check.specs.inner.EdgePasses.{found_place, first_found, At, Both}
 
@@ -19,7 +19,7 @@ pub row_before : (row other : ℕ) (method next : Method) (inside is_open : Bool
 row_before row other method next inside is_open lt = omega (arith, lt, method_small next, inside_small is_open)
 
 -- both facts at once
-chosen : (One Other : ℕ → Method → Bool → Type 0) {last : ℕ} {one other : BadNumber} (t : Bool)
+chosen : (One Other : ℕ → Method → Bool → Type 0) {last : ℕ} {one other : Node} (t : Bool)
     → (t ≡ true → found_place other < found_place one) → (t ≡ false → found_place one ≤ found_place other)
     → IsFirstBad One last one → IsFirstBad Other last other → FindsBad (Both One Other) last (if t then Some other else Some one)
 chosen One Other true less more a b = record {
@@ -33,7 +33,7 @@ chosen One Other false less more a b = record {
   first = λ row method inside before. (a.first row method inside before, b.first row method inside (omega (arith, before, more refl)));
 }
 
-pub first_finds : (One Other : ℕ → Method → Bool → Type 0) (last : ℕ) (one other : Option BadNumber) → FindsBad One last one
+pub first_finds : (One Other : ℕ → Method → Bool → Type 0) (last : ℕ) (one other : Option Node) → FindsBad One last one
     → FindsBad Other last other → FindsBad (Both One Other) last (first_found one other)
 first_finds One Other last None None a b = λ row method inside le. (a row method inside le, b row method inside le)
 first_finds One Other last None (Some bad) a b = record {
@@ -57,7 +57,7 @@ first_finds One Other last (Some one) (Some other) a b =
     (ltb-false (found_place other) (found_place one)) a b
 
 -- another fact that says the same
-pub finds_too : (One Other : ℕ → Method → Bool → Type 0) {last : ℕ} (found : Option BadNumber)
+pub finds_too : (One Other : ℕ → Method → Bool → Type 0) {last : ℕ} (found : Option Node)
     → ((row : ℕ) (method : Method) (inside : Bool) → row ≤ last → One row method inside → Other row method inside)
     → ((row : ℕ) (method : Method) (inside : Bool) → row ≤ last → Other row method inside → One row method inside)
     → FindsBad One last found → FindsBad Other last found

@@ -8,12 +8,11 @@ use Rattle.pcl_base.specs.declared.method.Method.{Method}
 use Rattle.pcl_base.specs.declared.size.Size.{Size}
 use Rattle.pcl_base.specs.Method.{method_code}
 use Rattle.pcl_base.specs.Size.{page_row_bytes}
-use Rattle.pcl_escape.specs.Field.{is_digit, number_of}
-use Rattle.pcl_escape.specs.Pieces.{AreDigits}
+use Rattle.pcl_base.specs.Digits.{is_digit, number_of, AreDigits}
 use Rattle.pcl_rows.specs.Rows.{IsRowData}
-use Rattle.pcl_plan.specs.Tokens.{Token, opening, method, skip, send, letter, token_bytes, AreWhite, PrintsRows, end_bytes}
-use Rattle.pcl_plan.specs.PageText.{IsRowOf}
-use Rattle.pcl_plan.proofs.Walking.{white_is_zeros}
+use Rattle.pcl_output.specs.Tokens.{Token, opening, method, skip, send, letter, token_bytes, AreWhite, PrintsRows, end_bytes}
+use Rattle.pcl_output.specs.PageText.{IsRowOf}
+use Rattle.pcl_output.proofs.Walking.{white_is_zeros}
 use Rattle.pcl_check.specs.inner.Reading.{LeftOver, RestPrints}
 use Rattle.pcl_check.proofs.Splits.{one_split}
 

@@ -8,17 +8,18 @@ use Rattle.pcl_base.specs.declared.method.Method.TheVariants.{Plain, Runs, Packe
 use Rattle.pcl_base.specs.Method.{method_code}
 use Rattle.pcl_rows.specs.Rows.{IsRowData}
 use Rattle.pcl_coders.specs.Coding.{IsLeastLength}
-use Rattle.pcl_coders.specs.Walks.{IsFeasible}
-use Rattle.pcl_plan.specs.declared.table.RowNumbers.{RowNumbers}
-use Rattle.pcl_plan.specs.Tokens.{Token, opening, method, skip, send, IsSpelled}
-use Rattle.pcl_plan.specs.Nodes.{Node, row_at, row_above, Leads, Ends, cost}
-use Rattle.pcl_plan.specs.Spelling.{least_spelling}
-use Rattle.pcl_plan.specs.Table.{number_in, no_numbers, node_number}
-use Rattle.pcl_plan.proofs.Digits.{count_grows, spelled_long}
-use Rattle.pcl_plan.proofs.InkedRows.{length_small, spelled_cost}
-use Rattle.pcl_plan.proofs.RightRows.{cost_opening, cost_method, cost_skip, cost_send, method_small}
-use Rattle.pcl_plan.proofs.Walking.{node}
-use Rattle.pcl_check.specs.Edges.{number_at, row_cost, IsGoodNumber, AreGoodNumbers, IsLeastOfRow, IsGiven, BoundData}
+use Rattle.pcl_base.specs.Walks.{IsFeasible}
+use Rattle.pcl_output.specs.declared.table.RowNumbers.{RowNumbers}
+use Rattle.pcl_output.specs.Tokens.{Token, opening, method, skip, send, IsSpelled}
+use Rattle.pcl_output.specs.declared.node.Node.{Node}
+use Rattle.pcl_output.specs.Nodes.{row_at, row_above, Leads, Ends, cost}
+use Rattle.pcl_output.specs.Spelling.{least_spelling, row_cost}
+use Rattle.pcl_output.specs.Table.{number_in, no_numbers, node_number}
+use Rattle.pcl_output.proofs.DigitCounts.{count_grows, spelled_long}
+use Rattle.pcl_coders.proofs.Lengths.{length_small}
+use Rattle.pcl_output.proofs.TokenCosts.{spelled_cost, cost_opening, cost_method, cost_skip, cost_send, method_small}
+use Rattle.pcl_output.proofs.Walking.{node}
+use Rattle.pcl_check.specs.Edges.{number_at, IsGoodNumber, AreGoodNumbers, IsLeastOfRow, IsGiven, BoundData}
 
 -- ---- from good numbers
 

@@ -16,7 +16,6 @@ pub mod StepWindows
 pub mod SkipWindows
 pub mod EdgesByRows
 pub mod Switches
-pub mod Lengths
 pub mod GoodNumbers
 pub mod PlacesFound
 pub mod PlaceWindows

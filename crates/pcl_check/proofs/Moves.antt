@@ -11,14 +11,13 @@ use Rattle.pcl_base.specs.declared.size.Size.{Size}
 use Rattle.pcl_base.specs.Method.{method_code, method_with_code}
 use Rattle.pcl_base.specs.Size.{page_row_bytes}
 use Rattle.pcl_bitmap.specs.Bitmap.{bit_of_byte, dot_of_row}
-use Rattle.pcl_escape.specs.Field.{is_digit, number_of}
-use Rattle.pcl_escape.specs.Pieces.{AreDigits}
+use Rattle.pcl_base.specs.Digits.{is_digit, number_of, AreDigits}
 use Rattle.pcl_rows.specs.Rows.{IsRowData}
 use Rattle.pcl_rows.proofs.Decoded.{decoded_is}
 use Rattle.pcl_rows.specs.Decoding.{decoded}
-use Rattle.pcl_plan.specs.Tokens.{Token, opening, method, skip, send, token_bytes, IsWhite, AreWhite, PrintsRows, end_bytes}
-use Rattle.pcl_plan.specs.PageText.{IsRowOf}
-use Rattle.pcl_plan.proofs.Walking.{white_is_zeros}
+use Rattle.pcl_output.specs.Tokens.{Token, opening, method, skip, send, token_bytes, IsWhite, AreWhite, PrintsRows, end_bytes}
+use Rattle.pcl_output.specs.PageText.{IsRowOf}
+use Rattle.pcl_output.proofs.Walking.{white_is_zeros}
 use Rattle.pcl_check.specs.inner.Reading.{LeftOver, RestPrints, GivesRows}
 use Rattle.pcl_check.proofs.Splits.{no_split}
 use Rattle.pcl_check.proofs.Fronts.{letter_code, letter_is, left_over, white_rows, Foremost, is_method, is_skip, is_send, front_of, regroup, no_digit_77, no_digit_89}

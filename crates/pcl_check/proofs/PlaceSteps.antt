@@ -1,6 +1,6 @@
 -- All elements at a place, kind by kind.
 use Rattle.std.proofs.Common.{◌≡◌, ℕ, ◌+◌, ◌≤◌, List, length, take, drop, replicate, refl, sym, ap, ◌∙◌, inl, inr, arith}
-use Rattle.std.specs.Prelude.{slice_index}
+use Rattle.std.specs.Prelude.{slice_index, Option, Some, None}
 use Rattle.std.proofs.lemmas.Bool.{cases_lt}
 use Rattle.std.proofs.lemmas.List.{length-drop, length-replicate, get_or_past}
 use Rattle.pcl_base.specs.declared.method.Method.{Method}
@@ -14,7 +14,6 @@ use Rattle.pcl_coders.proofs.Shapes.{IsRepeat, plain_shape, runs_shape, packed_s
 use Rattle.pcl_coders.proofs.Choices.{IsShapeElement, agrees_gives, byte_step, run_step, repeat_step, literal_step, replace_step}
 use Rattle.pcl_check.specs.Places.{IsGoodPlace, FindsPlace, FindsBadPlace}
 use Rattle.pcl_check.specs.inner.PlacePasses.{IsGoodByte, AreGoodRuns, AreGoodLiterals, AreGoodReplacements, AreGoodSteps}
-use Rattle.std.specs.Prelude.{Option, Some, None}
 use Rattle.pcl_base.proofs.Lists.{first_of_run}
 
 -- ---- from kinds to elements

@@ -4,10 +4,10 @@ use Rattle.std.specs.Prelude.{slice_index}
 use Rattle.std.proofs.Math.ListN.{length-set}
 use Rattle.std.proofs.lemmas.Bool.{cases_lt, cases_eq}
 use Rattle.std.proofs.lemmas.List.{get_or-set_same, get_or-set_other}
-use Rattle.pcl_plan.specs.Tokens.{IsWhite}
-use Rattle.pcl_plan.specs.Nodes.{row_at}
-use Rattle.pcl_plan.specs.inner.Filling.{IsWhiteRun}
-use Rattle.pcl_plan.proofs.Filled.{white_below, run_more, run_none, run_end}
+use Rattle.pcl_output.specs.Tokens.{IsWhite}
+use Rattle.pcl_output.specs.Nodes.{row_at}
+use Rattle.pcl_output.specs.inner.WhiteRows.{IsWhiteRun}
+use Rattle.pcl_output.proofs.WhiteRows.{white_below, run_more, run_none, run_end}
 use Rattle.pcl_check.specs.inner.EdgePasses.{AreRunEnds, AreEnds}
 
 -- the white rows from a row end no earlier where they begin a row later

@@ -3,10 +3,10 @@ use Rattle.std.proofs.Common.{◌≡◌, ℕ, ◌+◌, ◌-◌, ◌^◌, ◌<◌
 use Rattle.std.proofs.lemmas.Bool.{cases_lt}
 use Rattle.pcl_base.specs.declared.method.Method.{Method}
 use Rattle.pcl_coders.specs.Windows.{IsLeastOf}
-use Rattle.pcl_plan.specs.Nodes.{Node}
-use Rattle.pcl_plan.specs.Filling.{rest}
-use Rattle.pcl_plan.proofs.Digits.{count_is, count_le}
-use Rattle.pcl_plan.proofs.RightRows.{rest_below, best_end}
+use Rattle.pcl_output.specs.declared.node.Node.{Node}
+use Rattle.pcl_output.specs.Table.{rest}
+use Rattle.pcl_output.proofs.DigitCounts.{count_is, count_le}
+use Rattle.pcl_output.proofs.TokenCosts.{rest_below, best_end}
 use Rattle.pcl_check.specs.Edges.{number_at}
 use Rattle.pcl_check.specs.inner.EdgePasses.{AreEnds, AreGoodSkipsOf, AreGoodSkipsTo, rests}
 use Rattle.pcl_check.proofs.Values.{length_values, value_in}

@@ -14,8 +14,9 @@ use Rattle.pcl_base.specs.declared.size.Size.TheVariants.{Executive, Letter, Leg
 use Rattle.pcl_base.specs.Method.{method_code, method_with_code}
 use Rattle.pcl_base.specs.Size.{page_height, page_row_bytes}
 use Rattle.pcl_bitmap.specs.Bitmap.{Picture}
-use Rattle.pcl_escape.specs.Field.{number_of}
-use Rattle.pcl_plan.specs.PageText.{IsRowOf, bitmap_rows}
+use Rattle.pcl_base.specs.Digits.{number_of}
+use Rattle.pcl_base.proofs.PageBounds.{height_small}
+use Rattle.pcl_output.specs.PageText.{IsRowOf, bitmap_rows}
 use Rattle.pcl_rows.specs.Rows.{IsRowData}
 use Rattle.pcl_check.specs.declared.reading.body.Place.{Place}
 use Rattle.pcl_check.specs.declared.reading.parameter.Parameter.{Parameter}
@@ -116,16 +117,6 @@ switched {picture} {size} {above} {place} {parameter} {next} inside is letter so
 
 -- ---- rows that are skipped
 
-heights : (size : Size) (dpi : Dpi) → page_height size dpi ≤ 8400
-heights Executive Dpi300 = lit≤ tt
-heights Letter Dpi300 = lit≤ tt
-heights Legal Dpi300 = lit≤ tt
-heights A4 Dpi300 = lit≤ tt
-heights Executive Dpi600 = lit≤ tt
-heights Letter Dpi600 = lit≤ tt
-heights Legal Dpi600 = lit≤ tt
-heights A4 Dpi600 = lit≤ tt
-
 pub becomes_to : {size : Size} {dpi : Dpi} {old : LeftOver} {given : List (List ℕ)} {inside outcome : Bool} {current : Method}
     {above below : List ℕ} {rows left : ℕ} {text : List ℕ} → inside ≡ outcome → above ≡ below → rows ≡ left
     → GivesRows size dpi old given (left_over inside current above rows text)
@@ -159,7 +150,7 @@ pub skipped : (picture : Picture) (size : Size) (above below : List ℕ) (place 
     }) below
 skipped picture size above below place parameter is_same inside is letter some few white same =
     let signed = cased letter in
-    let high = heights size picture.dpi in
+    let high = height_small size picture.dpi in
     let number : number_of parameter.digits.now ≡ parameter.number = omega (arith, is.number_is) in
     let left = left_at size picture.dpi place above in
     let given = white_rows size picture.dpi parameter.number in

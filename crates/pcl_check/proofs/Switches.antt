@@ -3,10 +3,10 @@ use Rattle.std.proofs.Common.{◌≡◌, ℕ, ◌+◌, ◌≤◌, true, min, ari
 use Rattle.pcl_base.specs.declared.method.Method.{Method}
 use Rattle.pcl_base.specs.declared.method.Method.TheVariants.{Plain, Runs, Packed, Delta}
 use Rattle.std.specs.Prelude.{not}
-use Rattle.pcl_plan.specs.Nodes.{Node}
-use Rattle.pcl_plan.specs.Filling.{rest}
-use Rattle.pcl_plan.proofs.RightRows.{rest_below, best_end}
-use Rattle.pcl_plan.proofs.Switching.{switch_cost, switching_is}
+use Rattle.pcl_output.specs.declared.node.Node.{Node}
+use Rattle.pcl_output.specs.Table.{rest}
+use Rattle.pcl_output.proofs.TokenCosts.{rest_below, best_end}
+use Rattle.pcl_output.proofs.Switching.{switch_cost, switching_is}
 use Rattle.pcl_check.specs.Edges.{number_at, AreGoodSwitches}
 
 -- what may come after a switch: to method 0, and to another

@@ -10,9 +10,9 @@ use Rattle.pcl_base.specs.contracts.size.Size.{the_type}
 use denote.Enum.Bare.{sameb}
 use Rattle.pcl_base.specs.Size.{page_height, page_row_bytes, code_of, size_with_code}
 use Rattle.pcl_bitmap.specs.Bitmap.{Picture}
-use Rattle.pcl_plan.specs.Tokens.{token_bytes, start_bytes, end_bytes}
-use Rattle.pcl_plan.specs.PageText.{IsPageText, bitmap_rows}
-use Rattle.pcl_plan.proofs.RowsFrom.{length_rows}
+use Rattle.pcl_output.specs.Tokens.{token_bytes, start_bytes, end_bytes}
+use Rattle.pcl_output.specs.PageText.{IsPageText, bitmap_rows}
+use Rattle.pcl_output.proofs.RowsFrom.{length_rows}
 use Rattle.pcl_check.specs.declared.reading.start.Start.{Start}
 use Rattle.pcl_check.specs.inner.Reading.{IsStart, RestPrints, body_of, IsBodyVerdict, raster_start}
 use Rattle.pcl_check.specs.TextVerdicts.{IsSomePageText}

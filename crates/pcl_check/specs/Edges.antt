@@ -4,20 +4,10 @@ use Rattle.pcl_base.specs.declared.method.Method.{Method}
 use Rattle.pcl_base.specs.Method.{method_code}
 use Rattle.pcl_rows.specs.Rows.{IsRowData}
 use Rattle.pcl_coders.specs.Coding.{IsLeastLength}
-use Rattle.pcl_plan.specs.Tokens.{AreWhite}
-use Rattle.pcl_plan.specs.Nodes.{Node, row_at, row_above}
-use Rattle.pcl_plan.specs.Spelling.{digit_count}
-use Rattle.pcl_check.specs.declared.edges.found.BadNumber.{BadNumber}
-
--- ---- costs
-
--- a setting: the digits of its number, and its letter
-abbrev pub setting_cost : ℕ → ℕ
-setting_cost number = digit_count number + 1
-
--- a row of so many bytes of data
-abbrev pub row_cost : ℕ → ℕ
-row_cost bytes = setting_cost bytes + bytes
+use Rattle.pcl_output.specs.Tokens.{AreWhite}
+use Rattle.pcl_output.specs.declared.node.Node.{Node}
+use Rattle.pcl_output.specs.Nodes.{row_at, row_above}
+use Rattle.pcl_output.specs.Spelling.{setting_cost, row_cost}
 
 -- ---- good numbers
 
@@ -87,13 +77,13 @@ abbrev pub place_of : ℕ → Method → Bool → ℕ
 place_of row method inside = 8 * row + 2 * method_code method + inside_code inside
 
 -- the first node, down to so many rows, whose number isn't good
-pub record IsFirstBad (Good : ℕ → Method → Bool → Type 0) (last : ℕ) (bad : BadNumber) : Type 0 where
+pub record IsFirstBad (Good : ℕ → Method → Bool → Type 0) (last : ℕ) (bad : Node) : Type 0 where
   pub within : bad.row ≤ last
   pub is_bad : Good bad.row bad.method bad.inside → ⊥
   pub first : (row : ℕ) (method : Method) (inside : Bool)
       → place_of row method inside < place_of bad.row bad.method bad.inside → Good row method inside
 
 -- that node, or none where all numbers are good
-abbrev pub FindsBad : (ℕ → Method → Bool → Type 0) → ℕ → Option BadNumber → Type 0
+abbrev pub FindsBad : (ℕ → Method → Bool → Type 0) → ℕ → Option Node → Type 0
 FindsBad Good last found =
     MatchOption found ((row : ℕ) (method : Method) (inside : Bool) → row ≤ last → Good row method inside) (IsFirstBad Good last)

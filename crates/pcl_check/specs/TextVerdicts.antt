@@ -2,8 +2,8 @@
 use Rattle.std.specs.Prelude.{ℕ, List}
 use Rattle.pcl_base.specs.declared.dpi.Dpi.{Dpi}
 use Rattle.pcl_base.specs.declared.size.Size.{Size}
-use Rattle.pcl_page.specs.declared.page.Page.{Page}
-use Rattle.pcl_plan.specs.PageText.{IsPageText, PrintsPage}
+use Rattle.pcl_bitmap.specs.declared.page.Page.{Page}
+use Rattle.pcl_output.specs.PageText.{IsPageText, PrintsPage}
 use Rattle.pcl_check.specs.declared.reading.TextVerdict.{TextVerdict}
 use Rattle.pcl_check.specs.declared.reading.TextVerdict.TheVariants.{NotGrammar, OtherPage, Prints}
 

@@ -9,20 +9,20 @@ ghost use Rattle.std.specs.Prelude.{◌≡◌, ℕ, ◌+◌, ◌-◌, ◌<◌, �
 ghost use Rattle.pcl_base.specs.declared.method.Method.{Method as RowMethod};
 ghost use Rattle.pcl_base.specs.Method.{method_code};
 ghost use Rattle.pcl_base.specs.Size.{page_height};
-ghost use Rattle.pcl_plan.specs.PageText.{bitmap_rows};
-ghost use Rattle.pcl_plan.specs.Table.{node_number};
-ghost use Rattle.pcl_check.specs.Edges.{number_at, setting_cost, row_cost, AreGoodSwitches, IsGoodNumber, FindsBad};
+ghost use Rattle.pcl_output.specs.PageText.{bitmap_rows};
+ghost use Rattle.pcl_output.specs.Table.{node_number};
+ghost use Rattle.pcl_check.specs.Edges.{number_at, AreGoodSwitches, IsGoodNumber, FindsBad};
+ghost use Rattle.pcl_output.specs.Spelling.{setting_cost, row_cost};
 ghost use Rattle.pcl_check.specs.inner.EdgePasses.{At, AreRunEnds, AreEnds, IsGoodStart, IsGoodSending, IsGoodIn};
 
-use crate::costs::{is_within, row_cost};
-pub use found::BadNumber;
+use crate::costs::is_within;
 use found::first_of;
 pub use laws::{good_numbers_are_feasible, numbers_by_bounds_are_feasible};
-pub use lengths::{LeastByCoders, RowLengths, row_above};
+pub use lengths::{LeastByCoders, RowLengths};
 use pcl_base::Method;
 use pcl_bitmap::Bitmap;
-use pcl_page::Page;
-use pcl_plan::Table;
+use pcl_bitmap::Page;
+use pcl_output::{Node, Table, row_cost};
 use skips::first_bad_skip;
 use std::alloc::{AllocError, Global};
 
@@ -35,7 +35,7 @@ pub fn first_bad_number<L: RowLengths>(
     lengths: &L,
     page: &Page,
     table: &Table,
-) -> Result<Option<BadNumber>, AllocError>
+) -> Result<Option<Node>, AllocError>
     requires covered { L.covers lengths.now page.now }
     requires rows { length table.now ≡ page_height page.now.size page.now.dpi + 1 }
     ensures { IfOk result (FindsBad (IsGoodNumber (bitmap_rows page.now.bitmap) (L.counts lengths.now page.now) (node_number table.now))
@@ -57,7 +57,7 @@ fn first_bad<L: RowLengths>(
     ends: &mut [u32],
     numbers: &mut [u32],
     queue: &mut [usize],
-) -> Option<BadNumber>
+) -> Option<Node>
     requires covered { L.covers lengths.now page.now }
     requires rows { length table.now ≡ page_height page.now.size page.now.dpi + 1 }
     requires ends { length ends.old ≡ length table.now }
@@ -98,7 +98,7 @@ fn first_bad_in<L: RowLengths>(
     method: Method,
     numbers: &mut [u32],
     queue: &mut [usize],
-) -> Option<BadNumber>
+) -> Option<Node>
     requires covered { L.covers lengths.now page.now }
     requires rows { length table.now ≡ page_height page.now.size page.now.dpi + 1 }
     requires ends { AreEnds ends.now (page_height page.now.size page.now.dpi) }
@@ -114,14 +114,14 @@ fn first_bad_in<L: RowLengths>(
 }
 
 /// The first node outside a sequence whose number is above that of the sequence that is opened, or isn't 0 at an end.
-fn first_bad_start(table: &Table, ends: &[u32], method: Method) -> Option<BadNumber>
+fn first_bad_start(table: &Table, ends: &[u32], method: Method) -> Option<Node>
     requires ends { AreEnds ends.now (length table.now - 1) }
     requires size { length ends.now ≡ length table.now }
     ensures { FindsBad (At method false (IsGoodStart ends.now (node_number table.now) method)) (length table.now - 1) result }
 {
     for row in 0..ends.len() as u32 {
         if !is_good_start(table, ends, row, method) {
-            return Some(BadNumber {
+            return Some(Node {
                 row,
                 method,
                 inside: false,
@@ -143,13 +143,13 @@ fn is_good_start(table: &Table, ends: &[u32], row: u32, method: Method) -> bool
 }
 
 /// The first node inside a sequence that a switch to a method undercuts.
-fn first_bad_switch(table: &Table, method: Method) -> Option<BadNumber>
+fn first_bad_switch(table: &Table, method: Method) -> Option<Node>
     requires { length table.now ≤ 10000 }
     ensures { FindsBad (At method true (AreGoodSwitches (node_number table.now) method)) (length table.now - 1) result }
 {
     for row in 0..table.rows() + 1 {
         if !are_good_switches(table, row, method) {
-            return Some(BadNumber {
+            return Some(Node {
                 row,
                 method,
                 inside: true,
@@ -178,7 +178,7 @@ fn first_bad_sending<L: RowLengths>(
     page: &Page,
     table: &Table,
     method: Method,
-) -> Option<BadNumber>
+) -> Option<Node>
     requires covered { L.covers lengths.now page.now }
     requires rows { length table.now ≡ page_height page.now.size page.now.dpi + 1 }
     ensures { FindsBad (At method true (IsGoodSending (page_height page.now.size page.now.dpi) (L.counts lengths.now page.now)
@@ -188,7 +188,7 @@ fn first_bad_sending<L: RowLengths>(
         let sent = row_cost(lengths.length(page, row, method));
         let next = table.number(row + 1, method, false);
         if !is_within(table.number(row, method, true), sent, next) {
-            return Some(BadNumber {
+            return Some(Node {
                 row,
                 method,
                 inside: true,

@@ -8,8 +8,8 @@ mod places;
 mod reading;
 
 pub use edges::{
-    BadNumber, LeastByCoders, RowLengths, first_bad_number, good_numbers_are_feasible,
-    numbers_by_bounds_are_feasible, row_above,
+    LeastByCoders, RowLengths, first_bad_number, good_numbers_are_feasible,
+    numbers_by_bounds_are_feasible,
 };
 pub use places::first_bad_place;
 pub use reading::{TextVerdict, read_page_text};

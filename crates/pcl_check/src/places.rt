@@ -15,6 +15,7 @@ ghost use Rattle.pcl_check.specs.inner.PlacePasses.{IsGoodEnd, IsGoodByte, AreGo
 use fill::{add_places, fill_behind_starts, fill_ends, fill_run_stops, fill_start_ends, widen};
 use found::first_place;
 use pcl_base::{Method, ROW_LIMIT};
+use pcl_coders::base_row;
 use steady::is_steady_table;
 use windows::first_undercut;
 
@@ -38,18 +39,6 @@ pub fn first_bad_place(method: Method, row: &[u8], seed: &[u8], numbers: &[u16])
     let end = first_bad_end(old, row, numbers);
     let step = first_bad_step(method, old, row, numbers);
     first_place(end, step)
-}
-
-/// The row before its data comes: zeros, and the seed row in method 3.
-fn base_row<'a>(method: Method, seed: &'a [u8], zeros: &'a [u8]) -> &'a [u8]
-    requires zeros { zeros.now ≡ replicate 600 0 }
-    requires small { length seed.now ≤ 600 }
-    ensures { result.now ≡ base method seed.now }
-{
-    match method {
-        Method::Plain | Method::Runs | Method::Packed => &zeros[..seed.len()],
-        Method::Delta => seed,
-    }
 }
 
 /// The first place from which no more data is needed and whose number isn't 0.

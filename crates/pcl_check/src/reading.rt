@@ -10,7 +10,7 @@ ghost use Rattle.pcl_check.specs.TextVerdicts.{IsTextVerdict};
 
 use body::read_body;
 use comparison::Comparison;
-use pcl_page::Page;
+use pcl_bitmap::Page;
 use start::read_start;
 
 /// What a text is, beside a page.

@@ -8,7 +8,7 @@ use Rattle.pcl_base.specs.declared.method.Method.TheVariants.{Runs, Packed, Delt
 use Rattle.pcl_bitmap.specs.Kernels.{IsFirstDifference, IsRunEnd}
 use Rattle.pcl_rows.specs.Heads.{offset_of}
 use Rattle.pcl_rows.specs.Elements.{Element, given, stop}
-use Rattle.pcl_coders.specs.Walks.{Walk, total}
+use Rattle.pcl_base.specs.Walks.{Walk, total}
 use Rattle.pcl_coders.specs.Starts.{IsLatestStart}
 use Rattle.pcl_coders.specs.inner.Replacement.{replacement_bytes}
 use Rattle.pcl_coders.specs.RowWalks.{Leads, Ends, cost}

@@ -11,13 +11,13 @@ use Rattle.pcl_base.specs.declared.method.Method.TheVariants.{Plain, Runs, Packe
 use Rattle.pcl_rows.specs.Elements.{Element, IsElement, element_bytes, stop}
 use Rattle.pcl_rows.specs.Rows.{base, IsRowData}
 use Rattle.pcl_rows.proofs.Spellings.{spelling_has_byte}
-use Rattle.pcl_coders.specs.Walks.{Walk, total, IsAttained, IsLeastCost}
+use Rattle.pcl_base.specs.Walks.{Walk, total, IsAttained, IsLeastCost}
 use Rattle.pcl_coders.specs.RowWalks.{Agrees, Leads, Ends, cost, IsRowTable, IsLeastTable}
 use Rattle.pcl_coders.specs.Coding.{IsCodable, IsLeastLength, AppendsLeast}
 use Rattle.pcl_coders.specs.inner.Filling.{IsPlaceNumber, AreRightFrom, AppendsWalk}
 use Rattle.pcl_coders.specs.declared.shape.Shape.{Shape}
 use Rattle.pcl_coders.specs.inner.Shape.{element_of, shape_stop, IsShapeChoice}
-use Rattle.pcl_coders.proofs.Walks.{feasible_bounds, attained_is_least}
+use Rattle.pcl_base.proofs.Walks.{feasible_bounds, attained_is_least}
 use Rattle.pcl_coders.proofs.RowWalks.{length-base, total_is, stop_within, walk_of_data, data_of_walk}
 use Rattle.pcl_coders.proofs.Choices.{IsShapeElement, byte_step, run_step, literal_step, replace_step}
 

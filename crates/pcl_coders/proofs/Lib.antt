@@ -1,4 +1,3 @@
-pub mod Walks
 pub mod RowWalks
 pub mod Shapes
 pub mod Prefixes
@@ -11,3 +10,4 @@ pub mod Literals
 pub mod Tables
 pub mod Starts
 pub mod Along
+pub mod Lengths

@@ -12,7 +12,7 @@ use Rattle.pcl_rows.specs.Rows.{base, after_element, after_elements, RowFrom, Is
 use Rattle.pcl_rows.proofs.Readings.{after_none, some_element}
 use Rattle.pcl_rows.proofs.Spellings.{spelling_has_byte}
 use Rattle.pcl_rows.proofs.OneReading.{one_row}
-use Rattle.pcl_coders.specs.Walks.{Walk, total}
+use Rattle.pcl_base.specs.Walks.{Walk, total}
 use Rattle.pcl_coders.specs.RowWalks.{Agrees, Leads, Ends, cost}
 
 -- the untreated bytes stay after the elements

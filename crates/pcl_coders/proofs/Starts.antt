@@ -7,7 +7,7 @@ use Rattle.pcl_base.specs.declared.method.Method.TheVariants.{Delta}
 use Rattle.pcl_bitmap.specs.Kernels.{IsFirstDifference}
 use Rattle.pcl_rows.specs.Heads.{offset_of}
 use Rattle.pcl_rows.specs.Elements.{Element, given}
-use Rattle.pcl_coders.specs.Walks.{Walk, total}
+use Rattle.pcl_base.specs.Walks.{Walk, total}
 use Rattle.pcl_coders.specs.RowWalks.{Leads, Ends, cost}
 use Rattle.pcl_coders.specs.Starts.{IsLatestStart, StartsAt}
 use Rattle.pcl_coders.specs.inner.Replacement.{replacement_bytes}

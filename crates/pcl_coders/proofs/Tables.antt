@@ -11,13 +11,13 @@ use Rattle.pcl_rows.specs.inner.Fronts.{overlaid}
 use Rattle.pcl_rows.proofs.Overlays.{overlaid_within}
 use Rattle.pcl_rows.proofs.Readings.{plain_elements, row_of_plain}
 use Rattle.pcl_rows.proofs.Spellings.{spelling_has_byte}
-use Rattle.pcl_coders.specs.Walks.{Walk, total}
+use Rattle.pcl_base.specs.Walks.{Walk, total}
 use Rattle.pcl_coders.specs.RowWalks.{Leads, Ends, cost, IsRowTable, IsLeastTable}
 use Rattle.pcl_coders.specs.Coding.{IsCodable, IsLeastLength, AppendsLeast}
 use Rattle.pcl_coders.specs.inner.Filling.{IsPlaceNumber, AreRightFrom, IsFirstEnd, IsBegun}
 use Rattle.pcl_coders.specs.declared.shape.Shape.TheVariants.{SingleByte}
 use Rattle.pcl_coders.specs.inner.Shape.{element_of}
-use Rattle.pcl_coders.proofs.Walks.{feasible_bounds}
+use Rattle.pcl_base.proofs.Walks.{feasible_bounds}
 use Rattle.pcl_coders.proofs.RowWalks.{length-base}
 use Rattle.pcl_coders.proofs.Shapes.{plain_shape}
 use Rattle.pcl_coders.proofs.Choices.{byte_step}

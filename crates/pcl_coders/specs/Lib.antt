@@ -1,4 +1,3 @@
-pub mod Walks
 pub mod RowWalks
 pub mod Coding
 pub mod Windows

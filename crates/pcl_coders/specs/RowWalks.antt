@@ -4,7 +4,7 @@ use Rattle.pcl_base.specs.declared.method.Method.{Method}
 use Rattle.pcl_rows.specs.Heads.{offset_of}
 use Rattle.pcl_rows.specs.Elements.{Element, IsElement, element_bytes, given, stop}
 use Rattle.pcl_rows.specs.Rows.{base}
-use Rattle.pcl_coders.specs.Walks.{IsFeasible, IsAttained}
+use Rattle.pcl_base.specs.Walks.{IsFeasible, IsAttained}
 
 -- an element that makes untreated bytes the wanted ones, as far as it goes: those that it leaves are the
 -- wanted ones, and then it gives the wanted ones

@@ -66,6 +66,15 @@ pub trait RowCoder {
     }
 }
 
+/// The coder of a method that is known when the program runs.
+impl RowCoder for Method {
+    ghost of = { λ method. method };
+
+    fn method(&self) -> Method {
+        *self
+    }
+}
+
 /// No compression (method 0).
 #[derive(Clone, Copy, Debug)]
 pub struct Plain;

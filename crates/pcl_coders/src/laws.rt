@@ -5,7 +5,7 @@ ghost use Rattle.pcl_base.specs.declared.method.Method.{Method};
 ghost use Rattle.pcl_rows.specs.Rows.{IsRowData, base};
 ghost use Rattle.pcl_base.specs.declared.method.Method.TheVariants as methods;
 ghost use Rattle.pcl_rows.specs.Elements.{Element};
-ghost use Rattle.pcl_coders.specs.Walks.{Walk, total, IsLeastCost};
+ghost use Rattle.pcl_base.specs.Walks.{Walk, total, IsLeastCost};
 ghost use Rattle.pcl_coders.specs.Starts.{IsLatestStart, StartsAt};
 ghost use Rattle.pcl_coders.specs.RowWalks.{IsRowTable, IsLeastTable, Leads, Ends, cost};
 ghost use Rattle.pcl_coders.specs.Coding.{IsCodable, IsLeastLength};

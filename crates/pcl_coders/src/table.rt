@@ -119,8 +119,9 @@ pub fn append_along(
     appended
 }
 
-/// The row before its data comes.
-fn base_row<'a>(method: Method, seed: &'a [u8], zeros: &'a [u8]) -> &'a [u8]
+/// The row before its data comes: zeros, and the seed row in method 3. `zeros` are as many as the longest row has bytes,
+/// `ROW_LIMIT`.
+pub fn base_row<'a>(method: Method, seed: &'a [u8], zeros: &'a [u8]) -> &'a [u8]
     requires zeros { zeros.now ≡ replicate 600 0 }
     requires small { length seed.now ≤ 600 }
     ensures { result.now ≡ base method seed.now }

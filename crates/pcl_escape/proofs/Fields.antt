@@ -5,12 +5,13 @@ use Rattle.std.proofs.lemmas.Bool.Decides.{nat_tests}
 use Rattle.std.specs.Prelude.{IfSome, is_none}
 use Rattle.pcl_base.specs.declared.value.Sign.{Sign}
 use Rattle.pcl_base.specs.declared.value.Sign.TheVariants.{Absent, Plus, Minus}
-use Rattle.pcl_escape.specs.Field.{Spelled, is_digit, sign_bytes, fraction_bytes, field_bytes}
+use Rattle.pcl_escape.specs.Field.{Spelled, sign_bytes, fraction_bytes, field_bytes}
+use Rattle.pcl_base.specs.Digits.{is_digit, AreDigits}
 use Rattle.pcl_escape.specs.inner.Fields.{sign_at, digits_at, fraction_at, field_at}
-use Rattle.pcl_escape.specs.Pieces.{AreDigits, IsField}
+use Rattle.pcl_escape.specs.Pieces.{IsField}
 use Rattle.pcl_base.specs.Value.{is_absent}
 use Rattle.pcl_escape.specs.Faults.{extends, is_bare, is_empty}
-use Rattle.pcl_escape.proofs.Fronts.{StopsAt, front_split, front_again}
+use Rattle.pcl_base.proofs.Fronts.{StopsAt, front_split, front_again}
 
 -- ---- digits
 

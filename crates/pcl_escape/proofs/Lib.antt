@@ -1,4 +1,3 @@
-pub mod Fronts
 pub mod Fields
 pub mod Values
 pub mod Data

@@ -15,7 +15,8 @@ use Rattle.pcl_base.specs.Operation.{operation_of}
 use Rattle.pcl_base.specs.Refusal.{refusal}
 use Rattle.pcl_escape.specs.declared.step.Prefix.{Prefix}
 use Rattle.pcl_escape.specs.Letter.{is_silent, is_control, is_text, is_two_character, is_parameterized, is_ungrouped, is_group, is_last, goes_on, parameter_name, prefix_bytes}
-use Rattle.pcl_escape.specs.Field.{Spelled, is_digit, field_bytes, field_value}
+use Rattle.pcl_escape.specs.Field.{Spelled, field_bytes, field_value}
+use Rattle.pcl_base.specs.Digits.{is_digit}
 use Rattle.pcl_escape.specs.inner.Fields.{field_at}
 use Rattle.pcl_escape.specs.Checks.{exit_name, is_exit, parameter_checks}
 use Rattle.pcl_escape.specs.Exit.{joined, IsLine, AreOtherLines, names_language, names_pcl}
@@ -25,7 +26,7 @@ use Rattle.pcl_escape.specs.inner.Scan.{Reads, refuse, named_by, named_at, text_
 use Rattle.pcl_escape.specs.Pieces.{Parameter, Piece, silent, control, text, two_character, exit, IsField, IsPrefix, IsNamed, IsNoText, IsRun, IsExit, IsPiece, parameter_bytes, spelling, bare_command, text_command, exit_command, commands_from}
 use Rattle.pcl_escape.specs.Faults.{Fails, unknown_control, lone_escape, no_sequence, unknown_two, no_group, bad_group, in_line, IsUngrouped, cut}
 use Rattle.pcl_escape.proofs.Fields.{and_parts}
-use Rattle.pcl_escape.proofs.Fronts.{Pass, StopsAt, front_yes, front_split, front_again}
+use Rattle.pcl_base.proofs.Fronts.{Pass, StopsAt, front_yes, front_split, front_again}
 use Rattle.pcl_escape.proofs.Lines.{Lines, skipped, foreign, lines_split, lines_again, foreign_again}
 use Rattle.pcl_escape.proofs.Checks.{exit_takes_none}
 use Rattle.pcl_escape.proofs.Steps.{Inside, is_middle, is_end, is_wrong, Found, is_inside, is_leave, IsLast, is_leaving, end_reads, parameter_step, grouped_step, parameter_joined, last_stops, last_again, middle_stays}

@@ -7,7 +7,8 @@ use Rattle.pcl_base.specs.declared.refusal.Refusal.{Refusal}
 use Rattle.pcl_base.specs.declared.value.Value.{Value}
 use Rattle.pcl_escape.specs.declared.step.Prefix.{Prefix}
 use Rattle.pcl_escape.specs.Letter.{is_last, goes_on, may_go_on, is_letter, name_with_letter, parameter_name}
-use Rattle.pcl_escape.specs.Field.{Spelled, is_digit, field_bytes, field_value}
+use Rattle.pcl_escape.specs.Field.{Spelled, field_bytes, field_value}
+use Rattle.pcl_base.specs.Digits.{is_digit}
 use Rattle.pcl_escape.specs.inner.Fields.{field_at}
 use Rattle.pcl_escape.specs.Checks.{parameter_checks, is_exit}
 use Rattle.pcl_escape.specs.inner.Scan.{Reads, letter_at, checked_at, parameter_at}

@@ -12,7 +12,8 @@ use Rattle.pcl_base.specs.Operation.{operation_of}
 use Rattle.pcl_base.specs.Refusal.{refusal}
 use Rattle.pcl_base.specs.Value.{is_absent}
 use Rattle.pcl_escape.specs.Letter.{is_silent, is_control, is_two_character, is_parameterized, is_ungrouped, is_group, is_letter, prefix_name, parameter_name, prefix_bytes}
-use Rattle.pcl_escape.specs.Field.{Spelled, is_digit, field_bytes, field_value}
+use Rattle.pcl_escape.specs.Field.{Spelled, field_bytes, field_value}
+use Rattle.pcl_base.specs.Digits.{is_digit}
 use Rattle.pcl_escape.specs.Checks.{parameter_checks, exit_name, is_exit}
 use Rattle.pcl_escape.specs.Exit.{joined, IsLine, AreOtherLines, names_language, names_pcl}
 use Rattle.pcl_escape.specs.Pieces.{Parameter, Piece, IsField, IsPrefix, IsMiddle, ArePieces, parameter_bytes, spelling, first_place}

@@ -1,6 +1,7 @@
 -- Value fields: a sign, digits, and a point with digits; each may be missing.
 use Rattle.std.specs.Prelude.{ℕ, ◌+◌, ◌*◌, ◌-◌, Bool, ◌&&◌, nat_le, List, [], ◌∷◌, ◌++◌, fold, slice_index, Option, Some, None}
 use Rattle.std.specs.Borrow.{Bor}
+use Rattle.pcl_base.specs.Digits.{number_of}
 use Rattle.pcl_base.specs.declared.value.Sign.{Sign}
 use Rattle.pcl_base.specs.declared.value.Sign.TheVariants.{Absent, Plus, Minus}
 use Rattle.pcl_base.specs.declared.value.Value.{Value}
@@ -30,14 +31,6 @@ abbrev pub field_bytes : Spelled → List ℕ
 field_bytes field = sign_bytes field.sign ++ field.whole ++ fraction_bytes field.fraction
 
 -- ---- what it says
-
--- a decimal digit
-abbrev pub is_digit : ℕ → Bool
-is_digit byte = nat_le 48 byte && nat_le byte 57
-
--- the number that digits spell
-abbrev pub number_of : List ℕ → ℕ
-number_of digits = fold (λ n digit. n * 10 + (digit - 48)) 0 digits
 
 -- a digit's number, 0 past the end
 abbrev pub digit_at : List ℕ → ℕ → ℕ

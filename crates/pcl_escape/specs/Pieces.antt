@@ -7,7 +7,8 @@ use Rattle.pcl_base.specs.Operation.{operation_of}
 use Rattle.pcl_base.specs.Value.{zero_value}
 use Rattle.pcl_escape.specs.declared.step.Prefix.{Prefix}
 use Rattle.pcl_escape.specs.Letter.{is_silent, is_control, is_text, is_two_character, is_parameterized, is_ungrouped, is_group, may_go_on, is_last, parameter_name, prefix_bytes}
-use Rattle.pcl_escape.specs.Field.{Spelled, is_digit, field_bytes, field_value}
+use Rattle.pcl_escape.specs.Field.{Spelled, field_bytes, field_value}
+use Rattle.pcl_base.specs.Digits.{AreDigits}
 use Rattle.pcl_escape.specs.Checks.{parameter_checks, exit_name, is_exit}
 use Rattle.pcl_escape.specs.Exit.{joined, AreLines}
 use Rattle.pcl_escape.specs.Said.{Said}
@@ -44,10 +45,6 @@ spelling (combined prefix middle end bytes) =
 spelling (exit field lines) = 27 ∷ 37 ∷ (field_bytes field ++ 88 ∷ joined lines)
 
 -- ---- what each piece must be
-
--- decimal digits and nothing else
-abbrev pub AreDigits : List ℕ → Type 0
-AreDigits digits = AllByRecursion (λ digit. IsTrue (is_digit digit)) digits
 
 -- a value field has digits on both sides of its point
 abbrev pub IsField : Spelled → Type 0

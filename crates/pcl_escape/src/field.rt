@@ -2,7 +2,8 @@
 
 ghost use Rattle.std.specs.Prelude.{◌≡◌, ◌≤◌, if◌then◌else◌, Some, None, min, length};
 ghost use Rattle.std.specs.List.{prefix_len};
-ghost use Rattle.pcl_escape.specs.Field.{spelled, contents, is_digit, number_of, digit_at, ten_thousandths, field_value, in_range};
+ghost use Rattle.pcl_escape.specs.Field.{spelled, contents, digit_at, ten_thousandths, field_value, in_range};
+ghost use Rattle.pcl_base.specs.Digits.{is_digit, number_of};
 ghost use Rattle.pcl_escape.specs.inner.Fields.{digits_at, sign_at, fraction_at, field_at};
 
 use pcl_base::{Sign, Value};

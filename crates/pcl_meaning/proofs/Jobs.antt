@@ -12,12 +12,13 @@ use Rattle.pcl_base.specs.declared.size.Size.TheVariants.{Executive, Letter, Leg
 use Rattle.pcl_base.specs.declared.refusal.Refusal.{Refusal}
 use Rattle.pcl_base.specs.Limits.{macro_limit, command_limit}
 use Rattle.pcl_base.specs.Size.{page_width, page_height, page_row_bytes}
+use Rattle.pcl_base.proofs.PageBounds.{height_small}
 use Rattle.pcl_escape.specs.Said.{Said}
 use Rattle.pcl_escape.specs.Pieces.{commands_of}
 use Rattle.pcl_env.specs.Settings.{Settings, defaults}
 use Rattle.pcl_env.specs.Outcome.{outcome}
 use Rattle.pcl_bitmap.specs.Bitmap.{dot}
-use Rattle.pcl_page.specs.declared.page.Page.{Page}
+use Rattle.pcl_bitmap.specs.declared.page.Page.{Page}
 use Rattle.pcl_fonts.specs.declared.fonts.FontControl.TheVariants.{Temporary}
 use Rattle.pcl_fonts.specs.History.{control}
 use Rattle.pcl_macros.specs.declared.table.MacroControl.TheVariants as macros
@@ -26,8 +27,8 @@ use Rattle.pcl_page.specs.Marks.{Mark, is_black}
 use Rattle.pcl_page.specs.Situation.{Sheet, Situation, at_begin, at_end, after, page_refusal}
 use Rattle.pcl_page.specs.Performing.{Shows, Performance, done, unless, then_on, runs, after_all, end_refusal, ended, after_end, performance, pages_of}
 use Rattle.pcl_page.specs.Jobs.{HasPages, performance_of}
-use Rattle.pcl_plan.specs.Tokens.{Token, opening, method, skip, send, commands_in, command_count, token_bytes, start_bytes, end_bytes, frame_bytes}
-use Rattle.pcl_plan.specs.PageText.{IsPageText, bitmap_rows}
+use Rattle.pcl_output.specs.Tokens.{Token, opening, method, skip, send, commands_in, command_count, token_bytes, start_bytes, end_bytes, frame_bytes}
+use Rattle.pcl_output.specs.PageText.{IsPageText, bitmap_rows}
 use Rattle.pcl_writer.specs.Appending.{IsWrittenPage}
 use Rattle.pcl_page.specs.Alike.{AreAlike, AllAlike}
 use Rattle.pcl_meaning.specs.JobTexts.{PrintEach, most_commands}
@@ -40,16 +41,6 @@ use Rattle.pcl_meaning.proofs.Dots.{page_dot}
 use Rattle.pcl_meaning.proofs.Printing.{IsBetween, reset_fonts, reset_macros, between, pages_fit, text_deeds, text_taken}
 
 -- ---- a page text
-
-height_small : (size : Size) (dpi : Dpi) → page_height size dpi ≤ 8400
-height_small Executive Dpi300 = lit≤ tt
-height_small Executive Dpi600 = lit≤ tt
-height_small Letter Dpi300 = lit≤ tt
-height_small Letter Dpi600 = lit≤ tt
-height_small Legal Dpi300 = lit≤ tt
-height_small Legal Dpi600 = lit≤ tt
-height_small A4 Dpi300 = lit≤ tt
-height_small A4 Dpi600 = lit≤ tt
 
 -- what stands in a text
 pub text_read : {dpi : Dpi} {size : Size} {copies : ℕ} {rows : List (List ℕ)} {text : List ℕ}

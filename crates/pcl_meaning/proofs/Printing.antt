@@ -36,8 +36,8 @@ use Rattle.pcl_page.specs.Raster.{Raster, ends_raster, scale_of, raster_from, by
 use Rattle.pcl_page.specs.Situation.{Sheet, Situation, below, ejects, end_raster, drawn_on, done_with, taken, after, sheet_of, page_refusal}
 use Rattle.pcl_rows.specs.Rows.{IsRowData}
 use Rattle.pcl_rows.proofs.Decoded.{decoded_is}
-use Rattle.pcl_plan.specs.Tokens.{Token, opening, method, skip, send, PrintsRows}
-use Rattle.pcl_plan.specs.PageText.{IsRowOf, IsPageText}
+use Rattle.pcl_output.specs.Tokens.{Token, opening, method, skip, send, PrintsRows}
+use Rattle.pcl_output.specs.PageText.{IsRowOf, IsPageText}
 use Rattle.pcl_meaning.specs.PageTexts.{dot_of_rows}
 use Rattle.pcl_meaning.proofs.Deeds.{Deed, deed}
 use Rattle.pcl_meaning.proofs.Readings.{number_value, whole_is}

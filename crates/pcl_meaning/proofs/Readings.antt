@@ -12,12 +12,13 @@ use Rattle.pcl_base.specs.Operation.{operation_of, takes_data}
 use Rattle.pcl_base.specs.Value.{whole_of}
 use Rattle.pcl_escape.specs.declared.step.Prefix.{Prefix}
 use Rattle.pcl_escape.specs.Letter.{may_go_on, is_last, parameter_name, prefix_bytes}
-use Rattle.pcl_escape.specs.Field.{Spelled, number_of, field_value, in_range}
+use Rattle.pcl_escape.specs.Field.{Spelled, field_value, in_range}
+use Rattle.pcl_base.specs.Digits.{number_of}
 use Rattle.pcl_escape.specs.Checks.{parameter_checks, data_checks, is_exit}
 use Rattle.pcl_escape.specs.Said.{Said}
 use Rattle.pcl_escape.specs.Pieces.{Piece, combined, Parameter, parameter_bytes, spelling, IsPrefix, IsMiddle, IsEnd, IsPiece, ArePieces, parameter_commands, first_place, commands_from, commands_of}
 use Rattle.pcl_escape.proofs.Runs.{place_further}
-use Rattle.pcl_plan.specs.Tokens.{IsSpelled}
+use Rattle.pcl_output.specs.Tokens.{IsSpelled}
 use Rattle.pcl_meaning.proofs.Deeds.{Deed, deed}
 
 -- ---- commands and deeds

@@ -6,11 +6,11 @@ use Rattle.pcl_base.specs.declared.size.Size.{Size}
 use Rattle.pcl_base.specs.Size.{page_width, page_height}
 use Rattle.pcl_bitmap.specs.Bitmap.{Picture}
 use Rattle.pcl_bitmap.proofs.Pictures.{same_dots}
-use Rattle.pcl_page.specs.declared.page.Page.{Page}
+use Rattle.pcl_bitmap.specs.declared.page.Page.{Page}
 use Rattle.pcl_page.specs.Situation.{Sheet}
 use Rattle.pcl_page.specs.Performing.{Shows}
-use Rattle.pcl_plan.specs.Tokens.{frame_bytes}
-use Rattle.pcl_plan.specs.PageText.{IsPageText, PrintsPage, bitmap_rows}
+use Rattle.pcl_output.specs.Tokens.{frame_bytes}
+use Rattle.pcl_output.specs.PageText.{IsPageText, PrintsPage, bitmap_rows}
 use Rattle.pcl_meaning.specs.JobTexts.{PrintEach, PrintsShortest, IsLeastJobText}
 
 -- two pages with the same contents, whatever the proofs that they keep

@@ -20,12 +20,13 @@ use Rattle.pcl_base.specs.Method.{method_code}
 use Rattle.pcl_base.specs.Operation.{operation_of}
 use Rattle.pcl_base.specs.Size.{code_of, page_width}
 use Rattle.pcl_base.specs.Value.{zero_value}
+use Rattle.pcl_base.proofs.PageBounds.{width_small}
 use Rattle.pcl_escape.specs.declared.step.Prefix.{Prefix}
 use Rattle.pcl_escape.specs.Letter.{may_go_on, is_last}
 use Rattle.pcl_escape.specs.Pieces.{Parameter, parameter_bytes, control, two_character, IsPrefix, IsMiddle}
-use Rattle.pcl_plan.specs.Tokens.{Token, opening, method, skip, send, token_bytes, IsSpelled, PrintsRows, start_bytes, end_bytes, frame_bytes}
+use Rattle.pcl_output.specs.Tokens.{Token, opening, method, skip, send, token_bytes, IsSpelled, PrintsRows, start_bytes, end_bytes, frame_bytes}
 use Rattle.pcl_meaning.proofs.Deeds.{Deed, deed}
-use Rattle.pcl_plan.proofs.Numbers.{decimal_spelled}
+use Rattle.pcl_output.proofs.Numbers.{decimal_spelled}
 use Rattle.pcl_meaning.proofs.Readings.{ReadsAs, reads_joined, reads_none, reads_piece, reads_sequence, AreMeant, meant_more, middle_more, number_parameter, number_value, number_bytes, IsSetting, setting_middle, setting_end, setting_meant, row_prefix, row_end, row_meant}
 
 -- ---- the deeds of a text
@@ -315,20 +316,10 @@ resolution_setting dpi =
     let small = dots_small dpi in
     record { spelled = decimal_spelled (dots_per_inch dpi) (omega (arith, small)); small = small; named = refl; alone = refl; stays = refl }
 
-width_small : (size : Size) (dpi : Dpi) → page_width size dpi ≤ 65535
-width_small Executive Dpi300 = lit≤ tt
-width_small Letter Dpi300 = lit≤ tt
-width_small Legal Dpi300 = lit≤ tt
-width_small A4 Dpi300 = lit≤ tt
-width_small Executive Dpi600 = lit≤ tt
-width_small Letter Dpi600 = lit≤ tt
-width_small Legal Dpi600 = lit≤ tt
-width_small A4 Dpi600 = lit≤ tt
-
 width_setting : (size : Size) (dpi : Dpi) → IsSetting raster_prefix 115 (decimal (page_width size dpi)) (page_width size dpi) RasterWidth
 unfolding operation_of
 width_setting size dpi =
-    let small = width_small size dpi in
+    let small : page_width size dpi ≤ 65535 = omega (arith, width_small size dpi) in
     let spelled = decimal_spelled (page_width size dpi) (omega (arith, small)) in
     record { spelled = spelled; small = small; named = refl; alone = refl; stays = refl }
 

@@ -2,11 +2,11 @@
 use Rattle.std.specs.Prelude.{◌≡◌, ℕ, ◌+◌, ◌*◌, ◌≤◌, List, [], ◌∷◌, ◌++◌, length}
 use Rattle.pcl_base.specs.declared.dpi.Dpi.{Dpi}
 use Rattle.pcl_base.specs.Size.{page_height}
-use Rattle.pcl_page.specs.declared.page.Page.{Page}
+use Rattle.pcl_bitmap.specs.declared.page.Page.{Page}
 use Rattle.pcl_page.specs.Situation.{Sheet}
 use Rattle.pcl_page.specs.Performing.{Shows}
-use Rattle.pcl_plan.specs.Tokens.{frame_bytes}
-use Rattle.pcl_plan.specs.PageText.{PrintsPage}
+use Rattle.pcl_output.specs.Tokens.{frame_bytes}
+use Rattle.pcl_output.specs.PageText.{PrintsPage}
 
 -- texts one after the other, one for each sheet in order: this holds of each and of a page that shows its sheet dot for dot
 abbrev pub PrintEach : (Page → List ℕ → Type 0) → Dpi → List Sheet → List ℕ → Type 0

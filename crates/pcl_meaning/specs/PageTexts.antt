@@ -8,8 +8,8 @@ use Rattle.pcl_bitmap.specs.Bitmap.{dot_of_row}
 use Rattle.pcl_page.specs.Marks.{is_black}
 use Rattle.pcl_page.specs.Situation.{Sheet}
 use Rattle.pcl_page.specs.Jobs.{HasPages}
-use Rattle.pcl_plan.specs.Tokens.{command_count, frame_bytes}
-use Rattle.pcl_plan.specs.PageText.{IsPageText}
+use Rattle.pcl_output.specs.Tokens.{command_count, frame_bytes}
+use Rattle.pcl_output.specs.PageText.{IsPageText}
 
 -- dot x of row y of rows
 abbrev pub dot_of_rows : List (List ℕ) → ℕ → ℕ → Bool

@@ -24,7 +24,7 @@ use Rattle.pcl_macros.specs.declared.table.MacroControl.{MacroControl}
 use Rattle.pcl_macros.specs.declared.table.MacroControl.TheVariants.{Temporary}
 use Rattle.pcl_macros.specs.History.{MacroEvent, MacroBody, defined, control, body_after}
 use Rattle.pcl_macros.specs.Table.{MacroTable, Begun, Holds, Controls, HasEnd, macro_at, is_begun}
-use Rattle.pcl_page.specs.declared.page.Page.{Page}
+use Rattle.pcl_bitmap.specs.declared.page.Page.{Page}
 use Rattle.pcl_page.specs.declared.performer.Performer.{Performer}
 use Rattle.pcl_page.specs.declared.interpreter.Interpreter.{Interpreter}
 use Rattle.pcl_page.specs.declared.interpreter.Running.{Running}

@@ -12,14 +12,14 @@ use Rattle.pcl_bitmap.specs.Bitmap.{Picture, dot}
 use Rattle.pcl_escape.specs.Said.{Said}
 use Rattle.pcl_escape.specs.Pieces.{IsReading}
 use Rattle.pcl_escape.specs.Faults.{IsFaultOf}
-use Rattle.pcl_page.specs.declared.page.Page.{Page}
+use Rattle.pcl_bitmap.specs.declared.page.Page.{Page}
 use Rattle.pcl_page.specs.declared.interpreter.Interpreter.{Interpreter}
 use Rattle.pcl_page.specs.declared.interpreter.Running.{Running}
 use Rattle.pcl_page.specs.Situation.{Sheet, Situation, at_end}
 use Rattle.pcl_page.specs.Jobs.{HasPages, performance_of}
-use Rattle.pcl_page.specs.Delivering.{AllShow, IsPerformed, Delivers}
+use Rattle.pcl_page.specs.Delivering.{AllShow, IsPerformed, Delivers, Hands, HandsOver}
 use Rattle.pcl_page.specs.Performing.{Shows, Performance, done, unless, then_on, step, runs, after_all, end_refusal, ended, after_end, pages_of}
-use Rattle.pcl_page.specs.Delivering.{IsSamePage, Hands, HandsOver}
+use Rattle.pcl_bitmap.specs.Page.{IsSamePage}
 use Rattle.pcl_page.specs.inner.Unfolding.{IsAt, resumed, begun_among, GoesOn, InterpreterEnds}
 use Rattle.pcl_page.proofs.Keeping.{end_adds}
 use Rattle.pcl_page.proofs.Sinks.{stays_there, hands_append, hands_further, goes_from, goes_to}

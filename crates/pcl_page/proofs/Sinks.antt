@@ -4,7 +4,7 @@ use Rattle.pcl_base.specs.declared.dpi.Dpi.{Dpi}
 use Rattle.pcl_base.specs.declared.fault.JobFault.{JobFault}
 use Rattle.pcl_base.specs.declared.fault.JobFault.TheVariants.{Refused, Memory}
 use Rattle.pcl_escape.specs.Said.{Said}
-use Rattle.pcl_page.specs.declared.page.Page.{Page}
+use Rattle.pcl_bitmap.specs.declared.page.Page.{Page}
 use Rattle.pcl_page.specs.declared.interpreter.Interpreter.{Interpreter}
 use Rattle.pcl_page.specs.Situation.{Sheet, Situation}
 use Rattle.pcl_page.specs.Performing.{Performance}

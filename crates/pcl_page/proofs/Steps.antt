@@ -17,7 +17,7 @@ use Rattle.pcl_env.specs.declared.effect.Effect.{Effect}
 use Rattle.pcl_env.specs.declared.effect.Effect.TheVariants.{Stay}
 use Rattle.pcl_env.specs.Settings.{Settings, defaults}
 use Rattle.pcl_env.specs.Outcome.{Outcome, outcome, stays}
-use Rattle.pcl_page.specs.declared.page.Page.{Page}
+use Rattle.pcl_bitmap.specs.declared.page.Page.{Page}
 use Rattle.pcl_page.specs.declared.performer.Performer.{Performer}
 use Rattle.pcl_page.specs.Raster.{Raster, ends_raster, is_ignored_in_raster}
 use Rattle.pcl_page.specs.Situation.{Sheet, Situation, without_temporary, draw_refusal, unless_refused, drawn_on, settings_below, end_raster, is_marked, sheet_of, turned, drawn, done_with, taken, counted, prepared, is_ignored, after, at_end, page_refusal, refusal_after, operation_refusal, command_refusal}

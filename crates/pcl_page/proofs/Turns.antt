@@ -16,7 +16,7 @@ use Rattle.pcl_env.specs.declared.effect.Effect.TheVariants.{Stay, Eject, EjectM
 use Rattle.pcl_env.specs.declared.effect.Unsupported.{Unsupported}
 use Rattle.pcl_env.specs.Settings.{Settings, to_first_line}
 use Rattle.pcl_env.specs.Outcome.{Outcome, outcome, Answers}
-use Rattle.pcl_page.specs.declared.page.Page.{Page}
+use Rattle.pcl_bitmap.specs.declared.page.Page.{Page}
 use Rattle.pcl_page.specs.declared.performer.Performer.{Performer}
 use Rattle.pcl_bitmap.specs.Dots.{is_black_ink}
 use Rattle.pcl_page.specs.Marks.{Mark, is_black}

@@ -9,17 +9,10 @@ use Rattle.pcl_base.specs.declared.refusal.Refusal.{Refusal}
 use Rattle.pcl_escape.specs.Said.{Said}
 use Rattle.pcl_escape.specs.Pieces.{IsReading}
 use Rattle.pcl_escape.specs.Faults.{IsFault}
-use Rattle.pcl_page.specs.declared.page.Page.{Page}
+use Rattle.pcl_bitmap.specs.declared.page.Page.{Page}
 use Rattle.pcl_page.specs.Situation.{Sheet}
 use Rattle.pcl_page.specs.Performing.{Shows, Performance, done, pages_of}
 use Rattle.pcl_page.specs.Jobs.{performance_of, HasPages}
-
--- two pages with the same contents
-pub record IsSamePage (page other : Page) : Type 0 where
-  pub size : other.size ≡ page.size
-  pub copies : other.copies ≡ page.copies
-  pub resolution : other.dpi ≡ page.dpi
-  pub bitmap : other.bitmap ≡ page.bitmap
 
 -- a sink takes pages that show these sheets, in order, each once
 abbrev pub Hands : {S : Type 0} → (S → Page → S → Type 0) → Dpi → List Sheet → S → S → Type 0

@@ -10,7 +10,7 @@ use Rattle.pcl_base.specs.Refusal.{refusal}
 use Rattle.pcl_base.specs.Size.{page_width, page_height}
 use Rattle.pcl_bitmap.specs.Bitmap.{dot}
 use Rattle.pcl_escape.specs.Said.{Said}
-use Rattle.pcl_page.specs.declared.page.Page.{Page}
+use Rattle.pcl_bitmap.specs.declared.page.Page.{Page}
 use Rattle.pcl_page.specs.Marks.{is_black}
 use Rattle.pcl_page.specs.Situation.{Sheet, Situation, at_begin, at_end, page_refusal}
 use Rattle.pcl_page.specs.Macros.{Run, after_command, run_of, left}

@@ -80,7 +80,7 @@ struct Collected {
 
 impl Model for Collected {
     ghost use Rattle.std.specs.Prelude.{List};
-    ghost use Rattle.pcl_page.specs.declared.page.Page.{Page};
+    ghost use Rattle.pcl_bitmap.specs.declared.page.Page.{Page};
 
     ghost Value = { List Page };
 
@@ -89,8 +89,8 @@ impl Model for Collected {
 
 impl PageSink for Collected {
     ghost use Rattle.std.specs.Prelude.{◌≡◌, ◌++◌, ◌∷◌, []};
-    ghost use Rattle.pcl_page.specs.declared.page.Page.{Page};
-    ghost use Rattle.pcl_page.specs.Delivering.{IsSamePage};
+    ghost use Rattle.pcl_bitmap.specs.declared.page.Page.{Page};
+    ghost use Rattle.pcl_bitmap.specs.Page.{IsSamePage};
 
     ghost takes = { λ old page new. (copy : Page) × (new ≡ old ++ copy ∷ []) × IsSamePage page copy };
 

@@ -5,10 +5,9 @@ mod fonts;
 mod interpreter;
 mod job;
 mod macros;
-mod page;
 mod performer;
 mod raster;
 mod text;
 
 pub use job::{one_meaning, perform, read_pages, run};
-pub use page::{Page, PageSink};
+pub use pcl_bitmap::{Page, PageSink};

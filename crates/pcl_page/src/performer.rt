@@ -49,7 +49,7 @@ impl<'a> Performer<'a> {
     ghost use Rattle.pcl_env.specs.Outcome.{outcome};
     ghost use Rattle.pcl_page.specs.Situation.{Situation, at_begin, is_marked, drawn, draw_refusal, rectangle_mark, skipped_in};
     ghost use Rattle.pcl_page.specs.Macros.{left};
-    ghost use Rattle.pcl_page.specs.declared.page.Page.{Page};
+    ghost use Rattle.pcl_bitmap.specs.declared.page.Page.{Page};
     ghost use Rattle.pcl_page.specs.inner.Reflecting.{IsIn, IsPrepared, HasRaster, Takes, IsFollowed, IsEjected, IsDrawn, Draws, IsSent, IsTurned, IsTried, EndDone};
 
     /// The start of a job: a white page, and the defaults.

@@ -6,17 +6,20 @@ use Rattle.pcl_base.specs.declared.method.Method.{Method}
 use Rattle.pcl_base.specs.Method.{method_code}
 use Rattle.pcl_rows.specs.Rows.{IsRowData}
 use Rattle.pcl_coders.specs.Coding.{IsLeastLength}
-use Rattle.pcl_coders.specs.Walks.{IsAttained}
-use Rattle.pcl_plan.specs.declared.table.RowNumbers.{RowNumbers}
-use Rattle.pcl_plan.specs.Tokens.{Token, opening, method, skip, send, IsSpelled, AreWhite}
-use Rattle.pcl_plan.specs.Nodes.{Node, row_at, row_above, Leads, Ends, cost}
-use Rattle.pcl_plan.specs.Spelling.{least_spelling, digit_count}
-use Rattle.pcl_plan.specs.Table.{number_in}
-use Rattle.pcl_plan.specs.Filling.{switching, outside, inside, rest, IsSwitched}
-use Rattle.pcl_plan.specs.inner.Filling.{sending, skipping, AreSkippable, IsDirect, IsRowRight}
-use Rattle.pcl_plan.proofs.Digits.{count_le, count_grows, spelled_long, least_spelled, length-least_spelling}
-use Rattle.pcl_plan.proofs.Walking.{node}
-use Rattle.pcl_plan.proofs.RightRows.{cost_opening, cost_method, cost_skip, cost_send, method_small, at_row, rest_below, best_end}
+use Rattle.pcl_coders.proofs.Lengths.{length_small}
+use Rattle.pcl_base.specs.Walks.{IsAttained}
+use Rattle.pcl_output.specs.declared.table.RowNumbers.{RowNumbers}
+use Rattle.pcl_output.specs.Tokens.{Token, opening, method, skip, send, IsSpelled, AreWhite}
+use Rattle.pcl_output.specs.declared.node.Node.{Node}
+use Rattle.pcl_output.specs.Nodes.{row_at, row_above, Leads, Ends, cost}
+use Rattle.pcl_output.specs.Spelling.{least_spelling, digit_count, switching, row_cost}
+use Rattle.pcl_output.specs.Table.{number_in, outside, inside, rest, IsSwitched}
+use Rattle.pcl_plan.specs.inner.Filling.{skipping, IsDirect, IsRowRight}
+use Rattle.pcl_output.specs.inner.WhiteRows.{AreSkippable}
+use Rattle.pcl_output.proofs.DigitCounts.{count_le, count_grows, spelled_long, least_spelled, length-least_spelling}
+use Rattle.pcl_output.proofs.Walking.{node}
+use Rattle.pcl_output.proofs.TokenCosts.{cost_opening, cost_method, cost_skip, cost_send, method_small, rest_below, best_end, spelled_cost, row_cost_small}
+use Rattle.pcl_plan.proofs.RightRows.{at_row}
 
 -- the numbers of a row that isn't in white rest, by what comes with no switch before it
 pub record IsInkedRow (width : ℕ) (rows : List (List ℕ)) (number : Node → ℕ) (row : ℕ) : Type 0 where
@@ -29,13 +32,6 @@ pub record IsInkedRow (width : ℕ) (rows : List (List ℕ)) (number : Node → 
   pub switched : IsSwitched direct numbers
   pub are_direct : (current : Method) → IsDirect width rows number row current (direct current)
   pub later : (behind : ℕ) → row < behind → behind ≤ length rows → IsRowRight width rows number behind
-
--- data of a least length is small
-pub length_small : {current : Method} {seed row : List ℕ} {least : ℕ} → IsLeastLength current seed row least → least ≤ 65535
-length_small is = omega (arith, is.attained.1.fits, is.attained.2)
-
-pub sending_small : (bytes : ℕ) → bytes ≤ 65535 → sending bytes ≤ 65541
-sending_small bytes small = omega (arith, count_le 5 bytes (omega arith) (omega arith))
 
 -- ---- tokens from the row
 
@@ -80,7 +76,7 @@ skips width rows number row current count is_open is can =
 sends : (width : ℕ) (rows : List (List ℕ)) (number : Node → ℕ) (row : ℕ) (current : Method) (bytes : List ℕ)
     → IsInkedRow width rows number row
     → IsRowData current (row_above width rows row) (row_at rows row) bytes
-    → inside number row current ≤ sending (length bytes) + outside number (row + 1) current
+    → inside number row current ≤ row_cost (length bytes) + outside number (row + 1) current
 sends width rows number row current bytes is whole =
     let d = is.are_direct current in
     let least = d.is_length.shortest bytes whole in
@@ -135,9 +131,6 @@ pub walk_more : (width : ℕ) {rows : List (List ℕ)} {a b : Node} (token : Tok
     → IsAttained (Leads width rows) (Ends rows) cost b m → n ≡ cost token + m
     → IsAttained (Leads width rows) (Ends rows) cost a n
 walk_more width {b} token l w e = (token ∷ w.0, (b, l, w.1), omega (arith, w.2, e))
-
-pub spelled_cost : (n : ℕ) → n ≤ 65535 → IsSpelled (least_spelling n) n × (length (least_spelling n) ≡ digit_count n)
-spelled_cost n small = (least_spelled n (omega arith), length-least_spelling n)
 
 direct_walk : {width : ℕ} {rows : List (List ℕ)} {number : Node → ℕ} {row : ℕ} {current : Method} → (is : IsInkedRow width rows number row)
     → IsAttained (Leads width rows) (Ends rows) cost (node row current true) (is.direct current)
@@ -264,7 +257,7 @@ small_from : {width : ℕ} {rows : List (List ℕ)} {number : Node → ℕ} {row
 small_from {width} {rows} {number} {row} is current is_open =
     let d = is.are_direct current in
     let behind = (is.later (row + 1) (omega arith) (omega (arith, is.inside_page))).small (node (row + 1) current false) refl in
-    let sent = sending_small d.bytes (length_small d.is_length) in
+    let sent = row_cost_small d.bytes (length_small d.is_length) in
     let low : inside number row current ≤ 65544 * (length rows - row) - 2 = omega
     (arith, is.placed current true, is.switched.stays current, d.sent, behind, sent, is.inside_page) in
     elim is_open as (λ (o : Bool). number (node row current o) ≤ 65544 * (length rows - row) + 1) [

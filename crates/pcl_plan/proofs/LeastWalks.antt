@@ -5,16 +5,15 @@ use Rattle.std.proofs.lemmas.Bool.{cases_lt}
 use Rattle.pcl_base.specs.declared.method.Method.{Method}
 use Rattle.pcl_base.specs.Method.{method_code}
 use Rattle.pcl_coders.specs.Coding.{IsLeastLength}
-use Rattle.pcl_coders.specs.Walks.{Walk, total, IsFeasible}
-use Rattle.pcl_coders.proofs.Walks.{feasible_bounds}
-use Rattle.pcl_plan.specs.Tokens.{Token, opening, method, skip, send, command_count}
-use Rattle.pcl_plan.specs.Nodes.{Node, row_at, row_above, Leads, Ends, cost}
-use Rattle.pcl_plan.specs.Spelling.{least_spelling}
-use Rattle.pcl_plan.specs.Filling.{switching}
-use Rattle.pcl_plan.proofs.Digits.{count_grows, spelled_long}
-use Rattle.pcl_plan.proofs.Walking.{node}
-use Rattle.pcl_plan.proofs.RightRows.{cost_method, cost_send, method_small}
-use Rattle.pcl_plan.proofs.InkedRows.{spelled_cost}
+use Rattle.pcl_base.specs.Walks.{Walk, total, IsFeasible}
+use Rattle.pcl_base.proofs.Walks.{feasible_bounds}
+use Rattle.pcl_output.specs.Tokens.{Token, opening, method, skip, send, command_count}
+use Rattle.pcl_output.specs.declared.node.Node.{Node}
+use Rattle.pcl_output.specs.Nodes.{row_at, row_above, Leads, Ends, cost}
+use Rattle.pcl_output.specs.Spelling.{least_spelling, switching}
+use Rattle.pcl_output.proofs.DigitCounts.{count_grows, spelled_long}
+use Rattle.pcl_output.proofs.Walking.{node}
+use Rattle.pcl_output.proofs.TokenCosts.{cost_method, cost_send, method_small, spelled_cost}
 
 -- a token with which a walk of least cost begins costs just what the number falls by
 pub step_is_least : (width : ℕ) {rows : List (List ℕ)} {number : Node → ℕ} → IsFeasible (Leads width rows) (Ends rows) cost number

@@ -1,9 +1,3 @@
-pub mod Numbers
-pub mod Walking
-pub mod RowsFrom
-pub mod Texts
-pub mod Digits
-pub mod Switching
 pub mod RightRows
 pub mod InkedRows
 pub mod Skips
@@ -12,4 +6,3 @@ pub mod Reading
 pub mod ReadSteps
 pub mod Planned
 pub mod LeastWalks
-pub mod Examples

@@ -1,8 +1,10 @@
 -- A table that is right, and the steps that were read off it, are a plan.
-use Rattle.std.proofs.Common.{◌≡◌, ℕ, List, sym, subst}
-use Rattle.pcl_plan.specs.declared.table.RowNumbers.{RowNumbers}
-use Rattle.pcl_plan.specs.declared.step.Step.{Step}
-use Rattle.pcl_plan.specs.Table.{node_number}
+use Rattle.std.proofs.Common.{◌≡◌, ℕ, List, sym, subst, arith}
+use Rattle.pcl_output.specs.declared.table.RowNumbers.{RowNumbers}
+use Rattle.pcl_output.specs.declared.step.Step.{Step}
+use Rattle.pcl_output.specs.Nodes.{start}
+use Rattle.pcl_output.specs.Table.{node_number}
+use Rattle.pcl_output.specs.PageTables.{IsTableFor}
 use Rattle.pcl_plan.specs.inner.Filling.{AreRightFrom}
 use Rattle.pcl_plan.specs.inner.Reading.{AreLeastSteps}
 use Rattle.pcl_plan.specs.Plans.{StepsAndTable, IsPlan}
@@ -27,3 +29,7 @@ plan_is {width} {rows} {table} {steps} {plan} s t right are =
     subst (λ (ss : List Step). IsPlan width rows (record { steps = ss; table = plan.table })) (sym s)
     (subst (λ (n : List RowNumbers). IsPlan width rows (record { steps = steps; table = n })) (sym t)
     (plan_of width rows table steps right are))
+
+-- its table shows how long a least text is
+pub table_of_plan : {width : ℕ} {rows : List (List ℕ)} {plan : StepsAndTable} → IsPlan width rows plan → IsTableFor width rows plan.table
+table_of_plan is = record { size = is.size; feasible = is.feasible; least = is.least start (omega arith) }

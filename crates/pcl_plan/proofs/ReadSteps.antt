@@ -5,27 +5,23 @@ use Rattle.std.proofs.lemmas.Bool.{cases_lt}
 use Rattle.std.proofs.lemmas.List.{append-nil}
 use Rattle.pcl_base.specs.declared.method.Method.{Method}
 use Rattle.pcl_base.specs.Method.{method_code}
-use Rattle.pcl_coders.specs.Walks.{Walk, total}
-use Rattle.pcl_plan.specs.declared.table.RowNumbers.{RowNumbers}
-use Rattle.pcl_plan.specs.declared.step.Step.{Step}
-use Rattle.pcl_plan.specs.declared.step.Step.TheVariants.{Skip, Switch, Row}
-use Rattle.pcl_plan.specs.declared.steps.Place.{Place}
-use Rattle.pcl_plan.specs.Tokens.{Token, opening, method, skip, send, IsSpelled}
-use Rattle.pcl_plan.specs.Nodes.{Node, start, Leads, Ends, cost}
-use Rattle.pcl_plan.specs.Spelling.{least_spelling}
-use Rattle.pcl_plan.specs.Table.{node_number}
-use Rattle.pcl_plan.specs.Filling.{outside, inside, rest}
-use Rattle.pcl_plan.specs.Plans.{IsTokenOf, stays_inside, opened, is_last, Spells}
-use Rattle.pcl_plan.specs.inner.Reading.{IsBestStep, IsPlaceBehind, AreLeastSteps}
-use Rattle.pcl_plan.proofs.Walking.{node}
-use Rattle.pcl_plan.proofs.RightRows.{cost_opening, cost_method, cost_skip, cost_send, cost_some, method_small}
-use Rattle.pcl_plan.proofs.InkedRows.{spelled_cost, length_small}
+use Rattle.pcl_base.specs.Walks.{Walk, total}
+use Rattle.pcl_output.specs.declared.table.RowNumbers.{RowNumbers}
+use Rattle.pcl_output.specs.declared.step.Step.{Step}
+use Rattle.pcl_output.specs.declared.step.Step.TheVariants.{Skip, Switch, Row}
+use Rattle.pcl_output.specs.declared.node.Node.{Node}
+use Rattle.pcl_output.specs.Tokens.{Token, opening, method, skip, send, IsSpelled}
+use Rattle.pcl_output.specs.Nodes.{start, Leads, Ends, cost, stays_inside}
+use Rattle.pcl_output.specs.Spelling.{least_spelling}
+use Rattle.pcl_output.specs.Table.{node_number, outside, inside, rest}
+use Rattle.pcl_plan.specs.Plans.{IsTokenOf, opened, is_last, Spells}
+use Rattle.pcl_plan.specs.inner.Reading.{IsBestStep, IsNextNode, AreLeastSteps}
+use Rattle.pcl_output.proofs.Walking.{node}
+use Rattle.pcl_output.proofs.TokenCosts.{cost_opening, cost_method, cost_skip, cost_send, cost_some, method_small, spelled_cost}
+use Rattle.pcl_coders.proofs.Lengths.{length_small}
 use Rattle.pcl_plan.proofs.Reading.{IsRightTable, opens, ends}
 
--- ---- a place
-
-abbrev pub node_of : Place → Node
-node_of place = node place.row place.method place.inside
+-- ---- a node
 
 pub node_is : {row other : ℕ} {current next : Method} {one two : Bool} → row ≡ other → current ≡ next → one ≡ two → node row current one
     ≡ node other next two
@@ -47,27 +43,27 @@ rest_is current false is within some none = omega (arith, none refl)
 
 -- ---- the token of a step
 
-pub record IsNext (width : ℕ) (rows : List (List ℕ)) (number : Node → ℕ) (row : ℕ) (current : Method) (step : Step) (place : Place) : Type
+pub record IsNext (width : ℕ) (rows : List (List ℕ)) (number : Node → ℕ) (row : ℕ) (current : Method) (step : Step) (at : Node) : Type
     0 where
   pub token : Token
-  pub is_of : IsTokenOf step (not place.inside) token
-  pub leads : Leads width rows (node row current true) token (node_of place)
-  pub number_is : inside number row current ≡ cost token + number (node_of place)
-  pub within : place.row ≤ length rows
+  pub is_of : IsTokenOf step (not at.inside) token
+  pub leads : Leads width rows (node row current true) token at
+  pub number_is : inside number row current ≡ cost token + number at
+  pub within : at.row ≤ length rows
 
-pub next_is : {width : ℕ} {rows : List (List ℕ)} {table : List RowNumbers} {row : ℕ} {current : Method} (step : Step) {place : Place}
+pub next_is : {width : ℕ} {rows : List (List ℕ)} {table : List RowNumbers} {row : ℕ} {current : Method} (step : Step) {at : Node}
     → IsRightTable width rows table → row ≤ length rows
-    → IsBestStep width rows (node_number table) row current step → IsPlaceBehind (node_number table) row current step place
-    → IsNext width rows (node_number table) row current step place
-next_is {rows} {table} {row} {current} (Skip count) {place} is before best p =
+    → IsBestStep width rows (node_number table) row current step → IsNextNode (node_number table) row current step at
+    → IsNext width rows (node_number table) row current step at
+next_is {rows} {table} {row} {current} (Skip count) {at} is before best p =
     let s = spelled_cost count (omega (arith, best.0.1, is.few)) in
-    let there : place.row ≤ length rows = omega (arith, p.row_is, best.0.1) in
-    let number = rest_is place.method place.inside is there (λ goes. (p.goes_on goes).1)
+    let there : at.row ≤ length rows = omega (arith, p.row_is, best.0.1) in
+    let number = rest_is at.method at.inside is there (λ goes. (p.goes_on goes).1)
     (λ ended. p.ends ended refl) in
-    let moved : rest (node_number table) place.row place.method ≡ rest (node_number table) (row + count) current =
-    ap (λ (r : ℕ). rest (node_number table) r place.method) p.row_is ∙ ap (rest (node_number table) (row + count)) p.method_is in
+    let moved : rest (node_number table) at.row at.method ≡ rest (node_number table) (row + count) current =
+    ap (λ (r : ℕ). rest (node_number table) r at.method) p.row_is ∙ ap (rest (node_number table) (row + count)) p.method_is in
     record {
-      token = skip (least_spelling count) count (not place.inside);
+      token = skip (least_spelling count) count (not at.inside);
       is_of = (refl, refl, refl);
       leads = (
         refl,
@@ -75,36 +71,36 @@ next_is {rows} {table} {row} {current} (Skip count) {place} is before best p =
         best.0.0,
         best.0.1,
         best.0.2,
-        node_is p.row_is p.method_is (not_not place.inside),
+        node_is p.row_is p.method_is (not_not at.inside),
       );
-      number_is = omega (arith, best.1, number, moved, s.1, cost_skip (least_spelling count) count (not place.inside));
+      number_is = omega (arith, best.1, number, moved, s.1, cost_skip (least_spelling count) count (not at.inside));
       within = there;
     }
-next_is {rows} {table} {row} (Switch next) {place} is before best p =
+next_is {rows} {table} {row} (Switch next) {at} is before best p =
     let s = spelled_cost (method_code next) (omega (arith, method_small next)) in
-    let there : place.row ≤ length rows = omega (arith, p.row_is, before) in
-    let number = rest_is place.method place.inside is there (λ goes. (p.goes_on goes).1)
+    let there : at.row ≤ length rows = omega (arith, p.row_is, before) in
+    let number = rest_is at.method at.inside is there (λ goes. (p.goes_on goes).1)
     (λ ended. p.ends ended refl) in
-    let moved : rest (node_number table) place.row place.method ≡ rest (node_number table) row next =
-    ap (λ (r : ℕ). rest (node_number table) r place.method) p.row_is ∙ ap (rest (node_number table) row) p.method_is in
+    let moved : rest (node_number table) at.row at.method ≡ rest (node_number table) row next =
+    ap (λ (r : ℕ). rest (node_number table) r at.method) p.row_is ∙ ap (rest (node_number table) row) p.method_is in
     record {
-      token = method (least_spelling (method_code next)) next (not place.inside);
+      token = method (least_spelling (method_code next)) next (not at.inside);
       is_of = (refl, refl, refl);
       leads = (
         refl,
         s.0,
         node_is p.row_is p.method_is
-            (not_not place.inside),
+            (not_not at.inside),
       );
-      number_is = omega (arith, best, number, moved, s.1, cost_method (least_spelling (method_code next)) next (not place.inside));
+      number_is = omega (arith, best, number, moved, s.1, cost_method (least_spelling (method_code next)) next (not at.inside));
       within = there;
     }
-next_is {width} {rows} {table} {row} {current} (Row bytes) {place} is before best p =
+next_is {width} {rows} {table} {row} {current} (Row bytes) {at} is before best p =
     let s = spelled_cost bytes (length_small best.1) in
     let whole = best.1.attained in
     let spelled : IsSpelled (least_spelling bytes) (length whole.0) = subst (IsSpelled (least_spelling bytes)) (sym whole.2) s.0 in
-    let there : place.row ≤ length rows = omega (arith, p.row_is, best.0) in
-    let closed : place.inside ≡ false = elim place.inside as (λ (i : Bool). (i ≡ true → false ≡ true) → i ≡ false) [
+    let there : at.row ≤ length rows = omega (arith, p.row_is, best.0) in
+    let closed : at.inside ≡ false = elim at.inside as (λ (i : Bool). (i ≡ true → false ≡ true) → i ≡ false) [
       | true ↦ λ no. (let e : false ≡ true = no refl in absurd cc)
       | false ↦ λ _. refl
     ] (λ goes. (p.goes_on goes).0) in
@@ -119,21 +115,21 @@ next_is {width} {rows} {table} {row} {current} (Row bytes) {place} is before bes
 
 -- ---- what was read
 
--- steps that were read up to a place
-pub record IsReadTo (width : ℕ) (rows : List (List ℕ)) (table : List RowNumbers) (steps : List Step) (place : Place) : Type 0 where
-  pub within : place.row ≤ length rows
-  pub inked : place.inside ≡ true → 0 < outside (node_number table) place.row place.method
+-- steps that were read up to a at
+pub record IsReadTo (width : ℕ) (rows : List (List ℕ)) (table : List RowNumbers) (steps : List Step) (at : Node) : Type 0 where
+  pub within : at.row ≤ length rows
+  pub inked : at.inside ≡ true → 0 < outside (node_number table) at.row at.method
   pub tokens : List Token
-  pub goes_on : (more : List Step) (behind : List Token) → (node_number table (node_of place) ≡ 0 → more ≡ [])
-      → (0 < node_number table (node_of place) → is_last more ≡ false)
-      → Spells place.inside more behind → Walk (Leads width rows) (Ends rows) (node_of place) behind → total cost behind
-      ≡ node_number table (node_of place)
+  pub goes_on : (more : List Step) (behind : List Token) → (node_number table at ≡ 0 → more ≡ [])
+      → (0 < node_number table at → is_last more ≡ false)
+      → Spells at.inside more behind → Walk (Leads width rows) (Ends rows) at behind → total cost behind
+      ≡ node_number table at
       → Spells false (steps ++ more) (tokens ++ behind) × Walk (Leads width rows) (Ends rows) start (tokens ++ behind)
       × (total cost (tokens ++ behind) ≡ node_number table start)
 
-pub read_none : (width : ℕ) (rows : List (List ℕ)) (table : List RowNumbers) (place : Place) → node_of place ≡ start
-    → IsReadTo width rows table [] place
-read_none width rows table place e = record {
+pub read_none : (width : ℕ) (rows : List (List ℕ)) (table : List RowNumbers) (at : Node) → at ≡ start
+    → IsReadTo width rows table [] at
+read_none width rows table at e = record {
   within = omega (arith, ap (λ (n : Node). n.row) e);
   inked = λ goes. (let no : false ≡ true = sym (ap (λ (n : Node). n.inside) e) ∙ goes in absurd cc);
   tokens = [];
@@ -184,12 +180,12 @@ inside_below row current true is within some = omega arith
 inside_below {width} {rows} {table} row current false is within some = omega (arith, opens current is within some)
 
 -- ink is left where a step is read
-pub ink_left : {width : ℕ} {rows : List (List ℕ)} {table : List RowNumbers} {steps : List Step} {place : Place}
-    → IsReadTo width rows table steps place → 0 < node_number table (node_of place)
-    → 0 < outside (node_number table) place.row place.method
-ink_left {table} {place} r some =
-    elim place.inside as (λ (i : Bool). (i ≡ true → 0 < outside (node_number table) place.row place.method) → 0 < node_number table
-    (node place.row place.method i) → 0 < outside (node_number table) place.row place.method) [
+pub ink_left : {width : ℕ} {rows : List (List ℕ)} {table : List RowNumbers} {steps : List Step} {at : Node}
+    → IsReadTo width rows table steps at → 0 < node_number table at
+    → 0 < outside (node_number table) at.row at.method
+ink_left {table} {at} r some =
+    elim at.inside as (λ (i : Bool). (i ≡ true → 0 < outside (node_number table) at.row at.method) → 0 < node_number table
+    (node at.row at.method i) → 0 < outside (node_number table) at.row at.method) [
       | true ↦ λ inked some. inked refl
       | false ↦ λ inked some. some
     ] r.inked some
@@ -212,15 +208,15 @@ inside_some {width} {rows} {table} row current is within =
     ]
 
 -- whether other steps follow, by what is known after a step
-pub record IsFollowed (width : ℕ) (rows : List (List ℕ)) (table : List RowNumbers) (behind : Place) (step : Step) (more : List Step) :
+pub record IsFollowed (width : ℕ) (rows : List (List ℕ)) (table : List RowNumbers) (behind : Node) (step : Step) (more : List Step) :
     Type 0 where
   pub stops : behind.inside ≡ false → stays_inside step ≡ true → is_last more ≡ true
   pub goes_on : behind.inside ≡ true → is_last more ≡ false
 
-followed : {width : ℕ} {rows : List (List ℕ)} {table : List RowNumbers} {row : ℕ} {current : Method} {behind : Place} {step : Step}
+followed : {width : ℕ} {rows : List (List ℕ)} {table : List RowNumbers} {row : ℕ} {current : Method} {behind : Node} {step : Step}
     {more : List Step} → IsRightTable width rows table → behind.row ≤ length rows
-    → IsPlaceBehind (node_number table) row current step behind → (node_number table (node_of behind) ≡ 0 → more ≡ [])
-    → (0 < node_number table (node_of behind) → is_last more ≡ false)
+    → IsNextNode (node_number table) row current step behind → (node_number table behind ≡ 0 → more ≡ [])
+    → (0 < node_number table behind → is_last more ≡ false)
     → IsFollowed width rows table behind step more
 followed {table} {row} {behind} is within p z s = record {
   stops = λ closed stays. ap is_last (z (ap (λ (i : Bool). node_number table (node behind.row behind.method i)) closed ∙ p.ends closed
@@ -230,7 +226,7 @@ followed {table} {row} {behind} is within p z s = record {
       s (omega (arith, same, inside_some behind.row behind.method is within));
 }
 
-token_followed : {width : ℕ} {rows : List (List ℕ)} {table : List RowNumbers} {behind : Place} {step : Step} {more : List Step}
+token_followed : {width : ℕ} {rows : List (List ℕ)} {table : List RowNumbers} {behind : Node} {step : Step} {more : List Step}
     (token : Token) → IsFollowed width rows table behind step more
     → IsTokenOf step (not behind.inside) token → IsTokenOf step (is_last more) token
 token_followed {behind} {step} {more} token f t =
@@ -243,9 +239,9 @@ token_followed {behind} {step} {more} token f t =
           ]
     ]
 
-spells_followed : {width : ℕ} {rows : List (List ℕ)} {table : List RowNumbers} {row : ℕ} {current : Method} {behind : Place} {step : Step}
+spells_followed : {width : ℕ} {rows : List (List ℕ)} {table : List RowNumbers} {row : ℕ} {current : Method} {behind : Node} {step : Step}
     {more : List Step} (tail : List Token) → IsFollowed width rows table behind step more
-    → IsPlaceBehind (node_number table) row current step behind → Spells behind.inside more tail → Spells (stays_inside step) more tail
+    → IsNextNode (node_number table) row current step behind → Spells behind.inside more tail → Spells (stays_inside step) more tail
 spells_followed {behind} {step} {more} tail f p spells =
     spells_any more tail
     (λ others.
@@ -259,24 +255,24 @@ spells_followed {behind} {step} {more} tail f p spells =
     ])
     spells
 
-pub read_more : {width : ℕ} {rows : List (List ℕ)} {table : List RowNumbers} {steps : List Step} {place behind : Place} {step : Step}
-    → IsRightTable width rows table → IsReadTo width rows table steps place
-    → 0 < node_number table (node_of place) → IsBestStep width rows (node_number table) place.row place.method step
-    → IsPlaceBehind (node_number table) place.row place.method step behind
+pub read_more : {width : ℕ} {rows : List (List ℕ)} {table : List RowNumbers} {steps : List Step} {at behind : Node} {step : Step}
+    → IsRightTable width rows table → IsReadTo width rows table steps at
+    → 0 < node_number table at → IsBestStep width rows (node_number table) at.row at.method step
+    → IsNextNode (node_number table) at.row at.method step behind
     → IsReadTo width rows table (steps ++ step ∷ []) behind
 unfolding Spells
-read_more {width} {rows} {table} {steps} {place} {behind} {step} is r some best p =
+read_more {width} {rows} {table} {steps} {at} {behind} {step} is r some best p =
     let next = next_is step is r.within best p in
     let ink = ink_left r some in
     record {
       within = next.within;
       inked = λ goes. (p.goes_on goes).1;
-      tokens = r.tokens ++ opened place.inside (next.token ∷ []);
+      tokens = r.tokens ++ opened at.inside (next.token ∷ []);
       goes_on = λ more tail z s spells walk t.
           let f = followed is next.within p z s in
-          let inside_total : total cost (next.token ∷ tail) ≡ inside (node_number table) place.row place.method = omega
+          let inside_total : total cost (next.token ∷ tail) ≡ inside (node_number table) at.row at.method = omega
           (arith, t, next.number_is) in
-          let g = r.goes_on (step ∷ more) (opened place.inside (next.token ∷ tail)) (λ none. absurd (omega (arith, none, some)))
+          let g = r.goes_on (step ∷ more) (opened at.inside (next.token ∷ tail)) (λ none. absurd (omega (arith, none, some)))
           (λ _. refl) (
             next.token,
             tail,
@@ -284,14 +280,14 @@ read_more {width} {rows} {table} {steps} {place} {behind} {step} is r some best 
             refl,
             spells_followed tail f p spells,
           )
-          (opened_walk width rows place.row place.method place.inside (next.token ∷ tail) (node_of behind, next.leads, walk))
-          (opened_total place.method place.inside (next.token ∷ tail) is r.within ink inside_total) in
+          (opened_walk width rows at.row at.method at.inside (next.token ∷ tail) (behind, next.leads, walk))
+          (opened_total at.method at.inside (next.token ∷ tail) is r.within ink inside_total) in
           let steps_are : steps ++ (step ∷ more) ≡ (steps ++ step ∷ []) ++ more = sym (append_assoc steps (step ∷ []) more) in
-          let tokens_are : r.tokens ++ opened place.inside (next.token ∷ tail)
-          ≡ (r.tokens ++ opened place.inside (next.token ∷ [])) ++ tail =
-          ap (λ (ts : List Token). r.tokens ++ ts) (opened_more place.inside next.token tail) ∙ sym
-          (append_assoc r.tokens (opened place.inside (next.token ∷ [])) tail) in (
-            subst (λ (ss : List Step). Spells false ss ((r.tokens ++ opened place.inside (next.token ∷ [])) ++ tail)) steps_are
+          let tokens_are : r.tokens ++ opened at.inside (next.token ∷ tail)
+          ≡ (r.tokens ++ opened at.inside (next.token ∷ [])) ++ tail =
+          ap (λ (ts : List Token). r.tokens ++ ts) (opened_more at.inside next.token tail) ∙ sym
+          (append_assoc r.tokens (opened at.inside (next.token ∷ [])) tail) in (
+            subst (λ (ss : List Step). Spells false ss ((r.tokens ++ opened at.inside (next.token ∷ [])) ++ tail)) steps_are
                 (subst (Spells false (steps ++ (step ∷ more))) tokens_are g.0),
             subst (Walk (Leads width rows) (Ends rows) start) tokens_are g.1,
             ap (total cost) (sym tokens_are) ∙ g.2,
@@ -299,23 +295,23 @@ read_more {width} {rows} {table} {steps} {place} {behind} {step} is r some best 
     }
 
 -- the measure of reading
-pub read_less : {width : ℕ} {rows : List (List ℕ)} {table : List RowNumbers} {steps : List Step} {place behind : Place} {step : Step}
-    → IsRightTable width rows table → IsReadTo width rows table steps place
-    → 0 < node_number table (node_of place) → IsBestStep width rows (node_number table) place.row place.method step
-    → IsPlaceBehind (node_number table) place.row place.method step behind
-    → node_number table (node_of behind) < node_number table (node_of place)
-read_less {width} {rows} {table} {steps} {place} {step} is r some best p =
+pub read_less : {width : ℕ} {rows : List (List ℕ)} {table : List RowNumbers} {steps : List Step} {at behind : Node} {step : Step}
+    → IsRightTable width rows table → IsReadTo width rows table steps at
+    → 0 < node_number table at → IsBestStep width rows (node_number table) at.row at.method step
+    → IsNextNode (node_number table) at.row at.method step behind
+    → node_number table behind < node_number table at
+read_less {width} {rows} {table} {steps} {at} {step} is r some best p =
     let next = next_is step is r.within best p in
     let ink = ink_left r some in
-    omega (arith, next.number_is, cost_some next.token, inside_below place.row place.method place.inside is r.within ink)
+    omega (arith, next.number_is, cost_some next.token, inside_below at.row at.method at.inside is r.within ink)
 
-pub read_all : {width : ℕ} {rows : List (List ℕ)} {table : List RowNumbers} {steps : List Step} {place : Place}
-    → IsRightTable width rows table → IsReadTo width rows table steps place → node_number table (node_of place) ≡ 0
+pub read_all : {width : ℕ} {rows : List (List ℕ)} {table : List RowNumbers} {steps : List Step} {at : Node}
+    → IsRightTable width rows table → IsReadTo width rows table steps at → node_number table at ≡ 0
     → AreLeastSteps width rows (node_number table) steps
 unfolding Spells
-read_all {width} {rows} {table} {steps} {place} is r none =
+read_all {width} {rows} {table} {steps} {at} is r none =
     let g = r.goes_on [] [] (λ _. refl) (λ some. absurd (omega (arith, none, some))) refl
-    (ends width rows table (node_of place) is r.within none) (sym none) in
+    (ends width rows table at is r.within none) (sym none) in
     record {
       tokens = r.tokens ++ [];
       spelled = subst (λ (ss : List Step). Spells false ss (r.tokens ++ [])) (append-nil steps) g.0;

@@ -9,20 +9,22 @@ use Rattle.pcl_base.specs.declared.method.Method.TheVariants.{Plain, Runs, Packe
 use Rattle.pcl_base.specs.Method.{method_code}
 use Rattle.pcl_rows.specs.Rows.{IsRowData}
 use Rattle.pcl_coders.specs.Coding.{IsLeastLength}
-use Rattle.pcl_coders.specs.Walks.{Walk, total, IsFeasible, IsLeastCost}
-use Rattle.pcl_coders.proofs.Walks.{feasible_bounds, attained_is_least}
-use Rattle.pcl_plan.specs.declared.table.RowNumbers.{RowNumbers}
-use Rattle.pcl_plan.specs.Tokens.{Token, opening, method, skip, send, IsSpelled, AreWhite}
-use Rattle.pcl_plan.specs.Nodes.{Node, row_at, row_above, Leads, Ends, cost}
-use Rattle.pcl_plan.specs.Spelling.{least_spelling}
-use Rattle.pcl_plan.specs.Table.{number_in, no_numbers, node_number}
-use Rattle.pcl_plan.specs.Filling.{switching, outside, inside, rest}
-use Rattle.pcl_plan.specs.inner.Filling.{sending, skipping, AreSkippable, IsWhiteRun, IsReadable, AreRightFrom}
-use Rattle.pcl_plan.proofs.Digits.{count_grows, spelled_long}
-use Rattle.pcl_plan.proofs.Walking.{node}
-use Rattle.pcl_plan.proofs.RightRows.{cost_opening, cost_method, cost_skip, cost_send, cost_some, method_small, rest_below, best_end}
-use Rattle.pcl_plan.proofs.InkedRows.{spelled_cost, length_small}
-use Rattle.pcl_plan.proofs.Filled.{readable, white_front, white_to_end}
+use Rattle.pcl_base.specs.Walks.{Walk, total, IsFeasible, IsLeastCost}
+use Rattle.pcl_base.proofs.Walks.{feasible_bounds, attained_is_least}
+use Rattle.pcl_output.specs.declared.table.RowNumbers.{RowNumbers}
+use Rattle.pcl_output.specs.Tokens.{Token, opening, method, skip, send, IsSpelled, AreWhite}
+use Rattle.pcl_output.specs.declared.node.Node.{Node}
+use Rattle.pcl_output.specs.Nodes.{row_at, row_above, Leads, Ends, cost}
+use Rattle.pcl_output.specs.Spelling.{least_spelling, switching, row_cost}
+use Rattle.pcl_output.specs.Table.{number_in, no_numbers, node_number, outside, inside, rest}
+use Rattle.pcl_plan.specs.inner.Filling.{skipping, IsReadable, AreRightFrom}
+use Rattle.pcl_output.specs.inner.WhiteRows.{AreSkippable, IsWhiteRun}
+use Rattle.pcl_output.proofs.DigitCounts.{count_grows, spelled_long}
+use Rattle.pcl_output.proofs.Walking.{node}
+use Rattle.pcl_output.proofs.TokenCosts.{cost_opening, cost_method, cost_skip, cost_send, cost_some, method_small, rest_below, best_end, spelled_cost}
+use Rattle.pcl_coders.proofs.Lengths.{length_small}
+use Rattle.pcl_plan.proofs.Filled.{readable}
+use Rattle.pcl_output.proofs.WhiteRows.{white_front, white_to_end}
 
 -- ---- the whole table
 
@@ -101,7 +103,7 @@ skip_bound {width} {rows} {table} row current {count} is can =
 pub send_bound : {width : ℕ} {rows : List (List ℕ)} {table : List RowNumbers} {row : ℕ} {current : Method} {bytes : ℕ}
     → IsRightTable width rows table → row < length rows
     → IsLeastLength current (row_above width rows row) (row_at rows row) bytes
-    → inside (node_number table) row current ≤ sending bytes + outside (node_number table) (row + 1) current
+    → inside (node_number table) row current ≤ row_cost bytes + outside (node_number table) (row + 1) current
 send_bound {width} {rows} {table} {row} {current} {bytes} is lt length_is =
     let whole = length_is.attained in
     let s = spelled_cost bytes (length_small length_is) in
@@ -117,7 +119,7 @@ pub data Beginning (width : ℕ) (rows : List (List ℕ)) (table : List RowNumbe
   by_skip : (count : ℕ) → AreSkippable rows row count → inside (node_number table) row current
       ≡ skipping (node_number table) row current count → Beginning width rows table row current
   by_row : (bytes : List ℕ) → row < length rows → IsRowData current (row_above width rows row) (row_at rows row) bytes
-      → sending (length bytes) + outside (node_number table) (row + 1) current ≤ inside (node_number table) row current
+      → row_cost (length bytes) + outside (node_number table) (row + 1) current ≤ inside (node_number table) row current
       → Beginning width rows table row current
 
 begins_with : {width : ℕ} {rows : List (List ℕ)} {table : List RowNumbers} {row : ℕ} {current : Method} → IsRightTable width rows table
@@ -172,7 +174,7 @@ pub switch_begins : {width : ℕ} {rows : List (List ℕ)} {table : List RowNumb
     → IsRightTable width rows table → row ≤ length rows
     → ((count : ℕ) → AreSkippable rows row count → inside (node_number table) row current < skipping (node_number table) row current count)
     → IsLeastLength current (row_above width rows row) (row_at rows row) bytes
-    → (sending bytes + outside (node_number table) (row + 1) current ≡ inside (node_number table) row current → ⊥)
+    → (row_cost bytes + outside (node_number table) (row + 1) current ≡ inside (node_number table) row current → ⊥)
     → (next : Method) × (inside (node_number table) row current ≡ switching next + rest (node_number table) row next)
 switch_begins {width} {rows} {table} {row} {current} {bytes} is within no_skip length_is no_row =
     elim (begins width rows table row current is within) [

@@ -6,36 +6,16 @@ use Rattle.std.proofs.lemmas.List.{length-append}
 use Rattle.pcl_base.specs.declared.method.Method.{Method}
 use Rattle.pcl_base.specs.declared.method.Method.TheVariants.{Plain, Runs, Packed, Delta}
 use Rattle.pcl_base.specs.Method.{method_code}
-use Rattle.pcl_coders.specs.Walks.{IsAttained}
-use Rattle.pcl_plan.specs.Tokens.{Token, opening, method, skip, send, letter, AreWhite}
-use Rattle.pcl_plan.specs.Nodes.{Node, Leads, Ends, cost}
-use Rattle.pcl_plan.specs.Filling.{outside, inside, rest}
+use Rattle.pcl_base.specs.Walks.{IsAttained}
+use Rattle.pcl_output.specs.Tokens.{Token, opening, method, skip, send, letter, AreWhite}
+use Rattle.pcl_output.specs.declared.node.Node.{Node}
+use Rattle.pcl_output.specs.Nodes.{Leads, Ends, cost}
+use Rattle.pcl_output.specs.Table.{outside, inside, rest}
 use Rattle.pcl_plan.specs.inner.Filling.{IsRowRight}
-use Rattle.pcl_plan.proofs.Walking.{node}
+use Rattle.pcl_output.proofs.TokenCosts.{cost_method, cost_some}
+use Rattle.pcl_output.proofs.Walking.{node}
 
--- ---- tokens
-
-length-letter : (capital : ℕ) (ends : Bool) → length (letter capital ends) ≡ 1
-length-letter capital true = refl
-length-letter capital false = refl
-
-pub cost_opening : cost opening ≡ 3
-cost_opening = refl
-
-pub cost_method : (digits : List ℕ) (next : Method) (ends : Bool) → cost (method digits next ends) ≡ length digits + 1
-cost_method digits next ends = omega (arith, length-append digits (letter 77 ends), length-letter 77 ends)
-
-pub cost_skip : (digits : List ℕ) (count : ℕ) (ends : Bool) → cost (skip digits count ends) ≡ length digits + 1
-cost_skip digits count ends = omega (arith, length-append digits (letter 89 ends), length-letter 89 ends)
-
-pub cost_send : (digits bytes : List ℕ) → cost (send digits bytes) ≡ length digits + 1 + length bytes
-cost_send digits bytes = omega (arith, length-append digits (87 ∷ bytes))
-
-pub cost_some : (token : Token) → 0 < cost token
-cost_some opening = omega (arith, cost_opening)
-cost_some (method digits next ends) = omega (arith, cost_method digits next ends)
-cost_some (skip digits count ends) = omega (arith, cost_skip digits count ends)
-cost_some (send digits bytes) = omega (arith, cost_send digits bytes)
+-- ---- nodes
 
 -- no token leads upwards
 pub leads_down : (width : ℕ) (rows : List (List ℕ)) (a : Node) (token : Token) (b : Node) → Leads width rows a token b → a.row ≤ b.row
@@ -44,32 +24,10 @@ leads_down width rows a (method digits next ends) b l = omega (arith, ap (λ (n 
 leads_down width rows a (skip digits count ends) b l = omega (arith, ap (λ (n : Node). n.row) l.5)
 leads_down width rows a (send digits bytes) b l = omega (arith, ap (λ (n : Node). n.row) l.4)
 
-pub method_small : (next : Method) → method_code next < 4
-method_small Plain = omega arith
-method_small Runs = omega arith
-method_small Packed = omega arith
-method_small Delta = omega arith
-
--- ---- nodes
-
 -- what holds in each method, inside a sequence and outside, holds of all nodes after so many rows
 pub at_row : (P : Node → Type 0) (row : ℕ) → ((current : Method) (is_open : Bool) → P (node row current is_open)) → (a : Node) → a.row
     ≡ row → P a
 at_row P row h a e = subst (λ (r : ℕ). P (node r a.method a.inside)) (sym e) (h a.method a.inside)
-
-pub rest_below : (number : Node → ℕ) (row : ℕ) (current : Method) (is_open : Bool)
-    → rest number row current ≤ number (node row current is_open)
-rest_below number row current true = omega arith
-rest_below number row current false = omega arith
-
--- a parameter that ends its sequence or doesn't, and then costs the least
-pub best_end : (number : Node → ℕ) (row : ℕ) (current : Method) → (ends : Bool)
-    × (rest number row current ≡ number (node row current (not ends)))
-best_end number row current =
-    elim (cases_lt (outside number row current) (inside number row current)) [
-      | inl ends ↦ (true, omega arith)
-      | inr stays ↦ (false, omega arith)
-    ]
 
 -- ---- rows that stay right
 

@@ -2,12 +2,12 @@
 use Rattle.std.proofs.Common.{◌≡◌, ℕ, ◌+◌, ◌-◌, ◌^◌, ◌<◌, ◌≤◌, min, List, sym, ap, subst, ◌∙◌, inl, inr, arith}
 use Rattle.std.proofs.lemmas.Bool.{cases_lt}
 use Rattle.pcl_base.specs.declared.method.Method.{Method}
-use Rattle.pcl_plan.specs.Spelling.{digit_count}
+use Rattle.pcl_output.specs.Spelling.{digit_count}
 use Rattle.pcl_plan.specs.declared.fill.Skip.{Skip}
-use Rattle.pcl_plan.specs.declared.table.RowNumbers.{RowNumbers}
-use Rattle.pcl_plan.specs.Table.{node_number}
+use Rattle.pcl_output.specs.declared.table.RowNumbers.{RowNumbers}
+use Rattle.pcl_output.specs.Table.{node_number}
 use Rattle.pcl_plan.specs.inner.Filling.{skipping, IsLeastSkip, IsReadable}
-use Rattle.pcl_plan.proofs.Digits.{count_le, count_above}
+use Rattle.pcl_output.proofs.DigitCounts.{count_le, count_above}
 
 -- more rows are as good, where they need no more digits
 more_as_good : {table : List RowNumbers} {row : ℕ} (method : Method) {run : ℕ} (count more : ℕ) → IsReadable table row run → 0 < count

@@ -1,14 +1,15 @@
 -- Plans: steps that print the rows of a page, with a table that shows that no others cost less.
 use Rattle.std.specs.Prelude.{◌≡◌, ℕ, ◌+◌, ◌≤◌, Bool, true, false, List, [], ◌∷◌, length}
 use Rattle.pcl_base.specs.Method.{method_code}
-use Rattle.pcl_coders.specs.Walks.{Walk, total, IsFeasible, IsLeastCost}
-use Rattle.pcl_plan.specs.Tokens.{Token, opening, method, skip, send}
-use Rattle.pcl_plan.specs.Nodes.{Node, start, Leads, Ends, cost}
-use Rattle.pcl_plan.specs.Spelling.{least_spelling}
-use Rattle.pcl_plan.specs.Table.{node_number}
-use Rattle.pcl_plan.specs.declared.table.RowNumbers.{RowNumbers}
-use Rattle.pcl_plan.specs.declared.step.Step.{Step}
-use Rattle.pcl_plan.specs.declared.step.Step.TheVariants.{Skip, Switch, Row}
+use Rattle.pcl_base.specs.Walks.{Walk, total, IsFeasible, IsLeastCost}
+use Rattle.pcl_output.specs.Tokens.{Token, opening, method, skip, send}
+use Rattle.pcl_output.specs.declared.node.Node.{Node}
+use Rattle.pcl_output.specs.Nodes.{start, Leads, Ends, cost}
+use Rattle.pcl_output.specs.Spelling.{least_spelling}
+use Rattle.pcl_output.specs.Table.{node_number}
+use Rattle.pcl_output.specs.declared.table.RowNumbers.{RowNumbers}
+use Rattle.pcl_output.specs.declared.step.Step.{Step}
+use Rattle.pcl_output.specs.declared.step.Step.TheVariants.{Skip, Switch, Row}
 
 -- ---- steps as tokens
 

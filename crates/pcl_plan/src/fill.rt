@@ -3,17 +3,16 @@
 ghost use Rattle.std.specs.Prelude.{◌≡◌, ◌+◌, ◌<◌, ◌≤◌, length};
 ghost use Rattle.pcl_base.specs.declared.method.Method.{Method as RowMethod};
 ghost use Rattle.pcl_coders.specs.Coding.{IsLeastLength};
-ghost use Rattle.pcl_plan.specs.Nodes.{row_at, row_above};
-ghost use Rattle.pcl_plan.specs.Table.{by_method, node_number};
+ghost use Rattle.pcl_output.specs.Nodes.{row_at, row_above};
+ghost use Rattle.pcl_output.specs.Table.{by_method, node_number};
 ghost use Rattle.pcl_plan.specs.inner.Rows.{rows_of};
-ghost use Rattle.pcl_plan.specs.inner.Filling.{skipping, IsWhiteRun, IsLeastSkip, IsReadable, IsLeastStart, AreRowNumbers, AreRightFrom};
+ghost use Rattle.pcl_plan.specs.inner.Filling.{skipping, IsLeastSkip, IsReadable, IsLeastStart, AreRowNumbers, AreRightFrom};
+ghost use Rattle.pcl_output.specs.inner.WhiteRows.{IsWhiteRun};
 
-use crate::by_method::ByMethod;
-use crate::costs::{digits, sending_cost};
 use crate::lengths::LeastLengths;
 use crate::rows::Rows;
-use crate::table::{RowNumbers, Table};
 use pcl_base::{Method, ROW_LIMIT};
+use pcl_output::{ByMethod, RowNumbers, Table, digits, row_cost};
 
 /// Fills in the least numbers of all nodes. Each row takes a bounded number of steps, besides those of its
 /// coders.
@@ -101,7 +100,7 @@ fn least_start(table: &Table, row: u32, method: Method, run: u32, bytes: u32) ->
     requires bytes { bytes ≤ 65535 }
     ensures { IsLeastStart (node_number table.now) row method run bytes result }
 {
-    let sent = sending_cost(bytes) + table.number(row + 1, method, false);
+    let sent = row_cost(bytes) + table.number(row + 1, method, false);
     if run == 0 {
         sent
     } else {

@@ -3,7 +3,7 @@
 ghost use Rattle.pcl_coders.specs.Coding.{IsCodable, IsLeastLength};
 
 use pcl_base::Method;
-use pcl_coders::{Delta, Packed, Plain, RowCoder, Runs};
+use pcl_coders::RowCoder;
 
 /// What a plan asks of the coders of all methods.
 pub trait LeastLengths {
@@ -19,12 +19,6 @@ pub struct Coders;
 
 impl LeastLengths for Coders {
     fn least(&self, method: Method, row: &[u8], seed: &[u8]) -> u32 {
-        let bytes = match method {
-            Method::Plain => Plain.least(row, seed),
-            Method::Runs => Runs.least(row, seed),
-            Method::Packed => Packed.least(row, seed),
-            Method::Delta => Delta.least(row, seed),
-        };
-        bytes as u32
+        method.least(row, seed) as u32
     }
 }

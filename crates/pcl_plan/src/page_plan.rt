@@ -1,12 +1,11 @@
 //! Plans of pages.
 
 ghost use Rattle.std.specs.Prelude.{◌≡◌, ◌<◌, length};
-ghost use Rattle.pcl_plan.specs.Nodes.{start};
-ghost use Rattle.pcl_plan.specs.Table.{node_number};
+ghost use Rattle.pcl_output.specs.Nodes.{start};
+ghost use Rattle.pcl_output.specs.Table.{node_number};
 
-use crate::step::Step;
-use crate::table::Table;
 use pcl_base::Method;
+use pcl_output::{Step, Table};
 use std::marker::Model;
 
 /// What a page text does about the rows of a page, and a table that shows that no page text is shorter.

@@ -10,8 +10,8 @@ use crate::lengths::{Coders, LeastLengths};
 use crate::page_plan::Plan;
 use crate::rows::Rows;
 use crate::steps::append_steps;
-use crate::table::Table;
-use pcl_page::Page;
+use pcl_bitmap::Page;
+use pcl_output::Table;
 use std::alloc::{AllocError, Global};
 
 /// The least plan of a page (docs/OUTPUT.md, "Page texts"). It takes time in proportion to the page's rows,

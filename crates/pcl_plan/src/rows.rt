@@ -1,8 +1,8 @@
 //! The rows that a plan is made for.
 
 ghost use Rattle.std.specs.Prelude.{◌≡◌, ◌+◌, ◌*◌, ◌<◌, ◌≤◌, ◌↔◌, length, replicate, IsTrue};
-ghost use Rattle.pcl_plan.specs.Tokens.{IsWhite};
-ghost use Rattle.pcl_plan.specs.Nodes.{row_at, row_above};
+ghost use Rattle.pcl_output.specs.Tokens.{IsWhite};
+ghost use Rattle.pcl_output.specs.Nodes.{row_at, row_above};
 
 use pcl_bitmap::trimmed_len;
 
@@ -19,7 +19,7 @@ pub struct Rows<'a> {
 
 impl<'a> Rows<'a> {
     ghost use Rattle.pcl_plan.specs.inner.Rows.{rows_of};
-    ghost use Rattle.pcl_plan.specs.inner.Filling.{IsWhiteRun};
+    ghost use Rattle.pcl_output.specs.inner.WhiteRows.{IsWhiteRun};
 
     /// Row `y`, the topmost row 0.
     pub fn row(&self, y: u32) -> &[u8]

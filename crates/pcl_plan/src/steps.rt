@@ -1,54 +1,33 @@
 //! The steps of a plan, read off its table from the topmost row downwards.
 
-ghost use Rattle.std.specs.Prelude.{◌≡◌, ℕ, ◌+◌, ◌^◌, ◌<◌, ◌≤◌, [], length, OnOk, IfSome, IfNone};
+ghost use Rattle.std.specs.Prelude.{◌≡◌, ◌≢◌, ℕ, ◌+◌, ◌^◌, ◌<◌, ◌≤◌, [], length, OnOk, IfSome, IfNone};
 ghost use Rattle.pcl_base.specs.declared.method.Method.{Method as RowMethod};
+ghost use Rattle.pcl_base.specs.Method.{method_code};
 ghost use Rattle.pcl_coders.specs.Coding.{IsLeastLength};
-ghost use Rattle.pcl_plan.specs.Nodes.{row_at, row_above};
-ghost use Rattle.pcl_plan.specs.Table.{node_number};
+ghost use Rattle.pcl_output.specs.Nodes.{row_at, row_above, row_after};
+ghost use Rattle.pcl_output.specs.Table.{node_number};
 ghost use Rattle.pcl_plan.specs.inner.Rows.{rows_of};
-ghost use Rattle.pcl_plan.specs.Filling.{outside, rest, switching};
+ghost use Rattle.pcl_output.specs.Spelling.{switching};
+ghost use Rattle.pcl_output.specs.Table.{outside, rest};
 ghost use Rattle.pcl_plan.specs.inner.Filling.{skipping, IsReadable, AreRightFrom};
-ghost use Rattle.pcl_plan.specs.inner.Reading.{AreLeastSteps, IsBestStep};
+ghost use Rattle.pcl_plan.specs.inner.Reading.{AreLeastSteps, IsBestStep, IsNextNode};
 
-use crate::costs::{digits, sending_cost};
 use crate::fill::least_skip;
 use crate::lengths::LeastLengths;
 use crate::rows::Rows;
-use crate::step::Step;
-use crate::table::Table;
 use pcl_base::{Method, ROW_LIMIT};
+use pcl_output::{Node, Step, Table, digits, row_cost};
 use std::alloc::AllocError;
 
-/// How many rows are printed, the method, and whether a sequence is open.
-#[derive(Clone, Copy)]
-pub struct Place {
-    pub row: u32,
-    pub method: Method,
-    pub inside: bool,
-}
-
-impl Place {
-    ghost use Rattle.pcl_plan.specs.inner.Reading.{IsPlaceBehind, row_behind};
-
-    /// The place after a step. A sequence goes on after rows that are skipped and a switch, unless the rest
-    /// is white.
-    fn behind(self, step: Step, table: &Table) -> Place
-        requires row { self.row + 65535 < 2 ^ 32 }
-        requires within { row_behind self.row step < length table.now }
-        ensures { IsPlaceBehind (node_number table.now) self.row self.method step result }
-    {
-        let (row, method) = match step {
-            Step::Skip(count) => (self.row + u32::from(count), self.method),
-            Step::Switch(next) => (self.row, next),
-            Step::Row(_) => (self.row + 1, self.method),
-        };
-        let inside = !matches!(step, Step::Row(_)) && table.number(row, method, false) > 0;
-        Place {
-            row,
-            method,
-            inside,
-        }
-    }
+/// The node after a step. A sequence goes on after rows that are skipped and a switch, unless the rest is white.
+fn next_node(node: Node, step: Step, table: &Table) -> Node
+    requires row { node.row + 65535 < 2 ^ 32 }
+    requires within { row_after node.row step < length table.now }
+    ensures { IsNextNode (node_number table.now) node.row node.method step result }
+{
+    let open = node.after(step, false);
+    let ends = table.number(open.row, open.method, false) == 0;
+    node.after(step, ends)
 }
 
 /// Appends the steps of a walk of least cost along the least numbers of a page.
@@ -62,15 +41,11 @@ pub fn append_steps<L: LeastLengths>(
     requires right { AreRightFrom rows.now.width (rows_of rows.now) table.now 0 }
     ensures { OnOk result (AreLeastSteps rows.now.width (rows_of rows.now) (node_number table.now) steps.new.items) }
 {
-    let mut place = Place {
-        row: 0,
-        method: Method::Plain,
-        inside: false,
-    };
-    while table.number(place.row, place.method, place.inside) > 0 {
-        let step = best_step(lengths, rows, table, place.row, place.method);
+    let mut node = Node::start();
+    while table.number(node.row, node.method, node.inside) > 0 {
+        let step = best_step(lengths, rows, table, node.row, node.method);
         steps.push(step)?;
-        place = place.behind(step, table);
+        node = next_node(node, step, table);
     }
     Ok(())
 }
@@ -95,7 +70,7 @@ fn best_step<L: LeastLengths>(
         return Step::Skip(count as u16);
     }
     let bytes = least_length(lengths, rows, row, method);
-    if sending_cost(bytes) + table.number(row + 1, method, false) == least {
+    if row_cost(bytes) + table.number(row + 1, method, false) == least {
         return Step::Row(bytes as u16);
     }
     Step::Switch(lowest_switch(table, row, least))
@@ -134,7 +109,9 @@ fn lowest_switch(table: &Table, row: u32, least: u32) -> Method
     requires within { row < length table.now }
     requires small { (method : RowMethod) → rest (node_number table.now) row method < 2 ^ 30 }
     requires some { (next : RowMethod) × (least ≡ switching next + rest (node_number table.now) row next) }
-    ensures { least ≡ switching result + rest (node_number table.now) row result }
+    ensures attained { least ≡ switching result + rest (node_number table.now) row result }
+    ensures lowest { (next : RowMethod) → method_code next < method_code result
+        → least ≢ switching next + rest (node_number table.now) row next }
 {
     if switch_number(table, row, Method::Plain) == least {
         Method::Plain

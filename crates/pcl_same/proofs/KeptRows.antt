@@ -9,7 +9,8 @@ use Rattle.pcl_base.specs.declared.size.Size.{Size}
 use Rattle.pcl_base.specs.declared.method.Method.TheVariants.{Delta}
 use Rattle.pcl_base.specs.Size.{page_width, page_height, page_row_bytes}
 use Rattle.pcl_bitmap.specs.Bitmap.{Picture, IsPicture, row_of, dot_of_row, dot}
-use Rattle.pcl_bitmap.proofs.Pictures.{same_dots, page_limits}
+use Rattle.pcl_bitmap.proofs.Pictures.{same_dots}
+use Rattle.pcl_base.proofs.PageBounds.{row_small}
 use Rattle.pcl_rows.specs.Rows.{Decodes}
 use Rattle.pcl_rows.proofs.OneReading.{one_row}
 use Rattle.pcl_same.specs.declared.kept_bitmap.KeptBitmap.{KeptBitmap}
@@ -127,8 +128,7 @@ height_is p {size} {dpi} h s d = h ∙ ap (λ (z : Size). page_height z dpi) s �
 -- the front of zeros is the row above the topmost
 pub white_above : (p : Picture) → take (page_row_bytes p.size p.dpi) (replicate 600 0) ≡ row_above p 0
 white_above p =
-    let narrow = page_limits p.size p.dpi in
-    take-replicate (page_row_bytes p.size p.dpi) 600 0 (omega (arith, narrow))
+    take-replicate (page_row_bytes p.size p.dpi) 600 0 (row_small p.size p.dpi)
 
 -- a row that was copied to the front of a buffer is the row above the next
 pub next_above : (p : Picture) (y : ℕ) {n : ℕ} {row copied : List ℕ} (rest : List ℕ) → row ≡ row_of p y → copied ≡ row → length row ≡ n

@@ -1,7 +1,7 @@
 //! The pages of the second job, each compared with the kept page of its number.
 
 ghost use Rattle.std.specs.Prelude.{◌≡◌, ℕ, MatchOption};
-ghost use Rattle.pcl_page.specs.declared.page.Page.{Page as MeantPage};
+ghost use Rattle.pcl_bitmap.specs.declared.page.Page.{Page as MeantPage};
 ghost use Rattle.pcl_same.specs.inner.Pages.{IsFound, AreCompared, IsConcluded};
 
 use crate::keeping::KeptPage;

@@ -5,7 +5,7 @@ use Rattle.pcl_base.proofs.Lists.{same_fronts}
 use Rattle.pcl_base.specs.declared.dpi.Dpi.{Dpi}
 use Rattle.pcl_page.specs.Situation.{Sheet}
 use Rattle.pcl_page.specs.Jobs.{HasPages}
-use Rattle.pcl_plan.specs.Tokens.{frame_bytes}
+use Rattle.pcl_output.specs.Tokens.{frame_bytes}
 use Rattle.pcl_cert.specs.declared.check.Verdict.{Verdict}
 use Rattle.pcl_cert.specs.declared.check.Verdict.TheVariants.{Proved}
 use Rattle.pcl_cert.specs.declared.fault.CertFault.{CertFault}

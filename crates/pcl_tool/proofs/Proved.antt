@@ -3,22 +3,24 @@ use Rattle.std.proofs.Common.{◌≡◌, ℕ, List, [], ◌∷◌, ◌++◌, Opt
 use Rattle.std.specs.List.{AllByRecursion}
 use Rattle.std.proofs.lemmas.List.{append-nil}
 use Rattle.pcl_base.specs.declared.dpi.Dpi.{Dpi}
-use Rattle.pcl_page.specs.declared.page.Page.{Page}
+use Rattle.pcl_bitmap.specs.declared.page.Page.{Page}
 use Rattle.pcl_page.specs.Situation.{Sheet}
 use Rattle.pcl_page.specs.Delivering.{Hands}
 use Rattle.pcl_page.specs.Jobs.{HasPages}
-use Rattle.pcl_plan.specs.Tokens.{frame_bytes}
+use Rattle.pcl_output.specs.Tokens.{frame_bytes}
 use Rattle.pcl_plan.specs.PagePlans.{IsPlanOf}
 use Rattle.pcl_plan.specs.Plans.{StepsAndTable}
-use Rattle.pcl_plan.specs.declared.table.RowNumbers.{RowNumbers}
+use Rattle.pcl_plan.proofs.Planned.{table_of_plan}
+use Rattle.pcl_output.specs.declared.table.RowNumbers.{RowNumbers}
 use Rattle.pcl_writer.specs.Appending.{IsWrittenPage}
 use Rattle.pcl_cert.specs.declared.format.Format.{Format}
 use Rattle.pcl_cert.specs.declared.format.Format.TheVariants.{One, Two}
 use Rattle.pcl_cert.specs.declared.page_proof.PageProof.{PageProof}
-use Rattle.pcl_cert.specs.Certificates.{AreProofs, IsProof, certificate_bytes, proof_in, proofs_in}
+use Rattle.pcl_cert.specs.Certificates.{FitFormat, AreProofs, IsProof, certificate_bytes, proof_in, proofs_in}
 use Rattle.pcl_cert.specs.Checking.{HasLeastLists, AreLeastOf, IsVerdict}
 use Rattle.pcl_cert.specs.declared.check.Verdict.TheVariants.{Proved}
-use Rattle.pcl_cert.proofs.PlansProved.{plan_proved, plan_certified}
+use Rattle.pcl_cert.proofs.Written.{can_be_written as proofs_fit}
+use Rattle.pcl_cert.proofs.TablesProved.{table_proved, table_certified}
 use Rattle.pcl_meaning.specs.JobTexts.{PrintEach}
 use Rattle.pcl_meaning.proofs.Jobs.{job_fits}
 use Rattle.pcl_tool.specs.Certified.{AreProved}
@@ -46,9 +48,9 @@ plan_proves format page text plan proof planned written has long same =
     record {
       text_len = sym long;
       can_be_said = subst (IsProof page.dpi format) is
-          (plan_certified page text plan format proof.places planned written.0 written.2 has);
+          (table_certified page text plan.table format proof.places (table_of_plan planned) written.0 written.2 has);
       proved = subst (λ (table : List RowNumbers). IsVerdict page text table proof.places Proved) (sym same)
-          (plan_proved page text plan proof.places planned written.0 written.2 (least_lists page format proof.places has));
+          (table_proved page text plan.table proof.places (table_of_plan planned) written.0 written.2 (least_lists page format proof.places has));
     }
 
 -- ---- all pages
@@ -95,7 +97,7 @@ gathered {dpi} (sheet ∷ sheets) {old} h =
 
 -- what a certificate says in its format is said whole
 proof_said : {dpi : Dpi} (format : Format) {proof : PageProof} → IsProof dpi format proof → proof_in format proof ≡ proof
-proof_said One {proof} is = ap (λ (places : Option (List (List ℕ))). record proof { places = places }) (sym is.lists)
+proof_said One {proof} is = ap (λ (places : Option (List (List ℕ))). record proof { places = places }) (sym is.fits.lists)
 proof_said Two is = refl
 
 proofs_said : (dpi : Dpi) (format : Format) (proofs : List PageProof) → AllByRecursion (IsProof dpi format) proofs
@@ -122,10 +124,13 @@ are_proofs {dpi} {job} {pages} old new meaning h =
     (omega (arith, g.count, job_fits meaning), g.can_be_said)
 
 pub can_be_written : {dpi : Dpi} {format : Format} {job : List ℕ} {pages : List Sheet} (old new : SoFar) → HasPages dpi job pages
-    → old.format ≡ format → old.proofs ≡ [] → Hands TakesProved dpi pages old new → AreProofs dpi format (proofs_in format new.proofs)
-can_be_written {dpi} {format} {pages} old new meaning same none h =
-    subst (λ (f : Format). AreProofs dpi f (proofs_in f new.proofs)) same
-    (subst (AreProofs dpi old.format) (sym (all_said dpi pages old new none h)) (are_proofs old new meaning h))
+    → old.format ≡ format → old.proofs ≡ [] → Hands TakesProved dpi pages old new → FitFormat dpi format (proofs_in format new.proofs)
+can_be_written {dpi} {format} {job} {pages} old new meaning same none h =
+    let g = gathered pages h in
+    let proofs_are : new.proofs ≡ g.proofs = g.behind ∙ ap (λ (ps : List PageProof). ps ++ g.proofs) none in
+    subst (λ (f : Format). FitFormat dpi f (proofs_in f new.proofs)) same
+    (subst (λ (ps : List PageProof). FitFormat dpi old.format (proofs_in old.format ps)) (sym proofs_are)
+    (proofs_fit dpi old.format g.proofs (are_proofs old new meaning h)))
 
 pub certified_job : {dpi : Dpi} {format : Format} {job output certificate : List ℕ} {pages : List Sheet} {old : SoFar} (new : SoFar)
     → HasPages dpi job pages → old.format ≡ format → old.bytes ≡ frame_bytes → old.proofs ≡ [] → Hands TakesProved dpi pages old new

@@ -2,12 +2,12 @@
 use Rattle.std.proofs.Common.{◌≡◌, ℕ, ◌+◌, ◌*◌, ◌<◌, ◌≤◌, Bool, List, Some, None, length, refl}
 use Rattle.pcl_base.specs.declared.method.Method.{Method}
 use Rattle.pcl_base.specs.Size.{page_height, page_row_bytes}
-use Rattle.pcl_page.specs.declared.page.Page.{Page}
-use Rattle.pcl_plan.specs.LeastTexts.{fixed_bytes}
-use Rattle.pcl_plan.specs.Nodes.{row_at, row_above, start}
-use Rattle.pcl_plan.specs.PageText.{PrintsPage, bitmap_rows}
-use Rattle.pcl_plan.specs.Table.{node_number}
-use Rattle.pcl_plan.specs.declared.table.RowNumbers.{RowNumbers}
+use Rattle.pcl_bitmap.specs.declared.page.Page.{Page}
+use Rattle.pcl_output.specs.LeastTexts.{fixed_bytes}
+use Rattle.pcl_output.specs.Nodes.{row_at, row_above, start}
+use Rattle.pcl_output.specs.PageText.{PrintsPage, bitmap_rows}
+use Rattle.pcl_output.specs.Table.{node_number}
+use Rattle.pcl_output.specs.declared.table.RowNumbers.{RowNumbers}
 use Rattle.pcl_check.specs.Edges.{IsGoodNumber, IsLeastOfRow}
 use Rattle.pcl_check.specs.Places.{IsGoodPlace}
 use Rattle.pcl_check.specs.TextVerdicts.{IsSomePageText}

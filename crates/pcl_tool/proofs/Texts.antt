@@ -4,11 +4,11 @@ use Rattle.std.proofs.lemmas.List.{append-nil}
 use Rattle.pcl_base.specs.declared.dpi.Dpi.{Dpi}
 use Rattle.pcl_base.specs.declared.fault.JobFault.{JobFault}
 use Rattle.pcl_base.specs.declared.fault.JobFault.TheVariants.{Refused, Memory}
-use Rattle.pcl_page.specs.declared.page.Page.{Page}
+use Rattle.pcl_bitmap.specs.declared.page.Page.{Page}
 use Rattle.pcl_page.specs.Situation.{Sheet}
 use Rattle.pcl_page.specs.Delivering.{Hands}
 use Rattle.pcl_page.specs.Jobs.{HasPages}
-use Rattle.pcl_plan.specs.Tokens.{frame_bytes}
+use Rattle.pcl_output.specs.Tokens.{frame_bytes}
 use Rattle.pcl_writer.specs.Appending.{AppendsPage, IsWrittenPage}
 use Rattle.pcl_meaning.specs.JobTexts.{PrintEach}
 use Rattle.pcl_meaning.proofs.Jobs.{IsAgain, written_again}

@@ -1,12 +1,12 @@
 -- What the checker of a job answers of an input, an output and a certificate, whoever made these.
 use Rattle.std.specs.Prelude.{◌≡◌, ℕ, ◌+◌, List, [], ◌∷◌, ◌++◌, length, Result, Ok, Err}
 use Rattle.pcl_base.specs.declared.dpi.Dpi.{Dpi}
-use Rattle.pcl_page.specs.declared.page.Page.{Page}
+use Rattle.pcl_bitmap.specs.declared.page.Page.{Page}
 use Rattle.pcl_page.specs.Situation.{Sheet}
 use Rattle.pcl_page.specs.Performing.{Shows}
 use Rattle.pcl_page.specs.Jobs.{HasPages}
 use Rattle.pcl_page.specs.Delivering.{IsRefusal}
-use Rattle.pcl_plan.specs.Tokens.{frame_bytes}
+use Rattle.pcl_output.specs.Tokens.{frame_bytes}
 use Rattle.pcl_cert.specs.declared.check.Verdict.{Verdict}
 use Rattle.pcl_cert.specs.declared.check.Verdict.TheVariants as verdicts
 use Rattle.pcl_cert.specs.declared.fault.CertFault.TheVariants as faults
@@ -15,6 +15,7 @@ use Rattle.pcl_cert.specs.declared.page_proof.PageProof.{PageProof}
 use Rattle.pcl_cert.specs.Checking.{IsVerdict}
 use Rattle.pcl_cert.specs.ReadingCertificates.{certificate_at}
 use Rattle.pcl_tool.specs.declared.fault.Fault.{Fault}
+use Rattle.pcl_tool.specs.JobFaults.{RefusedOrMemory}
 use Rattle.pcl_tool.specs.declared.fault.Fault.TheVariants.{Refused, Memory, ReadFault, TooLong, WriteFault, NoSuchPage}
 use Rattle.pcl_tool.specs.declared.job_verdict.JobVerdict.{JobVerdict}
 use Rattle.pcl_tool.specs.declared.job_verdict.JobVerdict.TheVariants as job
@@ -89,9 +90,4 @@ IsJobVerdict dpi input output certificate job.Proved =
 -- a job that is refused is refused as by its performing; no fault comes but this and out of memory
 abbrev pub IsChecked : Dpi → List ℕ → List ℕ → List ℕ → Result JobVerdict Fault → Type 0
 IsChecked dpi input output certificate (Ok verdict) = IsJobVerdict dpi input output certificate verdict
-IsChecked dpi input output certificate (Err (Refused refusal)) = IsRefusal dpi input refusal
-IsChecked dpi input output certificate (Err Memory) = Unit {0}
-IsChecked dpi input output certificate (Err ReadFault) = ⊥
-IsChecked dpi input output certificate (Err TooLong) = ⊥
-IsChecked dpi input output certificate (Err WriteFault) = ⊥
-IsChecked dpi input output certificate (Err NoSuchPage) = ⊥
+IsChecked dpi input output certificate (Err fault) = RefusedOrMemory (IsRefusal dpi input) fault

@@ -6,7 +6,7 @@ pub use Rattle.pcl_base.specs.Limits.{input_limit}
 use Rattle.pcl_page.specs.Situation.{Sheet}
 use Rattle.pcl_page.specs.Jobs.{HasPages}
 use Rattle.pcl_page.specs.Delivering.{IsRefusal}
-use Rattle.pcl_plan.specs.Tokens.{frame_bytes}
+use Rattle.pcl_output.specs.Tokens.{frame_bytes}
 use Rattle.pcl_page.specs.Alike.{AllAlike}
 use Rattle.pcl_writer.specs.Appending.{IsWrittenPage}
 use Rattle.pcl_meaning.specs.JobTexts.{PrintEach, most_commands}
@@ -14,6 +14,7 @@ use Rattle.pcl_cert.specs.declared.format.Format.{Format}
 use Rattle.pcl_cert.specs.declared.page_proof.PageProof.{PageProof}
 use Rattle.pcl_cert.specs.Certificates.{AreProofs, certificate_bytes}
 use Rattle.pcl_tool.specs.declared.fault.Fault.{Fault}
+use Rattle.pcl_tool.specs.JobFaults.{RefusedOrMemory}
 use Rattle.pcl_tool.specs.declared.fault.Fault.TheVariants.{Refused, Memory, ReadFault, TooLong, WriteFault, NoSuchPage}
 use Rattle.pcl_tool.specs.declared.minimizing.Output.{Output}
 use Rattle.pcl_tool.specs.Transfer.{GivesAtMost, AppendsFront}
@@ -46,12 +47,7 @@ pub record IsCertifiedJobOf (dpi : Dpi) (format : Format) (job output certificat
 
 abbrev pub IsMinimized : Dpi → Format → List ℕ → Result Output Fault → Type 0
 IsMinimized dpi format job (Ok output) = IsCertifiedJobOf dpi format job output.job.items output.certificate.items
-IsMinimized dpi format job (Err (Refused refusal)) = IsRefusal dpi job refusal
-IsMinimized dpi format job (Err Memory) = Unit {0}
-IsMinimized dpi format job (Err ReadFault) = ⊥
-IsMinimized dpi format job (Err TooLong) = ⊥
-IsMinimized dpi format job (Err WriteFault) = ⊥
-IsMinimized dpi format job (Err NoSuchPage) = ⊥
+IsMinimized dpi format job (Err fault) = RefusedOrMemory (IsRefusal dpi job) fault
 
 -- the whole input was read
 pub record IsRead (old new : Option (List ℕ)) (job : List ℕ) : Type 0 where

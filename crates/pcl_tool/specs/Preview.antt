@@ -2,7 +2,7 @@
 use Rattle.std.specs.Prelude.{◌≡◌, ℕ, ◌-◌, ◌<◌, List, length, ◌⊎◌, Option, Some, Result, Ok, Err, slice_get}
 use Rattle.std.specs.Io.KnownBytes.{Appends, Keeps}
 use Rattle.pcl_base.specs.declared.dpi.Dpi.{Dpi}
-use Rattle.pcl_page.specs.declared.page.Page.{Page}
+use Rattle.pcl_bitmap.specs.declared.page.Page.{Page}
 use Rattle.pcl_page.specs.Situation.{Sheet}
 use Rattle.pcl_page.specs.Performing.{Shows}
 use Rattle.pcl_page.specs.Jobs.{HasPages}
@@ -35,5 +35,4 @@ IsPreview dpi job number old new (Err WriteFault) = (bytes : List ℕ) × IsImag
 IsPreview dpi job number old new (Err (Refused refusal)) = IsRefusal dpi job refusal × Keeps old new
 IsPreview dpi job number old new (Err NoSuchPage) = HasNoPage dpi job number × Keeps old new
 IsPreview dpi job number old new (Err Memory) = Keeps old new
-IsPreview dpi job number old new (Err ReadFault) = ⊥
-IsPreview dpi job number old new (Err TooLong) = ⊥
+IsPreview dpi job number old new (Err fault) = ⊥

@@ -16,9 +16,7 @@ IsReadAll old new limit (Ok bytes) = Consumes old new bytes.items × IsAtEnd new
 IsReadAll old new limit (Err TooLong) = (bytes : List ℕ) × Consumes old new bytes × (length bytes ≡ limit + 1)
 IsReadAll old new limit (Err ReadFault) = GivesAtMost old new limit
 IsReadAll old new limit (Err Memory) = GivesAtMost old new (limit + 1)
-IsReadAll old new limit (Err (Refused refusal)) = ⊥
-IsReadAll old new limit (Err WriteFault) = ⊥
-IsReadAll old new limit (Err NoSuchPage) = ⊥
+IsReadAll old new limit (Err fault) = ⊥
 
 -- all of the bytes were written, or a prefix of them
 abbrev pub AppendsFront : Option (List ℕ) → Option (List ℕ) → List ℕ → Type 0
@@ -27,8 +25,4 @@ AppendsFront old new bytes = (front rest : List ℕ) × (bytes ≡ front ++ rest
 abbrev pub IsWritten : Option (List ℕ) → Option (List ℕ) → List ℕ → Result (Unit {0}) Fault → Type 0
 IsWritten old new bytes (Ok unit) = Appends old new bytes
 IsWritten old new bytes (Err WriteFault) = AppendsFront old new bytes
-IsWritten old new bytes (Err (Refused refusal)) = ⊥
-IsWritten old new bytes (Err Memory) = ⊥
-IsWritten old new bytes (Err ReadFault) = ⊥
-IsWritten old new bytes (Err TooLong) = ⊥
-IsWritten old new bytes (Err NoSuchPage) = ⊥
+IsWritten old new bytes (Err fault) = ⊥

@@ -1,7 +1,7 @@
 //! The pages of a job, each checked by what a certificate says of it.
 
 ghost use Rattle.std.specs.Prelude.{◌≡◌, ◌++◌, List, ℕ, length, drop, MatchOption, IfOk, IsTrue, ◌↔◌};
-ghost use Rattle.pcl_plan.specs.Tokens.{frame_bytes};
+ghost use Rattle.pcl_output.specs.Tokens.{frame_bytes};
 ghost use Rattle.pcl_tool.specs.JobVerdicts.{text_bytes, IsFramed};
 ghost use Rattle.pcl_tool.specs.declared.job_verdict.JobVerdict.TheVariants as job;
 ghost use Rattle.pcl_tool.specs.inner.PageChecks.{IsFound};

@@ -16,21 +16,21 @@ use Rattle.pcl_base.specs.Size.{page_height}
 use Rattle.pcl_base.specs.Method.{method_code}
 use Rattle.pcl_bitmap.specs.Bitmap.{Picture}
 use Rattle.pcl_coders.specs.Coding.{IsLeastLength, AppendsLeast}
-use Rattle.pcl_coders.specs.Walks.{Walk, total, IsFeasible}
-use Rattle.pcl_plan.specs.declared.step.Step.{Step}
-use Rattle.pcl_plan.specs.declared.step.Step.TheVariants.{Skip, Switch, Row}
-use Rattle.pcl_plan.specs.Tokens.{Token, opening, method, skip, send, token_bytes, IsSpelled}
-use Rattle.pcl_plan.specs.PageText.{bitmap_rows}
-use Rattle.pcl_plan.specs.Nodes.{Node, start, row_at, Leads, Ends, cost}
-use Rattle.pcl_plan.specs.Spelling.{least_spelling}
-use Rattle.pcl_plan.specs.Table.{node_number}
-use Rattle.pcl_plan.specs.Plans.{StepsAndTable, IsTokenOf, stays_inside, opened, is_last, Spells}
-use Rattle.pcl_plan.proofs.Walking.{node}
-use Rattle.pcl_plan.proofs.RightRows.{cost_opening, cost_send}
+use Rattle.pcl_base.specs.Walks.{Walk, total, IsFeasible}
+use Rattle.pcl_output.specs.declared.step.Step.{Step}
+use Rattle.pcl_output.specs.declared.step.Step.TheVariants.{Skip, Switch, Row}
+use Rattle.pcl_output.specs.Tokens.{Token, opening, method, skip, send, token_bytes, IsSpelled}
+use Rattle.pcl_output.specs.PageText.{bitmap_rows}
+use Rattle.pcl_output.specs.declared.node.Node.{Node}
+use Rattle.pcl_output.specs.Nodes.{start, row_at, Leads, Ends, cost, stays_inside, node_after}
+use Rattle.pcl_output.specs.Spelling.{least_spelling}
+use Rattle.pcl_output.specs.Table.{node_number}
+use Rattle.pcl_plan.specs.Plans.{StepsAndTable, IsTokenOf, opened, is_last, Spells}
+use Rattle.pcl_output.proofs.Walking.{node}
+use Rattle.pcl_output.proofs.TokenCosts.{cost_opening, cost_send}
 use Rattle.pcl_plan.proofs.ReadSteps.{node_is, opened_more, spells_any}
 use Rattle.pcl_plan.proofs.LeastWalks.{step_is_least, sent_is_least}
-use Rattle.pcl_writer.specs.declared.place.Place.{Place}
-use Rattle.pcl_writer.specs.inner.Steps.{width_of, above, IsBitmapPlan, IsWritable, HasRowData, AppendsRow, AppendsStep, IsPlaceBehind, AppendsBody}
+use Rattle.pcl_writer.specs.inner.Steps.{width_of, above, IsBitmapPlan, IsWritable, HasRowData, AppendsRow, AppendsStep, AppendsBody}
 
 pub page_joined : (old : List ℕ) {one two three : List ℕ} (start body tail : List ℕ) → one ≡ old ++ start → two ≡ one ++ body
     → three ≡ two ++ tail → three
@@ -60,45 +60,41 @@ row_token ends (method digits current capital) t = absurd t
 row_token ends (skip digits rows capital) t = absurd t
 row_token ends (send digits bytes) t = (bytes, ap (λ (d : List ℕ). send d bytes) t.1, t.0)
 
-abbrev pub node_of : Place → Node
-node_of place = node place.row place.method place.inside
-
--- another token of the same step leads to the same place, and costs the same
-pub record LeadsToo (picture : Picture) (place behind : Place) (token written : Token) (b : Node) : Type 0 where
-  pub there : b ≡ node_of behind
+-- another token of the same step leads to the same node, and costs the same
+pub record LeadsToo (picture : Picture) (place behind : Node) (token written : Token) (b : Node) : Type 0 where
+  pub there : b ≡ behind
   pub leads : Leads (width_of picture) (bitmap_rows picture) (node place.row place.method true) written b
   pub costs : cost written ≡ cost token
   pub within : behind.row ≤ length (bitmap_rows picture)
 
-leads_too : {picture : Picture} {place behind : Place} (step : Step) {ends : Bool} {token written : Token} {b : Node}
+leads_too : {picture : Picture} {place behind : Node} (step : Step) (ends : Bool) {token written : Token} {b : Node}
     → place.row ≤ length (bitmap_rows picture) → IsTokenOf step ends token → IsTokenOf step ends written
     → HasRowData picture place.row place.method written
-    → IsPlaceBehind place step ends behind → Leads (width_of picture) (bitmap_rows picture) (node place.row place.method true) token b
+    → behind ≡ node_after place step ends → Leads (width_of picture) (bitmap_rows picture) (node place.row place.method true) token b
     → LeadsToo picture place behind token written b
-leads_too {picture} {place} {behind} (Skip count) {ends} {token} {written} {b} before t w d p l =
+leads_too {picture} {place} {behind} (Skip count) ends {token} {written} {b} before t w d p l =
     let from = node place.row place.method true in
     let is = skip_token token t in
     let same : token ≡ written = is ∙ sym (skip_token written w) in
     let led = subst (λ (x : Token). Leads (width_of picture) (bitmap_rows picture) from x b) is l in
     record {
-      within = omega (arith, p.row_is, led.3);
-      there = led.5 ∙ sym (node_is p.row_is p.method_is
-          p.inside_is);
+      within = omega (arith, ap (λ (n : Node). n.row) p, led.3);
+      there = led.5 ∙ sym p;
       leads = subst (λ (x : Token). Leads (width_of picture) (bitmap_rows picture) from x b) same l;
       costs = ap cost (sym same);
     }
-leads_too {picture} {place} {behind} (Switch next) {ends} {token} {written} {b} before t w d p l =
+leads_too {picture} {place} {behind} (Switch next) ends {token} {written} {b} before t w d p l =
     let from = node place.row place.method true in
     let is = switch_token token t in
     let same : token ≡ written = is ∙ sym (switch_token written w) in
     let led = subst (λ (x : Token). Leads (width_of picture) (bitmap_rows picture) from x b) is l in
     record {
-      within = omega (arith, p.row_is, before);
-      there = led.2 ∙ sym (node_is p.row_is p.method_is p.inside_is);
+      within = omega (arith, ap (λ (n : Node). n.row) p, before);
+      there = led.2 ∙ sym p;
       leads = subst (λ (x : Token). Leads (width_of picture) (bitmap_rows picture) from x b) same l;
       costs = ap cost (sym same);
     }
-leads_too {picture} {place} {behind} (Row count) {ends} {token} {written} {b} before t w d p l =
+leads_too {picture} {place} {behind} (Row count) ends {token} {written} {b} before t w d p l =
     let from = node place.row place.method true in
     let one = row_token ends token t in
     let other = row_token ends written w in
@@ -107,9 +103,8 @@ leads_too {picture} {place} {behind} (Row count) {ends} {token} {written} {b} be
     let spelled : IsSpelled (least_spelling count) (length other.0) = subst (IsSpelled (least_spelling count)) (one.2 ∙ sym other.2) led.1
     in
     record {
-      within = omega (arith, p.row_is, led.2);
-      there = led.4 ∙ sym (node_is p.row_is p.method_is
-          p.inside_is);
+      within = omega (arith, ap (λ (n : Node). n.row) p, led.2);
+      there = led.4 ∙ sym p;
       leads = subst (λ (x : Token). Leads (width_of picture) (bitmap_rows picture) from x b) (sym other.1)
           (refl, spelled, led.2, whole, led.4);
       costs = omega (
@@ -152,22 +147,22 @@ opened_is {picture} {number} feasible {row} {current} false {tokens} w t =
 
 -- ---- what is written
 
--- what is written up to a place, and what is to come
-pub record IsWrittenTo (picture : Picture) (table : StepsAndTable) (old now : List ℕ) (todo : List Step) (place : Place) : Type 0 where
+-- what is written up to a node, and what is to come
+pub record IsWrittenTo (picture : Picture) (table : StepsAndTable) (old now : List ℕ) (todo : List Step) (place : Node) : Type 0 where
   pub within : place.row ≤ length (bitmap_rows picture)
   pub done : List Token
   pub spelled : now ≡ old ++ flat_map token_bytes done
   pub left : List Token
   pub spells : Spells place.inside todo left
-  pub walk : Walk (Leads (width_of picture) (bitmap_rows picture)) (Ends (bitmap_rows picture)) (node_of place) left
-  pub total_is : total cost left ≡ node_number table.table (node_of place)
-  pub goes_on : (rest : List Token) → Walk (Leads (width_of picture) (bitmap_rows picture)) (Ends (bitmap_rows picture)) (node_of place)
-      rest → total cost rest ≡ node_number table.table (node_of place)
+  pub walk : Walk (Leads (width_of picture) (bitmap_rows picture)) (Ends (bitmap_rows picture)) place left
+  pub total_is : total cost left ≡ node_number table.table place
+  pub goes_on : (rest : List Token) → Walk (Leads (width_of picture) (bitmap_rows picture)) (Ends (bitmap_rows picture)) place
+      rest → total cost rest ≡ node_number table.table place
       → Walk (Leads (width_of picture) (bitmap_rows picture)) (Ends (bitmap_rows picture)) start (done ++ rest)
       × (total cost (done ++ rest) ≡ node_number table.table start)
 
-pub begin : (picture : Picture) (plan : StepsAndTable) (old : List ℕ) (place : Place) → IsBitmapPlan picture plan → place.inside ≡ false
-    → node_of place ≡ start → IsWrittenTo picture plan old old plan.steps place
+pub begin : (picture : Picture) (plan : StepsAndTable) (old : List ℕ) (place : Node) → IsBitmapPlan picture plan → place.inside ≡ false
+    → place ≡ start → IsWrittenTo picture plan old old plan.steps place
 begin picture plan old place is closed at = record {
   within = omega (arith, ap (λ (n : Node). n.row) at);
   done = [];
@@ -185,14 +180,14 @@ begin picture plan old place is closed at = record {
 }
 
 -- the token that comes next
-pub record IsNextToken (picture : Picture) (plan : StepsAndTable) (place : Place) (step : Step) (more : List Step) : Type 0 where
+pub record IsNextToken (picture : Picture) (plan : StepsAndTable) (place : Node) (step : Step) (more : List Step) : Type 0 where
   pub token : Token
   pub rest : List Token
   pub is_of : IsTokenOf step (is_last more) token
   pub spells : Spells (stays_inside step) more rest
   pub from : IsOpened picture (node_number plan.table) place.row place.method place.inside (token ∷ rest)
 
-next_token : {picture : Picture} {plan : StepsAndTable} {old now : List ℕ} {step : Step} {more : List Step} {place : Place}
+next_token : {picture : Picture} {plan : StepsAndTable} {old now : List ℕ} {step : Step} {more : List Step} {place : Node}
     → IsBitmapPlan picture plan → IsWrittenTo picture plan old now (step ∷ more) place
     → IsNextToken picture plan place step more
 unfolding Spells
@@ -204,12 +199,12 @@ next_token {picture} {place} is w =
       is_of = s.2;
       spells = s.4;
       from = opened_is is.feasible place.inside
-          (subst (Walk (Leads (width_of picture) (bitmap_rows picture)) (Ends (bitmap_rows picture)) (node_of place)) s.3 w.walk)
+          (subst (Walk (Leads (width_of picture) (bitmap_rows picture)) (Ends (bitmap_rows picture)) place) s.3 w.walk)
           (ap (total cost) (sym s.3) ∙ w.total_is);
     }
 
 -- a row that comes next is sent by as few bytes as can be
-writable_from : {picture : Picture} {plan : StepsAndTable} {place : Place} (step : Step) {more : List Step} → IsBitmapPlan picture plan
+writable_from : {picture : Picture} {plan : StepsAndTable} {place : Node} (step : Step) {more : List Step} → IsBitmapPlan picture plan
     → IsNextToken picture plan place step more → IsWritable picture place.row place.method step
 writable_from (Skip count) is n = tt
 writable_from (Switch next) is n = tt
@@ -223,7 +218,7 @@ writable_from {picture} {plan} {place} (Row count) {more} is n =
     (least_spelling count) one.0 n.rest w.1 w.2 t in
     (w.1.2, subst (IsLeastLength place.method (above picture place.row) (row_at (bitmap_rows picture) place.row)) one.2 least)
 
-pub writable : {picture : Picture} {plan : StepsAndTable} {old now : List ℕ} {step : Step} {more : List Step} {place : Place}
+pub writable : {picture : Picture} {plan : StepsAndTable} {old now : List ℕ} {step : Step} {more : List Step} {place : Node}
     → IsBitmapPlan picture plan → IsWrittenTo picture plan old now (step ∷ more) place
     → IsWritable picture place.row place.method step
 writable {step} is w = writable_from step is
@@ -236,14 +231,14 @@ goes_on_open (Switch next) e = sym (ap not e)
 goes_on_open (Row count) e = refl
 
 pub written_more : {picture : Picture} {plan : StepsAndTable} {old now new : List ℕ} {step : Step} {more : List Step}
-    {place behind : Place} → IsBitmapPlan picture plan → IsWrittenTo picture plan old now (step ∷ more) place
-    → AppendsStep picture place step (is_last more) now new → IsPlaceBehind place step (is_last more) behind
+    {place behind : Node} → IsBitmapPlan picture plan → IsWrittenTo picture plan old now (step ∷ more) place
+    → AppendsStep picture place step (is_last more) now new → behind ≡ node_after place step (is_last more)
     → IsWrittenTo picture plan old new more behind
 written_more {picture} {plan} {old} {step} {more} {place} {behind} is w a p =
     let n = next_token is w in
     let walk = n.from.walk in
     let from = node place.row place.method true in
-    let too = leads_too step w.within n.is_of a.1 a.2 p walk.1 in
+    let too = leads_too {picture = picture} {place = place} {behind = behind} step (is_last more) w.within n.is_of a.1 a.2 p walk.1 in
     let s = step_is_least (width_of picture) is.feasible from walk.0 n.token n.rest walk.1
     walk.2 n.from.total_is in
     let token : List Token = opened place.inside (a.0 ∷ []) in
@@ -255,7 +250,7 @@ written_more {picture} {plan} {old} {step} {more} {place} {behind} is w a p =
           ∙ ap (λ (t : List ℕ). old ++ t) (sym (flat_map-append token_bytes w.done token));
       left = n.rest;
       spells = spells_any more n.rest
-          (λ others. goes_on_open step others ∙ sym p.inside_is) n.spells;
+          (λ others. goes_on_open step others ∙ sym (ap (λ (n : Node). n.inside) p)) n.spells;
       walk = subst (λ (x : Node). Walk (Leads (width_of picture) (bitmap_rows picture)) (Ends (bitmap_rows picture)) x n.rest) too.there
           walk.2;
       total_is = s.1 ∙ ap (node_number plan.table) too.there;
@@ -273,7 +268,7 @@ written_more {picture} {plan} {old} {step} {more} {place} {behind} is w a p =
           );
     }
 
-pub written_all : {picture : Picture} {plan : StepsAndTable} {old now : List ℕ} {place : Place}
+pub written_all : {picture : Picture} {plan : StepsAndTable} {old now : List ℕ} {place : Node}
     → IsWrittenTo picture plan old now [] place → AppendsBody picture plan old now
 unfolding Spells
 written_all {picture} w =
@@ -334,14 +329,3 @@ appended_row picture y {current} {count} old {mid} {new} {row} r s least a b app
       is.joined ∙ ap (λ (t : List ℕ). t ++ is.bytes) (b ∙ ap (λ (t : List ℕ). t ++ 87 ∷ []) a) ∙ row_joined old (least_spelling count)
           is.bytes,
     )
-
--- heights of pages
-pub height_small : (size : Size) (dpi : Dpi) → (0 < page_height size dpi) × (page_height size dpi ≤ 9999)
-height_small Executive Dpi300 = (lit< tt, lit≤ tt)
-height_small Letter Dpi300 = (lit< tt, lit≤ tt)
-height_small Legal Dpi300 = (lit< tt, lit≤ tt)
-height_small A4 Dpi300 = (lit< tt, lit≤ tt)
-height_small Executive Dpi600 = (lit< tt, lit≤ tt)
-height_small Letter Dpi600 = (lit< tt, lit≤ tt)
-height_small Legal Dpi600 = (lit< tt, lit≤ tt)
-height_small A4 Dpi600 = (lit< tt, lit≤ tt)

@@ -2,13 +2,13 @@
 use Rattle.std.proofs.Common.{◌≡◌, ℕ, ◌+◌, List, length, Result, Ok, Err, ap, ◌∙◌, arith}
 use Rattle.std.specs.Prelude.{OnOk}
 use Rattle.std.proofs.lemmas.List.{length-append}
-use Rattle.pcl_page.specs.declared.page.Page.{Page}
-use Rattle.pcl_plan.specs.PageText.{bitmap_rows}
+use Rattle.pcl_bitmap.specs.declared.page.Page.{Page}
+use Rattle.pcl_output.specs.PageText.{bitmap_rows}
 use Rattle.pcl_plan.specs.PagePlans.{IsPlanOf}
 use Rattle.pcl_plan.specs.Plans.{StepsAndTable}
-use Rattle.pcl_plan.specs.Nodes.{start}
-use Rattle.pcl_plan.specs.Table.{node_number}
-use Rattle.pcl_plan.proofs.Texts.{text_of_least}
+use Rattle.pcl_output.specs.Nodes.{start}
+use Rattle.pcl_output.specs.Table.{node_number}
+use Rattle.pcl_output.proofs.Texts.{text_of_least}
 use Rattle.pcl_writer.specs.Appending.{AppendsPage, planned_bytes}
 
 -- a least text is as long as each other one, and the plan's cost is that of one

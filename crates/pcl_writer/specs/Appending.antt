@@ -1,13 +1,13 @@
 -- What a writer appends.
 use Rattle.std.specs.Prelude.{◌≡◌, ℕ, ◌+◌, ◌*◌, ◌≤◌, List, ◌++◌, length}
 use Rattle.pcl_base.specs.Size.{page_height}
-use Rattle.pcl_page.specs.declared.page.Page.{Page}
-use Rattle.pcl_plan.specs.Tokens.{command_count}
-use Rattle.pcl_plan.specs.PageText.{PrintsPage, bitmap_rows}
-use Rattle.pcl_plan.specs.Nodes.{start}
-use Rattle.pcl_plan.specs.Table.{node_number}
+use Rattle.pcl_bitmap.specs.declared.page.Page.{Page}
+use Rattle.pcl_output.specs.Tokens.{command_count}
+use Rattle.pcl_output.specs.PageText.{PrintsPage, bitmap_rows}
+use Rattle.pcl_output.specs.Nodes.{start}
+use Rattle.pcl_output.specs.Table.{node_number}
 use Rattle.pcl_plan.specs.Plans.{StepsAndTable}
-use Rattle.pcl_plan.specs.LeastTexts.{IsLeastText, fixed_bytes}
+use Rattle.pcl_output.specs.LeastTexts.{IsLeastText, fixed_bytes}
 
 -- The text is one that a page is written as: it prints the page, in at most three commands a row beside those of its
 -- begin and its end, and no text that prints the page is shorter.

@@ -4,19 +4,19 @@ ghost use Rattle.std.specs.Prelude.{◌≡◌, ◌++◌, ◌<◌, [], length, ta
 ghost use Rattle.std.specs.List.{flat_map};
 ghost use Rattle.pcl_base.specs.Size.{page_height, page_row_bytes};
 ghost use Rattle.pcl_coders.specs.Coding.{IsCodable, IsLeastLength, AppendsLeast};
-ghost use Rattle.pcl_plan.specs.Tokens.{letter, token_bytes};
-ghost use Rattle.pcl_plan.specs.PageText.{bitmap_rows};
-ghost use Rattle.pcl_plan.specs.Nodes.{row_at};
-ghost use Rattle.pcl_plan.specs.Spelling.{least_spelling};
+ghost use Rattle.pcl_output.specs.Tokens.{letter, token_bytes};
+ghost use Rattle.pcl_output.specs.PageText.{bitmap_rows};
+ghost use Rattle.pcl_output.specs.Nodes.{row_at};
+ghost use Rattle.pcl_output.specs.Spelling.{least_spelling};
 ghost use Rattle.pcl_plan.specs.Plans.{opened};
 ghost use Rattle.pcl_writer.specs.inner.Steps.{above, IsBitmapPlan, IsWritable, AppendsBody, AppendsStep, AppendsParameter, AppendsRow};
 
 use crate::number::append_spelling;
-use crate::place::Place;
 use pcl_base::{Method, ROW_LIMIT};
 use pcl_bitmap::Bitmap;
-use pcl_coders::{Delta, Packed, Plain, RowCoder, Runs};
-use pcl_plan::{Plan, Step};
+use pcl_coders::RowCoder;
+use pcl_output::{Node, Step, row_above};
+use pcl_plan::Plan;
 use std::alloc::AllocError;
 
 /// Appends the body of a page along the steps of its plan. Where memory runs out a prefix of it is appended.
@@ -26,15 +26,11 @@ pub fn append_body(bitmap: &Bitmap, plan: &Plan, out: &mut Vec<u8>) -> Result<()
     ensures front { take (length out.old.items) out.new.items ≡ out.old.items }
 {
     let steps = plan.steps();
-    let mut place = Place {
-        row: 0,
-        method: Method::Plain,
-        inside: false,
-    };
+    let mut node = Node::start();
     for (i, step) in steps.iter().enumerate() {
         let ends = i + 1 == steps.len();
-        append_step(bitmap, place, *step, ends, out)?;
-        place = place.behind(*step, ends);
+        append_step(bitmap, node, *step, ends, out)?;
+        node = node.after(*step, ends);
     }
     Ok(())
 }
@@ -43,17 +39,17 @@ pub fn append_body(bitmap: &Bitmap, plan: &Plan, out: &mut Vec<u8>) -> Result<()
 /// out.
 fn append_step(
     bitmap: &Bitmap,
-    place: Place,
+    node: Node,
     step: Step,
     ends: bool,
     out: &mut Vec<u8>,
 ) -> Result<(), AllocError>
-    requires { IsWritable bitmap.now place.row place.method step }
-    ensures ok { OnOk result (AppendsStep bitmap.now place step ends out.old.items out.new.items) }
+    requires { IsWritable bitmap.now node.row node.method step }
+    ensures ok { OnOk result (AppendsStep bitmap.now node step ends out.old.items out.new.items) }
     ensures front { take (length out.old.items) out.new.items ≡ out.old.items }
 {
-    append_opening(place.inside, out)?;
-    append_parameter(bitmap, place.row, place.method, step, ends, out)
+    append_opening(node.inside, out)?;
+    append_parameter(bitmap, node.row, node.method, step, ends, out)
 }
 
 /// Opens a sequence where none is open, or appends a prefix of that where memory runs out.
@@ -125,24 +121,5 @@ fn append_data(method: Method, row: &[u8], seed: &[u8], out: &mut Vec<u8>) -> Re
     ensures ok { OnOk result (AppendsLeast method seed.now row.now out.old.items out.new.items) }
     ensures front { take (length out.old.items) out.new.items ≡ out.old.items }
 {
-    match method {
-        Method::Plain => Plain.write(row, seed, out),
-        Method::Runs => Runs.write(row, seed, out),
-        Method::Packed => Packed.write(row, seed, out),
-        Method::Delta => Delta.write(row, seed, out),
-    }
-}
-
-/// The row above row `y`, zeros above the topmost one.
-fn row_above<'a>(bitmap: &'a Bitmap, y: u32, zeros: &'a [u8]) -> &'a [u8]
-    requires row { y < page_height bitmap.now.size bitmap.now.dpi }
-    requires zeros { zeros.now ≡ replicate 600 0 }
-    ensures row { result.now ≡ above bitmap.now y }
-    ensures len { length result.now ≡ page_row_bytes bitmap.now.size bitmap.now.dpi }
-{
-    if y > 0 {
-        bitmap.row(y - 1)
-    } else {
-        &zeros[..bitmap.size().row_bytes(bitmap.dpi())]
-    }
+    method.write(row, seed, out)
 }

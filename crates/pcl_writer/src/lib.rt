@@ -3,7 +3,6 @@
 
 mod body;
 mod number;
-mod place;
 mod text;
 
 pub use text::{write_frame, write_page};

@@ -1,7 +1,7 @@
 //! Numbers in a job.
 
 ghost use Rattle.std.specs.Prelude.{◌≡◌, ◌++◌, length, take, if◌then◌else◌, is_ok, decimal, OnOk};
-ghost use Rattle.pcl_plan.specs.Spelling.{least_spelling};
+ghost use Rattle.pcl_output.specs.Spelling.{least_spelling};
 
 use itoa::Buffer;
 use std::alloc::AllocError;

@@ -1,14 +1,14 @@
 //! Page texts, and what stands around them.
 
 ghost use Rattle.std.specs.Prelude.{◌≡◌, ◌+◌, ◌++◌, length, take, if◌then◌else◌, is_ok, OnOk, OnErr};
-ghost use Rattle.pcl_plan.specs.Tokens.{start_bytes, end_bytes, frame_bytes};
+ghost use Rattle.pcl_output.specs.Tokens.{start_bytes, end_bytes, frame_bytes};
 ghost use Rattle.pcl_plan.specs.PagePlans.{IsPlanOf};
 ghost use Rattle.pcl_writer.specs.Appending.{AppendsPage, planned_bytes};
 
 use crate::body::append_body;
 use crate::number::append_labelled;
 use pcl_base::{Dpi, Size};
-use pcl_page::Page;
+use pcl_bitmap::Page;
 use pcl_plan::Plan;
 use std::alloc::AllocError;
 

@@ -5,7 +5,7 @@ use pcl_cert::{
     CertFault, Format, PageProof, Verdict, check_page, read_certificate, row_tables,
     write_certificate,
 };
-use pcl_page::Page;
+use pcl_bitmap::Page;
 use std::alloc::{AllocError, Global};
 use std::process::Abort;
 

@@ -2,11 +2,11 @@ use super::assert_gives;
 use pcl_base::{Dpi, Method, Size};
 use pcl_bitmap::{Bitmap, Ink};
 use pcl_check::{
-    BadNumber, LeastByCoders, first_bad_number, good_numbers_are_feasible,
+    LeastByCoders, first_bad_number, good_numbers_are_feasible,
     numbers_by_bounds_are_feasible,
 };
-use pcl_page::Page;
-use pcl_plan::Table;
+use pcl_bitmap::Page;
+use pcl_output::{Node, Table};
 use std::alloc::{AllocError, Global};
 use std::process::Abort;
 
@@ -19,8 +19,8 @@ const LEAST: [(Method, u32, u32); 4] = [
 ];
 
 /// The node of a row, a method, and whether a sequence is open.
-fn node(row: u32, method: Method, inside: bool) -> BadNumber {
-    BadNumber {
+fn node(row: u32, method: Method, inside: bool) -> Node {
+    Node {
         row,
         method,
         inside,
@@ -42,7 +42,7 @@ fn dot_page(alloc: Global) -> Result<Page, AllocError> {
 }
 
 /// Sets the number of a node in a table of such a page.
-fn set(rt: &impl Abort, table: &mut Table, node: BadNumber, number: u32) {
+fn set(rt: &impl Abort, table: &mut Table, node: Node, number: u32) {
     assert!(rt; table.rows() == 3300 && node.row <= 3300);
     table.set(node.row, node.method, node.inside, number);
 }
@@ -66,7 +66,7 @@ fn found(
     alloc: Global,
     page: &Page,
     table: &Table,
-) -> Result<Option<BadNumber>, AllocError> {
+) -> Result<Option<Node>, AllocError> {
     assert!(rt; table.rows() == page.size.height(page.dpi));
     first_bad_number(alloc, &LeastByCoders, page, table)
 }
@@ -105,7 +105,7 @@ fn assert_raised(
     alloc: Global,
     page: &Page,
     table: &mut Table,
-    node: BadNumber,
+    node: Node,
 ) -> Result<(), AllocError> {
     assert!(rt; table.rows() == 3300 && node.row <= 3300);
     let number = table.number(node.row, node.method, node.inside);

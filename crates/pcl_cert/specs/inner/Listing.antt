@@ -5,8 +5,8 @@ use Rattle.pcl_base.specs.declared.method.Method.{Method}
 use Rattle.pcl_base.specs.Size.{page_row_bytes}
 use Rattle.pcl_coders.specs.RowWalks.{IsLeastTable}
 use Rattle.pcl_bitmap.specs.Bitmap.{Picture}
-use Rattle.pcl_plan.specs.Nodes.{row_at, row_above}
-use Rattle.pcl_plan.specs.PageText.{bitmap_rows}
+use Rattle.pcl_output.specs.Nodes.{row_at, row_above}
+use Rattle.pcl_output.specs.PageText.{bitmap_rows}
 use Rattle.pcl_cert.specs.Certificates.{IsList}
 use Rattle.pcl_cert.specs.CertificateFields.{ends_in_zero}
 use Rattle.pcl_cert.specs.TablesModel.{lists_within, IsListAt}

@@ -1,12 +1,11 @@
 //! What the checker's yes says.
 
 ghost use Rattle.std.specs.Prelude.{ℕ, ◌≤◌, List, length, Option, None};
-ghost use Rattle.pcl_page.specs.declared.page.Page.{Page};
-ghost use Rattle.pcl_plan.specs.PageText.{PrintsPage, bitmap_rows};
-ghost use Rattle.pcl_plan.specs.LeastTexts.{IsLeastText};
-ghost use Rattle.pcl_plan.specs.PagePlans.{IsPlanOf};
-ghost use Rattle.pcl_plan.specs.Plans.{StepsAndTable};
-ghost use Rattle.pcl_plan.specs.declared.table.RowNumbers.{RowNumbers};
+ghost use Rattle.pcl_bitmap.specs.declared.page.Page.{Page};
+ghost use Rattle.pcl_output.specs.PageText.{PrintsPage, bitmap_rows};
+ghost use Rattle.pcl_output.specs.LeastTexts.{IsLeastText};
+ghost use Rattle.pcl_output.specs.PageTables.{IsTableOf};
+ghost use Rattle.pcl_output.specs.declared.table.RowNumbers.{RowNumbers};
 ghost use Rattle.pcl_cert.specs.declared.check.Verdict.TheVariants as verdicts;
 ghost use Rattle.pcl_cert.specs.declared.format.Format.{Format};
 ghost use Rattle.pcl_cert.specs.Certificates.{IsProof};
@@ -29,19 +28,19 @@ pub fn proved_texts_are_least()
         → IsVerdict page text table tables verdicts.Proved → PrintsPage page other → length text ≤ length other }
 {}
 
-/// The checker answers Proved on a least text of a page with the table of a plan of the page, with the row tables of the page
-/// or without.
-pub fn plans_are_proved()
-    ensures { (page : Page) (text : List ℕ) (plan : StepsAndTable) (tables : Tables) → IsPlanOf page plan → PrintsPage page text
+/// The checker answers Proved on a least text of a page with a table of the page, as a plan has it, with the row tables of the
+/// page or without.
+pub fn tables_are_proved()
+    ensures { (page : Page) (text : List ℕ) (table : List RowNumbers) (tables : Tables) → IsTableOf page table → PrintsPage page text
         → IsLeastText page.dpi page.size page.copies (bitmap_rows page.bitmap) (length text) → AreLeastOf page tables
-        → IsVerdict page text plan.table tables verdicts.Proved }
+        → IsVerdict page text table tables verdicts.Proved }
 {}
 
 /// A certificate of either format can say so: the text is short enough for it, the table has the rows of the page, and its
 /// numbers and those of the row tables are small enough.
-pub fn plans_can_be_certified()
-    ensures { (page : Page) (text : List ℕ) (plan : StepsAndTable) (format : Format) (places : Option (List (List ℕ)))
-        → IsPlanOf page plan → PrintsPage page text
+pub fn tables_can_be_certified()
+    ensures { (page : Page) (text : List ℕ) (table : List RowNumbers) (format : Format) (places : Option (List (List ℕ)))
+        → IsTableOf page table → PrintsPage page text
         → IsLeastText page.dpi page.size page.copies (bitmap_rows page.bitmap) (length text) → HasLeastLists page format places
-        → IsProof page.dpi format record { text_len = length text; table = plan.table; places = places } }
+        → IsProof page.dpi format record { text_len = length text; table = table; places = places } }
 {}

@@ -1,19 +1,19 @@
 -- The passes by which bad numbers are found.
 use Rattle.std.specs.Prelude.{◌≡◌, ℕ, zero, suc, ◌+◌, ◌-◌, ◌<◌, ◌≤◌, nat_lt, if◌then◌else◌, Bool, true, false, List, [], ◌∷◌, length, slice_index, Option, Some, None}
 use Rattle.pcl_base.specs.declared.method.Method.{Method}
-use Rattle.pcl_plan.specs.Nodes.{Node}
-use Rattle.pcl_plan.specs.Filling.{rest}
-use Rattle.pcl_plan.specs.inner.Filling.{IsWhiteRun}
-use Rattle.pcl_check.specs.declared.edges.found.BadNumber.{BadNumber}
-use Rattle.pcl_check.specs.Edges.{number_at, place_of, AreGoodSwitches, row_cost, setting_cost}
+use Rattle.pcl_output.specs.declared.node.Node.{Node}
+use Rattle.pcl_output.specs.Table.{rest}
+use Rattle.pcl_output.specs.inner.WhiteRows.{IsWhiteRun}
+use Rattle.pcl_check.specs.Edges.{number_at, place_of, AreGoodSwitches}
+use Rattle.pcl_output.specs.Spelling.{row_cost, setting_cost}
 
 -- ---- found numbers
 
-abbrev pub found_place : BadNumber → ℕ
+abbrev pub found_place : Node → ℕ
 found_place bad = place_of bad.row bad.method bad.inside
 
 -- the one of two that stands first in a certificate
-abbrev pub first_found : Option BadNumber → Option BadNumber → Option BadNumber
+abbrev pub first_found : Option Node → Option Node → Option Node
 first_found None other = other
 first_found (Some one) None = Some one
 first_found (Some one) (Some other) = if nat_lt (found_place other) (found_place one) then Some other else Some one

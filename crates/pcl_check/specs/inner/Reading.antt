@@ -9,11 +9,10 @@ use Rattle.pcl_base.specs.declared.size.Size.{Size}
 use Rattle.pcl_base.specs.Dpi.{dots_per_inch}
 use Rattle.pcl_base.specs.Size.{page_width, page_height, page_row_bytes}
 use Rattle.pcl_bitmap.specs.Bitmap.{Picture}
-use Rattle.pcl_escape.specs.Field.{is_digit, number_of}
-use Rattle.pcl_escape.specs.Pieces.{AreDigits}
+use Rattle.pcl_base.specs.Digits.{is_digit, number_of, AreDigits}
 use Rattle.pcl_rows.specs.Rows.{IsRowData}
-use Rattle.pcl_plan.specs.Tokens.{Token, token_bytes, PrintsRows, start_bytes, end_bytes}
-use Rattle.pcl_plan.specs.PageText.{IsRowOf, bitmap_rows}
+use Rattle.pcl_output.specs.Tokens.{Token, token_bytes, PrintsRows, start_bytes, end_bytes}
+use Rattle.pcl_output.specs.PageText.{IsRowOf, bitmap_rows}
 use Rattle.pcl_check.specs.declared.reading.body.Place.{Place}
 use Rattle.pcl_check.specs.declared.reading.parameter.Parameter.{Parameter}
 use Rattle.pcl_check.specs.declared.reading.start.Start.{Start}

@@ -2,10 +2,10 @@
 
 ghost use Rattle.std.specs.Prelude.{◌≡◌, ℕ, ◌+◌, ◌≤◌, ◌↔◌, List, length};
 ghost use Rattle.pcl_base.specs.declared.method.Method.{Method};
-ghost use Rattle.pcl_coders.specs.Walks.{IsFeasible};
-ghost use Rattle.pcl_plan.specs.Nodes.{Leads, Ends, cost};
-ghost use Rattle.pcl_plan.specs.Table.{node_number};
-ghost use Rattle.pcl_plan.specs.declared.table.RowNumbers.{RowNumbers};
+ghost use Rattle.pcl_base.specs.Walks.{IsFeasible};
+ghost use Rattle.pcl_output.specs.Nodes.{Leads, Ends, cost};
+ghost use Rattle.pcl_output.specs.Table.{node_number};
+ghost use Rattle.pcl_output.specs.declared.table.RowNumbers.{RowNumbers};
 ghost use Rattle.pcl_check.specs.Edges.{IsLeastOfRow, IsGiven, BoundData, AreGoodNumbers};
 
 /// Where rows are counted with the least lengths of their data, the numbers of a table are good exactly where no token

@@ -1,16 +1,16 @@
 //! Skips of white rows, tested against a table of numbers.
 
 ghost use Rattle.std.specs.Prelude.{◌≡◌, ℕ, ◌+◌, ◌-◌, ◌<◌, ◌≤◌, ◌++◌, true, length, IfOk};
-ghost use Rattle.pcl_plan.specs.Filling.{rest};
-ghost use Rattle.pcl_plan.specs.Table.{node_number};
+ghost use Rattle.pcl_output.specs.Table.{rest};
+ghost use Rattle.pcl_output.specs.Table.{node_number};
 ghost use Rattle.pcl_check.specs.Edges.{FindsBad};
 ghost use Rattle.pcl_check.specs.inner.EdgePasses.{At, AreEnds, AreGoodSkipsOf, AreGoodSkipsTo, rests};
 
-use super::found::{BadNumber, first_of};
+use super::found::first_of;
 use crate::costs::is_within;
 use pcl_base::Method;
 use pcl_coders::Window;
-use pcl_plan::Table;
+use pcl_output::{Node, Table};
 
 /// The first node inside a sequence that a skip of white rows undercuts. A count of few digits is tried also where
 /// it is spelled with more: that undercuts less. So the rows that a skip of so many digits may lead to are always those
@@ -21,7 +21,7 @@ pub fn first_bad_skip(
     method: Method,
     numbers: &mut [u32],
     queue: &mut [usize],
-) -> Option<BadNumber>
+) -> Option<Node>
     requires ends { AreEnds ends.now (length table.now - 1) }
     requires size { length ends.now ≡ length table.now }
     requires room { (length numbers.old ≡ length ends.now) × (length queue.old ≡ length ends.now) }
@@ -43,7 +43,7 @@ fn first_bad_skip_of(
     most: u32,
     numbers: &mut [u32],
     queue: &mut [usize],
-) -> Option<BadNumber>
+) -> Option<Node>
     requires ends { AreEnds ends.now (length table.now - 1) }
     requires size { length ends.now ≡ length table.now }
     requires most { (0 < most) × (most ≤ 9999) × (digits ≤ 4) }
@@ -59,7 +59,7 @@ fn first_bad_skip_of(
         stop = last + 1;
         window.take();
         if last > row && !is_within(table.number(row, method, true), digits + 1, window.least()) {
-            return Some(BadNumber {
+            return Some(Node {
                 row,
                 method,
                 inside: true,

@@ -4,7 +4,7 @@ ghost use Rattle.std.specs.Prelude.{◌≡◌, ℕ, ◌≤◌, ◌⊎◌, true, 
 ghost use Rattle.pcl_base.specs.declared.size.Size.{Size};
 ghost use Rattle.pcl_base.specs.Size.{page_height, page_row_bytes};
 ghost use Rattle.pcl_bitmap.specs.Bitmap.{Picture};
-ghost use Rattle.pcl_plan.specs.Tokens.{end_bytes};
+ghost use Rattle.pcl_output.specs.Tokens.{end_bytes};
 ghost use Rattle.pcl_check.specs.inner.Reading.{IsParameter, IsStep, IsBodyVerdict, IsPaintedRow};
 
 use super::comparison::Comparison;

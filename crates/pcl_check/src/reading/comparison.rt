@@ -3,7 +3,7 @@
 ghost use Rattle.std.specs.Prelude.{◌≡◌, ℕ, ◌+◌, ◌*◌, ◌^◌, ◌<◌, ◌≤◌, ◌↔◌, false, [], ◌∷◌, length, take, drop, replicate, IsTrue};
 ghost use Rattle.pcl_base.specs.Size.{page_width, page_height, page_row_bytes};
 ghost use Rattle.pcl_bitmap.specs.Bitmap.{dot_of_row};
-ghost use Rattle.pcl_plan.specs.PageText.{bitmap_rows};
+ghost use Rattle.pcl_output.specs.PageText.{bitmap_rows};
 
 use pcl_base::Size;
 use pcl_bitmap::Bitmap;

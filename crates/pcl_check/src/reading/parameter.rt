@@ -2,8 +2,8 @@
 
 ghost use Rattle.std.specs.Prelude.{◌≡◌, ℕ, ◌≤◌, ◌<◌, false, List, ◌∷◌, ◌++◌, length, min, decimal, MatchOption};
 ghost use Rattle.std.specs.List.{prefix_len};
-ghost use Rattle.pcl_escape.specs.Field.{is_digit, number_of};
-ghost use Rattle.pcl_escape.specs.Pieces.{AreDigits};
+ghost use Rattle.pcl_base.specs.Digits.{is_digit, number_of};
+ghost use Rattle.pcl_base.specs.Digits.{AreDigits};
 ghost use Rattle.pcl_check.specs.inner.Reading.{IsParameter, IsSplit};
 
 use itoa::Buffer;

@@ -2,7 +2,7 @@
 use Rattle.std.specs.Prelude.{◌≡◌, ℕ, ◌+◌, ◌-◌, ◌*◌, ◌<◌, ◌≤◌, ◌⊎◌, List, ◌++◌, length, drop, replicate, slice_index, flat_map}
 use Rattle.pcl_base.specs.declared.method.Method.{Method}
 use Rattle.pcl_rows.specs.Elements.{Element, IsElement, element_bytes, stop}
-use Rattle.pcl_coders.specs.Walks.{Walk, total}
+use Rattle.pcl_base.specs.Walks.{Walk, total}
 use Rattle.pcl_coders.specs.RowWalks.{Agrees, Leads, Ends, cost}
 
 -- an element that goes on from a place of the row, and begins what the number of the place counts

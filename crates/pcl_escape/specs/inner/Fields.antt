@@ -3,7 +3,8 @@ use Rattle.std.specs.Prelude.{ℕ, ◌-◌, ◌==◌, if◌then◌else◌, List,
 use Rattle.std.specs.List.{prefix_len}
 use Rattle.pcl_base.specs.declared.value.Sign.{Sign}
 use Rattle.pcl_base.specs.declared.value.Sign.TheVariants.{Absent, Plus, Minus}
-use Rattle.pcl_escape.specs.Field.{Spelled, is_digit}
+use Rattle.pcl_escape.specs.Field.{Spelled}
+use Rattle.pcl_base.specs.Digits.{is_digit}
 
 -- ---- reading one from the left
 

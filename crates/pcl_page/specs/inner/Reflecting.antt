@@ -19,7 +19,7 @@ use Rattle.pcl_env.specs.Settings.{Settings, to_first_line}
 use Rattle.pcl_fonts.specs.History.{FontEvent}
 use Rattle.pcl_fonts.specs.Table.{Holds, Follows}
 use Rattle.pcl_env.specs.Outcome.{Outcome}
-use Rattle.pcl_page.specs.declared.page.Page.{Page}
+use Rattle.pcl_bitmap.specs.declared.page.Page.{Page}
 use Rattle.pcl_page.specs.declared.performer.Performer.{Performer}
 use Rattle.pcl_bitmap.specs.Dots.{is_black_ink}
 use Rattle.pcl_page.specs.Marks.{Mark, is_black}

@@ -12,7 +12,7 @@ use Rattle.pcl_base.specs.Limits.{command_limit, macro_limit}
 use Rattle.pcl_base.specs.Refusal.{refusal}
 use Rattle.pcl_escape.specs.Said.{Said}
 use Rattle.pcl_macros.specs.Table.{Holds}
-use Rattle.pcl_page.specs.declared.page.Page.{Page}
+use Rattle.pcl_bitmap.specs.declared.page.Page.{Page}
 use Rattle.pcl_page.specs.declared.interpreter.Interpreter.{Interpreter}
 use Rattle.pcl_page.specs.declared.interpreter.Running.{Running}
 use Rattle.pcl_page.specs.Situation.{Sheet, Situation, at_end}

@@ -2,34 +2,19 @@
 use Rattle.std.specs.Prelude.{◌≡◌, ℕ, ◌+◌, ◌-◌, ◌*◌, ◌<◌, ◌≤◌, ◌⊎◌, List, length, take, drop}
 use Rattle.pcl_base.specs.declared.method.Method.{Method}
 use Rattle.pcl_coders.specs.Coding.{IsLeastLength}
-use Rattle.pcl_coders.specs.Walks.{IsAttained}
-use Rattle.pcl_plan.specs.Tokens.{Token, IsWhite, AreWhite}
-use Rattle.pcl_plan.specs.Nodes.{Node, row_at, row_above, Leads, Ends, cost}
-use Rattle.pcl_plan.specs.Spelling.{digit_count}
+use Rattle.pcl_base.specs.Walks.{IsAttained}
+use Rattle.pcl_output.specs.Tokens.{Token, IsWhite}
+use Rattle.pcl_output.specs.inner.WhiteRows.{AreSkippable, IsWhiteRun}
+use Rattle.pcl_output.specs.declared.node.Node.{Node}
+use Rattle.pcl_output.specs.Nodes.{row_at, row_above, Leads, Ends, cost}
+use Rattle.pcl_output.specs.Spelling.{setting_cost, row_cost}
 use Rattle.pcl_plan.specs.declared.fill.Skip.{Skip}
-use Rattle.pcl_plan.specs.declared.table.RowNumbers.{RowNumbers}
-use Rattle.pcl_plan.specs.Table.{node_number}
-use Rattle.pcl_plan.specs.Filling.{outside, rest, IsSwitched}
-
--- a row of so many bytes of data
-abbrev pub sending : ℕ → ℕ
-sending bytes = digit_count bytes + 1 + bytes
+use Rattle.pcl_output.specs.declared.table.RowNumbers.{RowNumbers}
+use Rattle.pcl_output.specs.Table.{node_number, outside, rest, IsSwitched}
 
 -- so many rows that are skipped, and what comes after them
 abbrev pub skipping : (Node → ℕ) → ℕ → Method → ℕ → ℕ
-skipping number row method count = digit_count count + 1 + rest number (row + count) method
-
--- ---- white rows
-
--- some rows from a row on that are white
-abbrev pub AreSkippable : List (List ℕ) → ℕ → ℕ → Type 0
-AreSkippable rows row count = (0 < count) × (row + count ≤ length rows) × AreWhite (take count (drop row rows))
-
--- how many rows are white from a row on
-pub record IsWhiteRun (rows : List (List ℕ)) (row run : ℕ) : Type 0 where
-  pub within : row + run ≤ length rows
-  pub white : AreWhite (take run (drop row rows))
-  pub longest : row + run < length rows → IsWhite (row_at rows (row + run)) → ⊥
+skipping number row method count = setting_cost count + rest number (row + count) method
 
 -- ---- the numbers of a row that isn't in white rest
 
@@ -50,20 +35,20 @@ pub record IsReadable (table : List RowNumbers) (row run : ℕ) : Type 0 where
       → rest (node_number table) (row + far) method ≤ rest (node_number table) (row + near) method
   pub small : (a : Node) → row < a.row → a.row < length table → node_number table a ≤ 655374457
 
--- the least of sending a row by so many bytes, and of skipping some of so many rows
+-- the least of row_cost a row by so many bytes, and of skipping some of so many rows
 pub record IsLeastStart (number : Node → ℕ) (row : ℕ) (method : Method) (run bytes least : ℕ) : Type 0 where
-  pub sent : least ≤ sending bytes + outside number (row + 1) method
+  pub sent : least ≤ row_cost bytes + outside number (row + 1) method
   pub skipped : (count : ℕ) → 0 < count → count ≤ run → least ≤ skipping number row method count
-  pub attained : (least ≡ sending bytes + outside number (row + 1) method)
+  pub attained : (least ≡ row_cost bytes + outside number (row + 1) method)
       ⊎ ((count : ℕ) × (0 < count) × (count ≤ run) × (least ≡ skipping number row method count))
 
 -- the least that comes in an open sequence where no method is set first: the row is sent, or rows are skipped
 pub record IsDirect (width : ℕ) (rows : List (List ℕ)) (number : Node → ℕ) (row : ℕ) (method : Method) (least : ℕ) : Type 0 where
   pub bytes : ℕ
   pub is_length : IsLeastLength method (row_above width rows row) (row_at rows row) bytes
-  pub sent : least ≤ sending bytes + outside number (row + 1) method
+  pub sent : least ≤ row_cost bytes + outside number (row + 1) method
   pub skipped : (count : ℕ) → AreSkippable rows row count → least ≤ skipping number row method count
-  pub attained : (least ≡ sending bytes + outside number (row + 1) method)
+  pub attained : (least ≡ row_cost bytes + outside number (row + 1) method)
       ⊎ ((count : ℕ) × AreSkippable rows row count × (least ≡ skipping number row method count))
 
 -- the least that comes in each method with no switch before it, and the numbers by that

@@ -1,6 +1,6 @@
 -- What the checker of pages finds of one page.
 use Rattle.std.specs.Prelude.{◌≡◌, ℕ, List}
-use Rattle.pcl_page.specs.declared.page.Page.{Page}
+use Rattle.pcl_bitmap.specs.declared.page.Page.{Page}
 use Rattle.pcl_cert.specs.declared.check.Verdict.TheVariants as verdicts
 use Rattle.pcl_cert.specs.declared.page_proof.PageProof.{PageProof}
 use Rattle.pcl_cert.specs.Checking.{IsVerdict}

@@ -4,6 +4,7 @@ use Rattle.std.specs.Global.{Vec}
 use Rattle.pcl_base.specs.declared.dpi.Dpi.{Dpi}
 use Rattle.pcl_page.specs.Delivering.{IsRefusal}
 use Rattle.pcl_tool.specs.declared.fault.Fault.{Fault}
+use Rattle.pcl_tool.specs.JobFaults.{RefusedOrMemory}
 use Rattle.pcl_tool.specs.declared.fault.Fault.TheVariants.{Refused, Memory, ReadFault, TooLong, WriteFault, NoSuchPage}
 use Rattle.pcl_tool.specs.Minimizing.{IsJobOf}
 use Rattle.std.specs.Io.KnownBytes.{Appends, Keeps}
@@ -15,17 +16,9 @@ abbrev pub IsImageWritten : Option (List ℕ) → Option (List ℕ) → Picture 
 IsImageWritten old new picture (Ok unit) = Appends old new (image_of picture)
 IsImageWritten old new picture (Err WriteFault) = AppendsFront old new (image_of picture)
 IsImageWritten old new picture (Err Memory) = Keeps old new
-IsImageWritten old new picture (Err (Refused refusal)) = ⊥
-IsImageWritten old new picture (Err ReadFault) = ⊥
-IsImageWritten old new picture (Err TooLong) = ⊥
-IsImageWritten old new picture (Err NoSuchPage) = ⊥
+IsImageWritten old new picture (Err fault) = ⊥
 
 -- the same of the job alone
 abbrev pub IsJobWritten : Dpi → List ℕ → Result (Vec ℕ) Fault → Type 0
 IsJobWritten dpi job (Ok output) = IsJobOf dpi job output.items
-IsJobWritten dpi job (Err (Refused refusal)) = IsRefusal dpi job refusal
-IsJobWritten dpi job (Err Memory) = Unit {0}
-IsJobWritten dpi job (Err ReadFault) = ⊥
-IsJobWritten dpi job (Err TooLong) = ⊥
-IsJobWritten dpi job (Err WriteFault) = ⊥
-IsJobWritten dpi job (Err NoSuchPage) = ⊥
+IsJobWritten dpi job (Err fault) = RefusedOrMemory (IsRefusal dpi job) fault

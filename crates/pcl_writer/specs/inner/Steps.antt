@@ -6,17 +6,16 @@ use Rattle.pcl_base.specs.Size.{page_row_bytes}
 use Rattle.pcl_bitmap.specs.Bitmap.{Picture}
 use Rattle.pcl_rows.specs.Rows.{IsRowData}
 use Rattle.pcl_coders.specs.Coding.{IsLeastLength}
-use Rattle.pcl_coders.specs.Walks.{Walk, total}
-use Rattle.pcl_plan.specs.declared.step.Step.{Step}
-use Rattle.pcl_plan.specs.declared.step.Step.TheVariants.{Skip, Switch, Row}
-use Rattle.pcl_plan.specs.Tokens.{Token, opening, method, skip, send, token_bytes}
-use Rattle.pcl_plan.specs.PageText.{bitmap_rows}
-use Rattle.pcl_plan.specs.Nodes.{start, row_at, row_above, Leads, Ends, cost}
-use Rattle.pcl_plan.specs.Spelling.{least_spelling}
-use Rattle.pcl_plan.specs.Table.{node_number}
-use Rattle.pcl_plan.specs.Plans.{StepsAndTable, IsTokenOf, IsPlan, stays_inside, opened}
-use Rattle.pcl_plan.specs.inner.Reading.{row_behind, method_behind}
-use Rattle.pcl_writer.specs.declared.place.Place.{Place}
+use Rattle.pcl_base.specs.Walks.{Walk, total}
+use Rattle.pcl_output.specs.declared.step.Step.{Step}
+use Rattle.pcl_output.specs.declared.step.Step.TheVariants.{Skip, Switch, Row}
+use Rattle.pcl_output.specs.Tokens.{Token, opening, method, skip, send, token_bytes}
+use Rattle.pcl_output.specs.PageText.{bitmap_rows}
+use Rattle.pcl_output.specs.Nodes.{start, row_at, row_above, Leads, Ends, cost, stays_inside, row_after, method_after}
+use Rattle.pcl_output.specs.Spelling.{least_spelling}
+use Rattle.pcl_output.specs.Table.{node_number}
+use Rattle.pcl_plan.specs.Plans.{StepsAndTable, IsTokenOf, IsPlan, opened}
+use Rattle.pcl_output.specs.declared.node.Node.{Node}
 
 -- the rows of a bitmap, and the row above a row
 abbrev pub width_of : Picture → ℕ
@@ -57,16 +56,10 @@ AppendsParameter picture row current step ends old new =
     (token : Token) × IsTokenOf step ends token × HasRowData picture row current token × (new ≡ old ++ token_bytes token)
 
 -- the same, with a sequence opened where none is open
-abbrev pub AppendsStep : Picture → Place → Step → Bool → List ℕ → List ℕ → Type 0
-AppendsStep picture place step ends old new =
-    (token : Token) × IsTokenOf step ends token × HasRowData picture place.row place.method token
-    × (new ≡ old ++ flat_map token_bytes (opened place.inside (token ∷ [])))
-
--- the place after a step
-pub record IsPlaceBehind (place : Place) (step : Step) (ends : Bool) (behind : Place) : Type 0 where
-  pub row_is : behind.row ≡ row_behind place.row step
-  pub method_is : behind.method ≡ method_behind place.method step
-  pub inside_is : behind.inside ≡ (stays_inside step && not ends)
+abbrev pub AppendsStep : Picture → Node → Step → Bool → List ℕ → List ℕ → Type 0
+AppendsStep picture node step ends old new =
+    (token : Token) × IsTokenOf step ends token × HasRowData picture node.row node.method token
+    × (new ≡ old ++ flat_map token_bytes (opened node.inside (token ∷ [])))
 
 -- a body along a walk of least cost
 abbrev pub AppendsBody : Picture → StepsAndTable → List ℕ → List ℕ → Type 0

@@ -1,11 +1,13 @@
-use Rattle.std.proofs.Common.{ℕ, length, ap, ◌∙◌, arith}
-use Rattle.std.specs.Prelude.{decimal}
-use Rattle.pcl_cert.proofs.FixedParts.{fixed_length}
+use Rattle.std.proofs.Common.{ap, ◌∙◌, arith}
+use Rattle.pcl_base.specs.Size.{code_of}
+use Rattle.pcl_output.specs.Spelling.{digit_count}
+use Rattle.pcl_output.proofs.DigitCounts.{count_of_some}
+use Rattle.pcl_cert.proofs.FixedParts.{fixed_length, code_some}
 use Rattle.pcl_cert.proofs.check.fixed_len.Goals as goal
 
 pub returns : goal.returns
 returns c =
     let page = c.args.page.now in
-    let copies = c.digits.ensures.count ∙ ap (λ (n : ℕ). length (decimal n)) c.from.ensures in
-    let code = c.digits-2.ensures.count ∙ ap (λ (n : ℕ). length (decimal n)) c.code.ensures in
+    let copies = c.digits.ensures.count ∙ ap digit_count c.from.ensures ∙ count_of_some page.copies page.copies_in_range.0 in
+    let code = c.digits-2.ensures.count ∙ ap digit_count c.code.ensures ∙ count_of_some (code_of page.size) (code_some page.size) in
     omega (arith, fixed_length page.dpi page.size page.copies, copies, code)

@@ -1,6 +1,6 @@
 use Rattle.std.proofs.Common.{◌++◌, take, ap, sym, ◌∙◌, append_assoc, arith}
 use Rattle.pcl_base.proofs.Lists.{flat_more, front_stays}
-use Rattle.pcl_plan.specs.Table.{no_numbers}
+use Rattle.pcl_output.specs.Table.{no_numbers}
 use Rattle.pcl_cert.specs.Certificates.{row_bytes, table_bytes}
 use Rattle.pcl_cert.proofs.writing_certificates.append_table.Goals as goal
 

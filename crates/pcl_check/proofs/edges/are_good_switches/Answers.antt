@@ -1,5 +1,5 @@
 use Rattle.std.proofs.Common.{◌≡◌, ℕ, true, false, min, sym, ◌∙◌, arith}
-use Rattle.pcl_plan.specs.Table.{node_number}
+use Rattle.pcl_output.specs.Table.{node_number}
 use Rattle.pcl_check.proofs.Switches.{AreRests, switches_good, plain_good, others_good}
 use Rattle.pcl_check.proofs.edges.are_good_switches.Goals as goal
 

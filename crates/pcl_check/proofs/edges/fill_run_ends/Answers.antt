@@ -4,10 +4,10 @@ use Rattle.std.proofs.lemmas.List.Elements.{All-from_recursion, recursion_from_A
 use Rattle.pcl_base.specs.declared.dpi.Dpi.{Dpi}
 use Rattle.pcl_base.specs.declared.size.Size.{Size}
 use Rattle.pcl_base.specs.Size.{page_height, page_row_bytes}
-use Rattle.pcl_plan.specs.Tokens.{IsWhite}
-use Rattle.pcl_plan.specs.Nodes.{row_at}
-use Rattle.pcl_plan.specs.PageText.{bitmap_rows}
-use Rattle.pcl_plan.proofs.RowsFrom.{length_rows, row_of_bytes}
+use Rattle.pcl_output.specs.Tokens.{IsWhite}
+use Rattle.pcl_output.specs.Nodes.{row_at}
+use Rattle.pcl_output.specs.PageText.{bitmap_rows}
+use Rattle.pcl_output.proofs.RowsFrom.{length_rows, row_of_bytes}
 use Rattle.pcl_check.specs.inner.EdgePasses.{AreRunEnds}
 use Rattle.pcl_check.proofs.RunEnds.{ends_begin, ends_more, white_more, inked_more}
 use Rattle.pcl_check.proofs.edges.fill_run_ends.Goals as goal

@@ -1,4 +1,4 @@
-use Rattle.pcl_plan.specs.PageText.{bitmap_rows}
+use Rattle.pcl_output.specs.PageText.{bitmap_rows}
 use Rattle.pcl_check.specs.inner.EdgePasses.{AreRunEnds}
 use Rattle.pcl_check.proofs.edges.fill_run_ends.Given as goal
 

@@ -5,14 +5,14 @@ use Rattle.pcl_base.specs.declared.size.Size.{Size}
 use Rattle.pcl_base.specs.declared.method.Method.{Method}
 use Rattle.pcl_base.specs.declared.method.Method.TheVariants.{Plain, Runs, Packed, Delta}
 use Rattle.pcl_base.specs.Size.{page_height, page_row_bytes}
-use Rattle.pcl_page.specs.declared.page.Page.{Page}
-use Rattle.pcl_plan.specs.PageText.{bitmap_rows}
-use Rattle.pcl_plan.specs.Table.{node_number}
-use Rattle.pcl_plan.proofs.RowsFrom.{length_rows}
-use Rattle.pcl_check.specs.declared.edges.found.BadNumber.{BadNumber}
+use Rattle.pcl_bitmap.specs.declared.page.Page.{Page}
+use Rattle.pcl_output.specs.PageText.{bitmap_rows}
+use Rattle.pcl_output.specs.Table.{node_number}
+use Rattle.pcl_output.proofs.RowsFrom.{length_rows}
+use Rattle.pcl_output.specs.declared.node.Node.{Node}
 use Rattle.pcl_check.specs.Edges.{FindsBad, IsGoodNumber}
 use Rattle.pcl_check.specs.inner.EdgePasses.{Both, AreRunEnds, AreEnds, IsGoodBy, IsGoodIn, first_found}
-use Rattle.pcl_check.proofs.Lengths.{height_small}
+use Rattle.pcl_base.proofs.PageBounds.{height_small}
 use Rattle.pcl_check.proofs.RunEnds.{ends_known}
 use Rattle.pcl_check.proofs.Found.{first_finds, finds_too}
 use Rattle.pcl_check.proofs.EdgesByRows.{InMethods, good_of_methods, methods_of_good, good_by_rows, good_by_ends}
@@ -27,7 +27,7 @@ rows_of_page page =
 
 ends_of_page : (page : Page) {ends : List ℕ} → AreRunEnds (bitmap_rows page.bitmap) ends 0 → AreEnds ends (page_height page.size page.dpi)
 ends_of_page page are =
-    ends_known (rows_of_page page) (height_small page.size page.dpi) are
+    ends_known (rows_of_page page) (omega (arith, height_small page.size page.dpi)) are
 
 pub first_bad_in-plain-requires-clause-ends : goal.first_bad_in-plain-requires-clause-ends
 first_bad_in-plain-requires-clause-ends g c = ends_of_page c.args.page.now c.fill_run_ends.ensures
@@ -59,7 +59,7 @@ returns g c =
     (first_finds (In Packed) (In Delta) last c.first_bad_in-packed.result c.first_bad_in-delta.result c.first_bad_in-packed.ensures
     c.first_bad_in-delta.ensures) in
     let found : c.first_of-3.result ≡ first_found one other =
-    c.first_of-3.ensures ∙ ap (λ (a : Option BadNumber). first_found a c.first_of-2.result) c.first_of.ensures
+    c.first_of-3.ensures ∙ ap (λ (a : Option Node). first_found a c.first_of-2.result) c.first_of.ensures
     ∙ ap (first_found one) c.first_of-2.ensures in
     subst (FindsBad (IsGoodNumber rows Counts number) last) (sym found)
     (finds_too (InMethods ends last Counts number) (IsGoodNumber rows Counts number) (first_found one other)

@@ -2,8 +2,8 @@ use Rattle.std.proofs.Common.{◌≡◌, ℕ, ◌-◌, true, false, Bool, length
 use Rattle.std.specs.Prelude.{Option}
 use Rattle.pcl_base.specs.declared.method.Method.{Method}
 use Rattle.pcl_base.specs.Size.{page_height}
-use Rattle.pcl_plan.specs.Table.{node_number}
-use Rattle.pcl_check.specs.declared.edges.found.BadNumber.{BadNumber}
+use Rattle.pcl_output.specs.Table.{node_number}
+use Rattle.pcl_output.specs.declared.node.Node.{Node}
 use Rattle.pcl_check.specs.Edges.{FindsBad, AreGoodSwitches}
 use Rattle.pcl_check.specs.inner.EdgePasses.{At, Both, IsGoodStart, IsGoodSending, AreGoodSkipsTo, IsGoodIn, first_found}
 use Rattle.pcl_check.proofs.Found.{first_finds, finds_too}
@@ -32,7 +32,7 @@ returns g c =
     (first_finds Start Switches last c.first_bad_start-outside.result c.first_bad_switch-switch.result start switch)
     (first_finds Sending Skips last c.first_bad_sending-sent.result c.first_bad_skip-skip.result c.first_bad_sending-sent.ensures skip) in
     let found : c.first_of-3.result ≡ first_found one other =
-    c.first_of-3.ensures ∙ ap (λ (a : Option BadNumber). first_found a c.first_of-2.result) c.first_of.ensures
+    c.first_of-3.ensures ∙ ap (λ (a : Option Node). first_found a c.first_of-2.result) c.first_of.ensures
     ∙ ap (first_found one) c.first_of-2.ensures in
     subst (FindsBad (IsGoodIn ends last Counts number method) last) (sym found)
     (finds_too (InParts ends last Counts number method) (IsGoodIn ends last Counts number method) (first_found one other)

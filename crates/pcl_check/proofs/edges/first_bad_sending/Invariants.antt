@@ -1,6 +1,6 @@
 use Rattle.std.proofs.Common.{ℕ, ◌<◌}
 use Rattle.pcl_base.specs.Size.{page_height}
-use Rattle.pcl_plan.specs.Table.{node_number}
+use Rattle.pcl_output.specs.Table.{node_number}
 use Rattle.pcl_check.specs.inner.EdgePasses.{IsGoodSending}
 use Rattle.pcl_check.proofs.edges.first_bad_sending.Given as goal
 

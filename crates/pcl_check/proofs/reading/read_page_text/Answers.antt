@@ -1,8 +1,8 @@
 use Rattle.std.proofs.Common.{◌≡◌, ◌==◌, ℕ, List, Bool, true, false, Some, sym, ap, subst, ◌∙◌}
 use Rattle.pcl_base.specs.declared.dpi.Dpi.{Dpi}
 use Rattle.pcl_base.specs.declared.size.Size.{Size}
-use Rattle.pcl_page.specs.declared.page.Page.{Page}
-use Rattle.pcl_plan.specs.PageText.{IsPageText, bitmap_rows}
+use Rattle.pcl_bitmap.specs.declared.page.Page.{Page}
+use Rattle.pcl_output.specs.PageText.{IsPageText, bitmap_rows}
 use Rattle.pcl_check.specs.declared.reading.start.Start.{Start}
 use Rattle.pcl_check.specs.inner.Reading.{IsStart, IsBodyVerdict}
 use Rattle.pcl_check.specs.TextVerdicts.{IsSomePageText}

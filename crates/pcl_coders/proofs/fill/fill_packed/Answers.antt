@@ -7,8 +7,7 @@ use Rattle.pcl_coders.specs.Windows.{Numbers}
 use Rattle.pcl_coders.proofs.Places.{begun_right, place_done, run_last, run_starts, run_goes_on}
 use Rattle.pcl_coders.proofs.Literals.{IsPlaceWindow, place_window_none, place_window_put, place_window_slide, place_window_set, literal_small, packed_place}
 use Rattle.pcl_coders.proofs.fill.fill_packed.Goals as goal
-use Rattle.pcl_coders.proofs.fill.fill_packed.Goals.{then-place-end, else-place-end}
-use Rattle.pcl_coders.proofs.fill.fill_packed.Goals.{then-place-end-2+then-row-place, else-place-end-2, else-place-end-2-via-then-place-end-2+else-row-place, else-place-end-2-via-else-place-end-2}
+use Rattle.pcl_coders.proofs.fill.fill_packed.Goals.{then-place-end, else-place-end, then-place-end-2+then-row-place, else-place-end-2, else-place-end-2-via-then-place-end-2+else-row-place, else-place-end-2-via-else-place-end-2}
 
 pub overflow_sub-literal : goal.overflow_sub-literal
 overflow_sub-literal c =

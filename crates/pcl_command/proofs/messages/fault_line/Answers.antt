@@ -5,12 +5,7 @@ use Rattle.pcl_base.specs.Refusal.{refusal_text}
 use Rattle.pcl_tool.specs.declared.fault.Fault.{Fault}
 use Rattle.pcl_command.specs.Messages.{text_of, line_of}
 use Rattle.pcl_command.proofs.messages.fault_line.Goals as goal
-use Rattle.pcl_command.proofs.messages.fault_line.Goals.{in-Refused+in_ok-extend_from_slice-in-Refused+in_ok-write_text-in-Refused}
-use Rattle.pcl_command.proofs.messages.fault_line.Goals.{in-NoSuchPage+in_ok-extend_from_slice-in-NoSuchPage+in_ok-extend_from_slice-in-NoSuchPage-2}
-use Rattle.pcl_command.proofs.messages.fault_line.Goals.{in-ReadFault+in_ok-extend_from_slice-in-ReadFault}
-use Rattle.pcl_command.proofs.messages.fault_line.Goals.{in-TooLong+in_ok-extend_from_slice-in-TooLong}
-use Rattle.pcl_command.proofs.messages.fault_line.Goals.{in-WriteFault+in_ok-extend_from_slice-in-WriteFault}
-use Rattle.pcl_command.proofs.messages.fault_line.Goals.{in-Memory+in_ok-extend_from_slice-in-Memory}
+use Rattle.pcl_command.proofs.messages.fault_line.Goals.{in-Refused+in_ok-extend_from_slice-in-Refused+in_ok-write_text-in-Refused, in-NoSuchPage+in_ok-extend_from_slice-in-NoSuchPage+in_ok-extend_from_slice-in-NoSuchPage-2, in-ReadFault+in_ok-extend_from_slice-in-ReadFault, in-TooLong+in_ok-extend_from_slice-in-TooLong, in-WriteFault+in_ok-extend_from_slice-in-WriteFault, in-Memory+in_ok-extend_from_slice-in-Memory}
 
 -- the text of a fault between the program's name and a line feed
 said : {begun told line : List ℕ} {fault same : Fault} (page : ℕ) → begun ≡ codes "pclmin: " → same ≡ fault

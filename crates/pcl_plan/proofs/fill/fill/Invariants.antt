@@ -1,5 +1,6 @@
 use Rattle.pcl_plan.specs.inner.Rows.{rows_of}
-use Rattle.pcl_plan.specs.inner.Filling.{IsWhiteRun, AreRightFrom}
+use Rattle.pcl_output.specs.inner.WhiteRows.{IsWhiteRun}
+use Rattle.pcl_plan.specs.inner.Filling.{AreRightFrom}
 use Rattle.pcl_plan.proofs.fill.fill.Given as goal
 
 abbrev pub invariant-loop-row : goal.invariant-loop-row

@@ -1,5 +1,5 @@
 use Rattle.std.proofs.Common.{ap, ◌∙◌}
-use Rattle.pcl_plan.specs.Table.{node_number}
+use Rattle.pcl_output.specs.Table.{node_number}
 use Rattle.pcl_plan.specs.inner.Filling.{skipping}
 use Rattle.pcl_plan.proofs.Skips.{least_skip_is}
 use Rattle.pcl_plan.proofs.fill.least_skip.Goals as goal

@@ -1,10 +1,10 @@
-use Rattle.pcl_plan.specs.Table.{node_number}
+use Rattle.pcl_output.specs.Table.{node_number}
 use Rattle.pcl_plan.specs.inner.Rows.{rows_of}
-use Rattle.pcl_plan.proofs.ReadSteps.{IsReadTo, node_of}
+use Rattle.pcl_plan.proofs.ReadSteps.{IsReadTo}
 use Rattle.pcl_plan.proofs.steps.append_steps.Given as goal
 
-abbrev pub invariant-loop-place : goal.invariant-loop-place
-invariant-loop-place g l = IsReadTo l.rows.width (rows_of l.rows) l.table l.steps.items l.place
+abbrev pub invariant-loop-node : goal.invariant-loop-node
+invariant-loop-node g l = IsReadTo l.rows.width (rows_of l.rows) l.table l.steps.items l.node
 
-abbrev pub decreases-loop-place : goal.decreases-loop-place
-decreases-loop-place g l = node_number l.table (node_of l.place)
+abbrev pub decreases-loop-node : goal.decreases-loop-node
+decreases-loop-node g l = node_number l.table l.node

@@ -1,11 +1,11 @@
 use Rattle.std.proofs.Common.{◌+◌, ◌≤◌, ◌<◌, List, length, false, sym, ◌∙◌, arith}
 use Rattle.pcl_plan.specs.declared.rows.Rows.{Rows}
-use Rattle.pcl_plan.specs.declared.table.RowNumbers.{RowNumbers}
+use Rattle.pcl_output.specs.declared.table.RowNumbers.{RowNumbers}
 use Rattle.pcl_plan.specs.inner.Rows.{rows_of}
 use Rattle.pcl_plan.specs.inner.Filling.{AreRightFrom}
-use Rattle.pcl_plan.proofs.RowsFrom.{length_rows}
-use Rattle.pcl_plan.proofs.Walking.{node}
-use Rattle.pcl_plan.proofs.Filled.{skippable_within}
+use Rattle.pcl_output.proofs.RowsFrom.{length_rows}
+use Rattle.pcl_output.proofs.Walking.{node}
+use Rattle.pcl_output.proofs.WhiteRows.{skippable_within}
 use Rattle.pcl_plan.proofs.Reading.{IsRightTable, readable_run, skippable, skip_bound, small_number, switch_begins}
 use Rattle.pcl_plan.proofs.steps.best_step.Goals as goal
 
@@ -48,20 +48,20 @@ number-requires g c = let rows = c.args.rows.now in omega (
       rows.bytes.now,
 )
 
-pub overflow_add-sending_cost : goal.overflow_add-sending_cost
-overflow_add-sending_cost g c =
+pub overflow_add-row_cost : goal.overflow_add-row_cost
+overflow_add-row_cost g c =
     let rows = c.args.rows.now in
     let inside : c.args.row + 1 ≤ length (rows_of rows) = omega (arith, c.requires.row, length_rows rows.count rows.width rows.bytes.now) in
     omega (
       arith,
-      c.sending_cost.ensures.small,
+      c.row_cost.ensures.small,
       c.number.ensures,
       small_number
           (node (c.args.row + 1) c.args.method false) (right_table rows c.requires.right) inside,
     )
 
-pub returns-then-sending_cost-number : goal.returns-then-sending_cost-number
-returns-then-sending_cost-number g c =
+pub returns-then-row_cost-number : goal.returns-then-row_cost-number
+returns-then-row_cost-number g c =
     let rows = c.args.rows.now in
     let inside : c.args.row < length (rows_of rows) = omega (arith, c.requires.row, length_rows rows.count rows.width rows.bytes.now) in (
       inside,
@@ -69,8 +69,8 @@ returns-then-sending_cost-number g c =
       omega (
         arith,
         c.number-least.ensures,
-        c.if-sending_cost-number.true,
-        c.sending_cost.ensures.cost,
+        c.if-row_cost-number.true,
+        c.row_cost.ensures.cost,
         c.number.ensures,
       ),
     )
@@ -94,5 +94,5 @@ lowest_switch-requires-clause-some g c =
     (λ count can. (let more = c.in_default.ensures.none count can.0 (skippable_within c.white_run-run.ensures.run can) in
     omega (arith, more, c.number-least.ensures)))
     c.least_length-bytes.ensures.least
-    (λ same. c.if-sending_cost-number.false (omega (arith, same, c.number-least.ensures, c.sending_cost.ensures.cost, c.number.ensures))) in
+    (λ same. c.if-row_cost-number.false (omega (arith, same, c.number-least.ensures, c.row_cost.ensures.cost, c.number.ensures))) in
     (next.0, c.number-least.ensures ∙ next.1)

@@ -3,10 +3,10 @@ use Rattle.std.proofs.lemmas.Result.{err_from_is_err_and}
 use Rattle.pcl_base.specs.declared.dpi.Dpi.{Dpi}
 use Rattle.pcl_base.specs.declared.fault.JobFault.{JobFault}
 use Rattle.pcl_base.specs.declared.fault.JobFault.TheVariants.{Refused, Memory}
-use Rattle.pcl_plan.specs.Tokens.{frame_bytes}
+use Rattle.pcl_output.specs.Tokens.{frame_bytes}
 use Rattle.pcl_cert.specs.declared.format.Format.{Format}
 use Rattle.pcl_cert.specs.declared.page_proof.PageProof.{PageProof}
-use Rattle.pcl_cert.specs.Certificates.{AreProofs, certificate_bytes, proofs_in}
+use Rattle.pcl_cert.specs.Certificates.{FitFormat, certificate_bytes, proofs_in}
 use Rattle.pcl_tool.specs.JobFaults.{fault_of}
 use Rattle.pcl_tool.specs.inner.Watching.{HasTaken}
 use Rattle.pcl_tool.specs.inner.Certifying.{SoFar, TakesProved}
@@ -24,7 +24,7 @@ pub write_certificate-requires : goal.write_certificate-requires
 write_certificate-requires g c =
     let h = c.in_ok-certified.ensures in (
       c.args.dpi,
-      subst (λ (proofs : List PageProof). AreProofs c.args.dpi c.args.format (proofs_in c.args.format proofs))
+      subst (λ (proofs : List PageProof). FitFormat c.args.dpi c.args.format (proofs_in c.args.format proofs))
           (sym (ap (λ (s : SoFar). s.proofs) c.certified.view_is) ∙ sym c.deref.ensures.value)
           (can_be_written _ _ h.1 refl c.new.ensures.items
           h.2),

@@ -1,6 +1,6 @@
 use Rattle.std.proofs.Common.{◌≡◌, List, ℕ, length, refl, ap, arith, length-append}
 use Rattle.std.proofs.lemmas.Bool.{false≢true}
-use Rattle.pcl_plan.specs.Tokens.{frame_bytes}
+use Rattle.pcl_output.specs.Tokens.{frame_bytes}
 use Rattle.pcl_tool.specs.JobVerdicts.{text_bytes, IsFramed}
 use Rattle.pcl_tool.proofs.page_checks.texts_of.Goals as goal
 

@@ -6,5 +6,5 @@ use Rattle.pcl_writer.proofs.body.append_body.Given as goal
 abbrev pub invariant-loop-i : goal.invariant-loop-i
 invariant-loop-i l = record {
   front : take (length l.fn.out.items) l.out.items ≡ l.fn.out.items;
-  written : IsWrittenTo l.bitmap l.plan l.fn.out.items l.out.items (drop l.i l.steps) l.place;
+  written : IsWrittenTo l.bitmap l.plan l.fn.out.items l.out.items (drop l.i l.steps) l.node;
 }

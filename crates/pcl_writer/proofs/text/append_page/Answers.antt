@@ -4,18 +4,19 @@ use Rattle.pcl_base.specs.declared.dpi.Dpi.{Dpi}
 use Rattle.pcl_base.specs.declared.size.Size.{Size}
 use Rattle.pcl_base.specs.declared.method.Method.TheVariants.{Plain}
 use Rattle.pcl_base.specs.Size.{page_height, page_row_bytes}
-use Rattle.pcl_coders.specs.Walks.{Walk}
-use Rattle.pcl_page.specs.declared.page.Page.{Page}
-use Rattle.pcl_plan.specs.Tokens.{start_bytes, end_bytes, token_bytes}
-use Rattle.pcl_plan.specs.PageText.{IsRowOf, PrintsPage, bitmap_rows}
-use Rattle.pcl_plan.specs.Nodes.{start, Leads, Ends}
-use Rattle.pcl_plan.specs.LeastTexts.{fixed_bytes, IsLeastText}
-use Rattle.pcl_plan.specs.Table.{node_number}
+use Rattle.pcl_base.specs.Walks.{Walk}
+use Rattle.pcl_bitmap.specs.declared.page.Page.{Page}
+use Rattle.pcl_output.specs.Tokens.{start_bytes, end_bytes, token_bytes}
+use Rattle.pcl_output.specs.PageText.{IsRowOf, PrintsPage, bitmap_rows}
+use Rattle.pcl_output.specs.Nodes.{start, Leads, Ends}
+use Rattle.pcl_output.specs.LeastTexts.{fixed_bytes, IsLeastText}
+use Rattle.pcl_output.specs.Table.{node_number}
 use Rattle.pcl_plan.specs.Plans.{IsPlan}
-use Rattle.pcl_plan.proofs.RowsFrom.{length_rows, bitmap_rows_are}
-use Rattle.pcl_plan.proofs.Texts.{widths, prints_of_walk, text_length, text_of_least}
+use Rattle.pcl_output.proofs.RowsFrom.{length_rows, bitmap_rows_are}
+use Rattle.pcl_output.proofs.Texts.{widths, prints_of_walk, text_length, text_of_least}
 use Rattle.pcl_plan.proofs.LeastWalks.{few_commands}
-use Rattle.pcl_writer.proofs.Bodies.{page_joined, height_small}
+use Rattle.pcl_writer.proofs.Bodies.{page_joined}
+use Rattle.pcl_base.proofs.PageBounds.{height_small, height_some}
 use Rattle.pcl_writer.proofs.text.append_page.Goals as goal
 
 -- of the bitmap's size and resolution, and so of the page's
@@ -45,11 +46,12 @@ returns-clause-ok c =
     (bitmap_rows_are c.size.ensures.picture) in
     let walk : Walk (Leads width rows) (Ends rows) start body.0 = as_page page
     (λ (z : Size) (d : Dpi). Walk (Leads (page_row_bytes z d) rows) (Ends rows) start body.0) body.2 in
-    let height = height_small page.size page.dpi in
+    let high = height_small page.size page.dpi in
+    let some = height_some page.size page.dpi in
     let started : c.append_start.new.out.items ≡ old ++ start_bytes page.dpi page.copies page.size =
     c.in_ok-append_start.ensures.ok ∙ ap (λ (d : Dpi). old ++ start_bytes d page.copies c.size.result) (c.dpi.ensures.value ∙ page.dpi_is)
     ∙ ap (λ (z : Size). old ++ start_bytes page.dpi page.copies z) (c.size.ensures.value ∙ page.size_is) in
-    let few = few_commands width (omega (arith, count, height.1)) c.requires.feasible body.0 0 Plain false
+    let few = few_commands width (omega (arith, count, high)) c.requires.feasible body.0 0 Plain false
     walk body.3 in
     let text = start_bytes page.dpi page.copies page.size ++ flat_map token_bytes body.0 ++ end_bytes in
     let printed : PrintsPage page text = record {
@@ -68,5 +70,5 @@ returns-clause-ok c =
       text,
       page_joined old _ _ _ started body.1
           c.in_ok-extend_from_slice.ensures.items,
-      (printed, omega (arith, count, few, height.0), subst (IsLeastText page.dpi page.size page.copies rows) text_is least),
+      (printed, omega (arith, count, few, some), subst (IsLeastText page.dpi page.size page.copies rows) text_is least),
     )

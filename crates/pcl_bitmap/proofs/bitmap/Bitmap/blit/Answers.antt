@@ -5,7 +5,8 @@ use Rattle.std.specs.Vec.{with_items}
 use Rattle.pcl_base.specs.Size.{page_width, page_height}
 use Rattle.pcl_bitmap.specs.Bitmap.{IsPicture, dot, dot_of_row}
 use Rattle.pcl_bitmap.specs.Dots.{dots_past, pattern_dot}
-use Rattle.pcl_bitmap.proofs.Pictures.{picture_of, rows_on_page, wide_rows, page_bytes_limit, page_limits}
+use Rattle.pcl_bitmap.proofs.Pictures.{picture_of, rows_on_page, wide_rows, page_bytes_limit}
+use Rattle.pcl_base.proofs.PageBounds.{width_small}
 use Rattle.pcl_bitmap.proofs.Inked.{IsFilled, filled, filled_picture, filled_dots}
 use Rattle.pcl_bitmap.proofs.Cut.{seen_pattern, seen_row, pattern_off}
 use Rattle.pcl_bitmap.proofs.OneInk.{black_stays}
@@ -112,7 +113,7 @@ pub returns-clause-dots : goal.returns-clause-dots
 returns-clause-dots c = rw (← c.self.view_is) (dots_after c)
 
 pub or_pattern-requires-clause-narrow : goal.or_pattern-requires-clause-narrow
-or_pattern-requires-clause-narrow c = omega (arith, page_limits c.self.inside.size c.self.inside.dpi)
+or_pattern-requires-clause-narrow c = omega (arith, width_small c.self.inside.size c.self.inside.dpi)
 
 pub or_pattern-requires-clause-wide : goal.or_pattern-requires-clause-wide
 or_pattern-requires-clause-wide c = omega (arith, wide_rows c.self.inside.size c.self.inside.dpi)

@@ -4,7 +4,8 @@ use Rattle.std.specs.Vec.{with_items}
 use Rattle.pcl_base.specs.Size.{page_width, page_height}
 use Rattle.pcl_bitmap.specs.Bitmap.{IsPicture, dot, dot_of_row}
 use Rattle.pcl_bitmap.specs.Dots.{raster_dot}
-use Rattle.pcl_bitmap.proofs.Pictures.{picture_of, rows_on_page, wide_rows, page_bytes_limit, page_limits}
+use Rattle.pcl_bitmap.proofs.Pictures.{picture_of, rows_on_page, wide_rows, page_bytes_limit}
+use Rattle.pcl_base.proofs.PageBounds.{width_small}
 use Rattle.pcl_bitmap.proofs.Inked.{IsFilled, filled, filled_picture, filled_dots}
 use Rattle.pcl_bitmap.proofs.Spread.{squares_dot}
 use Rattle.pcl_bitmap.proofs.OneInk.{black_stays}
@@ -67,7 +68,7 @@ pub returns-clause-dots : goal.returns-clause-dots
 returns-clause-dots c = rw (← c.self.view_is) (dots_after c)
 
 pub paint_squares-requires-clause-narrow : goal.paint_squares-requires-clause-narrow
-paint_squares-requires-clause-narrow c = omega (arith, page_limits c.self.inside.size c.self.inside.dpi)
+paint_squares-requires-clause-narrow c = omega (arith, width_small c.self.inside.size c.self.inside.dpi)
 
 pub paint_squares-requires-clause-wide : goal.paint_squares-requires-clause-wide
 paint_squares-requires-clause-wide c = omega (arith, wide_rows c.self.inside.size c.self.inside.dpi)

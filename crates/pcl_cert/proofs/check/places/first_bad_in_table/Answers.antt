@@ -5,10 +5,11 @@ use Rattle.pcl_base.specs.declared.size.Size.{Size}
 use Rattle.pcl_base.specs.declared.method.Method.{Method}
 use Rattle.pcl_base.specs.Size.{page_height, page_row_bytes}
 use Rattle.pcl_bitmap.specs.Bitmap.{row_of}
-use Rattle.pcl_page.specs.declared.page.Page.{Page}
-use Rattle.pcl_plan.specs.PageText.{bitmap_rows}
-use Rattle.pcl_plan.specs.Nodes.{row_above}
-use Rattle.pcl_plan.proofs.RowsFrom.{row_of_bytes, row_small}
+use Rattle.pcl_bitmap.specs.declared.page.Page.{Page}
+use Rattle.pcl_output.specs.PageText.{bitmap_rows}
+use Rattle.pcl_output.specs.Nodes.{row_above}
+use Rattle.pcl_output.proofs.RowsFrom.{row_of_bytes}
+use Rattle.pcl_base.proofs.PageBounds.{row_small}
 use Rattle.pcl_cert.specs.RowTables.{list_of}
 use Rattle.pcl_check.specs.Places.{FindsPlace}
 use Rattle.pcl_cert.specs.Checking.{IsGoodIn}

@@ -1,8 +1,8 @@
 use Rattle.std.proofs.Common.{◌≡◌, ℕ, ◌-◌, true, Bool, length, sym, ap, subst, ◌∙◌}
 use Rattle.std.specs.Prelude.{Option}
 use Rattle.pcl_base.specs.declared.method.Method.{Method}
-use Rattle.pcl_plan.specs.Table.{node_number}
-use Rattle.pcl_check.specs.declared.edges.found.BadNumber.{BadNumber}
+use Rattle.pcl_output.specs.Table.{node_number}
+use Rattle.pcl_output.specs.declared.node.Node.{Node}
 use Rattle.pcl_check.specs.Edges.{FindsBad}
 use Rattle.pcl_check.specs.inner.EdgePasses.{At, Both, AreGoodSkipsOf, AreGoodSkipsTo, first_found}
 use Rattle.pcl_check.proofs.Found.{first_finds, finds_too}
@@ -26,7 +26,7 @@ returns c =
     let found : c.first_of-3.result
     ≡ first_found (first_found c.first_bad_skip_of-one.result c.first_bad_skip_of-two.result)
     (first_found c.first_bad_skip_of-three.result c.first_bad_skip_of-four.result) =
-    c.first_of-3.ensures ∙ ap (λ (a : Option BadNumber). first_found a c.first_of-2.result) c.first_of.ensures
+    c.first_of-3.ensures ∙ ap (λ (a : Option Node). first_found a c.first_of-2.result) c.first_of.ensures
     ∙ ap (first_found (first_found c.first_bad_skip_of-one.result c.first_bad_skip_of-two.result)) c.first_of-2.ensures in
     subst (FindsBad (At method true (AreGoodSkipsTo ends number method)) last) (sym found)
     (finds_too (Both (Both (Of 1 9) (Of 2 99)) (Both (Of 3 999) (Of 4 9999))) (At method true (AreGoodSkipsTo ends number method))

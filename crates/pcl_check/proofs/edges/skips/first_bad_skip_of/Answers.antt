@@ -1,8 +1,7 @@
 use Rattle.std.proofs.Common.{◌≡◌, ℕ, ◌+◌, ◌-◌, ◌≤◌, List, length, refl, sym, ap, subst, ◌∙◌, below_more, arith, ◌++◌}
 use Rattle.std.proofs.lemmas.Bool.{iff_false}
 use Rattle.pcl_coders.specs.Windows.{IsLeastOf}
-use Rattle.pcl_plan.specs.Filling.{rest}
-use Rattle.pcl_plan.specs.Table.{node_number}
+use Rattle.pcl_output.specs.Table.{rest, node_number}
 use Rattle.pcl_check.specs.inner.EdgePasses.{AreGoodSkipsOf, rests}
 use Rattle.pcl_check.proofs.Values.{length_values}
 use Rattle.pcl_check.proofs.Found.{first_at}

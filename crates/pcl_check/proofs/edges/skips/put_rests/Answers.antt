@@ -1,7 +1,6 @@
 use Rattle.std.proofs.Common.{◌≡◌, ℕ, ◌+◌, ◌-◌, List, [], ◌∷◌, ◌++◌, sym, ap, ◌∙◌, append_assoc, arith}
 use Rattle.std.proofs.lemmas.List.{append-nil}
-use Rattle.pcl_plan.specs.Filling.{rest}
-use Rattle.pcl_plan.specs.Table.{node_number}
+use Rattle.pcl_output.specs.Table.{rest, node_number}
 use Rattle.pcl_check.specs.inner.EdgePasses.{rests}
 use Rattle.pcl_check.proofs.Values.{values_more, no_values}
 use Rattle.pcl_check.proofs.edges.skips.put_rests.Goals as goal

@@ -1,5 +1,5 @@
 use Rattle.std.proofs.Common.{◌≡◌, take, drop, arith}
-use Rattle.pcl_plan.specs.PageText.{bitmap_rows}
+use Rattle.pcl_output.specs.PageText.{bitmap_rows}
 use Rattle.pcl_check.proofs.Comparing.{both, neither}
 use Rattle.pcl_check.proofs.Fronts.{white_rows}
 use Rattle.pcl_check.proofs.Steps.{too_many, skipped}

@@ -1,5 +1,5 @@
 use Rattle.std.proofs.Common.{take, drop, sym, ap, subst, ◌∙◌, MatchOption, ℕ}
-use Rattle.pcl_escape.specs.Pieces.{AreDigits}
+use Rattle.pcl_base.specs.Digits.{AreDigits}
 use Rattle.pcl_check.specs.inner.Reading.{IsParameter}
 use Rattle.pcl_check.proofs.Decimals.{all_digits, digits_cut}
 use Rattle.pcl_check.proofs.reading.parameter.read_parameter.Goals as goal

@@ -5,12 +5,12 @@ use Rattle.pcl_base.specs.declared.method.Method.{Method}
 use Rattle.pcl_base.specs.Size.{page_height, page_row_bytes}
 use Rattle.pcl_coders.specs.Coding.{IsLeastLength}
 use Rattle.pcl_bitmap.specs.Bitmap.{row_of}
-use Rattle.pcl_page.specs.declared.page.Page.{Page}
-use Rattle.pcl_plan.specs.Nodes.{row_at, row_above}
-use Rattle.pcl_plan.specs.PageText.{bitmap_rows}
-use Rattle.pcl_plan.proofs.RowsFrom.{row_of_bytes}
+use Rattle.pcl_bitmap.specs.declared.page.Page.{Page}
+use Rattle.pcl_output.specs.Nodes.{row_at, row_above}
+use Rattle.pcl_output.specs.PageText.{bitmap_rows}
+use Rattle.pcl_output.proofs.RowsFrom.{row_of_bytes}
 use Rattle.pcl_check.specs.Edges.{IsLeastOfRow}
-use Rattle.pcl_check.proofs.Lengths.{least_alone}
+use Rattle.pcl_coders.proofs.Lengths.{least_alone}
 use Rattle.pcl_check.proofs.edges.lengths.LeastByCodersRowLengths.length.Goals as goal
 
 -- a least length for the bytes of the bitmap's rows is one for the page's rows
@@ -34,11 +34,11 @@ least_of_page page {method} {seed} {row} {y} {least} lt s r is =
 pub returns-clause-counts : goal.returns-clause-counts
 returns-clause-counts c =
     least_of_page c.args.page.now
-    c.requires.row c.row_above-seed.ensures.row c.row.ensures.bytes c.least_length.ensures
+    c.requires.row c.row_above-seed.ensures.row c.row.ensures.bytes c.least.ensures
 
 pub returns-clause-alone : goal.returns-clause-alone
 returns-clause-alone c = λ bytes is.
     let page = c.args.page.now in
     least_alone is
     (least_of_page page c.requires.row
-    c.row_above-seed.ensures.row c.row.ensures.bytes c.least_length.ensures)
+    c.row_above-seed.ensures.row c.row.ensures.bytes c.least.ensures)

@@ -2,7 +2,7 @@ use Rattle.std.proofs.Common.{◌≡◌, ◌+◌, ◌-◌, ℕ, suc, List, take,
 use Rattle.std.proofs.lemmas.List.{drop-drop}
 use Rattle.pcl_base.proofs.Lists.{more_copies, one_of_copies}
 use Rattle.pcl_base.specs.Size.{page_row_bytes}
-use Rattle.pcl_plan.specs.PageText.{bitmap_rows}
+use Rattle.pcl_output.specs.PageText.{bitmap_rows}
 use Rattle.pcl_check.proofs.reading.comparison.Comparison.has_white_rows.Goals as goal
 
 pub returns-then-not-has_white_row : goal.returns-then-not-has_white_row

@@ -1,0 +1,9 @@
+pub mod Numbers
+pub mod Walking
+pub mod RowsFrom
+pub mod Texts
+pub mod DigitCounts
+pub mod Switching
+pub mod TokenCosts
+pub mod WhiteRows
+pub mod Examples

@@ -1,0 +1,31 @@
+use Rattle.std.proofs.Common.{◌≡◌, ◌-◌, ◌<◌, ℕ, take, sym, ap, ◌∙◌, arith}
+use Rattle.std.proofs.lemmas.List.{take-replicate}
+use Rattle.pcl_base.specs.declared.dpi.Dpi.{Dpi}
+use Rattle.pcl_base.specs.declared.size.Size.{Size}
+use Rattle.pcl_base.specs.Size.{page_height, page_row_bytes}
+use Rattle.pcl_output.specs.Nodes.{row_above}
+use Rattle.pcl_output.specs.PageText.{bitmap_rows}
+use Rattle.pcl_output.proofs.RowsFrom.{row_of_bytes}
+use Rattle.pcl_base.proofs.PageBounds.{row_small}
+use Rattle.pcl_output.proofs.Walking.{row_above_is}
+use Rattle.pcl_output.proofs.bitmap_rows.row_above.Goals as goal
+
+pub returns-then-y-gt0-clause-row : goal.returns-then-y-gt0-clause-row
+returns-then-y-gt0-clause-row c =
+    let picture = c.args.bitmap.now in
+    let width = page_row_bytes picture.size picture.dpi in
+    let y = c.args.y in
+    let inside : y - 1 < page_height picture.size picture.dpi = omega (arith, c.requires.row) in
+    c.row.ensures.bytes ∙ sym (row_of_bytes (y - 1) (page_height picture.size picture.dpi) width picture.bytes inside)
+    ∙ sym (row_above_is width (bitmap_rows picture) y c.if-y-gt0.true)
+
+pub returns-else-y-gt0-clause-row : goal.returns-else-y-gt0-clause-row
+returns-else-y-gt0-clause-row c =
+    let picture = c.args.bitmap.now in
+    let topmost : 0 ≡ c.args.y = omega arith in
+    let width : c.row_bytes.result ≡ page_row_bytes picture.size picture.dpi =
+    c.row_bytes.ensures ∙ ap (λ (z : Size). page_row_bytes z c.dpi.result) c.size.ensures.value ∙ ap
+    (λ (d : Dpi). page_row_bytes picture.size d) c.dpi.ensures.value in
+    ap (λ (n : ℕ). take n c.args.zeros.now) width ∙ ap (take (page_row_bytes picture.size picture.dpi)) c.requires.zeros
+    ∙ take-replicate (page_row_bytes picture.size picture.dpi) 600 0 (row_small picture.size picture.dpi)
+    ∙ ap (row_above (page_row_bytes picture.size picture.dpi) (bitmap_rows picture)) topmost
