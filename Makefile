@@ -4,7 +4,7 @@
 PREFIX ?= /usr/local
 PROGRAM := crates/pclmin/out/pclmin
 
-.PHONY: demo build test test-memory test-process oracle examples bench bench-certificates install clean
+.PHONY: demo build test test-memory test-process test-home oracle examples bench bench-certificates install clean
 
 # Previews the sample job into build/demo.pbm by the kit's quick run, a minute or two after a fresh clone: nothing is proved.
 demo:
@@ -49,6 +49,13 @@ test-memory:
 test-process:
 	process/run.py $(PROGRAM)
 
+# The manual page by its linter, the completions in each shell, and what the console blocks of the documents print. Needs
+# Python 3, mandoc, zsh, fish, and the program that `make build` left.
+test-home:
+	mandoc -T lint -W warning man/pclmin.1
+	home/completions.sh
+	home/blocks.py $(PROGRAM) README.md docs/CERTIFICATE.md
+
 # A short run of the programs of oracle/, which share no line with this one, beside it. Needs rustc, Python 3, and the
 # program that `make build` left.
 oracle:
@@ -69,10 +76,14 @@ bench:
 bench-certificates:
 	bench/certificates.sh
 
-# Copies the program that `make build` left to $(PREFIX)/bin.
+# Copies the program that `make build` left to $(PREFIX)/bin, its manual page and its completions to $(PREFIX)/share.
 install:
 	@test -x $(PROGRAM) || { echo "there is no $(PROGRAM): run make build first" >&2; exit 1; }
 	install -D -m 755 $(PROGRAM) $(DESTDIR)$(PREFIX)/bin/pclmin
+	install -D -m 644 man/pclmin.1 $(DESTDIR)$(PREFIX)/share/man/man1/pclmin.1
+	install -D -m 644 completions/pclmin.bash $(DESTDIR)$(PREFIX)/share/bash-completion/completions/pclmin
+	install -D -m 644 completions/_pclmin $(DESTDIR)$(PREFIX)/share/zsh/site-functions/_pclmin
+	install -D -m 644 completions/pclmin.fish $(DESTDIR)$(PREFIX)/share/fish/vendor_completions.d/pclmin.fish
 
 # Removes what was built, and the proofs that were kept: the next build proves everything again.
 clean:

@@ -1,0 +1,33 @@
+#!/usr/bin/env bash
+# What the completions offer in bash, zsh and fish. Needs zsh and fish.
+set -euo pipefail
+cd "$(dirname "$0")/.."
+failed=0
+
+# offers SHELL WORDS WANTED: the offers, sorted, in one line
+offers() {
+    if [ "$2" != "$3" ]; then
+        echo "$1 offers '$2' and not '$3'"
+        failed=1
+    fi
+}
+
+in_bash() {
+    bash -c 'source completions/pclmin.bash; COMP_WORDS=("$@"); COMP_CWORD=$(($# - 1)); _pclmin; printf "%s\n" "${COMPREPLY[@]}"' \
+        bash "$@" | sort | xargs
+}
+
+in_fish() {
+    fish --no-config -c 'source completions/pclmin.fish; complete -C "$argv"' "$*" | cut -f 1 | sort | xargs
+}
+
+offers bash "$(in_bash pclmin m)" "min"
+offers bash "$(in_bash pclmin min --dpi "")" "300 600"
+offers bash "$(in_bash pclmin min --f)" "--format"
+offers bash "$(in_bash pclmin pbm --)" "--dpi --help --page"
+offers bash "$(in_bash pclmin same examples/p)" "examples/picture.pcl"
+offers fish "$(in_fish pclmin p)" "pbm"
+offers fish "$(in_fish pclmin min --dpi "")" "300 600"
+offers fish "$(in_fish pclmin min --f)" "--format"
+zsh -n completions/_pclmin
+exit "$failed"
