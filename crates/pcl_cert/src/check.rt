@@ -12,12 +12,12 @@ ghost use Rattle.pcl_cert.specs.Checking.{IsVerdict, AreOfPage, IsGoodOf};
 
 use crate::tables::RowTables;
 pub use laws::{
-    tables_are_proved, tables_can_be_certified, proved_tables_are_feasible, proved_texts_are_least,
+    proved_tables_are_feasible, proved_texts_are_least, tables_are_proved, tables_can_be_certified,
 };
 use lengths::ByRowTables;
 use pcl_base::Method;
-use pcl_check::{LeastByCoders, TextVerdict, first_bad_number, read_page_text};
 use pcl_bitmap::Page;
+use pcl_check::{LeastByCoders, TextVerdict, first_bad_number, read_page_text};
 use pcl_output::{Node, Table, digits};
 use places::first_bad_row_place;
 use std::alloc::{AllocError, Global};

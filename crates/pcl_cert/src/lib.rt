@@ -14,8 +14,8 @@ mod tables;
 mod writing_certificates;
 
 pub use check::{
-    Verdict, check_page, tables_are_proved, tables_can_be_certified, proved_tables_are_feasible,
-    proved_texts_are_least,
+    Verdict, check_page, proved_tables_are_feasible, proved_texts_are_least, tables_are_proved,
+    tables_can_be_certified,
 };
 pub use fault::CertFault;
 pub use format::Format;

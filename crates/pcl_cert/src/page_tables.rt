@@ -9,10 +9,9 @@ ghost use Rattle.pcl_cert.specs.inner.Listing.{AreWhole, HasRowMore, HoldsRowsOf
 use crate::listing::Lists;
 use crate::tables::{Bytes, RowTables};
 use pcl_base::ROW_LIMIT;
-use pcl_bitmap::Bitmap;
-use pcl_output::row_above;
+use pcl_bitmap::{Bitmap, Page};
 use pcl_coders::{Delta, Packed, Plain, RowCoder, Runs};
-use pcl_bitmap::Page;
+use pcl_output::row_above;
 use std::alloc::{AllocError, Global};
 
 /// The least numbers of each row of a page over the row above it, by each method (docs/CERTIFICATE.md, "Row tables"). It

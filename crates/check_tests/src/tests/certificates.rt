@@ -1,11 +1,10 @@
 use super::assert_gives;
 use pcl_base::{Dpi, Method, Size};
-use pcl_bitmap::{Bitmap, Ink};
+use pcl_bitmap::{Bitmap, Ink, Page};
 use pcl_cert::{
     CertFault, Format, PageProof, Verdict, check_page, read_certificate, row_tables,
     write_certificate,
 };
-use pcl_bitmap::Page;
 use std::alloc::{AllocError, Global};
 use std::process::Abort;
 

@@ -1,11 +1,9 @@
 use super::assert_gives;
 use pcl_base::{Dpi, Method, Size};
-use pcl_bitmap::{Bitmap, Ink};
+use pcl_bitmap::{Bitmap, Ink, Page};
 use pcl_check::{
-    LeastByCoders, first_bad_number, good_numbers_are_feasible,
-    numbers_by_bounds_are_feasible,
+    LeastByCoders, first_bad_number, good_numbers_are_feasible, numbers_by_bounds_are_feasible,
 };
-use pcl_bitmap::Page;
 use pcl_output::{Node, Table};
 use std::alloc::{AllocError, Global};
 use std::process::Abort;

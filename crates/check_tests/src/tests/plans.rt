@@ -6,10 +6,11 @@ use super::assert_gives;
 use super::plan_search::searched_cost;
 use super::short_rows::set_bytes;
 use pcl_base::{Dpi, Method, Size};
-use pcl_bitmap::Bitmap;
-use pcl_bitmap::Page;
+use pcl_bitmap::{Bitmap, Page};
+use pcl_output::{
+    Step, Table, feasible_numbers_bound_texts, least_walk_is_least_text, printing_is_walking,
+};
 use pcl_plan::{Plan, plan};
-use pcl_output::{Step, Table, feasible_numbers_bound_texts, least_walk_is_least_text, printing_is_walking};
 use std::alloc::{AllocError, Global};
 use std::process::Abort;
 

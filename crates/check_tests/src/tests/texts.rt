@@ -1,8 +1,7 @@
 use super::assert_gives;
 use pcl_base::{Dpi, Size};
-use pcl_bitmap::{Bitmap, Ink};
+use pcl_bitmap::{Bitmap, Ink, Page};
 use pcl_check::{TextVerdict, read_page_text};
-use pcl_bitmap::Page;
 use std::alloc::{AllocError, Global};
 
 /// A page of one black rectangle at its upper left corner, at 300 dots per inch.

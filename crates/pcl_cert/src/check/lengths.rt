@@ -6,8 +6,8 @@ ghost use Rattle.pcl_cert.specs.RowTables.{number_at_place};
 
 use crate::tables::RowTables;
 use pcl_base::Method;
-use pcl_check::RowLengths;
 use pcl_bitmap::Page;
+use pcl_check::RowLengths;
 
 /// The first numbers of the row tables of a page.
 #[derive(Clone, Copy, Debug)]

@@ -10,9 +10,9 @@ ghost use Rattle.pcl_cert.specs.inner.FirstBad.{AreTablesOf, FindsBadBelow, Find
 
 use crate::tables::RowTables;
 use pcl_base::{Method, ROW_LIMIT};
+use pcl_bitmap::Page;
 use pcl_check::first_bad_place;
 use pcl_output::row_above;
-use pcl_bitmap::Page;
 
 /// A place of a row whose number is bad: a row, a method, and a place of the row or its end.
 #[derive(Clone, Copy, Debug, PartialEq, Eq)]
