@@ -1,2 +1,3 @@
 mod Glyphs
+pub mod Histories
 mod Tables

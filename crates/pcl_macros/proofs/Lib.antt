@@ -1,1 +1,2 @@
+pub mod Histories
 mod Tables
