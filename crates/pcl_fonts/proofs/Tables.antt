@@ -13,10 +13,11 @@ use Rattle.pcl_base.specs.declared.kind.Kind.TheVariants.{CharacterData}
 use Rattle.pcl_base.specs.declared.fault.CallFault.TheVariants.{Refused}
 use Rattle.pcl_fonts.specs.Fields.{Font, Character, font_of, has_code, is_character, character_of as character_with}
 use Rattle.pcl_fonts.specs.History.{FontEvent, header, character, control, with_permanent, if_permanent}
-use Rattle.pcl_fonts.specs.Table.{Stored, FontTable, Follows, IsSame, HasCharacter, info_of, printed, printed_in, font_at, character_at, character_of, font_in, character_in, stored_in}
+use Rattle.pcl_fonts.specs.Table.{Stored, FontTable, Follows, IsSame, ArePermanent, HasCharacter, info_of, printed, printed_in, font_at, character_at, character_of, font_in, character_in, stored_in}
 use Rattle.pcl_fonts.specs.declared.fonts.Entry.{Entry}
 use Rattle.pcl_fonts.specs.declared.fonts.FontControl.{FontControl}
-use Rattle.pcl_fonts.specs.declared.fonts.FontControl.TheVariants.{All, Temporary, One, OneCharacter, MakeTemporary, MakePermanent}
+use Rattle.pcl_fonts.specs.declared.fonts.FontControl.TheVariants.{All, Temporary, One, MakeTemporary, MakePermanent}
+use Rattle.pcl_fonts.specs.declared.fonts.FontControl.TheVariants as controls
 use Rattle.pcl_fonts.specs.declared.glyph.Glyph.{Glyph}
 
 abbrev pub Entries : Type 0
@@ -122,7 +123,8 @@ character_there : (es : Entries) (id q its : ℕ) {o : Option Entry} → lookup 
 character_there es id q its there is =
     character_view es q its ∙ ap (λ (x : Option Entry). entry_character x its) (entry_there es id q there is)
 
-written_font : {es fs : Entries} {id : ℕ} {e f : Entry} → Writes es fs id e f → (q : ℕ) → font_at (view fs) q ≡ font_at (view es) q
+-- the same fonts
+pub written_font : {es fs : Entries} {id : ℕ} {e f : Entry} → Writes es fs id e f → (q : ℕ) → font_at (view fs) q ≡ font_at (view es) q
 written_font {es} {fs} {id} {f} w q =
     font_becomes es fs id (Some f) w.becomes q
     ∙ alike (nat_eq id q) (λ is. ap Some w.same ∙ sym (font_there es id q w.there is))
@@ -172,7 +174,7 @@ follows_character {es} {id} {code} {bytes} c is = record {
         (sym (font_there es id q c.writes.there is))
 
 pub follows_one_character : {es fs : Entries} {id code : ℕ} (e f : Entry) → Changes es fs id code e f None
-    → Follows (view es) (view fs) (control OneCharacter id code)
+    → Follows (view es) (view fs) (control controls.Character id code)
 follows_one_character e f c = record { fonts = written_font c.writes; characters = changed_character c }
 
 -- without a font of the ID a character is dropped
@@ -256,7 +258,7 @@ follows_no_mark es {id} {code} permanent none = marked permanent
     }
 
 pub follows_no_character : (es : Entries) {id code : ℕ} → lookup (nat_eq id) es ≡ None
-    → Follows (view es) (view es) (control OneCharacter id code)
+    → Follows (view es) (view es) (control controls.Character id code)
 follows_no_character es {id} {code} none = record {
   fonts = λ q. refl;
   characters = λ q its. by (nat_eq id q) (nat_eq code its) q its refl;
@@ -304,6 +306,19 @@ follows_temporary es {fs} distinct kept = record {
         through (λ (o : Option Entry). entry_character o its) e.is_permanent (Some e) None
         ∙ ap (λ (b : Bool). cond b (entry_character (Some e) its) None)
         (sym (through is_some e.is_permanent (Some (font_in e)) None ∙ whether e.is_permanent))
+
+-- where all are permanent that deletion changes nothing
+pub follows_permanent : (es : Entries) {id code : ℕ} → ArePermanent (view es) → Follows (view es) (view es) (control Temporary id code)
+follows_permanent es all = record {
+  fonts = λ q. sym (all q);
+  characters = λ q its. character_view es q its ∙ of_font (lookup (nat_eq q) es) its
+      ∙ ap (λ (o : Option Font). cond (is_some o) (entry_character (lookup (nat_eq q) es) its) None) (sym (font_view es q) ∙ sym (all q))
+      ∙ ap (λ (x : Option Character). cond (is_some (if_permanent (font_at (view es) q))) x None) (sym (character_view es q its));
+}
+  where
+    of_font : (o : Option Entry) (its : ℕ) → entry_character o its ≡ cond (is_some (option_map font_in o)) (entry_character o its) None
+    of_font None its = refl
+    of_font (Some e) its = refl
 
 -- ---- what a map's calls say
 

@@ -3,7 +3,8 @@ use Rattle.std.specs.Prelude.{ℕ, Bool, true, false, ◌&&◌, nat_eq, if◌the
 use Rattle.std.specs.Option.{option_map}
 use Rattle.pcl_fonts.specs.Fields.{Font, Character, font_of, character_of}
 use Rattle.pcl_fonts.specs.declared.fonts.FontControl.{FontControl}
-use Rattle.pcl_fonts.specs.declared.fonts.FontControl.TheVariants.{All, Temporary, One, OneCharacter, MakeTemporary, MakePermanent}
+use Rattle.pcl_fonts.specs.declared.fonts.FontControl.TheVariants.{All, Temporary, One, MakeTemporary, MakePermanent}
+use Rattle.pcl_fonts.specs.declared.fonts.FontControl.TheVariants as controls
 
 -- a header for an ID, a character for an ID and a code, or a control of fonts with the ID and the code of its time
 pub data FontEvent : Type 0 where
@@ -44,7 +45,7 @@ character_step (character of its bytes) id code font now =
 character_step (control All of its) id code font now = None
 character_step (control Temporary of its) id code font now = if is_some (if_permanent font) then now else None
 character_step (control One of its) id code font now = if nat_eq of id then None else now
-character_step (control OneCharacter of its) id code font now = if nat_eq of id && nat_eq its code then None else now
+character_step (control controls.Character of its) id code font now = if nat_eq of id && nat_eq its code then None else now
 character_step other id code font now = now
 
 -- the character of a code: the last one that was sent for the ID and the code after the font's header, and not deleted since

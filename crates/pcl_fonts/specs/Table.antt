@@ -7,7 +7,7 @@ use Rattle.pcl_base.specs.declared.kind.Kind.TheVariants.{FontHeader, CharacterD
 use Rattle.pcl_base.specs.declared.fault.CallFault.{CallFault}
 use Rattle.pcl_base.specs.declared.fault.CallFault.TheVariants.{Refused, Memory}
 use Rattle.pcl_fonts.specs.Fields.{Font, Character, has_code, is_header, is_character}
-use Rattle.pcl_fonts.specs.History.{FontEvent, header, character, font_step, font_after, character_step, character_after}
+use Rattle.pcl_fonts.specs.History.{FontEvent, header, character, if_permanent, font_step, font_after, character_step, character_after}
 use Rattle.pcl_fonts.specs.declared.header.FontInfo.{FontInfo}
 use Rattle.pcl_fonts.specs.declared.header.Header.{Header}
 use Rattle.pcl_fonts.specs.declared.fonts.Entry.{Entry}
@@ -90,5 +90,10 @@ stored_in e = record { font = font_in e; characters = map (λ c. (c.0, character
 abbrev pub table_view : Inside → FontTable
 table_view a = map (λ e. (e.0, stored_in e.1)) a.entries.entries
 
-abbrev pub IsFontMap : Inside → Type 0
-IsFontMap a = IsUnique nat_eq a.entries
+-- a deletion of temporary fonts leaves each font
+abbrev pub ArePermanent : FontTable → Type 0
+ArePermanent table = (id : ℕ) → if_permanent (font_at table id) ≡ font_at table id
+
+pub record IsFontMap (a : Inside) : Type 0 where
+  pub unique : IsUnique nat_eq a.entries
+  pub permanent : a.has_temporary ≡ false → ArePermanent (table_view a)
