@@ -1,2 +1,4 @@
 mod Glyphs
+pub mod Histories
+mod Permanent
 mod Tables

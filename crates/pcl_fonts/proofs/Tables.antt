@@ -1,5 +1,5 @@
 -- Tables of fonts as the entries of a map, and what each event does to them.
-use Rattle.std.proofs.Common.{◌≡◌, ℕ, Bool, true, false, true≢false, ◌&&◌, cond, nat_eq, if◌then◌else◌, List, [], ◌∷◌, map, Option, None, Some, Ok, Err, is_some, filter, refl, sym, ap, subst, ◌∙◌}
+use Rattle.std.proofs.Common.{◌≡◌, ℕ, Bool, true, false, true≢false, ◌&&◌, cond, nat_eq, if◌then◌else◌, List, [], map, Option, None, Some, Ok, Err, is_some, filter, refl, sym, ap, subst, ◌∙◌}
 use Rattle.std.proofs.lemmas.Bool.{eqb-true}
 use Rattle.std.proofs.lemmas.Map.Made.{lookup-map_values}
 use Rattle.std.proofs.lemmas.Map.Entries.{lookup-filter-values, option_filter}
@@ -11,11 +11,12 @@ use Rattle.indexmap.specs.IndexMap.{IndexMap, get, WritesThrough}
 use Rattle.pcl_base.specs.declared.kind.Kind.TheVariants.{CharacterData}
 use Rattle.pcl_base.specs.declared.fault.CallFault.TheVariants.{Refused}
 use Rattle.pcl_fonts.specs.Fields.{Font, Character, font_of, has_code, is_character, character_of as character_with}
-use Rattle.pcl_fonts.specs.History.{FontEvent, header, character, control, with_permanent, if_permanent, font_after, character_after}
-use Rattle.pcl_fonts.specs.Table.{Stored, FontTable, Holds, Follows, IsSame, HasCharacter, info_of, printed, printed_in, font_at, character_at, character_of, font_in, character_in, stored_in}
+use Rattle.pcl_fonts.specs.History.{FontEvent, header, character, control, with_permanent, if_permanent}
+use Rattle.pcl_fonts.specs.Table.{Stored, FontTable, Follows, IsSame, ArePermanent, HasCharacter, info_of, printed, printed_in, font_at, character_at, character_of, font_in, character_in, stored_in}
 use Rattle.pcl_fonts.specs.declared.fonts.Entry.{Entry}
 use Rattle.pcl_fonts.specs.declared.fonts.FontControl.{FontControl}
-use Rattle.pcl_fonts.specs.declared.fonts.FontControl.TheVariants.{All, Temporary, One, OneCharacter, MakeTemporary, MakePermanent}
+use Rattle.pcl_fonts.specs.declared.fonts.FontControl.TheVariants.{All, Temporary, One, MakeTemporary, MakePermanent}
+use Rattle.pcl_fonts.specs.declared.fonts.FontControl.TheVariants as controls
 use Rattle.pcl_fonts.specs.declared.glyph.Glyph.{Glyph}
 
 abbrev pub Entries : Type 0
@@ -78,21 +79,19 @@ character_becomes es fs id w b q code =
 -- a new font
 pub follows_header : (es fs : Entries) {id : ℕ} {bytes : List ℕ} (e : Entry) → Becomes es fs id (Some e) → font_in e ≡ font_of bytes
     → e.characters.entries ≡ [] → Follows (view es) (view fs) (header id bytes)
-follows_header es fs {id} {bytes} e b is none history h = record {
+follows_header es fs {id} e b is none = record {
   fonts = λ q. font_becomes es fs id (Some e) b q
-      ∙ ap (λ (f : Font). cond (nat_eq id q) (Some f) (font_at (view es) q)) is
-      ∙ ap (cond (nat_eq id q) (Some (font_of bytes))) (h.fonts q);
+      ∙ ap (λ (f : Font). cond (nat_eq id q) (Some f) (font_at (view es) q)) is;
   characters = λ q code. character_becomes es fs id (Some e) b q code
       ∙ ap (λ (cs : List (ℕ × Glyph)). cond (nat_eq id q) (option_map character_in (lookup (nat_eq code) cs))
-      (character_at (view es) q code)) none
-      ∙ ap (cond (nat_eq id q) None) (h.characters q code);
+      (character_at (view es) q code)) none;
 }
 
 -- a font that is gone
 pub follows_one : (es fs : Entries) {id code : ℕ} → Becomes es fs id None → Follows (view es) (view fs) (control One id code)
-follows_one es fs {id} b history h = record {
-  fonts = λ q. font_becomes es fs id None b q ∙ ap (cond (nat_eq id q) None) (h.fonts q);
-  characters = λ q its. character_becomes es fs id None b q its ∙ ap (cond (nat_eq id q) None) (h.characters q its);
+follows_one es fs {id} b = record {
+  fonts = font_becomes es fs id None b;
+  characters = character_becomes es fs id None b;
 }
 
 -- another entry for an ID whose font is the same
@@ -123,7 +122,8 @@ character_there : (es : Entries) (id q its : ℕ) {o : Option Entry} → lookup 
 character_there es id q its there is =
     character_view es q its ∙ ap (λ (x : Option Entry). entry_character x its) (entry_there es id q there is)
 
-written_font : {es fs : Entries} {id : ℕ} {e f : Entry} → Writes es fs id e f → (q : ℕ) → font_at (view fs) q ≡ font_at (view es) q
+-- the same fonts
+pub written_font : {es fs : Entries} {id : ℕ} {e f : Entry} → Writes es fs id e f → (q : ℕ) → font_at (view fs) q ≡ font_at (view es) q
 written_font {es} {fs} {id} {f} w q =
     font_becomes es fs id (Some f) w.becomes q
     ∙ alike (nat_eq id q) (λ is. ap Some w.same ∙ sym (font_there es id q w.there is))
@@ -156,8 +156,8 @@ changed_character {es} {fs} {id} {code} {e} {f} {new} c q its =
 pub follows_character : {es fs : Entries} {id code : ℕ} {bytes : List ℕ} {e f : Entry} {glyph : Glyph}
     → Changes es fs id code e f (Some glyph) → character_in glyph ≡ character_with bytes
     → Follows (view es) (view fs) (character id code bytes)
-follows_character {es} {id} {code} {bytes} c is history h = record {
-  fonts = λ q. written_font c.writes q ∙ h.fonts q;
+follows_character {es} {id} {code} {bytes} c is = record {
+  fonts = written_font c.writes;
   characters = λ q its. changed_character c q its
       ∙ ap (λ (x : Character). cond (nat_eq id q && nat_eq code its) (Some x) (character_at (view es) q its)) is
       ∙ by (nat_eq id q) (nat_eq code its) q its refl;
@@ -165,35 +165,32 @@ follows_character {es} {id} {code} {bytes} c is history h = record {
   where
     by : (t u : Bool) (q its : ℕ) → nat_eq id q ≡ t
         → cond (t && u) (Some (character_with bytes)) (character_at (view es) q its)
-        ≡ cond (t && u && is_some (font_after history q)) (Some (character_with bytes)) (character_after history q its)
-    by false u q its is = h.characters q its
-    by true false q its is = h.characters q its
+        ≡ cond (t && u && is_some (font_at (view es) q)) (Some (character_with bytes)) (character_at (view es) q its)
+    by false u q its is = refl
+    by true false q its is = refl
     by true true q its is =
-        ap (λ (o : Option Font). cond (is_some o) (Some (character_with bytes)) (character_after history q its))
-        (sym (font_there es id q c.writes.there is) ∙ h.fonts q)
+        ap (λ (o : Option Font). cond (is_some o) (Some (character_with bytes)) (character_at (view es) q its))
+        (sym (font_there es id q c.writes.there is))
 
 pub follows_one_character : {es fs : Entries} {id code : ℕ} (e f : Entry) → Changes es fs id code e f None
-    → Follows (view es) (view fs) (control OneCharacter id code)
-follows_one_character {id} {code} e f c history h = record {
-  fonts = λ q. written_font c.writes q ∙ h.fonts q;
-  characters = λ q its. changed_character c q its ∙ ap (cond (nat_eq id q && nat_eq code its) None) (h.characters q its);
-}
+    → Follows (view es) (view fs) (control controls.Character id code)
+follows_one_character e f c = record { fonts = written_font c.writes; characters = changed_character c }
 
 -- without a font of the ID a character is dropped
 pub follows_dropped : (es : Entries) {id code : ℕ} {bytes : List ℕ} → lookup (nat_eq id) es ≡ None
     → Follows (view es) (view es) (character id code bytes)
-follows_dropped es {id} {code} {bytes} none history h = record {
-  fonts = h.fonts;
-  characters = λ q its. h.characters q its ∙ by (nat_eq id q) (nat_eq code its) q its refl;
+follows_dropped es {id} {code} {bytes} none = record {
+  fonts = λ q. refl;
+  characters = λ q its. by (nat_eq id q) (nat_eq code its) q its refl;
 }
   where
-    by : (t u : Bool) (q its : ℕ) → nat_eq id q ≡ t → character_after history q its
-        ≡ cond (t && u && is_some (font_after history q)) (Some (character_with bytes)) (character_after history q its)
+    by : (t u : Bool) (q its : ℕ) → nat_eq id q ≡ t → character_at (view es) q its
+        ≡ cond (t && u && is_some (font_at (view es) q)) (Some (character_with bytes)) (character_at (view es) q its)
     by false u q its is = refl
     by true false q its is = refl
     by true true q its is =
-        ap (λ (o : Option Font). cond (is_some o) (Some (character_with bytes)) (character_after history q its))
-        (sym (font_there es id q none is) ∙ h.fonts q)
+        ap (λ (o : Option Font). cond (is_some o) (Some (character_with bytes)) (character_at (view es) q its))
+        (sym (font_there es id q none is))
 
 -- ---- temporary and permanent fonts
 
@@ -208,39 +205,33 @@ making permanent = if permanent then MakePermanent else MakeTemporary
 
 pub follows_mark : {es fs : Entries} {id code : ℕ} (e f : Entry) {permanent : Bool} → Marks es fs id e f permanent
     → Follows (view es) (view fs) (control (making permanent) id code)
-follows_mark {es} {fs} {id} {code} e f {permanent} m history h = marked permanent refl
+follows_mark {es} {fs} {id} {code} e f {permanent} m = marked permanent refl
   where
     fonts : (q : ℕ) → font_at (view fs) q
-        ≡ cond (nat_eq id q) (option_map (with_permanent permanent) (font_after history q)) (font_after history q)
+        ≡ cond (nat_eq id q) (option_map (with_permanent permanent) (font_at (view es) q)) (font_at (view es) q)
     fonts q = font_becomes es fs id (Some f) m.becomes q ∙ by (nat_eq id q) refl
       where
         by : (t : Bool) → nat_eq id q ≡ t → cond t (Some (font_in f)) (font_at (view es) q)
-            ≡ cond t (option_map (with_permanent permanent) (font_after history q)) (font_after history q)
-        by false is = h.fonts q
-        by true is = ap Some m.font_is
-            ∙ ap (option_map (with_permanent permanent)) (sym (font_there es id q m.there is) ∙ h.fonts q)
+            ≡ cond t (option_map (with_permanent permanent) (font_at (view es) q)) (font_at (view es) q)
+        by false is = refl
+        by true is = ap Some m.font_is ∙ ap (option_map (with_permanent permanent)) (sym (font_there es id q m.there is))
 
-    characters : (q its : ℕ) → character_at (view fs) q its ≡ character_after history q its
+    characters : (q its : ℕ) → character_at (view fs) q its ≡ character_at (view es) q its
     characters q its =
         character_becomes es fs id (Some f) m.becomes q its
         ∙ alike (nat_eq id q)
         (λ is. ap (λ cs. option_map character_in (lookup (nat_eq its) cs.entries)) m.characters
         ∙ sym (character_there es id q its m.there is))
-        ∙ h.characters q its
 
-    marked : (b : Bool) → b ≡ permanent → Holds (view fs) (control (making b) id code ∷ history)
-    marked true is =
-        record {
-          fonts = λ q. fonts q
-              ∙ ap (λ b. cond (nat_eq id q) (option_map (with_permanent b) (font_after history q)) (font_after history q)) (sym is);
-          characters = characters;
-        }
-    marked false is =
-        record {
-          fonts = λ q. fonts q
-              ∙ ap (λ b. cond (nat_eq id q) (option_map (with_permanent b) (font_after history q)) (font_after history q)) (sym is);
-          characters = characters;
-        }
+    marked : (b : Bool) → b ≡ permanent → Follows (view es) (view fs) (control (making b) id code)
+    marked true is = record {
+      fonts = λ q. fonts q ∙ ap (λ b. cond (nat_eq id q) (option_map (with_permanent b) (font_at (view es) q)) (font_at (view es) q)) (sym is);
+      characters = characters;
+    }
+    marked false is = record {
+      fonts = λ q. fonts q ∙ ap (λ b. cond (nat_eq id q) (option_map (with_permanent b) (font_at (view es) q)) (font_at (view es) q)) (sym is);
+      characters = characters;
+    }
 
 -- what isn't there is left alone
 absent : {A : Type 0} (t : Bool) (x : Option A) {y : Option A} → (t ≡ true → y ≡ None) → (f : Option A → Option A) → f None ≡ None
@@ -250,51 +241,50 @@ absent false x none f stays = refl
 
 pub follows_no_mark : (es : Entries) {id code : ℕ} (permanent : Bool) → lookup (nat_eq id) es ≡ None
     → Follows (view es) (view es) (control (making permanent) id code)
-follows_no_mark es {id} {code} permanent none history h = marked permanent
+follows_no_mark es {id} {code} permanent none = marked permanent
   where
-    gone : (q : ℕ) → nat_eq id q ≡ true → font_after history q ≡ None
-    gone q is = sym (h.fonts q) ∙ font_there es id q none is
+    gone : (q : ℕ) → nat_eq id q ≡ true → font_at (view es) q ≡ None
+    gone q is = font_there es id q none is
 
-    marked : (b : Bool) → Holds (view es) (control (making b) id code ∷ history)
+    marked : (b : Bool) → Follows (view es) (view es) (control (making b) id code)
     marked true = record {
-      fonts = λ q. h.fonts q ∙ sym (absent (nat_eq id q) None (gone q) (option_map (with_permanent true)) refl);
-      characters = h.characters;
+      fonts = λ q. sym (absent (nat_eq id q) None (gone q) (option_map (with_permanent true)) refl);
+      characters = λ q its. refl;
     }
     marked false = record {
-      fonts = λ q. h.fonts q ∙ sym (absent (nat_eq id q) None (gone q) (option_map (with_permanent false)) refl);
-      characters = h.characters;
+      fonts = λ q. sym (absent (nat_eq id q) None (gone q) (option_map (with_permanent false)) refl);
+      characters = λ q its. refl;
     }
 
 pub follows_no_character : (es : Entries) {id code : ℕ} → lookup (nat_eq id) es ≡ None
-    → Follows (view es) (view es) (control OneCharacter id code)
-follows_no_character es {id} {code} none history h = record {
-  fonts = h.fonts;
-  characters = λ q its. h.characters q its ∙ by (nat_eq id q) (nat_eq code its) q its refl;
+    → Follows (view es) (view es) (control controls.Character id code)
+follows_no_character es {id} {code} none = record {
+  fonts = λ q. refl;
+  characters = λ q its. by (nat_eq id q) (nat_eq code its) q its refl;
 }
   where
     by : (t u : Bool) (q its : ℕ) → nat_eq id q ≡ t
-        → character_after history q its ≡ cond (t && u) None (character_after history q its)
+        → character_at (view es) q its ≡ cond (t && u) None (character_at (view es) q its)
     by false u q its is = refl
     by true false q its is = refl
-    by true true q its is = sym (h.characters q its) ∙ character_there es id q its none is
+    by true true q its is = character_there es id q its none is
 
 -- ---- fonts that are deleted
 
 pub follows_all : (es : Entries) (id code : ℕ) → Follows (view es) [] (control All id code)
-follows_all es id code history h = record { fonts = λ q. refl; characters = λ q its. refl }
+follows_all es id code = record { fonts = λ q. refl; characters = λ q its. refl }
 
 -- the temporary ones
 pub follows_temporary : (es : Entries) {fs : Entries} {id code : ℕ} → IsDistinct nat_eq (keys_of es)
     → fs ≡ filter (λ (e : ℕ × Entry). e.1.is_permanent) es → Follows (view es) (view fs) (control Temporary id code)
-follows_temporary es {fs} distinct kept history h = record {
+follows_temporary es {fs} distinct kept = record {
   fonts = λ q. font_view fs q ∙ ap (option_map font_in) (left q) ∙ fonts (lookup (nat_eq q) es)
-      ∙ ap if_permanent (sym (font_view es q) ∙ h.fonts q);
+      ∙ ap if_permanent (sym (font_view es q));
   characters = λ q its. character_view fs q its ∙ ap (λ (o : Option Entry). entry_character o its) (left q)
       ∙ characters (lookup (nat_eq q) es) its
       ∙ ap (λ (o : Option Font). cond (is_some (if_permanent o)) (entry_character (lookup (nat_eq q) es) its) None)
-      (sym (font_view es q) ∙ h.fonts q)
-      ∙ ap (λ (x : Option Character). cond (is_some (if_permanent (font_after history q))) x None)
-      (sym (character_view es q its) ∙ h.characters q its);
+      (sym (font_view es q))
+      ∙ ap (λ (x : Option Character). cond (is_some (if_permanent (font_at (view es) q))) x None) (sym (character_view es q its));
 }
   where
     left : (q : ℕ) → lookup (nat_eq q) fs ≡ option_filter (λ (e : Entry). e.is_permanent) (lookup (nat_eq q) es)
@@ -315,6 +305,19 @@ follows_temporary es {fs} distinct kept history h = record {
         through (λ (o : Option Entry). entry_character o its) e.is_permanent (Some e) None
         ∙ ap (λ (b : Bool). cond b (entry_character (Some e) its) None)
         (sym (through is_some e.is_permanent (Some (font_in e)) None ∙ whether e.is_permanent))
+
+-- where all are permanent that deletion changes nothing
+pub follows_permanent : (es : Entries) {id code : ℕ} → ArePermanent (view es) → Follows (view es) (view es) (control Temporary id code)
+follows_permanent es all = record {
+  fonts = λ q. sym (all q);
+  characters = λ q its. character_view es q its ∙ of_font (lookup (nat_eq q) es) its
+      ∙ ap (λ (o : Option Font). cond (is_some o) (entry_character (lookup (nat_eq q) es) its) None) (sym (font_view es q) ∙ sym (all q))
+      ∙ ap (λ (x : Option Character). cond (is_some (if_permanent (font_at (view es) q))) x None) (sym (character_view es q its));
+}
+  where
+    of_font : (o : Option Entry) (its : ℕ) → entry_character o its ≡ cond (is_some (option_map font_in o)) (entry_character o its) None
+    of_font None its = refl
+    of_font (Some e) its = refl
 
 -- ---- what a map's calls say
 

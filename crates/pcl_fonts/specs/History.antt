@@ -3,7 +3,8 @@ use Rattle.std.specs.Prelude.{ℕ, Bool, true, false, ◌&&◌, nat_eq, if◌the
 use Rattle.std.specs.Option.{option_map}
 use Rattle.pcl_fonts.specs.Fields.{Font, Character, font_of, character_of}
 use Rattle.pcl_fonts.specs.declared.fonts.FontControl.{FontControl}
-use Rattle.pcl_fonts.specs.declared.fonts.FontControl.TheVariants.{All, Temporary, One, OneCharacter, MakeTemporary, MakePermanent}
+use Rattle.pcl_fonts.specs.declared.fonts.FontControl.TheVariants.{All, Temporary, One, MakeTemporary, MakePermanent}
+use Rattle.pcl_fonts.specs.declared.fonts.FontControl.TheVariants as controls
 
 -- a header for an ID, a character for an ID and a code, or a control of fonts with the ID and the code of its time
 pub data FontEvent : Type 0 where
@@ -20,32 +21,34 @@ abbrev pub if_permanent : Option Font → Option Font
 if_permanent None = None
 if_permanent (Some font) = if font.permanent then Some font else None
 
+-- what an event makes of the font of an ID
+abbrev pub font_step : FontEvent → ℕ → Option Font → Option Font
+font_step (header of bytes) id font = if nat_eq of id then Some (font_of bytes) else font
+font_step (control All of code) id font = None
+font_step (control Temporary of code) id font = if_permanent font
+font_step (control One of code) id font = if nat_eq of id then None else font
+font_step (control MakeTemporary of code) id font = if nat_eq of id then option_map (with_permanent false) font else font
+font_step (control MakePermanent of code) id font = if nat_eq of id then option_map (with_permanent true) font else font
+font_step other id font = font
+
 -- the font of an ID: that of the last header for it which no later deletion reached
 abbrev pub font_after : List FontEvent → ℕ → Option Font
 font_after [] id = None
-font_after (header of bytes ∷ older) id = if nat_eq of id then Some (font_of bytes) else font_after older id
-font_after (character of code bytes ∷ older) id = font_after older id
-font_after (control All of code ∷ older) id = None
-font_after (control Temporary of code ∷ older) id = if_permanent (font_after older id)
-font_after (control One of code ∷ older) id = if nat_eq of id then None else font_after older id
-font_after (control OneCharacter of code ∷ older) id = font_after older id
-font_after (control MakeTemporary of code ∷ older) id =
-    if nat_eq of id then option_map (with_permanent false) (font_after older id) else font_after older id
-font_after (control MakePermanent of code ∷ older) id =
-    if nat_eq of id then option_map (with_permanent true) (font_after older id) else font_after older id
+font_after (event ∷ older) id = font_step event id (font_after older id)
 
--- The character of a code: the last one that was sent for the ID and the code after the font's header, and not deleted
--- since. Where no font of the ID is there, a character that is sent is dropped.
+-- What an event makes of the character of an ID and a code, where this font of the ID was there. Without one a character that
+-- is sent is dropped.
+abbrev pub character_step : FontEvent → ℕ → ℕ → Option Font → Option Character → Option Character
+character_step (header of bytes) id code font now = if nat_eq of id then None else now
+character_step (character of its bytes) id code font now =
+    if nat_eq of id && nat_eq its code && is_some font then Some (character_of bytes) else now
+character_step (control All of its) id code font now = None
+character_step (control Temporary of its) id code font now = if is_some (if_permanent font) then now else None
+character_step (control One of its) id code font now = if nat_eq of id then None else now
+character_step (control controls.Character of its) id code font now = if nat_eq of id && nat_eq its code then None else now
+character_step other id code font now = now
+
+-- the character of a code: the last one that was sent for the ID and the code after the font's header, and not deleted since
 abbrev pub character_after : List FontEvent → ℕ → ℕ → Option Character
 character_after [] id code = None
-character_after (header of bytes ∷ older) id code = if nat_eq of id then None else character_after older id code
-character_after (character of its bytes ∷ older) id code =
-    if nat_eq of id && nat_eq its code && is_some (font_after older id) then Some (character_of bytes) else character_after older id code
-character_after (control All of its ∷ older) id code = None
-character_after (control Temporary of its ∷ older) id code =
-    if is_some (if_permanent (font_after older id)) then character_after older id code else None
-character_after (control One of its ∷ older) id code = if nat_eq of id then None else character_after older id code
-character_after (control OneCharacter of its ∷ older) id code =
-    if nat_eq of id && nat_eq its code then None else character_after older id code
-character_after (control MakeTemporary of its ∷ older) id code = character_after older id code
-character_after (control MakePermanent of its ∷ older) id code = character_after older id code
+character_after (event ∷ older) id code = character_step event id code (font_after older id) (character_after older id code)

@@ -1,5 +1,5 @@
 -- What contracts see of a table of fonts: the font of each ID, and the character of each ID and code.
-use Rattle.std.specs.Prelude.{◌≡◌, ℕ, true, false, nat_eq, if◌then◌else◌, List, map, ◌∷◌, Option, None, Some, is_some, Result, Ok, Err}
+use Rattle.std.specs.Prelude.{◌≡◌, ℕ, true, false, nat_eq, if◌then◌else◌, List, map, Option, None, Some, is_some, Result, Ok, Err}
 use Rattle.std.specs.Option.{option_map}
 use Rattle.std.specs.Map.{lookup}
 use Rattle.indexmap.specs.IndexMap.{IsUnique}
@@ -7,7 +7,7 @@ use Rattle.pcl_base.specs.declared.kind.Kind.TheVariants.{FontHeader, CharacterD
 use Rattle.pcl_base.specs.declared.fault.CallFault.{CallFault}
 use Rattle.pcl_base.specs.declared.fault.CallFault.TheVariants.{Refused, Memory}
 use Rattle.pcl_fonts.specs.Fields.{Font, Character, has_code, is_header, is_character}
-use Rattle.pcl_fonts.specs.History.{FontEvent, header, character, font_after, character_after}
+use Rattle.pcl_fonts.specs.History.{FontEvent, header, character, if_permanent, font_step, font_after, character_step, character_after}
 use Rattle.pcl_fonts.specs.declared.header.FontInfo.{FontInfo}
 use Rattle.pcl_fonts.specs.declared.header.Header.{Header}
 use Rattle.pcl_fonts.specs.declared.fonts.Entry.{Entry}
@@ -37,9 +37,10 @@ pub record Holds (table : FontTable) (history : List FontEvent) : Type 0 where
   pub fonts : (id : ℕ) → font_at table id ≡ font_after history id
   pub characters : (id code : ℕ) → character_at table id code ≡ character_after history id code
 
--- a table that goes along with a history, and with one event more
-abbrev pub Follows : FontTable → FontTable → FontEvent → Type 0
-Follows old new event = (history : List FontEvent) → Holds old history → Holds new (event ∷ history)
+-- what an event makes of each font and of each character
+pub record Follows (old new : FontTable) (event : FontEvent) : Type 0 where
+  pub fonts : (id : ℕ) → font_at new id ≡ font_step event id (font_at old id)
+  pub characters : (id code : ℕ) → character_at new id code ≡ character_step event id code (font_at old id) (character_at old id code)
 
 -- the same fonts and characters
 abbrev pub IsSame : FontTable → FontTable → Type 0
@@ -89,5 +90,10 @@ stored_in e = record { font = font_in e; characters = map (λ c. (c.0, character
 abbrev pub table_view : Inside → FontTable
 table_view a = map (λ e. (e.0, stored_in e.1)) a.entries.entries
 
-abbrev pub IsFontMap : Inside → Type 0
-IsFontMap a = IsUnique nat_eq a.entries
+-- a deletion of temporary fonts leaves each font
+abbrev pub ArePermanent : FontTable → Type 0
+ArePermanent table = (id : ℕ) → if_permanent (font_at table id) ≡ font_at table id
+
+pub record IsFontMap (a : Inside) : Type 0 where
+  pub unique : IsUnique nat_eq a.entries
+  pub permanent : a.has_temporary ≡ false → ArePermanent (table_view a)

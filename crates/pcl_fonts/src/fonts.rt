@@ -19,7 +19,7 @@ pub enum FontControl {
     /// Deletes the font of the ID.
     One,
     /// Deletes the character of the ID and the code.
-    OneCharacter,
+    Character,
     /// Makes the font of the ID temporary.
     MakeTemporary,
     /// Makes the font of the ID permanent.
@@ -39,6 +39,8 @@ pub struct Entry<'a> {
 #[derive(Drop)]
 pub struct Fonts<'a> {
     entries: IndexMap<u16, Entry<'a>>,
+    // Whether a font may be temporary; else all are permanent.
+    has_temporary: bool,
     alloc: Global,
 }
 
@@ -49,7 +51,7 @@ impl<'a> Model for Fonts<'a> {
 
     ghost view = { table_view };
 
-    // One entry for an ID.
+    // One entry for an ID, and whether one may be temporary.
     ghost invariant = { IsFontMap };
 }
 
@@ -66,6 +68,7 @@ impl<'a> Fonts<'a> {
     {
         Fonts {
             entries: IndexMap::new(alloc),
+            has_temporary: false,
             alloc,
         }
     }
@@ -85,7 +88,10 @@ impl<'a> Fonts<'a> {
             characters: IndexMap::new(self.alloc),
         };
         match self.entries.insert(id, entry) {
-            Ok(_) => Ok(()),
+            Ok(_) => {
+                self.has_temporary = true;
+                Ok(())
+            }
             Err(_) => Err(CallFault::Memory),
         }
     }
@@ -116,21 +122,25 @@ impl<'a> Fonts<'a> {
             FontControl::All => self.entries.clear(),
             FontControl::Temporary => self.delete_temporary(),
             FontControl::One => self.delete(id),
-            FontControl::OneCharacter => self.delete_character(id, code),
+            FontControl::Character => self.delete_character(id, code),
             FontControl::MakeTemporary => self.set_permanent(id, false),
             FontControl::MakePermanent => self.set_permanent(id, true),
         }
     }
 
-    /// Deletes the temporary fonts.
+    /// Deletes the temporary fonts. Where none was sent or made temporary since the last time, nothing is looked at.
     fn delete_temporary(&mut self)
         ensures { Follows self.old self.new (control FontControl.Temporary 0 0) }
     {
+        if !self.has_temporary {
+            return;
+        }
         self.entries.retain(
             |_id: &u16, entry: &mut Entry<'_>| -> bool
                 ensures { (result ≡ entry.old.is_permanent) × (entry.new ≡ entry.old) }
             { entry.is_permanent },
         );
+        self.has_temporary = false;
     }
 
     /// Deletes a font.
@@ -142,20 +152,23 @@ impl<'a> Fonts<'a> {
 
     /// Deletes a character.
     fn delete_character(&mut self, id: u16, code: u8)
-        ensures { Follows self.old self.new (control FontControl.OneCharacter id code) }
+        ensures { Follows self.old self.new (control FontControl.Character id code) }
     {
-        if let Some(entry) = self.entries.get_mut(&id) {
-            entry.characters.swap_remove(&code);
-        }
+        let Some(entry) = self.entries.get_mut(&id) else {
+            return;
+        };
+        entry.characters.swap_remove(&code);
     }
 
     /// Makes a font temporary or permanent.
     fn set_permanent(&mut self, id: u16, is_permanent: bool)
         ensures { Follows self.old self.new (control (if is_permanent then FontControl.MakePermanent else FontControl.MakeTemporary) id 0) }
     {
-        if let Some(entry) = self.entries.get_mut(&id) {
-            entry.is_permanent = is_permanent;
-        }
+        let Some(entry) = self.entries.get_mut(&id) else {
+            return;
+        };
+        entry.is_permanent = is_permanent;
+        self.has_temporary |= !is_permanent;
     }
 
     /// The font of an ID, if it is there.

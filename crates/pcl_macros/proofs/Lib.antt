@@ -1,1 +1,3 @@
+pub mod Histories
+mod Permanent
 mod Tables

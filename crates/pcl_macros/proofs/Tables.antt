@@ -51,17 +51,12 @@ macro_becomes es fs begun later id w b q =
 pub follows_defined : (es fs : Entries) (begun later : Option Begun) (id from to : ℕ)
     → Becomes es fs id (Some (record { from = from; to = to; is_permanent = false }))
     → Follows (view es begun) (view fs later) (defined id from to)
-follows_defined es fs begun later id from to b history h q =
-    macro_becomes es fs begun later id _ b q
-    ∙ ap (cond (nat_eq id q) (Some (record { from = from; to = to; permanent = false }))) (h q)
+follows_defined es fs begun later id from to b q = macro_becomes es fs begun later id _ b q
 
 -- a macro that is gone
 pub controls_one : (es fs : Entries) {begun : Option Begun} (id : ℕ) → Becomes es fs id None
     → Controls (view es begun) (view fs begun) (control One id)
-controls_one es fs {begun} id b = (
-  λ history h q. macro_becomes es fs begun begun id None b q ∙ ap (cond (nat_eq id q) None) (h q),
-  refl,
-)
+controls_one es fs {begun} id b = (λ q. macro_becomes es fs begun begun id None b q, refl)
 
 -- ---- temporary and permanent macros
 
@@ -76,8 +71,8 @@ marked_at permanent id q body = cond (nat_eq id q) (option_map (with_permanent p
 pub controls_marked : (es fs : Entries) {begun : Option Begun} (id : ℕ) (permanent : Bool)
     → ((q : ℕ) → macro_at (view fs begun) q ≡ marked_at permanent id q (macro_at (view es begun) q))
     → Controls (view es begun) (view fs begun) (control (making permanent) id)
-controls_marked es fs id true marks = (λ history h q. marks q ∙ ap (marked_at true id q) (h q), refl)
-controls_marked es fs id false marks = (λ history h q. marks q ∙ ap (marked_at false id q) (h q), refl)
+controls_marked es fs id true marks = (marks, refl)
+controls_marked es fs id false marks = (marks, refl)
 
 -- the macro of an ID under another name
 macro_there : (es : Entries) (begun : Option Begun) (id q : ℕ) {o : Option Body} → lookup (nat_eq id) es ≡ o → nat_eq id q ≡ true
@@ -119,8 +114,8 @@ controls_no_mark es {begun} id permanent none = controls_marked es es id permane
 pub controls_temporary : (es : Entries) {fs : Entries} {begun : Option Begun} (id : ℕ) → IsDistinct nat_eq (keys_of es)
     → fs ≡ filter (λ (e : ℕ × Body). e.1.is_permanent) es → Controls (view es begun) (view fs begun) (control Temporary id)
 controls_temporary es {fs} {begun} id distinct kept = (
-  λ history h q. macro_view fs begun q ∙ ap (option_map macro_in) (left q) ∙ macros (lookup (nat_eq q) es)
-      ∙ ap if_permanent (sym (macro_view es begun q) ∙ h q),
+  λ q. macro_view fs begun q ∙ ap (option_map macro_in) (left q) ∙ macros (lookup (nat_eq q) es)
+      ∙ ap if_permanent (sym (macro_view es begun q)),
   refl,
 )
   where

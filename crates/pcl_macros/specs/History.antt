@@ -25,15 +25,17 @@ abbrev pub if_permanent : Option MacroBody → Option MacroBody
 if_permanent None = None
 if_permanent (Some body) = if body.permanent then Some body else None
 
+-- what an event makes of the body of an ID
+abbrev pub body_step : MacroEvent → ℕ → Option MacroBody → Option MacroBody
+body_step (defined of from to) id body =
+    if nat_eq of id then Some (record { from = from; to = to; permanent = false }) else body
+body_step (control All of) id body = None
+body_step (control Temporary of) id body = if_permanent body
+body_step (control One of) id body = if nat_eq of id then None else body
+body_step (control MakeTemporary of) id body = if nat_eq of id then option_map (with_permanent false) body else body
+body_step (control MakePermanent of) id body = if nat_eq of id then option_map (with_permanent true) body else body
+
 -- the body of an ID: that of the last definition of it which no later deletion reached
 abbrev pub body_after : List MacroEvent → ℕ → Option MacroBody
 body_after [] id = None
-body_after (defined of from to ∷ older) id =
-    if nat_eq of id then Some (record { from = from; to = to; permanent = false }) else body_after older id
-body_after (control All of ∷ older) id = None
-body_after (control Temporary of ∷ older) id = if_permanent (body_after older id)
-body_after (control One of ∷ older) id = if nat_eq of id then None else body_after older id
-body_after (control MakeTemporary of ∷ older) id =
-    if nat_eq of id then option_map (with_permanent false) (body_after older id) else body_after older id
-body_after (control MakePermanent of ∷ older) id =
-    if nat_eq of id then option_map (with_permanent true) (body_after older id) else body_after older id
+body_after (event ∷ older) id = body_step event id (body_after older id)

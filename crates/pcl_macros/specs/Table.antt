@@ -1,5 +1,5 @@
 -- What contracts see of a table of macros: the body of each ID, and the definition that is open.
-use Rattle.std.specs.Prelude.{◌≡◌, ℕ, Bool, true, false, nat_eq, List, map, ◌∷◌, Option, None, Some, is_some, Result, Ok, Err}
+use Rattle.std.specs.Prelude.{◌≡◌, ℕ, Bool, true, false, nat_eq, List, map, Option, None, Some, is_some, Result, Ok, Err}
 use Rattle.std.specs.Option.{option_map}
 use Rattle.std.specs.Map.{lookup}
 use Rattle.std.specs.declared.ops.Range.{Range}
@@ -7,7 +7,7 @@ use Rattle.indexmap.specs.IndexMap.{IsUnique}
 use Rattle.pcl_base.specs.declared.kind.Kind.TheVariants.{MacroControl}
 use Rattle.pcl_base.specs.declared.fault.CallFault.{CallFault}
 use Rattle.pcl_base.specs.declared.fault.CallFault.TheVariants.{Refused, Memory}
-use Rattle.pcl_macros.specs.History.{MacroEvent, MacroBody, defined, body_after}
+use Rattle.pcl_macros.specs.History.{MacroEvent, MacroBody, defined, if_permanent, body_step, body_after}
 use Rattle.pcl_macros.specs.declared.table.Body.{Body}
 use Rattle.pcl_macros.specs.declared.table.Definition.{Definition}
 use Rattle.pcl_macros.specs.declared.table.Macros.TheInside.{Inside}
@@ -32,9 +32,9 @@ is_begun table = is_some table.begun
 abbrev pub Holds : MacroTable → List MacroEvent → Type 0
 Holds table history = (id : ℕ) → macro_at table id ≡ body_after history id
 
--- a table that goes along with a history, and with one event more
+-- what an event makes of each macro
 abbrev pub Follows : MacroTable → MacroTable → MacroEvent → Type 0
-Follows old new event = (history : List MacroEvent) → Holds old history → Holds new (event ∷ history)
+Follows old new event = (id : ℕ) → macro_at new id ≡ body_step event id (macro_at old id)
 
 -- an event that leaves alone a definition that is open
 abbrev pub Controls : MacroTable → MacroTable → MacroEvent → Type 0
@@ -63,5 +63,10 @@ begun_in definition = record { id = definition.id; from = definition.from }
 abbrev pub table_view : Inside → MacroTable
 table_view a = record { bodies = map (λ e. (e.0, macro_in e.1)) a.bodies.entries; begun = option_map begun_in a.begun }
 
-abbrev pub IsMacroMap : Inside → Type 0
-IsMacroMap a = IsUnique nat_eq a.bodies
+-- a deletion of temporary macros leaves each macro
+abbrev pub ArePermanent : MacroTable → Type 0
+ArePermanent table = (id : ℕ) → if_permanent (macro_at table id) ≡ macro_at table id
+
+pub record IsMacroMap (a : Inside) : Type 0 where
+  pub unique : IsUnique nat_eq a.bodies
+  pub permanent : a.has_temporary ≡ false → ArePermanent (table_view a)

@@ -46,6 +46,8 @@ pub struct Definition {
 #[derive(Drop)]
 pub struct Macros {
     bodies: IndexMap<u16, Body>,
+    // Whether a macro may be temporary; else all are permanent.
+    has_temporary: bool,
     begun: Option<Definition>,
 }
 
@@ -56,7 +58,7 @@ impl Model for Macros {
 
     ghost view = { table_view };
 
-    // One body for an ID.
+    // One body for an ID, and whether one may be temporary.
     ghost invariant = { IsMacroMap };
 }
 
@@ -72,6 +74,7 @@ impl Macros {
     {
         Macros {
             bodies: IndexMap::new(alloc),
+            has_temporary: false,
             begun: None,
         }
     }
@@ -99,6 +102,7 @@ impl Macros {
         };
         match self.bodies.insert(definition.id, body) {
             Ok(_) => {
+                self.has_temporary = true;
                 self.begun = None;
                 Ok(())
             }
@@ -127,15 +131,19 @@ impl Macros {
         }
     }
 
-    /// Deletes the temporary macros.
+    /// Deletes the temporary macros. Where none was defined or made temporary since the last time, nothing is looked at.
     fn delete_temporary(&mut self)
         ensures { Controls self.old self.new (control MacroControl.Temporary 0) }
     {
+        if !self.has_temporary {
+            return;
+        }
         self.bodies.retain(
             |_id: &u16, body: &mut Body| -> bool
                 ensures { (result ≡ body.old.is_permanent) × (body.new ≡ body.old) }
             { body.is_permanent },
         );
+        self.has_temporary = false;
     }
 
     /// Deletes a macro.
@@ -150,9 +158,11 @@ impl Macros {
         ensures { Controls self.old self.new
             (control (if is_permanent then MacroControl.MakePermanent else MacroControl.MakeTemporary) id) }
     {
-        if let Some(body) = self.bodies.get_mut(&id) {
-            body.is_permanent = is_permanent;
-        }
+        let Some(body) = self.bodies.get_mut(&id) else {
+            return;
+        };
+        body.is_permanent = is_permanent;
+        self.has_temporary |= !is_permanent;
     }
 
     /// Whether a definition is open.

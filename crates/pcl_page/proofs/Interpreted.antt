@@ -24,6 +24,7 @@ use Rattle.pcl_macros.specs.declared.table.MacroControl.{MacroControl}
 use Rattle.pcl_macros.specs.declared.table.MacroControl.TheVariants.{Temporary}
 use Rattle.pcl_macros.specs.History.{MacroEvent, MacroBody, defined, control, body_after}
 use Rattle.pcl_macros.specs.Table.{MacroTable, Begun, Holds, Controls, HasEnd, macro_at, is_begun}
+use Rattle.pcl_macros.proofs.Histories.{holds_after}
 use Rattle.pcl_bitmap.specs.declared.page.Page.{Page}
 use Rattle.pcl_page.specs.declared.performer.Performer.{Performer}
 use Rattle.pcl_page.specs.declared.interpreter.Interpreter.{Interpreter}
@@ -197,9 +198,9 @@ counted_untried takes dpi place command s old new sink later Memory t =
 -- one event more
 pub event_done : {dpi : Dpi} {event : MacroEvent} {s : Situation} {old new : Interpreter} → IsAt dpi s old
     → new.performer ≡ old.performer → Controls old.macros new.macros event → IsAt dpi (record s { macros = event ∷ s.macros }) new
-event_done {dpi} {event} {s} {old} at same c = record {
+event_done {dpi} {event} {s} {old} {new} at same c = record {
   is_in = subst (λ (p : Performer). IsIn dpi (record s { macros = event ∷ s.macros }) p) (sym same) (in_same at.is_in);
-  macros = c.0 s.macros at.macros;
+  macros = holds_after old.macros new.macros event s.macros c.0 at.macros;
   begun = c.1 ∙ at.begun;
 }
   where
@@ -298,7 +299,7 @@ end_acted {dpi} place {s} {old} new (Ok unit) at same run h =
           fonts = at.is_in.fonts;
           painted = at.is_in.painted;
         });
-        macros = h.2 s.macros at.macros;
+        macros = holds_after old.macros new.macros (defined d.id d.from place) s.macros h.2 at.macros;
         begun = h.3;
       },
       (items_same old new run ∙ sym (append-nil old.running.items), tt),

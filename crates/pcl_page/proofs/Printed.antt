@@ -11,6 +11,7 @@ use Rattle.pcl_fonts.specs.Fields.{Font, Character}
 use Rattle.pcl_fonts.specs.declared.header.FontInfo.{FontInfo}
 use Rattle.pcl_fonts.specs.History.{FontEvent}
 use Rattle.pcl_fonts.specs.Table.{info_of}
+use Rattle.pcl_fonts.proofs.Histories.{holds_after}
 use Rattle.pcl_env.specs.Settings.{Settings, put_x, advance, font_of, font_in_use}
 use Rattle.pcl_page.specs.declared.performer.Performer.{Performer}
 use Rattle.pcl_page.specs.Text.{prints, character_mark, is_blank, is_proportional, text_refusal, behind_character, behind_blank}
@@ -21,13 +22,13 @@ use Rattle.pcl_page.proofs.Turns.{painted_same, holds_same, drawn_in}
 
 pub event_in : {dpi : Dpi} {event : FontEvent} {s : Situation} {old new : Performer} → IsIn dpi s old → HasEvent event old new
     → IsIn dpi (with_event event s) new
-event_in {s} i h = record {
+event_in i h = record {
   settings = h.settings ∙ i.settings;
   raster = h.raster ∙ i.raster;
   marked = h.marked ∙ i.marked;
   ejected = h.ejected ∙ i.ejected;
   performed = h.performed ∙ i.performed;
-  fonts = h.follows s.fonts i.fonts;
+  fonts = holds_after h.follows i.fonts;
   painted = painted_same i.painted h.bitmap refl;
 }
 

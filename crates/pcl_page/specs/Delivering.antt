@@ -1,5 +1,5 @@
 -- What a sink is handed of a job, and how a job is refused.
-use Rattle.std.specs.Prelude.{◌≡◌, ◌+◌, List, [], ◌∷◌, ◌++◌, Some, None, Result, Ok, Err, ℕ, ◌⊎◌}
+use Rattle.std.specs.Prelude.{◌≡◌, List, [], ◌∷◌, ◌++◌, Some, None, Result, Ok, Err, ℕ, ◌⊎◌}
 use Rattle.std.specs.Global.{Vec}
 use Rattle.pcl_base.specs.declared.dpi.Dpi.{Dpi}
 use Rattle.pcl_base.specs.declared.fault.JobFault.{JobFault}

@@ -28,7 +28,7 @@ control_with number =
     if number == 0 then fonts.All
     else (if number == 1 then fonts.Temporary
     else (if number == 2 then fonts.One
-    else (if number == 3 then fonts.OneCharacter
+    else (if number == 3 then fonts.Character
     else (if number == 4 then fonts.MakeTemporary else fonts.MakePermanent))))
 
 -- a selection of a font that isn't there does nothing

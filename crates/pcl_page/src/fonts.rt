@@ -78,7 +78,7 @@ fn control_with(value: Value) -> FontControl
         0 => FontControl::All,
         1 => FontControl::Temporary,
         2 => FontControl::One,
-        3 => FontControl::OneCharacter,
+        3 => FontControl::Character,
         4 => FontControl::MakeTemporary,
         _ => FontControl::MakePermanent,
     }

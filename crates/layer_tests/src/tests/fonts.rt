@@ -117,12 +117,7 @@ const CONTROLS: [(FontControl, u16, bool, [bool; 4]); 8] = [
     (FontControl::Temporary, 1, false, [false, false, true, true]),
     (FontControl::One, 2, false, [true, true, false, false]),
     (FontControl::One, 3, false, [true, true, true, true]),
-    (
-        FontControl::OneCharacter,
-        1,
-        false,
-        [true, false, true, true],
-    ),
+    (FontControl::Character, 1, false, [true, false, true, true]),
     (
         FontControl::MakeTemporary,
         2,

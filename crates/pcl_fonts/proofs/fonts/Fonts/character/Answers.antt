@@ -3,7 +3,8 @@ use Rattle.pcl_base.specs.declared.kind.Kind.TheVariants.{CharacterData}
 use Rattle.pcl_base.specs.declared.fault.CallFault.TheVariants.{Refused}
 use Rattle.std.specs.Map.{lookup}
 use Rattle.pcl_fonts.specs.declared.fonts.Entry.{Entry}
-use Rattle.pcl_fonts.proofs.Tables.{writes_of, view, character_dropped, character_refused, character_taken, written_same}
+use Rattle.pcl_fonts.proofs.Permanent.{permanent_same}
+use Rattle.pcl_fonts.proofs.Tables.{written_font, writes_of, view, character_dropped, character_refused, character_taken, written_same}
 use Rattle.pcl_fonts.specs.Table.{FontTable, HasCharacter}
 use Rattle.pcl_fonts.proofs.fonts.Fonts.character.Goals as goal
 use Rattle.pcl_fonts.proofs.fonts.Fonts.character.Goals.{in-Ok, in-Err}
@@ -26,8 +27,24 @@ returns-in_default-read c =
     c.self.view_is
     (character_refused c.args.code c.args.bytes.now w (λ q. refl) c.in_default-read.ensures)
 
+pub invariant_of-self-in_default-read : goal.invariant_of-self-in_default-read
+invariant_of-self-in_default-read c =
+    let e = c.in-Some.entry.now in
+    let w = writes_of (sym c.in-Some.ensures.value) (c.get_mut.follows.holds e) refl in
+    record {
+      unique = (c.get_mut.follows.holds e).4;
+      permanent = λ none. permanent_same _ _ (written_font w) (c.self.invariant.permanent none);
+    }
+
 pub invariant_of-self-2 : goal.invariant_of-self-2
-invariant_of-self-2 c = (c.get_mut.follows.holds _).4
+invariant_of-self-2 c =
+    let e = c.in-Some.entry.now in
+    let f : Entry = record { info = e.info; font_type = e.font_type; is_permanent = e.is_permanent; characters = c.insert.new.self } in
+    let w = writes_of (sym c.in-Some.ensures.value) (c.get_mut.follows.holds f) refl in
+    record {
+      unique = (c.get_mut.follows.holds f).4;
+      permanent = λ none. permanent_same _ _ (written_font w) (c.self.invariant.permanent none);
+    }
 
 pub returns : goal.returns
 returns c =
