@@ -317,7 +317,7 @@ fn counts_of(text: &str) -> Result<(usize, usize), TableFault> {
 /// What the program prints at its end, help and the version too.
 fn text_of(alloc: Global, ended: &Result<Ending, Error>) -> Result<String, AllocError> {
     Ok(match ended {
-        Ok(Ending::Done | Ending::Checked(_)) => String::new(alloc),
+        Ok(Ending::Done | Ending::Checked(_) | Ending::Compared(_)) => String::new(alloc),
         Ok(Ending::Failed { line, .. }) => String::from_utf8_lossy(alloc, line)?,
         Ok(Ending::NoMemory) => String::from_str(alloc, "pclmin: out of memory\n")?,
         Err(error) => format!(in alloc; "{error}")?,

@@ -2,4 +2,6 @@ pub mod Messages
 pub mod Verdicts
 pub mod Files
 pub mod Checks
+pub mod ComparisonLines
+pub mod Comparisons
 pub mod Runs

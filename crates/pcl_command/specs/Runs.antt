@@ -11,14 +11,18 @@ use Rattle.pcl_tool.specs.Transfer.{GivesAtMost}
 use Rattle.pcl_command.specs.Messages.{line_of, status_for}
 use Rattle.pcl_command.specs.Files.{FileAct, Made, Unmade, Closed}
 use Rattle.pcl_command.specs.Checks.{IsCheckRun, verdict_status_for}
+use Rattle.pcl_command.specs.ComparisonLines.{compare_line_of, compare_status_for, comparison_status_for}
+use Rattle.pcl_command.specs.Comparisons.{IsCompareRun}
+use Rattle.pcl_command.specs.declared.comparisons.CompareFault.{CompareFault}
 use Rattle.pcl_command.specs.declared.request.Task.{Task}
 use Rattle.pcl_command.specs.declared.request.Task.TheVariants.{Minimize, Certify, Preview}
 use Rattle.pcl_command.specs.declared.request.Usage.{Usage}
 use Rattle.pcl_command.specs.declared.request.CheckedFiles.{CheckedFiles}
+use Rattle.pcl_command.specs.declared.request.ComparedFiles.{ComparedFiles}
 use Rattle.pcl_command.specs.declared.request.Request.{Request}
-use Rattle.pcl_command.specs.declared.request.Request.TheVariants.{Run, Check}
+use Rattle.pcl_command.specs.declared.request.Request.TheVariants.{Run, Check, Compare}
 use Rattle.pcl_command.specs.declared.running.Ending.{Ending}
-use Rattle.pcl_command.specs.declared.running.Ending.TheVariants.{Done, Checked, Failed, NoMemory}
+use Rattle.pcl_command.specs.declared.running.Ending.TheVariants.{Done, Checked, Compared, Failed, NoMemory}
 
 -- the page that is asked for, 0 where none is
 abbrev pub page_of : Task → ℕ
@@ -59,39 +63,57 @@ abbrev pub HasDone : {F : Type 0} → (F → FileAct → F → Type 0) → Usage
     → Result (Unit {0}) Fault → Type 0
 HasDone acts usage files kept given left old new done = HasDoneTask acts usage.task usage.dpi files kept given left old new done
 
--- the end of a run that failed
-abbrev pub HasFailed : Fault → ℕ → Ending → Type 0
-HasFailed fault page (Failed line status) = (line.items ≡ line_of fault page) × (status ≡ status_for fault)
-HasFailed fault page NoMemory = Unit {0}
-HasFailed fault page Done = ⊥
-HasFailed fault page (Checked verdict) = ⊥
+-- the end of a run that failed: what is said of it, and the status
+abbrev pub HasFailed : List ℕ → ℕ → Ending → Type 0
+HasFailed said code (Failed line status) = (line.items ≡ said) × (status ≡ code)
+HasFailed said code NoMemory = Unit {0}
+HasFailed said code Done = ⊥
+HasFailed said code (Checked verdict) = ⊥
+HasFailed said code (Compared comparison) = ⊥
 
 -- how a run ends, by what it read and wrote
 abbrev pub HasRun : {F : Type 0} → (F → FileAct → F → Type 0) → Usage → (files kept : F) → (given left old new : Option (List ℕ))
     → Ending → Type 0
 HasRun acts usage files kept given left old new Done = HasDone acts usage files kept given left old new (Ok tt)
 HasRun acts usage files kept given left old new (Checked verdict) = ⊥
+HasRun acts usage files kept given left old new (Compared comparison) = ⊥
 HasRun acts usage files kept given left old new failed =
-    (fault : Fault) × HasDone acts usage files kept given left old new (Err fault) × HasFailed fault (page_of usage.task) failed
+    (fault : Fault) × HasDone acts usage files kept given left old new (Err fault)
+    × HasFailed (line_of fault (page_of usage.task)) (status_for fault) failed
 
 -- how a check ends: no file was made, and nothing was read of the reader
 abbrev pub HasChecked : {F : Type 0} → (F → FileAct → F → Type 0) → CheckedFiles → (files kept : F)
     → (given left old new : Option (List ℕ)) → Ending → Type 0
 HasChecked acts asked files kept given left old new Done = ⊥
+HasChecked acts asked files kept given left old new (Compared comparison) = ⊥
 HasChecked acts asked files kept given left old new (Checked verdict) =
     (kept ≡ files) × (left ≡ given) × IsCheckRun acts files asked old new (Ok verdict)
 HasChecked acts asked files kept given left old new failed =
-    (fault : Fault) × (kept ≡ files) × (left ≡ given) × IsCheckRun acts files asked old new (Err fault) × HasFailed fault 0 failed
+    (fault : Fault) × (kept ≡ files) × (left ≡ given) × IsCheckRun acts files asked old new (Err fault)
+    × HasFailed (line_of fault 0) (status_for fault) failed
+
+-- how a comparison ends: no file was made, and nothing was read of the reader
+abbrev pub HasCompared : {F : Type 0} → (F → FileAct → F → Type 0) → ComparedFiles → (files kept : F)
+    → (given left old new : Option (List ℕ)) → Ending → Type 0
+HasCompared acts asked files kept given left old new Done = ⊥
+HasCompared acts asked files kept given left old new (Checked verdict) = ⊥
+HasCompared acts asked files kept given left old new (Compared comparison) =
+    (kept ≡ files) × (left ≡ given) × IsCompareRun acts files asked old new (Ok comparison)
+HasCompared acts asked files kept given left old new failed =
+    (fault : CompareFault) × (kept ≡ files) × (left ≡ given) × IsCompareRun acts files asked old new (Err fault)
+    × HasFailed (compare_line_of fault) (compare_status_for fault) failed
 
 -- how what was asked for ends, by what it did with files, read and wrote
 abbrev pub HasEnded : {F : Type 0} → (F → FileAct → F → Type 0) → Request → (files kept : F) → (given left old new : Option (List ℕ))
     → Ending → Type 0
 HasEnded acts (Run usage) files kept given left old new ending = HasRun acts usage files kept given left old new ending
 HasEnded acts (Check asked) files kept given left old new ending = HasChecked acts asked files kept given left old new ending
+HasEnded acts (Compare asked) files kept given left old new ending = HasCompared acts asked files kept given left old new ending
 
 -- the status of the program; 3 where memory ran out
 abbrev pub IsStatus : Ending → ℕ → Type 0
 IsStatus Done status = status ≡ 0
 IsStatus (Checked verdict) status = status ≡ verdict_status_for verdict
+IsStatus (Compared comparison) status = status ≡ comparison_status_for comparison
 IsStatus (Failed line code) status = status ≡ code
 IsStatus NoMemory status = status ≡ 3

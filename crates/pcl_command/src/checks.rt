@@ -1,5 +1,6 @@
 //! A check: a written job beside its input, by a certificate, each from a file.
 
+ghost use Rattle.pcl_tool.specs.Transfer.{IsWritten};
 ghost use Rattle.pcl_command.specs.Checks.{IsCheckRun, IsFileRead};
 
 use crate::files::JobFiles;
@@ -11,7 +12,7 @@ use std::io::Write;
 
 /// Reads the files, the input first, checks the job, and writes the line of the answer; the watcher is told of each page that is
 /// done, and that the last one is before the line is written. Nothing is written after any fault but of a write, and then a
-/// front of the line.
+/// prefix of the line.
 pub fn check<F: JobFiles, W: Write, P: Watcher>(
     files: &F,
     alloc: Global,
@@ -26,15 +27,23 @@ pub fn check<F: JobFiles, W: Write, P: Watcher>(
     let certificate = read_file(files, alloc, asked.certificate)?;
     let verdict = check_job_watched(alloc, &input, &output, &certificate, asked.dpi, watcher)?;
     let line = verdict_line(alloc, &verdict)?;
-    write_bytes(out, &line)?;
+    write_line(out, &line)?;
+    Ok(verdict)
+}
+
+/// Writes a line, and flushes. After a fault a prefix of it was written.
+pub fn write_line<W: Write>(out: &mut W, line: &[u8]) -> Result<(), Fault>
+    ensures { IsWritten (W.contents out.old) (W.contents out.new) line.now result }
+{
+    write_bytes(out, line)?;
     match out.flush() {
-        Ok(()) => Ok(verdict),
+        Ok(()) => Ok(()),
         Err(_) => Err(Fault::WriteFault),
     }
 }
 
 /// The bytes of the file of a name. ReadFault comes too where it can't be opened.
-fn read_file<F: JobFiles>(files: &F, alloc: Global, name: &str) -> Result<Vec<u8>, Fault>
+pub fn read_file<F: JobFiles>(files: &F, alloc: Global, name: &str) -> Result<Vec<u8>, Fault>
     ensures { IsFileRead F.acts files.now name.now result }
 {
     match files.open(name) {

@@ -2,6 +2,8 @@
 #![tactic(auto)]
 
 mod checks;
+mod comparison_lines;
+mod comparisons;
 mod files;
 mod messages;
 mod request;
@@ -10,6 +12,6 @@ mod verdicts;
 
 pub use files::JobFiles;
 pub use messages::{fault_line, status_of};
-pub use request::{CheckedFiles, Request, Task, Usage, resolution};
+pub use request::{CheckedFiles, ComparedFiles, Request, Task, Usage, resolution};
 pub use running::{Ending, carry_out};
 pub use verdicts::{verdict_line, verdict_status};

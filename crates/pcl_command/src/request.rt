@@ -56,6 +56,17 @@ pub struct CheckedFiles<'w> {
     pub quiet: bool,
 }
 
+/// What is compared: the names of the files of two jobs, and the resolution.
+#[derive(Clone, Copy)]
+pub struct ComparedFiles<'w> {
+    /// The file of the one job.
+    pub first: &'w str,
+    /// The file of the other.
+    pub second: &'w str,
+    /// The resolution.
+    pub dpi: Dpi,
+}
+
 /// What the program is asked for.
 #[derive(Clone, Copy)]
 pub enum Request<'w> {
@@ -63,6 +74,8 @@ pub enum Request<'w> {
     Run(Usage<'w>),
     /// The check of a written job.
     Check(CheckedFiles<'w>),
+    /// The comparison of two jobs.
+    Compare(ComparedFiles<'w>),
 }
 
 /// The resolution of so many dots per inch.

@@ -1,15 +1,20 @@
 //! A run: what is asked for is done, over any reader and writer.
 
 ghost use Rattle.std.specs.Prelude.{◌≡◌, if◌then◌else◌, None, Some};
+ghost use Rattle.pcl_command.specs.Messages.{line_of, status_for};
+ghost use Rattle.pcl_command.specs.ComparisonLines.{compare_line_of, compare_status_for};
 ghost use Rattle.pcl_command.specs.Runs.{HasDone, HasEnded, HasFailed, IsCertifyRun, IsPreviewRun, IsStatus};
 
 use crate::checks::check;
+use crate::comparison_lines::{compare_fault_line, compare_status_of, comparison_status};
+use crate::comparisons::{CompareFault, compare};
 use crate::files::JobFiles;
 use crate::messages::{MEMORY_STATUS, fault_line, status_of};
 use crate::request::{Request, Task, Usage};
 use crate::verdicts::verdict_status;
 use pcl_base::Dpi;
 use pcl_cert::Format;
+use pcl_same::Comparison;
 use pcl_tool::{
     Fault, INPUT_LIMIT, JobVerdict, Watcher, filter_cert_watched, filter_watched, preview, read_all,
 };
@@ -23,6 +28,8 @@ pub enum Ending {
     Done,
     /// A job was checked, and the line of this answer was written.
     Checked(JobVerdict),
+    /// Two jobs were compared, and the line of this comparison was written.
+    Compared(Comparison),
     /// It failed: the line for standard error, with its line feed, and the status.
     Failed { line: Vec<u8>, status: u8 },
     /// Memory ran out, for the line of a fault too.
@@ -37,6 +44,7 @@ impl Ending {
         match self {
             Ending::Done => 0,
             Ending::Checked(verdict) => verdict_status(verdict),
+            Ending::Compared(comparison) => comparison_status(comparison),
             Ending::Failed { status, .. } => *status,
             Ending::NoMemory => MEMORY_STATUS,
         }
@@ -71,6 +79,10 @@ pub fn carry_out<F: JobFiles, R: Read, W: Write, P: Watcher>(
                 Err(fault) => failed(alloc, &fault, 0),
             }
         }
+        Request::Compare(asked) => match compare(files, alloc, asked, out) {
+            Ok(comparison) => Ending::Compared(comparison),
+            Err(fault) => not_compared(alloc, &fault),
+        },
     }
 }
 
@@ -139,9 +151,22 @@ fn show<R: Read, W: Write>(
     preview(alloc, &job, page, dpi, out)
 }
 
+/// The end of a comparison that failed.
+fn not_compared(alloc: Global, fault: &CompareFault) -> Ending
+    ensures { HasFailed (compare_line_of fault.now) (compare_status_for fault.now) result }
+{
+    match compare_fault_line(alloc, fault) {
+        Ok(line) => Ending::Failed {
+            line,
+            status: compare_status_of(fault),
+        },
+        Err(_) => Ending::NoMemory,
+    }
+}
+
 /// The end of a run that failed.
 fn failed(alloc: Global, fault: &Fault, page: usize) -> Ending
-    ensures { HasFailed fault.now page result }
+    ensures { HasFailed (line_of fault.now page) (status_for fault.now) result }
 {
     match fault_line(alloc, fault, page) {
         Ok(line) => Ending::Failed {

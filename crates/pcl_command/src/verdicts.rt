@@ -2,7 +2,7 @@
 
 ghost use Rattle.std.specs.Prelude.{◌≡◌, ◌++◌, IfOk, OnOk};
 ghost use Rattle.pcl_command.specs.Checks.{verdict_status_for};
-ghost use Rattle.pcl_command.specs.Verdicts.{fault_text, numbers_text, verdict_text, job_text, verdict_line_of};
+ghost use Rattle.pcl_command.specs.Verdicts.{fault_text, numbers_text, verdict_text, page_text, job_text, verdict_line_of};
 
 use itoa::Buffer;
 use pcl_base::Method;
@@ -32,13 +32,20 @@ fn append_job(verdict: JobVerdict, line: &mut Vec<u8>) -> Result<(), AllocError>
         JobVerdict::PageCount => line.extend_from_slice(b"not proved: page count"),
         JobVerdict::Frame => line.extend_from_slice(b"not proved: frame"),
         JobVerdict::Page { page, verdict } => {
-            line.extend_from_slice(b"not proved: page ")?;
-            line.extend_from_slice(Buffer::new().format(page).as_bytes())?;
-            line.extend_from_slice(b": ")?;
+            append_page(b"not proved: page ", page, line)?;
             append_verdict(verdict, line)
         }
         JobVerdict::Proved => line.extend_from_slice(b"proved"),
     }
+}
+
+/// Appends a label and the number of a page, of which something is said.
+pub fn append_page(label: &[u8], number: usize, line: &mut Vec<u8>) -> Result<(), AllocError>
+    ensures { OnOk result (line.new.items ≡ line.old.items ++ page_text label.now number) }
+{
+    line.extend_from_slice(label)?;
+    line.extend_from_slice(Buffer::new().format(number).as_bytes())?;
+    line.extend_from_slice(b": ")
 }
 
 /// Appends what is said of a page.

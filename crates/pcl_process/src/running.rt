@@ -46,7 +46,7 @@ fn arguments(rt: &HostRuntime) -> Result<Option<Vec<String>>, AllocError> {
 /// Prints what is left to be printed, and answers the status. What standard error doesn't take is lost.
 fn end(rt: &(impl Print + Eprint), ended: &Result<Ending, Error>) -> u8 {
     match ended {
-        Ok(Ending::Done | Ending::Checked(_)) => {}
+        Ok(Ending::Done | Ending::Checked(_) | Ending::Compared(_)) => {}
         Ok(Ending::Failed { line, .. }) => {
             if let Ok(text) = std::str::from_utf8(line) {
                 let _ = rt.eprint(text);

@@ -3,7 +3,7 @@
 use clap::error::ErrorKind;
 use clap::{Arg, ArgAction, ArgMatches, Command, Error, value_parser};
 use pcl_cert::Format;
-use pcl_command::{CheckedFiles, Request, Task, Usage, resolution};
+use pcl_command::{CheckedFiles, ComparedFiles, Request, Task, Usage, resolution};
 use std::alloc::{AllocError, Global};
 use std::convert::AsStr;
 
@@ -28,6 +28,7 @@ fn wrong_resolution(alloc: Global) -> Result<Error, AllocError> {
 fn request_of<'w>(matches: &ArgMatches<'w>) -> Option<Request<'w>> {
     match matches.subcommand()? {
         ("check", check) => Some(Request::Check(checked_files(check)?)),
+        ("same", same) => Some(Request::Compare(compared_files(same)?)),
         (name, command) => Some(Request::Run(usage_of(name, command)?)),
     }
 }
@@ -53,6 +54,15 @@ fn checked_files<'w>(check: &ArgMatches<'w>) -> Option<CheckedFiles<'w>> {
     })
 }
 
+/// What the words of `same` ask for.
+fn compared_files<'w>(same: &ArgMatches<'w>) -> Option<ComparedFiles<'w>> {
+    Some(ComparedFiles {
+        first: same.get_str("A")?,
+        second: same.get_str("B")?,
+        dpi: resolution(same.get_one::<u16>("dpi")?)?,
+    })
+}
+
 /// What the words after `min` ask for.
 fn min_task<'w>(min: &ArgMatches<'w>) -> Task<'w> {
     let format = match min.get_one::<u16>("format") {
@@ -75,6 +85,7 @@ fn preview_task<'w>(pbm: &ArgMatches<'w>) -> Option<Task<'w>> {
 /// The program's command line.
 fn pclmin<'a>(alloc: Global) -> Result<Command<'a>, AllocError> {
     let command = program(alloc).subcommand(min(alloc)?)?;
+    let command = command.subcommand(same(alloc)?)?;
     command.subcommand(check(alloc)?)?.subcommand(pbm(alloc)?)
 }
 
@@ -84,7 +95,7 @@ fn program<'a>(alloc: Global) -> Command<'a> {
         .version("0.1.0")
         .about("A print filter for HP PCL 5: reads a job, and writes or shows what it prints.")
         .after_help(
-            "Statuses: 0 done or proved, 1 the job is refused, has no such page or isn't proved, 2 usage, 3 reading, writing or memory.",
+            "Statuses: 0 done, proved or the same, 1 refused, no such page, not proved or not the same, 2 usage, 3 reading, writing or memory.",
         )
         .subcommand_required(true)
         .arg_required_else_help(true)
@@ -125,6 +136,15 @@ fn check<'a>(alloc: Global) -> Result<Command<'a>, AllocError> {
         .arg(file(alloc, "OUT", "The job that it was written as"))?
         .arg(file(alloc, "CERT", "The certificate of the written job"))?;
     of_every_run(alloc, command)
+}
+
+/// The command that compares two jobs.
+fn same<'a>(alloc: Global) -> Result<Command<'a>, AllocError> {
+    Command::new(alloc, "same")
+        .about("Tells whether two jobs print the same pages, and where not")
+        .arg(file(alloc, "A", "The one job"))?
+        .arg(file(alloc, "B", "The other job"))?
+        .arg(dpi(alloc))
 }
 
 /// A command with what those that run over whole jobs take.

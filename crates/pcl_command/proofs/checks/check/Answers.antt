@@ -14,6 +14,7 @@ use Rattle.pcl_command.specs.declared.request.CheckedFiles.{CheckedFiles}
 use Rattle.pcl_command.specs.Files.{FileAct}
 use Rattle.pcl_command.specs.Verdicts.{verdict_line_of}
 use Rattle.pcl_command.specs.Checks.{AreRead, IsAnswer, IsCheckRun, IsFileRead, IsUnread}
+use Rattle.pcl_command.proofs.FileReads.{read_fault}
 use Rattle.pcl_command.proofs.checks.check.Goals as goal
 
 -- a write of the line that fails
@@ -27,16 +28,6 @@ stops old new verdict line ReadFault a e w = absurd w
 stops old new verdict line TooLong a e w = absurd w
 stops old new verdict line NoSuchPage a e w = absurd w
 
--- a read that can't come of a file
-abbrev IsFailedRead : Result (Vec ℕ) Fault → Type 0
-IsFailedRead (Err ReadFault) = Unit {0}
-IsFailedRead (Err (Refused refusal)) = ⊥
-IsFailedRead (Err Memory) = ⊥
-IsFailedRead (Err TooLong) = ⊥
-IsFailedRead (Err WriteFault) = ⊥
-IsFailedRead (Err NoSuchPage) = ⊥
-IsFailedRead (Ok bytes) = ⊥
-
 -- the first of the files that can't be read
 unread : {F : Type 0} (acts : F → FileAct → F → Type 0) {files : F} (asked : CheckedFiles) (name : List ℕ) (held : Option (List ℕ))
     (fault : Fault) → IsFileRead acts files name (Err fault) → IsUnread acts files asked fault
@@ -44,12 +35,9 @@ unread : {F : Type 0} (acts : F → FileAct → F → Type 0) {files : F} (asked
 unread acts asked name held ReadFault r u = (u, Keeps-refl held)
 unread acts asked name held TooLong r u = (u, Keeps-refl held)
 unread acts asked name held Memory r u = Keeps-refl held
-unread acts asked name held (Refused refusal) (inl r) u = absurd (subst IsFailedRead (sym r.1) tt)
-unread acts asked name held (Refused refusal) (inr r) u = absurd r.3
-unread acts asked name held WriteFault (inl r) u = absurd (subst IsFailedRead (sym r.1) tt)
-unread acts asked name held WriteFault (inr r) u = absurd r.3
-unread acts asked name held NoSuchPage (inl r) u = absurd (subst IsFailedRead (sym r.1) tt)
-unread acts asked name held NoSuchPage (inr r) u = absurd r.3
+unread acts asked name held (Refused refusal) r u = absurd (read_fault acts _ name (Refused refusal) r)
+unread acts asked name held WriteFault r u = absurd (read_fault acts _ name WriteFault r)
+unread acts asked name held NoSuchPage r u = absurd (read_fault acts _ name NoSuchPage r)
 
 -- the same answer of the same bytes
 checked_of : (dpi : Dpi) (result : Result JobVerdict Fault) {i o k input output certificate : List ℕ} → i ≡ input → o ≡ output
@@ -112,38 +100,21 @@ returns-in_err-verdict g c =
     (checked_of c.args.asked.dpi (Err c.in_err-verdict.field-0.0) c.deref.ensures.value c.deref-2.ensures.value c.deref-3.ensures.value
     c.in_err-verdict.ensures))
 
-pub returns-in_err-write_bytes : goal.returns-in_err-write_bytes
-returns-in_err-write_bytes g c =
-    let p = err_from_is_err_and c.from_residual-in_err-write_bytes.result c.from_residual-in_err-write_bytes.ensures.1 in
+pub returns-in_err-write_line : goal.returns-in_err-write_line
+returns-in_err-write_line g c =
+    let p = err_from_is_err_and c.from_residual-in_err-write_line.result c.from_residual-in_err-write_line.ensures.1 in
     rw (p.1, p.2)
-    (stops _ _ c.in_ok-verdict.verdict c.deref-4.result.now c.in_err-write_bytes.field-0.0
+    (stops _ _ c.in_ok-verdict.verdict c.deref-4.result.now c.in_err-write_line.field-0.0
     (answered c.args.asked _ _ _ c.in_ok-verdict.verdict
     (read_of c.in_ok-input.ensures c.in_ok-output.ensures c.in_ok-certificate.ensures)
     c.deref.ensures.value c.deref-2.ensures.value c.deref-3.ensures.value c.in_ok-verdict.ensures)
-    (c.deref-4.ensures.value ∙ c.in_ok-line.ensures) c.in_err-write_bytes.ensures)
-
-pub returns-in-Ok : goal.returns-in-Ok
-returns-in-Ok g c = (
-  answered c.args.asked _ _ _ c.in_ok-verdict.verdict
-      (read_of c.in_ok-input.ensures c.in_ok-output.ensures c.in_ok-certificate.ensures)
-      c.deref.ensures.value c.deref-2.ensures.value c.deref-3.ensures.value c.in_ok-verdict.ensures,
-  Appends-kept _ _ _ (verdict_line_of c.in_ok-verdict.verdict)
-      (subst (Appends (g.W.Write.contents c.args.out.now) (g.W.Write.contents c.write_bytes.new.out))
-      (c.deref-4.ensures.value ∙ c.in_ok-line.ensures) c.in_ok-write_bytes.ensures) c.in-Ok.ensures.bytes,
-)
+    (c.deref-4.ensures.value ∙ c.in_ok-line.ensures) c.in_err-write_line.ensures)
 
 pub returns : goal.returns
 returns g c = (
-  c.in_ok-verdict.verdict,
   answered c.args.asked _ _ _ c.in_ok-verdict.verdict
       (read_of c.in_ok-input.ensures c.in_ok-output.ensures c.in_ok-certificate.ensures)
       c.deref.ensures.value c.deref-2.ensures.value c.deref-3.ensures.value c.in_ok-verdict.ensures,
-  (
-    verdict_line_of c.in_ok-verdict.verdict,
-    [],
-    sym (append-nil (verdict_line_of c.in_ok-verdict.verdict)),
-    Appends-kept _ _ _ (verdict_line_of c.in_ok-verdict.verdict)
-        (subst (Appends (g.W.Write.contents c.args.out.now) (g.W.Write.contents c.write_bytes.new.out))
-        (c.deref-4.ensures.value ∙ c.in_ok-line.ensures) c.in_ok-write_bytes.ensures) c.in-Err.ensures.bytes,
-  ),
+  subst (Appends (g.W.Write.contents c.args.out.now) (g.W.Write.contents c.write_line.new.out))
+      (c.deref-4.ensures.value ∙ c.in_ok-line.ensures) c.in_ok-write_line.ensures,
 )

@@ -1,8 +1,8 @@
 use Rattle.std.proofs.Common.{◌≡◌, ◌∙◌, ◌++◌, List, ℕ, Result, Ok, Err, sym, ap, subst, append_assoc}
-use Rattle.std.specs.Prelude.{OnOk, is_ok, if◌then◌else◌, decimal, codes}
-use Rattle.std.proofs.lemmas.Result.{on_ok_weaker}
+use Rattle.std.specs.Prelude.{OnOk, is_ok, if◌then◌else◌, codes}
 use Rattle.pcl_tool.specs.declared.job_verdict.JobVerdict.{JobVerdict}
-use Rattle.pcl_command.specs.Verdicts.{fault_text, verdict_text, job_text}
+use Rattle.pcl_command.specs.Verdicts.{fault_text, verdict_text, page_text, job_text}
+use Rattle.pcl_command.proofs.Appended.{then_appended}
 use Rattle.pcl_command.proofs.verdicts.append_job.Goals as goal
 
 appended : {T E : Type 0} (result : Result T E) (old new text : List ℕ) → new ≡ (if is_ok result then old ++ text else old)
@@ -15,11 +15,6 @@ behind : {T E : Type 0} (result : Result T E) (old middle new first second text 
 behind (Ok x) old middle new first second text p e q =
     e ∙ ap (λ (m : List ℕ). m ++ second) p ∙ append_assoc old first second ∙ ap (λ (t : List ℕ). old ++ (first ++ t)) q
 behind (Err x) old middle new first second text p e q = tt
-
-three : (old m n k a b text c : List ℕ) → m ≡ old ++ a → n ≡ m ++ b → b ≡ text → k ≡ n ++ c → k ≡ old ++ (a ++ text ++ c)
-three old m n k a b text c p q e r =
-    r ∙ ap (λ (t : List ℕ). t ++ c) (q ∙ ap (λ (t : List ℕ). t ++ b) p ∙ append_assoc old a b ∙ ap (λ (t : List ℕ). old ++ (a ++ t)) e)
-    ∙ append_assoc old (a ++ text) c
 
 pub returns-in-PageCount : goal.returns-in-PageCount
 returns-in-PageCount c =
@@ -44,18 +39,9 @@ returns-in_ok-extend_from_slice-in-Certificate c =
     (fault_text c.in-Certificate.fault) c.in_ok-extend_from_slice-in-Certificate.ensures.items
     c.extend_from_slice-in-Certificate.ensures.items c.fault_name.ensures)
 
-pub returns-in_ok-extend_from_slice-in-Page-3 : goal.returns-in_ok-extend_from_slice-in-Page-3
-returns-in_ok-extend_from_slice-in-Page-3 c =
-    let old = c.args.line.now.items in
-    let written = c.extend_from_slice-in-Page-3.new.self.items in
-    let number : c.as_bytes.result.now ≡ decimal c.in-Page.page = cc (c.as_bytes.ensures.value, c.format.ensures.text) in
-    let before : written ≡ old ++ (codes "not proved: page " ++ decimal c.in-Page.page ++ codes ": ") =
-    three old c.extend_from_slice-in-Page.new.self.items c.extend_from_slice-in-Page-2.new.self.items written
-    (codes "not proved: page ") c.as_bytes.result.now (decimal c.in-Page.page) (codes ": ")
-    c.in_ok-extend_from_slice-in-Page.ensures.items c.in_ok-extend_from_slice-in-Page-2.ensures.items number
-    c.in_ok-extend_from_slice-in-Page-3.ensures.items in
-    let said = verdict_text c.in-Page.verdict in
-    subst (λ (v : JobVerdict). OnOk c.append_verdict.result (c.append_verdict.new.line.items ≡ old ++ job_text v)) (sym c.in-Page.is)
-    (on_ok_weaker c.append_verdict.result (λ (e : c.append_verdict.new.line.items ≡ written ++ said).
-    e ∙ ap (λ (t : List ℕ). t ++ said) before
-    ∙ append_assoc old (codes "not proved: page " ++ decimal c.in-Page.page ++ codes ": ") said) c.append_verdict.ensures)
+pub returns-in_ok-append_page-in-Page : goal.returns-in_ok-append_page-in-Page
+returns-in_ok-append_page-in-Page c =
+    subst (λ (v : JobVerdict). OnOk c.append_verdict.result (c.append_verdict.new.line.items ≡ c.args.line.now.items ++ job_text v))
+    (sym c.in-Page.is)
+    (then_appended c.append_verdict.result c.args.line.now.items _ (page_text (codes "not proved: page ") c.in-Page.page)
+    (verdict_text c.in-Page.verdict) c.in_ok-append_page-in-Page.ensures c.append_verdict.ensures)

@@ -1,0 +1,30 @@
+-- Faults that come of reading a file.
+use Rattle.std.proofs.Common.{◌≡◌, List, ℕ, Result, Ok, Err, inl, inr, sym, subst}
+use Rattle.std.specs.Global.{Vec}
+use Rattle.pcl_tool.specs.declared.fault.Fault.{Fault}
+use Rattle.pcl_tool.specs.declared.fault.Fault.TheVariants.{Refused, Memory, ReadFault, TooLong, WriteFault, NoSuchPage}
+use Rattle.pcl_command.specs.Files.{FileAct}
+use Rattle.pcl_command.specs.Checks.{IsFileRead}
+
+-- a fault that reading a file can have
+abbrev pub IsReadFault : Fault → Type 0
+IsReadFault ReadFault = Unit {0}
+IsReadFault TooLong = Unit {0}
+IsReadFault Memory = Unit {0}
+IsReadFault (Refused refusal) = ⊥
+IsReadFault WriteFault = ⊥
+IsReadFault NoSuchPage = ⊥
+
+abbrev IsFailedRead : Result (Vec ℕ) Fault → Type 0
+IsFailedRead (Err fault) = IsReadFault fault
+IsFailedRead (Ok bytes) = ⊥
+
+pub read_fault : {F : Type 0} (acts : F → FileAct → F → Type 0) (files : F) (name : List ℕ) (fault : Fault)
+    → IsFileRead acts files name (Err fault) → IsReadFault fault
+read_fault acts files name fault (inl r) = subst IsFailedRead (sym r.1) tt
+read_fault acts files name ReadFault (inr r) = tt
+read_fault acts files name TooLong (inr r) = tt
+read_fault acts files name Memory (inr r) = tt
+read_fault acts files name (Refused refusal) (inr r) = r.3
+read_fault acts files name WriteFault (inr r) = r.3
+read_fault acts files name NoSuchPage (inr r) = r.3

@@ -1,0 +1,70 @@
+//! A comparison of two jobs, each from a file.
+
+ghost use Rattle.std.specs.Prelude.{◌≡◌};
+ghost use Rattle.pcl_tool.specs.declared.fault.Fault.TheVariants.{Memory};
+ghost use Rattle.pcl_command.specs.declared.comparisons.CompareFault.TheVariants.{Failed};
+ghost use Rattle.pcl_command.specs.Comparisons.{compare_fault_of, IsCompareRun};
+
+use crate::checks::{read_file, write_line};
+use crate::comparison_lines::comparison_line;
+use crate::files::JobFiles;
+use crate::request::ComparedFiles;
+use pcl_base::Refusal;
+use pcl_same::{Comparison, Job, SameFault, same};
+use pcl_tool::Fault;
+use std::alloc::{AllocError, Global};
+use std::io::Write;
+
+/// Why two jobs aren't compared.
+#[derive(Clone, Copy)]
+pub enum CompareFault {
+    /// The rules refuse one of them.
+    Refused { which: Job, refusal: Refusal },
+    /// Reading, writing or memory failed.
+    Failed(Fault),
+}
+
+impl From<SameFault> for CompareFault {
+    ghost from_gives = { λ fault e. e ≡ compare_fault_of fault };
+
+    fn from(fault: SameFault) -> CompareFault {
+        match fault {
+            SameFault::Refused { which, refusal } => CompareFault::Refused { which, refusal },
+            SameFault::Memory => CompareFault::Failed(Fault::Memory),
+        }
+    }
+}
+
+impl From<Fault> for CompareFault {
+    ghost from_gives = { λ fault e. e ≡ Failed fault };
+
+    fn from(fault: Fault) -> CompareFault {
+        CompareFault::Failed(fault)
+    }
+}
+
+impl From<AllocError> for CompareFault {
+    ghost from_gives = { λ _ e. e ≡ Failed Memory };
+
+    fn from(_e: AllocError) -> CompareFault {
+        CompareFault::Failed(Fault::Memory)
+    }
+}
+
+/// Reads the files, compares the jobs, and writes the line of the comparison. Nothing is written after any fault but of a write,
+/// and then a prefix of the line.
+pub fn compare<F: JobFiles, W: Write>(
+    files: &F,
+    alloc: Global,
+    asked: ComparedFiles<'_>,
+    out: &mut W,
+) -> Result<Comparison, CompareFault>
+    ensures { IsCompareRun F.acts files.now asked.entry (W.contents out.old) (W.contents out.new) result }
+{
+    let first = read_file(files, alloc, asked.first)?;
+    let second = read_file(files, alloc, asked.second)?;
+    let comparison = same(alloc, &first, &second, asked.dpi)?;
+    let line = comparison_line(alloc, &comparison)?;
+    write_line(out, &line)?;
+    Ok(comparison)
+}
