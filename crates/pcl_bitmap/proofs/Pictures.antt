@@ -52,7 +52,8 @@ wide_rows size dpi = omega arith
 
 pub page_bytes_limit : (size : Size) (dpi : Dpi) → page_height size dpi * page_row_bytes size dpi < 2 ^ 32
 page_bytes_limit size dpi =
-    omega (arith, mul-le (page_height size dpi) (page_row_bytes size dpi) 8400 600 (height_small size dpi) (omega (arith, width_small size dpi)))
+    let high = height_small size dpi in
+    omega (arith, mul-le (page_height size dpi) (page_row_bytes size dpi) 8400 600 high (omega (arith, width_small size dpi)))
 
 -- the bytes of the first rows of a page are bytes of it
 pub rows_on_page :

@@ -20,7 +20,8 @@ loop-i-init c =
     let old = c.args.out.now.items in
     record {
       front = joined_front [] (sym (append-nil old));
-      written = subst (λ (steps : List Step). IsWrittenTo c.args.bitmap.now c.args.plan.now old old steps c.start-node.result) (sym c.steps-steps.ensures)
+      written = subst (λ (steps : List Step). IsWrittenTo c.args.bitmap.now c.args.plan.now old old steps c.start-node.result)
+          (sym c.steps-steps.ensures)
           (begin c.args.bitmap.now c.args.plan.now old c.start-node.result c.requires (ap (λ (n : Node). n.inside) c.start-node.ensures)
           c.start-node.ensures);
     }
