@@ -7,3 +7,4 @@ pub mod Inked
 pub mod Spread
 pub mod KernelLanes
 pub mod Cut
+pub mod Parts

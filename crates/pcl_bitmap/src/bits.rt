@@ -1,8 +1,8 @@
 //! Runs of bits in lists of bytes. Bit 0 of a list is the highest bit of its first byte.
 
-ghost use Rattle.std.specs.Prelude.{◌≡◌, ℕ, ◌+◌, ◌-◌, ◌*◌, ◌%◌, ◌<◌, ◌≤◌, ◌↔◌, nat_le, nat_lt, ◌&&◌, ◌||◌, length, slice_index, All, IsTrue};
+ghost use Rattle.std.specs.Prelude.{◌≡◌, ℕ, ◌+◌, ◌-◌, ◌*◌, ◌/◌, ◌%◌, ◌^◌, ◌<◌, ◌≤◌, nat_le, nat_lt, ◌&&◌, ◌||◌, length, slice_index, All, bit_and};
 ghost use Rattle.pcl_bitmap.specs.Bitmap.{bit_of_byte, dot_of_row};
-ghost use Rattle.pcl_bitmap.specs.Dots.{run_dot};
+ghost use Rattle.pcl_bitmap.specs.Dots.{in_run, run_dot};
 
 /// The byte at `index`, 0 past the end.
 pub fn byte_at(source: &[u8], index: usize) -> u8
@@ -23,7 +23,15 @@ fn shifted_byte(source: &[u8], index: usize, shift: usize) -> u8
     } else {
         0
     };
-    let pair = u16::from(before) * 256 + u16::from(byte_at(source, index));
+    bits_of_pair(before, byte_at(source, index), shift)
+}
+
+/// Eight bits of two bytes, the last of them `shift` bits before the end of the second.
+pub fn bits_of_pair(first: u8, second: u8, shift: usize) -> u8
+    requires { shift ≤ 8 }
+    ensures { result ≡ bit_and ((first * 256 + second) / 2 ^ shift) 255 }
+{
+    let pair = u16::from(first) * 256 + u16::from(second);
     ((pair >> shift) & 0xFF) as u8
 }
 
@@ -72,14 +80,47 @@ fn or_bytes(target: &mut [u8], at: usize, source: &[u8])
     }
 }
 
-// As `or_bits`, byte by byte.
+// As `or_bits`, byte by byte: those between the ends of the run, which have eight bits of `source`, without a test.
 fn or_shifted(target: &mut [u8], from: usize, end: usize, source: &[u8])
     requires { end ≤ 8 * length target.old }
     ensures bits { (k : ℕ) → dot_of_row target.new k ≡ (run_dot from end source.now k || dot_of_row target.old k) }
     ensures in_bytes { All (λ byte. byte < 256) target.new }
 {
+    if from >= end || source.is_empty() {
+        return;
+    }
     let first = from / 8;
-    for i in first..end.div_ceil(8) {
-        target[i] |= shifted_byte(source, i - first, from % 8) & leading_ones(end - 8 * i);
+    let tail = (first + source.len()).min(end / 8).max(first + 1);
+    or_part(target, first, first + 1, from, end, source);
+    or_pairs(target, first + 1, tail, from, source);
+    or_part(target, tail, end.div_ceil(8), from, end, source);
+}
+
+// Sets the bits of the run of `or_bits` that lie in the bytes of `target` from `first` up to `last`.
+fn or_part(target: &mut [u8], first: usize, last: usize, from: usize, end: usize, source: &[u8])
+    requires start { from / 8 ≤ first }
+    requires order { first ≤ last }
+    requires stop { 8 * last < end + 8 }
+    requires room { last ≤ length target.old }
+    ensures { (k : ℕ) → dot_of_row target.new k
+        ≡ ((in_run (8 * first) (8 * last) k && run_dot from end source.now k) || dot_of_row target.old k) }
+{
+    for i in first..last {
+        target[i] |= shifted_byte(source, i - from / 8, from % 8) & leading_ones(end - 8 * i);
+    }
+}
+
+// The same of bytes that have eight bits of two bytes of `source` each.
+fn or_pairs(target: &mut [u8], first: usize, last: usize, from: usize, source: &[u8])
+    requires start { from / 8 < first }
+    requires order { first ≤ last }
+    requires stop { last ≤ from / 8 + length source.now }
+    requires room { last ≤ length target.old }
+    ensures { (k : ℕ) → dot_of_row target.new k
+        ≡ ((in_run (8 * first) (8 * last) k && dot_of_row source.now (k - from)) || dot_of_row target.old k) }
+{
+    for i in first..last {
+        let place = i - from / 8;
+        target[i] |= bits_of_pair(source[place - 1], source[place], from % 8);
     }
 }

@@ -5,7 +5,7 @@ ghost use Rattle.pcl_bitmap.specs.Bitmap.{bit_of_byte, dot_of_row};
 ghost use Rattle.pcl_bitmap.specs.Dots.{rectangle_dot, dots_past};
 
 use crate::area::Area;
-use crate::bits::{byte_at, or_bits};
+use crate::bits::{bits_of_pair, byte_at, or_bits};
 use crate::squares::{SPREAD_LIMIT, spread_row};
 use pcl_base::ROW_LIMIT;
 
@@ -38,8 +38,7 @@ fn eight_bits_from(row: &[u8], start: usize) -> u8
 {
     let first = byte_at(row, start / 8);
     let second = byte_at(row, start / 8 + 1);
-    let pair = u16::from(first) * 256 + u16::from(second);
-    ((pair >> (8 - start % 8)) & 0xFF) as u8
+    bits_of_pair(first, second, 8 - start % 8)
 }
 
 // Writes the bits of a row from bit `start` on to all of `target`. Bits past its end are clear.

@@ -4,5 +4,6 @@ pub mod Spellings
 pub mod Readings
 pub mod Pairs
 pub mod OneReading
+pub mod Ends
 pub mod Decoded
 pub mod Examples

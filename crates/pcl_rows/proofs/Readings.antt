@@ -73,7 +73,7 @@ Fills-nothing method old row f = f.4 ∙ none_is_nothing f.0 f.3
 abbrev pub with_front : Head → List ℕ → List ℕ → List ℕ → List ℕ
 with_front h new old rest = take (offset_of h) old ++ (given_by h new ++ rest)
 
-Fills-cut : (method : Method) (bytes : List ℕ) (h : Head) (new rest old : List ℕ) → IsHead method h → IsCutFront bytes h new rest
+pub Fills-cut : (method : Method) (bytes : List ℕ) (h : Head) (new rest old : List ℕ) → IsHead method h → IsCutFront bytes h new rest
     → Fills method bytes old (with_front h new old (drop (offset_of h + length (given_by h new)) old))
 Fills-cut method bytes h new rest old is cut = (
   [],
@@ -89,7 +89,7 @@ Fills-cut method bytes h new rest old is cut = (
   ap (λ (bs : List ℕ). after_element h bs (λ rest. rest) old) cut.new_is,
 )
 
-Fills-cons : (method : Method) (bytes : List ℕ) (h : Head) (new rest old row : List ℕ) → IsHead method h → IsWholeFront bytes h new rest
+pub Fills-cons : (method : Method) (bytes : List ℕ) (h : Head) (new rest old row : List ℕ) → IsHead method h → IsWholeFront bytes h new rest
     → Fills method rest (drop (offset_of h + length (given_by h new)) old) row → Fills method bytes old (with_front h new old row)
 Fills-cons method bytes h new rest old row is front (whole, cut, shown, r, e) =
     let first : Element = record { head = h; bytes = new } in (

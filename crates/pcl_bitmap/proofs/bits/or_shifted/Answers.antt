@@ -1,31 +1,16 @@
-use Rattle.std.proofs.Common.{◌*◌, ◌<◌, ◌≤◌, ◌||◌, get_or, bit_and, bit_or, ap, ◌∙◌, arith}
-use Rattle.std.proofs.lemmas.Grind.{common_steps}
-use Rattle.std.proofs.lemmas.List.Elements.{All-get_or, All-set}
-use Rattle.std.proofs.lemmas.Nat.{and_le_l, or_of_8}
+use Rattle.std.proofs.Common.{◌/◌, ◌<◌, arith}
+use Rattle.std.proofs.lemmas.List.Elements.{All-from_get_or}
 use Rattle.pcl_bitmap.specs.Bitmap.{dot_of_row}
-use Rattle.pcl_bitmap.proofs.Runs.{run_more, added_bits, run_dot-whole}
+use Rattle.pcl_bitmap.proofs.Parts.{parts_joined}
 use Rattle.pcl_bitmap.proofs.bits.or_shifted.Goals as goal
 
 pub returns-clause-bits : goal.returns-clause-bits
-returns-clause-bits c =
-    let past : c.args.end ≤ 8 * c.loop-i.i = grind (arith, common_steps) in
-    λ k. c.loop-i.invariant.so_far k
-    ∙ ap (λ t. t || dot_of_row c.args.target.now k) (run_dot-whole c.args.from c.loop-i.i c.args.source.now k past)
+returns-clause-bits c k =
+    let f = c.args.from / 8 in
+    parts_joined c.args.from c.args.end f c.max-tail.result c.div_ceil.result c.args.source.now k (dot_of_row c.args.target.now k)
+    (dot_of_row c.or_part.new.target k) (dot_of_row c.or_pairs.new.target k) (dot_of_row c.or_part-2.new.target k)
+    (omega arith) (omega arith) (omega arith) (λ more. omega arith) (c.or_part.ensures k) (c.or_pairs.ensures k) (c.or_part-2.ensures k)
+    (omega arith)
 
-pub loop-i-preserved : goal.loop-i-preserved
-loop-i-preserved c =
-    let i = c.loop-i.i in
-    let target = c.loop-i.target in
-    let here = get_or c.loop-i.target c.loop-i.i 0 in
-    let added = bit_and c.shifted_byte.result c.leading_ones.result in
-    let byte : here < 256 = All-get_or (λ n. n < 256) target i 0 (omega arith) c.loop-i.invariant.in_bytes in
-    let small : added < 256 = omega (arith, and_le_l c.shifted_byte.result c.leading_ones.result) in
-    let bits =
-    added_bits c.args.source.now c.args.from c.args.end i c.shifted_byte.result c.leading_ones.result (omega arith)
-    c.shifted_byte.ensures c.leading_ones.ensures in
-    record {
-      so_far =
-          run_more c.args.target.now target c.args.source.now c.args.from c.args.end i added (omega arith) bits
-          c.loop-i.invariant.so_far;
-      in_bytes = All-set (λ n. n < 256) target i (bit_or here added) (or_of_8 here added byte small) c.loop-i.invariant.in_bytes;
-    }
+pub returns-clause-in_bytes : goal.returns-clause-in_bytes
+returns-clause-in_bytes c = All-from_get_or (λ n. n < 256) c.or_part-2.new.target 0 (λ i _. omega (arith, c.type_inv.target i))

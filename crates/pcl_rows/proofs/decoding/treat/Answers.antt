@@ -2,12 +2,16 @@ use Rattle.std.proofs.Common.{◌≡◌, ◌<◌, length, List, ℕ, [], subst, 
 use Rattle.std.proofs.lemmas.Bool.{eqb-true, eqb-false}
 use Rattle.std.proofs.lemmas.List.{nil_from_length}
 use Rattle.pcl_rows.proofs.Readings.{IsTreatedTo, treated_more, treated_all, treated_none, treated_skipped, past_skipped_length, rest_shorter}
+use Rattle.pcl_base.specs.declared.method.Method.{Method}
+use Rattle.pcl_rows.specs.Rows.{RowFrom}
+use Rattle.pcl_rows.proofs.Ends.{rest_bytes, skipped_bytes, treated_full}
 use Rattle.pcl_rows.proofs.decoding.treat.Goals as goal
 
 pub loop-rest-init : goal.loop-rest-init
 loop-rest-init c = record {
   within = omega arith;
   treated = treated_skipped c.past_skipped-rest.result.now c.args.row.now 0 c.past_skipped-rest.ensures treated_none;
+  bytes = skipped_bytes c.past_skipped-rest.result.now c.past_skipped-rest.ensures (λ i. omega (arith, c.type_inv.bytes i));
 }
 
 pub loop-rest-preserved : goal.loop-rest-preserved
@@ -20,6 +24,8 @@ loop-rest-preserved c =
           (treated_more c.loop-rest.row
           c.loop-rest.auto.row c.loop-rest.invariant.within c.skip-place.ensures c.read-front.ensures.front c.put-place.ensures.row
           c.put-place.ensures.end c.loop-rest.invariant.treated);
+      bytes = rest_bytes c.past_skipped-rest-in-loop-rest.result.now c.read-front.ensures.front c.past_skipped-rest-in-loop-rest.ensures
+          c.loop-rest.invariant.bytes;
     }
 
 pub loop-rest-smaller : goal.loop-rest-smaller
@@ -33,6 +39,14 @@ loop-rest-smaller c =
       past_skipped_length front.rest.now c.past_skipped-rest-in-loop-rest.result.now
           c.past_skipped-rest-in-loop-rest.ensures,
     )
+
+pub returns-then-is_done : goal.returns-then-is_done
+returns-then-is_done c =
+    let done = c.is_done.ensures c.if-is_done.true in
+    subst (λ (method : Method). RowFrom method c.args.bytes.now c.args.row.now c.loop-rest.row) (sym done.0)
+    (treated_full c.loop-rest.place c.loop-rest.auto.row done.1 c.loop-rest.invariant.bytes
+    (subst (λ (method : Method). IsTreatedTo method c.args.bytes.now c.args.row.now c.loop-rest.rest.now c.loop-rest.row c.loop-rest.place)
+    done.0 c.loop-rest.invariant.treated))
 
 pub returns : goal.returns
 returns c =

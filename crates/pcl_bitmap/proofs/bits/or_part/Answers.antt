@@ -1,0 +1,25 @@
+use Rattle.std.proofs.Common.{◌≡◌, bit_and, arith}
+use Rattle.pcl_bitmap.specs.Bitmap.{dot_of_row}
+use Rattle.pcl_bitmap.specs.Dots.{run_dot}
+use Rattle.pcl_bitmap.proofs.Runs.{added_bits}
+use Rattle.pcl_bitmap.proofs.Parts.{part_more, no_part}
+use Rattle.pcl_bitmap.proofs.bits.or_part.Goals as goal
+
+pub loop-i-init : goal.loop-i-init
+loop-i-init c k =
+    no_part c.args.first k (run_dot c.args.from c.args.end c.args.source.now k) (dot_of_row c.args.target.now k)
+
+pub loop-i-preserved : goal.loop-i-preserved
+loop-i-preserved c =
+    let source = c.args.source.now in
+    let i = c.loop-i.i in
+    let bits =
+    added_bits source c.args.from c.args.end i c.shifted_byte.result c.leading_ones.result (omega arith)
+    c.shifted_byte.ensures c.leading_ones.ensures in
+    part_more c.args.target.now c.loop-i.target c.args.first i (bit_and c.shifted_byte.result c.leading_ones.result)
+    (run_dot c.args.from c.args.end source) (omega arith) (omega arith) bits c.loop-i.invariant
+
+pub returns : goal.returns
+returns c =
+    let done : c.loop-i.i ≡ c.args.last = omega arith in
+    rw done at c.loop-i.invariant
