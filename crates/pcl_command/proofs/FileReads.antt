@@ -1,5 +1,5 @@
 -- Faults that come of reading a file.
-use Rattle.std.proofs.Common.{◌≡◌, List, ℕ, Result, Ok, Err, inl, inr, sym, subst}
+use Rattle.std.proofs.Common.{List, ℕ, Result, Ok, Err, inl, inr, sym, subst}
 use Rattle.std.specs.Global.{Vec}
 use Rattle.pcl_tool.specs.declared.fault.Fault.{Fault}
 use Rattle.pcl_tool.specs.declared.fault.Fault.TheVariants.{Refused, Memory, ReadFault, TooLong, WriteFault, NoSuchPage}

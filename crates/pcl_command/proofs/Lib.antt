@@ -1,3 +1,5 @@
 pub mod Shown
 pub mod FileReads
 pub mod Appended
+pub mod SamePages
+pub mod Drawn

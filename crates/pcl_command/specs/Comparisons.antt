@@ -1,5 +1,5 @@
 -- What a comparison of two jobs writes, and how it ends.
-use Rattle.std.specs.Prelude.{◌⊎◌, ℕ, List, Option, Result, Ok, Err}
+use Rattle.std.specs.Prelude.{◌≡◌, ◌⊎◌, ℕ, List, Option, Result, Ok, Err}
 use Rattle.std.specs.Global.{Vec}
 use Rattle.std.specs.Io.KnownBytes.{Appends, Keeps}
 use Rattle.pcl_tool.specs.declared.fault.Fault.{Fault}
@@ -8,13 +8,14 @@ use Rattle.pcl_tool.specs.Transfer.{AppendsFront}
 use Rattle.pcl_same.specs.declared.comparison.Comparison.{Comparison}
 use Rattle.pcl_same.specs.declared.fault.SameFault.{SameFault}
 use Rattle.pcl_same.specs.declared.fault.SameFault.TheVariants as same
-use Rattle.pcl_same.specs.Comparing.{IsCompared}
+use Rattle.pcl_same.specs.Comparing.{IsComparison, IsCompared}
 use Rattle.pcl_command.specs.Files.{FileAct}
 use Rattle.pcl_command.specs.Checks.{IsFileRead}
 use Rattle.pcl_command.specs.declared.request.ComparedFiles.{ComparedFiles}
 use Rattle.pcl_command.specs.declared.comparisons.CompareFault.{CompareFault}
 use Rattle.pcl_command.specs.declared.comparisons.CompareFault.TheVariants.{Refused, Failed}
 use Rattle.pcl_command.specs.ComparisonLines.{comparison_line_of}
+use Rattle.pcl_command.specs.DifferenceImages.{IsDrawn}
 
 -- what the comparison of two jobs answers, as a fault of a run
 abbrev pub compare_fault_of : SameFault → CompareFault
@@ -37,17 +38,29 @@ abbrev pub IsAnsweredOf : {F : Type 0} → (F → FileAct → F → Type 0) → 
 IsAnsweredOf acts files asked answer =
     (first second : Vec ℕ) × BothRead acts files asked first second × IsCompared asked.dpi first.items second.items answer
 
--- the line of a comparison is written; nothing where a fault came before, and a prefix of the line where its write failed
-abbrev pub IsCompareRun : {F : Type 0} → (F → FileAct → F → Type 0) → F → ComparedFiles → (old new : Option (List ℕ))
+-- the comparison is right of the bytes of the two files, and this becomes of the image
+abbrev pub IsComparedAndDrawn : {F : Type 0} → (F → FileAct → F → Type 0) → ComparedFiles → (files kept : F) → Comparison
+    → Result (Unit {0}) Fault → Type 0
+IsComparedAndDrawn acts asked files kept comparison drawn =
+    (first second : Vec ℕ) × BothRead acts files asked first second × IsComparison asked.dpi first.items second.items comparison
+    × IsDrawn acts asked first.items second.items comparison files kept drawn
+
+-- The image that is asked for is drawn, and then the line of the comparison is written: nothing where a fault came before, and a
+-- prefix of the line where its write failed. No file is made but for the image.
+abbrev pub IsCompareRun : {F : Type 0} → (F → FileAct → F → Type 0) → ComparedFiles → (files kept : F) → (old new : Option (List ℕ))
     → Result Comparison CompareFault → Type 0
-IsCompareRun acts files asked old new (Ok comparison) =
-    IsAnsweredOf acts files asked (Ok comparison) × Appends old new (comparison_line_of comparison)
-IsCompareRun acts files asked old new (Err (Refused which refusal)) =
-    IsAnsweredOf acts files asked (Err (same.Refused which refusal)) × Keeps old new
-IsCompareRun acts files asked old new (Err (Failed fault.WriteFault)) =
-    (comparison : Comparison) × IsAnsweredOf acts files asked (Ok comparison) × AppendsFront old new (comparison_line_of comparison)
-IsCompareRun acts files asked old new (Err (Failed fault.ReadFault)) = IsOneUnread acts files asked fault.ReadFault × Keeps old new
-IsCompareRun acts files asked old new (Err (Failed fault.TooLong)) = IsOneUnread acts files asked fault.TooLong × Keeps old new
-IsCompareRun acts files asked old new (Err (Failed fault.Memory)) = Keeps old new
-IsCompareRun acts files asked old new (Err (Failed (fault.Refused refusal))) = ⊥
-IsCompareRun acts files asked old new (Err (Failed fault.NoSuchPage)) = ⊥
+IsCompareRun acts asked files kept old new (Ok comparison) =
+    IsComparedAndDrawn acts asked files kept comparison (Ok tt) × Appends old new (comparison_line_of comparison)
+IsCompareRun acts asked files kept old new (Err (Refused which refusal)) =
+    (kept ≡ files) × IsAnsweredOf acts files asked (Err (same.Refused which refusal)) × Keeps old new
+IsCompareRun acts asked files kept old new (Err (Failed fault.WriteFault)) =
+    (comparison : Comparison) × ((IsComparedAndDrawn acts asked files kept comparison (Err fault.WriteFault) × Keeps old new)
+    ⊎ (IsComparedAndDrawn acts asked files kept comparison (Ok tt) × AppendsFront old new (comparison_line_of comparison)))
+IsCompareRun acts asked files kept old new (Err (Failed fault.ReadFault)) =
+    (kept ≡ files) × IsOneUnread acts files asked fault.ReadFault × Keeps old new
+IsCompareRun acts asked files kept old new (Err (Failed fault.TooLong)) =
+    (kept ≡ files) × IsOneUnread acts files asked fault.TooLong × Keeps old new
+IsCompareRun acts asked files kept old new (Err (Failed fault.Memory)) =
+    ((kept ≡ files) ⊎ ((comparison : Comparison) × IsComparedAndDrawn acts asked files kept comparison (Err fault.Memory))) × Keeps old new
+IsCompareRun acts asked files kept old new (Err (Failed (fault.Refused refusal))) = ⊥
+IsCompareRun acts asked files kept old new (Err (Failed fault.NoSuchPage)) = ⊥

@@ -92,15 +92,15 @@ HasChecked acts asked files kept given left old new failed =
     (fault : Fault) × (kept ≡ files) × (left ≡ given) × IsCheckRun acts files asked old new (Err fault)
     × HasFailed (line_of fault 0) (status_for fault) failed
 
--- how a comparison ends: no file was made, and nothing was read of the reader
+-- how a comparison ends: nothing was read of the reader
 abbrev pub HasCompared : {F : Type 0} → (F → FileAct → F → Type 0) → ComparedFiles → (files kept : F)
     → (given left old new : Option (List ℕ)) → Ending → Type 0
 HasCompared acts asked files kept given left old new Done = ⊥
 HasCompared acts asked files kept given left old new (Checked verdict) = ⊥
 HasCompared acts asked files kept given left old new (Compared comparison) =
-    (kept ≡ files) × (left ≡ given) × IsCompareRun acts files asked old new (Ok comparison)
+    (left ≡ given) × IsCompareRun acts asked files kept old new (Ok comparison)
 HasCompared acts asked files kept given left old new failed =
-    (fault : CompareFault) × (kept ≡ files) × (left ≡ given) × IsCompareRun acts files asked old new (Err fault)
+    (fault : CompareFault) × (left ≡ given) × IsCompareRun acts asked files kept old new (Err fault)
     × HasFailed (compare_line_of fault) (compare_status_for fault) failed
 
 -- how what was asked for ends, by what it did with files, read and wrote

@@ -7,6 +7,7 @@ ghost use Rattle.pcl_command.specs.Comparisons.{compare_fault_of, IsCompareRun};
 
 use crate::checks::{read_file, write_line};
 use crate::comparison_lines::comparison_line;
+use crate::difference_images::draw_difference;
 use crate::files::JobFiles;
 use crate::request::ComparedFiles;
 use pcl_base::Refusal;
@@ -51,20 +52,21 @@ impl From<AllocError> for CompareFault {
     }
 }
 
-/// Reads the files, compares the jobs, and writes the line of the comparison. Nothing is written after any fault but of a write,
-/// and then a prefix of the line.
+/// Reads the files, compares the jobs, draws the image that is asked for, and writes the line of the comparison. Nothing is
+/// written after any fault but of a write, and then a prefix of the line, or nothing where the image failed.
 pub fn compare<F: JobFiles, W: Write>(
-    files: &F,
+    files: &mut F,
     alloc: Global,
     asked: ComparedFiles<'_>,
     out: &mut W,
 ) -> Result<Comparison, CompareFault>
-    ensures { IsCompareRun F.acts files.now asked.entry (W.contents out.old) (W.contents out.new) result }
+    ensures { IsCompareRun F.acts asked.entry files.old files.new (W.contents out.old) (W.contents out.new) result }
 {
     let first = read_file(files, alloc, asked.first)?;
     let second = read_file(files, alloc, asked.second)?;
     let comparison = same(alloc, &first, &second, asked.dpi)?;
     let line = comparison_line(alloc, &comparison)?;
+    draw_difference(files, alloc, asked, &first, &second, &comparison)?;
     write_line(out, &line)?;
     Ok(comparison)
 }

@@ -4,6 +4,7 @@
 mod checks;
 mod comparison_lines;
 mod comparisons;
+mod difference_images;
 mod files;
 mod messages;
 mod request;

@@ -63,6 +63,8 @@ pub struct ComparedFiles<'w> {
     pub first: &'w str,
     /// The file of the other.
     pub second: &'w str,
+    /// The file that is made where dots differ, of an image of these.
+    pub image: Option<&'w str>,
     /// The resolution.
     pub dpi: Dpi,
 }

@@ -4,3 +4,4 @@ pub mod Beside
 pub mod Concluded
 pub mod Answered
 pub mod OneAnswer
+pub mod DifferingDots

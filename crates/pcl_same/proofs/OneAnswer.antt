@@ -120,7 +120,7 @@ none_differs dpi (page ∷ pages) [] n d a p = p
 none_differs dpi (page ∷ pages) (other ∷ others) zero d a p = alike_differs d a.0 p
 none_differs dpi (page ∷ pages) (other ∷ others) (suc n) d a p = none_differs dpi pages others n d a.1 p.1
 
-alike_count : (dpi : Dpi) (pages others : List Sheet) → AllAlike dpi pages others → length pages ≡ length others
+pub alike_count : (dpi : Dpi) (pages others : List Sheet) → AllAlike dpi pages others → length pages ≡ length others
 alike_count dpi [] [] a = refl
 alike_count dpi [] (other ∷ others) a = absurd a
 alike_count dpi (page ∷ pages) [] a = absurd a

@@ -1,3 +1,4 @@
 pub mod Differing
 pub mod Comparing
+pub mod DifferingDots
 pub mod inner

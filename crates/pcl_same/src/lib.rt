@@ -8,6 +8,7 @@ mod bits;
 mod comparing;
 mod comparison;
 mod fault;
+mod images;
 mod jobs;
 mod keeping;
 mod kept_bitmap;
@@ -15,5 +16,6 @@ mod laws;
 
 pub use comparison::{Comparison, Difference};
 pub use fault::{Job, SameFault};
+pub use images::differing_dots;
 pub use jobs::same;
 pub use laws::one_answer;

@@ -3,7 +3,8 @@ use Rattle.std.proofs.Common.{◌≡◌, ℕ, suc, zero, ◌-◌, ◌+◌, ◌�
 use Rattle.std.proofs.Math.Numerals.{sub-one}
 use Rattle.std.proofs.lemmas.Bool.Decides.{nat_tests}
 use Rattle.std.specs.Prelude.{slice_get}
-use Rattle.std.specs.Option.{SomeIff}
+use Rattle.std.proofs.KnownBytes.{Keeps-refl}
+use Rattle.std.specs.Option.{SomeIff, ok_or}
 use Rattle.pcl_base.specs.declared.dpi.Dpi.{Dpi}
 use Rattle.pcl_bitmap.specs.Bitmap.{Picture}
 use Rattle.pcl_bitmap.specs.declared.page.Page.{Page}
@@ -14,9 +15,8 @@ use Rattle.pcl_tool.specs.declared.page_preview.Chosen.{Chosen}
 use Rattle.pcl_page.specs.Jobs.{HasPages}
 use Rattle.pcl_tool.specs.declared.fault.Fault.{Fault}
 use Rattle.pcl_tool.specs.declared.fault.Fault.TheVariants.{Refused, Memory, ReadFault, TooLong, WriteFault, NoSuchPage}
-use Rattle.pcl_tool.specs.Image.{image_of}
-use Rattle.pcl_tool.specs.inner.Writing.{IsImageWritten}
-use Rattle.pcl_tool.specs.Preview.{IsImageOf, HasNoPage, IsPreview}
+use Rattle.pcl_tool.specs.Image.{image_of, IsImageWritten}
+use Rattle.pcl_tool.specs.Preview.{HasPage, HasNoPage, IsPageDots, IsPreview}
 use Rattle.pcl_tool.specs.inner.Choice.{chosen_after}
 
 abbrev pub takes : Chosen → Page → Chosen → Type 0
@@ -76,13 +76,13 @@ pub skips_to : (number : ℕ) (skip : Option ℕ) → SomeIff skip (1 ≤ number
 skips_to number None h = omega arith
 skips_to number (Some place) h = omega arith
 
-pub image_kept : {dpi : Dpi} {job : List ℕ} {number : ℕ} {pages : List Sheet} (skip : Option ℕ) {old : Chosen} (new : Chosen)
+page_kept : {dpi : Dpi} {job : List ℕ} {number : ℕ} {pages : List Sheet} (skip : Option ℕ) {old : Chosen} (new : Chosen)
     {picture : Picture}
     → HasPages dpi job pages → SkipsTo number skip → old.skip ≡ skip → old.kept ≡ None → Hands takes dpi pages old new
-    → new.kept ≡ Some picture → IsImageOf dpi job number (image_of picture)
-image_kept {dpi} {pages} None {old} new {picture} m n s k h e =
+    → new.kept ≡ Some picture → HasPage dpi job number picture
+page_kept {dpi} {pages} None {old} new {picture} m n s k h e =
     absurd (let same : None ≡ Some picture = sym k ∙ ap (λ (c : Chosen). c.kept) (sym (stays dpi pages s h)) ∙ e in cc)
-image_kept {dpi} {number} {pages} (Some place) new {picture} m n s k h e =
+page_kept {dpi} {number} {pages} (Some place) new {picture} m n s k h e =
     let shows : ShowsAt dpi pages place picture = subst (Keeps dpi pages place) e (keeps_chosen dpi pages place new s k h) in
     let before : place ≡ number - 1 = omega arith in
     record {
@@ -93,10 +93,10 @@ image_kept {dpi} {number} {pages} (Some place) new {picture} m n s k h e =
       chosen = subst (λ (p : ℕ). slice_get pages p ≡ Some shows.sheet) before shows.chosen;
       page = shows.page;
       shows = shows.shows;
-      image = ap image_of shows.same;
+      dots = shows.same;
     }
 
-pub none_kept : {dpi : Dpi} {job : List ℕ} {number : ℕ} {pages : List Sheet} (skip : Option ℕ) {old : Chosen} (new : Chosen)
+none_kept : {dpi : Dpi} {job : List ℕ} {number : ℕ} {pages : List Sheet} (skip : Option ℕ) {old : Chosen} (new : Chosen)
     → HasPages dpi job pages → SkipsTo number skip → old.skip ≡ skip → old.kept ≡ None → Hands takes dpi pages old new → new.kept ≡ None
     → HasNoPage dpi job number
 none_kept {pages} None new m n s k h e = record { pages = pages; meaning = m; outside = inl n }
@@ -104,12 +104,35 @@ none_kept {dpi} {pages} (Some place) new m n s k h e =
     let few : length pages ≤ place = subst (Keeps dpi pages place) e (keeps_chosen dpi pages place new s k h) in
     record { pages = pages; meaning = m; outside = inr (omega arith) }
 
+-- what is kept, by what it is
+dots_of : {dpi : Dpi} {job : List ℕ} (number : ℕ) {pages : List Sheet} (skip : Option ℕ) {old : Chosen} (new : Chosen)
+    (kept : Option Picture) → HasPages dpi job pages → SkipsTo number skip → old.skip ≡ skip → old.kept ≡ None
+    → Hands takes dpi pages old new → new.kept ≡ kept → IsPageDots dpi job number (ok_or kept NoSuchPage)
+dots_of number skip new (Some picture) m n s k h e = page_kept skip new m n s k h e
+dots_of number skip new None m n s k h e = none_kept skip new m n s k h e
+
+pub dots_kept : (dpi : Dpi) (job : List ℕ) (number : ℕ) {pages : List Sheet} (skip : Option ℕ) {old : Chosen} (new : Chosen)
+    {result : Result Picture Fault} → HasPages dpi job pages → SkipsTo number skip → old.skip ≡ skip → old.kept ≡ None
+    → Hands takes dpi pages old new → result ≡ ok_or new.kept NoSuchPage → IsPageDots dpi job number result
+dots_kept dpi job number skip new m n s k h e =
+    subst (IsPageDots dpi job number) (sym e) (dots_of number skip new new.kept m n s k h refl)
+
+-- the page can't be shown
+pub unseen : (dpi : Dpi) (job : List ℕ) (number : ℕ) (held : Option (List ℕ)) (fault : Fault) → IsPageDots dpi job number (Err fault)
+    → IsPreview dpi job number held held (Err fault)
+unseen dpi job number held (Refused refusal) n = (n, Keeps-refl held)
+unseen dpi job number held NoSuchPage n = (n, Keeps-refl held)
+unseen dpi job number held Memory n = Keeps-refl held
+unseen dpi job number held WriteFault n = absurd n
+unseen dpi job number held ReadFault n = n
+unseen dpi job number held TooLong n = n
+
 pub previewed : {dpi : Dpi} {job : List ℕ} {number : ℕ} (old new : Option (List ℕ)) (picture : Picture) (result : Result (Unit {0}) Fault)
-    → IsImageOf dpi job number (image_of picture) → IsImageWritten old new picture result → IsPreview dpi job number old new result
-previewed old new picture (Ok done) i w = (image_of picture, i, w)
-previewed old new picture (Err WriteFault) i w = (image_of picture, i, w)
-previewed old new picture (Err Memory) i w = w
-previewed old new picture (Err (Refused refusal)) i w = absurd w
-previewed old new picture (Err ReadFault) i w = w
-previewed old new picture (Err TooLong) i w = w
-previewed old new picture (Err NoSuchPage) i w = absurd w
+    → HasPage dpi job number picture → IsImageWritten old new picture result → IsPreview dpi job number old new result
+previewed old new picture (Ok done) p w = (image_of picture, (picture, p, refl), w)
+previewed old new picture (Err WriteFault) p w = (image_of picture, (picture, p, refl), w)
+previewed old new picture (Err Memory) p w = w
+previewed old new picture (Err (Refused refusal)) p w = absurd w
+previewed old new picture (Err ReadFault) p w = w
+previewed old new picture (Err TooLong) p w = w
+previewed old new picture (Err NoSuchPage) p w = absurd w

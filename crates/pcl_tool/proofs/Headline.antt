@@ -1,5 +1,5 @@
 -- The claim holds of what is written with a certificate.
-use Rattle.std.proofs.Common.{◌≡◌, ℕ, List, sym, ap, subst, ◌∙◌}
+use Rattle.std.proofs.Common.{◌≡◌, ℕ, List, subst}
 use Rattle.pcl_base.specs.declared.dpi.Dpi.{Dpi}
 use Rattle.pcl_page.specs.Situation.{Sheet}
 use Rattle.pcl_cert.specs.declared.format.Format.{Format}

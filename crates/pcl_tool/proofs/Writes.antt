@@ -7,8 +7,7 @@ use Rattle.pcl_bitmap.specs.Bitmap.{Picture}
 use Rattle.pcl_tool.specs.declared.fault.Fault.{Fault}
 use Rattle.pcl_tool.specs.declared.fault.Fault.TheVariants.{Refused, Memory, ReadFault, TooLong, WriteFault, NoSuchPage}
 use Rattle.pcl_tool.specs.Transfer.{AppendsFront, IsWritten}
-use Rattle.pcl_tool.specs.Image.{header_of, image_of}
-use Rattle.pcl_tool.specs.inner.Writing.{IsImageWritten}
+use Rattle.pcl_tool.specs.Image.{header_of, image_of, IsImageWritten}
 
 front_of : (old new : Option (List ℕ)) {text : List ℕ} (more : List ℕ) → AppendsFront old new text → AppendsFront old new (text ++ more)
 front_of old new more h =

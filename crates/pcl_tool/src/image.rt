@@ -1,8 +1,7 @@
 //! Images in Netpbm's raw bitmap form, P4.
 
 ghost use Rattle.std.specs.Prelude.{◌≡◌, IfOk};
-ghost use Rattle.pcl_tool.specs.Image.{header_of};
-ghost use Rattle.pcl_tool.specs.inner.Writing.{IsImageWritten};
+ghost use Rattle.pcl_tool.specs.Image.{header_of, IsImageWritten};
 
 use crate::Fault;
 use crate::writing::write_bytes;

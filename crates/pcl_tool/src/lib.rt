@@ -16,6 +16,7 @@ mod writing;
 
 pub use checking::{check_job, check_job_watched};
 pub use fault::Fault;
+pub use image::write_image;
 pub use job_verdict::JobVerdict;
 pub use laws::{
     certified_jobs_are_proved, proved_jobs_are_least, the_headline, written_jobs_are_least,
@@ -23,7 +24,7 @@ pub use laws::{
 pub use minimizing::{
     Output, filter, filter_cert, filter_cert_watched, filter_watched, minimize, minimize_watched,
 };
-pub use page_preview::preview;
+pub use page_preview::{page_dots, preview};
 pub use pcl_base::INPUT_LIMIT;
 pub use pcl_meaning::page_texts_mean_their_pages;
 pub use reading::read_all;

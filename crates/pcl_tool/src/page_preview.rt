@@ -1,6 +1,6 @@
 //! The preview of one page of a job.
 
-ghost use Rattle.pcl_tool.specs.Preview.{IsPreview};
+ghost use Rattle.pcl_tool.specs.Preview.{IsPageDots, IsPreview};
 
 use crate::Fault;
 use crate::image::write_image;
@@ -22,15 +22,21 @@ pub fn preview<W: Write>(
 ) -> Result<(), Fault>
     ensures { IsPreview dpi job.now page (W.contents out.old) (W.contents out.new) result }
 {
+    let bitmap = page_dots(alloc, job, page, dpi)?;
+    write_image(alloc, &bitmap, out)
+}
+
+/// The dots of page number `page` of a job, counted from 1. NoSuchPage comes only for an accepted job without that
+/// page.
+pub fn page_dots(alloc: Global, job: &[u8], page: usize, dpi: Dpi) -> Result<Bitmap, Fault>
+    ensures { IsPageDots dpi job.now page result }
+{
     let mut chosen = Chosen {
         skip: page.checked_sub(1),
         kept: None,
     };
     perform(alloc, job, dpi, &mut chosen)?;
-    match &chosen.kept {
-        Some(bitmap) => write_image(alloc, bitmap, out),
-        None => Err(Fault::NoSuchPage),
-    }
+    chosen.kept.ok_or(Fault::NoSuchPage)
 }
 
 /// Keeps one page of those that come.

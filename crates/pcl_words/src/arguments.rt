@@ -59,6 +59,7 @@ fn compared_files<'w>(same: &ArgMatches<'w>) -> Option<ComparedFiles<'w>> {
     Some(ComparedFiles {
         first: same.get_str("A")?,
         second: same.get_str("B")?,
+        image: same.get_str("image"),
         dpi: resolution(same.get_one::<u16>("dpi")?)?,
     })
 }
@@ -144,7 +145,15 @@ fn same<'a>(alloc: Global) -> Result<Command<'a>, AllocError> {
         .about("Tells whether two jobs print the same pages, and where not")
         .arg(file(alloc, "A", "The one job"))?
         .arg(file(alloc, "B", "The other job"))?
+        .arg(image(alloc))?
         .arg(dpi(alloc))
+}
+
+/// The file of an image.
+fn image<'a>(alloc: Global) -> Arg<'a> {
+    Arg::new(alloc, "image").long("image").value_name("FILE").help(
+        "Where the first page that differs does in dots, write a PBM image (P4) of these to this file; else it isn't made",
+    )
 }
 
 /// A command with what those that run over whole jobs take.
