@@ -39,9 +39,7 @@ IsPageDots dpi job number (Ok picture) = HasPage dpi job number picture
 IsPageDots dpi job number (Err (Refused refusal)) = IsRefusal dpi job refusal
 IsPageDots dpi job number (Err NoSuchPage) = HasNoPage dpi job number
 IsPageDots dpi job number (Err Memory) = Unit {0}
-IsPageDots dpi job number (Err ReadFault) = ⊥
-IsPageDots dpi job number (Err TooLong) = ⊥
-IsPageDots dpi job number (Err WriteFault) = ⊥
+IsPageDots dpi job number (Err fault) = ⊥
 
 abbrev pub IsPreview : Dpi → List ℕ → ℕ → Option (List ℕ) → Option (List ℕ) → Result (Unit {0}) Fault → Type 0
 IsPreview dpi job number old new (Ok unit) = (bytes : List ℕ) × IsImageOf dpi job number bytes × Appends old new bytes
