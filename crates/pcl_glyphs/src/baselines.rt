@@ -6,8 +6,8 @@ use std::alloc::{AllocError, Global};
 /// Shapes higher than this many dots don't say where a line of text is.
 const TEXT_HEIGHT_LIMIT: u32 = 120;
 
-/// How far below a shape its line may lie, in dots, as that of a hyphen does.
-const REACH: u32 = 24;
+/// How far below a shape its line may lie, in dots, as that of the dot of an i does.
+const REACH: u32 = 32;
 
 /// How many shapes end above each row of a page of this height.
 pub fn count_bottoms(

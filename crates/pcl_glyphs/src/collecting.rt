@@ -10,6 +10,9 @@ use pcl_page::{Page, PageSink};
 use std::alloc::{AllocError, Global};
 use std::marker::Model;
 
+/// After so many shapes no further pages are looked at.
+const ITEM_LIMIT: usize = 4_000_000;
+
 /// A shape on a page.
 #[derive(Clone, Copy)]
 pub struct Item {
@@ -25,8 +28,8 @@ pub struct Item {
     pub baseline: u32,
 }
 
-/// The shapes of the pages that came, in order. Shapes that are too large aren't kept, and none is of a page that hasn't
-/// 300 dots per inch, since a bit of a font is a dot of these.
+/// The shapes of the pages that came, in order. Shapes that are too large aren't kept, and none of a page that hasn't 300
+/// dots per inch, since a bit of a font is a dot of these.
 #[derive(Drop)]
 pub struct Collection {
     /// The height of each page, in dots.
@@ -86,7 +89,7 @@ impl PageSink for Collection {
     ghost takes = { λ old page new. Unit {0} };
 
     fn page(&mut self, page: &Page) -> Result<(), AllocError> {
-        if page.dpi == Dpi::Dpi300 {
+        if page.dpi == Dpi::Dpi300 && self.items.len() < ITEM_LIMIT {
             self.collect(page)?;
         }
         self.heights.push(page.size.height(page.dpi))?;

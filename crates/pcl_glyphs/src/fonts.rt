@@ -38,7 +38,7 @@ pub fn append_fonts(layout: &Layout, out: &mut Vec<u8>) -> Result<(), AllocError
         let Some(code) = layout.code_of_rank(rank) else {
             return Ok(());
         };
-        let Some(pattern) = layout.patterns.get_index(character.glyph) else {
+        let Some(pattern) = layout.pattern_of(character.glyph) else {
             return Ok(());
         };
         if font != Some(code.font) {
@@ -135,7 +135,7 @@ impl Cell {
             baseline: 0,
         };
         for character in layout.spacing.characters.keys() {
-            if let Some(pattern) = layout.patterns.get_index(character.glyph) {
+            if let Some(pattern) = layout.pattern_of(character.glyph) {
                 cell = cell.with(pattern, &layout.letters, character.glyph);
             }
         }

@@ -50,7 +50,7 @@ fn write_pages(alloc: Global, layout: &Layout, job: &[u8], dpi: Dpi) -> Result<V
 /// The layout of these shapes.
 fn lay_out(alloc: Global, collection: Collection) -> Result<Layout, AllocError> {
     let found = find_letters(alloc, &collection)?;
-    let spacing = Spacing::new(alloc, &collection, &found.letters)?;
+    let spacing = Spacing::new(alloc, &collection.patterns, &found)?;
     let mut layout = Layout {
         patterns: collection.patterns,
         letters: found,

@@ -1,8 +1,8 @@
 //! How far letters advance, and what makes the gaps that differ.
 
-use crate::collecting::Collection;
-use crate::letters::Letter;
-use indexmap::IndexMap;
+use crate::letters::{Letter, Letters};
+use crate::patterns::Pattern;
+use indexmap::{IndexMap, IndexSet};
 use std::alloc::{AllocError, Global};
 
 /// The usual advance of a glyph is the least that at least one in so many of its letters has.
@@ -18,7 +18,7 @@ const BLANK_USES: u32 = 12;
 /// A glyph with an advance.
 #[derive(Clone, Copy, Debug, PartialEq, Eq, Hash)]
 pub struct Character {
-    /// The number of the pattern.
+    /// The number of the glyph.
     pub glyph: usize,
     /// How far the cursor moves, in dots.
     pub advance: u32,
@@ -27,7 +27,7 @@ pub struct Character {
 /// The characters that are sent, and the gaps that blanks make.
 #[derive(Drop)]
 pub struct Spacing {
-    /// For each pattern, the advance of its usual character.
+    /// For each glyph, the advance of its usual character.
     pub usual: Vec<u32>,
     /// The characters, the most used first, and how often each is used.
     pub characters: IndexMap<Character, u32>,
@@ -36,16 +36,16 @@ pub struct Spacing {
 }
 
 impl Spacing {
-    /// The spacing of letters, in the order of printing.
+    /// The spacing of the letters of a job.
     pub fn new(
         alloc: Global,
-        collection: &Collection,
-        letters: &[Letter],
+        patterns: &IndexSet<Pattern>,
+        found: &Letters,
     ) -> Result<Spacing, AllocError> {
-        let gaps = count_gaps(alloc, letters)?;
-        let uses = count_uses(alloc, letters, collection.patterns.len())?;
-        let usual = usual_advances(alloc, collection, &gaps, &uses)?;
-        let characters = find_characters(alloc, collection, &gaps, &uses, &usual)?;
+        let gaps = count_gaps(alloc, &found.letters)?;
+        let uses = count_uses(alloc, &found.letters, found.glyphs.len())?;
+        let usual = usual_advances(alloc, patterns, found, &gaps, &uses)?;
+        let characters = find_characters(alloc, patterns, found, &gaps, &uses, &usual)?;
         let blanks = find_blanks(alloc, &gaps, &characters, &usual)?;
         Ok(Spacing {
             usual,
@@ -76,9 +76,9 @@ fn count_gaps(alloc: Global, letters: &[Letter]) -> Result<IndexMap<Character, u
     Ok(gaps)
 }
 
-/// How many letters each pattern has.
-fn count_uses(alloc: Global, letters: &[Letter], patterns: usize) -> Result<Vec<u32>, AllocError> {
-    let mut uses = vec![in alloc; 0u32; patterns]?;
+/// How many letters each glyph has.
+fn count_uses(alloc: Global, letters: &[Letter], glyphs: usize) -> Result<Vec<u32>, AllocError> {
+    let mut uses = vec![in alloc; 0u32; glyphs]?;
     for letter in letters {
         if let Some(count) = uses.get_mut(letter.glyph) {
             *count = count.saturating_add(1);
@@ -87,10 +87,11 @@ fn count_uses(alloc: Global, letters: &[Letter], patterns: usize) -> Result<Vec<
     Ok(uses)
 }
 
-/// For each pattern, the advance of its usual character: the least frequent enough, or the width where none is.
+/// For each glyph, the advance of its usual character: the least frequent enough, or the width where none is.
 fn usual_advances(
     alloc: Global,
-    collection: &Collection,
+    patterns: &IndexSet<Pattern>,
+    found: &Letters,
     gaps: &IndexMap<Character, u32>,
     uses: &[u32],
 ) -> Result<Vec<u32>, AllocError> {
@@ -103,9 +104,11 @@ fn usual_advances(
             }
         }
     }
-    for (advance, pattern) in usual.iter_mut().zip(collection.patterns.iter()) {
+    for (advance, glyph) in usual.iter_mut().zip(found.glyphs.iter()) {
         if *advance == u32::MAX {
-            *advance = pattern.width;
+            *advance = patterns
+                .get_index(glyph.pattern)
+                .map_or(0, |pattern| pattern.width);
         }
     }
     Ok(usual)
@@ -114,7 +117,8 @@ fn usual_advances(
 /// The characters: the usual one of each glyph, and others of advances so frequent that they save more than they take.
 fn find_characters(
     alloc: Global,
-    collection: &Collection,
+    patterns: &IndexSet<Pattern>,
+    found: &Letters,
     gaps: &IndexMap<Character, u32>,
     uses: &[u32],
     usual: &[u32],
@@ -128,7 +132,7 @@ fn find_characters(
     }
     for (gap, count) in gaps.iter() {
         let is_usual = usual.get(gap.glyph).copied() == Some(gap.advance);
-        if !is_usual && pays(collection, *gap, *count) {
+        if !is_usual && pays(patterns, found, *gap, *count) {
             characters.insert(*gap, *count)?;
         }
     }
@@ -137,8 +141,8 @@ fn find_characters(
 }
 
 /// Whether a character that is used so often saves more bytes than it takes, where each use saves one.
-fn pays(collection: &Collection, character: Character, count: u32) -> bool {
-    match collection.patterns.get_index(character.glyph) {
+fn pays(patterns: &IndexSet<Pattern>, found: &Letters, character: Character, count: u32) -> bool {
+    match found.pattern_of(patterns, character.glyph) {
         Some(pattern) => count as usize > pattern.character_bytes(),
         None => false,
     }

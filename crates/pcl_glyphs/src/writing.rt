@@ -33,6 +33,11 @@ impl Layout {
         code_of_rank(rank, self.spacing.blanks.len())
     }
 
+    /// The pattern of a glyph.
+    pub fn pattern_of(&self, glyph: usize) -> Option<&Pattern> {
+        self.letters.pattern_of(&self.patterns, glyph)
+    }
+
     /// The font and the code of a character, if it is sent.
     fn code(&self, character: Character) -> Option<Code> {
         let rank = self.spacing.characters.get_index_of(&character)?;
@@ -137,7 +142,7 @@ fn page_without(
     let row_bytes = page.size.row_bytes(page.dpi);
     let mut bytes = Vec::from_slice(alloc, page.bitmap.bytes())?;
     for letter in letters {
-        if let Some(pattern) = layout.patterns.get_index(letter.glyph) {
+        if let Some(pattern) = layout.pattern_of(letter.glyph) {
             let top = letter
                 .baseline
                 .saturating_sub(layout.letters.top_of(letter.glyph));
