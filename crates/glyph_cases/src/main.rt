@@ -1,0 +1,264 @@
+//! Pages of letters, written with soft fonts and compared with what they were. It prints a line for each case; `stdout` has what
+//! has to come: whether anything is proposed, and that a proposal has the same pages.
+//!
+//! A letter is a stroke of four dots in each of nine rows, which goes to the left or to the right from row to row as the bits of
+//! its number say. So there are 256 of them, each one shape, and no row is like the one above.
+#![tactic(auto)]
+
+use itoa::Buffer;
+use pcl_base::{Dpi, JobFault};
+use pcl_glyphs::write_glyph_job;
+use pcl_same::{Comparison, same};
+use std::alloc::{AllocError, Global};
+use std::io;
+
+/// Pages of letters, in lines.
+#[derive(Clone, Copy)]
+struct Case {
+    name: &'static str,
+    /// What stands before each page.
+    start: &'static [u8],
+    pages: u32,
+    lines: u32,
+    /// Letters in a line.
+    letters: u32,
+    /// How many letters there are, in turn, and the number of the first.
+    kinds: u32,
+    first: u32,
+    /// The place of the first letter, in dots.
+    x: u32,
+    y: u32,
+    /// From one letter to the next, and from line to line, in dots.
+    step: u32,
+    leading: u32,
+    /// So many dots each letter stands further right, in turn.
+    shifts: &'static [u32],
+    /// Whether a dot stands above each letter.
+    dotted: bool,
+}
+
+/// A line of letters in the middle of a page, which the cases change.
+const LINE: Case = Case {
+    name: "a letter forty times",
+    start: b"",
+    pages: 1,
+    lines: 1,
+    letters: 40,
+    kinds: 1,
+    first: 0b0101_1010,
+    x: 100,
+    y: 100,
+    step: 24,
+    leading: 40,
+    shifts: &[0],
+    dotted: false,
+};
+
+const CASES: [Case; 18] = [
+    LINE,
+    Case {
+        name: "one letter",
+        letters: 1,
+        ..LINE
+    },
+    Case {
+        name: "two letters in turn",
+        kinds: 2,
+        ..LINE
+    },
+    Case {
+        name: "a dot above each letter",
+        dotted: true,
+        ..LINE
+    },
+    Case {
+        name: "boxes that overlap",
+        first: 0,
+        step: 6,
+        ..LINE
+    },
+    Case {
+        name: "letters that touch",
+        first: 0,
+        step: 4,
+        ..LINE
+    },
+    Case {
+        name: "gaps in turn",
+        shifts: &[0, 1, 3, 6, 5, 4, 2, 8, 0, 7],
+        ..LINE
+    },
+    Case {
+        name: "gaps that are frequent",
+        lines: 40,
+        shifts: &[0, 1, 3, 6, 5, 4, 2, 8, 0, 7],
+        ..LINE
+    },
+    Case {
+        name: "a gap now and then",
+        letters: 50,
+        shifts: &[
+            0, 0, 0, 0, 0, 0, 0, 0, 0, 0, 0, 0, 0, 0, 0, 0, 0, 0, 0, 0, 4, 4, 4, 4, 4,
+        ],
+        ..LINE
+    },
+    Case {
+        name: "more letters than a font has codes",
+        lines: 24,
+        letters: 64,
+        kinds: 256,
+        first: 0,
+        ..LINE
+    },
+    Case {
+        name: "at the upper edge",
+        y: 0,
+        ..LINE
+    },
+    Case {
+        name: "at the left edge",
+        lines: 40,
+        letters: 1,
+        first: 0,
+        x: 0,
+        ..LINE
+    },
+    Case {
+        name: "cut by the right edge",
+        lines: 40,
+        letters: 1,
+        x: 2388,
+        ..LINE
+    },
+    Case {
+        name: "a line up to the right edge",
+        letters: 97,
+        ..LINE
+    },
+    Case {
+        name: "cut by the lower edge",
+        y: 3295,
+        ..LINE
+    },
+    Case {
+        name: "lines that are near",
+        lines: 40,
+        leading: 11,
+        ..LINE
+    },
+    Case {
+        name: "three pages",
+        pages: 3,
+        lines: 3,
+        kinds: 5,
+        ..LINE
+    },
+    Case {
+        name: "another size, and copies",
+        start: b"\x1b&l26a2X",
+        pages: 2,
+        ..LINE
+    },
+];
+
+fn main(rt: HostRuntime) -> io::Result<()> {
+    print_outcome(&rt, "no page", b"", Dpi::Dpi300)?;
+    print_outcome(&rt, "a white page", b"\x1b*cP", Dpi::Dpi300)?;
+    print_outcome(&rt, "a job that is refused", b"\x1b*cP\x1be", Dpi::Dpi300)?;
+    let job = job_of(rt.alloc(), &LINE)?;
+    print_outcome(&rt, "at 600 dots per inch", &job, Dpi::Dpi600)?;
+    for case in &CASES {
+        let job = job_of(rt.alloc(), case)?;
+        print_outcome(&rt, case.name, &job, Dpi::Dpi300)?;
+    }
+    Ok(())
+}
+
+/// Prints the line of a case.
+fn print_outcome<R: Print + AllocGlobal>(
+    rt: &R,
+    name: &str,
+    job: &[u8],
+    dpi: Dpi,
+) -> io::Result<()> {
+    match write_glyph_job(rt.alloc(), job, dpi) {
+        Ok(Some(written)) => match same(rt.alloc(), job, &written, dpi) {
+            Ok(Comparison::Same) => println!(rt; "{name}: proposed, the same"),
+            answer => println!(rt; "{name}: proposed, {answer:?}"),
+        },
+        Ok(None) => println!(rt; "{name}: nothing proposed"),
+        Err(JobFault::Refused(refusal)) => println!(rt; "{name}: refused at {}", refusal.at),
+        Err(JobFault::Memory) => println!(rt; "{name}: out of memory"),
+    }
+}
+
+/// The job of a case.
+fn job_of(alloc: Global, case: &Case) -> Result<Vec<u8>, AllocError> {
+    let mut job = Vec::new(alloc);
+    for _ in 0..case.pages {
+        job.extend_from_slice(case.start)?;
+        job.extend_from_slice(b"\x1b&l0E\x1b*t300R")?;
+        for line in 0..case.lines {
+            append_line(case, line, &mut job)?;
+        }
+        job.push(12)?;
+    }
+    Ok(job)
+}
+
+/// Appends the letters of a line.
+fn append_line(case: &Case, line: u32, job: &mut Vec<u8>) -> Result<(), AllocError> {
+    let y = case.y.saturating_add(line.saturating_mul(case.leading));
+    let mut number = line.saturating_mul(case.letters);
+    let mut x = case.x;
+    for place in 0..case.letters {
+        let shift = shift_of(case, place);
+        let kind = case.first.saturating_add(number % case.kinds.max(1));
+        if case.dotted {
+            append_dot(x.saturating_add(shift), y.saturating_sub(8), job)?;
+        }
+        append_letter(kind, x.saturating_add(shift), y, job)?;
+        number = number.saturating_add(1);
+        x = x.saturating_add(case.step);
+    }
+    Ok(())
+}
+
+/// How many dots a letter of a line stands further right.
+fn shift_of(case: &Case, place: u32) -> u32 {
+    let turn = place as usize % case.shifts.len().max(1);
+    case.shifts.get(turn).copied().unwrap_or(0)
+}
+
+/// Appends a letter whose raster starts at `(x, y)`.
+fn append_letter(kind: u32, x: u32, y: u32, job: &mut Vec<u8>) -> Result<(), AllocError> {
+    append_start(x, y, job)?;
+    let mut bits = kind;
+    let mut place: u32 = 8;
+    for _ in 0..9 {
+        let [_, left, middle, right] = (0xF0_0000u32 >> place.min(20)).to_be_bytes();
+        job.extend_from_slice(&[b'\x1b', b'*', b'b', b'3', b'W', left, middle, right])?;
+        place = if bits % 2 == 1 {
+            place.saturating_add(1)
+        } else {
+            place.saturating_sub(1)
+        };
+        bits /= 2;
+    }
+    job.extend_from_slice(b"\x1b*rB")
+}
+
+/// Appends a dot of four by three dots above a letter.
+fn append_dot(x: u32, y: u32, job: &mut Vec<u8>) -> Result<(), AllocError> {
+    append_start(x, y, job)?;
+    job.extend_from_slice(b"\x1b*b2W\x00\xf0\x1b*b2W\x00\xf0\x1b*b2W\x00\xf0\x1b*rB")
+}
+
+/// Appends the start of a raster at `(x, y)`.
+fn append_start(x: u32, y: u32, job: &mut Vec<u8>) -> Result<(), AllocError> {
+    job.extend_from_slice(b"\x1b*p")?;
+    job.extend_from_slice(Buffer::new().format(x).as_bytes())?;
+    job.extend_from_slice(b"x")?;
+    job.extend_from_slice(Buffer::new().format(y).as_bytes())?;
+    job.extend_from_slice(b"Y\x1b*r1A")
+}

@@ -1,0 +1,45 @@
+//! The rows on which shapes stand.
+
+use crate::shapes::Extent;
+use std::alloc::{AllocError, Global};
+
+/// Shapes higher than this many dots don't say where a line of text is.
+const TEXT_HEIGHT_LIMIT: u32 = 120;
+
+/// How far below a shape its line may lie, in dots, as that of the dot of an i does.
+const REACH: u32 = 32;
+
+/// How many shapes end above each row of a page of this height.
+pub fn count_bottoms(
+    alloc: Global,
+    height: u32,
+    extents: &[Extent],
+) -> Result<Vec<u32>, AllocError> {
+    let rows = (height as usize).saturating_add(1);
+    let mut counts = vec![in alloc; 0u32; rows]?;
+    for extent in extents {
+        if extent.height() <= TEXT_HEIGHT_LIMIT {
+            if let Some(count) = counts.get_mut(extent.bottom as usize) {
+                *count = count.saturating_add(1);
+            }
+        }
+    }
+    Ok(counts)
+}
+
+/// The row on which a shape seems to stand: of the rows from its middle to a little below it the one above which most
+/// shapes end.
+pub fn guess_baseline(extent: Extent, bottoms: &[u32]) -> u32 {
+    let middle = extent.top.saturating_add(extent.height() / 2);
+    let last = extent.bottom.saturating_add(REACH);
+    let mut best = extent.bottom;
+    let mut most = bottoms.get(best as usize).copied().unwrap_or(0);
+    for y in middle..last {
+        let count = bottoms.get(y as usize).copied().unwrap_or(0);
+        if count > most {
+            best = y;
+            most = count;
+        }
+    }
+    best
+}

@@ -1,0 +1,98 @@
+//! The shapes of all pages of a job.
+
+use crate::baselines::{count_bottoms, guess_baseline};
+use crate::patterns::{Pattern, draw_patterns};
+use crate::runs::find_runs;
+use crate::shapes::{Extent, find_shapes};
+use indexmap::IndexSet;
+use pcl_base::Dpi;
+use pcl_page::{Page, PageSink};
+use std::alloc::{AllocError, Global};
+use std::marker::Model;
+
+/// After so many shapes no further pages are looked at.
+const ITEM_LIMIT: usize = 4_000_000;
+
+/// A shape on a page.
+#[derive(Clone, Copy)]
+pub struct Item {
+    /// The number of its page, from 0.
+    pub page: usize,
+    /// The number of its pattern.
+    pub pattern: usize,
+    /// The dot of its left edge.
+    pub x: u32,
+    /// Its topmost row.
+    pub top: u32,
+    /// The row on which it seems to stand.
+    pub baseline: u32,
+}
+
+/// The shapes of the pages that came, in order. Shapes that are too large aren't kept, and none of a page that hasn't 300
+/// dots per inch, since a bit of a font is a dot of these.
+#[derive(Drop)]
+pub struct Collection {
+    /// The height of each page, in dots.
+    pub heights: Vec<u32>,
+    /// The patterns of the shapes, each once.
+    pub patterns: IndexSet<Pattern>,
+    pub items: Vec<Item>,
+}
+
+impl Model for Collection {
+    // Nothing is said of what was collected.
+    ghost Value = { Unit {0} };
+
+    ghost view = { λ _. tt };
+}
+
+impl Collection {
+    pub fn new(alloc: Global) -> Collection {
+        Collection {
+            heights: Vec::new(alloc),
+            patterns: IndexSet::new(alloc),
+            items: Vec::new(alloc),
+        }
+    }
+
+    /// Collects the shapes of a page.
+    fn collect(&mut self, page: &Page) -> Result<(), AllocError> {
+        let alloc = *self.items.allocator();
+        let number = self.heights.len();
+        let runs = find_runs(alloc, &page.bitmap)?;
+        let shapes = find_shapes(alloc, &runs)?;
+        let patterns = draw_patterns(alloc, &runs.runs, &shapes)?;
+        let bottoms = count_bottoms(alloc, page.size.height(page.dpi), &shapes.extents)?;
+        for (extent, pattern) in shapes.extents.iter().zip(patterns) {
+            if !pattern.rows.is_empty() {
+                let (pattern, _) = self.patterns.insert_full(pattern)?;
+                self.items
+                    .push(item_of(number, pattern, *extent, &bottoms))?;
+            }
+        }
+        Ok(())
+    }
+}
+
+/// The shape with this box.
+fn item_of(page: usize, pattern: usize, extent: Extent, bottoms: &[u32]) -> Item {
+    Item {
+        page,
+        pattern,
+        x: extent.left,
+        top: extent.top,
+        baseline: guess_baseline(extent, bottoms),
+    }
+}
+
+impl PageSink for Collection {
+    ghost takes = { λ old page new. Unit {0} };
+
+    fn page(&mut self, page: &Page) -> Result<(), AllocError> {
+        if page.dpi == Dpi::Dpi300 && self.items.len() < ITEM_LIMIT {
+            self.collect(page)?;
+        }
+        self.heights.push(page.size.height(page.dpi))?;
+        Ok(())
+    }
+}

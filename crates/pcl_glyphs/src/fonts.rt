@@ -1,0 +1,156 @@
+//! Sending fonts (PCL 5 manual, "Soft Font Creation").
+
+use crate::codes::{blank_code, font_id};
+use crate::letters::Letters;
+use crate::numbers::{append_labelled, append_word};
+use crate::patterns::Pattern;
+use crate::writing::Layout;
+use std::alloc::AllocError;
+
+/// The bytes of a font header.
+const HEADER_BYTES: u32 = 64;
+
+/// The bytes of a character before its rows.
+const DESCRIPTOR_BYTES: u32 = 16;
+
+/// Quarter dots in a dot.
+const QUARTERS: u32 = 4;
+
+/// A character as it is sent.
+#[derive(Clone, Copy)]
+struct Sent<'a> {
+    code: u8,
+    /// How far its topmost row lies above the cursor, in dots.
+    top: u32,
+    /// In dots.
+    width: u32,
+    /// In dots.
+    height: u32,
+    /// In dots.
+    advance: u32,
+    rows: &'a [u8],
+}
+
+/// Appends all fonts with their characters.
+pub fn append_fonts(layout: &Layout, out: &mut Vec<u8>) -> Result<(), AllocError> {
+    let mut font = None;
+    for (rank, character) in layout.spacing.characters.keys().enumerate() {
+        let Some(code) = layout.code_of_rank(rank) else {
+            return Ok(());
+        };
+        let Some(pattern) = layout.pattern_of(character.glyph) else {
+            return Ok(());
+        };
+        if font != Some(code.font) {
+            append_font(layout, code.font, out)?;
+            font = Some(code.font);
+        }
+        let sent = Sent {
+            code: code.code,
+            top: layout.letters.top_of(character.glyph),
+            width: pattern.width,
+            height: pattern.height,
+            advance: character.advance,
+            rows: &pattern.rows,
+        };
+        append_character(&sent, out)?;
+    }
+    Ok(())
+}
+
+/// Appends a font and its blanks.
+fn append_font(layout: &Layout, font: usize, out: &mut Vec<u8>) -> Result<(), AllocError> {
+    append_labelled(b"\x1b*c", font_id(font), out)?;
+    append_labelled(b"D\x1b)s", HEADER_BYTES, out)?;
+    out.extend_from_slice(b"W")?;
+    append_header(layout, out)?;
+    for (number, gap) in layout.spacing.blanks.keys().enumerate().skip(1) {
+        let sent = Sent {
+            code: blank_code(number),
+            top: 0,
+            width: 1,
+            height: 1,
+            advance: *gap,
+            rows: &[0],
+        };
+        append_character(&sent, out)?;
+    }
+    Ok(())
+}
+
+/// Appends a character: its code, and its descriptor and rows.
+fn append_character(sent: &Sent<'_>, out: &mut Vec<u8>) -> Result<(), AllocError> {
+    let size = u32::try_from(sent.rows.len()).unwrap_or(0);
+    append_labelled(b"\x1b*c", u32::from(sent.code), out)?;
+    append_labelled(b"E\x1b(s", DESCRIPTOR_BYTES.saturating_add(size), out)?;
+    // Format 4, no continuation, a descriptor of 14 bytes, class 1, portrait.
+    out.extend_from_slice(&[b'W', 4, 0, 14, 1, 0, 0])?;
+    append_word(0, out)?;
+    append_word(sent.top, out)?;
+    append_word(sent.width, out)?;
+    append_word(sent.height, out)?;
+    append_word(sent.advance.saturating_mul(QUARTERS), out)?;
+    out.extend_from_slice(sent.rows)
+}
+
+/// Appends the header of a proportional font, whose pitch is the first blank.
+fn append_header(layout: &Layout, out: &mut Vec<u8>) -> Result<(), AllocError> {
+    let cell = Cell::of(layout);
+    let pitch = layout.spacing.blanks.keys().next().copied().unwrap_or(1);
+    append_word(HEADER_BYTES, out)?;
+    // Format 0, type 1, and two bytes that aren't used.
+    out.extend_from_slice(&[0, 1, 0, 0])?;
+    append_word(cell.baseline, out)?;
+    append_word(cell.width, out)?;
+    append_word(cell.height, out)?;
+    // Portrait, proportional, and the symbol set Roman-8.
+    out.extend_from_slice(&[0, 1, 1, 21])?;
+    append_word(pitch.saturating_mul(QUARTERS), out)?;
+    append_word(cell.height.saturating_mul(QUARTERS), out)?;
+    append_word(cell.baseline.saturating_mul(QUARTERS / 2), out)?;
+    // Width, style, weight, typeface, serifs, quality, placement, and no underline.
+    out.extend_from_slice(&[0, 0, 0, 0, 0, 0, 2, 0, 0, 0])?;
+    append_word(cell.height.saturating_mul(QUARTERS), out)?;
+    append_word(cell.width.saturating_mul(QUARTERS), out)?;
+    // The first and the last code, the parts of pitch and height below quarter dots, the height of capitals, a number.
+    out.extend_from_slice(&[0, 32, 0, 255, 0, 0, 0, 0, 0, 0, 0, 0])?;
+    out.extend_from_slice(b"pclmin glyphs   ")
+}
+
+/// The box that holds each character, in dots.
+#[derive(Clone, Copy)]
+struct Cell {
+    width: u32,
+    height: u32,
+    /// How far its topmost row lies above the baseline.
+    baseline: u32,
+}
+
+impl Cell {
+    /// The box that holds all characters of a job.
+    fn of(layout: &Layout) -> Cell {
+        let mut cell = Cell {
+            width: 1,
+            height: 1,
+            baseline: 0,
+        };
+        for character in layout.spacing.characters.keys() {
+            if let Some(pattern) = layout.pattern_of(character.glyph) {
+                cell = cell.with(pattern, &layout.letters, character.glyph);
+            }
+        }
+        cell
+    }
+
+    /// The box with one character more.
+    fn with(self, pattern: &Pattern, letters: &Letters, glyph: usize) -> Cell {
+        let top = letters.top_of(glyph);
+        let below = self.height.saturating_sub(self.baseline);
+        let baseline = self.baseline.max(top);
+        Cell {
+            width: self.width.max(pattern.width),
+            height: baseline.saturating_add(below.max(pattern.height.saturating_sub(top))),
+            baseline,
+        }
+    }
+}

@@ -1,0 +1,23 @@
+//! Commands and fields with numbers.
+
+use itoa::Buffer;
+use std::alloc::AllocError;
+
+/// Appends a label and a number in decimal after it.
+pub fn append_labelled(label: &[u8], number: u32, out: &mut Vec<u8>) -> Result<(), AllocError> {
+    let mut digits = Buffer::new();
+    out.extend_from_slice(label)?;
+    out.extend_from_slice(digits.format(number).as_bytes())
+}
+
+/// Appends a field of two bytes, the higher one first. A number that has no place in it becomes the largest that has
+/// no sign.
+pub fn append_word(number: u32, out: &mut Vec<u8>) -> Result<(), AllocError> {
+    let word = u16::try_from(number.min(32_767)).unwrap_or(0);
+    out.extend_from_slice(&word.to_be_bytes())
+}
+
+/// How many digits a number has.
+pub fn digit_count(number: u32) -> usize {
+    Buffer::new().format(number).len()
+}

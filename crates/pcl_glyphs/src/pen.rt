@@ -1,0 +1,180 @@
+//! The text of letters: codes, moves of the cursor, and changes of the font.
+
+use crate::codes::{blank_code, font_id};
+use crate::letters::Letter;
+use crate::numbers::{append_labelled, digit_count};
+use crate::writing::Layout;
+use std::alloc::AllocError;
+
+/// The primary font is in use from here on.
+const SHIFT_IN: u8 = 15;
+
+/// The secondary font is in use from here on.
+const SHIFT_OUT: u8 = 14;
+
+/// What the printer has been told: where its cursor is, and which fonts are selected.
+#[derive(Clone, Copy, Debug)]
+pub struct Pen {
+    /// The dot of the cursor.
+    pub x: u32,
+    /// The dot row of the cursor; none at the start of a page.
+    pub line: Option<u32>,
+    /// The width of the page: the cursor stops there.
+    pub page_width: u32,
+    /// Whether the first font is selected as the primary one.
+    pub has_primary: bool,
+    /// The font that is selected as the secondary one.
+    pub secondary: Option<usize>,
+    /// Whether the secondary font is in use.
+    pub is_shifted: bool,
+}
+
+impl Pen {
+    /// At the start of a job.
+    pub fn new() -> Pen {
+        Pen {
+            x: 0,
+            line: None,
+            page_width: 0,
+            has_primary: false,
+            secondary: None,
+            is_shifted: false,
+        }
+    }
+
+    /// At the start of the text of a page. The fonts stay.
+    pub fn on_page(self, page_width: u32) -> Pen {
+        Pen {
+            x: 0,
+            line: None,
+            page_width,
+            has_primary: self.has_primary,
+            secondary: self.secondary,
+            is_shifted: self.is_shifted,
+        }
+    }
+
+    /// With the cursor at another place.
+    fn at(self, x: u32, line: u32) -> Pen {
+        Pen {
+            x: x.min(self.page_width),
+            line: Some(line),
+            page_width: self.page_width,
+            has_primary: self.has_primary,
+            secondary: self.secondary,
+            is_shifted: self.is_shifted,
+        }
+    }
+}
+
+/// Appends the text of the letters of a page.
+pub fn append_text(
+    layout: &Layout,
+    letters: &[Letter],
+    pen: Pen,
+    out: &mut Vec<u8>,
+) -> Result<Pen, AllocError> {
+    let mut pen = pen;
+    for (place, letter) in letters.iter().enumerate() {
+        let next = letters.get(place.saturating_add(1));
+        pen = append_letter(layout, letter, next, pen, out)?;
+    }
+    Ok(pen)
+}
+
+/// Appends a letter, with what leads to it, so that the cursor advances to the next one where a character does so.
+fn append_letter(
+    layout: &Layout,
+    letter: &Letter,
+    next: Option<&Letter>,
+    pen: Pen,
+    out: &mut Vec<u8>,
+) -> Result<Pen, AllocError> {
+    let gap = match next {
+        Some(next) => letter.gap_to(next),
+        None => None,
+    };
+    let Some((code, advance)) = layout.character(letter.glyph, gap) else {
+        return Ok(pen);
+    };
+    append_move(layout, letter, pen, out)?;
+    let pen = select_font(code.font, pen, out)?;
+    out.push(code.code)?;
+    Ok(pen.at(letter.x.saturating_add(advance), letter.baseline))
+}
+
+/// Appends what moves the cursor to a letter.
+fn append_move(
+    layout: &Layout,
+    letter: &Letter,
+    pen: Pen,
+    out: &mut Vec<u8>,
+) -> Result<(), AllocError> {
+    if pen.line != Some(letter.baseline) {
+        return append_line_start(letter, pen, out);
+    }
+    if letter.x < pen.x {
+        append_labelled(b"\x1b*p-", pen.x.saturating_sub(letter.x), out)?;
+        return out.extend_from_slice(b"X");
+    }
+    if letter.x > pen.x {
+        return append_gap(layout, letter.x.saturating_sub(pen.x), out);
+    }
+    Ok(())
+}
+
+/// Appends a blank of this many dots, or else a move.
+fn append_gap(layout: &Layout, gap: u32, out: &mut Vec<u8>) -> Result<(), AllocError> {
+    match layout.spacing.blanks.get_index_of(&gap) {
+        Some(number) => {
+            out.push(blank_code(number))?;
+            Ok(())
+        }
+        None => {
+            append_labelled(b"\x1b*p+", gap, out)?;
+            out.extend_from_slice(b"X")
+        }
+    }
+}
+
+/// Appends a move to the start of another line. It is counted from the line above where that takes fewer bytes.
+fn append_line_start(letter: &Letter, pen: Pen, out: &mut Vec<u8>) -> Result<(), AllocError> {
+    append_labelled(b"\x1b*p", letter.x, out)?;
+    let below = pen
+        .line
+        .and_then(|line| letter.baseline.checked_sub(line))
+        .unwrap_or(u32::MAX);
+    if digit_count(below).saturating_add(1) < digit_count(letter.baseline) {
+        append_labelled(b"x+", below, out)?;
+    } else {
+        append_labelled(b"x", letter.baseline, out)?;
+    }
+    out.extend_from_slice(b"Y")
+}
+
+/// Appends what brings a font into use: the first font is the primary one, and all others in turn the secondary one.
+fn select_font(font: usize, pen: Pen, out: &mut Vec<u8>) -> Result<Pen, AllocError> {
+    let mut pen = pen;
+    if font == 0 {
+        if !pen.has_primary {
+            append_labelled(b"\x1b(", font_id(font), out)?;
+            out.extend_from_slice(b"X")?;
+            pen.has_primary = true;
+        }
+        if pen.is_shifted {
+            out.push(SHIFT_IN)?;
+            pen.is_shifted = false;
+        }
+    } else {
+        if pen.secondary != Some(font) {
+            append_labelled(b"\x1b)", font_id(font), out)?;
+            out.extend_from_slice(b"X")?;
+            pen.secondary = Some(font);
+        }
+        if !pen.is_shifted {
+            out.push(SHIFT_OUT)?;
+            pen.is_shifted = true;
+        }
+    }
+    Ok(pen)
+}

@@ -1,0 +1,172 @@
+//! How far letters advance, and what makes the gaps that differ.
+
+use crate::letters::{Letter, Letters};
+use crate::patterns::Pattern;
+use indexmap::{IndexMap, IndexSet};
+use std::alloc::{AllocError, Global};
+
+/// The usual advance of a glyph is the least that at least one in so many of its letters has.
+const USUAL_PART: u32 = 20;
+
+/// How many gaps are made by blanks, at most.
+const BLANK_LIMIT: usize = 20;
+
+/// A gap that is as frequent as this is made by a blank: a blank takes some 31 bytes in each font, and a cursor move
+/// five bytes more than a blank.
+const BLANK_USES: u32 = 12;
+
+/// A glyph with an advance.
+#[derive(Clone, Copy, Debug, PartialEq, Eq, Hash)]
+pub struct Character {
+    /// The number of the glyph.
+    pub glyph: usize,
+    /// How far the cursor moves, in dots.
+    pub advance: u32,
+}
+
+/// The characters that are sent, and the gaps that blanks make.
+#[derive(Drop)]
+pub struct Spacing {
+    /// For each glyph, the advance of its usual character.
+    pub usual: Vec<u32>,
+    /// The characters, the most used first, and how often each is used.
+    pub characters: IndexMap<Character, u32>,
+    /// The gaps that blanks make, in dots, the most frequent first, and how often each is there.
+    pub blanks: IndexMap<u32, u32>,
+}
+
+impl Spacing {
+    /// The spacing of the letters of a job.
+    pub fn new(
+        alloc: Global,
+        patterns: &IndexSet<Pattern>,
+        found: &Letters,
+    ) -> Result<Spacing, AllocError> {
+        let gaps = count_gaps(alloc, &found.letters)?;
+        let uses = count_uses(alloc, &found.letters, found.glyphs.len())?;
+        let usual = usual_advances(alloc, patterns, found, &gaps, &uses)?;
+        let characters = find_characters(alloc, patterns, found, &gaps, &uses, &usual)?;
+        let blanks = find_blanks(alloc, &gaps, &characters, &usual)?;
+        Ok(Spacing {
+            usual,
+            characters,
+            blanks,
+        })
+    }
+
+    /// The usual character of a glyph.
+    pub fn usual_character(&self, glyph: usize) -> Character {
+        Character {
+            glyph,
+            advance: self.usual.get(glyph).copied().unwrap_or(0),
+        }
+    }
+}
+
+/// How often each glyph is followed at each distance on its line: the advance is the distance.
+fn count_gaps(alloc: Global, letters: &[Letter]) -> Result<IndexMap<Character, u32>, AllocError> {
+    let mut gaps = IndexMap::new(alloc);
+    for (letter, next) in letters.iter().zip(letters.iter().skip(1)) {
+        if let Some(advance) = letter.gap_to(next) {
+            let glyph = letter.glyph;
+            let count = gaps.entry(Character { glyph, advance })?.or_insert(0u32);
+            *count = count.saturating_add(1);
+        }
+    }
+    Ok(gaps)
+}
+
+/// How many letters each glyph has.
+fn count_uses(alloc: Global, letters: &[Letter], glyphs: usize) -> Result<Vec<u32>, AllocError> {
+    let mut uses = vec![in alloc; 0u32; glyphs]?;
+    for letter in letters {
+        if let Some(count) = uses.get_mut(letter.glyph) {
+            *count = count.saturating_add(1);
+        }
+    }
+    Ok(uses)
+}
+
+/// For each glyph, the advance of its usual character: the least frequent enough, or the width where none is.
+fn usual_advances(
+    alloc: Global,
+    patterns: &IndexSet<Pattern>,
+    found: &Letters,
+    gaps: &IndexMap<Character, u32>,
+    uses: &[u32],
+) -> Result<Vec<u32>, AllocError> {
+    let mut usual = vec![in alloc; u32::MAX; uses.len()]?;
+    for (gap, count) in gaps.iter() {
+        let uses = uses.get(gap.glyph).copied().unwrap_or(0);
+        if count.saturating_mul(USUAL_PART) >= uses {
+            if let Some(advance) = usual.get_mut(gap.glyph) {
+                *advance = (*advance).min(gap.advance);
+            }
+        }
+    }
+    for (advance, glyph) in usual.iter_mut().zip(found.glyphs.iter()) {
+        if *advance == u32::MAX {
+            *advance = patterns
+                .get_index(glyph.pattern)
+                .map_or(0, |pattern| pattern.width);
+        }
+    }
+    Ok(usual)
+}
+
+/// The characters: the usual one of each glyph, and others of advances so frequent that they save more than they take.
+fn find_characters(
+    alloc: Global,
+    patterns: &IndexSet<Pattern>,
+    found: &Letters,
+    gaps: &IndexMap<Character, u32>,
+    uses: &[u32],
+    usual: &[u32],
+) -> Result<IndexMap<Character, u32>, AllocError> {
+    let mut characters = IndexMap::new(alloc);
+    for (glyph, (uses, advance)) in uses.iter().zip(usual.iter()).enumerate() {
+        if *uses > 0 {
+            let advance = *advance;
+            characters.insert(Character { glyph, advance }, *uses)?;
+        }
+    }
+    for (gap, count) in gaps.iter() {
+        let is_usual = usual.get(gap.glyph).copied() == Some(gap.advance);
+        if !is_usual && pays(patterns, found, *gap, *count) {
+            characters.insert(*gap, *count)?;
+        }
+    }
+    characters.sort_by_key(|_character, uses| u32::MAX.saturating_sub(*uses))?;
+    Ok(characters)
+}
+
+/// Whether a character that is used so often saves more bytes than it takes, where each use saves one.
+fn pays(patterns: &IndexSet<Pattern>, found: &Letters, character: Character, count: u32) -> bool {
+    match found.pattern_of(patterns, character.glyph) {
+        Some(pattern) => count as usize > pattern.character_bytes(),
+        None => false,
+    }
+}
+
+/// The gaps that blanks make: those that are left where the usual character advances too little.
+fn find_blanks(
+    alloc: Global,
+    gaps: &IndexMap<Character, u32>,
+    characters: &IndexMap<Character, u32>,
+    usual: &[u32],
+) -> Result<IndexMap<u32, u32>, AllocError> {
+    let mut blanks = IndexMap::new(alloc);
+    for (gap, count) in gaps.iter() {
+        let advance = usual.get(gap.glyph).copied().unwrap_or(0);
+        if gap.advance > advance && !characters.contains_key(gap) {
+            let total = blanks
+                .entry(gap.advance.saturating_sub(advance))?
+                .or_insert(0u32);
+            *total = total.saturating_add(*count);
+        }
+    }
+    blanks.retain(|_gap: &u32, count: &mut u32| -> bool { *count >= BLANK_USES });
+    blanks.sort_by_key(|_gap, count| u32::MAX.saturating_sub(*count))?;
+    blanks.truncate(BLANK_LIMIT);
+    Ok(blanks)
+}

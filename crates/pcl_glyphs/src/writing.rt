@@ -1,0 +1,204 @@
+//! Pages written as rasters and text.
+
+ghost use Rattle.std.specs.Prelude.{◌≡◌, ◌<◌};
+ghost use Rattle.pcl_bitmap.specs.Bitmap.{IsPicture};
+
+use crate::codes::{Code, code_of_rank};
+use crate::letters::{Letter, Letters};
+use crate::patterns::Pattern;
+use crate::pen::{Pen, append_text};
+use crate::spacing::{Character, Spacing};
+use indexmap::IndexSet;
+use pcl_bitmap::Bitmap;
+use pcl_page::{Page, PageSink};
+use pcl_plan::plan;
+use pcl_writer::write_page;
+use std::alloc::{AllocError, Global};
+use std::marker::Model;
+
+/// The form feed that ends a page.
+const FORM_FEED: u8 = 12;
+
+/// What of a job is printed as text.
+#[derive(Drop)]
+pub struct Layout {
+    pub patterns: IndexSet<Pattern>,
+    pub letters: Letters,
+    pub spacing: Spacing,
+}
+
+impl Layout {
+    /// The font and the code of the character of this rank, if there is one left for it.
+    pub fn code_of_rank(&self, rank: usize) -> Option<Code> {
+        code_of_rank(rank, self.spacing.blanks.len())
+    }
+
+    /// The pattern of a glyph.
+    pub fn pattern_of(&self, glyph: usize) -> Option<&Pattern> {
+        self.letters.pattern_of(&self.patterns, glyph)
+    }
+
+    /// The font and the code of a character, if it is sent.
+    fn code(&self, character: Character) -> Option<Code> {
+        let rank = self.spacing.characters.get_index_of(&character)?;
+        self.code_of_rank(rank)
+    }
+
+    /// The character that prints a glyph where the next letter stands so far right of it, and its advance: one that
+    /// advances so far, or else the usual one. None where that isn't sent.
+    pub fn character(&self, glyph: usize, gap: Option<u32>) -> Option<(Code, u32)> {
+        let usual = self.spacing.usual_character(glyph);
+        let usual_code = self.code(usual)?;
+        if let Some(advance) = gap {
+            if let Some(code) = self.code(Character { glyph, advance }) {
+                return Some((code, advance));
+            }
+        }
+        Some((usual_code, usual.advance))
+    }
+
+    /// The letters of a page, of those from this place on, which are of this page and later ones.
+    fn letters_of_page(&self, page: usize, from: usize) -> &[Letter] {
+        let letters = self.letters.letters.get(from..).unwrap_or(&[]);
+        let count = letters.partition_point(|letter| letter.page <= page);
+        letters.get(..count).unwrap_or(&[])
+    }
+}
+
+/// Writes the pages that come.
+#[derive(Drop)]
+pub struct Writer<'a> {
+    layout: &'a Layout,
+    /// How many pages came.
+    page: usize,
+    /// How many letters are written.
+    written: usize,
+    pen: Pen,
+    pub out: Vec<u8>,
+}
+
+impl<'a> Model for Writer<'a> {
+    // Nothing is said of what was written.
+    ghost Value = { Unit {0} };
+
+    ghost view = { λ _. tt };
+}
+
+impl<'a> Writer<'a> {
+    /// Goes on after these bytes.
+    pub fn new(layout: &'a Layout, out: Vec<u8>) -> Writer<'a> {
+        Writer {
+            layout,
+            page: 0,
+            written: 0,
+            pen: Pen::new(),
+            out,
+        }
+    }
+}
+
+impl PageSink for Writer<'_> {
+    ghost takes = { λ old page new. Unit {0} };
+
+    fn page(&mut self, page: &Page) -> Result<(), AllocError> {
+        let alloc = *self.out.allocator();
+        let letters = self.layout.letters_of_page(self.page, self.written);
+        let mut text = Vec::new(alloc);
+        let pen = self.pen.on_page(page.size.width(page.dpi));
+        self.pen = append_page(alloc, self.layout, letters, page, pen, &mut text)?;
+        self.out.extend_from_slice(&text)?;
+        self.page = self.page.saturating_add(1);
+        self.written = self.written.saturating_add(letters.len());
+        Ok(())
+    }
+}
+
+/// Appends a page: the raster of what isn't printed as text, and the text.
+fn append_page(
+    alloc: Global,
+    layout: &Layout,
+    letters: &[Letter],
+    page: &Page,
+    pen: Pen,
+    out: &mut Vec<u8>,
+) -> Result<Pen, AllocError> {
+    let others = page_without(alloc, layout, letters, page)?;
+    let least = plan(alloc, &others)?;
+    write_page(&others, &least, out)?;
+    // The form feed comes after the text.
+    out.pop();
+    let pen = append_text(layout, letters, pen, out)?;
+    out.push(FORM_FEED)?;
+    Ok(pen)
+}
+
+/// A page without the dots of some letters.
+fn page_without(
+    alloc: Global,
+    layout: &Layout,
+    letters: &[Letter],
+    page: &Page,
+) -> Result<Page, AllocError> {
+    let row_bytes = page.size.row_bytes(page.dpi);
+    let mut bytes = Vec::from_slice(alloc, page.bitmap.bytes())?;
+    for letter in letters {
+        if let Some(pattern) = layout.pattern_of(letter.glyph) {
+            let top = letter
+                .baseline
+                .saturating_sub(layout.letters.top_of(letter.glyph));
+            erase(&mut bytes, row_bytes, letter.x, top, pattern);
+        }
+    }
+    let mut bitmap = Bitmap::new(alloc, page.size, page.dpi)?;
+    paint(&bytes, row_bytes, &mut bitmap);
+    Ok(Page {
+        size: page.size,
+        copies: page.copies,
+        dpi: page.dpi,
+        bitmap,
+    })
+}
+
+/// Paints rows of so many bytes.
+fn paint(bytes: &[u8], row_bytes: usize, bitmap: &mut Bitmap)
+    ensures size { bitmap.new.size ≡ bitmap.old.size }
+    ensures dpi { bitmap.new.dpi ≡ bitmap.old.dpi }
+    ensures picture { IsPicture bitmap.new }
+{
+    let page_width = bitmap.size().width(bitmap.dpi());
+    let mut y: u64 = 0;
+    for row in bytes.chunks(row_bytes.max(1)) {
+        let bits = u32::try_from(row.len()).map_or(0, |bytes| bytes.saturating_mul(8));
+        bitmap.paint_row(0, y, 1, page_width.min(bits), row);
+        y = y.saturating_add(1);
+    }
+}
+
+/// Makes the dots of a pattern white, whose left upper dot is `(x, top)`.
+fn erase(bytes: &mut [u8], row_bytes: usize, x: u32, top: u32, pattern: &Pattern) {
+    let mut start = (top as usize).saturating_mul(row_bytes);
+    for row in pattern.rows.chunks(pattern.row_bytes()) {
+        erase_row(bytes, start.saturating_add(x as usize / 8), x % 8, row);
+        start = start.saturating_add(row_bytes);
+    }
+}
+
+/// Makes the dots of a row of a pattern white, from a bit of the byte in this place on.
+fn erase_row(bytes: &mut [u8], place: usize, bit: u32, row: &[u8])
+    requires { bit < 8 }
+{
+    let mut place = place;
+    for dots in row {
+        let [left, right] = (u16::from(*dots) << (8 - bit)).to_be_bytes();
+        clear(bytes, place, left);
+        place = place.saturating_add(1);
+        clear(bytes, place, right);
+    }
+}
+
+/// Clears these bits of the byte in a place.
+fn clear(bytes: &mut [u8], place: usize, bits: u8) {
+    if let Some(byte) = bytes.get_mut(place) {
+        *byte &= !bits;
+    }
+}
