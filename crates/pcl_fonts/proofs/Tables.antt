@@ -225,11 +225,13 @@ follows_mark {es} {fs} {id} {code} e f {permanent} m = marked permanent refl
 
     marked : (b : Bool) → b ≡ permanent → Follows (view es) (view fs) (control (making b) id code)
     marked true is = record {
-      fonts = λ q. fonts q ∙ ap (λ b. cond (nat_eq id q) (option_map (with_permanent b) (font_at (view es) q)) (font_at (view es) q)) (sym is);
+      fonts = λ q. fonts q
+          ∙ ap (λ b. cond (nat_eq id q) (option_map (with_permanent b) (font_at (view es) q)) (font_at (view es) q)) (sym is);
       characters = characters;
     }
     marked false is = record {
-      fonts = λ q. fonts q ∙ ap (λ b. cond (nat_eq id q) (option_map (with_permanent b) (font_at (view es) q)) (font_at (view es) q)) (sym is);
+      fonts = λ q. fonts q
+          ∙ ap (λ b. cond (nat_eq id q) (option_map (with_permanent b) (font_at (view es) q)) (font_at (view es) q)) (sym is);
       characters = characters;
     }
 
