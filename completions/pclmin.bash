@@ -10,13 +10,13 @@ _pclmin() {
         --dpi) mapfile -t COMPREPLY < <(compgen -W "300 600" -- "$word"); return ;;
         --format) mapfile -t COMPREPLY < <(compgen -W "1 2" -- "$word"); return ;;
         --page) return ;;
-        --cert) mapfile -t COMPREPLY < <(compgen -f -- "$word"); return ;;
+        --cert | --image) mapfile -t COMPREPLY < <(compgen -f -- "$word"); return ;;
     esac
     case $command:$word in
         min:-*) mapfile -t COMPREPLY < <(compgen -W "--dpi --cert --format --quiet --help" -- "$word") ;;
         pbm:-*) mapfile -t COMPREPLY < <(compgen -W "--dpi --page --help" -- "$word") ;;
         check:-*) mapfile -t COMPREPLY < <(compgen -W "--dpi --quiet --help" -- "$word") ;;
-        same:-*) mapfile -t COMPREPLY < <(compgen -W "--dpi --help" -- "$word") ;;
+        same:-*) mapfile -t COMPREPLY < <(compgen -W "--dpi --image --help" -- "$word") ;;
         check:* | same:*) mapfile -t COMPREPLY < <(compgen -f -- "$word") ;;
         help:*) mapfile -t COMPREPLY < <(compgen -W "min pbm check same" -- "$word") ;;
     esac

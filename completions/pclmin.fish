@@ -12,4 +12,5 @@ complete -c pclmin -n "__fish_seen_subcommand_from min" -l cert -r -F -d "Write 
 complete -c pclmin -n "__fish_seen_subcommand_from min" -l format -x -a "1 2" -d "Format of the certificate"
 complete -c pclmin -n "__fish_seen_subcommand_from pbm" -l page -x -d "Number of the page"
 complete -c pclmin -n "__fish_seen_subcommand_from check same" -F
+complete -c pclmin -n "__fish_seen_subcommand_from same" -l image -r -F -d "Draw the dots that differ"
 complete -c pclmin -n "__fish_seen_subcommand_from help" -a "min pbm check same"
