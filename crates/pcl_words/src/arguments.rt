@@ -151,9 +151,12 @@ fn same<'a>(alloc: Global) -> Result<Command<'a>, AllocError> {
 
 /// The file of an image.
 fn image<'a>(alloc: Global) -> Arg<'a> {
-    Arg::new(alloc, "image").long("image").value_name("FILE").help(
-        "Where the first page that differs does in dots, write a PBM image (P4) of these to this file; else it isn't made",
-    )
+    Arg::new(alloc, "image")
+        .long("image")
+        .value_name("FILE")
+        .help(
+            "Where the first page that differs does in dots, write a PBM image (P4) of these to this file; else it isn't made",
+        )
 }
 
 /// A command with what those that run over whole jobs take.
