@@ -6,6 +6,7 @@
 glyph.pcl       the largest character, printed 2,000 times at one place by a run of text, from the page's left edge on
 shifted.pcl     the same one dot further right, so that it begins within a byte
 controls.pcl    a row of 65,535 controls 128 in method 2, sent 10,000 times by macros
+elements.pcl    a row of 32,767 elements of method 3, far more than it has bytes, in the same way
 rectangles.pcl  100,000 black rectangles of the whole page
 rows.pcl        the same with a raster row of one dot between every two of 20,000
 macros.pcl      32,767 permanent macros, and then the temporary ones are deleted 200,000 times
@@ -43,11 +44,18 @@ def shifted():
     return printed(1)
 
 
-def controls():
-    row = b"\x1b*b2m65535W" + 65535 * b"\x80"
+def sent_by_macros(row):
     once = b"\x1b&f1y0X" + row + b"\x1b&f1X"
     hundred = b"\x1b&f2y0X\x1b&f1y" + 99 * b"2x" + b"2X\x1b&f1X"
     return TOP_LEFT + once + hundred + b"\x1b&f2y" + 99 * b"3x" + b"3X"
+
+
+def controls():
+    return sent_by_macros(b"\x1b*b2m65535W" + 65535 * b"\x80")
+
+
+def elements():
+    return sent_by_macros(b"\x1b*b3m65534W" + 32767 * b"\x00\x81")
 
 
 def rectangles():
@@ -69,7 +77,7 @@ def fonts():
     return one + kept + b"\x1b*c" + 29_999 * b"1f" + b"1F" + PAGE
 
 
-JOBS = [glyph, shifted, controls, rectangles, rows, macros, fonts]
+JOBS = [glyph, shifted, controls, elements, rectangles, rows, macros, fonts]
 
 
 def preview(program, path, dpi):

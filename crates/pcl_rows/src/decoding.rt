@@ -1,6 +1,6 @@
 //! Row data, decoded.
 
-ghost use Rattle.std.specs.Prelude.{◌≡◌, ◌+◌, ◌≤◌, length, min, take, replicate, flat_map, IsTrue};
+ghost use Rattle.std.specs.Prelude.{◌≡◌, ◌+◌, ◌≤◌, length, min, take, replicate, flat_map};
 ghost use Rattle.pcl_rows.specs.Rows.{RowFrom, Decodes};
 ghost use Rattle.pcl_rows.specs.inner.Fronts.{overlaid, IsPastSkipped};
 ghost use Rattle.pcl_base.specs.declared.method.Method.TheVariants as methods;
@@ -37,18 +37,22 @@ pub fn decode(method: Method, seed: &[u8], bytes: &[u8], row: &mut [u8])
     }
 }
 
-/// Method 1: writes each byte as often as the count before it says. A count without its byte gives nothing.
+/// Method 1: writes each byte as often as the count before it says. A count without its byte gives nothing,
+/// and nothing after the row's end counts.
 fn put_runs(row: &mut [u8], bytes: &[u8])
     ensures { RowFrom methods.Runs bytes.now row.old row.new }
 {
     let mut place = 0;
     for pair in 0..bytes.len() / 2 {
+        if place == row.len() {
+            return;
+        }
         let copies = usize::from(bytes[2 * pair]) + 1;
         place = put_copies(row, place, copies, bytes[2 * pair + 1]);
     }
 }
 
-/// Treats a row by its data.
+/// Treats a row by its data, up to its end: nothing after that counts.
 #[inline(always)]
 fn treat(method: Method, bytes: &[u8], row: &mut [u8])
     ensures { RowFrom method bytes.now row.old row.new }
@@ -56,24 +60,13 @@ fn treat(method: Method, bytes: &[u8], row: &mut [u8])
     let mut rest = past_skipped(method, bytes);
     let mut place = 0;
     while !rest.is_empty() {
-        if is_done(method, row.len(), place) {
+        if place == row.len() {
             return;
         }
         let front = Front::read(method, rest);
         place = skip(row.len(), place, front.offset);
         place = put(row, place, front.copies, front.bytes);
         rest = past_skipped(method, front.rest);
-    }
-}
-
-/// Whether nothing of the data that are left counts: by method 2 what stands after the row's end gives nothing, whatever it is.
-#[inline(always)]
-fn is_done(method: Method, row_bytes: usize, place: usize) -> bool
-    ensures { IsTrue result → (method ≡ methods.Packed) × (row_bytes ≤ place) }
-{
-    match method {
-        Method::Packed => place >= row_bytes,
-        Method::Plain | Method::Runs | Method::Delta => false,
     }
 }
 

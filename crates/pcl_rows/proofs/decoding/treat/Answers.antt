@@ -2,8 +2,6 @@ use Rattle.std.proofs.Common.{◌≡◌, ◌<◌, length, List, ℕ, [], subst, 
 use Rattle.std.proofs.lemmas.Bool.{eqb-true, eqb-false}
 use Rattle.std.proofs.lemmas.List.{nil_from_length}
 use Rattle.pcl_rows.proofs.Readings.{IsTreatedTo, treated_more, treated_all, treated_none, treated_skipped, past_skipped_length, rest_shorter}
-use Rattle.pcl_base.specs.declared.method.Method.{Method}
-use Rattle.pcl_rows.specs.Rows.{RowFrom}
 use Rattle.pcl_rows.proofs.Ends.{rest_bytes, skipped_bytes, treated_full}
 use Rattle.pcl_rows.proofs.decoding.treat.Goals as goal
 
@@ -40,13 +38,10 @@ loop-rest-smaller c =
           c.past_skipped-rest-in-loop-rest.ensures,
     )
 
-pub returns-then-is_done : goal.returns-then-is_done
-returns-then-is_done c =
-    let done = c.is_done.ensures c.if-is_done.true in
-    subst (λ (method : Method). RowFrom method c.args.bytes.now c.args.row.now c.loop-rest.row) (sym done.0)
-    (treated_full c.loop-rest.place c.loop-rest.auto.row done.1 c.loop-rest.invariant.bytes
-    (subst (λ (method : Method). IsTreatedTo method c.args.bytes.now c.args.row.now c.loop-rest.rest.now c.loop-rest.row c.loop-rest.place)
-    done.0 c.loop-rest.invariant.treated))
+pub returns-then-place-row : goal.returns-then-place-row
+returns-then-place-row c =
+    treated_full c.loop-rest.place c.loop-rest.auto.row (omega (arith, c.if-place-row.true)) c.loop-rest.invariant.bytes
+    c.loop-rest.invariant.treated
 
 pub returns : goal.returns
 returns c =
