@@ -1,10 +1,10 @@
 //! Sending fonts (PCL 5 manual, "Soft Font Creation").
 
 use crate::codes::{blank_code, font_id};
+use crate::layout::Layout;
 use crate::letters::Letters;
 use crate::numbers::{append_labelled, append_word};
 use crate::patterns::Pattern;
-use crate::writing::Layout;
 use std::alloc::AllocError;
 
 /// The bytes of a font header.

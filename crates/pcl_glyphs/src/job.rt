@@ -4,9 +4,8 @@ ghost use Rattle.pcl_glyphs.specs.Outcome.{IsOutcome};
 
 use crate::collecting::Collection;
 use crate::fonts::append_fonts;
-use crate::letters::{Letter, find_letters};
-use crate::spacing::Spacing;
-use crate::writing::{Layout, Writer};
+use crate::layout::{Layout, lay_out};
+use crate::writing::Writer;
 use pcl_base::{Dpi, JobFault};
 use pcl_page::perform;
 use pcl_writer::write_frame;
@@ -45,30 +44,6 @@ fn write_pages(alloc: Global, layout: &Layout, job: &[u8], dpi: Dpi) -> Result<V
     let mut out = writer.out;
     write_frame(&mut out)?;
     Ok(out)
-}
-
-/// The layout of these shapes.
-fn lay_out(alloc: Global, collection: Collection) -> Result<Layout, AllocError> {
-    let found = find_letters(alloc, &collection)?;
-    let spacing = Spacing::new(alloc, &collection.patterns, &found)?;
-    let mut layout = Layout {
-        patterns: collection.patterns,
-        letters: found,
-        spacing,
-    };
-    layout.letters.letters = sent_letters(alloc, &layout)?;
-    Ok(layout)
-}
-
-/// The letters whose characters are sent.
-fn sent_letters(alloc: Global, layout: &Layout) -> Result<Vec<Letter>, AllocError> {
-    let mut sent = Vec::new(alloc);
-    for letter in layout.letters.letters.iter() {
-        if layout.character(letter.glyph, None).is_some() {
-            sent.push(*letter)?;
-        }
-    }
-    Ok(sent)
 }
 
 /// What stands before the pages: a reset, and the fonts.

@@ -9,6 +9,7 @@ mod codes;
 mod collecting;
 mod fonts;
 mod job;
+mod layout;
 mod letters;
 mod numbers;
 mod patterns;

@@ -1,9 +1,9 @@
 //! The text of letters: codes, moves of the cursor, and changes of the font.
 
 use crate::codes::{blank_code, font_id};
+use crate::layout::Layout;
 use crate::letters::Letter;
 use crate::numbers::{append_labelled, digit_count};
-use crate::writing::Layout;
 use std::alloc::AllocError;
 
 /// The primary font is in use from here on.
