@@ -13,7 +13,11 @@ fn main(rt: HostRuntime) -> io::Result<()> {
     match write_glyph_job(rt.alloc(), &job, Dpi::Dpi300) {
         Ok(Some(written)) => {
             let answer = same(rt.alloc(), &job, &written, Dpi::Dpi300);
-            eprintln!(rt; "{} bytes, written {}: {answer:?}", job.len(), written.len())?;
+            eprintln!(rt;
+                "{} bytes, written {}: {answer:?}",
+                job.len(),
+                written.len()
+            )?;
             io::writer(&rt).write_all(&written)
         }
         Ok(None) => eprintln!(rt; "{} bytes, no proposal", job.len()),

@@ -1,7 +1,7 @@
 //! Fonts and codes of characters.
 
-/// How many codes a font of type 1 has for characters: 33 to 126 and 161 to 255. Printers print 160 as a blank, and
-/// 127 is left out since not all print it.
+/// How many codes a font of type 1 has for characters: 33 to 126 and 161 to 255. 127 and 160 are left out, which symbol
+/// sets give to a filled box and to a hard space.
 const CODES: usize = 189;
 
 /// The codes up to 126.
