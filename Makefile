@@ -49,12 +49,13 @@ test-memory:
 test-process:
 	process/run.py $(PROGRAM)
 
-# The manual page by its linter, the completions in each shell, and what the console blocks of the documents print. Needs
-# Python 3, mandoc, zsh, fish, and the program that `make build` left.
+# The manual page by its linter, the completions in each shell, what the console blocks of README print, and a second checker
+# beside `check`. Needs Python 3, mandoc, zsh, fish, and the program that `make build` left.
 test-home:
 	mandoc -T lint -W warning man/pclmin.1
 	home/completions.sh
-	home/blocks.py $(PROGRAM) README.md docs/CERTIFICATE.md
+	home/blocks.py $(PROGRAM) README.md
+	home/sceptic.py $(PROGRAM)
 
 # A short run of the programs of oracle/, which share no line with this one, beside it. Needs rustc, Python 3, and the
 # program that `make build` left.
