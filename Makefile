@@ -4,7 +4,7 @@
 PREFIX ?= /usr/local
 PROGRAM := crates/pclmin/out/pclmin
 
-.PHONY: demo build test test-memory test-process test-home oracle examples bench bench-certificates install clean
+.PHONY: demo build test test-memory test-process test-home oracle examples bench bench-certificates install deb clean
 
 # Previews the sample job into build/demo.pbm by the kit's quick run, a minute or two after a fresh clone: nothing is proved.
 demo:
@@ -85,6 +85,10 @@ install:
 	install -D -m 644 completions/pclmin.bash $(DESTDIR)$(PREFIX)/share/bash-completion/completions/pclmin
 	install -D -m 644 completions/_pclmin $(DESTDIR)$(PREFIX)/share/zsh/site-functions/_pclmin
 	install -D -m 644 completions/pclmin.fish $(DESTDIR)$(PREFIX)/share/fish/vendor_completions.d/pclmin.fish
+
+# Makes a Debian package of the same under build/. Needs dpkg-deb; `home/deb.sh try` also installs, runs and purges it, as root.
+deb:
+	home/deb.sh
 
 # Removes what was built, and the proofs that were kept: the next build proves everything again.
 clean:

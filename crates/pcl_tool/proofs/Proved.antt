@@ -51,7 +51,7 @@ plan_proves format page text plan proof planned written has long same =
           (table_certified page text plan.table format proof.places (table_of_plan planned) written.0 written.2 has);
       proved = subst (λ (table : List RowNumbers). IsVerdict page text table proof.places Proved) (sym same)
           (table_proved page text plan.table proof.places (table_of_plan planned) written.0 written.2
-              (least_lists page format proof.places has));
+          (least_lists page format proof.places has));
     }
 
 -- ---- all pages

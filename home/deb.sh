@@ -1,0 +1,41 @@
+#!/usr/bin/env bash
+# Makes build/pclmin_VERSION_ARCHITECTURE.deb of what `make install` installs. With `try` it is also installed, run and purged,
+# which has to be done as root. Needs dpkg-deb, and the program that `make build` left.
+set -euo pipefail
+cd "$(dirname "$0")/.."
+program=crates/pclmin/out/pclmin
+[ -x "$program" ] || { echo "there is no $program: run make build first" >&2; exit 1; }
+
+version=$("$program" --version | cut -d ' ' -f 2)
+architecture=$(dpkg --print-architecture)
+root=build/deb
+package=build/pclmin_${version}_$architecture.deb
+rm -rf "$root"
+make --no-print-directory install DESTDIR="$PWD/$root" PREFIX=/usr > /dev/null
+gzip -9n "$root/usr/share/man/man1/pclmin.1"
+mkdir "$root/DEBIAN"
+cat > "$root/DEBIAN/control" <<CONTROL
+Package: pclmin
+Version: $version
+Architecture: $architecture
+Maintainer: Yulmado maintainers <maintainers@users.noreply.yulmado.example>
+Depends: libc6
+Section: text
+Priority: optional
+Description: proved print filter for PCL 5
+ Writes print jobs in PCL 5 again as the smallest raster job of a stated form,
+ with a certificate that nothing smaller exists; previews pages; checks
+ certificates; compares jobs.
+CONTROL
+dpkg-deb --root-owner-group --build "$root" "$package" > /dev/null
+echo "$package"
+
+if [ "${1:-}" = try ]; then
+    dpkg --install "$package" > /dev/null
+    [ "$(pclmin --version)" = "pclmin $version" ]
+    pclmin pbm --page 1 < examples/dot.pcl | head -c 2 | grep -q P4
+    man -w pclmin > /dev/null
+    dpkg --purge pclmin > /dev/null
+    if [ -e /usr/bin/pclmin ]; then echo "/usr/bin/pclmin is still there" >&2; exit 1; fi
+    echo "installed, run and purged"
+fi
