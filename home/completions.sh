@@ -22,11 +22,12 @@ in_fish() {
 }
 
 offers bash "$(in_bash pclmin m)" "min"
+offers bash "$(in_bash pclmin pages --o)" "--output"
 offers bash "$(in_bash pclmin min --dpi "")" "300 600"
 offers bash "$(in_bash pclmin min --f)" "--format"
-offers bash "$(in_bash pclmin pbm --)" "--dpi --help --page"
+offers bash "$(in_bash pclmin pbm --)" "--dpi --help --output --page"
 offers bash "$(in_bash pclmin same examples/p)" "examples/picture.pcl"
-offers fish "$(in_fish pclmin p)" "pbm"
+offers fish "$(in_fish pclmin p)" "pages pbm"
 offers fish "$(in_fish pclmin min --dpi "")" "300 600"
 offers fish "$(in_fish pclmin min --f)" "--format"
 zsh -n completions/_pclmin

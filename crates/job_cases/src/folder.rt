@@ -119,4 +119,20 @@ impl JobFiles for Folder {
             }
         }
     }
+
+    fn begin(&mut self, name: &str) -> io::Result<Held> {
+        if name.contains('/') {
+            return Err(io::Error::from(ErrorKind::NotFound));
+        }
+        Ok(Held::new(self.alloc))
+    }
+
+    /// What wasn't flushed is lost.
+    fn place(&mut self, name: &str, file: Held) -> io::Result<()> {
+        let Held { mut bytes, flushed } = file;
+        bytes.truncate(flushed);
+        Ok(self.put(name, bytes)?)
+    }
+
+    fn discard(&mut self, _name: &str, _file: Held) {}
 }

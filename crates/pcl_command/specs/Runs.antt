@@ -1,26 +1,34 @@
 -- What a run of the program reads and writes, and how what is asked for ends.
 use Rattle.std.specs.Prelude.{◌≡◌, ℕ, ◌+◌, List, length, ◌⊎◌, Option, Result, Ok, Err}
-use Rattle.std.specs.Io.KnownBytes.{Consumes, Keeps}
+use Rattle.std.specs.Io.KnownBytes.{Consumes, Appends, Keeps}
 use Rattle.pcl_base.specs.declared.dpi.Dpi.{Dpi}
+use Rattle.pcl_base.specs.declared.refusal.Refusal.{Refusal}
+use Rattle.pcl_page.specs.Delivering.{IsRefusal}
 use Rattle.pcl_tool.specs.declared.fault.Fault.{Fault}
-use Rattle.pcl_tool.specs.declared.fault.Fault.TheVariants.{Memory, ReadFault, TooLong, WriteFault}
+use Rattle.pcl_tool.specs.declared.fault.Fault.TheVariants.{Refused, Memory, ReadFault, TooLong, WriteFault, NoSuchPage}
 use Rattle.pcl_cert.specs.declared.format.Format.{Format}
 use Rattle.pcl_tool.specs.Minimizing.{IsFiltered, IsFilteredCert, IsRead, input_limit}
 use Rattle.pcl_tool.specs.Preview.{IsPreview}
-use Rattle.pcl_tool.specs.Transfer.{GivesAtMost}
+use Rattle.pcl_tool.specs.Transfer.{GivesAtMost, AppendsFront}
+use Rattle.pcl_explain.specs.Findings.{Explains}
+use Rattle.pcl_pages.specs.Describing.{IsAccepted}
 use Rattle.pcl_command.specs.Messages.{line_of, status_for}
-use Rattle.pcl_command.specs.Files.{FileAct, Made, Unmade, Closed}
+use Rattle.pcl_command.specs.Files.{FileAct, Opened, Unopened, Made, Unmade, Closed, Begun, Placed, Dropped}
 use Rattle.pcl_command.specs.Checks.{IsCheckRun, verdict_status_for}
 use Rattle.pcl_command.specs.ComparisonLines.{compare_line_of, compare_status_for, comparison_status_for}
 use Rattle.pcl_command.specs.Comparisons.{IsCompareRun}
 use Rattle.pcl_command.specs.declared.comparisons.CompareFault.{CompareFault}
 use Rattle.pcl_command.specs.declared.request.Task.{Task}
-use Rattle.pcl_command.specs.declared.request.Task.TheVariants.{Minimize, Certify, Preview}
-use Rattle.pcl_command.specs.declared.request.Usage.{Usage}
+use Rattle.pcl_command.specs.declared.request.Task.TheVariants.{Minimize, Certify, Preview, Explain, DescribePages}
+use Rattle.pcl_command.specs.declared.request.Run.{Run}
+use Rattle.pcl_command.specs.declared.request.Source.{Source}
+use Rattle.pcl_command.specs.declared.request.Source.TheVariants as source
+use Rattle.pcl_command.specs.declared.request.Target.{Target}
+use Rattle.pcl_command.specs.declared.request.Target.TheVariants as target
 use Rattle.pcl_command.specs.declared.request.CheckedFiles.{CheckedFiles}
 use Rattle.pcl_command.specs.declared.request.ComparedFiles.{ComparedFiles}
 use Rattle.pcl_command.specs.declared.request.Request.{Request}
-use Rattle.pcl_command.specs.declared.request.Request.TheVariants.{Run, Check, Compare}
+use Rattle.pcl_command.specs.declared.request.Request.TheVariants as asked
 use Rattle.pcl_command.specs.declared.running.Ending.{Ending}
 use Rattle.pcl_command.specs.declared.running.Ending.TheVariants.{Done, Checked, Compared, Failed, NoMemory}
 
@@ -29,6 +37,8 @@ abbrev pub page_of : Task → ℕ
 page_of Minimize = 0
 page_of (Certify file format) = 0
 page_of (Preview page) = page
+page_of Explain = 0
+page_of DescribePages = 0
 
 -- what a reader gave and a writer holds after the preview of a page of the job that it gives
 abbrev pub IsPreviewRun : Dpi → ℕ → (given left old new : Option (List ℕ)) → Result (Unit {0}) Fault → Type 0
@@ -37,6 +47,30 @@ IsPreviewRun dpi page given left old new (Err ReadFault) = GivesAtMost given lef
 IsPreviewRun dpi page given left old new (Err TooLong) =
     (bytes : List ℕ) × Consumes given left bytes × (length bytes ≡ input_limit + 1) × Keeps old new
 IsPreviewRun dpi page given left old new shown = (job : List ℕ) × IsRead given left job × IsPreview dpi job page old new shown
+
+-- what a reader gave and a writer holds after a text on the job that it gives was written, which tells of the job what is to be told,
+-- or after it was refused
+abbrev pub IsTextRun : (Tells : List ℕ → List ℕ → Type 0) → (Refuses : List ℕ → Refusal → Type 0)
+    → (given left old new : Option (List ℕ)) → Result (Unit {0}) Fault → Type 0
+IsTextRun Tells Refuses given left old new (Ok unit) =
+    (job text : List ℕ) × IsRead given left job × Tells job text × Appends old new text
+IsTextRun Tells Refuses given left old new (Err WriteFault) =
+    (job text : List ℕ) × IsRead given left job × Tells job text × AppendsFront old new text
+IsTextRun Tells Refuses given left old new (Err (Refused refusal)) =
+    (job : List ℕ) × IsRead given left job × Refuses job refusal × Keeps old new
+IsTextRun Tells Refuses given left old new (Err Memory) = GivesAtMost given left (input_limit + 1) × Keeps old new
+IsTextRun Tells Refuses given left old new (Err ReadFault) = GivesAtMost given left input_limit × Keeps old new
+IsTextRun Tells Refuses given left old new (Err TooLong) =
+    (bytes : List ℕ) × Consumes given left bytes × (length bytes ≡ input_limit + 1) × Keeps old new
+IsTextRun Tells Refuses given left old new (Err NoSuchPage) = ⊥
+
+-- no job is refused that is explained
+abbrev pub NeverRefuses : List ℕ → Refusal → Type 0
+NeverRefuses job refusal = ⊥
+
+-- a text on the pages of a job comes of an accepted one
+abbrev pub TellsOfPages : Dpi → List ℕ → List ℕ → Type 0
+TellsOfPages dpi job text = IsAccepted dpi job
 
 -- no file was made, nothing was read and nothing written
 abbrev pub HasStayed : {F : Type 0} → (files kept : F) → (given left old new : Option (List ℕ)) → Type 0
@@ -58,10 +92,48 @@ HasDoneTask acts Minimize dpi files kept given left old new done = (kept ≡ fil
 HasDoneTask acts (Certify file format) dpi files kept given left old new done =
     IsCertifyRun acts file.now dpi format files kept given left old new done
 HasDoneTask acts (Preview page) dpi files kept given left old new done = (kept ≡ files) × IsPreviewRun dpi page given left old new done
+HasDoneTask acts Explain dpi files kept given left old new done = (kept ≡ files) × IsTextRun (Explains dpi) NeverRefuses given left old new done
+HasDoneTask acts DescribePages dpi files kept given left old new done =
+    (kept ≡ files) × IsTextRun (TellsOfPages dpi) (IsRefusal dpi) given left old new done
 
-abbrev pub HasDone : {F : Type 0} → (F → FileAct → F → Type 0) → Usage → (files kept : F) → (given left old new : Option (List ℕ))
+-- A file that was begun is placed where the task was done, and dropped where it failed or the file can't be placed.
+abbrev pub IsSettled : {F : Type 0} → (F → FileAct → F → Type 0) → List ℕ → (holds : Option (List ℕ)) → Result (Unit {0}) Fault
+    → (files kept : F) → Result (Unit {0}) Fault → Type 0
+IsSettled acts name holds (Ok unit) files kept done =
+    (acts files (Placed name holds) kept × (done ≡ Ok tt)) ⊎ (acts files (Dropped name) kept × (done ≡ Err WriteFault))
+IsSettled acts name holds (Err fault) files kept done = acts files (Dropped name) kept × (done ≡ Err fault)
+
+-- the task is done, or failed so, with what a file holds that was begun for this name, and the file was settled; or it can't be
+-- begun, and then nothing was read
+abbrev pub HasWrittenFile : {F : Type 0} → (F → FileAct → F → Type 0) → Run → List ℕ → (files kept : F) → (given left : Option (List ℕ))
     → Result (Unit {0}) Fault → Type 0
-HasDone acts usage files kept given left old new done = HasDoneTask acts usage.task usage.dpi files kept given left old new done
+HasWrittenFile {F} acts run name files kept given left done =
+    (acts files (Unmade name) kept × (done ≡ Err WriteFault) × (left ≡ given))
+    ⊎ ((begun ended : F) × (held holds : Option (List ℕ)) × (outcome : Result (Unit {0}) Fault) × acts files (Begun name held) begun
+    × HasDoneTask acts run.task run.dpi begun ended given left held holds outcome × IsSettled acts name holds outcome ended kept done)
+
+-- the same by where it writes to: nothing reaches the writer where that is a file
+abbrev pub HasWritten : {F : Type 0} → (F → FileAct → F → Type 0) → Run → Target → (files kept : F)
+    → (given left old new : Option (List ℕ)) → Result (Unit {0}) Fault → Type 0
+HasWritten acts run target.StandardOutput files kept given left old new done = HasDoneTask acts run.task run.dpi files kept given left old new done
+HasWritten acts run (target.File name) files kept given left old new done =
+    (new ≡ old) × HasWrittenFile acts run name.now files kept given left done
+
+-- the same by where its job comes from: a file that can't be opened is a fault of reading, and then no file was made and nothing
+-- written; nothing is read of the reader where the job is that of a file
+abbrev pub HasDoneFrom : {F : Type 0} → (F → FileAct → F → Type 0) → Run → Source → (files kept : F)
+    → (given left old new : Option (List ℕ)) → Result (Unit {0}) Fault → Type 0
+HasDoneFrom acts run source.StandardInput files kept given left old new done = HasWritten acts run run.target files kept given left old new done
+HasDoneFrom acts run (source.File name) files kept given left old new done =
+    (left ≡ given)
+    × ((acts files (Unopened name.now) files × (kept ≡ files) × (done ≡ Err ReadFault) × (new ≡ old))
+    ⊎ ((there after : Option (List ℕ)) × acts files (Opened name.now there) files
+    × HasWritten acts run run.target files kept there after old new done))
+
+-- a run is done, or failed so
+abbrev pub HasDone : {F : Type 0} → (F → FileAct → F → Type 0) → Run → (files kept : F) → (given left old new : Option (List ℕ))
+    → Result (Unit {0}) Fault → Type 0
+HasDone acts run files kept given left old new done = HasDoneFrom acts run run.source files kept given left old new done
 
 -- the end of a run that failed: what is said of it, and the status
 abbrev pub HasFailed : List ℕ → ℕ → Ending → Type 0
@@ -72,14 +144,14 @@ HasFailed said code (Checked verdict) = ⊥
 HasFailed said code (Compared comparison) = ⊥
 
 -- how a run ends, by what it read and wrote
-abbrev pub HasRun : {F : Type 0} → (F → FileAct → F → Type 0) → Usage → (files kept : F) → (given left old new : Option (List ℕ))
+abbrev pub HasRun : {F : Type 0} → (F → FileAct → F → Type 0) → Run → (files kept : F) → (given left old new : Option (List ℕ))
     → Ending → Type 0
-HasRun acts usage files kept given left old new Done = HasDone acts usage files kept given left old new (Ok tt)
-HasRun acts usage files kept given left old new (Checked verdict) = ⊥
-HasRun acts usage files kept given left old new (Compared comparison) = ⊥
-HasRun acts usage files kept given left old new failed =
-    (fault : Fault) × HasDone acts usage files kept given left old new (Err fault)
-    × HasFailed (line_of fault (page_of usage.task)) (status_for fault) failed
+HasRun acts run files kept given left old new Done = HasDone acts run files kept given left old new (Ok tt)
+HasRun acts run files kept given left old new (Checked verdict) = ⊥
+HasRun acts run files kept given left old new (Compared comparison) = ⊥
+HasRun acts run files kept given left old new failed =
+    (fault : Fault) × HasDone acts run files kept given left old new (Err fault)
+    × HasFailed (line_of fault (page_of run.task)) (status_for fault) failed
 
 -- how a check ends: no file was made, and nothing was read of the reader
 abbrev pub HasChecked : {F : Type 0} → (F → FileAct → F → Type 0) → CheckedFiles → (files kept : F)
@@ -106,9 +178,9 @@ HasCompared acts asked files kept given left old new failed =
 -- how what was asked for ends, by what it did with files, read and wrote
 abbrev pub HasEnded : {F : Type 0} → (F → FileAct → F → Type 0) → Request → (files kept : F) → (given left old new : Option (List ℕ))
     → Ending → Type 0
-HasEnded acts (Run usage) files kept given left old new ending = HasRun acts usage files kept given left old new ending
-HasEnded acts (Check asked) files kept given left old new ending = HasChecked acts asked files kept given left old new ending
-HasEnded acts (Compare asked) files kept given left old new ending = HasCompared acts asked files kept given left old new ending
+HasEnded acts (asked.Run run) files kept given left old new ending = HasRun acts run files kept given left old new ending
+HasEnded acts (asked.Check files_asked) files kept given left old new ending = HasChecked acts files_asked files kept given left old new ending
+HasEnded acts (asked.Compare files_asked) files kept given left old new ending = HasCompared acts files_asked files kept given left old new ending
 
 -- the status of the program; 3 where memory ran out
 abbrev pub IsStatus : Ending → ℕ → Type 0

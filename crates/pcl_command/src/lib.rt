@@ -13,6 +13,6 @@ mod verdicts;
 
 pub use files::JobFiles;
 pub use messages::{fault_line, status_of};
-pub use request::{CheckedFiles, ComparedFiles, Request, Task, Usage, resolution};
+pub use request::{CheckedFiles, ComparedFiles, Request, Run, Source, Target, Task, resolution};
 pub use running::{Ending, carry_out};
 pub use verdicts::{verdict_line, verdict_status};

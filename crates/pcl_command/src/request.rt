@@ -7,7 +7,7 @@ ghost use Rattle.pcl_command.specs.Runs.{page_of};
 use pcl_base::Dpi;
 use pcl_cert::Format;
 
-/// What a run is asked to do with the job on standard input.
+/// What a run is asked to do with its job.
 #[derive(Clone, Copy)]
 pub enum Task<'w> {
     /// Write it again as a raster job.
@@ -16,26 +16,50 @@ pub enum Task<'w> {
     Certify { file: &'w str, format: Format },
     /// Write the image of the page of this number, from 1.
     Preview { page: usize },
+    /// Write what the rules refuse in it, and what can be done.
+    Explain,
+    /// Write what its pages are.
+    DescribePages,
 }
 
-/// A run, and the resolution at which it sees the job.
+/// Where a run takes its job from.
 #[derive(Clone, Copy)]
-pub struct Usage<'w> {
+pub enum Source<'w> {
+    StandardInput,
+    /// The file of this name.
+    File(&'w str),
+}
+
+/// Where a run writes what it makes.
+#[derive(Clone, Copy)]
+pub enum Target<'w> {
+    StandardOutput,
+    /// The file of this name, which is put in its place only where the run is done: after a fault what was there stays.
+    File(&'w str),
+}
+
+/// A run: its task, where its job comes from and what it makes goes, and the resolution at which it sees the job.
+#[derive(Clone, Copy)]
+pub struct Run<'w> {
     /// What is asked for.
     pub task: Task<'w>,
+    /// Where the job comes from.
+    pub source: Source<'w>,
+    /// Where what is made goes.
+    pub target: Target<'w>,
     /// The resolution.
     pub dpi: Dpi,
     /// Whether nothing is told of how far it has come.
     pub quiet: bool,
 }
 
-impl Usage<'_> {
+impl Run<'_> {
     /// The number of the page that is asked for, 0 where none is.
     pub fn page(self) -> usize
         ensures { result ≡ page_of self.entry.task }
     {
         match self.task {
-            Task::Minimize | Task::Certify { .. } => 0,
+            Task::Minimize | Task::Certify { .. } | Task::Explain | Task::DescribePages => 0,
             Task::Preview { page } => page,
         }
     }
@@ -72,8 +96,8 @@ pub struct ComparedFiles<'w> {
 /// What the program is asked for.
 #[derive(Clone, Copy)]
 pub enum Request<'w> {
-    /// A run over the job on standard input.
-    Run(Usage<'w>),
+    /// A run over a job.
+    Run(Run<'w>),
     /// The check of a written job.
     Check(CheckedFiles<'w>),
     /// The comparison of two jobs.

@@ -1,19 +1,23 @@
 //! A run: what is asked for is done, over any reader and writer.
 
 ghost use Rattle.std.specs.Prelude.{◌≡◌, if◌then◌else◌, None, Some};
+ghost use Rattle.pcl_page.specs.Delivering.{IsRefusal};
+ghost use Rattle.pcl_explain.specs.Findings.{Explains};
 ghost use Rattle.pcl_command.specs.Messages.{line_of, status_for};
 ghost use Rattle.pcl_command.specs.ComparisonLines.{compare_line_of, compare_status_for};
-ghost use Rattle.pcl_command.specs.Runs.{HasDone, HasEnded, HasFailed, IsCertifyRun, IsPreviewRun, IsStatus};
+ghost use Rattle.pcl_command.specs.Runs.{HasDone, HasDoneTask, HasEnded, HasFailed, HasWritten, IsCertifyRun, IsPreviewRun, IsSettled, IsStatus, IsTextRun, NeverRefuses, TellsOfPages};
 
-use crate::checks::check;
+use crate::checks::{check, write_line};
 use crate::comparison_lines::{compare_fault_line, compare_status_of, comparison_status};
 use crate::comparisons::{CompareFault, compare};
 use crate::files::JobFiles;
 use crate::messages::{MEMORY_STATUS, fault_line, status_of};
-use crate::request::{Request, Task, Usage};
+use crate::request::{Request, Run, Source, Target, Task};
 use crate::verdicts::verdict_status;
 use pcl_base::Dpi;
 use pcl_cert::Format;
+use pcl_explain::explanation;
+use pcl_pages::describe_pages;
 use pcl_same::Comparison;
 use pcl_tool::{
     Fault, INPUT_LIMIT, JobVerdict, Watcher, filter_cert_watched, filter_watched, preview, read_all,
@@ -65,11 +69,11 @@ pub fn carry_out<F: JobFiles, R: Read, W: Write, P: Watcher>(
         (W.contents out.old) (W.contents out.new) result }
 {
     match request {
-        Request::Run(usage) => {
-            let told = told_of(usage.quiet, watcher);
-            match do_task(files, alloc, usage, reader, out, told) {
+        Request::Run(run) => {
+            let told = told_of(run.quiet, watcher);
+            match do_run(files, alloc, run, reader, out, told) {
                 Ok(()) => Ending::Done,
-                Err(fault) => failed(alloc, &fault, usage.page()),
+                Err(fault) => failed(alloc, &fault, run.page()),
             }
         }
         Request::Check(asked) => {
@@ -93,24 +97,95 @@ fn told_of<P: Watcher>(quiet: bool, watcher: P) -> Option<P>
     if quiet { None } else { Some(watcher) }
 }
 
-/// Does the task of a run with the job that a reader gives.
-fn do_task<F: JobFiles, R: Read, W: Write, P: Watcher>(
+/// Does the task of a run with the job of its source. ReadFault comes too where that is a file that can't be opened.
+fn do_run<F: JobFiles, R: Read, W: Write, P: Watcher>(
     files: &mut F,
     alloc: Global,
-    usage: Usage<'_>,
+    run: Run<'_>,
     reader: &mut R,
     out: &mut W,
     watcher: P,
 ) -> Result<(), Fault>
-    ensures { HasDone F.acts usage.entry files.old files.new (R.remaining reader.old) (R.remaining reader.new)
+    ensures { HasDone F.acts run.entry files.old files.new (R.remaining reader.old) (R.remaining reader.new)
         (W.contents out.old) (W.contents out.new) result }
 {
-    match usage.task {
-        Task::Minimize => filter_watched(alloc, reader, usage.dpi, out, watcher),
-        Task::Certify { file, format } => {
-            certify(files, alloc, file, format, usage.dpi, reader, out, watcher)
+    match run.source {
+        Source::StandardInput => write_result(files, alloc, run, reader, out, watcher),
+        Source::File(name) => {
+            let Ok(mut file) = files.open(name) else {
+                return Err(Fault::ReadFault);
+            };
+            write_result(files, alloc, run, &mut file, out, watcher)
         }
-        Task::Preview { page } => show(alloc, page, usage.dpi, reader, out),
+    }
+}
+
+/// Does the task of a run with the job that a reader gives, and writes to the run's target. WriteFault comes too where that is a
+/// file that can't be begun or placed.
+fn write_result<F: JobFiles, R: Read, W: Write, P: Watcher>(
+    files: &mut F,
+    alloc: Global,
+    run: Run<'_>,
+    reader: &mut R,
+    out: &mut W,
+    watcher: P,
+) -> Result<(), Fault>
+    ensures { HasWritten F.acts run.entry run.entry.target files.old files.new (R.remaining reader.old) (R.remaining reader.new)
+        (W.contents out.old) (W.contents out.new) result }
+{
+    match run.target {
+        Target::StandardOutput => do_task(files, alloc, run, reader, out, watcher),
+        Target::File(name) => match files.begin(name) {
+            Ok(mut file) => {
+                let done = do_task(files, alloc, run, reader, &mut file, watcher);
+                settle(files, name, file, done)
+            }
+            Err(_) => Err(Fault::WriteFault),
+        },
+    }
+}
+
+/// Places a file that was begun for a name where the task that wrote it is done, and drops it where that failed.
+fn settle<F: JobFiles>(
+    files: &mut F,
+    name: &str,
+    file: F::Writer,
+    done: Result<(), Fault>,
+) -> Result<(), Fault>
+    ensures { IsSettled F.acts name.now (F.Writer.contents file) done files.old files.new result }
+{
+    match done {
+        Ok(()) => match files.place(name, file) {
+            Ok(()) => Ok(()),
+            Err(_) => Err(Fault::WriteFault),
+        },
+        Err(fault) => {
+            files.discard(name, file);
+            Err(fault)
+        }
+    }
+}
+
+/// Does the task of a run with the job that a reader gives.
+fn do_task<F: JobFiles, R: Read, W: Write, P: Watcher>(
+    files: &mut F,
+    alloc: Global,
+    run: Run<'_>,
+    reader: &mut R,
+    out: &mut W,
+    watcher: P,
+) -> Result<(), Fault>
+    ensures { HasDoneTask F.acts run.entry.task run.entry.dpi files.old files.new (R.remaining reader.old) (R.remaining reader.new)
+        (W.contents out.old) (W.contents out.new) result }
+{
+    match run.task {
+        Task::Minimize => filter_watched(alloc, reader, run.dpi, out, watcher),
+        Task::Certify { file, format } => {
+            certify(files, alloc, file, format, run.dpi, reader, out, watcher)
+        }
+        Task::Preview { page } => show(alloc, page, run.dpi, reader, out),
+        Task::Explain => explain(alloc, run.dpi, reader, out),
+        Task::DescribePages => describe(alloc, run.dpi, reader, out),
     }
 }
 
@@ -149,6 +224,36 @@ fn show<R: Read, W: Write>(
 {
     let job = read_all(alloc, reader, INPUT_LIMIT)?;
     preview(alloc, &job, page, dpi, out)
+}
+
+/// Writes what the rules refuse in the job that a reader gives, and what can be done.
+fn explain<R: Read, W: Write>(
+    alloc: Global,
+    dpi: Dpi,
+    reader: &mut R,
+    out: &mut W,
+) -> Result<(), Fault>
+    ensures { IsTextRun (Explains dpi) NeverRefuses (R.remaining reader.old) (R.remaining reader.new)
+        (W.contents out.old) (W.contents out.new) result }
+{
+    let job = read_all(alloc, reader, INPUT_LIMIT)?;
+    let text = explanation(alloc, &job, dpi)?;
+    write_line(out, &text)
+}
+
+/// Writes what the pages of the job are that a reader gives.
+fn describe<R: Read, W: Write>(
+    alloc: Global,
+    dpi: Dpi,
+    reader: &mut R,
+    out: &mut W,
+) -> Result<(), Fault>
+    ensures { IsTextRun (TellsOfPages dpi) (IsRefusal dpi) (R.remaining reader.old) (R.remaining reader.new)
+        (W.contents out.old) (W.contents out.new) result }
+{
+    let job = read_all(alloc, reader, INPUT_LIMIT)?;
+    let text = describe_pages(alloc, &job, dpi)?;
+    write_line(out, &text)
 }
 
 /// The end of a comparison that failed.

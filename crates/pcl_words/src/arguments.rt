@@ -3,7 +3,7 @@
 use clap::error::ErrorKind;
 use clap::{Arg, ArgAction, ArgMatches, Command, Error, value_parser};
 use pcl_cert::Format;
-use pcl_command::{CheckedFiles, ComparedFiles, Request, Task, Usage, resolution};
+use pcl_command::{CheckedFiles, ComparedFiles, Request, Run, Source, Target, Task, resolution};
 use std::alloc::{AllocError, Global};
 use std::convert::AsStr;
 
@@ -29,18 +29,41 @@ fn request_of<'w>(matches: &ArgMatches<'w>) -> Option<Request<'w>> {
     match matches.subcommand()? {
         ("check", check) => Some(Request::Check(checked_files(check)?)),
         ("same", same) => Some(Request::Compare(compared_files(same)?)),
-        (name, command) => Some(Request::Run(usage_of(name, command)?)),
+        (name, command) => Some(Request::Run(run_of(name, command)?)),
     }
 }
 
-/// What the words of `min` or `pbm` ask for. A preview tells nothing of how far it has come.
-fn usage_of<'w>(name: &str, command: &ArgMatches<'w>) -> Option<Usage<'w>> {
+/// What the words of `min`, `pbm`, `pages` or `explain` ask for. Only `min` tells how far it has come.
+fn run_of<'w>(name: &str, command: &ArgMatches<'w>) -> Option<Run<'w>> {
     let (task, quiet) = match name {
         "min" => (min_task(command), command.get_flag("quiet")),
+        "explain" => (Task::Explain, true),
+        "pages" => (Task::DescribePages, true),
         _ => (preview_task(command)?, true),
     };
-    let dpi = resolution(command.get_one::<u16>("dpi")?)?;
-    Some(Usage { task, dpi, quiet })
+    Some(Run {
+        task,
+        source: source_of(command),
+        target: target_of(command),
+        dpi: resolution(command.get_one::<u16>("dpi")?)?,
+        quiet,
+    })
+}
+
+/// Where the job comes from: the file that is named, or standard input where none or `-` is.
+fn source_of<'w>(command: &ArgMatches<'w>) -> Source<'w> {
+    match command.get_str("JOB") {
+        None | Some("-") => Source::StandardInput,
+        Some(file) => Source::File(file),
+    }
+}
+
+/// Where what is made goes: to the file that is named, or to standard output where none or `-` is.
+fn target_of<'w>(command: &ArgMatches<'w>) -> Target<'w> {
+    match command.get_str("output") {
+        None | Some("-") => Target::StandardOutput,
+        Some(file) => Target::File(file),
+    }
 }
 
 /// What the words of `check` ask for.
@@ -87,6 +110,9 @@ fn preview_task<'w>(pbm: &ArgMatches<'w>) -> Option<Task<'w>> {
 fn pclmin<'a>(alloc: Global) -> Result<Command<'a>, AllocError> {
     let command = program(alloc).subcommand(min(alloc)?)?;
     let command = command.subcommand(same(alloc)?)?;
+    let command = command
+        .subcommand(explain(alloc)?)?
+        .subcommand(pages(alloc)?)?;
     command.subcommand(check(alloc)?)?.subcommand(pbm(alloc)?)
 }
 
@@ -105,8 +131,9 @@ fn program<'a>(alloc: Global) -> Command<'a> {
 /// The command that writes a job again.
 fn min<'a>(alloc: Global) -> Result<Command<'a>, AllocError> {
     let command = Command::new(alloc, "min").about(
-        "Writes the job on standard input again as a raster job of the same pages to standard output",
+        "Writes a job again as the least raster job of the same pages",
     );
+    let command = with_files(alloc, command)?;
     of_every_run(alloc, command.arg(cert(alloc))?.arg(format(alloc)?)?)
 }
 
@@ -139,6 +166,21 @@ fn check<'a>(alloc: Global) -> Result<Command<'a>, AllocError> {
     of_every_run(alloc, command)
 }
 
+/// The command that says what the rules refuse.
+fn explain<'a>(alloc: Global) -> Result<Command<'a>, AllocError> {
+    let command = Command::new(alloc, "explain").about(
+        "Names everything in a job that is refused, and says what to set instead",
+    );
+    with_files(alloc, command)?.arg(dpi(alloc))
+}
+
+/// The command that says what the pages are.
+fn pages<'a>(alloc: Global) -> Result<Command<'a>, AllocError> {
+    let command = Command::new(alloc, "pages")
+        .about("Lists the pages of a job: size, copies, black dots in percent, bytes as least raster");
+    with_files(alloc, command)?.arg(dpi(alloc))
+}
+
 /// The command that compares two jobs.
 fn same<'a>(alloc: Global) -> Result<Command<'a>, AllocError> {
     Command::new(alloc, "same")
@@ -155,13 +197,28 @@ fn image<'a>(alloc: Global) -> Arg<'a> {
         .long("image")
         .value_name("FILE")
         .help(
-            "Where the first page that differs does in dots, write a PBM image (P4) of these to this file; else it isn't made",
+            "Where the first difference is a dot, write a PBM image (P4) of all dots of its page that differ to this file; else it isn't made",
         )
 }
 
 /// A command with what those that run over whole jobs take.
 fn of_every_run<'a>(alloc: Global, command: Command<'a>) -> Result<Command<'a>, AllocError> {
     command.arg(quiet(alloc))?.arg(dpi(alloc))
+}
+
+/// A command with the job that it reads and the file that it writes.
+fn with_files<'a>(alloc: Global, command: Command<'a>) -> Result<Command<'a>, AllocError> {
+    let job = Arg::new(alloc, "JOB").value_name("JOB").help(
+        "The file of the job; standard input where none or - is given",
+    );
+    let output = Arg::new(alloc, "output")
+        .short('o')
+        .long("output")
+        .value_name("FILE")
+        .help(
+            "Write to this file, which keeps what it has until the run is done; standard output where none or - is given",
+        );
+    command.arg(job)?.arg(output)
 }
 
 /// A file that is asked for.
@@ -180,10 +237,8 @@ fn pbm<'a>(alloc: Global) -> Result<Command<'a>, AllocError> {
         .value_parser(value_parser!(u16).range(1..=256))
         .required(true)
         .help("The number of the page, from 1 to 256");
-    Command::new(alloc, "pbm")
-        .about("Writes a page of the job on standard input as a PBM image (P4) to standard output")
-        .arg(page)?
-        .arg(dpi(alloc))
+    let command = Command::new(alloc, "pbm").about("Writes a page of a job as a PBM image (P4)");
+    with_files(alloc, command)?.arg(page)?.arg(dpi(alloc))
 }
 
 /// Silence, where a run would tell how far it has come.

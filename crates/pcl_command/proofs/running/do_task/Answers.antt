@@ -8,3 +8,9 @@ returns-in-Certify g c = rw c.in-Certify.is assumption
 
 pub returns-in-Preview : goal.returns-in-Preview
 returns-in-Preview g c = rw c.in-Preview.is assumption
+
+pub returns-in-Explain : goal.returns-in-Explain
+returns-in-Explain g c = rw c.in-Explain.is assumption
+
+pub returns-in-DescribePages : goal.returns-in-DescribePages
+returns-in-DescribePages g c = rw c.in-DescribePages.is assumption

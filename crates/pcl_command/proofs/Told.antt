@@ -1,0 +1,35 @@
+-- What was read and written where a text on a job is.
+use Rattle.std.proofs.Common.{◌≤◌, ◌+◌, ℕ, List, Option, Result, Ok, Err, length, arith}
+use Rattle.std.proofs.KnownBytes.{Keeps-refl}
+use Rattle.std.specs.Global.{Vec}
+use Rattle.pcl_base.specs.declared.dpi.Dpi.{Dpi}
+use Rattle.pcl_base.specs.declared.fault.JobFault.{JobFault}
+use Rattle.pcl_base.specs.declared.fault.JobFault.TheVariants as fault
+use Rattle.pcl_base.specs.declared.refusal.Refusal.{Refusal}
+use Rattle.pcl_page.specs.Delivering.{IsRefusal}
+use Rattle.pcl_tool.specs.JobFaults.{fault_of}
+use Rattle.pcl_tool.specs.declared.fault.Fault.{Fault}
+use Rattle.pcl_tool.specs.declared.fault.Fault.TheVariants.{Refused, Memory, ReadFault, TooLong, WriteFault, NoSuchPage}
+use Rattle.pcl_tool.specs.Minimizing.{IsRead, input_limit}
+use Rattle.pcl_tool.specs.Transfer.{IsWritten}
+use Rattle.pcl_pages.specs.Describing.{IsDescribed}
+use Rattle.pcl_command.specs.Runs.{IsTextRun, TellsOfPages}
+
+-- of a job that was read to its end, where its text was written, or a prefix of it
+pub told : (Tells : List ℕ → List ℕ → Type 0) (Refuses : List ℕ → Refusal → Type 0) {given left : Option (List ℕ)}
+    (old new : Option (List ℕ)) {job text : List ℕ} (result : Result (Unit {0}) Fault) → IsRead given left job → Tells job text
+    → IsWritten old new text result → IsTextRun Tells Refuses given left old new result
+told Tells Refuses old new {job} {text} (Ok done) read t w = (job, text, read, t, w)
+told Tells Refuses old new {job} {text} (Err WriteFault) read t w = (job, text, read, t, w)
+told Tells Refuses old new (Err Memory) read t w = absurd w
+told Tells Refuses old new (Err (Refused refusal)) read t w = absurd w
+told Tells Refuses old new (Err NoSuchPage) read t w = absurd w
+told Tells Refuses old new (Err ReadFault) read t w = absurd w
+told Tells Refuses old new (Err TooLong) read t w = absurd w
+
+-- of a job that was read to its end, whose pages can't be described
+pub undescribed : (dpi : Dpi) {given left : Option (List ℕ)} (held : Option (List ℕ)) {job : List ℕ} (why : JobFault)
+    → IsRead given left job → length job ≤ input_limit → IsDescribed dpi job (Err why)
+    → IsTextRun (TellsOfPages dpi) (IsRefusal dpi) given left held held (Err (fault_of why))
+undescribed dpi held {job} (fault.Refused refusal) read short d = (job, read, d, Keeps-refl held)
+undescribed dpi held {job} fault.Memory read short d = ((job, read.given, omega (arith, short)), Keeps-refl held)

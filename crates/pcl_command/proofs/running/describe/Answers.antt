@@ -1,0 +1,24 @@
+use Rattle.std.proofs.Common.{List, ℕ, Err, subst}
+use Rattle.std.proofs.lemmas.Result.{err_from_is_err_and}
+use Rattle.pcl_page.specs.Delivering.{IsRefusal}
+use Rattle.pcl_tool.specs.Transfer.{IsWritten}
+use Rattle.pcl_pages.specs.Describing.{IsAccepted, IsDescribed}
+use Rattle.pcl_command.specs.Runs.{TellsOfPages}
+use Rattle.pcl_command.proofs.Told.{told, undescribed}
+use Rattle.pcl_command.proofs.running.describe.Goals as goal
+
+pub returns-in_err-text : goal.returns-in_err-text
+returns-in_err-text g c =
+    let p = err_from_is_err_and c.from_residual-in_err-text.result c.from_residual-in_err-text.ensures.1 in
+    let r = c.in_ok-job.ensures in
+    rw (p.1, p.2)
+    (undescribed c.args.dpi _ c.in_err-text.field-0.0 (record { given = r.0; ended = r.1 }) r.2
+    (subst (λ (job : List ℕ). IsDescribed c.args.dpi job (Err c.in_err-text.field-0.0)) c.deref.ensures.value c.in_err-text.ensures))
+
+pub returns : goal.returns
+returns g c =
+    let r = c.in_ok-job.ensures in
+    told (TellsOfPages c.args.dpi) (IsRefusal c.args.dpi) _ _ _ (record { given = r.0; ended = r.1 })
+    (subst (IsAccepted c.args.dpi) c.deref.ensures.value c.in_ok-text.ensures)
+    (subst (λ (text : List ℕ). IsWritten (g.W.Write.contents c.args.out.now) (g.W.Write.contents c.write_line.new.out) text
+    c.write_line.result) c.deref-2.ensures.value c.write_line.ensures)

@@ -1,0 +1,32 @@
+-- What is found in a job.
+use Rattle.std.specs.Prelude.{◌≡◌, ℕ, List, length, take, codes, Option, Some, None}
+use Rattle.pcl_base.specs.declared.dpi.Dpi.{Dpi}
+use Rattle.pcl_base.specs.declared.refusal.Refusal.{Refusal}
+use Rattle.pcl_base.specs.Refusal.{refusal_text}
+use Rattle.pcl_page.specs.Situation.{Sheet}
+use Rattle.pcl_page.specs.Jobs.{HasPages}
+use Rattle.pcl_page.specs.Delivering.{IsRefusal}
+use Rattle.pcl_explain.specs.declared.finding.Findings.{Findings}
+
+-- the refusal of a job, or none where it is accepted
+abbrev pub IsFirstRefusal : Dpi → List ℕ → Option Refusal → Type 0
+IsFirstRefusal dpi job None = (pages : List Sheet) × HasPages dpi job pages
+IsFirstRefusal dpi job (Some refusal) = IsRefusal dpi job refusal
+
+-- nothing is found where the job is accepted; else first its refusal
+abbrev pub AreFindings : Dpi → List ℕ → Option Findings → Type 0
+AreFindings dpi job None = IsFirstRefusal dpi job None
+AreFindings dpi job (Some findings) = IsFirstRefusal dpi job (Some findings.first.refusal)
+
+-- the text begins with these bytes
+abbrev pub BeginsWith : List ℕ → List ℕ → Type 0
+BeginsWith start text = take (length start) text ≡ start
+
+-- a text on findings: it begins with the first refusal as messages print it
+abbrev pub IsTextOn : Option Findings → List ℕ → Type 0
+IsTextOn None text = text ≡ codes "nothing is refused\n"
+IsTextOn (Some findings) text = BeginsWith (refusal_text findings.first.refusal) text
+
+-- what is said of a job
+abbrev pub Explains : Dpi → List ℕ → List ℕ → Type 0
+Explains dpi job text = (findings : Option Findings) × AreFindings dpi job findings × IsTextOn findings text

@@ -1,0 +1,15 @@
+//! All that the rules refuse in a job, and what can be done about it (docs/DRIVERS.md).
+//!
+//! `find_refusals` goes on after the refusal of a job with the commands that are refused left out, so that one run names them
+//! all, and `explanation` says what each means and what to set instead.
+#![tactic(auto)]
+
+mod advice;
+mod finding;
+mod languages;
+mod lines;
+mod refusals;
+
+pub use finding::{Finding, Findings};
+pub use lines::explanation;
+pub use refusals::find_refusals;

@@ -1,0 +1,140 @@
+//! One refusal of a job after the other.
+
+ghost use Rattle.std.specs.Prelude.{◌≡◌, IfOk};
+ghost use Rattle.pcl_explain.specs.Findings.{AreFindings, IsFirstRefusal};
+
+use crate::{Finding, Findings};
+use pcl_base::{Dpi, JobFault, Kind, Refusal};
+use pcl_escape::{Command, read_job};
+use pcl_page::{Page, PageSink, perform, run};
+use std::alloc::{AllocError, Global};
+
+/// How many findings there are at most.
+const FINDING_LIMIT: usize = 100;
+
+/// What the rules refuse in a job: the refusal of the job, and then that of the job without all commands like those that were
+/// refused before, up to 100 in all. None exactly where the job is accepted.
+pub fn find_refusals(alloc: Global, job: &[u8], dpi: Dpi) -> Result<Option<Findings>, AllocError>
+    ensures { IfOk result (λ findings. AreFindings dpi job.now findings) }
+{
+    match first_refusal(alloc, job, dpi)? {
+        None => Ok(None),
+        Some(refusal) => Ok(Some(findings_from(alloc, job, dpi, refusal)?)),
+    }
+}
+
+/// The refusal of a job, if it has one.
+fn first_refusal(alloc: Global, job: &[u8], dpi: Dpi) -> Result<Option<Refusal>, AllocError>
+    ensures { IfOk result (λ refusal. IsFirstRefusal dpi job.now refusal) }
+{
+    match perform(alloc, job, dpi, &mut Unseen) {
+        Ok(()) => Ok(None),
+        Err(JobFault::Refused(refusal)) => Ok(Some(refusal)),
+        Err(JobFault::Memory) => Err(AllocError),
+    }
+}
+
+/// The findings of a job whose refusal is known.
+fn findings_from(
+    alloc: Global,
+    job: &[u8],
+    dpi: Dpi,
+    refusal: Refusal,
+) -> Result<Findings, AllocError>
+    ensures { IfOk result (λ findings. findings.first.refusal ≡ refusal) }
+{
+    match read_job(alloc, job) {
+        Ok(mut commands) => {
+            let first = leave_out(&mut commands, refusal);
+            Ok(Findings {
+                first,
+                later: later_findings(alloc, commands, job.len(), dpi)?,
+            })
+        }
+        Err(JobFault::Refused(_)) => Ok(Findings {
+            first: Finding::without_command(refusal),
+            later: Vec::new(alloc),
+        }),
+        Err(JobFault::Memory) => Err(AllocError),
+    }
+}
+
+/// What is found in commands, one after the other, each without those that were found before.
+fn later_findings(
+    alloc: Global,
+    commands: Vec<Command<'_>>,
+    end: usize,
+    dpi: Dpi,
+) -> Result<Vec<Finding>, AllocError> {
+    let mut left = commands;
+    let mut findings = Vec::new(alloc);
+    for _ in 1..FINDING_LIMIT {
+        let Some(refusal) = refusal_of(alloc, &left, end, dpi)? else {
+            return Ok(findings);
+        };
+        let finding = leave_out(&mut left, refusal);
+        findings.push(finding)?;
+        if finding.value.is_none() {
+            return Ok(findings);
+        }
+    }
+    Ok(findings)
+}
+
+/// The refusal of commands, if they have one.
+fn refusal_of(
+    alloc: Global,
+    commands: &[Command<'_>],
+    end: usize,
+    dpi: Dpi,
+) -> Result<Option<Refusal>, AllocError> {
+    match run(alloc, commands, end, dpi, &mut Unseen) {
+        Ok(()) => Ok(None),
+        Err(JobFault::Refused(refusal)) => Ok(Some(refusal)),
+        Err(JobFault::Memory) => Err(AllocError),
+    }
+}
+
+/// Leaves out the command that is refused, and all that are like it, and says what was left out.
+fn leave_out(commands: &mut Vec<Command<'_>>, refusal: Refusal) -> Finding
+    ensures { result.refusal ≡ refusal }
+{
+    let Some(refused) = refused_command(commands, refusal) else {
+        return Finding::without_command(refusal);
+    };
+    let before = commands.len();
+    commands.retain(|command| !is_like(refusal.kind, &refused, command));
+    Finding {
+        refusal,
+        value: Some(refused.value),
+        times: before - commands.len(),
+    }
+}
+
+/// The command that a refusal names.
+fn refused_command<'a>(commands: &[Command<'a>], refusal: Refusal) -> Option<Command<'a>> {
+    for command in commands {
+        if command.at == refusal.at && command.name == refusal.name {
+            return Some(*command);
+        }
+    }
+    None
+}
+
+/// Whether a command would be refused as another is: one of its name, and of its value where that is what is refused.
+fn is_like(kind: Kind, refused: &Command<'_>, command: &Command<'_>) -> bool {
+    command.name == refused.name
+        && (kind != Kind::UnsupportedValue || command.value == refused.value)
+}
+
+/// Takes pages, and does nothing with them.
+#[derive(Drop)]
+struct Unseen;
+
+impl PageSink for Unseen {
+    ghost takes = { λ _ _ _. Unit {0} };
+
+    fn page(&mut self, _page: &Page) -> Result<(), AllocError> {
+        Ok(())
+    }
+}
