@@ -5,8 +5,9 @@ use Rattle.pcl_base.specs.declared.name.Name.TheVariants.{Empty, One, Two, Three
 use Rattle.pcl_base.specs.declared.operation.Axis.TheVariants.{Horizontal, Vertical}
 use Rattle.pcl_base.specs.declared.operation.Unit.TheVariants.{PclUnit, Decipoint, Column}
 use Rattle.pcl_base.specs.declared.operation.Side.TheVariants.{Primary, Secondary}
+use Rattle.pcl_base.specs.declared.operation.Asking.TheVariants.{Sides, OutputBin, MediaType, PaperSource, SheetSide}
 use Rattle.pcl_base.specs.declared.operation.Operation.{Operation}
-use Rattle.pcl_base.specs.declared.operation.Operation.TheVariants.{Reset, UniversalExit, ClearMargins, HalfLineFeed, HorizontalTab, LineFeed, FormFeed, CarriageReturn, Shift, PageSize, Copies, VerticalMotionIndex, LineSpacing, TopMargin, TextLength, PerforationSkip, OnlyZero, EjectMarked, UnitOfMeasure, HorizontalMotionIndex, LineTermination, LeftMargin, Move, CursorStack, MacroId, ControlMacros, RectangleSize, FillRectangle, FontId, CharacterCode, ControlFonts, DownloadFont, DownloadCharacter, SelectFont, PrintText, RasterResolution, RasterWidth, RasterHeight, RasterPresentation, StartRaster, EndRaster, EndRasterResetMethod, RasterMethod, RasterOffset, RasterRow, NoEffect}
+use Rattle.pcl_base.specs.declared.operation.Operation.TheVariants.{Reset, UniversalExit, ClearMargins, HalfLineFeed, HorizontalTab, LineFeed, FormFeed, CarriageReturn, Shift, PageSize, Copies, VerticalMotionIndex, LineSpacing, TopMargin, TextLength, PerforationSkip, OnlyZero, Ask, UnitOfMeasure, HorizontalMotionIndex, LineTermination, LeftMargin, Move, CursorStack, MacroId, ControlMacros, RectangleSize, FillRectangle, FontId, CharacterCode, ControlFonts, DownloadFont, DownloadCharacter, SelectFont, PrintText, RasterResolution, RasterWidth, RasterHeight, RasterPresentation, StartRaster, EndRaster, EndRasterResetMethod, RasterMethod, RasterOffset, RasterRow, NoEffect}
 
 -- a name from its bytes
 abbrev pub named : List ℕ → Name
@@ -50,13 +51,13 @@ operations =
     (named (codes "&lO"), OnlyZero) ∷
     (named (codes "&lU"), OnlyZero) ∷
     (named (codes "&lZ"), OnlyZero) ∷
-    (named (codes "&lH"), EjectMarked) ∷
-    (named (codes "&lS"), NoEffect) ∷
-    (named (codes "&lG"), NoEffect) ∷
-    (named (codes "&lM"), NoEffect) ∷
+    (named (codes "&lH"), Ask PaperSource) ∷
+    (named (codes "&lS"), Ask Sides) ∷
+    (named (codes "&lG"), Ask OutputBin) ∷
+    (named (codes "&lM"), Ask MediaType) ∷
     (named (codes "&lP"), NoEffect) ∷
     (named (codes "&aP"), OnlyZero) ∷
-    (named (codes "&aG"), EjectMarked) ∷
+    (named (codes "&aG"), Ask SheetSide) ∷
     (named (codes "&aL"), LeftMargin) ∷
     (named (codes "&aH"), Move Horizontal Decipoint) ∷
     (named (codes "&aV"), Move Vertical Decipoint) ∷

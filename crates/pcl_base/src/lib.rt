@@ -24,7 +24,7 @@ pub use limits::{
 };
 pub use method::Method;
 pub use name::Name;
-pub use operation::{Axis, Operation, Side, Unit};
+pub use operation::{Asking, Axis, Operation, Side, Unit};
 pub use refusal::Refusal;
 pub use size::Size;
 pub use value::{Sign, Value};

@@ -34,6 +34,21 @@ pub enum Side {
     Secondary,
 }
 
+/// What a command asks of the printer besides dots. docs/LANGUAGE.md, "What a page is asked with".
+#[derive(Clone, Copy, Debug, PartialEq, Eq)]
+pub enum Asking {
+    /// One side or both, and which edge is bound ("Simplex/Duplex Print").
+    Sides,
+    /// Where printed sheets go ("Output Bin Selection").
+    OutputBin,
+    /// Plain paper, bond, transparencies and others ("Media Type").
+    MediaType,
+    /// The tray, or a sheet fed by hand ("Paper Source").
+    PaperSource,
+    /// The front or the back of a sheet for what comes next ("Duplex Page Side Selection").
+    SheetSide,
+}
+
 /// What a command does. docs/LANGUAGE.md, "Commands", says of each which values it takes.
 #[derive(Clone, Copy, Debug, PartialEq, Eq)]
 pub enum Operation {
@@ -71,8 +86,8 @@ pub enum Operation {
     PerforationSkip,
     /// Takes 0 alone and does nothing: orientation, offsets, print direction, transparency.
     OnlyZero,
-    /// Ejects a marked page: paper source and duplex side.
-    EjectMarked,
+    /// Asks something of the printer besides dots; a paper source and a side of the sheet eject a marked page.
+    Ask(Asking),
     /// Sets the PCL unit ("Unit of Measure").
     UnitOfMeasure,
     /// Sets the column width in 1/120 inch ("Horizontal Motion Index").
@@ -166,13 +181,13 @@ impl Operation {
             Name::Three(b'&', b'l', b'O') => Operation::OnlyZero,
             Name::Three(b'&', b'l', b'U') => Operation::OnlyZero,
             Name::Three(b'&', b'l', b'Z') => Operation::OnlyZero,
-            Name::Three(b'&', b'l', b'H') => Operation::EjectMarked,
-            Name::Three(b'&', b'l', b'S') => Operation::NoEffect,
-            Name::Three(b'&', b'l', b'G') => Operation::NoEffect,
-            Name::Three(b'&', b'l', b'M') => Operation::NoEffect,
+            Name::Three(b'&', b'l', b'H') => Operation::Ask(Asking::PaperSource),
+            Name::Three(b'&', b'l', b'S') => Operation::Ask(Asking::Sides),
+            Name::Three(b'&', b'l', b'G') => Operation::Ask(Asking::OutputBin),
+            Name::Three(b'&', b'l', b'M') => Operation::Ask(Asking::MediaType),
             Name::Three(b'&', b'l', b'P') => Operation::NoEffect,
             Name::Three(b'&', b'a', b'P') => Operation::OnlyZero,
-            Name::Three(b'&', b'a', b'G') => Operation::EjectMarked,
+            Name::Three(b'&', b'a', b'G') => Operation::Ask(Asking::SheetSide),
             Name::Three(b'&', b'a', b'L') => Operation::LeftMargin,
             Name::Three(b'&', b'a', b'H') => Operation::Move(Axis::Horizontal, Unit::Decipoint),
             Name::Three(b'&', b'a', b'V') => Operation::Move(Axis::Vertical, Unit::Decipoint),

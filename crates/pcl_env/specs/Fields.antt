@@ -34,6 +34,7 @@ settings size cursor stack setup = record {
   raster_width = setup.raster_width;
   raster_height = setup.raster_height;
   method = setup.method;
+  asked = setup.asked;
 }
 
 -- settings without a place: those of a page's upper left corner

@@ -5,23 +5,25 @@ use Rattle.pcl_base.specs.declared.dpi.Dpi.{Dpi}
 use Rattle.pcl_base.specs.declared.dpi.Dpi.TheVariants.{Dpi300, Dpi600}
 use Rattle.pcl_base.specs.declared.method.Method.{Method}
 use Rattle.pcl_base.specs.declared.method.Method.TheVariants.{Plain}
+use Rattle.pcl_base.specs.declared.operation.Asking.{Asking}
+use Rattle.pcl_base.specs.declared.operation.Asking.TheVariants.{Sides, OutputBin, MediaType, PaperSource, SheetSide}
 use Rattle.pcl_base.specs.declared.operation.Axis.{Axis}
 use Rattle.pcl_base.specs.declared.operation.Axis.TheVariants.{Horizontal, Vertical}
 use Rattle.pcl_base.specs.declared.operation.Unit.{Unit as Measure}
 use Rattle.pcl_base.specs.declared.operation.Unit.TheVariants.{PclUnit, Decipoint, Column}
 use Rattle.pcl_base.specs.declared.operation.Operation.{Operation}
-use Rattle.pcl_base.specs.declared.operation.Operation.TheVariants.{Reset, UniversalExit, ClearMargins, HalfLineFeed, HorizontalTab, LineFeed, FormFeed, CarriageReturn, Shift, PageSize, Copies, VerticalMotionIndex, LineSpacing, TopMargin, TextLength, PerforationSkip, OnlyZero, EjectMarked, UnitOfMeasure, HorizontalMotionIndex, LineTermination, LeftMargin, Move, CursorStack, MacroId, ControlMacros, RectangleSize, FillRectangle, FontId, CharacterCode, ControlFonts, DownloadFont, DownloadCharacter, SelectFont, PrintText, RasterResolution, RasterWidth, RasterHeight, RasterPresentation, StartRaster, EndRaster, EndRasterResetMethod, RasterMethod, RasterOffset, RasterRow, NoEffect}
+use Rattle.pcl_base.specs.declared.operation.Operation.TheVariants.{Reset, UniversalExit, ClearMargins, HalfLineFeed, HorizontalTab, LineFeed, FormFeed, CarriageReturn, Shift, PageSize, Copies, VerticalMotionIndex, LineSpacing, TopMargin, TextLength, PerforationSkip, OnlyZero, Ask, UnitOfMeasure, HorizontalMotionIndex, LineTermination, LeftMargin, Move, CursorStack, MacroId, ControlMacros, RectangleSize, FillRectangle, FontId, CharacterCode, ControlFonts, DownloadFont, DownloadCharacter, SelectFont, PrintText, RasterResolution, RasterWidth, RasterHeight, RasterPresentation, StartRaster, EndRaster, EndRasterResetMethod, RasterMethod, RasterOffset, RasterRow, NoEffect}
 use Rattle.pcl_base.specs.declared.size.Size.{Size}
 use Rattle.pcl_base.specs.declared.value.Sign.{Sign}
 use Rattle.pcl_base.specs.declared.value.Sign.TheVariants.{Absent, Plus, Minus}
 use Rattle.pcl_base.specs.declared.value.Value.{Value}
 use Rattle.pcl_base.specs.Method.{method_with_code}
 use Rattle.pcl_base.specs.Size.{size_with_code, units_wide, units_high}
-use Rattle.pcl_base.specs.Value.{whole_of, is_minus, is_below_zero, scaled_by}
+use Rattle.pcl_base.specs.Value.{whole_of, signed_whole, is_minus, is_below_zero, scaled_by}
 use Rattle.pcl_env.specs.declared.effect.Effect.{Effect}
 use Rattle.pcl_env.specs.declared.effect.Effect.TheVariants as page
 use Rattle.pcl_env.specs.declared.effect.Unsupported.{Unsupported}
-use Rattle.pcl_env.specs.Settings.{Position, Settings, put_x, put_y, put, to_first_line, defaults, with_size}
+use Rattle.pcl_env.specs.Settings.{Position, Settings, put_x, put_y, put, to_first_line, asked_with, defaults, with_size}
 
 -- the settings after a command and what becomes of the page; none where the value isn't taken
 abbrev pub Outcome : Type 0
@@ -144,6 +146,16 @@ abbrev pub set_method : Option Method → Settings → Outcome
 set_method None s = None
 set_method (Some method) s = stays (record s { method = method })
 
+-- ---- what a job asks of the printer besides dots
+
+-- another paper source and another side of the sheet are for the next page
+abbrev pub effect_of_asking : Asking → Effect
+effect_of_asking Sides = page.Stay
+effect_of_asking OutputBin = page.Stay
+effect_of_asking MediaType = page.Stay
+effect_of_asking PaperSource = page.EjectMarked
+effect_of_asking SheetSide = page.EjectMarked
+
 -- ---- each command
 
 -- lines per inch that VMI can be set to, and PCL units per inch
@@ -174,7 +186,7 @@ outcome dpi TopMargin v m s = counted v (λ n. stays (set_top (n * s.vmi) m s))
 outcome dpi TextLength v m s = counted v (λ n. stays_if (nat_le 1 n) (set_bottom (s.top + n * s.vmi) s))
 outcome dpi PerforationSkip v m s = counted v (λ n. stays_if (nat_le n 1) (record s { skips = n == 1 }))
 outcome dpi OnlyZero v m s = stays_if (whole_of v == 0) s
-outcome dpi EjectMarked v m s = Some (s, page.EjectMarked)
+outcome dpi (Ask what) v m s = Some (record s { asked = asked_with what (signed_whole v) s.asked }, effect_of_asking what)
 outcome dpi UnitOfMeasure v m s = counted v (λ n. stays_if (is_one_of units_of_measure n) (record s { pcl_unit = 7200 / n }))
 outcome dpi HorizontalMotionIndex v m s = counted v (λ n. stays (record s { hmi = scaled_by 60 v }))
 outcome dpi LineTermination v m s = counted v (λ n. stays_if (nat_le n 3)

@@ -2,11 +2,14 @@
 use Rattle.std.specs.Prelude.{ℕ, suc, ◌+◌, ◌-◌, ◌*◌, ◌/◌, Bool, true, false, min, List, [], Option, Some, None, ℤ, pos, negsuc}
 use Rattle.pcl_base.specs.declared.method.Method.{Method}
 use Rattle.pcl_base.specs.declared.method.Method.TheVariants.{Plain}
+use Rattle.pcl_base.specs.declared.operation.Asking.{Asking}
+use Rattle.pcl_base.specs.declared.operation.Asking.TheVariants.{Sides, OutputBin, MediaType, PaperSource, SheetSide}
 use Rattle.pcl_base.specs.declared.operation.Side.{Side}
 use Rattle.pcl_base.specs.declared.operation.Side.TheVariants.{Primary, Secondary}
 use Rattle.pcl_base.specs.declared.size.Size.{Size}
 use Rattle.pcl_base.specs.declared.size.Size.TheVariants.{Letter}
 use Rattle.pcl_base.specs.Size.{units_wide, units_high}
+use Rattle.pcl_env.specs.declared.asked.Asked.{Asked}
 
 -- a place on the page, from its upper left corner
 pub record Position : Type 0 where
@@ -46,6 +49,8 @@ pub record Settings : Type 0 where
   pub raster_width : Option ℕ
   pub raster_height : Option ℕ
   pub method : Method
+  -- what the job asks of the printer besides dots
+  pub asked : Asked
 
 -- ---- moves
 
@@ -70,6 +75,19 @@ to_first_line s = put_y (first_line s) s
 abbrev pub advance : ℤ → Settings → Settings
 advance (pos n) s = put_x (s.cursor.x + n) s
 advance (negsuc n) s = put_x (s.cursor.x - suc n) s
+
+-- ---- what a job asks of the printer besides dots
+
+abbrev pub nothing_asked : Asked
+nothing_asked = record { sides = None; output_bin = None; media_type = None; paper_source = None; sheet_side = None }
+
+-- the last value of each asking counts
+abbrev pub asked_with : Asking → ℤ → Asked → Asked
+asked_with Sides value asked = record asked { sides = Some value }
+asked_with OutputBin value asked = record asked { output_bin = Some value }
+asked_with MediaType value asked = record asked { media_type = Some value }
+asked_with PaperSource value asked = record asked { paper_source = Some value }
+asked_with SheetSide value asked = record asked { sheet_side = Some value }
 
 -- ---- what a reset leaves
 
@@ -100,6 +118,7 @@ defaults = record {
   raster_width = None;
   raster_height = None;
   method = Plain;
+  asked = nothing_asked;
 }
 
 -- a page size sets the margins, and moves the cursor to the left end of the first line

@@ -12,6 +12,7 @@ mod moves;
 mod page;
 mod raster;
 
+use crate::Asked;
 use crate::stack::{Position, Stack};
 use pcl_base::{DOT_UNITS, Method, Side, Size};
 use std::marker::Model;
@@ -71,6 +72,8 @@ struct Setup {
     raster_width: Option<u32>,
     raster_height: Option<u32>,
     method: Method,
+    /// What the page is asked with.
+    asked: Asked,
 }
 
 impl Model for Env {
@@ -140,6 +143,7 @@ impl Env {
                 raster_width: None,
                 raster_height: None,
                 method: Method::Plain,
+                asked: Asked::NOTHING,
             },
         }
     }
@@ -342,5 +346,12 @@ impl Env {
         ensures { result ≡ self.now.method }
     {
         self.setup.method
+    }
+
+    /// What the job asks of the printer besides dots: the last value of each asking since the last reset.
+    pub fn asked(&self) -> Asked
+        ensures { result ≡ self.now.asked }
+    {
+        self.setup.asked
     }
 }

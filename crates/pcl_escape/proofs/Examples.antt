@@ -69,14 +69,16 @@ clipping : IsReading (escape (codes "&d`0@")) (said 0 (Three 38 100 64) Absent 0
 unfolding outcome start_at sequence_at prefix_at ungrouped_at parameter_at field_at parameter_checks operation_of lines_from
 clipping = reading_of refl
 
--- after a universal exit a line is skipped up to its LF, and then one that asks for PCL; what is after that is read
+-- after a universal exit a line is its own up to its LF, and then one that asks for PCL; what is after that is read
 leaving : IsReading (escape (codes "%-12345X@PJL x") ++ 10 ∷ (codes "@PJL Enter Language=P C L" ++ 13 ∷ 10 ∷ 12 ∷ []))
-    (said 0 (Two 37 88) Minus 123450000 [] ∷ said 43 (One 12) Absent 0 [] ∷ [])
+    (said 0 (Two 37 88) Minus 123450000 (codes "@PJL x" ++ 10 ∷ (codes "@PJL Enter Language=P C L" ++ 13 ∷ 10 ∷ []))
+    ∷ said 43 (One 12) Absent 0 [] ∷ [])
 unfolding outcome start_at sequence_at prefix_at ungrouped_at parameter_at field_at parameter_checks operation_of lines_from named_at
 leaving = reading_of refl
 
 -- a line without LF goes to the end, whatever it holds
-last_line : IsReading (escape (codes "%-12345X@PJL") ++ 27 ∷ 7 ∷ []) (said 0 (Two 37 88) Minus 123450000 [] ∷ [])
+last_line : IsReading (escape (codes "%-12345X@PJL") ++ 27 ∷ 7 ∷ [])
+    (said 0 (Two 37 88) Minus 123450000 (codes "@PJL" ++ 27 ∷ 7 ∷ []) ∷ [])
 unfolding outcome start_at sequence_at prefix_at ungrouped_at parameter_at field_at parameter_checks operation_of lines_from
 last_line = reading_of refl
 

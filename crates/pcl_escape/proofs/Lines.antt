@@ -308,3 +308,19 @@ at_asking_line place {bytes} {pcl} cut l p =
 pub place_later : (place : ℕ) {all rest behind : ℕ} → rest ≤ all → behind ≤ rest
     → (place + (all - rest)) + (rest - behind) ≡ place + (all - behind)
 place_later place h k = omega arith
+
+-- bytes that are the same are as many
+ok_length : {bytes rest : List ℕ} → ◌≡◌ {A = Result (List ℕ) ℕ} (Ok bytes) (Ok rest) → length bytes ≡ length rest
+ok_length {bytes} {rest} e = let same : bytes ≡ rest = cc in ap length same
+
+-- what stands after lines is no longer than what stands before them
+skipped_within : {place : ℕ} {bytes rest : List ℕ} {read : Result (List ℕ) ℕ} → Lines place bytes read → read ≡ Ok rest
+    → length rest ≤ length bytes
+skipped_within (skipped lines behind each) e =
+    let whole = length-append (joined lines) behind in
+    let same = ok_length e in
+    omega arith
+skipped_within (foreign lines line behind each ends l p) e = absurd cc
+
+pub lines_within : (place : ℕ) (bytes rest : List ℕ) → lines_at place bytes ≡ Ok rest → length rest ≤ length bytes
+lines_within place bytes rest e = skipped_within (lines_split (suc (length bytes)) (omega arith)) e

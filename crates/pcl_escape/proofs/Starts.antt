@@ -1,5 +1,5 @@
 -- What a step reads outside sequences: a whole piece, the first parameter of a sequence, or a fault.
-use Rattle.std.proofs.Common.{◌≡◌, ℕ, suc, ◌+◌, ◌-◌, ◌<◌, Bool, true, false, ◌==◌, ◌&&◌, if◌then◌else◌, IsTrue, is_some, List, [], ◌∷◌, ◌++◌, length, take, drop, Option, Some, None, Result, Ok, Err, refl, sym, ap, subst, subst₂, ◌∙◌, append_assoc, length-append, arith}
+use Rattle.std.proofs.Common.{◌≡◌, ℕ, suc, ◌+◌, ◌-◌, ◌<◌, Bool, true, false, ◌==◌, ◌&&◌, if◌then◌else◌, IsTrue, is_some, List, [], ◌∷◌, ◌++◌, length, take, take_at, drop, Option, Some, None, Result, Ok, Err, refl, sym, ap, subst, subst₂, ◌∙◌, append_assoc, length-append, arith}
 use Rattle.std.proofs.lemmas.Bool.{eqb-true}
 use Rattle.std.proofs.lemmas.Bool.Decides.{nat_tests}
 use Rattle.std.specs.List.{prefix_len}
@@ -22,7 +22,7 @@ use Rattle.pcl_escape.specs.Checks.{exit_name, is_exit, parameter_checks}
 use Rattle.pcl_escape.specs.Exit.{joined, IsLine, AreOtherLines, names_language, names_pcl}
 use Rattle.pcl_escape.specs.inner.Lines.{lines_at}
 use Rattle.pcl_escape.specs.Said.{Said}
-use Rattle.pcl_escape.specs.inner.Scan.{Reads, refuse, named_by, named_at, text_at, leaves, skipped_by, with_lines, ungrouped_at, prefix_at, sequence_at, start_at, parameter_at, commands_said}
+use Rattle.pcl_escape.specs.inner.Scan.{Reads, refuse, named_by, named_at, text_at, leaves, before_rest, skipped_by, with_lines, ungrouped_at, prefix_at, sequence_at, start_at, parameter_at, commands_said}
 use Rattle.pcl_escape.specs.Pieces.{Parameter, Piece, silent, control, text, two_character, exit, IsField, IsPrefix, IsNamed, IsNoText, IsRun, IsExit, IsPiece, parameter_bytes, spelling, bare_command, text_command, exit_command, commands_from}
 use Rattle.pcl_escape.specs.Faults.{Fails, unknown_control, lone_escape, no_sequence, unknown_two, no_group, bad_group, in_line, IsUngrouped, cut}
 use Rattle.pcl_escape.proofs.Fields.{and_parts}
@@ -108,16 +108,26 @@ exit_place at field bytes =
     let own = length-append (field_bytes field) (88 ∷ []) in
     omega arith
 
+-- an exit with these data
+abbrev exit_with : ℕ → Spelled → List ℕ → Said
+exit_with at field bytes = record (exit_command at field []) { bytes = bytes }
+
+-- what stands before the rest
+before_rest_is : (front rest : List ℕ) → before_rest (front ++ rest) rest ≡ front
+before_rest_is front rest =
+    let own : length (front ++ rest) - length rest ≡ length front = let e = length-append front rest in omega arith in
+    ap (λ (n : ℕ). take n (front ++ rest)) own ∙ take_at front rest (length front) refl
+
 -- an exit without data and the lines after it
 exit_lines : {at : ℕ} (field : Spelled) {bytes : List ℕ} {read : Result (List ℕ) ℕ} → IsField field
     → is_exit exit_name (field_value field) ≡ true → parameter_checks exit_name 88 (field_value field) 0 ≡ Ok 0
     → Lines (at + 3 + length (field_bytes field)) bytes read → Outside at (27 ∷ 37 ∷ (parameter_bytes (exit_parameter field) ++ bytes))
-    (skipped_by (Some (exit_command at field)) read)
+    (skipped_by bytes (Some (exit_command at field [])) read)
 exit_lines {at} field f x e (skipped lines rest each) =
-    subst (λ (bs : List ℕ). Outside at (27 ∷ 37 ∷ bs) (piece_reads (Some (exit_command at field)) rest))
-    (exit_joined field (joined lines) rest)
-    (whole_piece (exit field lines) rest (Some (exit_command at field)) (record { field_is = f; leaves = x; checks = e; lines_are = each })
-    (omega arith) refl)
+    subst₂ (λ (bs front : List ℕ). Outside at (27 ∷ 37 ∷ bs) (piece_reads (Some (exit_with at field front)) rest))
+    (exit_joined field (joined lines) rest) (sym (before_rest_is (joined lines) rest))
+    (whole_piece (exit field lines) rest (Some (exit_command at field lines))
+    (record { field_is = f; leaves = x; checks = e; lines_are = each }) (omega arith) refl)
 exit_lines {at} field f x e (foreign lines line rest each ends l p) =
     subst (λ (bs : List ℕ). Outside at (27 ∷ 37 ∷ bs)
     (refuse NotPcl (at + 3 + length (field_bytes field) + length (joined lines)) exit_name))
@@ -127,7 +137,7 @@ exit_lines {at} field f x e (foreign lines line rest each ends l p) =
 -- what a step reads of the bytes of an exit and those after it
 exit_reads : (at : ℕ) (field : Spelled) (bytes : List ℕ) → is_exit exit_name (field_value field) ≡ true
     → with_lines (at + 2) (length (parameter_bytes (exit_parameter field) ++ bytes)) (end_reads percent at (exit_parameter field) [] bytes)
-    ≡ skipped_by (Some (exit_command at field)) (lines_at (at + 3 + length (field_bytes field)) bytes)
+    ≡ skipped_by bytes (Some (exit_command at field [])) (lines_at (at + 3 + length (field_bytes field)) bytes)
 exit_reads at field bytes x = rw (x, exit_place at field bytes) refl
 
 -- a last parameter of this name has no data
@@ -414,7 +424,7 @@ inside_again {prefix} {at} {bytes} p n inside e =
 -- a step reads a universal exit and then its lines
 exit_first : (at : ℕ) (field : Spelled) (bytes : List ℕ) → IsField field → is_exit exit_name (field_value field) ≡ true
     → parameter_checks exit_name 88 (field_value field) 0 ≡ Ok 0
-    → start_at at (27 ∷ 37 ∷ (parameter_bytes (exit_parameter field) ++ bytes)) ≡ skipped_by (Some (exit_command at field))
+    → start_at at (27 ∷ 37 ∷ (parameter_bytes (exit_parameter field) ++ bytes)) ≡ skipped_by bytes (Some (exit_command at field []))
     (lines_at (at + 3 + length (field_bytes field)) bytes)
 exit_first at field bytes f x e =
     let last : IsLast percent (exit_parameter field) [] = record { field = f; letter = refl; checks = e } in
@@ -426,11 +436,13 @@ exit_first at field bytes f x e =
     ∙ exit_reads at field bytes x
 
 pub exit_again : {at : ℕ} {field : Spelled} {lines : List (List ℕ)} {rest : List ℕ} → IsExit field lines rest
-    → start_at at (spelling (exit field lines) ++ rest) ≡ piece_reads (Some (exit_command at field)) rest
+    → start_at at (spelling (exit field lines) ++ rest) ≡ piece_reads (Some (exit_command at field lines)) rest
 exit_again {at} {field} {lines} {rest} is =
     ap (λ (bs : List ℕ). start_at at (27 ∷ 37 ∷ bs)) (exit_joined field (joined lines) rest)
     ∙ exit_first at field (joined lines ++ rest) is.field_is is.leaves is.checks
-    ∙ ap (skipped_by (Some (exit_command at field))) (lines_again (at + 3 + length (field_bytes field)) is.lines_are)
+    ∙ ap (skipped_by (joined lines ++ rest) (Some (exit_command at field [])))
+    (lines_again (at + 3 + length (field_bytes field)) is.lines_are)
+    ∙ ap (λ (front : List ℕ). piece_reads (Some (exit_with at field front)) rest) (before_rest_is (joined lines) rest)
 
 -- a step finds a line that asks for another language
 pub in_line_again : (at : ℕ) (field : Spelled) (lines : List (List ℕ)) {line rest : List ℕ} → IsField field
@@ -441,7 +453,7 @@ pub in_line_again : (at : ℕ) (field : Spelled) (lines : List (List ℕ)) {line
 in_line_again at field lines {line} {rest} f x e each ends l p =
     ap (λ (bs : List ℕ). start_at at (27 ∷ 37 ∷ bs)) (sym (parameter_joined field 88 (joined lines ++ (line ++ rest))))
     ∙ exit_first at field (joined lines ++ (line ++ rest)) f x e
-    ∙ ap (skipped_by (Some (exit_command at field))) (foreign_again lines (at + 3 + length (field_bytes field)) each ends l p)
+    ∙ ap (skipped_by (joined lines ++ (line ++ rest)) (Some (exit_command at field []))) (foreign_again lines (at + 3 + length (field_bytes field)) each ends l p)
 
 -- ---- faults
 

@@ -123,9 +123,9 @@ bare_command at code = record { at = at; name = One code; value = zero_value; by
 abbrev pub text_command : ℕ → List ℕ → Said
 text_command at bytes = record { at = at; name = One 32; value = zero_value; bytes = bytes }
 
--- a universal exit says its value, and nothing of the lines
-abbrev pub exit_command : ℕ → Spelled → Said
-exit_command at field = record { at = at; name = exit_name; value = field_value field; bytes = [] }
+-- a universal exit says its value, and its lines one after the other
+abbrev pub exit_command : ℕ → Spelled → List (List ℕ) → Said
+exit_command at field lines = record { at = at; name = exit_name; value = field_value field; bytes = joined lines }
 
 -- a parameter with its data
 abbrev pub command_of : Prefix → ℕ → Parameter → List ℕ → Said
@@ -151,7 +151,7 @@ commands_from at (control code) = bare_command at code ∷ []
 commands_from at (text bytes) = text_command at bytes ∷ []
 commands_from at (two_character byte) = bare_command at byte ∷ []
 commands_from at (combined prefix middle end bytes) = parameter_commands prefix at (first_place at prefix) middle end bytes
-commands_from at (exit field lines) = exit_command at field ∷ []
+commands_from at (exit field lines) = exit_command at field lines ∷ []
 
 -- the commands of pieces that begin at a place
 abbrev pub commands_of : ℕ → List Piece → List Said

@@ -13,6 +13,6 @@ pub struct Command<'a> {
     pub name: Name,
     /// The value of its field, 0 with no sign where it has none.
     pub value: Value,
-    /// The data that follow it, or the run of text: a slice of the job.
+    /// The data that follow it, the run of text, or the lines after a universal exit: a slice of the job.
     pub bytes: &'a [u8],
 }

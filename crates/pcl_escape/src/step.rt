@@ -1,13 +1,14 @@
 //! One step of the reading: a silent byte, a control code, a run of text, a two-character sequence, or one
 //! parameter; and after a universal exit the lines of the job language.
 
-ghost use Rattle.std.specs.Prelude.{◌≡◌, ◌≤◌, ◌+◌, length, IsTrue, IfOk, Err, None};
+ghost use Rattle.std.specs.Prelude.{◌≡◌, ◌≤◌, ◌+◌, length, IsTrue, IfOk, Err, Some, None};
 ghost use Rattle.std.specs.List.{prefix_len};
 ghost use Rattle.pcl_base.specs.Operation.{operation_of};
 ghost use Rattle.pcl_base.specs.Refusal.{refusal};
 ghost use Rattle.pcl_escape.specs.Letter.{goes_on, is_text, is_letter, prefix_name, parameter_name};
 ghost use Rattle.pcl_escape.specs.Checks.{operation_checks, is_exit};
-ghost use Rattle.pcl_escape.specs.inner.Scan.{Gives, step_view, step_at, start_at, sequence_at, prefix_at, ungrouped_at, parameter_at, named_at, text_at};
+ghost use Rattle.pcl_escape.specs.Said.{view};
+ghost use Rattle.pcl_escape.specs.inner.Scan.{Gives, step_view, before_rest, step_at, start_at, sequence_at, prefix_at, ungrouped_at, parameter_at, named_at, text_at};
 
 use crate::Command;
 use crate::exit::skip_lines;
@@ -131,15 +132,28 @@ fn read_ungrouped<'a>(
         Some(command) if is_exit(command.name, command.value) => {
             let place = at + 2 + (bytes.len() - step.rest.len());
             match skip_lines(place, step.rest) {
-                Ok(rest) => Ok(Progress {
-                    command: step.command,
-                    rest,
-                    inside: None,
-                }),
+                Ok(rest) => Ok(with_lines(command, step.rest, rest)),
                 Err(line) => refused(Kind::NotPcl, line, EXIT),
             }
         }
         _ => Ok(step),
+    }
+}
+
+/// A universal exit with the lines that stand before the rest of the bytes after it.
+fn with_lines<'a>(command: Command<'a>, bytes: &'a [u8], rest: &'a [u8]) -> Progress<'a>
+    requires { length rest.now ≤ length bytes.now }
+    ensures { step_view result ≡ record {
+        said = Some (record (view command.entry) { bytes = before_rest bytes.now rest.now }); rest = rest.now; inside = None } }
+{
+    let (lines, _) = bytes.split_at(bytes.len() - rest.len());
+    Progress {
+        command: Some(Command {
+            bytes: lines,
+            ..command
+        }),
+        rest,
+        inside: None,
     }
 }
 

@@ -211,6 +211,7 @@ event_done {dpi} {event} {s} {old} {new} at same c = record {
       marked = i.marked;
       ejected = i.ejected;
       performed = i.performed;
+      asks = i.asks;
       fonts = i.fonts;
       painted = i.painted;
     }
@@ -263,6 +264,7 @@ begin_acted {dpi} {id} place {s} {old} {new} at i same run m =
       marked = i.marked;
       ejected = i.ejected;
       performed = i.performed;
+      asks = i.asks;
       fonts = i.fonts;
       painted = i.painted;
     }
@@ -296,6 +298,7 @@ end_acted {dpi} place {s} {old} new (Ok unit) at same run h =
           marked = at.is_in.marked;
           ejected = at.is_in.ejected;
           performed = at.is_in.performed;
+          asks = at.is_in.asks;
           fonts = at.is_in.fonts;
           painted = at.is_in.painted;
         });
@@ -358,17 +361,17 @@ call_acted {id} {saved} {s} {old} new result at i k h =
 -- ---- the end
 
 pub ends_outside : {S : Type 0} (takes : S → Page → S → Type 0) (dpi : Dpi) (end : ℕ) (s : Situation) (old : Interpreter)
-    (result : Result (Unit {0}) JobFault) (sink later : S) → IsAt dpi s old → is_begun old.macros ≡ false
-    → EndDone takes dpi end s result sink later → InterpreterEnds takes dpi end s result sink later
-ends_outside {S} takes dpi end s old result sink later at none d =
-    ends_by takes dpi end s result sink later (ap (λ (b : Option Begun). is_some b) (sym at.begun) ∙ none) d
+    (new : Performer) (result : Result (Unit {0}) JobFault) (sink later : S) → IsAt dpi s old → is_begun old.macros ≡ false
+    → EndDone takes dpi end s result new sink later → InterpreterEnds takes dpi end s result new sink later
+ends_outside {S} takes dpi end s old new result sink later at none d =
+    ends_by takes dpi end s result new sink later (ap (λ (b : Option Begun). is_some b) (sym at.begun) ∙ none) d
   where
     refusal_is : (dpi : Dpi) (s : Situation) → is_some s.begun ≡ false → end_refusal dpi s ≡ page_refusal (at_end dpi s)
     refusal_is dpi s e = ap (λ (b : Bool). cond b (Some MacroOpen) (page_refusal (at_end dpi s))) e
 
     ends_by : {S : Type 0} (takes : S → Page → S → Type 0) (dpi : Dpi) (end : ℕ) (s : Situation) (result : Result (Unit {0}) JobFault)
-        (sink later : S) → is_some s.begun ≡ false → EndDone takes dpi end s result sink later
-        → InterpreterEnds takes dpi end s result sink later
-    ends_by takes dpi end s (Ok unit) sink later e d = (refusal_is dpi s e ∙ d.0, d.1)
-    ends_by takes dpi end s (Err (job.Refused why)) sink later e d = (d.0, refusal_is dpi s e ∙ d.1, d.2, d.3)
-    ends_by takes dpi end s (Err job.Memory) sink later e d = d
+        (new : Performer) (sink later : S) → is_some s.begun ≡ false → EndDone takes dpi end s result new sink later
+        → InterpreterEnds takes dpi end s result new sink later
+    ends_by takes dpi end s (Ok unit) new sink later e d = (refusal_is dpi s e ∙ d.0, d.1, d.2)
+    ends_by takes dpi end s (Err (job.Refused why)) new sink later e d = (d.0, refusal_is dpi s e ∙ d.1, d.2, d.3)
+    ends_by takes dpi end s (Err job.Memory) new sink later e d = d

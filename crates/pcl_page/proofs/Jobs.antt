@@ -13,14 +13,16 @@ use Rattle.pcl_escape.specs.Said.{Said}
 use Rattle.pcl_escape.specs.Pieces.{IsReading}
 use Rattle.pcl_escape.specs.Faults.{IsFaultOf}
 use Rattle.pcl_bitmap.specs.declared.page.Page.{Page}
+use Rattle.pcl_page.specs.declared.performer.Performer.{Performer}
 use Rattle.pcl_page.specs.declared.interpreter.Interpreter.{Interpreter}
 use Rattle.pcl_page.specs.declared.interpreter.Running.{Running}
 use Rattle.pcl_page.specs.Situation.{Sheet, Situation, at_end}
+use Rattle.pcl_page.specs.declared.asks.Asks.{Asks as AsksOfCode}
 use Rattle.pcl_page.specs.Jobs.{HasPages, performance_of}
-use Rattle.pcl_page.specs.Delivering.{AllShow, IsPerformed, Delivers, Hands, HandsOver}
+use Rattle.pcl_page.specs.Delivering.{AllShow, IsPerformed, Delivers, DeliversAsked, Hands, HandsOver, HandsOverAsked}
 use Rattle.pcl_page.specs.Performing.{Shows, Performance, done, unless, then_on, step, runs, after_all, end_refusal, ended, after_end, pages_of}
 use Rattle.pcl_bitmap.specs.Page.{IsSamePage}
-use Rattle.pcl_page.specs.inner.Unfolding.{IsAt, resumed, begun_among, GoesOn, InterpreterEnds}
+use Rattle.pcl_page.specs.inner.Unfolding.{IsAt, resumed, begun_among, GoesOn, InterpreterEnds, IsAsking}
 use Rattle.pcl_page.proofs.Keeping.{end_adds}
 use Rattle.pcl_page.proofs.Sinks.{stays_there, hands_append, hands_further, goes_from, goes_to}
 use Rattle.pcl_page.proofs.Unfolded.{Grows, then_done, then_assoc, then_grows, all_grow}
@@ -178,28 +180,28 @@ macros_reached takes dpi end all whole place command {commands} middle last old 
 
 -- the end of the input
 pub end_reached : {S : Type 0} (takes : S → Page → S → Type 0) (dpi : Dpi) (end : ℕ) (all : List Said) (whole : Performance) (place : ℕ)
-    (interpreter : Interpreter) (old now then : S) (result : Result (Unit {0}) JobFault)
+    (interpreter : Interpreter) (new : Performer) (old now then : S) (result : Result (Unit {0}) JobFault)
     → IsReached takes dpi whole (rest_of_job dpi end all place []) interpreter old now
-    → ((dpi : Dpi) (s : Situation) → IsAt dpi s interpreter → InterpreterEnds takes dpi end s result now then)
-    → HandsOver takes dpi whole result old then
-end_reached takes dpi end all whole place interpreter old now then (Ok unit) r step =
+    → ((dpi : Dpi) (s : Situation) → IsAt dpi s interpreter → InterpreterEnds takes dpi end s result new now then)
+    → HandsOver takes dpi whole result old then × IsAsking whole result new
+end_reached takes dpi end all whole place interpreter new old now then (Ok unit) r step =
     let s = r.situation in
     let d = step dpi s r.is_at in
     let ends : whole ≡ done (at_end dpi s) = sym r.same ∙ ap (λ (why : Option Kind). ended dpi end why s) d.0 in
-    subst (λ (p : Performance). HandsOver takes dpi p (Ok unit) old then) (sym ends)
-    (refl, hands_further takes dpi s (at_end dpi s) old now then r.handed d.1)
-end_reached {S} takes dpi end all whole place interpreter old now then (Err (Refused why)) r step =
+    subst (λ (p : Performance). HandsOver takes dpi p (Ok unit) old then × IsAsking p (Ok unit) new) (sym ends)
+    ((refl, hands_further takes dpi s (at_end dpi s) old now then r.handed d.1), d.2)
+end_reached {S} takes dpi end all whole place interpreter new old now then (Err (Refused why)) r step =
     let s = r.situation in
     let d = step dpi s r.is_at in
     let stops : whole ≡ record { situation = s; refusal = Some (refusal d.0 end Empty) } =
     sym r.same ∙ ap (λ (o : Option Kind). ended dpi end o s) d.1 in
-    subst (λ (p : Performance). HandsOver takes dpi p (Err (Refused why)) old then) (sym stops)
-    (ap (λ (f : Refusal). Some f) (sym d.2), subst (λ (x : S). Hands takes dpi s.pages old x) (sym d.3) r.handed)
-end_reached {S} takes dpi end all whole place interpreter old now then (Err Memory) r step =
+    (subst (λ (p : Performance). HandsOver takes dpi p (Err (Refused why)) old then) (sym stops)
+    (ap (λ (f : Refusal). Some f) (sym d.2), subst (λ (x : S). Hands takes dpi s.pages old x) (sym d.3) r.handed), tt)
+end_reached {S} takes dpi end all whole place interpreter new old now then (Err Memory) r step =
     let s = r.situation in
     let o = end_grows dpi end s in
-    subst (λ (p : Performance). HandsOver takes dpi p (Err Memory) old then) r.same
-    (s.pages, o.0, o.1, subst (λ (x : S). Hands takes dpi s.pages old x) (sym (step dpi s r.is_at)) r.handed)
+    (subst (λ (p : Performance). HandsOver takes dpi p (Err Memory) old then) r.same
+    (s.pages, o.0, o.1, subst (λ (x : S). Hands takes dpi s.pages old x) (sym (step dpi s r.is_at)) r.handed), tt)
 
 -- of a job that is not read nothing is delivered
 pub undelivered : {S : Type 0} (takes : S → Page → S → Type 0) (dpi : Dpi) (job : List ℕ) (fault : JobFault) {old new : S}
@@ -217,6 +219,17 @@ delivered takes dpi job commands (Err (Refused why)) old new reading handed =
     inr (record { commands = commands; reading = reading; handed = handed })
 delivered takes dpi job commands (Err Memory) old new reading handed =
     inr (record { commands = commands; reading = reading; handed = handed })
+
+-- what is asked is handed on beside the pages
+pub delivered_asked : {S : Type 0} (takes : S → Page → S → Type 0) (dpi : Dpi) (job : List ℕ) (commands : List Said)
+    (result : Result AsksOfCode JobFault) (old new : S) → IsReading job commands
+    → HandsOverAsked takes dpi (performance_of dpi job commands) result old new → DeliversAsked takes dpi job result old new
+delivered_asked takes dpi job commands (Ok asks) old new reading handed = (
+  delivered takes dpi job commands (Ok tt) old new reading handed.0,
+  record { commands = commands; reading = reading; accepted = handed.0.0; asked = handed.1 },
+)
+delivered_asked takes dpi job commands (Err fault) old new reading handed =
+    delivered takes dpi job commands (Err fault) old new reading handed
 
 -- ---- pages that were kept
 

@@ -3,11 +3,12 @@ use Rattle.std.specs.Prelude.{◌==◌, ◌&&◌, ◌||◌, ◌*◌, ◌/◌, if
 use Rattle.std.proofs.Common.{◌≡◌, ℕ, ◌+◌, Bool, true, false, cond, List, [], ◌∷◌, Option, Some, None, refl, subst}
 use Rattle.pcl_base.specs.declared.dpi.Dpi.{Dpi}
 use Rattle.pcl_base.specs.declared.method.Method.{Method}
+use Rattle.pcl_base.specs.declared.operation.Asking.TheVariants.{Sides, OutputBin, MediaType, PaperSource, SheetSide}
 use Rattle.pcl_base.specs.declared.operation.Axis.{Axis}
 use Rattle.pcl_base.specs.declared.operation.Axis.TheVariants.{Horizontal, Vertical}
 use Rattle.pcl_base.specs.declared.operation.Unit.{Unit as Measure}
 use Rattle.pcl_base.specs.declared.operation.Operation.{Operation}
-use Rattle.pcl_base.specs.declared.operation.Operation.TheVariants.{Reset, UniversalExit, ClearMargins, HalfLineFeed, HorizontalTab, LineFeed, FormFeed, CarriageReturn, Shift, PageSize, Copies, VerticalMotionIndex, LineSpacing, TopMargin, TextLength, PerforationSkip, OnlyZero, EjectMarked as EjectMarkedPage, UnitOfMeasure, HorizontalMotionIndex, LineTermination, LeftMargin, Move, CursorStack, MacroId, ControlMacros, RectangleSize, FillRectangle, FontId, CharacterCode, ControlFonts, DownloadFont, DownloadCharacter, SelectFont, PrintText, RasterResolution, RasterWidth, RasterHeight, RasterPresentation, StartRaster, EndRaster, EndRasterResetMethod, RasterMethod, RasterOffset, RasterRow, NoEffect}
+use Rattle.pcl_base.specs.declared.operation.Operation.TheVariants.{Reset, UniversalExit, ClearMargins, HalfLineFeed, HorizontalTab, LineFeed, FormFeed, CarriageReturn, Shift, PageSize, Copies, VerticalMotionIndex, LineSpacing, TopMargin, TextLength, PerforationSkip, OnlyZero, Ask, UnitOfMeasure, HorizontalMotionIndex, LineTermination, LeftMargin, Move, CursorStack, MacroId, ControlMacros, RectangleSize, FillRectangle, FontId, CharacterCode, ControlFonts, DownloadFont, DownloadCharacter, SelectFont, PrintText, RasterResolution, RasterWidth, RasterHeight, RasterPresentation, StartRaster, EndRaster, EndRasterResetMethod, RasterMethod, RasterOffset, RasterRow, NoEffect}
 use Rattle.pcl_base.specs.declared.size.Size.{Size}
 use Rattle.pcl_base.specs.declared.value.Value.{Value}
 use Rattle.pcl_base.specs.Size.{size_with_code, units_wide, units_high}
@@ -125,7 +126,11 @@ keeps dpi PerforationSkip v m s =
     counted_keeps v s (λ n. stays_if (nat_le n 1) (record s { skips = n == 1 }))
     (λ n. stays_if_keeps _ s _ refl)
 keeps dpi OnlyZero v m s = stays_if_keeps (whole_of v == 0) s s refl
-keeps dpi EjectMarkedPage v m s = marked_keeps
+keeps dpi (Ask Sides) v m s = stay_keeps s _ refl
+keeps dpi (Ask OutputBin) v m s = stay_keeps s _ refl
+keeps dpi (Ask MediaType) v m s = stay_keeps s _ refl
+keeps dpi (Ask PaperSource) v m s = marked_keeps
+keeps dpi (Ask SheetSide) v m s = marked_keeps
 keeps dpi UnitOfMeasure v m s =
     counted_keeps v s (λ n. stays_if (is_one_of units_of_measure n) (record s { pcl_unit = 7200 / n }))
     (λ n. stays_if_keeps _ s _ refl)

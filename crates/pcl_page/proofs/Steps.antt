@@ -20,11 +20,13 @@ use Rattle.pcl_env.specs.Outcome.{Outcome, outcome, stays}
 use Rattle.pcl_bitmap.specs.declared.page.Page.{Page}
 use Rattle.pcl_page.specs.declared.performer.Performer.{Performer}
 use Rattle.pcl_page.specs.Raster.{Raster, ends_raster, is_ignored_in_raster}
-use Rattle.pcl_page.specs.Situation.{Sheet, Situation, without_temporary, draw_refusal, unless_refused, drawn_on, settings_below, end_raster, is_marked, sheet_of, turned, drawn, done_with, taken, counted, prepared, is_ignored, after, at_end, page_refusal, refusal_after, operation_refusal, command_refusal}
+use Rattle.pcl_page.specs.Situation.{Sheet, Situation, turned_page, without_temporary, draw_refusal, unless_refused, drawn_on, settings_below, end_raster, is_marked, sheet_of, turned, drawn, done_with, taken, counted, prepared, is_ignored, after, at_end, page_refusal, refusal_after, operation_refusal, command_refusal}
 use Rattle.pcl_page.specs.Performing.{Shows}
 use Rattle.pcl_page.specs.Delivering.{Hands}
-use Rattle.pcl_page.specs.inner.Reflecting.{IsIn, Takes, Draws, HandsMore, IsTurned, IsTried}
-use Rattle.pcl_page.proofs.Turns.{holds_same, painted_same, prepared_page, with_settings, turned_page, pages_fit, pages_past, handed_sheet}
+use Rattle.pcl_page.specs.inner.Reflecting.{IsIn, IsEjected, Takes, Draws, HandsMore, IsTurned, IsTried}
+use Rattle.pcl_env.specs.declared.asked.Asked.{Asked}
+use Rattle.pcl_page.specs.Asks.{with_page, asks_of}
+use Rattle.pcl_page.proofs.Turns.{holds_same, painted_same, prepared_page, with_settings, asked_page, pages_fit, pages_past, handed_sheet}
 use Rattle.pcl_page.proofs.Keeping.{drawn_keeps}
 
 -- ---- a command
@@ -38,13 +40,14 @@ prepared_pages dpi ends s = (prepared_page dpi ends s).pages
 pub counted_in : {dpi : Dpi} {s : Situation} {old new : Performer} → IsIn dpi s old → new.environment ≡ old.environment
     → new.raster ≡ old.raster
     → new.page ≡ old.page → new.is_marked ≡ old.is_marked → new.ejected ≡ old.ejected → new.performed ≡ old.performed + 1
-    → new.fonts ≡ old.fonts → IsIn dpi (counted s) new
-counted_in i e r b m j p f = record {
+    → new.asks ≡ old.asks → new.fonts ≡ old.fonts → IsIn dpi (counted s) new
+counted_in i e r b m j p a f = record {
   settings = e ∙ i.settings;
   raster = r ∙ i.raster;
   marked = m ∙ i.marked;
   ejected = j ∙ i.ejected;
   performed = p ∙ ap (λ (n : ℕ). n + 1) i.performed;
+  asks = ap asks_of a ∙ i.asks;
   fonts = holds_same i.fonts f refl;
   painted = painted_same i.painted (ap (λ (q : Page). q.bitmap) b) refl;
 }
@@ -377,30 +380,45 @@ end_turned dpi s e =
     ap (λ (b : Bool).
     without_temporary (cond b (turned_page defaults (end_raster dpi s)) (with_settings defaults (end_raster dpi s)))) e
 
-pub end_marked : {S : Type 0} (takes : S → Page → S → Type 0) (dpi : Dpi) (s : Situation) (copies : ℕ) (old : Performer) (sink later : S)
-    → IsIn dpi s old
-    → old.is_marked ≡ true → old.ejected < 256 → copies ≡ old.environment.copies → Takes takes copies old sink later
-    → (page_refusal (at_end dpi s) ≡ None) × HandsMore takes dpi s (at_end dpi s) sink later
-end_marked takes dpi s copies old sink later i m few c t =
+-- nor what it is asked with
+asked_below : (dpi : Dpi) (raster : Option Raster) (s : Settings) → (settings_below dpi raster s).asked ≡ s.asked
+asked_below dpi None s = refl
+asked_below dpi (Some r) s = refl
+
+-- the end, where it is not refused
+abbrev EndsAt : {S : Type 0} → (S → Page → S → Type 0) → Dpi → Situation → Situation → Performer → S → S → Type 0
+EndsAt {S} takes dpi s end new sink later =
+    (page_refusal end ≡ None) × HandsMore takes dpi s end sink later × (asks_of new.asks ≡ end.asks)
+
+pub end_marked : {S : Type 0} (takes : S → Page → S → Type 0) (dpi : Dpi) (s : Situation) (copies : ℕ) (asked : Asked)
+    (old new : Performer) (sink later : S) → IsIn dpi s old
+    → old.is_marked ≡ true → old.ejected < 256 → copies ≡ old.environment.copies → asked ≡ old.environment.asked
+    → IsEjected asked old new → Takes takes copies old sink later
+    → EndsAt takes dpi s (at_end dpi s) new sink later
+end_marked takes dpi s copies asked old new sink later i m few c a e t =
     let end = end_raster dpi s in
     let is = end_turned dpi s (sym i.marked ∙ m) in
     let count = length-append s.pages (sheet_of end ∷ []) in
     let shows = subst (λ (sheet : Sheet). Shows dpi t.0 sheet) (sym (sheet_below dpi s.raster s))
     (handed_sheet i refl c t.1) in
-    subst (λ (z : Situation). (page_refusal z ≡ None) × HandsMore takes dpi s z sink later) (sym is) (
+    subst (λ (z : Situation). EndsAt takes dpi s z new sink later) (sym is) (
       pages_fit (without_temporary (turned_page defaults end)) (omega (arith, i.ejected, count)),
       (sheet_of end ∷ [], refl, (t.0, later, shows, t.2, refl)),
+      e.asks ∙ asked_page old i a refl ∙ ap (λ (one : Asked). with_page one s.asks) (sym (asked_below dpi s.raster s.settings)),
     )
 
 pub end_unmarked : {S : Type 0} (takes : S → Page → S → Type 0) (dpi : Dpi) (s : Situation) (old : Performer) (sink later : S)
     → IsIn dpi s old
     → old.is_marked ≡ false → old.ejected ≤ 256 → later ≡ sink
-    → (page_refusal (at_end dpi s) ≡ None) × HandsMore takes dpi s (at_end dpi s) sink later
+    → EndsAt takes dpi s (at_end dpi s) old sink later
 end_unmarked takes dpi s old sink later i m few same =
     let end = end_raster dpi s in
-    subst (λ (z : Situation). (page_refusal z ≡ None) × HandsMore takes dpi s z sink later)
-    (sym (end_turned dpi s (sym i.marked ∙ m)))
-    (pages_fit (without_temporary (with_settings defaults end)) (omega (arith, i.ejected)), ([], sym (append-nil s.pages), same))
+    subst (λ (z : Situation). EndsAt takes dpi s z old sink later)
+    (sym (end_turned dpi s (sym i.marked ∙ m))) (
+      pages_fit (without_temporary (with_settings defaults end)) (omega (arith, i.ejected)),
+      ([], sym (append-nil s.pages), same),
+      i.asks,
+    )
 
 pub end_past : {dpi : Dpi} {s : Situation} {old : Performer} → IsIn dpi s old → old.is_marked ≡ true → 256 ≤ old.ejected
     → page_refusal (at_end dpi s) ≡ Some TooManyPages

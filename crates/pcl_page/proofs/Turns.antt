@@ -19,9 +19,12 @@ use Rattle.pcl_env.specs.Outcome.{Outcome, outcome, Answers}
 use Rattle.pcl_bitmap.specs.declared.page.Page.{Page}
 use Rattle.pcl_page.specs.declared.performer.Performer.{Performer}
 use Rattle.pcl_bitmap.specs.Dots.{is_black_ink}
+use Rattle.pcl_env.specs.declared.asked.Asked.{Asked}
+use Rattle.pcl_page.specs.declared.asks.Asks.{Asks as AsksOfCode}
+use Rattle.pcl_page.specs.Asks.{with_page, asks_of}
 use Rattle.pcl_page.specs.Marks.{Mark, is_black}
 use Rattle.pcl_page.specs.Raster.{Raster, ends_raster}
-use Rattle.pcl_page.specs.Situation.{Sheet, Situation, settings_below, end_raster, is_marked, ejects, sheet_of, turned, prepared, page_refusal}
+use Rattle.pcl_page.specs.Situation.{Sheet, Situation, settings_below, end_raster, is_marked, ejects, sheet_of, turned_page, turned, prepared, page_refusal}
 use Rattle.pcl_page.specs.Performing.{Shows}
 use Rattle.pcl_page.specs.inner.Reflecting.{IsPainted, IsIn, IsWhite, IsFollowed, IsEjected, IsHanded, Takes, IsPrepared, IsDrawn, HandsMore, IsTurned}
 use Rattle.pcl_page.proofs.Sizes.{size_kept}
@@ -71,6 +74,7 @@ pub record KeepsPage (s other : Situation) : Type 0 where
   pub marks : other.marks ≡ s.marks
   pub pages : other.pages ≡ s.pages
   pub performed : other.performed ≡ s.performed
+  pub asks : other.asks ≡ s.asks
 
 pub prepared_page : (dpi : Dpi) (ends : Bool) (s : Situation) → KeepsPage s (cond ends (end_raster dpi s) s)
 prepared_page dpi true s = record {
@@ -81,9 +85,10 @@ prepared_page dpi true s = record {
   marks = refl;
   pages = refl;
   performed = refl;
+  asks = refl;
 }
 prepared_page dpi false s =
-    record { size = refl; fonts = refl; macros = refl; begun = refl; marks = refl; pages = refl; performed = refl }
+    record { size = refl; fonts = refl; macros = refl; begun = refl; marks = refl; pages = refl; performed = refl; asks = refl }
 
 pub prepared_in : {dpi : Dpi} {operation : Operation} {s : Situation} {old new : Performer} → IsIn dpi s old
     → IsPrepared dpi operation old new
@@ -100,6 +105,7 @@ prepared_in {dpi} {operation} {s} {old} {new} i p =
       marked = p.marked ∙ i.marked ∙ ap (λ (ms : List Mark). is_marked (record s { marks = ms })) (sym k.marks);
       ejected = p.ejected ∙ i.ejected ∙ ap (λ (ps : List Sheet). length ps) (sym k.pages);
       performed = p.performed ∙ i.performed ∙ sym k.performed;
+      asks = ap asks_of p.asks ∙ i.asks ∙ sym k.asks;
       fonts = holds_same i.fonts p.fonts k.fonts;
       painted = subst (λ (ms : List Mark). IsPainted dpi (prepared dpi operation s).settings.size ms new.page.bitmap) (sym k.marks)
           (painted_same i.painted p.bitmap k.size);
@@ -173,9 +179,6 @@ pages_past s gt = let t : nat_le (length s.pages) 256 ≡ false = grind (arith, 
 abbrev pub with_settings : Settings → Situation → Situation
 with_settings settings s = record s { settings = settings }
 
-abbrev pub turned_page : Settings → Situation → Situation
-turned_page settings s = record s { settings = to_first_line settings; marks = []; pages = s.pages ++ sheet_of s ∷ [] }
-
 pub turned_no : {settings : Settings} (effect : Effect) (s : Situation) → ejects effect (is_marked s) ≡ false
     → turned settings effect s ≡ with_settings settings s
 turned_no {settings} effect s e = ap (λ (b : Bool). cond b (turned_page settings s) (with_settings settings s)) e
@@ -206,10 +209,11 @@ pub turned_stays : {S : Type 0} (takes : S → Page → S → Type 0) (dpi : Dpi
     (old middle new : Performer) (sink later : S)
     → IsIn dpi s old → Answers (outcome dpi operation value old.is_marked old.environment) (Ok effect) old.environment middle.environment
     → ejects effect old.is_marked ≡ false → old.ejected ≤ 256 → middle.page.bitmap ≡ old.page.bitmap → middle.is_marked ≡ old.is_marked
-    → middle.ejected ≡ old.ejected → middle.performed ≡ old.performed → middle.raster ≡ old.raster → middle.fonts ≡ old.fonts
+    → middle.ejected ≡ old.ejected → middle.performed ≡ old.performed → middle.asks ≡ old.asks → middle.raster ≡ old.raster
+    → middle.fonts ≡ old.fonts
     → IsFollowed middle new → later ≡ sink
     → IsTurned takes dpi (outcome dpi operation value (is_marked s) s.settings) s (Ok tt) new sink later
-turned_stays takes dpi operation value effect s old middle new sink later i a e few b m j p r t f same =
+turned_stays takes dpi operation value effect s old middle new sink later i a e few b m j p q r t f same =
     let d = answered (outcome dpi operation value old.is_marked old.environment) old.environment a in
     let o : outcome dpi operation value (is_marked s) s.settings ≡ Some d.0 = sym (outcome_in operation value i) ∙ d.1 in
     let no : ejects d.0.1 (is_marked s) ≡ false =
@@ -223,6 +227,7 @@ turned_stays takes dpi operation value effect s old middle new sink later i a e 
         marked = f.marked ∙ m ∙ i.marked;
         ejected = f.ejected ∙ j ∙ i.ejected;
         performed = f.performed ∙ p ∙ i.performed;
+        asks = ap asks_of (f.asks ∙ q) ∙ i.asks;
         fonts = holds_same i.fonts (f.fonts ∙ t) refl;
         painted = followed_page operation value d.0.1 i o no b d.3 f;
       };
@@ -256,8 +261,18 @@ pub record Ejected {S : Type 0} (takes : S → Page → S → Type 0) (dpi : Dpi
   pub raster : middle.raster ≡ old.raster
   pub fonts : middle.fonts ≡ old.fonts
   pub copies_are : copies ≡ old.environment.copies
-  pub is_ejected : IsEjected middle last
+  pub asks : middle.asks ≡ old.asks
+  pub asked : Asked
+  pub asked_is : asked ≡ old.environment.asked
+  pub is_ejected : IsEjected asked middle last
   pub taken : Takes takes copies middle sink later
+
+-- what the page was asked with
+pub asked_page : {dpi : Dpi} {s : Situation} {asked : Asked} {old : Performer} (middle : Performer) → IsIn dpi s old → asked ≡ old.environment.asked
+    → middle.asks ≡ old.asks → with_page asked (asks_of middle.asks) ≡ with_page s.settings.asked s.asks
+asked_page {s} {asked} middle i a e =
+    ap (λ (all : AsksOfCode). with_page asked (asks_of all)) e ∙ ap (with_page asked) i.asks
+    ∙ ap (λ (one : Asked). with_page one s.asks) (a ∙ ap (λ (t : Settings). t.asked) i.settings)
 
 ejected_done : {S : Type 0} (takes : S → Page → S → Type 0) (dpi : Dpi) (operation : Operation) (value : Value) (effect : Effect)
     (copies : ℕ) (s : Situation)
@@ -307,6 +322,7 @@ turned_ejects takes dpi operation value effect copies s old {middle} last new si
         marked = f.marked ∙ e.is_ejected.marked;
         ejected = omega (arith, f.ejected, e.is_ejected.ejected, e.ejected, i.ejected, count);
         performed = f.performed ∙ e.is_ejected.performed ∙ e.performed ∙ i.performed;
+        asks = ap asks_of f.asks ∙ e.is_ejected.asks ∙ asked_page middle i e.asked_is e.asks;
         fonts = holds_same i.fonts (f.fonts ∙ e.is_ejected.fonts ∙ e.fonts) refl;
         painted = record {
           size_is = size;
@@ -379,6 +395,7 @@ drawn_in {dpi} {mark} {raster} {s} {old} i d r =
       marked = d.marked;
       ejected = d.ejected ∙ i.ejected;
       performed = d.performed ∙ i.performed;
+      asks = ap asks_of d.asks ∙ i.asks;
       fonts = holds_same i.fonts d.fonts refl;
       painted = record {
         size_is = d.size ∙ size;

@@ -10,9 +10,11 @@ use Rattle.pcl_escape.specs.Said.{Said}
 use Rattle.pcl_escape.specs.Pieces.{IsReading}
 use Rattle.pcl_escape.specs.Faults.{IsFault}
 use Rattle.pcl_bitmap.specs.declared.page.Page.{Page}
+use Rattle.pcl_page.specs.declared.asks.Asks.{Asks as AsksOfCode}
+use Rattle.pcl_page.specs.Asks.{asks_of}
 use Rattle.pcl_page.specs.Situation.{Sheet}
-use Rattle.pcl_page.specs.Performing.{Shows, Performance, done, pages_of}
-use Rattle.pcl_page.specs.Jobs.{performance_of, HasPages}
+use Rattle.pcl_page.specs.Performing.{Shows, Performance, done, pages_of, asks_among}
+use Rattle.pcl_page.specs.Jobs.{performance_of, HasPages, HasAsks}
 
 -- a sink takes pages that show these sheets, in order, each once
 abbrev pub Hands : {S : Type 0} → (S → Page → S → Type 0) → Dpi → List Sheet → S → S → Type 0
@@ -64,3 +66,13 @@ abbrev pub IsPagesOf : Dpi → List ℕ → Result (Vec Page) JobFault → Type 
 IsPagesOf dpi job (Ok pages) = (meant : List Sheet) × HasPages dpi job meant × AllShow dpi pages.items meant
 IsPagesOf dpi job (Err (Refused refusal)) = IsRefusal dpi job refusal
 IsPagesOf dpi job (Err Memory) = Unit {0}
+
+-- the pages go to the sink, and where nothing is refused, this is what is asked besides dots
+abbrev pub HandsOverAsked : {S : Type 0} → (S → Page → S → Type 0) → Dpi → Performance → Result AsksOfCode JobFault → S → S → Type 0
+HandsOverAsked {S} takes dpi done (Ok asks) old new = HandsOver takes dpi done (Ok tt) old new × (asks_of asks ≡ asks_among done)
+HandsOverAsked {S} takes dpi done (Err fault) old new = HandsOver takes dpi done (Err fault) old new
+
+-- the sink takes the pages, and where the job is accepted, this is what it asks of the printer besides dots
+abbrev pub DeliversAsked : {S : Type 0} → (S → Page → S → Type 0) → Dpi → List ℕ → Result AsksOfCode JobFault → S → S → Type 0
+DeliversAsked {S} takes dpi job (Ok asks) old new = Delivers takes dpi job (Ok tt) old new × HasAsks dpi job (asks_of asks)
+DeliversAsked {S} takes dpi job (Err fault) old new = Delivers takes dpi job (Err fault) old new

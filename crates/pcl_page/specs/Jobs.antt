@@ -3,8 +3,9 @@ use Rattle.std.specs.Prelude.{◌≡◌, ℕ, List, length, None}
 use Rattle.pcl_base.specs.declared.dpi.Dpi.{Dpi}
 use Rattle.pcl_escape.specs.Said.{Said}
 use Rattle.pcl_escape.specs.Pieces.{IsReading}
+use Rattle.pcl_page.specs.Asks.{Asks}
 use Rattle.pcl_page.specs.Situation.{Sheet}
-use Rattle.pcl_page.specs.Performing.{Performance, performance, pages_of}
+use Rattle.pcl_page.specs.Performing.{Performance, performance, pages_of, asks_among}
 
 -- what is performed of a job whose reading is these commands
 abbrev pub performance_of : Dpi → List ℕ → List Said → Performance
@@ -16,3 +17,10 @@ pub record HasPages (dpi : Dpi) (job : List ℕ) (pages : List Sheet) : Type 0 w
   pub reading : IsReading job commands
   pub accepted : (performance_of dpi job commands).refusal ≡ None
   pub ejected : pages ≡ pages_of (performance_of dpi job commands)
+
+-- the job is accepted, and this is what it asks of the printer besides dots
+pub record HasAsks (dpi : Dpi) (job : List ℕ) (asks : Asks) : Type 0 where
+  pub commands : List Said
+  pub reading : IsReading job commands
+  pub accepted : (performance_of dpi job commands).refusal ≡ None
+  pub asked : asks ≡ asks_among (performance_of dpi job commands)

@@ -1,6 +1,7 @@
 pub mod Marks
 pub mod Text
 pub mod Raster
+pub mod Asks
 pub mod Situation
 pub mod Macros
 pub mod Performing

@@ -11,6 +11,7 @@ use Rattle.pcl_base.specs.Size.{page_width, page_height}
 use Rattle.pcl_bitmap.specs.Bitmap.{dot}
 use Rattle.pcl_escape.specs.Said.{Said}
 use Rattle.pcl_bitmap.specs.declared.page.Page.{Page}
+use Rattle.pcl_page.specs.Asks.{Asks}
 use Rattle.pcl_page.specs.Marks.{is_black}
 use Rattle.pcl_page.specs.Situation.{Sheet, Situation, at_begin, at_end, page_refusal}
 use Rattle.pcl_page.specs.Macros.{Run, after_command, run_of, left}
@@ -99,6 +100,10 @@ after_end dpi end s = ended dpi end (end_refusal dpi s) s
 -- the commands of a job, and then the end of the input
 abbrev pub performance : Dpi → ℕ → List Said → Performance
 performance dpi end commands = then_on (after_all dpi commands 0 commands at_begin) (after_end dpi end)
+
+-- what was asked besides dots
+abbrev pub asks_among : Performance → Asks
+asks_among performance = performance.situation.asks
 
 -- the pages that were ejected
 abbrev pub pages_of : Performance → List Sheet

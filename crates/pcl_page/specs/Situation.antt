@@ -24,6 +24,7 @@ use Rattle.pcl_fonts.specs.Fields.{Font, Character}
 use Rattle.pcl_fonts.specs.History.{FontEvent, header, character, control, font_after}
 use Rattle.pcl_macros.specs.History.{MacroEvent}
 use Rattle.pcl_macros.specs.Table.{Begun}
+use Rattle.pcl_page.specs.Asks.{Asks, no_asks, with_page, with_exit}
 use Rattle.pcl_page.specs.Marks.{Mark, are_marked, dot_at, dots_of}
 use Rattle.pcl_page.specs.Text.{selected_font, control_with, select_by_id, header_refusal, character_refusal, text_refusal, prints, character_mark, is_proportional, behind_character, behind_blank}
 use Rattle.pcl_page.specs.Raster.{Raster, raster_from, skipped, row_sent, with_row, row_mark, is_ignored_in_raster, ends_raster}
@@ -35,8 +36,8 @@ pub record Sheet : Type 0 where
   pub marks : List Mark
 
 -- where a job stands: what is set, the raster that has begun, what became of soft fonts and of macros, the newest first, the
--- definition that is open, the marks of the page, the newest first, the pages that were ejected, in order, and how many
--- commands were performed
+-- definition that is open, the marks of the page, the newest first, the pages that were ejected, in order, what was asked
+-- besides dots, and how many commands were performed
 pub record Situation : Type 0 where
   pub settings : Settings
   pub raster : Option Raster
@@ -45,6 +46,7 @@ pub record Situation : Type 0 where
   pub begun : Option Begun
   pub marks : List Mark
   pub pages : List Sheet
+  pub asks : Asks
   pub performed : ℕ
 
 abbrev pub at_begin : Situation
@@ -56,6 +58,7 @@ at_begin = record {
   begun = None;
   marks = [];
   pages = [];
+  asks = no_asks;
   performed = 0;
 }
 
@@ -85,13 +88,18 @@ ejects Stay marked = false
 ejects Eject marked = true
 ejects EjectMarked marked = marked
 
--- The settings change, and the page is ejected where the command says so: it has the size and the copies from before. The
--- cursor then goes to
--- the first line.
+-- the page is ejected: it has the size and the copies from before these settings, and was asked with what was set before
+abbrev pub turned_page : Settings → Situation → Situation
+turned_page settings s = record s {
+  settings = to_first_line settings;
+  marks = [];
+  pages = s.pages ++ sheet_of s ∷ [];
+  asks = with_page s.settings.asked s.asks;
+}
+
+-- The settings change, and the page is ejected where the command says so. The cursor then goes to the first line.
 abbrev pub turned : Settings → Effect → Situation → Situation
-turned settings effect s =
-    if ejects effect (is_marked s) then record s { settings = to_first_line settings; marks = []; pages = s.pages ++ sheet_of s ∷ [] }
-    else record s { settings = settings }
+turned settings effect s = if ejects effect (is_marked s) then turned_page settings s else record s { settings = settings }
 
 -- ---- marks and rasters
 
@@ -160,12 +168,18 @@ abbrev pub text_printed : Dpi → List ℕ → Situation → Situation
 text_printed dpi codes s =
     codes_printed dpi (is_proportional (font_now s)) (prints s.fonts (font_in_use s.settings)) codes s
 
+-- ---- universal exits
+
+-- a universal exit with these lines was performed
+abbrev pub exited : List ℕ → Situation → Situation
+exited lines s = record s { asks = with_exit (record { pages = length s.pages; lines = lines }) s.asks }
+
 -- ---- what a command draws
 
 -- what a command draws, or does to the raster and to fonts
 abbrev pub drawn : Dpi → Operation → Said → Situation → Situation
 drawn dpi Reset command s = without_temporary s
-drawn dpi UniversalExit command s = without_temporary s
+drawn dpi UniversalExit command s = without_temporary (exited command.bytes s)
 drawn dpi ControlFonts command s = fonts_controlled (whole_of command.value) s
 drawn dpi DownloadFont command s = with_font command.bytes s
 drawn dpi DownloadCharacter command s = with_character command.bytes s

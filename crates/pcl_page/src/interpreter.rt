@@ -47,7 +47,7 @@ impl<'a> Interpreter<'a> {
     ghost use Rattle.pcl_page.specs.Situation.{Situation, at_begin};
     ghost use Rattle.pcl_page.specs.Macros.{action_of, keeping_of, acted, managed, counting, after_command, run_by, run_from, run_of, run_with, left};
     ghost use Rattle.pcl_page.specs.inner.Reflecting.{EndDone};
-    ghost use Rattle.pcl_page.specs.inner.Unfolding.{IsAt, IsSomewhere, resumed, begun_among, work_left, GoesOn, IsStepped, IsActed, IsEntered, InterpreterEnds};
+    ghost use Rattle.pcl_page.specs.inner.Unfolding.{IsAt, IsSomewhere, resumed, begun_among, work_left, GoesOn, IsStepped, IsActed, IsEntered, InterpreterEnds, IsAsking};
 
     /// The start of a job.
     pub fn new(alloc: Global, dpi: Dpi) -> Result<Interpreter<'a>, AllocError>
@@ -70,7 +70,8 @@ impl<'a> Interpreter<'a> {
     ) -> Result<(), JobFault>
         requires begin { IsAt dpi at_begin self.old }
         requires idle { self.old.running.items ≡ [] }
-        ensures { HandsOver S.takes dpi (performance dpi end (views commands.now)) result sink.old sink.new }
+        ensures { HandsOver S.takes dpi (performance dpi end (views commands.now)) result sink.old sink.new
+            × IsAsking (performance dpi end (views commands.now)) result self.new.performer }
     {
         for (place, command) in commands.iter().enumerate() {
             self.perform_at(command, place, dpi, sink)?;
@@ -273,7 +274,7 @@ impl<'a> Interpreter<'a> {
 
     /// Does what the end of the input does, `end` bytes from its start.
     fn finish<S: PageSink>(&mut self, end: usize, sink: &mut S) -> Result<(), JobFault>
-        ensures { (dpi : Dpi) (s : Situation) → IsAt dpi s self.old → InterpreterEnds S.takes dpi end s result sink.old sink.new }
+        ensures { (dpi : Dpi) (s : Situation) → IsAt dpi s self.old → InterpreterEnds S.takes dpi end s result self.new.performer sink.old sink.new }
     {
         if self.macros.is_begun() {
             return Err(JobFault::Refused(Refusal::new(Kind::MacroOpen, end, Name::Empty)));

@@ -2,14 +2,16 @@
 
 ghost use Rattle.pcl_escape.specs.Said.{views};
 ghost use Rattle.pcl_page.specs.Performing.{performance};
-ghost use Rattle.pcl_page.specs.Delivering.{HandsOver};
+ghost use Rattle.pcl_page.specs.Delivering.{HandsOver, HandsOverAsked};
 ghost use Rattle.std.specs.Prelude.{◌≡◌, ℕ, List};
 ghost use Rattle.pcl_base.specs.declared.dpi.Dpi.{Dpi};
 ghost use Rattle.pcl_base.specs.declared.refusal.Refusal.{Refusal};
 ghost use Rattle.pcl_page.specs.Situation.{Sheet};
-ghost use Rattle.pcl_page.specs.Jobs.{HasPages};
-ghost use Rattle.pcl_page.specs.Delivering.{IsRefusal, Delivers, IsPagesOf};
+ghost use Rattle.pcl_page.specs.Asks.{Asks as AsksOfJob};
+ghost use Rattle.pcl_page.specs.Jobs.{HasPages, HasAsks};
+ghost use Rattle.pcl_page.specs.Delivering.{IsRefusal, Delivers, DeliversAsked, IsPagesOf};
 
+use crate::asks::Asks;
 use crate::interpreter::Interpreter;
 use crate::{Page, PageSink};
 use pcl_base::{Dpi, JobFault};
@@ -21,17 +23,33 @@ use std::marker::Model;
 /// One bitmap is painted, handed over and cleared. A refusal names the first refused command; the sink
 /// has then taken the pages that were ejected before it. Where memory runs out it has taken the first
 /// of its pages.
-pub fn run<'a, S: PageSink>(
+pub fn run<S: PageSink>(
     alloc: Global,
-    commands: &[Command<'a>],
+    commands: &[Command<'_>],
     end: usize,
     dpi: Dpi,
     sink: &mut S,
 ) -> Result<(), JobFault>
     ensures { HandsOver S.takes dpi (performance dpi end (views commands.now)) result sink.old sink.new }
 {
+    run_asked(alloc, commands, end, dpi, sink)?;
+    Ok(())
+}
+
+/// The same as [`run`]; where nothing is refused it gives what the commands ask of the printer besides dots.
+pub fn run_asked<'a, S: PageSink>(
+    alloc: Global,
+    commands: &[Command<'a>],
+    end: usize,
+    dpi: Dpi,
+    sink: &mut S,
+) -> Result<Asks<'a>, JobFault>
+    ensures { HandsOverAsked S.takes dpi (performance dpi end (views commands.now)) result sink.old sink.new }
+{
     let mut interpreter = Interpreter::new(alloc, dpi)?;
-    interpreter.perform_all(commands, end, dpi, sink)
+    interpreter.perform_all(commands, end, dpi, sink)?;
+    let performer = interpreter.performer;
+    Ok(performer.asks)
 }
 
 /// Reads a job, performs it, and hands its pages to the sink, in order, each once. A refusal is the job's:
@@ -44,8 +62,22 @@ pub fn perform<S: PageSink>(
 ) -> Result<(), JobFault>
     ensures { Delivers S.takes dpi job.now result sink.old sink.new }
 {
+    perform_asked(alloc, job, dpi, sink)?;
+    Ok(())
+}
+
+/// The same as [`perform`]; where the job is accepted it gives what the job asks of the printer besides dots: what each page
+/// is asked with, and the universal exits with their lines.
+pub fn perform_asked<'a, S: PageSink>(
+    alloc: Global,
+    job: &'a [u8],
+    dpi: Dpi,
+    sink: &mut S,
+) -> Result<Asks<'a>, JobFault>
+    ensures { DeliversAsked S.takes dpi job.now result sink.old sink.new }
+{
     let commands = read_job(alloc, job)?;
-    run(alloc, &commands, job.len(), dpi, sink)
+    run_asked(alloc, &commands, job.len(), dpi, sink)
 }
 
 /// The pages of a job, in order.
@@ -59,11 +91,12 @@ pub fn read_pages(alloc: Global, job: &[u8], dpi: Dpi) -> Result<Vec<Page>, JobF
     Ok(collected.pages)
 }
 
-/// A job has one list of pages at most, and one refusal at most, and never both. A law: the call does
-/// nothing.
+/// A job has one list of pages at most, asks one thing of the printer, has one refusal at most, and is never both accepted and
+/// refused. A law: the call does nothing.
 pub fn one_meaning()
     ensures pages { (dpi : Dpi) (job : List ℕ) (pages others : List Sheet) → HasPages dpi job pages → HasPages dpi job others
         → pages ≡ others }
+    ensures asks { (dpi : Dpi) (job : List ℕ) (asks others : AsksOfJob) → HasAsks dpi job asks → HasAsks dpi job others → asks ≡ others }
     ensures refusal { (dpi : Dpi) (job : List ℕ) (refusal other : Refusal) → IsRefusal dpi job refusal → IsRefusal dpi job other
         → refusal ≡ other }
     ensures apart { (dpi : Dpi) (job : List ℕ) (pages : List Sheet) (refusal : Refusal) → HasPages dpi job pages

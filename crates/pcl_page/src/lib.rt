@@ -1,6 +1,7 @@
 //! Performing a job: its commands become pages of dots, which are handed over one at a time.
 #![tactic(auto)]
 
+mod asks;
 mod fonts;
 mod interpreter;
 mod job;
@@ -9,5 +10,7 @@ mod performer;
 mod raster;
 mod text;
 
-pub use job::{one_meaning, perform, read_pages, run};
+pub use asks::{Asks, Exit};
+pub use job::{one_meaning, perform, perform_asked, read_pages, run, run_asked};
 pub use pcl_bitmap::{Page, PageSink};
+pub use pcl_env::Asked;

@@ -3,6 +3,7 @@
 ghost use Rattle.std.specs.Prelude.{◌≤◌, ◌*◌, ◌^◌};
 ghost use Rattle.pcl_page.specs.Raster.{rows_in};
 
+use crate::asks::Asks;
 use crate::raster::{Raster, ends_raster, is_ignored_in_raster};
 use crate::{Page, PageSink};
 use pcl_base::{
@@ -10,7 +11,7 @@ use pcl_base::{
     Value,
 };
 use pcl_bitmap::{Bitmap, Ink};
-use pcl_env::{Effect, Env, Saved};
+use pcl_env::{Asked, Effect, Env, Saved};
 use pcl_escape::Command;
 use pcl_fonts::Fonts;
 use std::alloc::{AllocError, Global};
@@ -32,6 +33,8 @@ pub struct Performer<'a> {
     pub ejected: u32,
     /// How many commands were performed.
     pub performed: u32,
+    /// What the ejected pages were asked with, and the universal exits.
+    pub asks: Asks<'a>,
     /// Where pages and rasters take their memory.
     pub alloc: Global,
     ghost few_pages: { ejected ≤ 256 },
@@ -47,7 +50,7 @@ impl<'a> Performer<'a> {
     ghost use Rattle.pcl_base.specs.declared.dpi.Dpi.{Dpi};
     ghost use Rattle.pcl_escape.specs.Said.{Said, view};
     ghost use Rattle.pcl_env.specs.Outcome.{outcome};
-    ghost use Rattle.pcl_page.specs.Situation.{Situation, at_begin, is_marked, drawn, draw_refusal, rectangle_mark, skipped_in};
+    ghost use Rattle.pcl_page.specs.Situation.{Situation, at_begin, is_marked, drawn, draw_refusal, rectangle_mark, skipped_in, exited, without_temporary};
     ghost use Rattle.pcl_page.specs.Macros.{left};
     ghost use Rattle.pcl_bitmap.specs.declared.page.Page.{Page};
     ghost use Rattle.pcl_page.specs.inner.Reflecting.{IsIn, IsPrepared, HasRaster, Takes, IsFollowed, IsEjected, IsDrawn, Draws, IsSent, IsTurned, IsTried, EndDone};
@@ -71,6 +74,7 @@ impl<'a> Performer<'a> {
             is_marked: false,
             ejected: 0,
             performed: 0,
+            asks: Asks::new(alloc),
             alloc,
         })
     }
@@ -145,6 +149,7 @@ impl<'a> Performer<'a> {
         ensures rest { OnOk result ((self.new.performed ≡ self.old.performed) × (self.new.raster ≡ self.old.raster)) }
     {
         let copies = self.environment.copies();
+        let asked = self.environment.asked();
         let Ok(effect) = self
             .environment
             .apply(operation, value, self.is_marked, dpi)
@@ -155,18 +160,20 @@ impl<'a> Performer<'a> {
             if self.ejected >= PAGE_LIMIT {
                 return Err(CallFault::Refused(Kind::TooManyPages));
             }
-            self.eject(copies, sink)?;
+            self.eject(copies, asked, sink)?;
         }
         Ok(self.follow_size()?)
     }
 
-    /// Hands over the page with these copies, and begins a white one, with the cursor on the first line.
-    fn eject<S: PageSink>(&mut self, copies: u8, sink: &mut S) -> Result<(), AllocError>
+    /// Hands over the page with these copies, which was asked with this, and begins a white one, with the cursor on the first
+    /// line.
+    fn eject<S: PageSink>(&mut self, copies: u8, asked: Asked, sink: &mut S) -> Result<(), AllocError>
         requires few { self.old.ejected < 256 }
         requires copies { (1 ≤ copies) × (copies ≤ 99) }
-        ensures ok { OnOk result (IsEjected self.old self.new × Takes S.takes copies self.old sink.old sink.new) }
+        ensures ok { OnOk result (IsEjected asked self.old self.new × Takes S.takes copies self.old sink.old sink.new) }
         ensures err { OnErr result (sink.new ≡ sink.old) }
     {
+        self.asks.push_page(asked)?;
         self.page.copies = copies;
         sink.page(&self.page)?;
         self.page.bitmap.clear();
@@ -205,7 +212,8 @@ impl<'a> Performer<'a> {
             → Draws dpi (draw_refusal operation (view command.now) s) (drawn dpi operation (view command.now) s) result self.new }
     {
         match operation {
-            Operation::Reset | Operation::UniversalExit => self.delete_temporary_fonts(),
+            Operation::Reset => self.delete_temporary_fonts(),
+            Operation::UniversalExit => self.leave(command.bytes)?,
             Operation::ControlFonts => self.control_fonts(command.value),
             Operation::DownloadFont => return self.download_font(command.bytes),
             Operation::DownloadCharacter => return self.download_character(command.bytes),
@@ -217,6 +225,16 @@ impl<'a> Performer<'a> {
             Operation::RasterRow => self.send_row(command.bytes, dpi)?,
             _ => {}
         }
+        Ok(())
+    }
+
+    /// Does what a universal exit with these lines does but for the reset of the settings.
+    fn leave(&mut self, lines: &'a [u8]) -> Result<(), AllocError>
+        ensures { (dpi : Dpi) (s : Situation) → IsIn dpi s self.old
+            → OnOk result (IsIn dpi (without_temporary (exited lines.now s)) self.new) }
+    {
+        self.asks.push_exit(self.ejected, lines)?;
+        self.delete_temporary_fonts();
         Ok(())
     }
 
@@ -275,14 +293,15 @@ impl<'a> Performer<'a> {
 
     /// Does what the end of the input does, `end` bytes from its start: it acts as a reset.
     pub fn finish<S: PageSink>(&mut self, end: usize, sink: &mut S) -> Result<(), JobFault>
-        ensures { (dpi : Dpi) (s : Situation) → IsIn dpi s self.old → EndDone S.takes dpi end s result sink.old sink.new }
+        ensures { (dpi : Dpi) (s : Situation) → IsIn dpi s self.old → EndDone S.takes dpi end s result self.new sink.old sink.new }
     {
         if self.is_marked {
             if self.ejected >= PAGE_LIMIT {
                 return Err(JobFault::Refused(Refusal::new(Kind::TooManyPages, end, Name::Empty)));
             }
             let copies = self.environment.copies();
-            self.eject(copies, sink)?;
+            let asked = self.environment.asked();
+            self.eject(copies, asked, sink)?;
         }
         Ok(())
     }

@@ -2,7 +2,7 @@
 
 ghost use Rattle.std.specs.Prelude.{◌≡◌, false};
 ghost use Rattle.pcl_base.specs.Value.{zero_value};
-ghost use Rattle.pcl_base.specs.declared.operation.Operation.TheVariants.{Reset, UniversalExit, PageSize, Copies, FormFeed, EjectMarked};
+ghost use Rattle.pcl_base.specs.declared.operation.Operation.TheVariants.{Reset, UniversalExit, PageSize, Copies, FormFeed, Ask};
 ghost use Rattle.pcl_env.specs.Settings.{to_first_line, with_size};
 ghost use Rattle.pcl_base.specs.declared.dpi.Dpi.TheVariants.{Dpi300};
 ghost use Rattle.pcl_env.specs.Outcome.{outcome, Answers};
@@ -10,7 +10,7 @@ ghost use Rattle.pcl_env.specs.Outcome.{outcome, Answers};
 use super::{Env, MARGIN};
 use crate::stack::Position;
 use crate::{Effect, Unsupported};
-use pcl_base::{Size, Value};
+use pcl_base::{Asking, Size, Value};
 
 /// The whole part of a universal exit.
 const EXIT: i32 = -12_345;
@@ -63,6 +63,19 @@ impl Env {
             }
             _ => Err(Unsupported),
         }
+    }
+
+    /// Sets what the page is asked with; another paper source and another side of the sheet are for the next page ("Paper
+    /// Source", "Duplex Page Side Selection").
+    #[tactic(auto, unfolding(crate::specs::Outcome::outcome))]
+    pub fn ask(&mut self, what: Asking, value: Value) -> Result<Effect, Unsupported>
+        ensures { Answers (outcome Dpi300 (Ask what) value false self.old) result self.old self.new }
+    {
+        self.setup.asked = self.setup.asked.with(what, value);
+        Ok(match what {
+            Asking::Sides | Asking::OutputBin | Asking::MediaType => Effect::Stay,
+            Asking::PaperSource | Asking::SheetSide => Effect::EjectMarked,
+        })
     }
 
     /// Puts the cursor on the first line, as each eject does. It keeps its place along the line.

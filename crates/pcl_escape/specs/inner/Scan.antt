@@ -78,15 +78,24 @@ abbrev pub leaves : Option Said → Bool
 leaves None = false
 leaves (Some said) = is_exit said.name said.value
 
--- an exit, by what its lines give
-abbrev pub skipped_by : Option Said → Result (List ℕ) ℕ → Result Reads Refusal
-skipped_by said (Ok rest) = Ok record { said = said; rest = rest; inside = None }
-skipped_by said (Err place) = refuse NotPcl place exit_name
+-- a command with these data
+abbrev pub with_bytes : List ℕ → Option Said → Option Said
+with_bytes bytes None = None
+with_bytes bytes (Some said) = Some (record said { bytes = bytes })
+
+-- the bytes before the rest of them
+abbrev pub before_rest : List ℕ → List ℕ → List ℕ
+before_rest bytes rest = take (length bytes - length rest) bytes
+
+-- an exit before these bytes, by what its lines give: the lines are its data
+abbrev pub skipped_by : List ℕ → Option Said → Result (List ℕ) ℕ → Result Reads Refusal
+skipped_by bytes said (Ok rest) = Ok record { said = with_bytes (before_rest bytes rest) said; rest = rest; inside = None }
+skipped_by bytes said (Err place) = refuse NotPcl place exit_name
 
 -- what was read of so many bytes, which begin at a place, and the lines after it where it is a universal exit
 abbrev pub with_lines : ℕ → ℕ → Result Reads Refusal → Result Reads Refusal
 with_lines begin len (Ok reads) =
-    if leaves reads.said then skipped_by reads.said (lines_at (begin + (len - length reads.rest)) reads.rest) else Ok reads
+    if leaves reads.said then skipped_by reads.rest reads.said (lines_at (begin + (len - length reads.rest)) reads.rest) else Ok reads
 with_lines begin len (Err fault) = Err fault
 
 -- the parameter of a sequence without a group character, which begins at a place

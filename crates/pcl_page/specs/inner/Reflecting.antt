@@ -22,6 +22,8 @@ use Rattle.pcl_env.specs.Outcome.{Outcome}
 use Rattle.pcl_bitmap.specs.declared.page.Page.{Page}
 use Rattle.pcl_page.specs.declared.performer.Performer.{Performer}
 use Rattle.pcl_bitmap.specs.Dots.{is_black_ink}
+use Rattle.pcl_env.specs.declared.asked.Asked.{Asked}
+use Rattle.pcl_page.specs.Asks.{with_page, with_exit, asks_of}
 use Rattle.pcl_page.specs.Marks.{Mark, is_black}
 use Rattle.pcl_page.specs.Raster.{Raster, row_sent, with_row, row_mark, ends_raster}
 use Rattle.pcl_page.specs.Situation.{Sheet, Situation, raster_for_row, settings_below, is_marked, turned, at_end, page_refusal, command_refusal, after}
@@ -40,6 +42,7 @@ pub record IsIn (dpi : Dpi) (s : Situation) (performer : Performer) : Type 0 whe
   pub marked : performer.is_marked ≡ is_marked s
   pub ejected : performer.ejected ≡ length s.pages
   pub performed : performer.performed ≡ s.performed
+  pub asks : asks_of performer.asks ≡ s.asks
   pub fonts : Holds performer.fonts s.fonts
   pub painted : IsPainted dpi s.settings.size s.marks performer.page.bitmap
 
@@ -55,19 +58,21 @@ pub record IsFollowed (old new : Performer) : Type 0 where
   pub ejected : new.ejected ≡ old.ejected
   pub fonts : new.fonts ≡ old.fonts
   pub performed : new.performed ≡ old.performed
+  pub asks : new.asks ≡ old.asks
   pub size : new.page.bitmap.size ≡ old.environment.size
   pub resolution : new.page.bitmap.dpi ≡ old.page.bitmap.dpi
   pub same : old.page.bitmap.size ≡ old.environment.size → new.page.bitmap ≡ old.page.bitmap
   pub white : IsWhite old.page.bitmap → IsWhite new.page.bitmap
 
--- the page was handed over, and a white one of its size begins
-pub record IsEjected (old new : Performer) : Type 0 where
+-- the page that was asked with this was handed over, and a white one of its size begins
+pub record IsEjected (asked : Asked) (old new : Performer) : Type 0 where
   pub settings : new.environment ≡ to_first_line old.environment
   pub raster : new.raster ≡ old.raster
   pub marked : new.is_marked ≡ false
   pub ejected : new.ejected ≡ old.ejected + 1
   pub fonts : new.fonts ≡ old.fonts
   pub performed : new.performed ≡ old.performed
+  pub asks : asks_of new.asks ≡ with_page asked (asks_of old.asks)
   pub size : new.page.bitmap.size ≡ old.page.bitmap.size
   pub resolution : new.page.bitmap.dpi ≡ old.page.bitmap.dpi
   pub white : IsWhite new.page.bitmap
@@ -91,6 +96,7 @@ pub record HasRaster (raster : Option Raster) (old new : Performer) : Type 0 whe
   pub ejected : new.ejected ≡ old.ejected
   pub fonts : new.fonts ≡ old.fonts
   pub performed : new.performed ≡ old.performed
+  pub asks : new.asks ≡ old.asks
   pub bitmap : new.page.bitmap ≡ old.page.bitmap
 
 -- a raster that the command ends has ended, and all else but the cursor is as before
@@ -101,6 +107,7 @@ pub record IsPrepared (dpi : Dpi) (operation : Operation) (old new : Performer) 
   pub ejected : new.ejected ≡ old.ejected
   pub fonts : new.fonts ≡ old.fonts
   pub performed : new.performed ≡ old.performed
+  pub asks : new.asks ≡ old.asks
   pub bitmap : new.page.bitmap ≡ old.page.bitmap
 
 -- something was drawn on the page
@@ -110,6 +117,7 @@ pub record IsDrawn (mark : Mark) (old new : Performer) : Type 0 where
   pub ejected : new.ejected ≡ old.ejected
   pub fonts : new.fonts ≡ old.fonts
   pub performed : new.performed ≡ old.performed
+  pub asks : new.asks ≡ old.asks
   pub size : new.page.bitmap.size ≡ old.page.bitmap.size
   pub resolution : new.page.bitmap.dpi ≡ old.page.bitmap.dpi
   pub dots : (x y : ℕ) → x < page_width old.page.bitmap.size old.page.bitmap.dpi → y < page_height old.page.bitmap.size old.page.bitmap.dpi
@@ -122,7 +130,19 @@ pub record HasEvent (event : FontEvent) (old new : Performer) : Type 0 where
   pub marked : new.is_marked ≡ old.is_marked
   pub ejected : new.ejected ≡ old.ejected
   pub performed : new.performed ≡ old.performed
+  pub asks : new.asks ≡ old.asks
   pub follows : Follows old.fonts new.fonts event
+  pub bitmap : new.page.bitmap ≡ old.page.bitmap
+
+-- a universal exit with these lines was performed, and all else is as before
+pub record HasExit (lines : List ℕ) (old new : Performer) : Type 0 where
+  pub settings : new.environment ≡ old.environment
+  pub raster : new.raster ≡ old.raster
+  pub marked : new.is_marked ≡ old.is_marked
+  pub ejected : new.ejected ≡ old.ejected
+  pub performed : new.performed ≡ old.performed
+  pub asks : asks_of new.asks ≡ with_exit (record { pages = old.ejected; lines = lines }) (asks_of old.asks)
+  pub fonts : new.fonts ≡ old.fonts
   pub bitmap : new.page.bitmap ≡ old.page.bitmap
 
 -- what is set is this, on a page of the same size, and all else is as before
@@ -133,6 +153,7 @@ pub record HasSettings (settings : Settings) (old new : Performer) : Type 0 wher
   pub marked : new.is_marked ≡ old.is_marked
   pub ejected : new.ejected ≡ old.ejected
   pub performed : new.performed ≡ old.performed
+  pub asks : new.asks ≡ old.asks
   pub fonts : new.fonts ≡ old.fonts
   pub bitmap : new.page.bitmap ≡ old.page.bitmap
 
@@ -185,9 +206,11 @@ IsTried {S} takes dpi command s (Err Memory) new old_sink new_sink =
     × (command_refusal dpi command s ≡ None) × HandsMore takes dpi s later old_sink new_sink)
 
 -- the input's end was performed, or it is refused at the end with the empty name, or memory ran out
-abbrev pub EndDone : {S : Type 0} → (S → Page → S → Type 0) → Dpi → ℕ → Situation → Result (Unit {0}) JobFault → S → S → Type 0
-EndDone {S} takes dpi end s (Ok unit) old_sink new_sink =
+abbrev pub EndDone : {S : Type 0} → (S → Page → S → Type 0) → Dpi → ℕ → Situation → Result (Unit {0}) JobFault → Performer → S → S
+    → Type 0
+EndDone {S} takes dpi end s (Ok unit) new old_sink new_sink =
     (page_refusal (at_end dpi s) ≡ None) × HandsMore takes dpi s (at_end dpi s) old_sink new_sink
-EndDone {S} takes dpi end s (Err (job.Refused why)) old_sink new_sink =
+    × (asks_of new.asks ≡ (at_end dpi s).asks)
+EndDone {S} takes dpi end s (Err (job.Refused why)) new old_sink new_sink =
     (kind : Kind) × (page_refusal (at_end dpi s) ≡ Some kind) × (why ≡ refusal kind end Empty) × (new_sink ≡ old_sink)
-EndDone {S} takes dpi end s (Err job.Memory) old_sink new_sink = new_sink ≡ old_sink
+EndDone {S} takes dpi end s (Err job.Memory) new old_sink new_sink = new_sink ≡ old_sink

@@ -13,11 +13,13 @@ use Rattle.pcl_base.specs.Refusal.{refusal}
 use Rattle.pcl_escape.specs.Said.{Said}
 use Rattle.pcl_macros.specs.Table.{Holds}
 use Rattle.pcl_bitmap.specs.declared.page.Page.{Page}
+use Rattle.pcl_page.specs.declared.performer.Performer.{Performer}
 use Rattle.pcl_page.specs.declared.interpreter.Interpreter.{Interpreter}
 use Rattle.pcl_page.specs.declared.interpreter.Running.{Running}
+use Rattle.pcl_page.specs.Asks.{asks_of}
 use Rattle.pcl_page.specs.Situation.{Sheet, Situation, at_end}
 use Rattle.pcl_page.specs.Macros.{Run, left}
-use Rattle.pcl_page.specs.Performing.{Performance, done, then_on, in_order, step, commands_left, runs, end_refusal}
+use Rattle.pcl_page.specs.Performing.{Performance, done, then_on, in_order, step, commands_left, runs, end_refusal, asks_among}
 use Rattle.pcl_page.specs.Delivering.{Hands}
 use Rattle.pcl_page.specs.inner.Reflecting.{IsIn, HandsMore}
 
@@ -125,9 +127,16 @@ IsEntered (Some run) (Err (Refused kind)) old new = (length old.running.items �
 IsEntered (Some run) (Err Memory) old new = ⊥
 
 -- the input's end was performed, or it is refused at the end with the empty name, or memory ran out
-abbrev pub InterpreterEnds : {S : Type 0} → (S → Page → S → Type 0) → Dpi → ℕ → Situation → Result (Unit {0}) JobFault → S → S → Type 0
-InterpreterEnds {S} takes dpi end s (Ok unit) old_sink new_sink =
+abbrev pub InterpreterEnds : {S : Type 0} → (S → Page → S → Type 0) → Dpi → ℕ → Situation → Result (Unit {0}) JobFault → Performer
+    → S → S → Type 0
+InterpreterEnds {S} takes dpi end s (Ok unit) new old_sink new_sink =
     (end_refusal dpi s ≡ None) × HandsMore takes dpi s (at_end dpi s) old_sink new_sink
-InterpreterEnds {S} takes dpi end s (Err (job.Refused why)) old_sink new_sink =
+    × (asks_of new.asks ≡ (at_end dpi s).asks)
+InterpreterEnds {S} takes dpi end s (Err (job.Refused why)) new old_sink new_sink =
     (kind : Kind) × (end_refusal dpi s ≡ Some kind) × (why ≡ refusal kind end Empty) × (new_sink ≡ old_sink)
-InterpreterEnds {S} takes dpi end s (Err job.Memory) old_sink new_sink = new_sink ≡ old_sink
+InterpreterEnds {S} takes dpi end s (Err job.Memory) new old_sink new_sink = new_sink ≡ old_sink
+
+-- where nothing was refused, the performer knows what was asked
+abbrev pub IsAsking : Performance → Result (Unit {0}) JobFault → Performer → Type 0
+IsAsking whole (Ok unit) new = asks_of new.asks ≡ asks_among whole
+IsAsking whole (Err fault) new = Unit {0}

@@ -2,7 +2,7 @@ use Rattle.std.proofs.Common.{◌≡◌, ◌∙◌, List, ℕ, Some, sym, ap, in
 use Rattle.pcl_base.specs.declared.dpi.Dpi.{Dpi}
 use Rattle.pcl_base.specs.declared.refusal.Refusal.{Refusal}
 use Rattle.pcl_escape.specs.Said.{Said}
-use Rattle.pcl_page.specs.Performing.{pages_of}
+use Rattle.pcl_page.specs.Performing.{pages_of, asks_among}
 use Rattle.pcl_page.specs.Jobs.{performance_of}
 use Rattle.pcl_page.specs.Delivering.{IsStopped}
 use Rattle.pcl_page.proofs.job.one_meaning.Goals as goal
@@ -11,6 +11,11 @@ pub returns-clause-pages : goal.returns-clause-pages
 returns-clause-pages c = λ dpi job pages others p q.
     p.ejected ∙ ap (λ (commands : List Said). pages_of (performance_of dpi job commands))
     (c.one_outcome.ensures.reading job p.commands q.commands p.reading q.reading) ∙ sym q.ejected
+
+pub returns-clause-asks : goal.returns-clause-asks
+returns-clause-asks c = λ dpi job asks others p q.
+    p.asked ∙ ap (λ (commands : List Said). asks_among (performance_of dpi job commands))
+    (c.one_outcome.ensures.reading job p.commands q.commands p.reading q.reading) ∙ sym q.asked
 
 same_stop : {dpi : Dpi} {job : List ℕ} {refusal other : Refusal} (p : IsStopped dpi job refusal) (q : IsStopped dpi job other)
     → p.commands ≡ q.commands → refusal ≡ other

@@ -41,7 +41,7 @@ returns-in_err-perform_at g c =
     rw (p.1, p.2)
     (command_stopped g.S.PageSink.takes c.args.dpi c.args.end all whole c.loop-place.place _ _ c.loop-place.self
     c.perform_at.new.self c.args.sink.now c.loop-place.sink c.perform_at.new.sink _ r
-    (c.in_err-perform_at.ensures.done all r.situation r.is_at))
+    (c.in_err-perform_at.ensures.done all r.situation r.is_at), tt)
 
 pub run_macros-requires-clause-somewhere : goal.run_macros-requires-clause-somewhere
 run_macros-requires-clause-somewhere g c =
@@ -61,15 +61,15 @@ returns-in_err-run_macros g c =
     let p = err_from_is_err_and c.from_residual-in_err-run_macros.result c.from_residual-in_err-run_macros.ensures.1 in
     rw (p.1, p.2)
     (macros_stopped g.S.PageSink.takes c.args.dpi c.args.end all whole c.loop-place.place _ _ c.perform_at.new.self c.run_macros.new.self
-    c.args.sink.now c.loop-place.sink c.perform_at.new.sink c.run_macros.new.sink _ b (λ s at. c.in_err-run_macros.ensures.done s at))
+    c.args.sink.now c.loop-place.sink c.perform_at.new.sink c.run_macros.new.sink _ b (λ s at. c.in_err-run_macros.ensures.done s at), tt)
 
 pub returns : goal.returns
 returns g c =
     let all = views c.args.commands.now in
     let whole = performance c.args.dpi c.args.end all in
     let done : drop c.loop-place.place c.args.commands.now ≡ [] = drop_of_length-le c.args.commands.now c.loop-place-test.false in
-    end_reached g.S.PageSink.takes c.args.dpi c.args.end all whole c.loop-place.place c.loop-place.self c.args.sink.now
-    c.loop-place.sink c.finish.new.sink c.finish.result
+    end_reached g.S.PageSink.takes c.args.dpi c.args.end all whole c.loop-place.place c.loop-place.self c.finish.new.self.performer
+    c.args.sink.now c.loop-place.sink c.finish.new.sink c.finish.result
     (subst (λ (rest : List Command). IsReached g.S.PageSink.takes c.args.dpi whole
     (rest_of_job c.args.dpi c.args.end all c.loop-place.place (views rest)) c.loop-place.self c.args.sink.now c.loop-place.sink) done
     c.loop-place.invariant)

@@ -1,4 +1,4 @@
-use Rattle.std.proofs.Common.{rules, refl, inl, inr}
+use Rattle.std.proofs.Common.{rules, refl}
 use Rattle.pcl_escape.specs.Said.{view}
 use Rattle.pcl_page.proofs.Printed.{event_in, settings_in, rectangle_in, row_in}
 use Rattle.pcl_page.proofs.performer.Performer.draw.Goals as goal
@@ -16,11 +16,10 @@ pub returns-in-ControlFonts : goal.returns-in-ControlFonts
 returns-in-ControlFonts c = λ s i. rw c.in-ControlFonts.is (refl, event_in i (c.control_fonts.ensures c.args.dpi s i))
 
 pub returns-in-Reset : goal.returns-in-Reset
-returns-in-Reset c = λ s i.
-    elim c.in-Reset.is [
-      | inl reset ↦ rw reset (refl, event_in i c.delete_temporary_fonts.ensures)
-      | inr exit ↦ rw exit (refl, event_in i c.delete_temporary_fonts.ensures)
-    ]
+returns-in-Reset c = λ s i. rw c.in-Reset.is (refl, event_in i c.delete_temporary_fonts.ensures)
+
+pub returns-in_ok-leave-in-UniversalExit : goal.returns-in_ok-leave-in-UniversalExit
+returns-in_ok-leave-in-UniversalExit c = λ s i. rw c.in-UniversalExit.is (refl, c.in_ok-leave-in-UniversalExit.ensures c.args.dpi s i)
 
 pub returns-in-SelectFont : goal.returns-in-SelectFont
 returns-in-SelectFont c = λ s i. rw c.in-SelectFont.is (refl, settings_in i (c.select_font.ensures c.args.dpi s i))

@@ -10,6 +10,7 @@ returns-clause-ok g c = (
     marked = refl;
     ejected = refl;
     performed = refl;
+    asks = c.in_ok-push_page.ensures;
     fonts = refl;
     size = ap (λ (p : Picture). p.size) c.clear.ensures.blank;
     resolution = ap (λ (p : Picture). p.dpi) c.clear.ensures.blank;

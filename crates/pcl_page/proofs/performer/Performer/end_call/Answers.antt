@@ -16,6 +16,7 @@ returns-clause-situation c = λ s i.
       marked = refl;
       ejected = refl;
       performed = refl;
+      asks = refl;
       fonts = refl;
       bitmap = refl;
     })

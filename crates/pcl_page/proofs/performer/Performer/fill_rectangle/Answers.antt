@@ -26,6 +26,7 @@ returns-clause-drawn c =
       marked = refl;
       ejected = refl;
       performed = refl;
+      asks = refl;
       fonts = refl;
       size = c.fill.ensures.size;
       resolution = c.fill.ensures.dpi;

@@ -35,6 +35,7 @@ returns-clause-drawn c =
       marked = refl;
       ejected = refl;
       performed = refl;
+      asks = refl;
       fonts = refl;
       size = c.blit.ensures.size;
       resolution = c.blit.ensures.dpi;

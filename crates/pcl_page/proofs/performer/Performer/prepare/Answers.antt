@@ -27,9 +27,10 @@ returns c =
       | in_default w ↦ rw (w.self-is, w.in_default.is) refl
     ] in
     let kept : (new.1.1.1.0 ≡ old.fonts) × (new.1.1.1.1.0 ≡ old.page) × (new.1.1.1.1.1.0 ≡ old.is_marked)
-    × (new.1.1.1.1.1.1.0 ≡ old.ejected) × (new.1.1.1.1.1.1.1.0 ≡ old.performed) = elim c.match-self.branch [
-      | in-Some w ↦ rw w.self-is (refl, refl, refl, refl, refl)
-      | in_default w ↦ rw w.self-is (refl, refl, refl, refl, refl)
+    × (new.1.1.1.1.1.1.0 ≡ old.ejected) × (new.1.1.1.1.1.1.1.0 ≡ old.performed)
+    × (new.1.1.1.1.1.1.1.1.0 ≡ old.asks) = elim c.match-self.branch [
+      | in-Some w ↦ rw w.self-is (refl, refl, refl, refl, refl, refl)
+      | in_default w ↦ rw w.self-is (refl, refl, refl, refl, refl, refl)
     ] in
     record {
       settings = settings ∙ ap (λ (b : Bool). cond b (settings_below dpi old.raster old.environment) old.environment) ends;
@@ -39,4 +40,5 @@ returns c =
       marked = kept.2;
       ejected = kept.3;
       performed = kept.4;
+      asks = kept.5;
     }

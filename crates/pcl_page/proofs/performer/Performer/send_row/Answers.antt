@@ -30,6 +30,7 @@ returns c =
         marked = refl;
         ejected = refl;
         performed = refl;
+        asks = refl;
         fonts = refl;
         size = c.send.ensures.size;
         resolution = c.send.ensures.dpi;

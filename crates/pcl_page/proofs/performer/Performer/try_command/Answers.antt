@@ -46,7 +46,7 @@ pub returns-then-is_ignored : goal.returns-then-is_ignored
 returns-then-is_ignored g c = λ s i.
     tried_ignored g.S.PageSink.takes c.args.dpi c.in-Some.operation (view c.args.command.now) s c.args.self.now _ c.args.sink.now i
     (omega arith) c.args.self.now.few_pages (sym c.in-Some.ensures) (sym c.is_ignored.ensures ∙ c.if-is_ignored.true)
-    (counted_in i refl refl refl refl refl refl refl)
+    (counted_in i refl refl refl refl refl refl refl refl)
 
 pub returns-in_err-turn : goal.returns-in_err-turn
 returns-in_err-turn g c = λ s i.
@@ -54,7 +54,7 @@ returns-in_err-turn g c = λ s i.
     let a : AtTurn c.args.dpi c.in-Some.operation (view c.args.command.now) s c.args.self.now =
     record { is_in = i; few = few; named = sym c.in-Some.ensures; performed = sym c.is_ignored.ensures ∙ c.if-is_ignored.false } in
     let before = prepared_in
-    (counted_in i refl refl refl refl refl refl refl) c.prepare.ensures in
+    (counted_in i refl refl refl refl refl refl refl refl) c.prepare.ensures in
     let p = err_from_is_err_and c.from_residual.result c.from_residual.ensures.1 in
     rw (p.1, p.2)
     (tried_refused g.S.PageSink.takes c.args.dpi c.in-Some.operation (view c.args.command.now) s c.args.self.now c.turn.new.self
@@ -67,7 +67,7 @@ returns-in_err-draw g c = λ s i.
     let a : AtTurn c.args.dpi c.in-Some.operation (view c.args.command.now) s c.args.self.now =
     record { is_in = i; few = few; named = sym c.in-Some.ensures; performed = sym c.is_ignored.ensures ∙ c.if-is_ignored.false } in
     let before = prepared_in
-    (counted_in i refl refl refl refl refl refl refl) c.prepare.ensures in
+    (counted_in i refl refl refl refl refl refl refl refl) c.prepare.ensures in
     let n = gone g.S.PageSink.takes c.args.dpi c.in-Some.operation (view c.args.command.now) s c.args.self.now c.turn.new.self
     c.args.sink.now c.turn.new.sink a
     (c.in_ok-turn.ensures.turned (prepared c.args.dpi c.in-Some.operation (counted s)) before) in
@@ -82,7 +82,7 @@ returns g c = λ s i.
     let a : AtTurn c.args.dpi c.in-Some.operation (view c.args.command.now) s c.args.self.now =
     record { is_in = i; few = few; named = sym c.in-Some.ensures; performed = sym c.is_ignored.ensures ∙ c.if-is_ignored.false } in
     let before = prepared_in
-    (counted_in i refl refl refl refl refl refl refl) c.prepare.ensures in
+    (counted_in i refl refl refl refl refl refl refl refl) c.prepare.ensures in
     let n = gone g.S.PageSink.takes c.args.dpi c.in-Some.operation (view c.args.command.now) s c.args.self.now c.turn.new.self
     c.args.sink.now c.turn.new.sink a
     (c.in_ok-turn.ensures.turned (prepared c.args.dpi c.in-Some.operation (counted s)) before) in

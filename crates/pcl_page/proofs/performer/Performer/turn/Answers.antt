@@ -24,6 +24,9 @@ returns-in_err-follow_size-clause-turned g c = λ s i.
             page = refl;
             ejected = refl;
             performed = refl;
+            asks = refl;
+            asked = c.asked-asked.result;
+            asked_is = c.asked-asked.ensures;
             raster = refl;
             fonts = refl;
             copies_are = c.copies-copies.ensures.value;
@@ -50,6 +53,9 @@ returns-clause-turned g c = λ s i.
             page = refl;
             ejected = refl;
             performed = refl;
+            asks = refl;
+            asked = c.asked-asked.result;
+            asked_is = c.asked-asked.ensures;
             raster = refl;
             fonts = refl;
             copies_are = c.copies-copies.ensures.value;
@@ -68,6 +74,6 @@ returns-clause-turned g c = λ s i.
           i a (sym c.ejects.ensures ∙ w.if-ejects.false) c.args.self.now.few_pages
           (ap (λ (p : Performer). p.page.bitmap) w.self-is) (ap (λ (p : Performer). p.is_marked) w.self-is)
           (ap (λ (p : Performer). p.ejected) w.self-is)
-          (ap (λ (p : Performer). p.performed) w.self-is) (ap (λ (p : Performer). p.raster) w.self-is)
+          (ap (λ (p : Performer). p.performed) w.self-is) (ap (λ (p : Performer). p.asks) w.self-is) (ap (λ (p : Performer). p.raster) w.self-is)
           (ap (λ (p : Performer). p.fonts) w.self-is) c.in_ok-follow_size.ensures w.sink-is
     ]
