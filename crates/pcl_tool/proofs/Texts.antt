@@ -13,7 +13,7 @@ use Rattle.pcl_writer.specs.Appending.{AppendsPage, IsWrittenPage}
 use Rattle.pcl_meaning.specs.JobTexts.{PrintEach}
 use Rattle.pcl_meaning.proofs.Jobs.{IsAgain, written_again}
 use Rattle.pcl_tool.specs.JobFaults.{fault_of}
-use Rattle.pcl_tool.specs.inner.Watching.{HasTaken}
+use Rattle.pcl_tool.specs.Watching.{HasTaken}
 use Rattle.pcl_tool.specs.Minimizing.{IsJobOf}
 use Rattle.pcl_tool.specs.inner.Writing.{IsJobWritten}
 
@@ -25,7 +25,7 @@ texts_gathered dpi (sheet ∷ sheets) old h =
     let rest = texts_gathered dpi sheets h.1 h.4 in
     let text = h.3.0 in (
       text ++ rest.0,
-      (h.0, text, rest.0, h.2, h.3.2, refl, rest.1),
+      (text, rest.0, (h.0, h.2, h.3.2), refl, rest.1),
       rest.2 ∙ ap (λ (t : List ℕ). t ++ rest.0) h.3.1 ∙ append_assoc old text rest.0,
     )
 

@@ -8,7 +8,7 @@ use Rattle.pcl_cert.specs.declared.format.Format.{Format}
 use Rattle.pcl_cert.specs.declared.page_proof.PageProof.{PageProof}
 use Rattle.pcl_cert.specs.Certificates.{FitFormat, certificate_bytes, proofs_in}
 use Rattle.pcl_tool.specs.JobFaults.{fault_of}
-use Rattle.pcl_tool.specs.inner.Watching.{HasTaken}
+use Rattle.pcl_tool.specs.Watching.{HasTaken}
 use Rattle.pcl_tool.specs.inner.Certifying.{SoFar, TakesProved}
 use Rattle.pcl_tool.specs.Minimizing.{IsMinimized}
 use Rattle.pcl_tool.proofs.Proved.{can_be_written, certified_job}
