@@ -2,6 +2,7 @@
 use Rattle.std.proofs.Common.{◌≡◌, ℕ, ◌+◌, ◌*◌, ◌<◌, ◌≤◌, inl, inr, true, false, List, Option, Some, None, length, sym, ap, subst, ◌∙◌, arith}
 use Rattle.std.specs.Prelude.{decimal}
 use Rattle.std.proofs.lemmas.Bool.{cases_lt}
+use Rattle.pcl_base.specs.Limits.{row_limit}
 use Rattle.pcl_base.specs.declared.method.Method.{Method}
 use Rattle.pcl_base.specs.Size.{page_height, page_row_bytes, code_of}
 use Rattle.pcl_bitmap.specs.declared.page.Page.{Page}
@@ -140,7 +141,7 @@ table_certified page text table format places is_of printed short has =
     let width : ℕ = page_row_bytes page.size page.dpi in
     let rows = bitmap_rows page.bitmap in
     let are = widths page.size page.dpi rows printed.rows_are in
-    let narrow : width ≤ 600 = row_small page.size page.dpi in
+    let narrow : width ≤ row_limit = row_small page.size page.dpi in
     let few : length rows ≤ 9999 = omega (arith, printed.count, height_small page.size page.dpi) in
     record {
       fits = record {
