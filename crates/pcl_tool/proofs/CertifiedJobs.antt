@@ -9,7 +9,7 @@ use Rattle.pcl_output.specs.Tokens.{frame_bytes}
 use Rattle.pcl_cert.specs.declared.check.Verdict.{Verdict}
 use Rattle.pcl_cert.specs.declared.check.Verdict.TheVariants.{Proved}
 use Rattle.pcl_cert.specs.declared.fault.CertFault.{CertFault}
-use Rattle.pcl_cert.specs.declared.fault.CertFault.TheVariants.{BadMagic, Short, Extra, Rows, Places, Memory}
+use Rattle.pcl_cert.specs.declared.fault.CertFault.TheVariants.{Memory}
 use Rattle.pcl_cert.specs.declared.format.Format.{Format}
 use Rattle.pcl_cert.specs.declared.page_proof.PageProof.{PageProof}
 use Rattle.pcl_cert.specs.Checking.{IsVerdict}
@@ -114,12 +114,8 @@ fault_refused {dpi} {input} {output} {certificate} i e =
 
 pub certified_proved : OnePages → (dpi : Dpi) (input output certificate : List ℕ) (verdict : JobVerdict)
     → IsCertifiedBy dpi input output certificate → IsJobVerdict dpi input output certificate verdict → verdict ≡ job.Proved
-certified_proved one dpi input output certificate (job.Certificate BadMagic) i v = fault_refused i v.2
-certified_proved one dpi input output certificate (job.Certificate Short) i v = fault_refused i v.2
-certified_proved one dpi input output certificate (job.Certificate Extra) i v = fault_refused i v.2
-certified_proved one dpi input output certificate (job.Certificate Rows) i v = fault_refused i v.2
-certified_proved one dpi input output certificate (job.Certificate Places) i v = fault_refused i v.2
 certified_proved one dpi input output certificate (job.Certificate Memory) i v = absurd v
+certified_proved one dpi input output certificate (job.Certificate fault) i v = fault_refused i v.2
 certified_proved one dpi input output certificate job.PageCount i v =
     let p = compared_same one i v.0 in absurd (v.1 p.0)
 certified_proved one dpi input output certificate job.Frame i v =

@@ -24,10 +24,7 @@ takes = TakesPage
 wrong_stays : (found : JobVerdict) (proof : PageProof) (old new : Checker) (page : Page) → (found ≡ job.Proved → ⊥)
     → FindsNext found proof old page new → new.found ≡ found
 wrong_stays job.Proved proof old new page wrong f = absurd (wrong refl)
-wrong_stays (job.Page place verdict) proof old new page wrong f = f
-wrong_stays (job.Certificate fault) proof old new page wrong f = f
-wrong_stays job.PageCount proof old new page wrong f = f
-wrong_stays job.Frame proof old new page wrong f = f
+wrong_stays found proof old new page wrong f = f
 
 -- the proofs that are left after the next one
 next_left : (k : ℕ) (all : List PageProof) {proof : PageProof} {later : List PageProof} → drop k all ≡ proof ∷ later
@@ -142,9 +139,7 @@ behind dpi sheet sheets texts text rest proof proofs taken (job.Page place verdi
         not_proved = f.not_proved;
       },
     )
-behind dpi sheet sheets texts text rest proof proofs taken (job.Certificate fault) p e o = o
-behind dpi sheet sheets texts text rest proof proofs taken job.PageCount p e o = o
-behind dpi sheet sheets texts text rest proof proofs taken job.Frame p e o = o
+behind dpi sheet sheets texts text rest proof proofs taken found p e o = absurd o
 
 -- what is known of the texts and proofs that are left as long as nothing is wrong
 pub record AreLeft (texts : List ℕ) (proofs : List PageProof) (checker : Checker) : Type 0 where
@@ -206,9 +201,7 @@ at_page {dpi} {sheet} sheets texts proof {proofs} taken {page} {middle} new (job
         },
       ),
     )
-at_page sheets texts proof taken new (job.Certificate fault) f is shows e n t long same h follows = absurd is
-at_page sheets texts proof taken new job.PageCount f is shows e n t long same h follows = absurd is
-at_page sheets texts proof taken new job.Frame f is shows e n t long same h follows = absurd is
+at_page sheets texts proof taken new found f is shows e n t long same h follows = absurd is
 
 pub outcome : (dpi : Dpi) (sheets : List Sheet) {texts : List ℕ} (proofs : List PageProof) {taken : ℕ} {old : Checker} (new : Checker)
     → Follows dpi sheets texts proofs taken old new

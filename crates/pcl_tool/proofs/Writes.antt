@@ -4,7 +4,7 @@ use Rattle.std.specs.Io.KnownBytes.{Appends}
 use Rattle.std.proofs.KnownBytes.{Appends-trans}
 use Rattle.pcl_bitmap.specs.Bitmap.{Picture}
 use Rattle.pcl_tool.specs.declared.fault.Fault.{Fault}
-use Rattle.pcl_tool.specs.declared.fault.Fault.TheVariants.{Refused, Memory, ReadFault, TooLong, WriteFault, NoSuchPage}
+use Rattle.pcl_tool.specs.declared.fault.Fault.TheVariants.{WriteFault}
 use Rattle.pcl_tool.specs.Transfer.{AppendsFront, IsWritten}
 use Rattle.pcl_tool.specs.Image.{header_of, image_of, IsImageWritten}
 
@@ -20,11 +20,7 @@ front_behind old middle new text a h =
 header_stops : (old new : Option (List ℕ)) (picture : Picture) (fault : Fault)
     → IsWritten old new (header_of picture.size picture.dpi) (Err fault) → IsImageWritten old new picture (Err fault)
 header_stops old new picture WriteFault h = front_of old new picture.bytes h
-header_stops old new picture (Refused refusal) h = h
-header_stops old new picture Memory h = absurd h
-header_stops old new picture ReadFault h = h
-header_stops old new picture TooLong h = h
-header_stops old new picture NoSuchPage h = h
+header_stops old new picture fault h = absurd h
 
 pub stopped_in_header : (old new : Option (List ℕ)) (picture : Picture) {text : List ℕ} (fault : Fault)
     → text ≡ header_of picture.size picture.dpi → IsWritten old new text (Err fault) → IsImageWritten old new picture (Err fault)
@@ -37,11 +33,7 @@ after_header : (old middle new : Option (List ℕ)) (picture : Picture) (result 
 after_header old middle new picture (Ok done) a h =
     Appends-trans old middle new (header_of picture.size picture.dpi) picture.bytes a h
 after_header old middle new picture (Err WriteFault) a h = front_behind old middle new (header_of picture.size picture.dpi) a h
-after_header old middle new picture (Err (Refused refusal)) a h = h
-after_header old middle new picture (Err Memory) a h = absurd h
-after_header old middle new picture (Err ReadFault) a h = h
-after_header old middle new picture (Err TooLong) a h = h
-after_header old middle new picture (Err NoSuchPage) a h = h
+after_header old middle new picture result a h = absurd h
 
 -- the header was written, and then the rows or a prefix of them
 pub rows_written : (old middle new : Option (List ℕ)) (picture : Picture) {text rows : List ℕ} (result : Result (Unit {0}) Fault)
