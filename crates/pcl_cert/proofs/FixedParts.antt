@@ -47,12 +47,6 @@ fixed_length dpi size copies =
       raster_length size dpi,
     )
 
-pub code_few : (size : Size) → code_of size < 100
-code_few Executive = lit< tt
-code_few Letter = lit< tt
-code_few Legal = lit< tt
-code_few A4 = lit< tt
-
 pub code_some : (size : Size) → 1 ≤ code_of size
 code_some Executive = lit≤ tt
 code_some Letter = lit≤ tt

@@ -20,6 +20,7 @@ use Rattle.pcl_base.proofs.PageBounds.{row_small}
 use Rattle.pcl_check.specs.Edges.{AreGoodNumbers, IsLeastOfRow}
 use Rattle.pcl_check.proofs.GoodNumbers.{feasible_good}
 use Rattle.pcl_base.proofs.PageBounds.{height_small}
+use Rattle.pcl_check.proofs.Beginnings.{code_few}
 use Rattle.pcl_cert.specs.declared.check.Verdict.TheVariants as verdicts
 use Rattle.pcl_cert.specs.declared.format.Format.{Format}
 use Rattle.pcl_cert.specs.declared.format.Format.TheVariants.{One, Two}
@@ -27,7 +28,7 @@ use Rattle.pcl_cert.specs.RowTables.{list_of, number_at_place}
 use Rattle.pcl_cert.specs.PageTables.{table_of, AreLeastTablesOf}
 use Rattle.pcl_cert.specs.Certificates.{IsProof, HasLists}
 use Rattle.pcl_cert.specs.Checking.{Tables, AreLeastOf, HasLeastLists, AreOfPage, ArePlacesGood, AreEdgesGood, IsVerdict}
-use Rattle.pcl_cert.proofs.FixedParts.{one_digit, two_digits, fixed_length, code_few}
+use Rattle.pcl_cert.proofs.FixedParts.{one_digit, two_digits, fixed_length}
 use Rattle.pcl_cert.proofs.ProvedLeast.{number_first}
 use Rattle.pcl_cert.proofs.SmallNumbers.{number_small, numbers_small}
 

@@ -18,6 +18,7 @@ use Rattle.pcl_base.specs.Digits.{number_of}
 use Rattle.pcl_base.proofs.PageBounds.{height_small}
 use Rattle.pcl_output.specs.PageText.{IsRowOf, bitmap_rows}
 use Rattle.pcl_rows.specs.Rows.{IsRowData}
+use Rattle.pcl_output.proofs.TokenCosts.{method_small}
 use Rattle.pcl_check.specs.declared.reading.body.Place.{Place}
 use Rattle.pcl_check.specs.declared.reading.parameter.Parameter.{Parameter}
 use Rattle.pcl_check.specs.inner.Reading.{LeftOver, IsParameter, RestPrints, GivesRows, left_at, AreRowsAt, IsStep}
@@ -42,12 +43,6 @@ cased (inl e) = (true, e, grind (arith, nat_tests))
 cased (inr e) = (false, e, grind (arith, nat_tests))
 
 -- ---- methods
-
-few_codes : (m : Method) → method_code m ≤ 3
-few_codes Plain = omega arith
-few_codes Runs = omega arith
-few_codes Packed = omega arith
-few_codes Delta = omega arith
 
 none_past : (n : ℕ) → 3 < n → method_with_code n ≡ None
 none_past n lt =
@@ -80,7 +75,7 @@ no_switch picture {size} {above} place {parameter} inside is letter none = λ ro
     no_method signed.0
     (told picture size above place parameter inside is) signed.1
     (λ next e.
-    let le = few_codes next in
+    let le = method_small next in
     let number : parameter.number ≡ method_code next = omega (arith, is.number_is) in
     let some : Some next ≡ None = sym (with_code next) ∙ ap method_with_code (sym number) ∙ none in
     absurd cc)
@@ -99,7 +94,7 @@ pub switched : {picture : Picture} {size : Size} {above : List ℕ} {place : Pla
 switched {picture} {size} {above} {place} {parameter} {next} inside is letter some within =
     let signed = cased letter in
     let number = of_code parameter.number some in
-    let le = few_codes next in
+    let le = method_small next in
     let spelled : number_of parameter.digits.now ≡ method_code next = omega (arith, is.number_is, number) in
     let left = left_at size picture.dpi place above in (
       record {

@@ -48,17 +48,13 @@ skip_token (send digits bytes) t = absurd t
 
 switch_token : {next : Method} {ends : Bool} (token : Token) → IsTokenOf (Switch next) ends token → token
     ≡ method (least_spelling (method_code next)) next ends
-switch_token opening t = absurd t
 switch_token (method digits current capital) t = let a = t.0 in let b = t.1 in let e = t.2 in cc
-switch_token (skip digits rows capital) t = absurd t
-switch_token (send digits bytes) t = absurd t
+switch_token token t = absurd t
 
 row_token : {count : ℕ} (ends : Bool) (token : Token) → IsTokenOf (Row count) ends token → (bytes : List ℕ)
     × (token ≡ send (least_spelling count) bytes) × (length bytes ≡ count)
-row_token ends opening t = absurd t
-row_token ends (method digits current capital) t = absurd t
-row_token ends (skip digits rows capital) t = absurd t
 row_token ends (send digits bytes) t = (bytes, ap (λ (d : List ℕ). send d bytes) t.1, t.0)
+row_token ends token t = absurd t
 
 -- another token of the same step leads to the same node, and costs the same
 pub record LeadsToo (picture : Picture) (place behind : Node) (token written : Token) (b : Node) : Type 0 where
