@@ -2,9 +2,7 @@
 use Rattle.std.proofs.Common.{◌≡◌, ℕ, zero, suc, ◌+◌, ◌<◌, ◌≤◌, Bool, true, false, List, length, refl, sym, ap, subst, ◌∙◌, inl, inr, arith}
 use Rattle.std.specs.Prelude.{not}
 use Rattle.std.proofs.lemmas.Bool.{cases_lt}
-use Rattle.std.proofs.lemmas.List.{get_or_past}
 use Rattle.pcl_base.specs.declared.method.Method.{Method}
-use Rattle.pcl_base.specs.declared.method.Method.TheVariants.{Plain, Runs, Packed, Delta}
 use Rattle.pcl_base.specs.Method.{method_code}
 use Rattle.pcl_rows.specs.Rows.{IsRowData}
 use Rattle.pcl_coders.specs.Coding.{IsLeastLength}
@@ -14,7 +12,7 @@ use Rattle.pcl_output.specs.Tokens.{Token, opening, method, skip, send, IsSpelle
 use Rattle.pcl_output.specs.declared.node.Node.{Node}
 use Rattle.pcl_output.specs.Nodes.{row_at, row_above, Leads, Ends, cost}
 use Rattle.pcl_output.specs.Spelling.{least_spelling, row_cost}
-use Rattle.pcl_output.specs.Table.{number_in, no_numbers, node_number}
+use Rattle.pcl_output.specs.Table.{node_number}
 use Rattle.pcl_output.proofs.DigitCounts.{count_grows, spelled_long}
 use Rattle.pcl_coders.proofs.Lengths.{length_small}
 use Rattle.pcl_output.proofs.TokenCosts.{spelled_cost, cost_opening, cost_method, cost_skip, cost_send, method_small}

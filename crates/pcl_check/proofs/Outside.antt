@@ -6,7 +6,7 @@ use Rattle.pcl_base.specs.declared.dpi.Dpi.{Dpi}
 use Rattle.pcl_base.specs.declared.method.Method.{Method}
 use Rattle.pcl_base.specs.declared.size.Size.{Size}
 use Rattle.pcl_base.specs.Size.{page_row_bytes}
-use Rattle.pcl_output.specs.Tokens.{Token, opening, method, skip, send, token_bytes, PrintsRows, end_bytes}
+use Rattle.pcl_output.specs.Tokens.{Token, opening, method, token_bytes, PrintsRows, end_bytes}
 use Rattle.pcl_output.specs.PageText.{IsRowOf}
 use Rattle.pcl_check.specs.inner.Reading.{LeftOver, RestPrints, GivesRows}
 use Rattle.pcl_check.proofs.Fronts.{left_over, white_rows}

@@ -5,9 +5,6 @@ use Rattle.std.specs.List.{flat_map}
 use Rattle.std.proofs.lemmas.List.{take_all, append_cancel_left, append_assoc}
 use Rattle.pcl_base.specs.declared.dpi.Dpi.{Dpi}
 use Rattle.pcl_base.specs.declared.size.Size.{Size}
-use Rattle.pcl_base.specs.declared.size.Size.TheVariants.{Executive, Letter, Legal, A4}
-use Rattle.pcl_base.specs.contracts.size.Size.{the_type}
-use denote.Enum.Bare.{sameb}
 use Rattle.pcl_base.specs.Size.{page_height, page_row_bytes, code_of, size_with_code}
 use Rattle.pcl_bitmap.specs.Bitmap.{Picture}
 use Rattle.pcl_output.specs.Tokens.{token_bytes, start_bytes, end_bytes}

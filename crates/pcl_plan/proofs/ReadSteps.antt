@@ -10,7 +10,7 @@ use Rattle.pcl_output.specs.declared.table.RowNumbers.{RowNumbers}
 use Rattle.pcl_output.specs.declared.step.Step.{Step}
 use Rattle.pcl_output.specs.declared.step.Step.TheVariants.{Skip, Switch, Row}
 use Rattle.pcl_output.specs.declared.node.Node.{Node}
-use Rattle.pcl_output.specs.Tokens.{Token, opening, method, skip, send, IsSpelled}
+use Rattle.pcl_output.specs.Tokens.{Token, method, skip, send, IsSpelled}
 use Rattle.pcl_output.specs.Nodes.{start, Leads, Ends, cost, stays_inside}
 use Rattle.pcl_output.specs.Spelling.{least_spelling}
 use Rattle.pcl_output.specs.Table.{node_number, outside, inside, rest}

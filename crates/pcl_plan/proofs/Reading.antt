@@ -1,11 +1,9 @@
 -- Steps are read off a table that is right.
-use Rattle.std.proofs.Common.{◌≡◌, ℕ, ◌+◌, ◌<◌, ◌≤◌, Bool, true, false, List, [], ◌∷◌, length, drop, refl, sym, ap, subst, ◌∙◌, inl, inr, arith}
+use Rattle.std.proofs.Common.{◌≡◌, ℕ, ◌+◌, ◌<◌, ◌≤◌, true, false, List, [], ◌∷◌, length, drop, refl, sym, ap, subst, ◌∙◌, inl, inr, arith}
 use Rattle.std.specs.Prelude.{not}
 use Rattle.std.proofs.lemmas.Bool.{cases_lt}
 use Rattle.std.proofs.Math.ListN.{drop_of_length-le}
-use Rattle.std.proofs.lemmas.List.{get_or_past}
 use Rattle.pcl_base.specs.declared.method.Method.{Method}
-use Rattle.pcl_base.specs.declared.method.Method.TheVariants.{Plain, Runs, Packed, Delta}
 use Rattle.pcl_base.specs.Method.{method_code}
 use Rattle.pcl_rows.specs.Rows.{IsRowData}
 use Rattle.pcl_coders.specs.Coding.{IsLeastLength}
@@ -16,7 +14,7 @@ use Rattle.pcl_output.specs.Tokens.{Token, opening, method, skip, send, IsSpelle
 use Rattle.pcl_output.specs.declared.node.Node.{Node}
 use Rattle.pcl_output.specs.Nodes.{row_at, row_above, Leads, Ends, cost}
 use Rattle.pcl_output.specs.Spelling.{least_spelling, switching, row_cost}
-use Rattle.pcl_output.specs.Table.{number_in, no_numbers, node_number, outside, inside, rest}
+use Rattle.pcl_output.specs.Table.{node_number, outside, inside, rest}
 use Rattle.pcl_plan.specs.inner.Filling.{skipping, IsReadable, AreRightFrom}
 use Rattle.pcl_output.specs.inner.WhiteRows.{AreSkippable, IsWhiteRun}
 use Rattle.pcl_output.proofs.DigitCounts.{count_grows, spelled_long}

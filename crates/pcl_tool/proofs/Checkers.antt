@@ -112,8 +112,8 @@ one_more sheets text rest proofs is e p = (omega (arith, p.0), (text, rest, is, 
 
 -- after a page that is proved
 behind : (dpi : Dpi) (sheet : Sheet) (sheets : List Sheet) (texts text rest : List ℕ) (proof : PageProof)
-    (proofs : List PageProof) (taken : ℕ)
-    (found : JobVerdict) → IsAnswered dpi sheet text proof verdicts.Proved → texts ≡ text ++ rest → IsOutcome dpi sheets rest proofs (taken + 1) found
+    (proofs : List PageProof) (taken : ℕ) (found : JobVerdict) → IsAnswered dpi sheet text proof verdicts.Proved
+    → texts ≡ text ++ rest → IsOutcome dpi sheets rest proofs (taken + 1) found
     → IsOutcome dpi (sheet ∷ sheets) texts (proof ∷ proofs) taken found
 behind dpi sheet sheets texts text rest proof proofs taken job.Proved p e o = one_more sheets text rest proofs p e o
 behind dpi sheet sheets texts text rest proof proofs taken (job.Page place verdict) p e o =

@@ -6,7 +6,7 @@ use Rattle.pcl_bitmap.specs.Bitmap.{Picture}
 use Rattle.pcl_tool.specs.declared.fault.Fault.{Fault}
 use Rattle.pcl_tool.specs.declared.fault.Fault.TheVariants.{WriteFault}
 use Rattle.pcl_tool.specs.Transfer.{AppendsFront, IsWritten}
-use Rattle.pcl_tool.specs.Image.{header_of, image_of, IsImageWritten}
+use Rattle.pcl_tool.specs.Image.{header_of, IsImageWritten}
 
 front_of : (old new : Option (List ℕ)) {text : List ℕ} (more : List ℕ) → AppendsFront old new text → AppendsFront old new (text ++ more)
 front_of old new more h =

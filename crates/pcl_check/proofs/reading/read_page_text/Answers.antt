@@ -34,7 +34,9 @@ may_by_size page start e t m = (
 may_by_copies : (page : Page) (start : Start) {test may_be : Bool} → test ≡ sameb the_type start.size page.size → test ≡ true
     → may_be ≡ (start.copies == page.copies) → MayBe page.bitmap page.copies start may_be
 may_by_copies page start e t m = (
-  λ yes. (same_true the_type tt start.size page.size (sym e ∙ t) ∙ sym page.size_is, (Decides-eqb start.copies page.copies).0 (sym m ∙ yes)),
+  λ yes.
+      let size = same_true the_type tt start.size page.size (sym e ∙ t) in
+      (size ∙ sym page.size_is, (Decides-eqb start.copies page.copies).0 (sym m ∙ yes)),
   λ h. m ∙ (Decides-eqb start.copies page.copies).1 h.1,
 )
 

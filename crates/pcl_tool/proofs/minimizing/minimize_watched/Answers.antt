@@ -1,4 +1,4 @@
-use Rattle.std.proofs.Common.{◌∙◌, List, ℕ, ◌++◌, Err, refl, ap, subst, sym}
+use Rattle.std.proofs.Common.{◌∙◌, List, ℕ, ◌++◌, refl, ap, subst, sym}
 use Rattle.std.proofs.lemmas.Result.{err_from_is_err_and}
 use Rattle.pcl_output.specs.Tokens.{frame_bytes}
 use Rattle.pcl_cert.specs.declared.page_proof.PageProof.{PageProof}

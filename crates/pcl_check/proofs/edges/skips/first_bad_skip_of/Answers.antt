@@ -2,7 +2,7 @@ use Rattle.std.proofs.Common.{◌≡◌, ℕ, ◌+◌, ◌-◌, ◌≤◌, List,
 use Rattle.std.proofs.lemmas.Bool.{iff_false}
 use Rattle.pcl_coders.specs.Windows.{IsLeastOf}
 use Rattle.pcl_output.specs.Table.{rest, node_number}
-use Rattle.pcl_check.specs.inner.EdgePasses.{AreGoodSkipsOf, rests}
+use Rattle.pcl_check.specs.inner.EdgePasses.{AreGoodSkipsOf}
 use Rattle.pcl_check.proofs.Values.{length_values}
 use Rattle.pcl_check.proofs.Found.{first_at}
 use Rattle.pcl_check.proofs.StepWindows.{last_of, IsStepWindow, window_begins, window_next, window_put}

@@ -2,7 +2,6 @@ use Rattle.std.proofs.Common.{◌≡◌, ℕ, ◌+◌, ◌-◌, ◌≤◌, List,
 use Rattle.std.specs.Prelude.{slice_index}
 use Rattle.std.proofs.lemmas.Bool.{iff_false}
 use Rattle.pcl_coders.specs.Windows.{IsLeastOf}
-use Rattle.pcl_check.specs.inner.EdgePasses.{values}
 use Rattle.pcl_check.specs.inner.PlacePasses.{IsNotUndercut}
 use Rattle.pcl_check.proofs.Values.{length_values}
 use Rattle.pcl_check.proofs.StepWindows.{last_of, IsStepWindow, window_begins, window_next, window_put}
