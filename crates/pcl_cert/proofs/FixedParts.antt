@@ -1,5 +1,5 @@
 -- The length of the fixed part of a page text.
-use Rattle.std.proofs.Common.{◌≡◌, ℕ, ◌+◌, ◌/◌, ◌%◌, ◌<◌, ◌≤◌, [], ◌∷◌, ◌++◌, length, refl, ap, ◌∙◌, arith, lit<, lit≤}
+use Rattle.std.proofs.Common.{◌≡◌, ℕ, ◌+◌, ◌/◌, ◌%◌, ◌<◌, ◌≤◌, [], ◌∷◌, ◌++◌, length, refl, ap, ◌∙◌, arith, lit≤}
 use Rattle.std.specs.Prelude.{decimal}
 use Rattle.std.specs.Fmt.{digits}
 use Rattle.std.proofs.lemmas.Fmt.{decimal_digit, decimal_step}
@@ -46,12 +46,6 @@ fixed_length dpi size copies =
       length-append (raster_start size dpi) [],
       raster_length size dpi,
     )
-
-pub code_few : (size : Size) → code_of size < 100
-code_few Executive = lit< tt
-code_few Letter = lit< tt
-code_few Legal = lit< tt
-code_few A4 = lit< tt
 
 pub code_some : (size : Size) → 1 ≤ code_of size
 code_some Executive = lit≤ tt

@@ -1,5 +1,5 @@
 -- Lists that are put one after the other, and the tables that they stand for.
-use Rattle.std.proofs.Common.{◌≡◌, ℕ, zero, suc, ◌+◌, ◌-◌, ◌*◌, ◌^◌, ◌<◌, ◌≤◌, false, List, [], ◌∷◌, ◌++◌, length, take, drop, get_or, set, replicate, refl, sym, ap, subst, ◌∙◌, append_assoc, arith, inl, inr, lit≤}
+use Rattle.std.proofs.Common.{◌≡◌, ℕ, zero, suc, ◌+◌, ◌-◌, ◌*◌, ◌^◌, ◌<◌, ◌≤◌, false, List, [], ◌∷◌, ◌++◌, length, take, drop, get_or, set, replicate, refl, sym, ap, subst, ◌∙◌, append_assoc, arith, inl, inr}
 use Rattle.std.specs.Prelude.{nat_eq}
 use Rattle.std.specs.Int.{w16, from_be_bytes, to_be_bytes}
 use Rattle.std.specs.List.{flat_map, AllByRecursion}
@@ -22,6 +22,7 @@ use Rattle.pcl_bitmap.specs.Bitmap.{Picture}
 use Rattle.pcl_output.specs.Nodes.{row_at, row_above}
 use Rattle.pcl_output.specs.PageText.{bitmap_rows}
 use Rattle.pcl_output.proofs.RowsFrom.{length_rows}
+use Rattle.pcl_output.proofs.TokenCosts.{method_small}
 use Rattle.pcl_cert.specs.declared.listing.Lists.{Lists}
 use Rattle.pcl_cert.specs.inner.Listing.{IsTrimmed, HasListMore, HasRowMore, HoldsRows, HoldsRowsOf, AreWhole, listed}
 use Rattle.pcl_cert.proofs.FieldsRead.{two_bytes}
@@ -230,12 +231,6 @@ all_both : {X : Type 0} (P : X → Type 0) (xs ys : List X) → AllByRecursion P
 all_both P [] ys all others = others
 all_both P (x ∷ xs) ys all others = (all.0, all_both P xs ys all.1 others)
 
-code_below_four : (method : Method) → method_code method < 4
-code_below_four Plain = lit≤ tt
-code_below_four Runs = lit≤ tt
-code_below_four Packed = lit≤ tt
-code_below_four Delta = lit≤ tt
-
 -- the lists of a row are put after the others, one after the other
 pub record HasFourMore (seed row : List ℕ) (old new : Lists) : Type 0 where
   pub first : Lists
@@ -286,7 +281,7 @@ one_row_more {width} {rows} {done} {old} {new} holds wide more =
                 let kept : get_or (listed old ++ four) (4 * y + method_code method) [] ≡ get_or (listed old)
                 (4 * y + method_code method) [] =
                 get_or_append_left (listed old) four [] (4 * y + method_code method)
-                (omega (arith, before, earlier, code_below_four method)) in
+                (omega (arith, before, earlier, method_small method)) in
                 subst (λ (list : List ℕ). IsLeastTable method (row_above width rows y) (row_at rows y) (table_of (width + 1) list))
                 (sym kept) (holds.least y method earlier)
             | inr le ↦

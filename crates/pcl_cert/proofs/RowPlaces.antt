@@ -1,8 +1,7 @@
 -- Good places of a row.
-use Rattle.std.proofs.Common.{◌≡◌, ℕ, ◌+◌, ◌<◌, ◌≤◌, ◌⊎◌, inl, inr, List, Option, Some, None, is_some, true, false, length, refl, sym, subst, ◌∙◌, arith, lit<}
+use Rattle.std.proofs.Common.{◌≡◌, ℕ, ◌+◌, ◌<◌, ◌≤◌, ◌⊎◌, inl, inr, List, Option, Some, None, is_some, true, false, length, refl, sym, subst, ◌∙◌, arith}
 use Rattle.std.proofs.Math.Nat.{eq-or-lt_of_le}
 use Rattle.pcl_base.specs.declared.method.Method.{Method}
-use Rattle.pcl_base.specs.declared.method.Method.TheVariants.{Plain, Runs, Packed, Delta}
 use Rattle.pcl_base.specs.Method.{method_code}
 use Rattle.pcl_cert.specs.declared.check.places.BadPlace.{BadPlace}
 use Rattle.pcl_check.proofs.Moves.{same_method}
@@ -11,6 +10,7 @@ use Rattle.pcl_bitmap.specs.declared.page.Page.{Page}
 use Rattle.pcl_coders.specs.RowWalks.{IsRowTable}
 use Rattle.pcl_output.specs.PageText.{bitmap_rows}
 use Rattle.pcl_output.specs.Nodes.{row_at, row_above}
+use Rattle.pcl_output.proofs.TokenCosts.{method_small}
 use Rattle.pcl_cert.specs.RowTables.{list_of}
 use Rattle.pcl_check.specs.Places.{IsGoodPlace, IsFirstPlace, FindsPlace}
 use Rattle.pcl_cert.specs.Checking.{IsGoodIn, Tables, IsFirstBadIn}
@@ -70,12 +70,6 @@ some_bad {page} {lists} {row} {method} {seed} {bytes} {numbers} {place} is bad =
 
 -- ---- the methods of a row
 
-few_codes : (m : Method) → method_code m < 4
-few_codes Plain = lit< tt
-few_codes Runs = lit< tt
-few_codes Packed = lit< tt
-few_codes Delta = lit< tt
-
 pub none_below : (page : Page) (lists : List (List ℕ)) (row : ℕ) (method : Method) → FindsBadBelow page lists row (method_code method) None
     → FindsPlace (IsGoodIn page lists row method) (page_row_bytes page.size page.dpi) None
     → FindsBadBelow page lists row (method_code method + 1) None
@@ -106,7 +100,7 @@ pub no_row_bad : (page : Page) (lists : List (List ℕ)) {row : ℕ}
     → IsGoodIn page lists r m p
 no_row_bad page lists above here r m p lt le = elim (split_or lt) [
   | inl below ↦ above r m p below le
-  | inr e ↦ subst (λ (z : ℕ). IsGoodIn page lists z m p) (sym e) (here m p (few_codes m) le)
+  | inr e ↦ subst (λ (z : ℕ). IsGoodIn page lists z m p) (sym e) (here m p (method_small m) le)
 ]
 
 pub row_bad : {page : Page} {lists : List (List ℕ)} {row : ℕ} {bad : BadPlace} → row < page_height page.size page.dpi

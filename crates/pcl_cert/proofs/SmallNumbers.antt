@@ -3,6 +3,7 @@ use Rattle.std.proofs.Common.{◌≡◌, ℕ, zero, suc, ◌+◌, ◌-◌, ◌*�
 use Rattle.std.specs.Prelude.{slice_index_or}
 use Rattle.std.specs.List.{AllByRecursion}
 use Rattle.std.proofs.lemmas.List.{append-nil, drop_all}
+use Rattle.pcl_base.specs.Limits.{row_limit}
 use Rattle.pcl_base.specs.declared.method.Method.{Method}
 use Rattle.pcl_base.specs.declared.method.Method.TheVariants.{Plain, Runs, Packed, Delta}
 use Rattle.pcl_base.specs.Method.{method_code}
@@ -43,7 +44,7 @@ plain_row {seed} {row} codable =
 
 -- ---- numbers of nodes
 
-sent_plain : {width : ℕ} {rows : List (List ℕ)} {number : Node → ℕ} → AreOfWidth width rows → width ≤ 600
+sent_plain : {width : ℕ} {rows : List (List ℕ)} {number : Node → ℕ} → AreOfWidth width rows → width ≤ row_limit
     → IsFeasible (Leads width rows) (Ends rows) cost number → (row : ℕ) → row < length rows
     → number (node row Plain true) ≤ 65541 + number (node (row + 1) Plain false)
 sent_plain {width} {rows} are narrow feasible row within =
@@ -64,7 +65,7 @@ sent_plain {width} {rows} are narrow feasible row within =
     )
 
 -- outside a sequence, where so many rows are left
-outside_small : {width : ℕ} {rows : List (List ℕ)} {number : Node → ℕ} → AreOfWidth width rows → width ≤ 600
+outside_small : {width : ℕ} {rows : List (List ℕ)} {number : Node → ℕ} → AreOfWidth width rows → width ≤ row_limit
     → IsFeasible (Leads width rows) (Ends rows) cost number → (left row : ℕ) (current : Method) → row + left ≡ length rows
     → number (node row current false) ≤ 65546 * left
 outside_small {rows} are narrow feasible zero row current all =
@@ -85,7 +86,7 @@ outside_small are narrow feasible (suc left) row current all =
       outside_small are narrow feasible left (row + 1) Plain (omega (arith, all)),
     )
 
-pub number_small : {width : ℕ} {rows : List (List ℕ)} {number : Node → ℕ} → AreOfWidth width rows → width ≤ 600 → length rows ≤ 9999
+pub number_small : {width : ℕ} {rows : List (List ℕ)} {number : Node → ℕ} → AreOfWidth width rows → width ≤ row_limit → length rows ≤ 9999
     → IsFeasible (Leads width rows) (Ends rows) cost number → (row : ℕ) (current : Method) (is_open : Bool) → row ≤ length rows
     → number (node row current is_open) ≤ 655394455
 number_small {rows} are narrow few feasible row current false within =
@@ -106,7 +107,7 @@ each_small : (table : List RowNumbers) → ((row : ℕ) → row < length table �
 each_small [] small = tt
 each_small (numbers ∷ table) small = (small 0 (omega arith), each_small table (λ row within. small (suc row) (omega arith)))
 
-pub numbers_small : {width : ℕ} {rows : List (List ℕ)} (table : List RowNumbers) → AreOfWidth width rows → width ≤ 600
+pub numbers_small : {width : ℕ} {rows : List (List ℕ)} (table : List RowNumbers) → AreOfWidth width rows → width ≤ row_limit
     → length rows ≤ 9999 → length table ≡ length rows + 1
     → IsFeasible (Leads width rows) (Ends rows) cost (node_number table) → AllByRecursion AreSmall table
 numbers_small {rows} table are narrow few size feasible =

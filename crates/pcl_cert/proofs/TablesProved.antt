@@ -2,6 +2,7 @@
 use Rattle.std.proofs.Common.{◌≡◌, ℕ, ◌+◌, ◌*◌, ◌<◌, ◌≤◌, inl, inr, true, false, List, Option, Some, None, length, sym, ap, subst, ◌∙◌, arith}
 use Rattle.std.specs.Prelude.{decimal}
 use Rattle.std.proofs.lemmas.Bool.{cases_lt}
+use Rattle.pcl_base.specs.Limits.{row_limit}
 use Rattle.pcl_base.specs.declared.method.Method.{Method}
 use Rattle.pcl_base.specs.Size.{page_height, page_row_bytes, code_of}
 use Rattle.pcl_bitmap.specs.declared.page.Page.{Page}
@@ -19,6 +20,7 @@ use Rattle.pcl_base.proofs.PageBounds.{row_small}
 use Rattle.pcl_check.specs.Edges.{AreGoodNumbers, IsLeastOfRow}
 use Rattle.pcl_check.proofs.GoodNumbers.{feasible_good}
 use Rattle.pcl_base.proofs.PageBounds.{height_small}
+use Rattle.pcl_check.proofs.Beginnings.{code_few}
 use Rattle.pcl_cert.specs.declared.check.Verdict.TheVariants as verdicts
 use Rattle.pcl_cert.specs.declared.format.Format.{Format}
 use Rattle.pcl_cert.specs.declared.format.Format.TheVariants.{One, Two}
@@ -26,7 +28,7 @@ use Rattle.pcl_cert.specs.RowTables.{list_of, number_at_place}
 use Rattle.pcl_cert.specs.PageTables.{table_of, AreLeastTablesOf}
 use Rattle.pcl_cert.specs.Certificates.{IsProof, HasLists}
 use Rattle.pcl_cert.specs.Checking.{Tables, AreLeastOf, HasLeastLists, AreOfPage, ArePlacesGood, AreEdgesGood, IsVerdict}
-use Rattle.pcl_cert.proofs.FixedParts.{one_digit, two_digits, fixed_length, code_few}
+use Rattle.pcl_cert.proofs.FixedParts.{one_digit, two_digits, fixed_length}
 use Rattle.pcl_cert.proofs.ProvedLeast.{number_first}
 use Rattle.pcl_cert.proofs.SmallNumbers.{number_small, numbers_small}
 
@@ -140,7 +142,7 @@ table_certified page text table format places is_of printed short has =
     let width : ℕ = page_row_bytes page.size page.dpi in
     let rows = bitmap_rows page.bitmap in
     let are = widths page.size page.dpi rows printed.rows_are in
-    let narrow : width ≤ 600 = row_small page.size page.dpi in
+    let narrow : width ≤ row_limit = row_small page.size page.dpi in
     let few : length rows ≤ 9999 = omega (arith, printed.count, height_small page.size page.dpi) in
     record {
       fits = record {

@@ -1,12 +1,12 @@
 -- Writing certificates: one thing after the other.
-use Rattle.std.proofs.Common.{◌≡◌, ℕ, zero, suc, ◌+◌, ◌*◌, ◌<◌, ◌≤◌, List, [], ◌∷◌, length, take, drop, get_or, refl, sym, ap, ◌∙◌, arith, lit≤}
+use Rattle.std.proofs.Common.{◌≡◌, ℕ, zero, suc, ◌+◌, ◌*◌, ◌<◌, ◌≤◌, List, [], ◌∷◌, length, take, drop, get_or, refl, sym, ap, ◌∙◌, arith}
 use Rattle.std.specs.List.{AllByRecursion}
 use Rattle.std.specs.Int.{w16, from_be_bytes}
 use Rattle.std.proofs.lemmas.List.{get_or_past, drop-drop, length-map}
 use Rattle.pcl_base.specs.declared.dpi.Dpi.{Dpi}
 use Rattle.pcl_base.specs.declared.method.Method.{Method}
-use Rattle.pcl_base.specs.declared.method.Method.TheVariants.{Plain, Runs, Packed, Delta}
 use Rattle.pcl_base.specs.Method.{method_code}
+use Rattle.pcl_output.proofs.TokenCosts.{method_small}
 use Rattle.pcl_cert.specs.declared.format.Format.{Format}
 use Rattle.pcl_cert.specs.declared.format.Format.TheVariants.{One, Two}
 use Rattle.pcl_cert.specs.declared.page_proof.PageProof.{PageProof}
@@ -64,17 +64,11 @@ list_there [] k whole lt d = absurd (omega arith)
 list_there (s ∷ starts) zero whole lt d = whole.0
 list_there (s ∷ starts) (suc k) whole lt d = list_there starts k whole.1 (omega arith) d
 
-code_small : (method : Method) → method_code method < 4
-code_small Plain = lit≤ tt
-code_small Runs = lit≤ tt
-code_small Packed = lit≤ tt
-code_small Delta = lit≤ tt
-
 -- a method's list is one of four
 pub list_within : {self : List (List ℕ)} (bytes starts : List ℕ) (row : ℕ) (method : Method) {code : ℕ} → self ≡ lists_within bytes starts
     → 4 * row + 4 ≤ length self → code ≡ method_code method → 4 * row + code < length starts
 list_within bytes starts row method view there is =
-    omega (arith, ap length view, length-map starts (λ (s : ℕ). list_from (drop s bytes)), there, is, code_small method)
+    omega (arith, ap length view, length-map starts (λ (s : ℕ). list_from (drop s bytes)), there, is, method_small method)
 
 -- the list of a row and a method, by the place where it begins
 pub list_kept : {self : List (List ℕ)} (bytes starts : List ℕ) (row : ℕ) (method : Method) {code start : ℕ}

@@ -1,5 +1,5 @@
 -- The start of a page text, number by number.
-use Rattle.std.proofs.Common.{◌≡◌, ℕ, ◌<◌, ◌≤◌, ◌==◌, Bool, true, false, List, [], ◌∷◌, ◌++◌, Some, None, refl, sym, ap, ◌∙◌, append_assoc, arith, lit≤}
+use Rattle.std.proofs.Common.{◌≡◌, ℕ, ◌<◌, ◌≤◌, ◌==◌, Bool, true, false, List, [], ◌∷◌, ◌++◌, Some, None, refl, sym, ap, ◌∙◌, append_assoc, arith, lit<}
 use Rattle.std.specs.Prelude.{decimal, codes, if◌then◌else◌}
 use Rattle.std.proofs.lemmas.Bool.Decides.{nat_tests}
 use Rattle.std.proofs.lemmas.List.{append_cancel_left}
@@ -28,11 +28,11 @@ pub start_is : (dpi : Dpi) (copies : ℕ) (size : Size) (rest : List ℕ) → st
 start_is dpi copies size rest =
     regroup (decimal copies) (decimal (code_of size)) (decimal (dots_per_inch dpi)) (decimal (page_width size dpi)) rest
 
-pub code_small : (size : Size) → code_of size ≤ 65535
-code_small Executive = lit≤ tt
-code_small Letter = lit≤ tt
-code_small Legal = lit≤ tt
-code_small A4 = lit≤ tt
+pub code_few : (size : Size) → code_of size < 100
+code_few Executive = lit< tt
+code_few Letter = lit< tt
+code_few Legal = lit< tt
+code_few A4 = lit< tt
 
 pub size_coded : (size : Size) → size_with_code (code_of size) ≡ Some size
 size_coded Executive = refl
@@ -78,7 +78,7 @@ copies_read {dpi} {n} {more} {copies} {size} {rest} read is =
 pub no_code : (dpi : Dpi) {text : List ℕ} {n : ℕ} {more : List ℕ} (copies : ℕ) (size : Size) (rest : List ℕ) → IsCopies text n more
     → ((code : ℕ) (behind : List ℕ) → code ≤ 65535 → more ≡ decimal code ++ 97 ∷ behind → ⊥) → BeginsAs dpi text copies size rest → ⊥
 no_code dpi copies size rest read none is =
-    none (code_of size) (raster_start size dpi ++ rest) (code_small size) (copies_read read is).1
+    none (code_of size) (raster_start size dpi ++ rest) (omega (arith, code_few size)) (copies_read read is).1
 
 pub record IsRead (dpi : Dpi) (n code : ℕ) (more : List ℕ) (copies : ℕ) (size : Size) (rest : List ℕ) : Type 0 where
   pub copies_are : n ≡ copies
@@ -91,7 +91,7 @@ size_read {dpi} {code} {more} {size} {rest} read is =
     let first = copies_read
     (record { few = read.few; text_is = read.text_is }) is in
     let second = same_front 97 read.small
-    (let small = code_small size in omega arith) refl first.1 in
+    (let small = code_few size in omega arith) refl first.1 in
     record { copies_are = first.0; code_is = second.0; more_is = second.1 }
 
 pub no_size : (dpi : Dpi) {text : List ℕ} {n code : ℕ} {more : List ℕ} (copies : ℕ) (size : Size) (rest : List ℕ)

@@ -2,9 +2,7 @@
 use Rattle.std.proofs.Common.{◌≡◌, ℕ, zero, suc, ◌+◌, ◌<◌, ◌≤◌, Bool, true, false, List, length, refl, sym, ap, subst, ◌∙◌, inl, inr, arith}
 use Rattle.std.specs.Prelude.{not}
 use Rattle.std.proofs.lemmas.Bool.{cases_lt}
-use Rattle.std.proofs.lemmas.List.{get_or_past}
 use Rattle.pcl_base.specs.declared.method.Method.{Method}
-use Rattle.pcl_base.specs.declared.method.Method.TheVariants.{Plain, Runs, Packed, Delta}
 use Rattle.pcl_base.specs.Method.{method_code}
 use Rattle.pcl_rows.specs.Rows.{IsRowData}
 use Rattle.pcl_coders.specs.Coding.{IsLeastLength}
@@ -14,11 +12,12 @@ use Rattle.pcl_output.specs.Tokens.{Token, opening, method, skip, send, IsSpelle
 use Rattle.pcl_output.specs.declared.node.Node.{Node}
 use Rattle.pcl_output.specs.Nodes.{row_at, row_above, Leads, Ends, cost}
 use Rattle.pcl_output.specs.Spelling.{least_spelling, row_cost}
-use Rattle.pcl_output.specs.Table.{number_in, no_numbers, node_number}
+use Rattle.pcl_output.specs.Table.{node_number}
 use Rattle.pcl_output.proofs.DigitCounts.{count_grows, spelled_long}
 use Rattle.pcl_coders.proofs.Lengths.{length_small}
 use Rattle.pcl_output.proofs.TokenCosts.{spelled_cost, cost_opening, cost_method, cost_skip, cost_send, method_small}
 use Rattle.pcl_output.proofs.Walking.{node}
+use Rattle.pcl_output.proofs.Tables.{number_past}
 use Rattle.pcl_check.specs.Edges.{number_at, IsGoodNumber, AreGoodNumbers, IsLeastOfRow, IsGiven, BoundData}
 
 -- ---- from good numbers
@@ -72,21 +71,6 @@ end_from : (rows : List (List ℕ)) (Counts : ℕ → Method → ℕ → Type 0)
     → IsGoodNumber rows Counts number row current is_open → Ends rows (node row current is_open) → number (node row current is_open) ≡ 0
 end_from rows Counts number true good end = let no : true ≡ false = end.0 in absurd cc
 end_from rows Counts number false good end = good.ends end.1
-
--- after more rows than a table has, its numbers are 0
-none_in : (current : Method) (is_open : Bool) → number_in no_numbers current is_open ≡ 0
-none_in Plain true = refl
-none_in Runs true = refl
-none_in Packed true = refl
-none_in Delta true = refl
-none_in Plain false = refl
-none_in Runs false = refl
-none_in Packed false = refl
-none_in Delta false = refl
-
-number_past : (table : List RowNumbers) (a : Node) → length table ≤ a.row → node_number table a ≡ 0
-number_past table a past =
-    ap (λ (numbers : RowNumbers). number_in numbers a.method a.inside) (get_or_past table a.row no_numbers past) ∙ none_in a.method a.inside
 
 feasible_by_sends : (width : ℕ) {rows : List (List ℕ)} (table : List RowNumbers) (Counts : ℕ → Method → ℕ → Type 0) → length rows ≤ 65535
     → length table ≡ length rows + 1 → AreGoodSends width rows (node_number table) → AreGoodNumbers rows Counts (node_number table)

@@ -6,7 +6,7 @@ use Rattle.pcl_base.specs.declared.dpi.Dpi.{Dpi}
 use Rattle.pcl_base.specs.declared.method.Method.{Method}
 use Rattle.pcl_base.specs.declared.size.Size.{Size}
 use Rattle.pcl_base.specs.Size.{page_row_bytes}
-use Rattle.pcl_output.specs.Tokens.{Token, opening, method, skip, send, token_bytes, PrintsRows, end_bytes}
+use Rattle.pcl_output.specs.Tokens.{Token, opening, method, token_bytes, PrintsRows, end_bytes}
 use Rattle.pcl_output.specs.PageText.{IsRowOf}
 use Rattle.pcl_check.specs.inner.Reading.{LeftOver, RestPrints, GivesRows}
 use Rattle.pcl_check.proofs.Fronts.{left_over, white_rows}
@@ -25,9 +25,7 @@ unfolding PrintsRows
 opened_by [] e n all p = let same : ◌≡◌ {A = ℕ} 98 114 = cc in absurd (omega arith)
 opened_by (opening ∷ tokens) e n all p =
     record { count = n; rows_are = all; tokens = tokens; spelled = cc; prints = p }
-opened_by (method spelled next ends ∷ tokens) e n all p = absurd p
-opened_by (skip spelled count ends ∷ tokens) e n all p = absurd p
-opened_by (send spelled bytes ∷ tokens) e n all p = absurd p
+opened_by (token ∷ tokens) e n all p = absurd p
 
 pub opening_becomes : {size : Size} {dpi : Dpi} {left : LeftOver} {rest : List ℕ} → left.inside ≡ false → left.text ≡ opening_bytes ++ rest
     → GivesRows size dpi left [] (left_over true left.method left.above left.rows rest)
@@ -55,9 +53,7 @@ outside_by : (current : Method) (above : List ℕ) {text : List ℕ} (tokens : L
 unfolding PrintsRows
 outside_by current above [] rows not_open not_end e p = not_end e
 outside_by current above (opening ∷ tokens) rows not_open not_end e p = not_open (flat_map token_bytes tokens ++ end_bytes) e
-outside_by current above (method spelled next ends ∷ tokens) rows not_open not_end e p = p
-outside_by current above (skip spelled count ends ∷ tokens) rows not_open not_end e p = p
-outside_by current above (send spelled bytes ∷ tokens) rows not_open not_end e p = p
+outside_by current above (token ∷ tokens) rows not_open not_end e p = p
 
 pub no_opening : {size : Size} {dpi : Dpi} {left : LeftOver} {rows : List (List ℕ)} → left.inside ≡ false
     → ((rest : List ℕ) → left.text ≡ opening_bytes ++ rest → ⊥) → (left.text ≡ end_bytes → ⊥) → RestPrints size dpi left rows → ⊥
@@ -73,9 +69,7 @@ ended_by : (size : Size) (dpi : Dpi) (current : Method) (above : List ℕ) (toke
 unfolding PrintsRows
 ended_by size dpi current above [] {rows} e all p = all_white size dpi rows all p
 ended_by size dpi current above (opening ∷ tokens) e all p = let same : ◌≡◌ {A = ℕ} 114 98 = cc in absurd (omega arith)
-ended_by size dpi current above (method spelled next ends ∷ tokens) e all p = absurd p
-ended_by size dpi current above (skip spelled count ends ∷ tokens) e all p = absurd p
-ended_by size dpi current above (send spelled bytes ∷ tokens) e all p = absurd p
+ended_by size dpi current above (token ∷ tokens) e all p = absurd p
 
 pub end_only : {size : Size} {dpi : Dpi} {left : LeftOver} {rows : List (List ℕ)} → left.inside ≡ false → left.text ≡ end_bytes
     → RestPrints size dpi left rows → rows ≡ white_rows size dpi left.rows

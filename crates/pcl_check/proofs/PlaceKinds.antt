@@ -4,43 +4,56 @@ use Rattle.std.specs.Prelude.{slice_index}
 use Rattle.std.proofs.lemmas.Bool.{cases_lt}
 use Rattle.std.proofs.lemmas.List.{ext_get_or, get_or-take, get_or-drop, length-drop, length-take-le, take-take, take-replicate}
 use Rattle.pcl_base.proofs.Lists.{alike_at}
+use Rattle.pcl_base.specs.Limits.{row_limit}
 use Rattle.pcl_coders.specs.inner.Replacement.{replacement_bytes}
 use Rattle.pcl_coders.proofs.Prefixes.{run_len_of}
 use Rattle.pcl_coders.proofs.Shapes.{near_bytes, far_bytes}
 use Rattle.pcl_check.specs.inner.EdgePasses.{AreEnds}
 use Rattle.pcl_check.specs.inner.PlacePasses.{IsNotUndercut, AreGoodRuns, AreGoodLiterals, AreGoodReplacements, AreRunStops, AreStartEnds, ArePlaced, AreBehindStarts}
 
--- ---- runs
+-- ---- where steps stop at the latest
 
-pub run_ends_known : (row ends : List ℕ) → length row ≤ 600 → AreRunStops row ends 0 → AreEnds ends (length row)
-run_ends_known row ends small are = record {
-  size = are.size;
+-- it is known where each stop is behind its place and within the row, and none is before one of an earlier place
+ends_known : (row : List ℕ) {ends : List ℕ} → length row ≤ row_limit → length ends ≡ length row + 1
+    → slice_index ends (length row) ≡ length row
+    → ((place : ℕ) → place < length row → (place < slice_index ends place) × (slice_index ends place ≤ length row))
+    → ((place : ℕ) → place + 1 < length row → slice_index ends (place + 1) < slice_index ends place → ⊥) → AreEnds ends (length row)
+ends_known row {ends} small size last stops falls = record {
+  size = size;
   few = omega arith;
   above = λ place le.
       elim (cases_lt place (length row)) [
-        | inl inside ↦ omega (arith, (are.runs place (omega arith) inside).after)
-        | inr past ↦ let at : length row ≡ place = omega arith in omega (arith, are.last, ap (slice_index ends) at)
+        | inl inside ↦ omega (arith, (stops place inside).0)
+        | inr past ↦ let at : length row ≡ place = omega arith in omega (arith, last, ap (slice_index ends) at)
       ];
   within = λ place le.
       elim (cases_lt place (length row)) [
-        | inl inside ↦ (are.runs place (omega arith) inside).within
-        | inr past ↦ let at : length row ≡ place = omega arith in omega (arith, are.last, ap (slice_index ends) at)
+        | inl inside ↦ (stops place inside).1
+        | inr past ↦ let at : length row ≡ place = omega arith in omega (arith, last, ap (slice_index ends) at)
       ];
   grow = λ place inside.
-      let here = are.runs place (omega arith) inside in
       elim (cases_lt (place + 1) (length row)) [
-        | inr last ↦ let at : length row ≡ place + 1 = omega arith in omega (arith, are.last, ap (slice_index ends) at, here.within)
+        | inr past ↦ let at : length row ≡ place + 1 = omega arith in omega (arith, last, ap (slice_index ends) at, (stops place inside).1)
         | inl next ↦
-            let behind = are.runs (place + 1) (omega arith) next in
             elim (cases_lt (slice_index ends (place + 1)) (slice_index ends place)) [
               | inr grows ↦ grows
-              | inl falls ↦
-                  absurd (behind.differs (omega (arith, falls, here.within))
-                  (here.same (slice_index ends (place + 1)) (omega (arith, behind.after)) falls
-                  ∙ sym (here.same (place + 1) (omega arith) (omega (arith, behind.after, falls)))))
+              | inl less ↦ absurd (falls place next less)
             ]
       ];
 }
+
+-- ---- runs
+
+pub run_ends_known : (row ends : List ℕ) → length row ≤ row_limit → AreRunStops row ends 0 → AreEnds ends (length row)
+run_ends_known row ends small are =
+    ends_known row small are.size are.last
+    (λ place inside. let here = are.runs place (omega arith) inside in (here.after, here.within))
+    (λ place next less.
+    let here = are.runs place (omega arith) (omega arith) in
+    let behind = are.runs (place + 1) (omega arith) next in
+    behind.differs (omega (arith, less, here.within))
+    (here.same (slice_index ends (place + 1)) (omega (arith, behind.after)) less
+    ∙ sym (here.same (place + 1) (omega arith) (omega (arith, behind.after, less)))))
 
 pub runs_by_window : {row : List ℕ} (numbers : List ℕ) {ends : List ℕ} {most place : ℕ} → AreRunStops row ends 0
     → IsNotUndercut numbers numbers ends 2 most place → AreGoodRuns row numbers most place
@@ -108,34 +121,15 @@ window_by_literals numbers sums ends {place} placed size all inside good = λ st
 
 -- ---- replacements
 
-pub start_ends_known : (old row ends : List ℕ) → length row ≤ 600 → AreStartEnds old row ends 0 → AreEnds ends (length row)
-start_ends_known old row ends small are = record {
-  size = are.size;
-  few = omega arith;
-  above = λ place le.
-      elim (cases_lt place (length row)) [
-        | inl inside ↦ omega (arith, (are.starts place (omega arith) inside).after)
-        | inr past ↦ let at : length row ≡ place = omega arith in omega (arith, are.last, ap (slice_index ends) at)
-      ];
-  within = λ place le.
-      elim (cases_lt place (length row)) [
-        | inl inside ↦ (are.starts place (omega arith) inside).within
-        | inr past ↦ let at : length row ≡ place = omega arith in omega (arith, are.last, ap (slice_index ends) at)
-      ];
-  grow = λ place inside.
-      let here = are.starts place (omega arith) inside in
-      elim (cases_lt (place + 1) (length row)) [
-        | inr last ↦ let at : length row ≡ place + 1 = omega arith in omega (arith, are.last, ap (slice_index ends) at, here.within)
-        | inl next ↦
-            let behind = are.starts (place + 1) (omega arith) next in
-            elim (cases_lt (slice_index ends (place + 1)) (slice_index ends place)) [
-              | inr grows ↦ grows
-              | inl falls ↦
-                  absurd (behind.differs (omega (arith, falls, here.within))
-                  (here.same (slice_index ends (place + 1) - 1) (omega (arith, behind.after)) (omega (arith, behind.after, falls))))
-            ]
-      ];
-}
+pub start_ends_known : (old row ends : List ℕ) → length row ≤ row_limit → AreStartEnds old row ends 0 → AreEnds ends (length row)
+start_ends_known old row ends small are =
+    ends_known row small are.size are.last
+    (λ place inside. let here = are.starts place (omega arith) inside in (here.after, here.within))
+    (λ place next less.
+    let here = are.starts place (omega arith) (omega arith) in
+    let behind = are.starts (place + 1) (omega arith) next in
+    behind.differs (omega (arith, less, here.within))
+    (here.same (slice_index ends (place + 1) - 1) (omega (arith, behind.after)) (omega (arith, behind.after, less))))
 
 -- a replacement starts at the first byte that differs, or before it
 start_within : {old row ends : List ℕ} (place offset : ℕ) {len : ℕ} → AreStartEnds old row ends 0 → 0 < len
@@ -177,7 +171,7 @@ pub record AreKeptStarts (numbers sums ends : List ℕ) (place : ℕ) : Type 0 w
   pub four : IsNotUndercut numbers sums ends 4 796 place
 
 -- what a start costs at least
-start_cost : {numbers sums ends : List ℕ} {place : ℕ} (offset : ℕ) → AreKeptStarts numbers sums ends place → offset < 600
+start_cost : {numbers sums ends : List ℕ} {place : ℕ} (offset : ℕ) → AreKeptStarts numbers sums ends place → offset < row_limit
     → place + offset + 1 ≤ slice_index ends place
     → slice_index numbers place ≤ replacement_bytes offset + slice_index sums (place + offset + 1)
 start_cost {place} offset kept small within =
@@ -194,7 +188,7 @@ start_cost {place} offset kept small within =
           ]
     ]
 
-pub replacements_by_windows : {old row numbers sums ends : List ℕ} {place : ℕ} → length row ≤ 600 → length numbers ≡ length row + 1
+pub replacements_by_windows : {old row numbers sums ends : List ℕ} {place : ℕ} → length row ≤ row_limit → length numbers ≡ length row + 1
     → AreStartEnds old row ends 0 → AreBehindStarts numbers sums → AreKeptStarts numbers sums ends place
     → AreGoodReplacements old row numbers place
 replacements_by_windows {old} {row} {numbers} {ends} {place} small size are behind kept = λ offset len some few within alike.

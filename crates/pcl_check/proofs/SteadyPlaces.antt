@@ -8,11 +8,11 @@ use Rattle.pcl_coders.specs.inner.Replacement.{replacement_bytes}
 use Rattle.pcl_coders.proofs.Ends.{ends_at}
 use Rattle.pcl_coders.proofs.Shapes.{near_bytes, far_bytes}
 use Rattle.pcl_check.specs.inner.PlacePasses.{IsGoodEnd, AreGoodRuns, AreGoodLiterals, AreGoodReplacements}
-use Rattle.pcl_check.specs.inner.SteadyNumbers.{IsSteady, IsNeedEnd, FallsByRun, FallsByStart, AreLeastSums, TakesBehind, IsKeptBefore}
+use Rattle.pcl_check.specs.inner.SteadyNumbers.{most_number, IsSteady, IsNeedEnd, FallsByRun, FallsByStart, AreLeastSums, TakesBehind, IsKeptBefore}
 
 -- ---- steady numbers
 
-pub steady_by : {numbers : List ℕ} → slice_index numbers 0 ≤ 1200
+pub steady_by : {numbers : List ℕ} → slice_index numbers 0 ≤ most_number
     → ((k : ℕ) → k + 1 < length numbers → slice_index numbers (k + 1) ≤ slice_index numbers k) → IsSteady numbers
 steady_by {numbers} small falls =
     let on : (place later : ℕ) → place ≤ later → slice_index numbers later ≤ slice_index numbers place =

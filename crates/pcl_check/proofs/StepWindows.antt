@@ -27,20 +27,21 @@ window_begins {value} none = record {
   numbers_are = none ∙ sym (no_values value 0 (omega arith));
 }
 
--- where it goes on to
-pub window_next : {ends : List ℕ} {last : ℕ} {value : ℕ → ℕ} {most : ℕ} {numbers filled taken : List ℕ} {place stop : ℕ}
-    → AreEnds ends last → place ≤ last → 0 < most → IsStepWindow ends value most numbers place stop
-    → filled ≡ numbers ++ values value stop (last_of ends most place + 1 - stop) → taken ≡ drop 1 filled
+-- where it goes on to, filled up to the farthest place that a step leads to
+pub window_next : {ends : List ℕ} {last : ℕ} {value : ℕ → ℕ} {most : ℕ} {numbers filled taken : List ℕ} {place stop far : ℕ}
+    → AreEnds ends last → place ≤ last → 0 < most → IsStepWindow ends value most numbers place stop → far ≡ last_of ends most place
+    → filled ≡ numbers ++ values value stop (far + 1 - stop) → taken ≡ drop 1 filled
     → (0 < length filled) × (taken ≡ values value (place + 1) (last_of ends most place - place))
     × IsStepWindow ends value most taken (place + 1) (last_of ends most place + 1)
-window_next {ends} {value} {most} {filled} {taken} {place} {stop} are le some is put took =
+window_next {ends} {value} {most} {numbers} {filled} {taken} {place} {stop} are le some is farthest put took =
     let end : ℕ = last_of ends most place + 1 in
     let above = are.above place le in
     let room : stop ≤ end = omega (arith, is.before (omega (arith, are.size)), is.near) in
     let start : place + (stop - place) ≡ stop = omega (arith, is.order) in
     let count : stop - place + (end - stop) ≡ end - place = omega (arith, is.order, room) in
     let all : filled ≡ values value place (end - place) =
-    put ∙ ap (λ (front : List ℕ). front ++ values value stop (end - stop)) is.numbers_are
+    put ∙ ap (λ (n : ℕ). numbers ++ values value stop (n + 1 - stop)) farthest
+    ∙ ap (λ (front : List ℕ). front ++ values value stop (end - stop)) is.numbers_are
     ∙ ap (λ (from : ℕ). values value place (stop - place) ++ values value from (end - stop)) (sym start)
     ∙ sym (values_joined value place (stop - place) (end - stop)) ∙ ap (values value place) count in
     let less : end - place - 1 ≡ last_of ends most place - place = omega arith in

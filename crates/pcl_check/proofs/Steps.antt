@@ -1,5 +1,5 @@
 -- Steps of the reader, from the contracts of what it calls.
-use Rattle.std.proofs.Common.{◌≡◌, ℕ, zero, suc, ◌+◌, ◌-◌, ◌<◌, ◌≤◌, ◌⊎◌, ◌==◌, min, Bool, true, false, IsTrue, List, [], ◌∷◌, ◌++◌, length, take, drop, replicate, Option, Some, None, inl, inr, refl, sym, ap, subst, ◌∙◌, arith, lit≤}
+use Rattle.std.proofs.Common.{◌≡◌, ℕ, zero, suc, ◌+◌, ◌-◌, ◌<◌, ◌≤◌, ◌⊎◌, ◌==◌, min, Bool, true, false, IsTrue, List, [], ◌∷◌, ◌++◌, length, take, drop, replicate, Option, Some, None, inl, inr, refl, sym, ap, subst, ◌∙◌, arith}
 use Rattle.std.specs.Prelude.{not, ◌↔◌}
 use Rattle.std.specs.Borrow.{Bor}
 use Rattle.std.proofs.lemmas.List.{length-append, length-replicate}
@@ -8,9 +8,7 @@ use Rattle.pcl_base.proofs.Lists.{same_fronts}
 use Rattle.pcl_base.specs.declared.method.Method.{Method}
 use Rattle.pcl_base.specs.declared.method.Method.TheVariants.{Plain, Runs, Packed, Delta}
 use Rattle.pcl_base.specs.declared.dpi.Dpi.{Dpi}
-use Rattle.pcl_base.specs.declared.dpi.Dpi.TheVariants.{Dpi300, Dpi600}
 use Rattle.pcl_base.specs.declared.size.Size.{Size}
-use Rattle.pcl_base.specs.declared.size.Size.TheVariants.{Executive, Letter, Legal, A4}
 use Rattle.pcl_base.specs.Method.{method_code, method_with_code}
 use Rattle.pcl_base.specs.Size.{page_height, page_row_bytes}
 use Rattle.pcl_bitmap.specs.Bitmap.{Picture}
@@ -18,6 +16,7 @@ use Rattle.pcl_base.specs.Digits.{number_of}
 use Rattle.pcl_base.proofs.PageBounds.{height_small}
 use Rattle.pcl_output.specs.PageText.{IsRowOf, bitmap_rows}
 use Rattle.pcl_rows.specs.Rows.{IsRowData}
+use Rattle.pcl_output.proofs.TokenCosts.{method_small}
 use Rattle.pcl_check.specs.declared.reading.body.Place.{Place}
 use Rattle.pcl_check.specs.declared.reading.parameter.Parameter.{Parameter}
 use Rattle.pcl_check.specs.inner.Reading.{LeftOver, IsParameter, RestPrints, GivesRows, left_at, AreRowsAt, IsStep}
@@ -42,12 +41,6 @@ cased (inl e) = (true, e, grind (arith, nat_tests))
 cased (inr e) = (false, e, grind (arith, nat_tests))
 
 -- ---- methods
-
-few_codes : (m : Method) → method_code m ≤ 3
-few_codes Plain = omega arith
-few_codes Runs = omega arith
-few_codes Packed = omega arith
-few_codes Delta = omega arith
 
 none_past : (n : ℕ) → 3 < n → method_with_code n ≡ None
 none_past n lt =
@@ -80,7 +73,7 @@ no_switch picture {size} {above} place {parameter} inside is letter none = λ ro
     no_method signed.0
     (told picture size above place parameter inside is) signed.1
     (λ next e.
-    let le = few_codes next in
+    let le = method_small next in
     let number : parameter.number ≡ method_code next = omega (arith, is.number_is) in
     let some : Some next ≡ None = sym (with_code next) ∙ ap method_with_code (sym number) ∙ none in
     absurd cc)
@@ -99,7 +92,7 @@ pub switched : {picture : Picture} {size : Size} {above : List ℕ} {place : Pla
 switched {picture} {size} {above} {place} {parameter} {next} inside is letter some within =
     let signed = cased letter in
     let number = of_code parameter.number some in
-    let le = few_codes next in
+    let le = method_small next in
     let spelled : number_of parameter.digits.now ≡ method_code next = omega (arith, is.number_is, number) in
     let left = left_at size picture.dpi place above in (
       record {

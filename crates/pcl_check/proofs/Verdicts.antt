@@ -5,9 +5,6 @@ use Rattle.std.specs.List.{flat_map}
 use Rattle.std.proofs.lemmas.List.{take_all, append_cancel_left, append_assoc}
 use Rattle.pcl_base.specs.declared.dpi.Dpi.{Dpi}
 use Rattle.pcl_base.specs.declared.size.Size.{Size}
-use Rattle.pcl_base.specs.declared.size.Size.TheVariants.{Executive, Letter, Legal, A4}
-use Rattle.pcl_base.specs.contracts.size.Size.{the_type}
-use denote.Enum.Bare.{sameb}
 use Rattle.pcl_base.specs.Size.{page_height, page_row_bytes, code_of, size_with_code}
 use Rattle.pcl_bitmap.specs.Bitmap.{Picture}
 use Rattle.pcl_output.specs.Tokens.{token_bytes, start_bytes, end_bytes}
@@ -16,7 +13,7 @@ use Rattle.pcl_output.proofs.RowsFrom.{length_rows}
 use Rattle.pcl_check.specs.declared.reading.start.Start.{Start}
 use Rattle.pcl_check.specs.inner.Reading.{IsStart, RestPrints, body_of, IsBodyVerdict, raster_start}
 use Rattle.pcl_check.specs.TextVerdicts.{IsSomePageText}
-use Rattle.pcl_check.proofs.Beginnings.{start_is, code_small, size_coded, size_read, IsSize}
+use Rattle.pcl_check.proofs.Beginnings.{start_is, code_few, size_coded, size_read, IsSize}
 
 -- ---- a begin and a body
 
@@ -52,7 +49,7 @@ pub one_start : (dpi : Dpi) {text : List ℕ} {copies other : ℕ} {size other_s
     → text ≡ start_bytes dpi copies size ++ rest → text ≡ start_bytes dpi other other_size ++ behind
     → IsSameStart copies other size other_size rest behind
 one_start dpi {text} {copies} {size} {other_size} {rest} {behind} few less e f =
-    let small = code_small size in
+    let small = code_few size in
     let read : IsSize text copies (code_of size) (raster_start size dpi ++ rest) =
     record { few = omega arith; small = omega arith; text_is = e ∙ start_is dpi copies size rest } in
     let found = size_read read
@@ -138,32 +135,3 @@ other_page {picture} start begun may only is =
     subst (λ (z : List (List ℕ)). z ≡ take (length z) all) same (sym (take_all (length all) all (omega arith))) in
     let yes : false ≡ true = only.same.1 (may.1 (body.1, body.0), front) in
     cc
-
--- ---- sizes that are compared
-
-pub same_sizes : (a b : Size) → sameb the_type a b ≡ true → a ≡ b
-same_sizes Executive Executive e = refl
-same_sizes Executive Letter e = absurd cc
-same_sizes Executive Legal e = absurd cc
-same_sizes Executive A4 e = absurd cc
-same_sizes Letter Executive e = absurd cc
-same_sizes Letter Letter e = refl
-same_sizes Letter Legal e = absurd cc
-same_sizes Letter A4 e = absurd cc
-same_sizes Legal Executive e = absurd cc
-same_sizes Legal Letter e = absurd cc
-same_sizes Legal Legal e = refl
-same_sizes Legal A4 e = absurd cc
-same_sizes A4 Executive e = absurd cc
-same_sizes A4 Letter e = absurd cc
-same_sizes A4 Legal e = absurd cc
-same_sizes A4 A4 e = refl
-
-size_itself : (a : Size) → sameb the_type a a ≡ true
-size_itself Executive = refl
-size_itself Letter = refl
-size_itself Legal = refl
-size_itself A4 = refl
-
-pub sizes_same : {a b : Size} → a ≡ b → sameb the_type a b ≡ true
-sizes_same {a} e = subst (λ (z : Size). sameb the_type a z ≡ true) e (size_itself a)

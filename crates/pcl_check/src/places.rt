@@ -7,6 +7,7 @@ mod windows;
 
 ghost use Rattle.std.specs.Prelude.{◌≡◌, ℕ, ◌+◌, ◌-◌, ◌<◌, ◌≤◌, length, replicate, slice_index};
 ghost use Rattle.pcl_base.specs.declared.method.Method.TheVariants as methods;
+ghost use Rattle.pcl_base.specs.Limits.{row_limit};
 ghost use Rattle.pcl_rows.specs.Rows.{base};
 ghost use Rattle.pcl_coders.specs.Coding.{IsCodable};
 ghost use Rattle.pcl_check.specs.Places.{FindsPlace, FindsBadPlace};
@@ -62,7 +63,7 @@ fn first_bad_end(old: &[u8], row: &[u8], numbers: &[u16]) -> Option<usize>
 /// The first place whose number an element undercuts.
 fn first_bad_step(method: Method, old: &[u8], row: &[u8], numbers: &[u16]) -> Option<usize>
     requires same { length old.now ≡ length row.now }
-    requires small { length row.now ≤ 600 }
+    requires small { length row.now ≤ row_limit }
     requires size { length numbers.now ≡ length row.now + 1 }
     ensures { FindsPlace (AreGoodSteps method old.now row.now numbers.now) (length row.now) result }
 {
@@ -107,7 +108,7 @@ fn first_bad_run(
     wide: &mut [u32],
     ends: &mut [u32],
 ) -> Option<usize>
-    requires small { length row.now ≤ 600 }
+    requires small { length row.now ≤ row_limit }
     requires size { length numbers.now ≡ length row.now + 1 }
     requires room { (length wide.old ≡ length row.now + 1) × (length ends.old ≡ length row.now + 1) }
     requires most { (0 < most) × (most ≤ 256) }
@@ -121,7 +122,7 @@ fn first_bad_run(
 /// Method 2: the first place whose number a literal undercuts.
 fn first_bad_literal(numbers: &[u16], sums: &mut [u32], ends: &mut [u32]) -> Option<usize>
     requires some { 0 < length numbers.now }
-    requires small { length numbers.now ≤ 601 }
+    requires small { length numbers.now ≤ row_limit + 1 }
     requires room { (length sums.old ≡ length numbers.now) × (length ends.old ≡ length numbers.now) }
     ensures { FindsPlace (AreGoodLiterals numbers.now) (length numbers.now - 1) result }
 {
@@ -143,7 +144,7 @@ fn first_bad_replacement(
     ends: &mut [u32],
 ) -> Option<usize>
     requires same { length old.now ≡ length row.now }
-    requires small { length row.now ≤ 600 }
+    requires small { length row.now ≤ row_limit }
     requires size { length numbers.now ≡ length row.now + 1 }
     requires room { (length wide.old ≡ length row.now + 1) × (length sums.old ≡ length row.now + 1)
         × (length ends.old ≡ length row.now + 1) }

@@ -1,12 +1,11 @@
 //! A check: a written job beside its input, by a certificate, each from a file.
 
-ghost use Rattle.pcl_tool.specs.Transfer.{IsWritten};
 ghost use Rattle.pcl_command.specs.Checks.{IsCheckRun, IsFileRead};
 
 use crate::files::JobFiles;
 use crate::request::CheckedFiles;
 use crate::verdicts::verdict_line;
-use pcl_tool::{Fault, INPUT_LIMIT, JobVerdict, Watcher, check_job_watched, read_all, write_bytes};
+use pcl_tool::{Fault, INPUT_LIMIT, JobVerdict, Watcher, check_job_watched, read_all, write_all};
 use std::alloc::Global;
 use std::io::Write;
 
@@ -27,19 +26,8 @@ pub fn check<F: JobFiles, W: Write, P: Watcher>(
     let certificate = read_file(files, alloc, asked.certificate)?;
     let verdict = check_job_watched(alloc, &input, &output, &certificate, asked.dpi, watcher)?;
     let line = verdict_line(alloc, &verdict)?;
-    write_line(out, &line)?;
+    write_all(out, &line)?;
     Ok(verdict)
-}
-
-/// Writes a line, and flushes. After a fault a prefix of it was written.
-pub fn write_line<W: Write>(out: &mut W, line: &[u8]) -> Result<(), Fault>
-    ensures { IsWritten (W.contents out.old) (W.contents out.new) line.now result }
-{
-    write_bytes(out, line)?;
-    match out.flush() {
-        Ok(()) => Ok(()),
-        Err(_) => Err(Fault::WriteFault),
-    }
 }
 
 /// The bytes of the file of a name. ReadFault comes too where it can't be opened.

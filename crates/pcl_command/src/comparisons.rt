@@ -5,14 +5,14 @@ ghost use Rattle.pcl_tool.specs.declared.fault.Fault.TheVariants.{Memory};
 ghost use Rattle.pcl_command.specs.declared.comparisons.CompareFault.TheVariants.{Failed};
 ghost use Rattle.pcl_command.specs.Comparisons.{compare_fault_of, IsCompareRun};
 
-use crate::checks::{read_file, write_line};
+use crate::checks::read_file;
 use crate::comparison_lines::comparison_line;
 use crate::difference_images::draw_difference;
 use crate::files::JobFiles;
 use crate::request::ComparedFiles;
 use pcl_base::Refusal;
 use pcl_same::{Comparison, Job, SameFault, same};
-use pcl_tool::Fault;
+use pcl_tool::{Fault, write_all};
 use std::alloc::{AllocError, Global};
 use std::io::Write;
 
@@ -67,6 +67,6 @@ pub fn compare<F: JobFiles, W: Write>(
     let comparison = same(alloc, &first, &second, asked.dpi)?;
     let line = comparison_line(alloc, &comparison)?;
     draw_difference(files, alloc, asked, &first, &second, &comparison)?;
-    write_line(out, &line)?;
+    write_all(out, &line)?;
     Ok(comparison)
 }

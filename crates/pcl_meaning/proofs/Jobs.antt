@@ -216,15 +216,15 @@ texts_taken [] {t} {pages} {n} p b few = record {
   few = omega arith;
 }
 texts_taken {dpi} (sheet ∷ meant) {t} {pages} {n} p b few =
-    let page = p.0 in
-    let shows = p.3 in
-    let written = at_resolution page shows.resolution p.4 in
+    let page = p.2.0 in
+    let shows = p.2.1 in
+    let written = at_resolution page shows.resolution p.2.2 in
     let printed = written.0 in
     let deeds = text_deeds dpi page.size page.copies printed.tokens in
     let one = text_taken printed b (omega arith) in
     let again : Sheet = record { size = page.size; copies = page.copies; marks = one.inked } in
     let more = pages ++ again ∷ [] in
-    let rest = texts_taken meant p.6 one.stands (omega (arith, length-append pages (again ∷ []))) in
+    let rest = texts_taken meant p.4 one.stands (omega (arith, length-append pages (again ∷ []))) in
     let middle = between one.settings more one.count in
     let last = between rest.settings (pages ++ (again ∷ rest.again)) rest.count in
     let behind : Leads dpi rest.deeds middle last =
@@ -232,7 +232,7 @@ texts_taken {dpi} (sheet ∷ meant) {t} {pages} {n} p b few =
     (append_assoc pages (again ∷ []) rest.again) rest.leads in
     record {
       deeds = deeds ++ rest.deeds;
-      read = subst (λ (bytes : List ℕ). ReadsAs bytes (deeds ++ rest.deeds)) (sym p.5)
+      read = subst (λ (bytes : List ℕ). ReadsAs bytes (deeds ++ rest.deeds)) (sym p.3)
           (reads_joined (text_read printed) rest.read);
       again = again ∷ rest.again;
       settings = rest.settings;

@@ -63,11 +63,11 @@ pub least_together : (dpi : Dpi) (sheets : List Sheet) (texts others : List ℕ)
     → length texts ≤ length others
 least_together dpi [] texts others l p = let none : length texts ≡ 0 = ap length l in omega arith
 least_together dpi (sheet ∷ sheets) texts others l p =
-    let rest = least_together dpi sheets l.2 p.2 l.6 p.6 in
-    let first : length l.1 ≤ length p.1 =
-    l.4.1 p.1 (prints_same (pages_same p.3 l.3) p.4) in
-    let texts_are = ap length l.5 ∙ length-append l.1 l.2 in
-    let others_are = ap length p.5 ∙ length-append p.1 p.2 in omega (arith, texts_are, others_are, rest, first)
+    let rest = least_together dpi sheets l.1 p.1 l.4 p.4 in
+    let first : length l.0 ≤ length p.0 =
+    l.2.2.1 p.0 (prints_same (pages_same p.2.1 l.2.1) p.2.2) in
+    let texts_are = ap length l.3 ∙ length-append l.0 l.1 in
+    let others_are = ap length p.3 ∙ length-append p.0 p.1 in omega (arith, texts_are, others_are, rest, first)
 
 pub least_job : {dpi : Dpi} {sheets : List Sheet} (texts : List ℕ) {job : List ℕ} → PrintEach PrintsShortest dpi sheets texts
     → job ≡ frame_bytes ++ texts ++ frame_bytes → IsLeastJobText dpi sheets job

@@ -8,12 +8,16 @@ use Rattle.pcl_page.specs.Performing.{Shows}
 use Rattle.pcl_output.specs.Tokens.{frame_bytes}
 use Rattle.pcl_output.specs.PageText.{PrintsPage}
 
--- texts one after the other, one for each sheet in order: this holds of each and of a page that shows its sheet dot for dot
+-- texts one after the other, one for each item in order, and this holds of each item and its text
+abbrev pub AreTexts : {A : Type 0} → (A → List ℕ → Type 0) → List A → List ℕ → Type 0
+AreTexts Holds [] texts = texts ≡ []
+AreTexts Holds (item ∷ items) texts =
+    (text rest : List ℕ) × Holds item text × (texts ≡ text ++ rest) × AreTexts Holds items rest
+
+-- a text for each sheet: this holds of it and of a page that shows the sheet dot for dot
 abbrev pub PrintEach : (Page → List ℕ → Type 0) → Dpi → List Sheet → List ℕ → Type 0
-PrintEach Holds dpi [] texts = texts ≡ []
-PrintEach Holds dpi (sheet ∷ sheets) texts =
-    (page : Page) × (text rest : List ℕ) × Shows dpi page sheet × Holds page text × (texts ≡ text ++ rest)
-    × PrintEach Holds dpi sheets rest
+PrintEach Holds dpi sheets texts =
+    AreTexts (λ (sheet : Sheet) (text : List ℕ). (page : Page) × Shows dpi page sheet × Holds page text) sheets texts
 
 -- no text that prints the page is shorter
 abbrev pub IsShortest : Page → List ℕ → Type 0

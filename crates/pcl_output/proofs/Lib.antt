@@ -4,6 +4,7 @@ pub mod RowsFrom
 pub mod Texts
 pub mod DigitCounts
 pub mod Switching
+pub mod Tables
 pub mod TokenCosts
 pub mod WhiteRows
 pub mod Examples

@@ -10,7 +10,7 @@ use Rattle.pcl_output.specs.declared.table.RowNumbers.{RowNumbers}
 use Rattle.pcl_output.specs.declared.step.Step.{Step}
 use Rattle.pcl_output.specs.declared.step.Step.TheVariants.{Skip, Switch, Row}
 use Rattle.pcl_output.specs.declared.node.Node.{Node}
-use Rattle.pcl_output.specs.Tokens.{Token, opening, method, skip, send, IsSpelled}
+use Rattle.pcl_output.specs.Tokens.{Token, method, skip, send, IsSpelled}
 use Rattle.pcl_output.specs.Nodes.{start, Leads, Ends, cost, stays_inside}
 use Rattle.pcl_output.specs.Spelling.{least_spelling}
 use Rattle.pcl_output.specs.Table.{node_number, outside, inside, rest}
@@ -154,10 +154,8 @@ token_at_end step token e t = subst (λ (o : Bool). IsTokenOf step o token) e t
 row_token : (step : Step) (one two : Bool) (token : Token) → stays_inside step ≡ false → IsTokenOf step one token → IsTokenOf step two token
 row_token (Skip count) one two token e t = let never : true ≡ false = e in absurd cc
 row_token (Switch next) one two token e t = let never : true ≡ false = e in absurd cc
-row_token (Row bytes) one two opening e t = absurd t
-row_token (Row bytes) one two (method digits next capital) e t = absurd t
-row_token (Row bytes) one two (skip digits count capital) e t = absurd t
 row_token (Row bytes) one two (send digits written) e t = t
+row_token (Row bytes) one two token e t = absurd t
 
 opened_walk : (width : ℕ) (rows : List (List ℕ)) (row : ℕ) (current : Method) (is_open : Bool) (tokens : List Token)
     → Walk (Leads width rows) (Ends rows) (node row current true) tokens

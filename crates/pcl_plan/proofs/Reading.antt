@@ -1,11 +1,9 @@
 -- Steps are read off a table that is right.
-use Rattle.std.proofs.Common.{◌≡◌, ℕ, ◌+◌, ◌<◌, ◌≤◌, Bool, true, false, List, [], ◌∷◌, length, drop, refl, sym, ap, subst, ◌∙◌, inl, inr, arith}
+use Rattle.std.proofs.Common.{◌≡◌, ℕ, ◌+◌, ◌<◌, ◌≤◌, true, false, List, [], ◌∷◌, length, drop, refl, sym, ap, subst, ◌∙◌, inl, inr, arith}
 use Rattle.std.specs.Prelude.{not}
 use Rattle.std.proofs.lemmas.Bool.{cases_lt}
 use Rattle.std.proofs.Math.ListN.{drop_of_length-le}
-use Rattle.std.proofs.lemmas.List.{get_or_past}
 use Rattle.pcl_base.specs.declared.method.Method.{Method}
-use Rattle.pcl_base.specs.declared.method.Method.TheVariants.{Plain, Runs, Packed, Delta}
 use Rattle.pcl_base.specs.Method.{method_code}
 use Rattle.pcl_rows.specs.Rows.{IsRowData}
 use Rattle.pcl_coders.specs.Coding.{IsLeastLength}
@@ -16,7 +14,7 @@ use Rattle.pcl_output.specs.Tokens.{Token, opening, method, skip, send, IsSpelle
 use Rattle.pcl_output.specs.declared.node.Node.{Node}
 use Rattle.pcl_output.specs.Nodes.{row_at, row_above, Leads, Ends, cost}
 use Rattle.pcl_output.specs.Spelling.{least_spelling, switching, row_cost}
-use Rattle.pcl_output.specs.Table.{number_in, no_numbers, node_number, outside, inside, rest}
+use Rattle.pcl_output.specs.Table.{node_number, outside, inside, rest}
 use Rattle.pcl_plan.specs.inner.Filling.{skipping, IsReadable, AreRightFrom}
 use Rattle.pcl_output.specs.inner.WhiteRows.{AreSkippable, IsWhiteRun}
 use Rattle.pcl_output.proofs.DigitCounts.{count_grows, spelled_long}
@@ -25,35 +23,21 @@ use Rattle.pcl_output.proofs.TokenCosts.{cost_opening, cost_method, cost_skip, c
 use Rattle.pcl_coders.proofs.Lengths.{length_small}
 use Rattle.pcl_plan.proofs.Filled.{readable}
 use Rattle.pcl_output.proofs.WhiteRows.{white_front, white_to_end}
+use Rattle.pcl_output.proofs.Tables.{number_past}
 
 -- ---- the whole table
-
-none_is : (current : Method) (is_open : Bool) → number_in no_numbers current is_open ≡ 0
-none_is Plain true = refl
-none_is Runs true = refl
-none_is Packed true = refl
-none_is Delta true = refl
-none_is Plain false = refl
-none_is Runs false = refl
-none_is Packed false = refl
-none_is Delta false = refl
-
--- past the rows all numbers are 0
-past_is : (table : List RowNumbers) (a : Node) → length table ≤ a.row → node_number table a ≡ 0
-past_is table a past = ap (λ (n : RowNumbers). number_in n a.method a.inside) (get_or_past table a.row no_numbers past) ∙ none_is a.method
-    a.inside
 
 pub feasible_table : {width : ℕ} {rows : List (List ℕ)} {table : List RowNumbers} → AreRightFrom width rows table 0
     → IsFeasible (Leads width rows) (Ends rows) cost (node_number table)
 feasible_table {rows} {table} right = record {
   steps = λ a token b l.
       elim (cases_lt (length rows) a.row) [
-        | inl past ↦ omega (arith, past_is table a (omega (arith, right.size)))
+        | inl past ↦ omega (arith, number_past table a (omega (arith, right.size)))
         | inr within ↦ (right.right a.row (omega arith) within).steps a token b refl l
       ];
   ends = λ a end.
       elim (cases_lt (length rows) a.row) [
-        | inl past ↦ past_is table a (omega (arith, right.size))
+        | inl past ↦ number_past table a (omega (arith, right.size))
         | inr within ↦ (right.right a.row (omega arith) within).ends a refl end
       ];
 }
@@ -207,9 +191,7 @@ opens_with {width} {rows} {table} row current is (opening ∷ es) w t some =
       cost_opening,
       step width rows table is (node row current false) opening (node row current true) (refl, refl),
     )
-opens_with row current is (method digits next ends ∷ es) w t some = let no : false ≡ true = w.1.0 in absurd cc
-opens_with row current is (skip digits count ends ∷ es) w t some = let no : false ≡ true = w.1.0 in absurd cc
-opens_with row current is (send digits bytes ∷ es) w t some = let no : false ≡ true = w.1.0 in absurd cc
+opens_with row current is (token ∷ es) w t some = let no : false ≡ true = w.1.0 in absurd cc
 
 -- where the rest isn't white, a sequence is opened
 pub opens : {width : ℕ} {rows : List (List ℕ)} {table : List RowNumbers} {row : ℕ} (current : Method) → IsRightTable width rows table

@@ -1,6 +1,7 @@
 //! The rows that a plan is made for.
 
 ghost use Rattle.std.specs.Prelude.{◌≡◌, ◌+◌, ◌*◌, ◌<◌, ◌≤◌, ◌↔◌, length, replicate, IsTrue};
+ghost use Rattle.pcl_base.specs.Limits.{row_limit};
 ghost use Rattle.pcl_output.specs.Tokens.{IsWhite};
 ghost use Rattle.pcl_output.specs.Nodes.{row_at, row_above};
 
@@ -13,7 +14,7 @@ pub struct Rows<'a> {
     pub width: usize,
     pub count: u32,
     ghost whole: { length bytes.now ≡ count * width },
-    ghost small: { width ≤ 600 },
+    ghost small: { width ≤ row_limit },
     ghost few: { count ≤ 9999 },
 }
 
@@ -34,7 +35,7 @@ impl<'a> Rows<'a> {
     /// The row above row `y`: the topmost one has zeros above it.
     pub fn row_above<'b>(&'b self, y: u32, zeros: &'b [u8]) -> &'b [u8]
         requires row { y < self.now.count }
-        requires zeros { zeros.now ≡ replicate 600 0 }
+        requires zeros { zeros.now ≡ replicate row_limit 0 }
         ensures row { result.now ≡ row_above self.now.width (rows_of self.now) y }
         ensures len { length result.now ≡ self.now.width }
     {

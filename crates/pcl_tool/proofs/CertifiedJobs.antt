@@ -9,7 +9,7 @@ use Rattle.pcl_output.specs.Tokens.{frame_bytes}
 use Rattle.pcl_cert.specs.declared.check.Verdict.{Verdict}
 use Rattle.pcl_cert.specs.declared.check.Verdict.TheVariants.{Proved}
 use Rattle.pcl_cert.specs.declared.fault.CertFault.{CertFault}
-use Rattle.pcl_cert.specs.declared.fault.CertFault.TheVariants.{BadMagic, Short, Extra, Rows, Places, Memory}
+use Rattle.pcl_cert.specs.declared.fault.CertFault.TheVariants.{Memory}
 use Rattle.pcl_cert.specs.declared.format.Format.{Format}
 use Rattle.pcl_cert.specs.declared.page_proof.PageProof.{PageProof}
 use Rattle.pcl_cert.specs.Checking.{IsVerdict}
@@ -24,23 +24,17 @@ use Rattle.pcl_tool.specs.LeastJobs.{IsCertifiedBy}
 use Rattle.pcl_tool.specs.JobVerdicts.{AreCompared, IsFirstFailure, IsJobVerdict, text_bytes}
 use Rattle.pcl_tool.proofs.SameVerdicts.{verdict_again}
 
--- ---- as many pages as proofs, and texts as long as these say
-
-pub proved_count : (dpi : Dpi) (sheets : List Sheet) (texts : List ℕ) (proofs : List PageProof) → AreProved dpi sheets texts proofs
-    → length sheets ≡ length proofs
-proved_count dpi [] texts [] p = refl
-proved_count dpi [] texts (proof ∷ proofs) p = absurd p
-proved_count dpi (sheet ∷ sheets) texts [] p = absurd p
-proved_count dpi (sheet ∷ sheets) texts (proof ∷ proofs) p = let rest = proved_count dpi sheets p.2 proofs p.7 in omega (arith, rest)
+-- ---- texts as long as their proofs say
 
 pub proved_length : (dpi : Dpi) (sheets : List Sheet) (texts : List ℕ) (proofs : List PageProof) → AreProved dpi sheets texts proofs
     → length texts ≡ text_bytes proofs
-proved_length dpi [] texts [] p = ap length p
-proved_length dpi [] texts (proof ∷ proofs) p = absurd p
-proved_length dpi (sheet ∷ sheets) texts [] p = absurd p
+proved_length dpi [] texts [] p = ap length p.1
+proved_length dpi [] texts (proof ∷ proofs) p = absurd (omega (arith, p.0))
+proved_length dpi (sheet ∷ sheets) texts [] p = absurd (omega (arith, p.0))
 proved_length dpi (sheet ∷ sheets) texts (proof ∷ proofs) p =
-    let rest = proved_length dpi sheets p.2 proofs p.7 in
-    let all = ap length p.4 ∙ length-append p.1 p.2 in omega (arith, rest, all, p.5)
+    let first = p.1 in
+    let rest = proved_length dpi sheets first.1 proofs (omega (arith, p.0), first.4) in
+    let all = ap length first.3 ∙ length-append first.0 first.1 in omega (arith, rest, all, first.2.as_long)
 
 -- ---- texts that are cut at the same place
 
@@ -52,14 +46,17 @@ proved_behind : {dpi : Dpi} (before : List Sheet) {sheet : Sheet} (behind : List
     → AreProved dpi (sheet ∷ behind) rest (proof ∷ proofs_behind)
 proved_behind {dpi} [] {sheet} behind [] proof proofs_behind texts_before {rest} none e p =
     subst (λ (t : List ℕ). AreProved dpi (sheet ∷ behind) t (proof ∷ proofs_behind))
-    (e ∙ ap (λ (t : List ℕ). t ++ rest) none) p
-proved_behind [] behind (one ∷ proofs_before) proof proofs_behind texts_before none e p = absurd none
-proved_behind (first ∷ before) behind [] proof proofs_behind texts_before none e p = absurd none
+    (e ∙ ap (λ (t : List ℕ). t ++ rest) none.1) p
+proved_behind [] behind (one ∷ proofs_before) proof proofs_behind texts_before none e p = absurd (omega (arith, none.0))
+proved_behind (first ∷ before) behind [] proof proofs_behind texts_before none e p = absurd (omega (arith, none.0))
 proved_behind (first ∷ before) behind (one ∷ proofs_before) proof proofs_behind texts_before {rest} b e p =
-    let whole : p.1 ++ p.2 ≡ b.1 ++ (b.2 ++ rest) =
-    sym p.4 ∙ e ∙ ap (λ (t : List ℕ). t ++ rest) b.4 ∙ append_assoc b.1 b.2 rest in
-    let cut = same_fronts p.1 b.1 (p.5 ∙ sym b.5) whole in
-    proved_behind before behind proofs_before proof proofs_behind b.2 b.7 cut.1 p.7
+    let these = p.1 in
+    let those = b.1 in
+    let whole : these.0 ++ these.1 ≡ those.0 ++ (those.1 ++ rest) =
+    sym these.3 ∙ e ∙ ap (λ (t : List ℕ). t ++ rest) those.3 ∙ append_assoc those.0 those.1 rest in
+    let cut = same_fronts these.0 those.0 (these.2.as_long ∙ sym those.2.as_long) whole in
+    proved_behind before behind proofs_before proof proofs_behind those.1 (omega (arith, b.0), those.4) cut.1
+    (omega (arith, p.0), these.4)
 
 pub none_fails : {dpi : Dpi} {pages : List Sheet} {texts : List ℕ} {proofs : List PageProof} {number : ℕ} {verdict : Verdict}
     → AreProved dpi pages texts proofs → IsFirstFailure dpi pages texts proofs number verdict → ⊥
@@ -67,13 +64,15 @@ none_fails {dpi} {texts} {proofs} {verdict} p f =
     let whole : AreProved dpi (f.pages_before ++ f.sheet ∷ f.pages_behind) texts (f.proofs_before ++ f.proof ∷ f.proofs_behind) =
     subst (λ (ps : List PageProof). AreProved dpi (f.pages_before ++ f.sheet ∷ f.pages_behind) texts ps) f.proofs_are
     (subst (λ (ss : List Sheet). AreProved dpi ss texts proofs) f.pages_are p) in
-    let here = proved_behind f.pages_before f.pages_behind f.proofs_before f.proof f.proofs_behind f.texts_before f.proved_before
+    let behind = proved_behind f.pages_before f.pages_behind f.proofs_before f.proof f.proofs_behind f.texts_before f.proved_before
     f.texts_are whole in
-    let cut = same_fronts f.text here.1 (f.as_long ∙ sym here.5) here.4 in
+    let here = behind.1 in
+    let is = here.2 in
+    let cut = same_fronts f.text here.0 (f.answered.as_long ∙ sym is.as_long) here.3 in
     f.not_proved
     (verdict_again f.proof.table f.proof.places verdict
-    (pages_same here.3 f.shows)
-    (subst (λ (t : List ℕ). IsVerdict here.0 t f.proof.table f.proof.places Proved) (sym cut.0) here.6) f.verdict_is)
+    (pages_same is.shows f.answered.shows)
+    (subst (λ (t : List ℕ). IsVerdict is.page t f.proof.table f.proof.places Proved) (sym cut.0) is.verdict_is) f.answered.verdict_is)
 
 -- ---- the verdict
 
@@ -115,14 +114,10 @@ fault_refused {dpi} {input} {output} {certificate} i e =
 
 pub certified_proved : OnePages → (dpi : Dpi) (input output certificate : List ℕ) (verdict : JobVerdict)
     → IsCertifiedBy dpi input output certificate → IsJobVerdict dpi input output certificate verdict → verdict ≡ job.Proved
-certified_proved one dpi input output certificate (job.Certificate BadMagic) i v = fault_refused i v.2
-certified_proved one dpi input output certificate (job.Certificate Short) i v = fault_refused i v.2
-certified_proved one dpi input output certificate (job.Certificate Extra) i v = fault_refused i v.2
-certified_proved one dpi input output certificate (job.Certificate Rows) i v = fault_refused i v.2
-certified_proved one dpi input output certificate (job.Certificate Places) i v = fault_refused i v.2
 certified_proved one dpi input output certificate (job.Certificate Memory) i v = absurd v
+certified_proved one dpi input output certificate (job.Certificate fault) i v = fault_refused i v.2
 certified_proved one dpi input output certificate job.PageCount i v =
-    absurd (v.1 (proved_count dpi v.0.pages i.texts v.0.proofs (compared_same one i v.0)))
+    let p = compared_same one i v.0 in absurd (v.1 p.0)
 certified_proved one dpi input output certificate job.Frame i v =
     let p = compared_same one i v.0 in
     absurd (v.2 i.texts (record { spelled = i.spelled; as_long = proved_length dpi v.0.pages i.texts v.0.proofs p }))

@@ -8,11 +8,10 @@ use Rattle.pcl_page.specs.Performing.{Shows}
 use Rattle.pcl_page.specs.Delivering.{Hands}
 use Rattle.pcl_cert.specs.declared.check.Verdict.TheVariants as verdicts
 use Rattle.pcl_cert.specs.declared.page_proof.PageProof.{PageProof}
-use Rattle.pcl_cert.specs.Checking.{IsVerdict}
 use Rattle.pcl_tool.specs.declared.job_verdict.JobVerdict.{JobVerdict}
 use Rattle.pcl_tool.specs.declared.job_verdict.JobVerdict.TheVariants as job
 use Rattle.pcl_tool.specs.declared.page_checks.Checker.{Checker}
-use Rattle.pcl_tool.specs.Certified.{AreProved}
+use Rattle.pcl_tool.specs.Certified.{IsAnswered, AreProved}
 use Rattle.pcl_tool.specs.JobVerdicts.{IsFirstFailure, text_bytes}
 use Rattle.pcl_tool.specs.inner.PageChecks.{IsFound}
 use Rattle.pcl_tool.specs.inner.CheckerSteps.{FindsNext, TakesNext, TakesPage, proofs_left, answer}
@@ -25,10 +24,7 @@ takes = TakesPage
 wrong_stays : (found : JobVerdict) (proof : PageProof) (old new : Checker) (page : Page) → (found ≡ job.Proved → ⊥)
     → FindsNext found proof old page new → new.found ≡ found
 wrong_stays job.Proved proof old new page wrong f = absurd (wrong refl)
-wrong_stays (job.Page place verdict) proof old new page wrong f = f
-wrong_stays (job.Certificate fault) proof old new page wrong f = f
-wrong_stays job.PageCount proof old new page wrong f = f
-wrong_stays job.Frame proof old new page wrong f = f
+wrong_stays found proof old new page wrong f = f
 
 -- the proofs that are left after the next one
 next_left : (k : ℕ) (all : List PageProof) {proof : PageProof} {later : List PageProof} → drop k all ≡ proof ∷ later
@@ -108,19 +104,18 @@ IsOutcome dpi sheets texts proofs taken (job.Certificate fault) = ⊥
 IsOutcome dpi sheets texts proofs taken job.PageCount = ⊥
 IsOutcome dpi sheets texts proofs taken job.Frame = ⊥
 
--- a page that is proved, and its text
-pub record IsProvedPage (dpi : Dpi) (sheet : Sheet) (text : List ℕ) (proof : PageProof) : Type 0 where
-  pub page : Page
-  pub shows : Shows dpi page sheet
-  pub as_long : length text ≡ proof.text_len
-  pub verdict : IsVerdict page text proof.table proof.places verdicts.Proved
+-- one more text that is answered Proved
+one_more : {dpi : Dpi} {sheet : Sheet} (sheets : List Sheet) {texts : List ℕ} (text rest : List ℕ) {proof : PageProof}
+    (proofs : List PageProof) → IsAnswered dpi sheet text proof verdicts.Proved → texts ≡ text ++ rest → AreProved dpi sheets rest proofs
+    → AreProved dpi (sheet ∷ sheets) texts (proof ∷ proofs)
+one_more sheets text rest proofs is e p = (omega (arith, p.0), (text, rest, is, e, p.1))
 
 -- after a page that is proved
 behind : (dpi : Dpi) (sheet : Sheet) (sheets : List Sheet) (texts text rest : List ℕ) (proof : PageProof)
-    (proofs : List PageProof) (taken : ℕ)
-    (found : JobVerdict) → IsProvedPage dpi sheet text proof → texts ≡ text ++ rest → IsOutcome dpi sheets rest proofs (taken + 1) found
+    (proofs : List PageProof) (taken : ℕ) (found : JobVerdict) → IsAnswered dpi sheet text proof verdicts.Proved
+    → texts ≡ text ++ rest → IsOutcome dpi sheets rest proofs (taken + 1) found
     → IsOutcome dpi (sheet ∷ sheets) texts (proof ∷ proofs) taken found
-behind dpi sheet sheets texts text rest proof proofs taken job.Proved p e o = (p.page, text, rest, p.shows, e, p.as_long, p.verdict, o)
+behind dpi sheet sheets texts text rest proof proofs taken job.Proved p e o = one_more sheets text rest proofs p e o
 behind dpi sheet sheets texts text rest proof proofs taken (job.Page place verdict) p e o =
     let f = o.2 in (
       o.0 + 1,
@@ -138,18 +133,13 @@ behind dpi sheet sheets texts text rest proof proofs taken (job.Page place verdi
         text = f.text;
         texts_behind = f.texts_behind;
         texts_are = e ∙ ap (λ (t : List ℕ). text ++ t) f.texts_are ∙ sym (append_assoc text f.texts_before (f.text ++ f.texts_behind));
-        proved_before = (p.page, text, f.texts_before, p.shows, refl, p.as_long, p.verdict, f.proved_before);
+        proved_before = one_more f.pages_before text f.texts_before f.proofs_before p refl f.proved_before;
         counted = omega (arith, f.counted);
-        page = f.page;
-        shows = f.shows;
-        as_long = f.as_long;
-        verdict_is = f.verdict_is;
+        answered = f.answered;
         not_proved = f.not_proved;
       },
     )
-behind dpi sheet sheets texts text rest proof proofs taken (job.Certificate fault) p e o = o
-behind dpi sheet sheets texts text rest proof proofs taken job.PageCount p e o = o
-behind dpi sheet sheets texts text rest proof proofs taken job.Frame p e o = o
+behind dpi sheet sheets texts text rest proof proofs taken found p e o = absurd o
 
 -- what is known of the texts and proofs that are left as long as nothing is wrong
 pub record AreLeft (texts : List ℕ) (proofs : List PageProof) (checker : Checker) : Type 0 where
@@ -176,8 +166,8 @@ at_page {dpi} {sheet} sheets texts proof {proofs} taken {page} new job.Proved f 
     let room : proof.text_len ≤ length texts = omega (arith, long) in
     let left : length rest ≡ text_bytes proofs = omega (arith, long, length-drop proof.text_len texts) in
     let o = follows rest (sym f) n (record { texts_are = t; proofs_are = e; as_long = left }) same h in
-    let proved : IsProvedPage dpi sheet text proof =
-    record { page = page; shows = shows; as_long = length-take-le proof.text_len texts room; verdict = is } in (
+    let proved : IsAnswered dpi sheet text proof verdicts.Proved =
+    record { page = page; shows = shows; as_long = length-take-le proof.text_len texts room; verdict_is = is } in (
       o.0,
       behind dpi sheet sheets texts text rest proof proofs taken new.found proved (sym (take-append-drop proof.text_len texts)) o.1,
     )
@@ -204,25 +194,20 @@ at_page {dpi} {sheet} sheets texts proof {proofs} taken {page} {middle} new (job
           text = text;
           texts_behind = rest;
           texts_are = sym (take-append-drop proof.text_len texts);
-          proved_before = refl;
+          proved_before = (refl, refl);
           counted = refl;
-          page = page;
-          shows = shows;
-          as_long = length-take-le proof.text_len texts room;
-          verdict_is = is.1;
+          answered = record { page = page; shows = shows; as_long = length-take-le proof.text_len texts room; verdict_is = is.1 };
           not_proved = is.2;
         },
       ),
     )
-at_page sheets texts proof taken new (job.Certificate fault) f is shows e n t long same h follows = absurd is
-at_page sheets texts proof taken new job.PageCount f is shows e n t long same h follows = absurd is
-at_page sheets texts proof taken new job.Frame f is shows e n t long same h follows = absurd is
+at_page sheets texts proof taken new found f is shows e n t long same h follows = absurd is
 
 pub outcome : (dpi : Dpi) (sheets : List Sheet) {texts : List ℕ} (proofs : List PageProof) {taken : ℕ} {old : Checker} (new : Checker)
     → Follows dpi sheets texts proofs taken old new
 outcome dpi [] {texts} [] {taken} new = λ f n left same h. (
   ap proofs_left h ∙ left.proofs_are,
-  subst (IsOutcome dpi [] texts [] taken) (sym (ap (λ (c : Checker). c.found) h ∙ f)) (nil_from_length texts left.as_long),
+  subst (IsOutcome dpi [] texts [] taken) (sym (ap (λ (c : Checker). c.found) h ∙ f)) (refl, nil_from_length texts left.as_long),
 )
 outcome dpi [] (proof ∷ proofs) new = λ f n left same h. absurd (omega (arith, same))
 outcome dpi (sheet ∷ sheets) [] new = λ f n left same h. absurd (omega (arith, same))

@@ -5,7 +5,7 @@ use Rattle.std.proofs.KnownBytes.{Keeps-refl}
 use Rattle.pcl_base.specs.declared.dpi.Dpi.{Dpi}
 use Rattle.pcl_cert.specs.declared.format.Format.{Format}
 use Rattle.pcl_tool.specs.declared.fault.Fault.{Fault}
-use Rattle.pcl_tool.specs.declared.fault.Fault.TheVariants.{Refused, Memory, ReadFault, TooLong, WriteFault, NoSuchPage}
+use Rattle.pcl_tool.specs.declared.fault.Fault.TheVariants.{Refused, Memory, ReadFault, TooLong, WriteFault}
 use Rattle.pcl_tool.specs.Transfer.{IsReadAll, IsWritten}
 use Rattle.pcl_tool.specs.Minimizing.{IsJobOf, IsCertifiedJobOf, IsRead, IsFiltered, IsFilteredCert, input_limit}
 use Rattle.pcl_tool.specs.inner.Writing.{IsJobWritten}
@@ -16,19 +16,14 @@ pub not_read : (dpi : Dpi) (given left out : Option (List ℕ)) (fault : Fault)
 not_read dpi given left out TooLong h = (h.0, h.1, h.2, Keeps-refl out)
 not_read dpi given left out ReadFault h = (h, Keeps-refl out)
 not_read dpi given left out Memory h = (h, Keeps-refl out)
-not_read dpi given left out (Refused refusal) h = absurd h
-not_read dpi given left out WriteFault h = absurd h
-not_read dpi given left out NoSuchPage h = absurd h
+not_read dpi given left out fault h = absurd h
 
 -- the job was refused or memory ran out, and nothing was written
 pub not_performed : (dpi : Dpi) {given left : Option (List ℕ)} (out : Option (List ℕ)) {job : List ℕ} (fault : Fault)
     → IsRead given left job → length job ≤ input_limit → IsJobWritten dpi job (Err fault) → IsFiltered dpi given left out out (Err fault)
 not_performed dpi out {job} (Refused refusal) r short h = (job, r, h, Keeps-refl out)
 not_performed dpi out {job} Memory r short h = ((job, r.given, omega arith), Keeps-refl out)
-not_performed dpi out TooLong r short h = absurd h
-not_performed dpi out ReadFault r short h = absurd h
-not_performed dpi out WriteFault r short h = absurd h
-not_performed dpi out NoSuchPage r short h = absurd h
+not_performed dpi out fault r short h = absurd h
 
 -- the job was written, or a prefix of it
 pub filtered : {dpi : Dpi} {given left : Option (List ℕ)} (old new : Option (List ℕ)) {job output : List ℕ}
@@ -36,11 +31,7 @@ pub filtered : {dpi : Dpi} {given left : Option (List ℕ)} (old new : Option (L
     → IsFiltered dpi given left old new result
 filtered old new {job} {output} (Ok done) r j w = (job, output, r, j, w)
 filtered old new {job} {output} (Err WriteFault) r j w = (job, output, r, j, w)
-filtered old new (Err (Refused refusal)) r j w = absurd w
-filtered old new (Err Memory) r j w = absurd w
-filtered old new (Err ReadFault) r j w = absurd w
-filtered old new (Err TooLong) r j w = absurd w
-filtered old new (Err NoSuchPage) r j w = absurd w
+filtered old new result r j w = absurd w
 
 -- the job wasn't written whole
 pub stopped_in_job : {dpi : Dpi} {format : Format} {given left : Option (List ℕ)} (old new cert : Option (List ℕ))
@@ -49,11 +40,7 @@ pub stopped_in_job : {dpi : Dpi} {format : Format} {given left : Option (List �
     → IsFilteredCert dpi format given left old new cert cert (Err fault)
 stopped_in_job old new cert {job} {output} {certificate} WriteFault r j w =
     (job, output, certificate, r, j, inl (w, Keeps-refl cert))
-stopped_in_job old new cert (Refused refusal) r j w = absurd w
-stopped_in_job old new cert Memory r j w = absurd w
-stopped_in_job old new cert ReadFault r j w = absurd w
-stopped_in_job old new cert TooLong r j w = absurd w
-stopped_in_job old new cert NoSuchPage r j w = absurd w
+stopped_in_job old new cert fault r j w = absurd w
 
 -- it was, and then the certificate or a prefix of it
 pub filtered_cert : {dpi : Dpi} {format : Format} {given left : Option (List ℕ)} (old new cert_old cert_new : Option (List ℕ))
@@ -64,8 +51,4 @@ filtered_cert old new cert_old cert_new {job} {output} {certificate} (Ok done) r
     (job, output, certificate, r, j, a, w)
 filtered_cert old new cert_old cert_new {job} {output} {certificate} (Err WriteFault) r j a w =
     (job, output, certificate, r, j, inr (a, w))
-filtered_cert old new cert_old cert_new (Err (Refused refusal)) r j a w = absurd w
-filtered_cert old new cert_old cert_new (Err Memory) r j a w = absurd w
-filtered_cert old new cert_old cert_new (Err ReadFault) r j a w = absurd w
-filtered_cert old new cert_old cert_new (Err TooLong) r j a w = absurd w
-filtered_cert old new cert_old cert_new (Err NoSuchPage) r j a w = absurd w
+filtered_cert old new cert_old cert_new result r j a w = absurd w

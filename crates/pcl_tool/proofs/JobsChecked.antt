@@ -5,7 +5,7 @@ use Rattle.pcl_page.specs.Situation.{Sheet}
 use Rattle.pcl_page.specs.Delivering.{Hands}
 use Rattle.pcl_page.specs.Jobs.{HasPages}
 use Rattle.pcl_cert.specs.declared.fault.CertFault.{CertFault}
-use Rattle.pcl_cert.specs.declared.fault.CertFault.TheVariants.{BadMagic, Short, Extra, Rows, Places, Memory}
+use Rattle.pcl_cert.specs.declared.fault.CertFault.TheVariants.{Memory}
 use Rattle.pcl_cert.specs.declared.format.Format.{Format}
 use Rattle.pcl_cert.specs.declared.page_proof.PageProof.{PageProof}
 use Rattle.pcl_cert.specs.ReadingCertificates.{Fails, certificate_at}
@@ -38,9 +38,7 @@ of_outcome {dpi} compared {texts} same framed (job.Page place verdict) o =
       framed,
       subst (λ (n : ℕ). IsFirstFailure dpi compared.pages texts compared.proofs n verdict) number o.2,
     )
-of_outcome compared same framed (job.Certificate fault) o = absurd o
-of_outcome compared same framed job.PageCount o = absurd o
-of_outcome compared same framed job.Frame o = absurd o
+of_outcome compared same framed found o = absurd o
 
 -- by what was found before the first page
 of_begin : {dpi : Dpi} {input : List ℕ} (output : List ℕ) {certificate : List ℕ} (compared : AreCompared dpi input certificate)
@@ -56,9 +54,7 @@ of_begin {dpi} {input} output {certificate} compared begun new job.Frame f e n b
     let wrong : job.Frame ≡ job.Proved → ⊥ = λ (p : job.Frame ≡ job.Proved). cc in
     let s = stays dpi compared.pages compared.proofs begun new wrong (sym f) e same h in
     (s.0, subst (IsJobVerdict dpi input output certificate) (sym s.1) (compared, same, b))
-of_begin output compared begun new (job.Page place verdict) f e n b same h = absurd b
-of_begin output compared begun new (job.Certificate fault) f e n b same h = absurd b
-of_begin output compared begun new job.PageCount f e n b same h = absurd b
+of_begin output compared begun new found f e n b same h = absurd b
 
 -- the answer of a checker that has taken the pages of an accepted job
 pub job_answered : {dpi : Dpi} {input output : List ℕ} (certificate : List ℕ) {format : Format} {proofs : List PageProof}
@@ -83,9 +79,5 @@ job_answered {dpi} {input} {output} certificate {format} {proofs} {pages} {begun
 pub certificate_refused : {dpi : Dpi} {input : List ℕ} (output certificate : List ℕ) (fault : CertFault) {pages : List Sheet}
     → (fault ≡ Memory → ⊥) → HasPages dpi input pages → Fails fault (certificate_at dpi certificate)
     → IsJobVerdict dpi input output certificate (job.Certificate fault)
-certificate_refused output certificate BadMagic {pages} other meaning e = (pages, meaning, e)
-certificate_refused output certificate Short {pages} other meaning e = (pages, meaning, e)
-certificate_refused output certificate Extra {pages} other meaning e = (pages, meaning, e)
-certificate_refused output certificate Rows {pages} other meaning e = (pages, meaning, e)
-certificate_refused output certificate Places {pages} other meaning e = (pages, meaning, e)
 certificate_refused output certificate Memory other meaning e = absurd (other refl)
+certificate_refused output certificate fault {pages} other meaning e = (pages, meaning, e)

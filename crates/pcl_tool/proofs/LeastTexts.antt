@@ -1,5 +1,5 @@
 -- Written page texts are least, and so are those that the checker answers Proved.
-use Rattle.std.proofs.Common.{ℕ, List, [], ◌∷◌}
+use Rattle.std.proofs.Common.{ℕ, List, [], ◌∷◌, arith}
 use Rattle.pcl_base.specs.declared.dpi.Dpi.{Dpi}
 use Rattle.pcl_page.specs.Situation.{Sheet}
 use Rattle.pcl_cert.specs.declared.page_proof.PageProof.{PageProof}
@@ -17,22 +17,27 @@ written_texts : (dpi : Dpi) (sheets : List Sheet) (texts : List ℕ) → PrintEa
     → PrintEach PrintsShortest dpi sheets texts
 written_texts dpi [] texts p = p
 written_texts dpi (sheet ∷ sheets) texts p =
-    (p.0, p.1, p.2, p.3, (p.4.0, λ other printed. p.4.2.shortest other printed), p.5, written_texts dpi sheets p.2 p.6)
+    let is = p.2 in
+    (p.0, p.1, (is.0, is.1, (is.2.0, λ other printed. is.2.2.shortest other printed)), p.3, written_texts dpi sheets p.1 p.4)
 
 proved_texts : (dpi : Dpi) (sheets : List Sheet) (texts : List ℕ) (proofs : List PageProof) → AreProved dpi sheets texts proofs
     → PrintEach PrintsShortest dpi sheets texts
-proved_texts dpi [] texts [] p = p
-proved_texts dpi [] texts (proof ∷ proofs) p = absurd p
-proved_texts dpi (sheet ∷ sheets) texts [] p = absurd p
-proved_texts dpi (sheet ∷ sheets) texts (proof ∷ proofs) p = (
-  p.0,
-  p.1,
-  p.2,
-  p.3,
-  (p.6.0, λ other printed. proved_least p.0 p.1 other proof.table proof.places p.6 printed),
-  p.4,
-  proved_texts dpi sheets p.2 proofs p.7,
-)
+proved_texts dpi [] texts [] p = p.1
+proved_texts dpi [] texts (proof ∷ proofs) p = absurd (omega (arith, p.0))
+proved_texts dpi (sheet ∷ sheets) texts [] p = absurd (omega (arith, p.0))
+proved_texts dpi (sheet ∷ sheets) texts (proof ∷ proofs) p =
+    let first = p.1 in
+    let is = first.2 in (
+      first.0,
+      first.1,
+      (
+        is.page,
+        is.shows,
+        (is.verdict_is.0, λ other printed. proved_least is.page first.0 other proof.table proof.places is.verdict_is printed),
+      ),
+      first.3,
+      proved_texts dpi sheets first.1 proofs (omega (arith, p.0), first.4),
+    )
 
 pub written_least : {dpi : Dpi} {input output : List ℕ} (w : IsJobOf dpi input output) → IsLeastJobText dpi w.pages output
 written_least {dpi} w = least_job w.texts (written_texts dpi w.pages w.texts w.print) w.spelled

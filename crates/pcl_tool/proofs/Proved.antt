@@ -63,7 +63,6 @@ pub record Gathered (dpi : Dpi) (sheets : List Sheet) (old new : SoFar) : Type 0
   pub print : PrintEach IsWrittenPage dpi sheets texts
   pub proofs : List PageProof
   pub behind : new.proofs ≡ old.proofs ++ proofs
-  pub count : length proofs ≡ length sheets
   pub can_be_said : AllByRecursion (IsProof dpi old.format) proofs
   pub proved : AreProved dpi sheets texts proofs
 
@@ -74,9 +73,8 @@ gathered [] {old} h = record {
   print = refl;
   proofs = [];
   behind = ap (λ (s : SoFar). s.proofs) h ∙ sym (append-nil old.proofs);
-  count = refl;
   can_be_said = tt;
-  proved = refl;
+  proved = (refl, refl);
 }
 gathered {dpi} (sheet ∷ sheets) {old} h =
     let rest = gathered sheets h.4 in
@@ -84,16 +82,24 @@ gathered {dpi} (sheet ∷ sheets) {old} h =
     record {
       texts = t.text ++ rest.texts;
       bytes = rest.bytes ∙ ap (λ (b : List ℕ). b ++ rest.texts) t.bytes ∙ append_assoc old.bytes t.text rest.texts;
-      print = (h.0, t.text, rest.texts, h.2, t.written, refl, rest.print);
+      print = (t.text, rest.texts, (h.0, h.2, t.written), refl, rest.print);
       proofs = t.proof ∷ rest.proofs;
       behind = rest.behind ∙ ap (λ (ps : List PageProof). ps ++ rest.proofs) t.proofs
           ∙ append_assoc old.proofs (t.proof ∷ []) rest.proofs;
-      count = omega (arith, rest.count);
       can_be_said = (
         subst (λ (d : Dpi). IsProof d old.format t.proof) h.2.resolution t.proves.can_be_said,
         subst (λ (f : Format). AllByRecursion (IsProof dpi f) rest.proofs) t.format rest.can_be_said,
       );
-      proved = (h.0, t.text, rest.texts, h.2, refl, t.proves.text_len, t.proves.proved, rest.proved);
+      proved = (
+        omega (arith, rest.proved.0),
+        (
+          t.text,
+          rest.texts,
+          record { page = h.0; shows = h.2; as_long = t.proves.text_len; verdict_is = t.proves.proved },
+          refl,
+          rest.proved.1,
+        ),
+      );
     }
 
 -- what a certificate says in its format is said whole
@@ -122,7 +128,7 @@ are_proofs : {dpi : Dpi} {job : List ℕ} {pages : List Sheet} (old new : SoFar)
     → (h : Hands TakesProved dpi pages old new) → AreProofs dpi old.format (gathered pages h).proofs
 are_proofs {dpi} {job} {pages} old new meaning h =
     let g = gathered pages h in
-    (omega (arith, g.count, job_fits meaning), g.can_be_said)
+    (omega (arith, g.proved.0, job_fits meaning), g.can_be_said)
 
 pub can_be_written : {dpi : Dpi} {format : Format} {job : List ℕ} {pages : List Sheet} (old new : SoFar) → HasPages dpi job pages
     → old.format ≡ format → old.proofs ≡ [] → Hands TakesProved dpi pages old new → FitFormat dpi format (proofs_in format new.proofs)

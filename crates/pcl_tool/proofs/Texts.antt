@@ -6,16 +6,15 @@ use Rattle.pcl_base.specs.declared.fault.JobFault.{JobFault}
 use Rattle.pcl_base.specs.declared.fault.JobFault.TheVariants.{Refused, Memory}
 use Rattle.pcl_bitmap.specs.declared.page.Page.{Page}
 use Rattle.pcl_page.specs.Situation.{Sheet}
-use Rattle.pcl_page.specs.Delivering.{Hands}
+use Rattle.pcl_page.specs.Delivering.{Hands, IsRefusal}
 use Rattle.pcl_page.specs.Jobs.{HasPages}
 use Rattle.pcl_output.specs.Tokens.{frame_bytes}
 use Rattle.pcl_writer.specs.Appending.{AppendsPage, IsWrittenPage}
 use Rattle.pcl_meaning.specs.JobTexts.{PrintEach}
 use Rattle.pcl_meaning.proofs.Jobs.{IsAgain, written_again}
-use Rattle.pcl_tool.specs.JobFaults.{fault_of}
-use Rattle.pcl_tool.specs.inner.Watching.{HasTaken}
+use Rattle.pcl_tool.specs.JobFaults.{fault_of, RefusedOrMemory}
+use Rattle.pcl_tool.specs.Watching.{HasTaken}
 use Rattle.pcl_tool.specs.Minimizing.{IsJobOf}
-use Rattle.pcl_tool.specs.inner.Writing.{IsJobWritten}
 
 pub texts_gathered : (dpi : Dpi) (sheets : List Sheet) (old : List ℕ) {new : List ℕ}
     → Hands (λ (o : List ℕ) (page : Page) (n : List ℕ). AppendsPage page o n) dpi sheets old new
@@ -25,7 +24,7 @@ texts_gathered dpi (sheet ∷ sheets) old h =
     let rest = texts_gathered dpi sheets h.1 h.4 in
     let text = h.3.0 in (
       text ++ rest.0,
-      (h.0, text, rest.0, h.2, h.3.2, refl, rest.1),
+      (text, rest.0, (h.0, h.2, h.3.2), refl, rest.1),
       rest.2 ∙ ap (λ (t : List ℕ). t ++ rest.0) h.3.1 ∙ append_assoc old text rest.0,
     )
 
@@ -59,8 +58,7 @@ job_written {dpi} {job} {start} body {output} {pages} meaning opened handed clos
     job_of_texts dpi job start body output t.0 pages meaning opened t.1 t.2 closed
 
 -- the job was refused or memory ran out, and so it is said
-pub not_written : (dpi : Dpi) (job start : List ℕ) (fault : JobFault)
-    → HasTaken (λ (o : List ℕ) (page : Page) (n : List ℕ). AppendsPage page o n) dpi job start (Err fault)
-    → IsJobWritten dpi job (Err (fault_of fault))
-not_written dpi job start (Refused refusal) h = h
-not_written dpi job start Memory h = tt
+pub not_taken : {S : Type 0} (takes : S → Page → S → Type 0) (dpi : Dpi) (job : List ℕ) (begun : S) (fault : JobFault)
+    → HasTaken takes dpi job begun (Err fault) → RefusedOrMemory (IsRefusal dpi job) (fault_of fault)
+not_taken takes dpi job begun (Refused refusal) h = h
+not_taken takes dpi job begun Memory h = tt

@@ -1,9 +1,7 @@
 -- What the checker of a job answers of an input, an output and a certificate, whoever made these.
 use Rattle.std.specs.Prelude.{◌≡◌, ℕ, ◌+◌, List, [], ◌∷◌, ◌++◌, length, Result, Ok, Err}
 use Rattle.pcl_base.specs.declared.dpi.Dpi.{Dpi}
-use Rattle.pcl_bitmap.specs.declared.page.Page.{Page}
 use Rattle.pcl_page.specs.Situation.{Sheet}
-use Rattle.pcl_page.specs.Performing.{Shows}
 use Rattle.pcl_page.specs.Jobs.{HasPages}
 use Rattle.pcl_page.specs.Delivering.{IsRefusal}
 use Rattle.pcl_output.specs.Tokens.{frame_bytes}
@@ -12,14 +10,13 @@ use Rattle.pcl_cert.specs.declared.check.Verdict.TheVariants as verdicts
 use Rattle.pcl_cert.specs.declared.fault.CertFault.TheVariants as faults
 use Rattle.pcl_cert.specs.declared.format.Format.{Format}
 use Rattle.pcl_cert.specs.declared.page_proof.PageProof.{PageProof}
-use Rattle.pcl_cert.specs.Checking.{IsVerdict}
 use Rattle.pcl_cert.specs.ReadingCertificates.{certificate_at}
 use Rattle.pcl_tool.specs.declared.fault.Fault.{Fault}
 use Rattle.pcl_tool.specs.JobFaults.{RefusedOrMemory}
 use Rattle.pcl_tool.specs.declared.fault.Fault.TheVariants.{Refused, Memory, ReadFault, TooLong, WriteFault, NoSuchPage}
 use Rattle.pcl_tool.specs.declared.job_verdict.JobVerdict.{JobVerdict}
 use Rattle.pcl_tool.specs.declared.job_verdict.JobVerdict.TheVariants as job
-use Rattle.pcl_tool.specs.Certified.{AreProved}
+use Rattle.pcl_tool.specs.Certified.{IsAnswered, AreProved}
 
 -- ---- what is compared
 
@@ -60,10 +57,7 @@ pub record IsFirstFailure (dpi : Dpi) (pages : List Sheet) (texts : List ℕ) (p
   pub texts_are : texts ≡ texts_before ++ (text ++ texts_behind)
   pub proved_before : AreProved dpi pages_before texts_before proofs_before
   pub counted : number ≡ length pages_before + 1
-  pub page : Page
-  pub shows : Shows dpi page sheet
-  pub as_long : length text ≡ proof.text_len
-  pub verdict_is : IsVerdict page text proof.table proof.places verdict
+  pub answered : IsAnswered dpi sheet text proof verdict
   pub not_proved : verdict ≡ verdicts.Proved → ⊥
 
 -- ---- verdicts

@@ -2,6 +2,7 @@ pub mod JobFaults
 pub mod Transfer
 pub mod Image
 pub mod Preview
+pub mod Watching
 pub mod Certified
 pub mod Minimizing
 pub mod JobVerdicts

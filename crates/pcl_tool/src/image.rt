@@ -4,7 +4,7 @@ ghost use Rattle.std.specs.Prelude.{◌≡◌, IfOk};
 ghost use Rattle.pcl_tool.specs.Image.{header_of, IsImageWritten};
 
 use crate::Fault;
-use crate::writing::write_bytes;
+use crate::writing::{write_all, write_bytes};
 use itoa::Buffer;
 use pcl_base::{Dpi, Size};
 use pcl_bitmap::Bitmap;
@@ -18,11 +18,7 @@ pub fn write_image<W: Write>(alloc: Global, bitmap: &Bitmap, out: &mut W) -> Res
 {
     let header = header(alloc, bitmap.size(), bitmap.dpi())?;
     write_bytes(out, &header)?;
-    write_bytes(out, bitmap.bytes())?;
-    match out.flush() {
-        Ok(()) => Ok(()),
-        Err(_) => Err(Fault::WriteFault),
-    }
+    write_all(out, bitmap.bytes())
 }
 
 /// The header of an image: the form, the width and the height in dots.

@@ -28,5 +28,5 @@ pub use page_preview::{page_dots, preview};
 pub use pcl_base::INPUT_LIMIT;
 pub use pcl_meaning::page_texts_mean_their_pages;
 pub use reading::read_all;
-pub use watching::{Unwatched, Watcher};
-pub use writing::write_bytes;
+pub use watching::{Unwatched, Watcher, perform_watched};
+pub use writing::{write_all, write_bytes};

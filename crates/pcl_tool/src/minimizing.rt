@@ -1,6 +1,5 @@
 //! A job written again.
 
-ghost use Rattle.pcl_tool.specs.Transfer.{IsWritten};
 ghost use Rattle.pcl_tool.specs.Minimizing.{IsMinimized, IsFiltered, IsFilteredCert};
 ghost use Rattle.pcl_tool.specs.inner.Writing.{IsJobWritten};
 
@@ -8,7 +7,7 @@ use crate::Fault;
 use crate::certifying::CertifiedJob;
 use crate::reading::read_all;
 use crate::watching::{Unwatched, Watcher, perform_watched};
-use crate::writing::write_bytes;
+use crate::writing::write_all;
 use pcl_base::{Dpi, INPUT_LIMIT};
 use pcl_cert::{Format, write_certificate};
 use pcl_page::{Page, PageSink};
@@ -135,17 +134,6 @@ pub fn filter_cert_watched<R: Read, W: Write, C: Write, P: Watcher>(
     let output = minimize_watched(alloc, &job, dpi, format, watcher)?;
     write_all(out, &output.job)?;
     write_all(cert, &output.certificate)
-}
-
-/// Writes all of the bytes and flushes. After a fault the writer holds a prefix of them.
-fn write_all<W: Write>(out: &mut W, bytes: &[u8]) -> Result<(), Fault>
-    ensures { IsWritten (W.contents out.old) (W.contents out.new) bytes.now result }
-{
-    write_bytes(out, bytes)?;
-    match out.flush() {
-        Ok(()) => Ok(()),
-        Err(_) => Err(Fault::WriteFault),
-    }
 }
 
 /// The job so far.

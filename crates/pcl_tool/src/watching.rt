@@ -1,6 +1,6 @@
 //! Who is told how far a run has come.
 
-ghost use Rattle.pcl_tool.specs.inner.Watching.{HasTaken};
+ghost use Rattle.pcl_tool.specs.Watching.{HasTaken};
 
 use pcl_base::{Dpi, JobFault};
 use pcl_page::{Page, PageSink, perform};

@@ -19,3 +19,14 @@ pub fn write_bytes<W: Write>(out: &mut W, bytes: &[u8]) -> Result<(), Fault>
     }
     Ok(())
 }
+
+/// Writes all of the bytes and flushes. After a fault, which is WriteFault, the writer holds a prefix of them.
+pub fn write_all<W: Write>(out: &mut W, bytes: &[u8]) -> Result<(), Fault>
+    ensures { IsWritten (W.contents out.old) (W.contents out.new) bytes.now result }
+{
+    write_bytes(out, bytes)?;
+    match out.flush() {
+        Ok(()) => Ok(()),
+        Err(_) => Err(Fault::WriteFault),
+    }
+}

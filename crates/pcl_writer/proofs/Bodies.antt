@@ -1,5 +1,5 @@
 -- The body of a page along the steps of its plan.
-use Rattle.std.proofs.Common.{◌≡◌, ℕ, ◌<◌, ◌≤◌, Bool, true, false, List, [], ◌∷◌, ◌++◌, length, drop, refl, sym, ap, subst, ◌∙◌, inl, inr, append_assoc, arith, lit<, lit≤}
+use Rattle.std.proofs.Common.{◌≡◌, ℕ, ◌<◌, ◌≤◌, Bool, true, false, List, [], ◌∷◌, ◌++◌, length, drop, refl, sym, ap, subst, ◌∙◌, inl, inr, append_assoc, arith}
 use Rattle.std.proofs.Math.ListN.{drop_of_length-le}
 use Rattle.std.proofs.lemmas.Bool.{cases_lt}
 use Rattle.std.proofs.lemmas.Bool.Decides.{nat_tests}
@@ -7,12 +7,7 @@ use Rattle.std.specs.Prelude.{not, ◌&&◌, ◌==◌}
 use Rattle.std.specs.List.{flat_map}
 use Rattle.std.proofs.lemmas.List.{append-nil, drop_more}
 use Rattle.std.proofs.lemmas.List.Concat.{flat_map-append}
-use Rattle.pcl_base.specs.declared.dpi.Dpi.{Dpi}
-use Rattle.pcl_base.specs.declared.dpi.Dpi.TheVariants.{Dpi300, Dpi600}
-use Rattle.pcl_base.specs.declared.size.Size.{Size}
-use Rattle.pcl_base.specs.declared.size.Size.TheVariants.{Executive, Letter, Legal, A4}
 use Rattle.pcl_base.specs.declared.method.Method.{Method}
-use Rattle.pcl_base.specs.Size.{page_height}
 use Rattle.pcl_base.specs.Method.{method_code}
 use Rattle.pcl_bitmap.specs.Bitmap.{Picture}
 use Rattle.pcl_coders.specs.Coding.{IsLeastLength, AppendsLeast}
@@ -28,7 +23,7 @@ use Rattle.pcl_output.specs.Table.{node_number}
 use Rattle.pcl_plan.specs.Plans.{StepsAndTable, IsTokenOf, opened, is_last, Spells}
 use Rattle.pcl_output.proofs.Walking.{node}
 use Rattle.pcl_output.proofs.TokenCosts.{cost_opening, cost_send}
-use Rattle.pcl_plan.proofs.ReadSteps.{node_is, opened_more, spells_any}
+use Rattle.pcl_plan.proofs.ReadSteps.{opened_more, spells_any}
 use Rattle.pcl_plan.proofs.LeastWalks.{step_is_least, sent_is_least}
 use Rattle.pcl_writer.specs.inner.Steps.{width_of, above, IsBitmapPlan, IsWritable, HasRowData, AppendsRow, AppendsStep, AppendsBody}
 
@@ -48,17 +43,13 @@ skip_token (send digits bytes) t = absurd t
 
 switch_token : {next : Method} {ends : Bool} (token : Token) → IsTokenOf (Switch next) ends token → token
     ≡ method (least_spelling (method_code next)) next ends
-switch_token opening t = absurd t
 switch_token (method digits current capital) t = let a = t.0 in let b = t.1 in let e = t.2 in cc
-switch_token (skip digits rows capital) t = absurd t
-switch_token (send digits bytes) t = absurd t
+switch_token token t = absurd t
 
 row_token : {count : ℕ} (ends : Bool) (token : Token) → IsTokenOf (Row count) ends token → (bytes : List ℕ)
     × (token ≡ send (least_spelling count) bytes) × (length bytes ≡ count)
-row_token ends opening t = absurd t
-row_token ends (method digits current capital) t = absurd t
-row_token ends (skip digits rows capital) t = absurd t
 row_token ends (send digits bytes) t = (bytes, ap (λ (d : List ℕ). send d bytes) t.1, t.0)
+row_token ends token t = absurd t
 
 -- another token of the same step leads to the same node, and costs the same
 pub record LeadsToo (picture : Picture) (place behind : Node) (token written : Token) (b : Node) : Type 0 where

@@ -4,6 +4,7 @@ mod filtering;
 mod laws;
 mod memory;
 mod reading;
+mod watching;
 mod writing;
 
 use std::fmt::Debug;

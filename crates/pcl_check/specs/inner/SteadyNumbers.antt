@@ -1,13 +1,18 @@
 -- Numbers that never grow along a row, and what is tested of them.
-use Rattle.std.specs.Prelude.{◌≡◌, ◌≢◌, ℕ, ◌+◌, ◌-◌, ◌<◌, ◌≤◌, max, List, length, slice_index}
+use Rattle.std.specs.Prelude.{◌≡◌, ◌≢◌, ℕ, ◌+◌, ◌-◌, ◌*◌, ◌<◌, ◌≤◌, max, List, length, slice_index}
+use Rattle.pcl_base.specs.Limits.{row_limit}
 use Rattle.pcl_base.specs.declared.method.Method.{Method}
 use Rattle.pcl_coders.specs.inner.Replacement.{replacement_bytes}
 use Rattle.pcl_check.specs.inner.PlacePasses.{IsGoodEnd, AreGoodSteps}
 
+-- what least numbers can be at most: two bytes for each byte of a row
+abbrev pub most_number : ℕ
+most_number = 2 * row_limit
+
 -- no number is above one before it, or above what least numbers can be
 pub record IsSteady (numbers : List ℕ) : Type 0 where
   pub falls : (place later : ℕ) → place ≤ later → slice_index numbers later ≤ slice_index numbers place
-  pub small : (place : ℕ) → slice_index numbers place ≤ 1200
+  pub small : (place : ℕ) → slice_index numbers place ≤ most_number
 
 -- the number of a place is 0, and the byte before it differs from the row before
 pub record IsNeedEnd (old row numbers : List ℕ) (end : ℕ) : Type 0 where

@@ -1,6 +1,7 @@
 //! What the places of a row are tested with: where elements stop at the latest, and what is counted there.
 
 ghost use Rattle.std.specs.Prelude.{◌≡◌, ℕ, ◌+◌, ◌-◌, ◌<◌, ◌≤◌, min, length, slice_index, drop};
+ghost use Rattle.pcl_base.specs.Limits.{row_limit};
 ghost use Rattle.pcl_coders.specs.inner.Choosing.{IsLeastLen};
 ghost use Rattle.pcl_check.specs.inner.PlacePasses.{AreRunStops, AreStartEnds, ArePlaced, AreBehindStarts};
 
@@ -17,7 +18,7 @@ pub fn widen(numbers: &[u16], wide: &mut [u32])
 /// Each number and its place.
 pub fn add_places(numbers: &[u16], sums: &mut [u32])
     requires size { length sums.old ≡ length numbers.now }
-    requires small { length numbers.now ≤ 601 }
+    requires small { length numbers.now ≤ row_limit + 1 }
     ensures { ArePlaced numbers.now sums.new }
 {
     for (place, number) in numbers.iter().enumerate() {
@@ -27,7 +28,7 @@ pub fn add_places(numbers: &[u16], sums: &mut [u32])
 
 /// The end of a row, for all its places.
 pub fn fill_ends(ends: &mut [u32])
-    requires { (0 < length ends.old) × (length ends.old ≤ 601) }
+    requires { (0 < length ends.old) × (length ends.old ≤ row_limit + 1) }
     ensures { (place : ℕ) → place < length ends.new → slice_index ends.new place ≡ length ends.new - 1 }
 {
     let last = (ends.len() - 1) as u32;
@@ -38,7 +39,7 @@ pub fn fill_ends(ends: &mut [u32])
 
 /// For each place of a row where the run of equal bytes ends.
 pub fn fill_run_stops(row: &[u8], ends: &mut [u32])
-    requires small { length row.now ≤ 600 }
+    requires small { length row.now ≤ row_limit }
     requires size { length ends.old ≡ length row.now + 1 }
     ensures { AreRunStops row.now ends.new 0 }
 {
@@ -56,7 +57,7 @@ pub fn fill_run_stops(row: &[u8], ends: &mut [u32])
 /// For each place of a row the place after the first byte that differs from the row before, or the row's end.
 pub fn fill_start_ends(old: &[u8], row: &[u8], ends: &mut [u32])
     requires same { length old.now ≡ length row.now }
-    requires small { length row.now ≤ 600 }
+    requires small { length row.now ≤ row_limit }
     requires size { length ends.old ≡ length row.now + 1 }
     ensures { AreStartEnds old.now row.now ends.new 0 }
 {
@@ -75,7 +76,7 @@ pub fn fill_start_ends(old: &[u8], row: &[u8], ends: &mut [u32])
 pub fn fill_behind_starts(numbers: &[u16], sums: &mut [u32])
     requires size { length sums.old ≡ length numbers.now }
     requires some { 0 < length numbers.now }
-    requires small { length numbers.now ≤ 601 }
+    requires small { length numbers.now ≤ row_limit + 1 }
     ensures { AreBehindStarts numbers.now sums.new }
 {
     for start in 0..numbers.len() - 1 {
@@ -87,7 +88,7 @@ pub fn fill_behind_starts(numbers: &[u16], sums: &mut [u32])
 /// place.
 fn least_behind(numbers: &[u16]) -> u32
     requires some { 1 < length numbers.now }
-    requires small { length numbers.now ≤ 601 }
+    requires small { length numbers.now ≤ row_limit + 1 }
     ensures { (len : ℕ) × IsLeastLen numbers.now 1 (min (length numbers.now - 1) 8) 0 1 len result }
 {
     let most = (numbers.len() - 1).min(8);

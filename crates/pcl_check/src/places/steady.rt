@@ -6,16 +6,20 @@
 //! pass a test of each place beside the next one, which has no branch.
 
 ghost use Rattle.std.specs.Prelude.{◌≡◌, ◌≢◌, ℕ, ◌+◌, ◌-◌, ◌<◌, ◌≤◌, length, slice_index, IsTrue};
+ghost use Rattle.pcl_base.specs.Limits.{row_limit};
 ghost use Rattle.pcl_check.specs.inner.PlacePasses.{IsGoodByte, AreGoodRuns, AreGoodLiterals, AreGoodReplacements};
-ghost use Rattle.pcl_check.specs.inner.SteadyNumbers.{IsSteady, IsNeedEnd, FallsByRun, FallsByStart, AreLeastSums, TakesBehind, IsKeptBefore, IsGoodFor};
+ghost use Rattle.pcl_check.specs.inner.SteadyNumbers.{most_number, IsSteady, IsNeedEnd, FallsByRun, FallsByStart, AreLeastSums, TakesBehind, IsKeptBefore, IsGoodFor};
 
 use super::PLACES;
-use pcl_base::Method;
+use pcl_base::{Method, ROW_LIMIT};
+
+/// What least numbers can be at most: two bytes for each byte of a row.
+const MOST_NUMBER: u16 = 2 * ROW_LIMIT as u16;
 
 /// Whether all numbers of a row are good, over the row before its data comes. False says nothing.
 pub fn is_steady_table(method: Method, old: &[u8], row: &[u8], numbers: &[u16]) -> bool
     requires same { length old.now ≡ length row.now }
-    requires small { length row.now ≤ 600 }
+    requires small { length row.now ≤ row_limit }
     requires size { length numbers.now ≡ length row.now + 1 }
     ensures { IsTrue result → (place : ℕ) → place ≤ length row.now → IsGoodFor method old.now row.now numbers.now place }
 {
@@ -35,7 +39,7 @@ pub fn is_steady_table(method: Method, old: &[u8], row: &[u8], numbers: &[u16]) 
 
 /// How many numbers aren't 0: where none grows, the place of the first 0.
 fn count_above_zero(numbers: &[u16]) -> usize
-    requires { length numbers.now ≤ 601 }
+    requires { length numbers.now ≤ row_limit + 1 }
     ensures { result ≤ length numbers.now }
 {
     let mut count = 0u16;
@@ -56,12 +60,12 @@ fn is_need_end(old: &[u8], row: &[u8], numbers: &[u16], end: usize) -> bool
     end <= row.len() && numbers[end] == 0 && (end == 0 || old[end - 1] != row[end - 1])
 }
 
-/// Whether no number is above one before it, or above what least numbers can be: two bytes for each of 600.
+/// Whether no number is above one before it, or above what least numbers can be.
 fn is_steady(numbers: &[u16]) -> bool
     requires { 0 < length numbers.now }
     ensures { IsTrue result → IsSteady numbers.now }
 {
-    numbers[0] <= 1200 && greatest_rise(numbers) == 0
+    numbers[0] <= MOST_NUMBER && greatest_rise(numbers) == 0
 }
 
 /// How much numbers rise from a place to the next, at most.
@@ -96,7 +100,7 @@ fn are_good_runs(row: &[u8], numbers: &[u16], end: usize, most: usize) -> bool
     requires size { length numbers.now ≡ length row.now + 1 }
     requires end { (end ≤ length row.now) × (slice_index numbers.now end ≡ 0) }
     requires steady { IsSteady numbers.now }
-    requires small { (length row.now ≤ 600) × (most ≤ 256) }
+    requires small { (length row.now ≤ row_limit) × (most ≤ 256) }
     ensures { IsTrue result → (place : ℕ) → AreGoodRuns row.now numbers.now most place }
 {
     let inner = end.saturating_sub(2);
@@ -148,8 +152,8 @@ fn run_cost(byte: u8, next: u8) -> u16
 /// Method 2: whether no literal undercuts a number. The least sum of a number and its place among 128 places comes from
 /// those among 8, 16, 32 and 64.
 fn are_good_literals(numbers: &[u16]) -> bool
-    requires size { (0 < length numbers.now) × (length numbers.now ≤ 601) }
-    requires small { (place : ℕ) → slice_index numbers.now place ≤ 1200 }
+    requires size { (0 < length numbers.now) × (length numbers.now ≤ row_limit + 1) }
+    requires small { (place : ℕ) → slice_index numbers.now place ≤ most_number }
     ensures { IsTrue result → (place : ℕ) → AreGoodLiterals numbers.now place }
 {
     let mut room = [0; PLACES];
@@ -164,8 +168,8 @@ fn are_good_literals(numbers: &[u16]) -> bool
 
 /// How much a number and its place are above the least sum at the next place, at most.
 fn greatest_excess(numbers: &[u16], least: &[u16]) -> u16
-    requires size { (0 < length numbers.now) × (length numbers.now ≤ 601) × (length least.now ≡ length numbers.now) }
-    requires small { (place : ℕ) → slice_index numbers.now place ≤ 1200 }
+    requires size { (0 < length numbers.now) × (length numbers.now ≤ row_limit + 1) × (length least.now ≡ length numbers.now) }
+    requires small { (place : ℕ) → slice_index numbers.now place ≤ most_number }
     ensures { (place : ℕ) → place + 1 < length numbers.now
         → place + slice_index numbers.now place ≤ slice_index least.now (place + 1) + result }
 {
@@ -179,8 +183,8 @@ fn greatest_excess(numbers: &[u16], least: &[u16]) -> u16
 
 /// For each place the least sum of a number and its place, of eight places from it on.
 fn fill_least_of_eight(numbers: &[u16], least: &mut [u16])
-    requires size { (length numbers.now ≤ 601) × (length least.old ≡ length numbers.now) }
-    requires small { (place : ℕ) → slice_index numbers.now place ≤ 1200 }
+    requires size { (length numbers.now ≤ row_limit + 1) × (length least.old ≡ length numbers.now) }
+    requires small { (place : ℕ) → slice_index numbers.now place ≤ most_number }
     ensures size { length least.new ≡ length numbers.now }
     ensures sums { AreLeastSums numbers.now 8 least.new }
 {
@@ -207,7 +211,7 @@ fn take_behind(least: &mut [u16], count: usize)
 /// farthest: it is at the first byte that differs, or before it.
 fn are_good_replacements(old: &[u8], row: &[u8], numbers: &[u16], end: usize) -> bool
     requires same { length old.now ≡ length row.now }
-    requires small { length row.now ≤ 600 }
+    requires small { length row.now ≤ row_limit }
     requires size { length numbers.now ≡ length row.now + 1 }
     requires end { IsNeedEnd old.now row.now numbers.now end }
     requires steady { IsSteady numbers.now }
@@ -238,7 +242,7 @@ fn fall_by_starts(old: &[u8], row: &[u8], numbers: &[u16], least: &[u16], end: u
     requires same { length old.now ≡ length row.now }
     requires size { length numbers.now ≡ length row.now + 1 }
     requires end { (end ≤ length row.now) × (length least.now ≡ end + 1) }
-    requires small { (length row.now ≤ 600) × ((place : ℕ) → slice_index numbers.now place ≤ 1200) }
+    requires small { (length row.now ≤ row_limit) × ((place : ℕ) → slice_index numbers.now place ≤ most_number) }
     ensures { IsTrue result → (place : ℕ) → place < end → FallsByStart old.now row.now numbers.now least.now place }
 {
     let mut excess = 0u16;
@@ -260,7 +264,7 @@ fn fall_by_starts(old: &[u8], row: &[u8], numbers: &[u16], least: &[u16], end: u
 /// three up to 540, and four up to all others.
 fn is_kept_before(number: u16, least: &[u16], place: usize, start: usize) -> bool
     requires order { (place ≤ start) × (start + 1 < length least.now) }
-    requires small { length least.now ≤ 601 }
+    requires small { length least.now ≤ row_limit + 1 }
     ensures { IsTrue result → IsKeptBefore number least.now place start }
 {
     is_kept(number, least, start.min(place + 30), 1)
@@ -274,7 +278,7 @@ fn is_kept_before(number: u16, least: &[u16], place: usize, start: usize) -> boo
 /// Whether no replacement that starts at a place, after a command of so many bytes, undercuts a number.
 fn is_kept(number: u16, least: &[u16], start: usize, cost: usize) -> bool
     requires within { start + 1 < length least.now }
-    requires small { (length least.now ≤ 601) × (cost ≤ 4) }
+    requires small { (length least.now ≤ row_limit + 1) × (cost ≤ 4) }
     ensures { IsTrue result → number + start ≤ cost + slice_index least.now (start + 1) }
 {
     usize::from(number) + start <= cost + usize::from(least[start + 1])

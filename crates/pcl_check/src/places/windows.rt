@@ -1,6 +1,7 @@
 //! Elements of a cost that stop at one of the next places, tested by a window.
 
 ghost use Rattle.std.specs.Prelude.{◌≡◌, ℕ, ◌+◌, ◌-◌, ◌<◌, ◌≤◌, ◌++◌, length, slice_index};
+ghost use Rattle.pcl_base.specs.Limits.{row_limit};
 ghost use Rattle.pcl_check.specs.inner.EdgePasses.{AreEnds, values};
 ghost use Rattle.pcl_check.specs.Places.{FindsPlace};
 ghost use Rattle.pcl_check.specs.inner.PlacePasses.{IsNotUndercut};
@@ -20,7 +21,7 @@ pub fn first_undercut(
 ) -> Option<usize>
     requires ends { AreEnds ends.now (length numbers.now - 1) }
     requires sizes { (length ends.now ≡ length numbers.now) × (length sums.now ≡ length numbers.now) }
-    requires small { length numbers.now ≤ 601 }
+    requires small { length numbers.now ≤ row_limit + 1 }
     requires most { (0 < most) × (most ≤ 1000) }
     ensures { FindsPlace (IsNotUndercut numbers.now sums.now ends.now cost most) (length numbers.now - 1) result }
 {

@@ -6,10 +6,10 @@ use Rattle.pcl_output.specs.PageText.{IsPageText, bitmap_rows}
 use Rattle.pcl_check.specs.declared.reading.start.Start.{Start}
 use Rattle.pcl_check.specs.inner.Reading.{IsStart, IsBodyVerdict}
 use Rattle.pcl_check.specs.TextVerdicts.{IsSomePageText}
-use Rattle.pcl_check.proofs.Verdicts.{MayBe, no_start, no_body, same_page, some_page, other_page, same_sizes, sizes_same}
+use Rattle.pcl_check.proofs.Verdicts.{MayBe, no_start, no_body, same_page, some_page, other_page}
 use Rattle.std.proofs.lemmas.Bool.Decides.{Decides-eqb}
 use Rattle.pcl_base.specs.contracts.size.Size.{the_type}
-use denote.Enum.Bare.{sameb}
+use denote.Enum.Bare.{sameb, same_true, true_same}
 use Rattle.pcl_check.proofs.reading.read_page_text.Goals as goal
 use Rattle.pcl_check.proofs.reading.read_page_text.Goals.{then-eq, else-eq}
 
@@ -28,13 +28,15 @@ may_by_size : (page : Page) (start : Start) {test may_be : Bool} → test ≡ sa
     → MayBe page.bitmap page.copies start may_be
 may_by_size page start e t m = (
   λ yes. absurd cc,
-  λ h. absurd (let other = sizes_same (h.0 ∙ page.size_is) in cc),
+  λ h. absurd (let other = true_same the_type start.size page.size (h.0 ∙ page.size_is) in cc),
 )
 
 may_by_copies : (page : Page) (start : Start) {test may_be : Bool} → test ≡ sameb the_type start.size page.size → test ≡ true
     → may_be ≡ (start.copies == page.copies) → MayBe page.bitmap page.copies start may_be
 may_by_copies page start e t m = (
-  λ yes. (same_sizes start.size page.size (sym e ∙ t) ∙ sym page.size_is, (Decides-eqb start.copies page.copies).0 (sym m ∙ yes)),
+  λ yes.
+      let size = same_true the_type tt start.size page.size (sym e ∙ t) in
+      (size ∙ sym page.size_is, (Decides-eqb start.copies page.copies).0 (sym m ∙ yes)),
   λ h. m ∙ (Decides-eqb start.copies page.copies).1 h.1,
 )
 

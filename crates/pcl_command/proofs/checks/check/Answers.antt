@@ -99,21 +99,21 @@ returns-in_err-verdict g c =
     (checked_of c.args.asked.dpi (Err c.in_err-verdict.field-0.0) c.deref.ensures.value c.deref-2.ensures.value c.deref-3.ensures.value
     c.in_err-verdict.ensures))
 
-pub returns-in_err-write_line : goal.returns-in_err-write_line
-returns-in_err-write_line g c =
-    let p = err_from_is_err_and c.from_residual-in_err-write_line.result c.from_residual-in_err-write_line.ensures.1 in
+pub returns-in_err-write_all : goal.returns-in_err-write_all
+returns-in_err-write_all g c =
+    let p = err_from_is_err_and c.from_residual-in_err-write_all.result c.from_residual-in_err-write_all.ensures.1 in
     rw (p.1, p.2)
-    (stops _ _ c.in_ok-verdict.verdict c.deref-4.result.now c.in_err-write_line.field-0.0
+    (stops _ _ c.in_ok-verdict.verdict c.deref-4.result.now c.in_err-write_all.field-0.0
     (answered c.args.asked _ _ _ c.in_ok-verdict.verdict
     (read_of c.in_ok-input.ensures c.in_ok-output.ensures c.in_ok-certificate.ensures)
     c.deref.ensures.value c.deref-2.ensures.value c.deref-3.ensures.value c.in_ok-verdict.ensures)
-    (c.deref-4.ensures.value ∙ c.in_ok-line.ensures) c.in_err-write_line.ensures)
+    (c.deref-4.ensures.value ∙ c.in_ok-line.ensures) c.in_err-write_all.ensures)
 
 pub returns : goal.returns
 returns g c = (
   answered c.args.asked _ _ _ c.in_ok-verdict.verdict
       (read_of c.in_ok-input.ensures c.in_ok-output.ensures c.in_ok-certificate.ensures)
       c.deref.ensures.value c.deref-2.ensures.value c.deref-3.ensures.value c.in_ok-verdict.ensures,
-  subst (Appends (g.W.Write.contents c.args.out.now) (g.W.Write.contents c.write_line.new.out))
-      (c.deref-4.ensures.value ∙ c.in_ok-line.ensures) c.in_ok-write_line.ensures,
+  subst (Appends (g.W.Write.contents c.args.out.now) (g.W.Write.contents c.write_all.new.out))
+      (c.deref-4.ensures.value ∙ c.in_ok-line.ensures) c.in_ok-write_all.ensures,
 )

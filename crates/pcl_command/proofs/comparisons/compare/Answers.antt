@@ -125,12 +125,12 @@ returns-in_err-draw_difference g c =
           c.draw_difference.new.files (Err fault)) c.deref-3.ensures.value c.deref-4.ensures.value c.in_err-draw_difference.ensures,
     ))
 
-pub returns-in_err-write_line : goal.returns-in_err-write_line
-returns-in_err-write_line g c =
-    let p = err_from_is_err_and c.from_residual-in_err-write_line.result c.from_residual-in_err-write_line.ensures.1 in
+pub returns-in_err-write_all : goal.returns-in_err-write_all
+returns-in_err-write_all g c =
+    let p = err_from_is_err_and c.from_residual-in_err-write_all.result c.from_residual-in_err-write_all.ensures.1 in
     let comparison = c.in_ok-comparison.comparison in
     rw (p.1, p.2)
-    (stops g.F.JobFiles.acts _ _ c.args.asked _ _ comparison c.deref-5.result.now c.in_err-write_line.field-0.0 (
+    (stops g.F.JobFiles.acts _ _ c.args.asked _ _ comparison c.deref-5.result.now c.in_err-write_all.field-0.0 (
       c.in_ok-first.first,
       c.in_ok-second.second,
       both_read c.in_ok-first.ensures c.in_ok-second.ensures,
@@ -139,7 +139,7 @@ returns-in_err-write_line g c =
       of_bytes (λ (one other : List ℕ). IsDrawn g.F.JobFiles.acts c.args.asked one other comparison c.args.files.now
           c.draw_difference.new.files (Ok tt)) c.deref-3.ensures.value c.deref-4.ensures.value c.in_ok-draw_difference.ensures,
     )
-    (c.deref-5.ensures.value ∙ c.in_ok-line.ensures) c.in_err-write_line.ensures)
+    (c.deref-5.ensures.value ∙ c.in_ok-line.ensures) c.in_err-write_all.ensures)
 
 pub returns : goal.returns
 returns g c =
@@ -153,6 +153,6 @@ returns g c =
         of_bytes (λ (one other : List ℕ). IsDrawn g.F.JobFiles.acts c.args.asked one other comparison c.args.files.now
             c.draw_difference.new.files (Ok tt)) c.deref-3.ensures.value c.deref-4.ensures.value c.in_ok-draw_difference.ensures,
       ),
-      subst (Appends (g.W.Write.contents c.args.out.now) (g.W.Write.contents c.write_line.new.out))
-          (c.deref-5.ensures.value ∙ c.in_ok-line.ensures) c.in_ok-write_line.ensures,
+      subst (Appends (g.W.Write.contents c.args.out.now) (g.W.Write.contents c.write_all.new.out))
+          (c.deref-5.ensures.value ∙ c.in_ok-line.ensures) c.in_ok-write_all.ensures,
     )

@@ -3,7 +3,7 @@ use Rattle.std.proofs.lemmas.Result.{err_from_is_err_and}
 use Rattle.pcl_base.specs.declared.dpi.Dpi.{Dpi}
 use Rattle.pcl_base.specs.declared.size.Size.{Size}
 use Rattle.pcl_tool.specs.Image.{header_of}
-use Rattle.pcl_tool.proofs.Writes.{stopped_in_header, stopped_in_rows, not_flushed}
+use Rattle.pcl_tool.proofs.Writes.{stopped_in_header, rows_written}
 use Rattle.pcl_tool.proofs.image.write_image.Goals as goal
 
 header_is : {text items : List ℕ} {size same_size : Size} {dpi same_dpi : Dpi} → text ≡ items → items ≡ header_of size dpi
@@ -17,16 +17,8 @@ returns-in_err-write_bytes g c =
     let text = header_is c.deref.ensures.value c.in_ok-header.ensures c.size.ensures.value c.dpi.ensures.value in
     rw (p.1, p.2) (stopped_in_header _ _ c.args.bitmap.now _ text c.in_err-write_bytes.ensures)
 
-pub returns-in_err-write_bytes-2 : goal.returns-in_err-write_bytes-2
-returns-in_err-write_bytes-2 g c =
-    let p = err_from_is_err_and c.from_residual-in_err-write_bytes-2.result c.from_residual-in_err-write_bytes-2.ensures.1 in
-    let text = header_is c.deref.ensures.value c.in_ok-header.ensures c.size.ensures.value c.dpi.ensures.value in
-    rw (p.1, p.2)
-    (stopped_in_rows _ _ _ c.args.bitmap.now _ text c.bytes.ensures.bytes
-    c.in_ok-write_bytes.ensures c.in_err-write_bytes-2.ensures)
-
 pub returns : goal.returns
 returns g c =
     let text = header_is c.deref.ensures.value c.in_ok-header.ensures c.size.ensures.value c.dpi.ensures.value in
-    not_flushed _ _ _ _ c.args.bitmap.now text c.bytes.ensures.bytes c.in_ok-write_bytes.ensures
-    c.in_ok-write_bytes-2.ensures c.in-Err.ensures.bytes
+    rows_written _ _ _ c.args.bitmap.now c.write_all.result text c.bytes.ensures.bytes c.in_ok-write_bytes.ensures
+    c.write_all.ensures

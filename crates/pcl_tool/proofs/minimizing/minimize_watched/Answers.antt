@@ -1,24 +1,12 @@
-use Rattle.std.proofs.Common.{◌∙◌, List, ℕ, ◌++◌, Err, refl, ap, subst, sym}
+use Rattle.std.proofs.Common.{◌∙◌, List, ℕ, ◌++◌, refl, ap, subst, sym}
 use Rattle.std.proofs.lemmas.Result.{err_from_is_err_and}
-use Rattle.pcl_base.specs.declared.dpi.Dpi.{Dpi}
-use Rattle.pcl_base.specs.declared.fault.JobFault.{JobFault}
-use Rattle.pcl_base.specs.declared.fault.JobFault.TheVariants.{Refused, Memory}
 use Rattle.pcl_output.specs.Tokens.{frame_bytes}
-use Rattle.pcl_cert.specs.declared.format.Format.{Format}
 use Rattle.pcl_cert.specs.declared.page_proof.PageProof.{PageProof}
 use Rattle.pcl_cert.specs.Certificates.{FitFormat, certificate_bytes, proofs_in}
-use Rattle.pcl_tool.specs.JobFaults.{fault_of}
-use Rattle.pcl_tool.specs.inner.Watching.{HasTaken}
 use Rattle.pcl_tool.specs.inner.Certifying.{SoFar, TakesProved}
-use Rattle.pcl_tool.specs.Minimizing.{IsMinimized}
+use Rattle.pcl_tool.proofs.Texts.{not_taken}
 use Rattle.pcl_tool.proofs.Proved.{can_be_written, certified_job}
 use Rattle.pcl_tool.proofs.minimizing.minimize_watched.Goals as goal
-
--- the job was refused or memory ran out, and so it is said
-not_minimized : (dpi : Dpi) (format : Format) (job : List ℕ) (begun : SoFar) (fault : JobFault)
-    → HasTaken TakesProved dpi job begun (Err fault) → IsMinimized dpi format job (Err (fault_of fault))
-not_minimized dpi format job begun (Refused refusal) h = h
-not_minimized dpi format job begun Memory h = tt
 
 pub write_certificate-requires : goal.write_certificate-requires
 write_certificate-requires g c =
@@ -52,7 +40,7 @@ pub returns-in_err-certified : goal.returns-in_err-certified
 returns-in_err-certified g c =
     let p = err_from_is_err_and c.from_residual-in_err-certified.result c.from_residual-in_err-certified.ensures.1 in
     let begun : SoFar = record { format = c.args.format; bytes = c.write_frame.new.out.items; proofs = c.new.result.items } in
-    rw (p.1, p.2) (not_minimized c.args.dpi c.args.format c.args.job.now begun c.in_err-certified.field-0.0 c.in_err-certified.ensures)
+    rw (p.1, p.2) (not_taken TakesProved c.args.dpi c.args.job.now begun c.in_err-certified.field-0.0 c.in_err-certified.ensures)
 
 pub returns-in_err-write_frame-2 : goal.returns-in_err-write_frame-2
 returns-in_err-write_frame-2 g c =

@@ -1,7 +1,9 @@
 use Rattle.std.proofs.Common.{◌∙◌, List, ℕ, ◌++◌, ap}
 use Rattle.std.proofs.lemmas.Result.{err_from_is_err_and}
+use Rattle.pcl_bitmap.specs.declared.page.Page.{Page}
 use Rattle.pcl_output.specs.Tokens.{frame_bytes}
-use Rattle.pcl_tool.proofs.Texts.{job_written, not_written}
+use Rattle.pcl_writer.specs.Appending.{AppendsPage}
+use Rattle.pcl_tool.proofs.Texts.{job_written, not_taken}
 use Rattle.pcl_tool.proofs.minimizing.write_job.Goals as goal
 
 pub returns : goal.returns
@@ -21,7 +23,9 @@ returns-in_err-write_frame g c =
 pub returns-in_err-written : goal.returns-in_err-written
 returns-in_err-written g c =
     let p = err_from_is_err_and c.from_residual-in_err-written.result c.from_residual-in_err-written.ensures.1 in
-    rw (p.1, p.2) (not_written c.args.dpi c.args.job.now c.write_frame.new.out.items c.in_err-written.field-0.0 c.in_err-written.ensures)
+    rw (p.1, p.2)
+    (not_taken (λ (o : List ℕ) (page : Page) (n : List ℕ). AppendsPage page o n) c.args.dpi c.args.job.now c.write_frame.new.out.items
+    c.in_err-written.field-0.0 c.in_err-written.ensures)
 
 pub returns-in_err-write_frame-2 : goal.returns-in_err-write_frame-2
 returns-in_err-write_frame-2 g c =

@@ -2,7 +2,7 @@ use Rattle.std.proofs.Common.{◌≡◌, ℕ, ◌+◌, ◌-◌, ◌≤◌, List,
 use Rattle.std.proofs.lemmas.Bool.{iff_false}
 use Rattle.pcl_coders.specs.Windows.{IsLeastOf}
 use Rattle.pcl_output.specs.Table.{rest, node_number}
-use Rattle.pcl_check.specs.inner.EdgePasses.{AreGoodSkipsOf, rests}
+use Rattle.pcl_check.specs.inner.EdgePasses.{AreGoodSkipsOf}
 use Rattle.pcl_check.proofs.Values.{length_values}
 use Rattle.pcl_check.proofs.Found.{first_at}
 use Rattle.pcl_check.proofs.StepWindows.{last_of, IsStepWindow, window_begins, window_next, window_put}
@@ -20,17 +20,9 @@ loop-row-init c = record {
 
 pub take-requires : goal.take-requires
 take-requires c =
-    let ends = c.args.ends.now in
-    let number = node_number c.args.table.now in
-    let value : ℕ → ℕ = λ y. rest number y c.args.method in
-    let row = c.loop-row.row in
-    let before = c.loop-row.window.numbers in
-    let filled = c.put_rests.new.window.numbers in
-    let put : filled ≡ before ++ rests number c.args.method c.loop-row.stop (last_of ends c.args.most row + 1 - c.loop-row.stop) =
-    c.put_rests.ensures.numbers ∙ ap (λ (n : ℕ). before ++ rests number c.args.method c.loop-row.stop (n + 1 - c.loop-row.stop))
-    c.min-last.ensures in
-    (window_next
-    c.requires.ends (omega (arith, c.loop-row-test.true, c.requires.size)) c.requires.most.0 c.loop-row.invariant.window put refl).0
+    let value : ℕ → ℕ = λ y. rest (node_number c.args.table.now) y c.args.method in
+    (window_next {value = value} c.requires.ends (omega (arith, c.loop-row-test.true, c.requires.size)) c.requires.most.0
+    c.loop-row.invariant.window c.min-last.ensures c.put_rests.ensures.numbers refl).0
 
 pub least-requires : goal.least-requires
 least-requires c =
@@ -38,14 +30,9 @@ least-requires c =
     let number = node_number c.args.table.now in
     let value : ℕ → ℕ = λ y. rest number y c.args.method in
     let row = c.loop-row.row in
-    let before = c.loop-row.window.numbers in
-    let filled = c.put_rests.new.window.numbers in
-    let put : filled ≡ before ++ rests number c.args.method c.loop-row.stop (last_of ends c.args.most row + 1 - c.loop-row.stop) =
-    c.put_rests.ensures.numbers ∙ ap (λ (n : ℕ). before ++ rests number c.args.method c.loop-row.stop (n + 1 - c.loop-row.stop))
-    c.min-last.ensures in
-    let next = window_next
-    c.requires.ends (omega (arith, c.loop-row-test.true, c.requires.size)) c.requires.most.0 c.loop-row.invariant.window put
-    c.take.ensures.numbers in
+    let next = window_next {value = value}
+    c.requires.ends (omega (arith, c.loop-row-test.true, c.requires.size)) c.requires.most.0 c.loop-row.invariant.window
+    c.min-last.ensures c.put_rests.ensures.numbers c.take.ensures.numbers in
     omega (
       arith,
       ap length next.1,
@@ -60,13 +47,9 @@ returns-then-not-is_within c =
     let number = node_number c.args.table.now in
     let value : ℕ → ℕ = λ y. rest number y c.args.method in
     let row = c.loop-row.row in
-    let before = c.loop-row.window.numbers in
-    let filled = c.put_rests.new.window.numbers in
-    let put : filled ≡ before ++ rests number c.args.method c.loop-row.stop (last_of ends c.args.most row + 1 - c.loop-row.stop) =
-    c.put_rests.ensures.numbers ∙ ap (λ (n : ℕ). before ++ rests number c.args.method c.loop-row.stop (n + 1 - c.loop-row.stop))
-    c.min-last.ensures in
     let le : row ≤ length c.args.table.now - 1 = omega (arith, c.loop-row-test.true, c.requires.size) in
-    let next = window_next c.requires.ends le c.requires.most.0 c.loop-row.invariant.window put c.take.ensures.numbers in
+    let next = window_next {value = value} c.requires.ends le c.requires.most.0 c.loop-row.invariant.window
+    c.min-last.ensures c.put_rests.ensures.numbers c.take.ensures.numbers in
     let least = subst (λ (numbers : List ℕ). IsLeastOf numbers c.least.result) next.1 c.least.ensures in
     first_at (AreGoodSkipsOf ends number c.args.method c.args.digits c.args.most) le
     (λ good. iff_false c.is_within.ensures c.if-not-is_within.true
@@ -83,13 +66,9 @@ loop-row-preserved c =
     let number = node_number c.args.table.now in
     let value : ℕ → ℕ = λ y. rest number y c.args.method in
     let row = c.loop-row.row in
-    let before = c.loop-row.window.numbers in
-    let filled = c.put_rests.new.window.numbers in
-    let put : filled ≡ before ++ rests number c.args.method c.loop-row.stop (last_of ends c.args.most row + 1 - c.loop-row.stop) =
-    c.put_rests.ensures.numbers ∙ ap (λ (n : ℕ). before ++ rests number c.args.method c.loop-row.stop (n + 1 - c.loop-row.stop))
-    c.min-last.ensures in
     let le : row ≤ length c.args.table.now - 1 = omega (arith, c.loop-row-test.true, c.requires.size) in
-    let next = window_next c.requires.ends le c.requires.most.0 c.loop-row.invariant.window put c.take.ensures.numbers in
+    let next = window_next {value = value} c.requires.ends le c.requires.most.0 c.loop-row.invariant.window
+    c.min-last.ensures c.put_rests.ensures.numbers c.take.ensures.numbers in
     let here : AreGoodSkipsOf ends number c.args.method c.args.digits c.args.most row =
     elim c.else-last-row.branch [
       | else-last-row-via-then-last-row+else-not-is_within w ↦

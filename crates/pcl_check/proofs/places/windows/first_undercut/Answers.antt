@@ -2,7 +2,6 @@ use Rattle.std.proofs.Common.{◌≡◌, ℕ, ◌+◌, ◌-◌, ◌≤◌, List,
 use Rattle.std.specs.Prelude.{slice_index}
 use Rattle.std.proofs.lemmas.Bool.{iff_false}
 use Rattle.pcl_coders.specs.Windows.{IsLeastOf}
-use Rattle.pcl_check.specs.inner.EdgePasses.{values}
 use Rattle.pcl_check.specs.inner.PlacePasses.{IsNotUndercut}
 use Rattle.pcl_check.proofs.Values.{length_values}
 use Rattle.pcl_check.proofs.StepWindows.{last_of, IsStepWindow, window_begins, window_next, window_put}
@@ -19,27 +18,16 @@ loop-place-init c = record {
 
 pub take-requires : goal.take-requires
 take-requires c =
-    let ends = c.args.ends.now in
-    let value : ℕ → ℕ = slice_index c.args.sums.now in
-    let place = c.loop-place.place in
-    let before = c.loop-place.window.numbers in
-    let filled = c.put_sums.new.window.numbers in
-    let put : filled ≡ before ++ values value c.loop-place.stop (last_of ends c.args.most place + 1 - c.loop-place.stop) =
-    c.put_sums.ensures.numbers ∙ ap (λ (n : ℕ). before ++ values value c.loop-place.stop (n + 1 - c.loop-place.stop)) c.min-last.ensures in
-    (window_next
-    c.requires.ends (omega (arith, c.loop-place-test.true)) c.requires.most.0 c.loop-place.invariant.window put refl).0
+    (window_next c.requires.ends (omega (arith, c.loop-place-test.true)) c.requires.most.0 c.loop-place.invariant.window
+    c.min-last.ensures c.put_sums.ensures.numbers refl).0
 
 pub least-requires : goal.least-requires
 least-requires c =
     let ends = c.args.ends.now in
     let value : ℕ → ℕ = slice_index c.args.sums.now in
     let place = c.loop-place.place in
-    let before = c.loop-place.window.numbers in
-    let filled = c.put_sums.new.window.numbers in
-    let put : filled ≡ before ++ values value c.loop-place.stop (last_of ends c.args.most place + 1 - c.loop-place.stop) =
-    c.put_sums.ensures.numbers ∙ ap (λ (n : ℕ). before ++ values value c.loop-place.stop (n + 1 - c.loop-place.stop)) c.min-last.ensures in
-    let next = window_next c.requires.ends (omega (arith, c.loop-place-test.true)) c.requires.most.0 c.loop-place.invariant.window put
-    c.take.ensures.numbers in
+    let next = window_next c.requires.ends (omega (arith, c.loop-place-test.true)) c.requires.most.0 c.loop-place.invariant.window
+    c.min-last.ensures c.put_sums.ensures.numbers c.take.ensures.numbers in
     omega (
       arith,
       ap length next.1,
@@ -53,12 +41,9 @@ returns-then-not-is_within c =
     let ends = c.args.ends.now in
     let value : ℕ → ℕ = slice_index c.args.sums.now in
     let place = c.loop-place.place in
-    let before = c.loop-place.window.numbers in
-    let filled = c.put_sums.new.window.numbers in
-    let put : filled ≡ before ++ values value c.loop-place.stop (last_of ends c.args.most place + 1 - c.loop-place.stop) =
-    c.put_sums.ensures.numbers ∙ ap (λ (n : ℕ). before ++ values value c.loop-place.stop (n + 1 - c.loop-place.stop)) c.min-last.ensures in
     let le : place ≤ length c.args.numbers.now - 1 = omega (arith, c.loop-place-test.true) in
-    let next = window_next c.requires.ends le c.requires.most.0 c.loop-place.invariant.window put c.take.ensures.numbers in
+    let next = window_next c.requires.ends le c.requires.most.0 c.loop-place.invariant.window
+    c.min-last.ensures c.put_sums.ensures.numbers c.take.ensures.numbers in
     let least = subst (λ (numbers : List ℕ). IsLeastOf numbers c.least.result) next.1 c.least.ensures in
     record {
       within = le;
@@ -74,12 +59,9 @@ loop-place-preserved c =
     let sums = c.args.sums.now in
     let value : ℕ → ℕ = slice_index sums in
     let place = c.loop-place.place in
-    let before = c.loop-place.window.numbers in
-    let filled = c.put_sums.new.window.numbers in
-    let put : filled ≡ before ++ values value c.loop-place.stop (last_of ends c.args.most place + 1 - c.loop-place.stop) =
-    c.put_sums.ensures.numbers ∙ ap (λ (n : ℕ). before ++ values value c.loop-place.stop (n + 1 - c.loop-place.stop)) c.min-last.ensures in
     let le : place ≤ length c.args.numbers.now - 1 = omega (arith, c.loop-place-test.true) in
-    let next = window_next c.requires.ends le c.requires.most.0 c.loop-place.invariant.window put c.take.ensures.numbers in
+    let next = window_next c.requires.ends le c.requires.most.0 c.loop-place.invariant.window
+    c.min-last.ensures c.put_sums.ensures.numbers c.take.ensures.numbers in
     let here : IsNotUndercut numbers sums ends c.args.cost c.args.most place =
     elim c.else-last-place.branch [
       | else-last-place-via-then-last-place+else-not-is_within w ↦
