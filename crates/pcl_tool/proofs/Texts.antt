@@ -15,7 +15,7 @@ use Rattle.pcl_meaning.proofs.Jobs.{IsAgain, written_again}
 use Rattle.pcl_tool.specs.JobFaults.{fault_of}
 use Rattle.pcl_tool.specs.inner.Watching.{HasTaken}
 use Rattle.pcl_tool.specs.Minimizing.{IsJobOf}
-use Rattle.pcl_tool.specs.inner.Writing.{IsJobWritten}
+use Rattle.pcl_tool.specs.Writing.{IsJobWritten}
 
 pub texts_gathered : (dpi : Dpi) (sheets : List Sheet) (old : List ℕ) {new : List ℕ}
     → Hands (λ (o : List ℕ) (page : Page) (n : List ℕ). AppendsPage page o n) dpi sheets old new

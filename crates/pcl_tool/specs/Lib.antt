@@ -4,6 +4,7 @@ pub mod Image
 pub mod Preview
 pub mod Certified
 pub mod Minimizing
+pub mod Writing
 pub mod JobVerdicts
 pub mod LeastJobs
 pub mod Headline

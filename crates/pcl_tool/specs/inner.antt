@@ -4,4 +4,3 @@ pub mod CheckerSteps
 pub mod Choice
 pub mod PageChecks
 pub mod Watching
-pub mod Writing

@@ -2,7 +2,7 @@ use Rattle.std.proofs.Common.{◌∙◌, List, ℕ, ◌++◌, ap}
 use Rattle.std.proofs.lemmas.Result.{err_from_is_err_and}
 use Rattle.pcl_output.specs.Tokens.{frame_bytes}
 use Rattle.pcl_tool.proofs.Texts.{job_written, not_written}
-use Rattle.pcl_tool.proofs.minimizing.write_job.Goals as goal
+use Rattle.pcl_tool.proofs.minimizing.least_job.Goals as goal
 
 pub returns : goal.returns
 returns g c =
