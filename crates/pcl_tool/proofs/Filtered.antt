@@ -8,7 +8,7 @@ use Rattle.pcl_tool.specs.declared.fault.Fault.{Fault}
 use Rattle.pcl_tool.specs.declared.fault.Fault.TheVariants.{Refused, Memory, ReadFault, TooLong, WriteFault}
 use Rattle.pcl_tool.specs.Transfer.{IsReadAll, IsWritten}
 use Rattle.pcl_tool.specs.Minimizing.{IsJobOf, IsCertifiedJobOf, IsRead, IsFiltered, IsFilteredCert, input_limit}
-use Rattle.pcl_tool.specs.inner.Writing.{IsJobWritten}
+use Rattle.pcl_tool.specs.Writing.{IsJobWritten}
 
 -- the job wasn't read whole, and nothing was written
 pub not_read : (dpi : Dpi) (given left out : Option (List ℕ)) (fault : Fault)

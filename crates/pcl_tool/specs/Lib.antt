@@ -5,6 +5,7 @@ pub mod Preview
 pub mod Watching
 pub mod Certified
 pub mod Minimizing
+pub mod Writing
 pub mod JobVerdicts
 pub mod LeastJobs
 pub mod Headline

@@ -3,4 +3,3 @@ pub mod Certifying
 pub mod CheckerSteps
 pub mod Choice
 pub mod PageChecks
-pub mod Writing

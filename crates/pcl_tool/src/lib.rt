@@ -22,7 +22,8 @@ pub use laws::{
     certified_jobs_are_proved, proved_jobs_are_least, the_headline, written_jobs_are_least,
 };
 pub use minimizing::{
-    Output, filter, filter_cert, filter_cert_watched, filter_watched, minimize, minimize_watched,
+    Output, filter, filter_cert, filter_cert_watched, filter_watched, least_job, minimize,
+    minimize_watched,
 };
 pub use page_preview::{page_dots, preview};
 pub use pcl_base::INPUT_LIMIT;

@@ -1,7 +1,7 @@
 //! A job written again.
 
 ghost use Rattle.pcl_tool.specs.Minimizing.{IsMinimized, IsFiltered, IsFilteredCert};
-ghost use Rattle.pcl_tool.specs.inner.Writing.{IsJobWritten};
+ghost use Rattle.pcl_tool.specs.Writing.{IsJobWritten};
 
 use crate::Fault;
 use crate::certifying::CertifiedJob;
@@ -61,8 +61,9 @@ pub fn minimize_watched<P: Watcher>(
     })
 }
 
-/// Writes a job again as a raster job of the same pages. A refusal is the job's.
-fn write_job<P: Watcher>(alloc: Global, job: &[u8], dpi: Dpi, watcher: P) -> Result<Vec<u8>, Fault>
+/// Writes a job again as the least raster job of the same pages, without a certificate. The watcher is called for each page that
+/// is done. A refusal is the job's; no fault comes but this and out of memory.
+pub fn least_job<P: Watcher>(alloc: Global, job: &[u8], dpi: Dpi, watcher: P) -> Result<Vec<u8>, Fault>
     ensures { IsJobWritten dpi job.now result }
 {
     let mut bytes = Vec::new(alloc);
@@ -96,7 +97,7 @@ pub fn filter_watched<R: Read, W: Write, P: Watcher>(
     ensures { IsFiltered dpi (R.remaining reader.old) (R.remaining reader.new) (W.contents out.old) (W.contents out.new) result }
 {
     let job = read_all(alloc, reader, INPUT_LIMIT)?;
-    let output = write_job(alloc, &job, dpi, watcher)?;
+    let output = least_job(alloc, &job, dpi, watcher)?;
     write_all(out, &output)
 }
 

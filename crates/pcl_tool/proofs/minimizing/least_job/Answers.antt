@@ -4,7 +4,7 @@ use Rattle.pcl_bitmap.specs.declared.page.Page.{Page}
 use Rattle.pcl_output.specs.Tokens.{frame_bytes}
 use Rattle.pcl_writer.specs.Appending.{AppendsPage}
 use Rattle.pcl_tool.proofs.Texts.{job_written, not_taken}
-use Rattle.pcl_tool.proofs.minimizing.write_job.Goals as goal
+use Rattle.pcl_tool.proofs.minimizing.least_job.Goals as goal
 
 pub returns : goal.returns
 returns g c =

@@ -1,4 +1,4 @@
--- A job that is written without a certificate.
+-- A job that is written without a certificate: what the call that writes it answers.
 use Rattle.std.specs.Prelude.{ℕ, List, Result, Ok, Err}
 use Rattle.std.specs.Global.{Vec}
 use Rattle.pcl_base.specs.declared.dpi.Dpi.{Dpi}
@@ -8,6 +8,7 @@ use Rattle.pcl_tool.specs.JobFaults.{RefusedOrMemory}
 use Rattle.pcl_tool.specs.declared.fault.Fault.TheVariants.{Refused, Memory, ReadFault, TooLong, WriteFault, NoSuchPage}
 use Rattle.pcl_tool.specs.Minimizing.{IsJobOf}
 
+-- the least raster job of the job; or the job is refused so, or memory ran out
 abbrev pub IsJobWritten : Dpi → List ℕ → Result (Vec ℕ) Fault → Type 0
 IsJobWritten dpi job (Ok output) = IsJobOf dpi job output.items
 IsJobWritten dpi job (Err fault) = RefusedOrMemory (IsRefusal dpi job) fault
