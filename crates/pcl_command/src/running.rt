@@ -7,7 +7,7 @@ ghost use Rattle.pcl_command.specs.Messages.{line_of, status_for};
 ghost use Rattle.pcl_command.specs.ComparisonLines.{compare_line_of, compare_status_for};
 ghost use Rattle.pcl_command.specs.Runs.{HasDone, HasDoneTask, HasEnded, HasFailed, HasWritten, IsCertifyRun, IsPreviewRun, IsSettled, IsStatus, IsTextRun, NeverRefuses, TellsOfPages};
 
-use crate::checks::{check, write_line};
+use crate::checks::check;
 use crate::comparison_lines::{compare_fault_line, compare_status_of, comparison_status};
 use crate::comparisons::{CompareFault, compare};
 use crate::files::JobFiles;
@@ -21,6 +21,7 @@ use pcl_pages::describe_pages;
 use pcl_same::Comparison;
 use pcl_tool::{
     Fault, INPUT_LIMIT, JobVerdict, Watcher, filter_cert_watched, filter_watched, preview, read_all,
+    write_all,
 };
 use std::alloc::Global;
 use std::io::{Read, Write};
@@ -238,7 +239,7 @@ fn explain<R: Read, W: Write>(
 {
     let job = read_all(alloc, reader, INPUT_LIMIT)?;
     let text = explanation(alloc, &job, dpi)?;
-    write_line(out, &text)
+    write_all(out, &text)
 }
 
 /// Writes what the pages of the job are that a reader gives.
@@ -253,7 +254,7 @@ fn describe<R: Read, W: Write>(
 {
     let job = read_all(alloc, reader, INPUT_LIMIT)?;
     let text = describe_pages(alloc, &job, dpi)?;
-    write_line(out, &text)
+    write_all(out, &text)
 }
 
 /// The end of a comparison that failed.
