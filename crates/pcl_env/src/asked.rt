@@ -38,11 +38,26 @@ impl Asked {
     {
         let whole = Some(value.whole());
         match what {
-            Asking::Sides => Asked { sides: whole, ..self },
-            Asking::OutputBin => Asked { output_bin: whole, ..self },
-            Asking::MediaType => Asked { media_type: whole, ..self },
-            Asking::PaperSource => Asked { paper_source: whole, ..self },
-            Asking::SheetSide => Asked { sheet_side: whole, ..self },
+            Asking::Sides => Asked {
+                sides: whole,
+                ..self
+            },
+            Asking::OutputBin => Asked {
+                output_bin: whole,
+                ..self
+            },
+            Asking::MediaType => Asked {
+                media_type: whole,
+                ..self
+            },
+            Asking::PaperSource => Asked {
+                paper_source: whole,
+                ..self
+            },
+            Asking::SheetSide => Asked {
+                sheet_side: whole,
+                ..self
+            },
         }
     }
 }

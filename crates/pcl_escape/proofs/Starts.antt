@@ -453,7 +453,8 @@ pub in_line_again : (at : ℕ) (field : Spelled) (lines : List (List ℕ)) {line
 in_line_again at field lines {line} {rest} f x e each ends l p =
     ap (λ (bs : List ℕ). start_at at (27 ∷ 37 ∷ bs)) (sym (parameter_joined field 88 (joined lines ++ (line ++ rest))))
     ∙ exit_first at field (joined lines ++ (line ++ rest)) f x e
-    ∙ ap (skipped_by (joined lines ++ (line ++ rest)) (Some (exit_command at field []))) (foreign_again lines (at + 3 + length (field_bytes field)) each ends l p)
+    ∙ ap (skipped_by (joined lines ++ (line ++ rest)) (Some (exit_command at field [])))
+    (foreign_again lines (at + 3 + length (field_bytes field)) each ends l p)
 
 -- ---- faults
 

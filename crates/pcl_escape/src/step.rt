@@ -144,7 +144,10 @@ fn read_ungrouped<'a>(
 fn with_lines<'a>(command: Command<'a>, bytes: &'a [u8], rest: &'a [u8]) -> Progress<'a>
     requires { length rest.now ≤ length bytes.now }
     ensures { step_view result ≡ record {
-        said = Some (record (view command.entry) { bytes = before_rest bytes.now rest.now }); rest = rest.now; inside = None } }
+      said = Some (record (view command.entry) { bytes = before_rest bytes.now rest.now });
+      rest = rest.now;
+      inside = None;
+    } }
 {
     let (lines, _) = bytes.split_at(bytes.len() - rest.len());
     Progress {

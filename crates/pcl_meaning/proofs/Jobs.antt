@@ -144,7 +144,7 @@ pub text_means_page : (dpi : Dpi) (size : Size) (copies : ℕ) (rows : List (Lis
     (printed : IsPageText dpi size copies rows text) → command_count printed.tokens + 12 ≤ command_limit
     → MeansRows dpi size copies rows (job_of text)
 text_means_page dpi size copies rows text printed few =
-    let t = text_taken printed (record { method = refl; height = refl }) (lit≤ tt) in
+    let t = text_taken printed (record { method = refl; height = refl; asked = refl }) (lit≤ tt) in
     let sheet : Sheet = record { size = size; copies = copies; marks = t.inked } in
     let job = job_accepted t.settings t.count (text_read printed) t.leads (lit≤ tt)
     (omega (arith, few, text_counted dpi size copies printed.tokens)) in
@@ -308,7 +308,7 @@ pub written_again : {dpi : Dpi} {job : List ℕ} (texts : List ℕ) {pages : Lis
     → IsAgain dpi pages (frame_bytes ++ texts ++ frame_bytes)
 written_again {dpi} texts {pages} h p =
     let fits = job_fits h in
-    let t = texts_taken pages p (record { method = refl; height = refl }) (omega (arith, fits)) in
+    let t = texts_taken pages p (record { method = refl; height = refl; asked = refl }) (omega (arith, fits)) in
     let job = job_accepted t.settings t.count t.read t.leads (omega (arith, t.same_many, fits))
     (omega (arith, fits, t.few, few_commands dpi pages)) in
     record { again = t.again; meaning = job.meaning; alike = t.alike; few = omega (arith, job.counted, t.few) }

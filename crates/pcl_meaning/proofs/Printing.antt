@@ -1,8 +1,8 @@
 -- Performing the deeds of a page text prints its page.
-use Rattle.std.proofs.Common.{◌≡◌, ℕ, zero, suc, ◌+◌, ◌-◌, ◌*◌, ◌/◌, ◌<◌, ◌≤◌, Bool, true, false, cond, ◌||◌, ◌&&◌, ◌==◌, nat_le, List, [], ◌∷◌, ◌++◌, length, drop, replicate, Option, Some, None, Result, refl, sym, ap, subst, ◌∙◌, length-append, arith, Ok}
+use Rattle.std.proofs.Common.{◌≡◌, ℕ, zero, suc, ◌+◌, ◌-◌, ◌*◌, ◌/◌, ◌<◌, ◌≤◌, Bool, true, false, cond, ◌||◌, ◌&&◌, ◌==◌, nat_le, List, [], ◌∷◌, ◌++◌, length, map, drop, replicate, Option, Some, None, Result, refl, sym, ap, subst, ◌∙◌, length-append, arith, Ok}
 use Rattle.std.specs.Prelude.{not, nat_lt}
 use Rattle.std.specs.List.{AllByRecursion}
-use Rattle.std.proofs.lemmas.List.{length-replicate}
+use Rattle.std.proofs.lemmas.List.{length-replicate, map-append}
 use Rattle.std.proofs.Math.Bool.{or-false}
 use Rattle.std.proofs.lemmas.Bool.Decides.{nat_tests}
 use Rattle.pcl_base.specs.declared.dpi.Dpi.{Dpi}
@@ -24,16 +24,18 @@ use Rattle.pcl_base.specs.Value.{zero_value}
 use Rattle.pcl_bitmap.specs.Bitmap.{dot_of_row}
 use Rattle.pcl_env.specs.declared.effect.Effect.{Effect}
 use Rattle.pcl_env.specs.declared.effect.Effect.TheVariants as page
-use Rattle.pcl_env.specs.Settings.{Settings, put, put_x, put_y, to_first_line, with_size}
+use Rattle.pcl_env.specs.Settings.{Settings, put, put_x, put_y, to_first_line, nothing_asked, with_size}
 use Rattle.pcl_env.specs.Outcome.{Outcome, stays, stays_if, set_top, before_feed, return_carriage, outcome}
 use Rattle.pcl_fonts.specs.declared.fonts.FontControl.TheVariants.{Temporary}
 use Rattle.pcl_fonts.specs.History.{FontEvent, control}
 use Rattle.pcl_macros.specs.declared.table.MacroControl.TheVariants as macros
 use Rattle.pcl_macros.specs.History.{MacroEvent, control as macro_control}
+use Rattle.pcl_env.specs.declared.asked.Asked.{Asked}
+use Rattle.pcl_page.specs.Asks.{Asks, with_page}
 use Rattle.pcl_page.specs.Macros.{and_then}
 use Rattle.pcl_page.specs.Marks.{Mark, is_black, dot_at}
 use Rattle.pcl_page.specs.Raster.{Raster, ends_raster, scale_of, raster_from, bytes_of_width, cleared_past, row_sent, row_mark}
-use Rattle.pcl_page.specs.Situation.{Sheet, Situation, below, ejects, end_raster, drawn_on, done_with, taken, after, sheet_of, page_refusal}
+use Rattle.pcl_page.specs.Situation.{Sheet, Situation, below, ejects, end_raster, drawn_on, done_with, taken, after, sheet_of, turned_page, page_refusal}
 use Rattle.pcl_rows.specs.Rows.{IsRowData}
 use Rattle.pcl_rows.proofs.Decoded.{decoded_is}
 use Rattle.pcl_output.specs.Tokens.{Token, opening, method, skip, send, PrintsRows}
@@ -48,10 +50,11 @@ use Rattle.pcl_meaning.proofs.Pads.{cleared_is}
 
 -- ---- between texts
 
--- the settings between texts: the first row of a raster is plain, and no height is set
+-- the settings between texts: the first row of a raster is plain, no height is set, and nothing is asked besides dots
 pub record IsBetween (t : Settings) : Type 0 where
   pub method : t.method ≡ Plain
   pub height : t.raster_height ≡ None
+  pub asked : t.asked ≡ nothing_asked
 
 -- what a job of page texts does to fonts: the reset at its start deletes the temporary ones
 abbrev pub reset_fonts : List FontEvent
@@ -60,6 +63,10 @@ reset_fonts = control Temporary 0 0 ∷ []
 -- and to macros
 abbrev pub reset_macros : List MacroEvent
 reset_macros = macro_control macros.Temporary 0 ∷ []
+
+-- each page was asked with nothing
+abbrev pub asks_for : List Sheet → Asks
+asks_for pages = record { pages = map (λ (sheet : Sheet). nothing_asked) pages; exits = [] }
 
 -- an unmarked page with no raster, and no definition
 abbrev pub between : Settings → List Sheet → ℕ → Situation
@@ -71,6 +78,7 @@ between t pages n = record {
   begun = None;
   marks = [];
   pages = pages;
+  asks = asks_for pages;
   performed = n;
 }
 
@@ -97,8 +105,7 @@ drawn_between dpi operation value t {t'} {pages} n o e d =
     ∙ ap (λ (out : Outcome). done_with dpi operation command out at) o
     ∙ ap (λ (test : Bool).
     drawn_on dpi operation command
-    (cond test (record at { settings = to_first_line t'; marks = []; pages = pages ++ sheet_of at ∷ [] })
-    (record at { settings = t' }))) e
+    (cond test (turned_page t' at) (record at { settings = t' }))) e
     ∙ d (between t' pages (n + 1))
 
 set_between : (dpi : Dpi) (operation : Operation) (value : Value) (t : Settings) {t' : Settings} {effect : Effect} {pages : List Sheet}
@@ -188,6 +195,7 @@ in_body size dpi t m k seed marks pages n = record {
   begun = None;
   marks = marks;
   pages = pages;
+  asks = asks_for pages;
   performed = n;
 }
 
@@ -270,6 +278,7 @@ start_after {size} dpi {copies} {t} {pages} n b =
       begun = None;
       marks = [];
       pages = pages;
+      asks = asks_for pages;
       performed = n + 1;
     })) raster
     ∙ ap (λ (m : Method). Ok
@@ -280,8 +289,8 @@ start_after {size} dpi {copies} {t} {pages} n b =
       macros = reset_macros;
       begun = None;
       marks = [];
-      pages =
-          pages;
+      pages = pages;
+      asks = asks_for pages;
       performed = n + 1;
     })) b.method
 
@@ -510,12 +519,22 @@ end_after : (size : Size) (dpi : Dpi) (t : Settings) (m : Method) (k : ℕ) (see
 unfolding after outcome
 end_after size dpi t m k seed n = refl
 
-feed_after : (dpi : Dpi) (u : Settings) (marks : List Mark) (pages : List Sheet) (n : ℕ)
+-- one page more
+asks_more : {asked : Asked} (pages : List Sheet) (sheet : Sheet) → asked ≡ nothing_asked
+    → with_page asked (asks_for pages) ≡ asks_for (pages ++ sheet ∷ [])
+asks_more pages sheet e =
+    ap (λ (one : Asked). with_page one (asks_for pages)) e
+    ∙ ap (λ (all : List Asked). record { pages = all; exits = [] }) (sym (map-append (λ (one : Sheet). nothing_asked) pages (sheet ∷ [])))
+
+feed_after : (dpi : Dpi) (u : Settings) (marks : List Mark) (pages : List Sheet) (n : ℕ) → u.asked ≡ nothing_asked
     → does dpi (deed FormFeed zero_value [])
     (record (between u pages n) { marks = marks })
     ≡ Ok (between (to_first_line (before_feed u)) (pages ++ record { size = u.size; copies = u.copies; marks = marks } ∷ []) (n + 1))
 unfolding after outcome
-feed_after dpi u marks pages n = refl
+feed_after dpi u marks pages n e =
+    let sheet : Sheet = record { size = u.size; copies = u.copies; marks = marks } in
+    ap (λ (asks : Asks). Ok (record (between (to_first_line (before_feed u)) (pages ++ sheet ∷ []) (n + 1)) { asks = asks }))
+    (asks_more pages sheet e)
 
 feed_method : (test : Bool) (u : Settings) → (cond test (return_carriage u) u).method ≡ u.method
 feed_method true u = refl
@@ -525,28 +544,36 @@ feed_height : (test : Bool) (u : Settings) → (cond test (return_carriage u) u)
 feed_height true u = refl
 feed_height false u = refl
 
+feed_asked : (test : Bool) (u : Settings) → (cond test (return_carriage u) u).asked ≡ u.asked
+feed_asked true u = refl
+feed_asked false u = refl
+
 -- where the settings are between texts again
 abbrev ended_at : Size → Dpi → Settings → Method → ℕ → List ℕ → Settings
 ended_at size dpi t m k seed = to_first_line (before_feed (behind size dpi t m k seed))
 
 end_leads : (size : Size) (dpi : Dpi) (t : Settings) (m : Method) (k : ℕ) (seed : List ℕ) (marks : List Mark) (pages : List Sheet) (n : ℕ)
-    → t.raster_height ≡ None → length pages < 256
+    → t.raster_height ≡ None → t.asked ≡ nothing_asked → length pages < 256
     → IsBetween (ended_at size dpi t m k seed)
     × Leads dpi end_deeds (in_body size dpi t m k seed marks pages n)
     (between (ended_at size dpi t m k seed) (pages ++ record { size = t.size; copies = t.copies; marks = marks } ∷ []) (n + 1 + 1))
-end_leads size dpi t m k seed marks pages n none few =
+end_leads size dpi t m k seed marks pages n none asked few =
     let u = behind size dpi t m k seed in
     let middle : Situation = record (between u pages (n + 1)) { marks = marks } in
     let more = pages ++ record { size = t.size; copies = t.copies; marks = marks } ∷ [] in
     let last = between (to_first_line (before_feed u)) more (n + 1 + 1) in
     let sheet : Sheet = record { size = t.size; copies = t.copies; marks = marks } in
     let all : length more ≤ 256 = omega (arith, length-append pages (sheet ∷ [])) in (
-      record { method = feed_method u.feed_returns u; height = feed_height u.feed_returns u ∙ none },
+      record {
+        method = feed_method u.feed_returns u;
+        height = feed_height u.feed_returns u ∙ none;
+        asked = feed_asked u.feed_returns u ∙ asked;
+      },
       (
         middle,
         end_after size dpi t m k seed n,
         pages_fit middle (omega arith),
-        (last, feed_after dpi u marks pages (n + 1), pages_fit last all, refl),
+        (last, feed_after dpi u marks pages (n + 1) asked, pages_fit last all, refl),
       ),
     )
 
@@ -580,7 +607,7 @@ text_taken {dpi} {size} {copies} {rows} printed {t} {pages} {n} b few =
     let start = start_leads size dpi copies pages n b printed.some_copies printed.few_copies (omega arith) in
     let body = body_printed false printed.tokens u rows 0 [] pages start.0 printed.prints printed.rows_are
     (length-replicate (bytes_of_width (page_width size dpi)) 0) (omega arith) in
-    let end = end_leads size dpi u body.last body.end body.seed body.all pages body.count b.height few in
+    let end = end_leads size dpi u body.last body.end body.seed body.all pages body.count b.height b.asked few in
     let begun = in_body size dpi u Plain 0 (zeros size dpi) [] pages start.0 in
     let drawn = in_body size dpi u body.last body.end body.seed body.all pages body.count in
     let settings = ended_at size dpi u body.last body.end body.seed in

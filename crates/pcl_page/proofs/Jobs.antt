@@ -194,14 +194,18 @@ end_reached {S} takes dpi end all whole place interpreter new old now then (Err 
     let s = r.situation in
     let d = step dpi s r.is_at in
     let stops : whole ≡ record { situation = s; refusal = Some (refusal d.0 end Empty) } =
-    sym r.same ∙ ap (λ (o : Option Kind). ended dpi end o s) d.1 in
-    (subst (λ (p : Performance). HandsOver takes dpi p (Err (Refused why)) old then) (sym stops)
-    (ap (λ (f : Refusal). Some f) (sym d.2), subst (λ (x : S). Hands takes dpi s.pages old x) (sym d.3) r.handed), tt)
+    sym r.same ∙ ap (λ (o : Option Kind). ended dpi end o s) d.1 in (
+      subst (λ (p : Performance). HandsOver takes dpi p (Err (Refused why)) old then) (sym stops)
+          (ap (λ (f : Refusal). Some f) (sym d.2), subst (λ (x : S). Hands takes dpi s.pages old x) (sym d.3) r.handed),
+      tt,
+    )
 end_reached {S} takes dpi end all whole place interpreter new old now then (Err Memory) r step =
     let s = r.situation in
-    let o = end_grows dpi end s in
-    (subst (λ (p : Performance). HandsOver takes dpi p (Err Memory) old then) r.same
-    (s.pages, o.0, o.1, subst (λ (x : S). Hands takes dpi s.pages old x) (sym (step dpi s r.is_at)) r.handed), tt)
+    let o = end_grows dpi end s in (
+      subst (λ (p : Performance). HandsOver takes dpi p (Err Memory) old then) r.same
+          (s.pages, o.0, o.1, subst (λ (x : S). Hands takes dpi s.pages old x) (sym (step dpi s r.is_at)) r.handed),
+      tt,
+    )
 
 -- of a job that is not read nothing is delivered
 pub undelivered : {S : Type 0} (takes : S → Page → S → Type 0) (dpi : Dpi) (job : List ℕ) (fault : JobFault) {old new : S}

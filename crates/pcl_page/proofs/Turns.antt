@@ -268,7 +268,8 @@ pub record Ejected {S : Type 0} (takes : S → Page → S → Type 0) (dpi : Dpi
   pub taken : Takes takes copies middle sink later
 
 -- what the page was asked with
-pub asked_page : {dpi : Dpi} {s : Situation} {asked : Asked} {old : Performer} (middle : Performer) → IsIn dpi s old → asked ≡ old.environment.asked
+pub asked_page : {dpi : Dpi} {s : Situation} {asked : Asked} {old : Performer} (middle : Performer) → IsIn dpi s old
+    → asked ≡ old.environment.asked
     → middle.asks ≡ old.asks → with_page asked (asks_of middle.asks) ≡ with_page s.settings.asked s.asks
 asked_page {s} {asked} middle i a e =
     ap (λ (all : AsksOfCode). with_page asked (asks_of all)) e ∙ ap (with_page asked) i.asks

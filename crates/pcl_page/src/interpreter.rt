@@ -274,7 +274,8 @@ impl<'a> Interpreter<'a> {
 
     /// Does what the end of the input does, `end` bytes from its start.
     fn finish<S: PageSink>(&mut self, end: usize, sink: &mut S) -> Result<(), JobFault>
-        ensures { (dpi : Dpi) (s : Situation) → IsAt dpi s self.old → InterpreterEnds S.takes dpi end s result self.new.performer sink.old sink.new }
+        ensures { (dpi : Dpi) (s : Situation) → IsAt dpi s self.old
+            → InterpreterEnds S.takes dpi end s result self.new.performer sink.old sink.new }
     {
         if self.macros.is_begun() {
             return Err(JobFault::Refused(Refusal::new(Kind::MacroOpen, end, Name::Empty)));

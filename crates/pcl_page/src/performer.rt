@@ -167,7 +167,12 @@ impl<'a> Performer<'a> {
 
     /// Hands over the page with these copies, which was asked with this, and begins a white one, with the cursor on the first
     /// line.
-    fn eject<S: PageSink>(&mut self, copies: u8, asked: Asked, sink: &mut S) -> Result<(), AllocError>
+    fn eject<S: PageSink>(
+        &mut self,
+        copies: u8,
+        asked: Asked,
+        sink: &mut S,
+    ) -> Result<(), AllocError>
         requires few { self.old.ejected < 256 }
         requires copies { (1 ≤ copies) × (copies ≤ 99) }
         ensures ok { OnOk result (IsEjected asked self.old self.new × Takes S.takes copies self.old sink.old sink.new) }

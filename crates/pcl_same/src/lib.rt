@@ -4,6 +4,7 @@
 //! many copies and the same dots; what draws the dots, and what else a job says, doesn't matter.
 #![tactic(auto)]
 
+mod asks;
 mod bits;
 mod comparing;
 mod comparison;
@@ -14,6 +15,7 @@ mod keeping;
 mod kept_bitmap;
 mod laws;
 
+pub use asks::same_asks;
 pub use comparison::{Comparison, Difference};
 pub use fault::{Job, SameFault};
 pub use images::differing_dots;

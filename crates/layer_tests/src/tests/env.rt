@@ -3,8 +3,8 @@ use pcl_base::Axis::{Horizontal, Vertical};
 use pcl_base::Operation::*;
 use pcl_base::Sign::{Absent, Minus, Plus};
 use pcl_base::Unit::{Column, Decipoint, PclUnit};
-use pcl_base::{Dpi, Method, Operation, Side, Sign, Size, Value};
-use pcl_env::{Effect, Env, Unsupported};
+use pcl_base::{Asking, Dpi, Method, Operation, Side, Sign, Size, Value};
+use pcl_env::{Asked, Effect, Env, Unsupported};
 use std::process::Abort;
 
 const STAY: Result<Effect, Unsupported> = Ok(Effect::Stay);
@@ -22,7 +22,7 @@ type Outcome = (Result<Effect, Unsupported>, u32, u32);
 /// what is wanted of it, and the next one begins a new job.
 type Step = (Operation, Sign, u32, Option<Outcome>);
 
-const STEPS: [Step; 131] = [
+const STEPS: [Step; 133] = [
     // The first line and the top margin.
     (NoEffect, Absent, 0, Some((STAY, 0, 4500))),
     (TopMargin, Absent, 0, Some((STAY, 0, 900))),
@@ -222,7 +222,19 @@ const STEPS: [Step; 131] = [
     ),
     (OnlyZero, Minus, 9999, Some((STAY, 0, 4500))),
     (OnlyZero, Absent, 10_000, Some((REFUSED, 0, 4500))),
-    (EjectMarked, Minus, 70_000, Some((EJECT_MARKED, 0, 4500))),
+    (
+        Ask(Asking::PaperSource),
+        Minus,
+        70_000,
+        Some((EJECT_MARKED, 0, 4500)),
+    ),
+    (
+        Ask(Asking::SheetSide),
+        Absent,
+        20_000,
+        Some((EJECT_MARKED, 0, 4500)),
+    ),
+    (Ask(Asking::Sides), Absent, 10_000, Some((STAY, 0, 4500))),
     (FillRectangle, Absent, 50_000, Some((STAY, 0, 4500))),
     (FillRectangle, Absent, 20_000, Some((REFUSED, 0, 4500))),
     (RasterPresentation, Absent, 30_000, Some((STAY, 0, 4500))),
@@ -266,6 +278,31 @@ fn say(env: &mut Env, operation: Operation, whole: u32) -> Result<Effect, Unsupp
         parts: whole.saturating_mul(10_000),
     };
     env.apply(operation, value, false, Dpi::Dpi300)
+}
+
+// The last value of each asking counts, and a reset takes all back.
+#[test]
+fn askings(rt: HostRuntime) {
+    let mut env = Env::new();
+    let answers = (
+        say(&mut env, Ask(Asking::Sides), 1),
+        say(&mut env, Ask(Asking::OutputBin), 2),
+        say(&mut env, Ask(Asking::MediaType), 3),
+        say(&mut env, Ask(Asking::PaperSource), 4),
+        say(&mut env, Ask(Asking::PaperSource), 5),
+    );
+    let wanted = (STAY, STAY, STAY, EJECT_MARKED, EJECT_MARKED);
+    assert_gives(&rt, &"answers", &answers, &wanted);
+    let asked = Asked {
+        sides: Some(1),
+        output_bin: Some(2),
+        media_type: Some(3),
+        paper_source: Some(5),
+        sheet_side: None,
+    };
+    assert_gives(&rt, &"asked", &env.asked(), &asked);
+    let _answer = say(&mut env, Reset, 0);
+    assert_gives(&rt, &"after a reset", &env.asked(), &Asked::NOTHING);
 }
 
 // The greatest number that each command takes, and the next one.

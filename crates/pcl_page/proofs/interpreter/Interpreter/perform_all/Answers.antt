@@ -38,10 +38,12 @@ returns-in_err-perform_at g c =
     (rest_of_job c.args.dpi c.args.end all c.loop-place.place rest) c.loop-place.self c.args.sink.now c.loop-place.sink) next
     c.loop-place.invariant in
     let p = err_from_is_err_and c.from_residual.result c.from_residual.ensures.1 in
-    rw (p.1, p.2)
-    (command_stopped g.S.PageSink.takes c.args.dpi c.args.end all whole c.loop-place.place _ _ c.loop-place.self
-    c.perform_at.new.self c.args.sink.now c.loop-place.sink c.perform_at.new.sink _ r
-    (c.in_err-perform_at.ensures.done all r.situation r.is_at), tt)
+    rw (p.1, p.2) (
+      command_stopped g.S.PageSink.takes c.args.dpi c.args.end all whole c.loop-place.place _ _ c.loop-place.self
+          c.perform_at.new.self c.args.sink.now c.loop-place.sink c.perform_at.new.sink _ r
+          (c.in_err-perform_at.ensures.done all r.situation r.is_at),
+      tt,
+    )
 
 pub run_macros-requires-clause-somewhere : goal.run_macros-requires-clause-somewhere
 run_macros-requires-clause-somewhere g c =
@@ -59,9 +61,11 @@ returns-in_err-run_macros g c =
     c.perform_at.new.self c.args.sink.now c.loop-place.sink c.perform_at.new.sink r
     (c.in_ok-perform_at.ensures.done all r.situation r.is_at) in
     let p = err_from_is_err_and c.from_residual-in_err-run_macros.result c.from_residual-in_err-run_macros.ensures.1 in
-    rw (p.1, p.2)
-    (macros_stopped g.S.PageSink.takes c.args.dpi c.args.end all whole c.loop-place.place _ _ c.perform_at.new.self c.run_macros.new.self
-    c.args.sink.now c.loop-place.sink c.perform_at.new.sink c.run_macros.new.sink _ b (λ s at. c.in_err-run_macros.ensures.done s at), tt)
+    rw (p.1, p.2) (
+      macros_stopped g.S.PageSink.takes c.args.dpi c.args.end all whole c.loop-place.place _ _ c.perform_at.new.self c.run_macros.new.self
+          c.args.sink.now c.loop-place.sink c.perform_at.new.sink c.run_macros.new.sink _ b (λ s at. c.in_err-run_macros.ensures.done s at),
+      tt,
+    )
 
 pub returns : goal.returns
 returns g c =

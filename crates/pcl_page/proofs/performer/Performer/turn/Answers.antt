@@ -74,6 +74,7 @@ returns-clause-turned g c = λ s i.
           i a (sym c.ejects.ensures ∙ w.if-ejects.false) c.args.self.now.few_pages
           (ap (λ (p : Performer). p.page.bitmap) w.self-is) (ap (λ (p : Performer). p.is_marked) w.self-is)
           (ap (λ (p : Performer). p.ejected) w.self-is)
-          (ap (λ (p : Performer). p.performed) w.self-is) (ap (λ (p : Performer). p.asks) w.self-is) (ap (λ (p : Performer). p.raster) w.self-is)
+          (ap (λ (p : Performer). p.performed) w.self-is) (ap (λ (p : Performer). p.asks) w.self-is)
+          (ap (λ (p : Performer). p.raster) w.self-is)
           (ap (λ (p : Performer). p.fonts) w.self-is) c.in_ok-follow_size.ensures w.sink-is
     ]
