@@ -33,11 +33,21 @@ fn same_pages(first: &[Asked], second: &[Asked]) -> bool
 fn same_asked(one: &Asked, other: &Asked) -> bool
     ensures { result ≡ true → one.now ≡ other.now }
 {
-    one.sides == other.sides
-        && one.output_bin == other.output_bin
-        && one.media_type == other.media_type
-        && one.paper_source == other.paper_source
-        && one.sheet_side == other.sheet_side
+    same_paper(one, other) && same_sides(one, other) && one.output_bin == other.output_bin
+}
+
+/// Whether two pages are asked with the same paper.
+fn same_paper(one: &Asked, other: &Asked) -> bool
+    ensures { result ≡ true → (one.now.media_type ≡ other.now.media_type) × (one.now.paper_source ≡ other.now.paper_source) }
+{
+    one.media_type == other.media_type && one.paper_source == other.paper_source
+}
+
+/// Whether two pages are asked with the same sides.
+fn same_sides(one: &Asked, other: &Asked) -> bool
+    ensures { result ≡ true → (one.now.sides ≡ other.now.sides) × (one.now.sheet_side ≡ other.now.sheet_side) }
+{
+    one.sides == other.sides && one.sheet_side == other.sheet_side
 }
 
 /// Whether universal exits are the same.
