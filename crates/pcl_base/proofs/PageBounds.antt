@@ -1,5 +1,5 @@
 -- How large pages are at most: Legal is the highest, Letter and Legal are the widest, at 600 dots per inch.
-use Rattle.std.proofs.Common.{ℕ, ◌<◌, ◌≤◌, arith, lit<, lit≤}
+use Rattle.std.proofs.Common.{◌<◌, ◌≤◌, arith, lit<, lit≤}
 use Rattle.pcl_base.specs.declared.dpi.Dpi.{Dpi}
 use Rattle.pcl_base.specs.declared.dpi.Dpi.TheVariants.{Dpi300, Dpi600}
 use Rattle.pcl_base.specs.declared.size.Size.{Size}

@@ -1,5 +1,5 @@
 -- The lines of the printer's job language after a universal exit.
-use Rattle.std.specs.Prelude.{◌≡◌, ℕ, ◌+◌, Bool, false, ◌==◌, ◌||◌, not, nat_eq, IsTrue, List, [], ◌∷◌, ◌++◌, map, filter, codes, ◌⊎◌}
+use Rattle.std.specs.Prelude.{◌≡◌, ℕ, Bool, false, ◌==◌, ◌||◌, not, nat_eq, IsTrue, List, [], ◌∷◌, ◌++◌, map, filter, codes, ◌⊎◌}
 use Rattle.std.specs.List.{starts_with, flat_map, AllByRecursion}
 use Rattle.std.specs.Char.{to_ascii_uppercase}
 use Rattle.std.specs.Str.{bytes_eq}

@@ -1,5 +1,5 @@
 -- Value fields: a sign, digits, and a point with digits; each may be missing.
-use Rattle.std.specs.Prelude.{ℕ, ◌+◌, ◌*◌, ◌-◌, Bool, ◌&&◌, nat_le, List, [], ◌∷◌, ◌++◌, fold, slice_index, Option, Some, None}
+use Rattle.std.specs.Prelude.{ℕ, ◌+◌, ◌*◌, ◌-◌, Bool, nat_le, List, [], ◌∷◌, ◌++◌, slice_index, Option, Some, None}
 use Rattle.std.specs.Borrow.{Bor}
 use Rattle.pcl_base.specs.Digits.{number_of}
 use Rattle.pcl_base.specs.declared.value.Sign.{Sign}

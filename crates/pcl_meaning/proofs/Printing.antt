@@ -35,7 +35,7 @@ use Rattle.pcl_page.specs.Asks.{Asks, with_page}
 use Rattle.pcl_page.specs.Macros.{and_then}
 use Rattle.pcl_page.specs.Marks.{Mark, is_black, dot_at}
 use Rattle.pcl_page.specs.Raster.{Raster, ends_raster, scale_of, raster_from, bytes_of_width, cleared_past, row_sent, row_mark}
-use Rattle.pcl_page.specs.Situation.{Sheet, Situation, below, ejects, end_raster, drawn_on, done_with, taken, after, sheet_of, turned_page, page_refusal}
+use Rattle.pcl_page.specs.Situation.{Sheet, Situation, below, ejects, end_raster, drawn_on, done_with, taken, after, turned_page, page_refusal}
 use Rattle.pcl_rows.specs.Rows.{IsRowData}
 use Rattle.pcl_rows.proofs.Decoded.{decoded_is}
 use Rattle.pcl_output.specs.Tokens.{Token, opening, method, skip, send, PrintsRows}

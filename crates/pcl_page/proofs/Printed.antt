@@ -1,5 +1,5 @@
 -- What is drawn, text and fonts: the performer follows the situation.
-use Rattle.std.proofs.Common.{◌≡◌, ℕ, suc, ◌+◌, ◌-◌, Bool, true, false, cond, List, [], ◌∷◌, length, Option, Some, None, ℤ, pos, negsuc, refl, sym, ap, subst, ◌∙◌}
+use Rattle.std.proofs.Common.{◌≡◌, ℕ, suc, ◌+◌, ◌-◌, Bool, true, false, cond, List, [], ◌∷◌, Option, Some, None, ℤ, pos, negsuc, refl, sym, ap, subst, ◌∙◌}
 use Rattle.std.specs.Prelude.{◌==◌}
 use Rattle.pcl_base.specs.declared.dpi.Dpi.{Dpi}
 use Rattle.pcl_base.specs.declared.operation.Side.{Side}
@@ -14,11 +14,11 @@ use Rattle.pcl_fonts.specs.Table.{info_of}
 use Rattle.pcl_fonts.proofs.Histories.{holds_after}
 use Rattle.pcl_env.specs.Settings.{Settings, put_x, advance, font_of, font_in_use}
 use Rattle.pcl_page.specs.declared.performer.Performer.{Performer}
-use Rattle.pcl_page.specs.Asks.{with_exit, asks_of}
+use Rattle.pcl_page.specs.Asks.{asks_of}
 use Rattle.pcl_page.specs.Text.{prints, character_mark, is_blank, is_proportional, text_refusal, behind_character, behind_blank}
 use Rattle.pcl_page.specs.Raster.{Raster, row_sent, with_row, row_mark}
-use Rattle.pcl_page.specs.Situation.{Situation, with_event, exited, with_row_in, raster_for_row, rectangle_mark, code_printed, codes_printed}
-use Rattle.pcl_page.specs.inner.Reflecting.{IsIn, IsDrawn, IsSent, HasEvent, HasExit, HasSettings}
+use Rattle.pcl_page.specs.Situation.{Situation, with_event, with_row_in, raster_for_row, rectangle_mark, code_printed, codes_printed}
+use Rattle.pcl_page.specs.inner.Reflecting.{IsIn, IsDrawn, IsSent, HasEvent, HasSettings}
 use Rattle.pcl_page.proofs.Turns.{painted_same, holds_same, drawn_in}
 
 pub event_in : {dpi : Dpi} {event : FontEvent} {s : Situation} {old new : Performer} → IsIn dpi s old → HasEvent event old new
@@ -45,22 +45,6 @@ settings_in {settings} i h = record {
   asks = ap asks_of h.asks ∙ i.asks;
   fonts = holds_same i.fonts h.fonts refl;
   painted = painted_same i.painted h.bitmap (h.size ∙ ap (λ (t : Settings). t.size) i.settings);
-}
-
--- ---- universal exits
-
-pub exit_in : {dpi : Dpi} {lines : List ℕ} {s : Situation} {old new : Performer} → IsIn dpi s old → HasExit lines old new
-    → IsIn dpi (exited lines s) new
-exit_in {lines} {s} {old} i h = record {
-  settings = h.settings ∙ i.settings;
-  raster = h.raster ∙ i.raster;
-  marked = h.marked ∙ i.marked;
-  ejected = h.ejected ∙ i.ejected;
-  performed = h.performed ∙ i.performed;
-  asks = h.asks ∙ ap (λ (n : ℕ). with_exit (record { pages = n; lines = lines }) (asks_of old.asks)) i.ejected
-      ∙ ap (with_exit (record { pages = length s.pages; lines = lines })) i.asks;
-  fonts = holds_same i.fonts h.fonts refl;
-  painted = painted_same i.painted h.bitmap refl;
 }
 
 -- ---- rectangles and rows

@@ -23,9 +23,9 @@ use std::marker::Model;
 /// One bitmap is painted, handed over and cleared. A refusal names the first refused command; the sink
 /// has then taken the pages that were ejected before it. Where memory runs out it has taken the first
 /// of its pages.
-pub fn run<S: PageSink>(
+pub fn run<'a, S: PageSink>(
     alloc: Global,
-    commands: &[Command<'_>],
+    commands: &[Command<'a>],
     end: usize,
     dpi: Dpi,
     sink: &mut S,

@@ -154,6 +154,19 @@ const SEQUENCES: [Sequence; 20] = [
     ),
 ];
 
+const LINES: &[u8] = b"\x1b%-12345X@PJL EOJ\r\n@PJLX\n\x1bE";
+
+// The lines after a universal exit are its data.
+const EXITS: [Parts; 2] = [
+    ((0, EXIT, Sign::Minus, 123_450_000), b"@PJL EOJ\r\n@PJLX\n"),
+    ((25, RESET, Sign::Absent, 0), b""),
+];
+
+#[test]
+fn reads_lines_of_an_exit(rt: HostRuntime) -> Result<(), Fail> {
+    assert_commands(&rt, rt.alloc(), LINES, &EXITS)
+}
+
 #[test]
 fn reads_sequences(rt: HostRuntime) -> Result<(), Fail> {
     assert_sequences(&rt, rt.alloc(), &SEQUENCES)

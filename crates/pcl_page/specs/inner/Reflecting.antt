@@ -23,7 +23,7 @@ use Rattle.pcl_bitmap.specs.declared.page.Page.{Page}
 use Rattle.pcl_page.specs.declared.performer.Performer.{Performer}
 use Rattle.pcl_bitmap.specs.Dots.{is_black_ink}
 use Rattle.pcl_env.specs.declared.asked.Asked.{Asked}
-use Rattle.pcl_page.specs.Asks.{with_page, with_exit, asks_of}
+use Rattle.pcl_page.specs.Asks.{with_page, asks_of}
 use Rattle.pcl_page.specs.Marks.{Mark, is_black}
 use Rattle.pcl_page.specs.Raster.{Raster, row_sent, with_row, row_mark, ends_raster}
 use Rattle.pcl_page.specs.Situation.{Sheet, Situation, raster_for_row, settings_below, is_marked, turned, at_end, page_refusal, command_refusal, after}
@@ -132,17 +132,6 @@ pub record HasEvent (event : FontEvent) (old new : Performer) : Type 0 where
   pub performed : new.performed ≡ old.performed
   pub asks : new.asks ≡ old.asks
   pub follows : Follows old.fonts new.fonts event
-  pub bitmap : new.page.bitmap ≡ old.page.bitmap
-
--- a universal exit with these lines was performed, and all else is as before
-pub record HasExit (lines : List ℕ) (old new : Performer) : Type 0 where
-  pub settings : new.environment ≡ old.environment
-  pub raster : new.raster ≡ old.raster
-  pub marked : new.is_marked ≡ old.is_marked
-  pub ejected : new.ejected ≡ old.ejected
-  pub performed : new.performed ≡ old.performed
-  pub asks : asks_of new.asks ≡ with_exit (record { pages = old.ejected; lines = lines }) (asks_of old.asks)
-  pub fonts : new.fonts ≡ old.fonts
   pub bitmap : new.page.bitmap ≡ old.page.bitmap
 
 -- what is set is this, on a page of the same size, and all else is as before
