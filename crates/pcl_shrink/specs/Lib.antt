@@ -1,0 +1,2 @@
+pub mod Shrinking
+pub mod Looking

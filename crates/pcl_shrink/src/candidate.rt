@@ -1,0 +1,34 @@
+//! What a job is shrunk to.
+
+use pcl_base::Dpi;
+
+/// A way to write the pages of a job.
+#[derive(Clone, Copy, Debug, PartialEq, Eq)]
+pub enum Candidate {
+    /// The bytes that came in.
+    Input,
+    /// The least raster job (docs/OUTPUT.md).
+    Raster,
+    /// Rasters of coarser resolutions, where a page has them.
+    Coarse,
+    /// Letters as soft fonts (docs/GLYPHS.md).
+    Glyphs,
+}
+
+/// The smallest job that was found with the pages of another.
+#[derive(Debug, Drop)]
+pub struct Shrunk {
+    /// The job.
+    pub job: Vec<u8>,
+    /// How it is written.
+    pub by: Candidate,
+}
+
+/// The same, and the resolution at which the jobs were compared.
+#[derive(Debug, Drop)]
+pub struct ShrunkAt {
+    /// The first of 300 and 600 dots per inch at which the job is accepted.
+    pub dpi: Dpi,
+    /// The smallest job that was found.
+    pub shrunk: Shrunk,
+}

@@ -1,0 +1,18 @@
+//! The smallest job that is found with the same pages (docs/SHRINK.md).
+//!
+//! Candidates are made by code of which nothing is promised but that it returns. Each is performed and compared with the input, dot
+//! for dot, before it is taken.
+#![tactic(auto)]
+
+mod candidate;
+mod coarse;
+mod laws;
+mod looking;
+mod rasters;
+mod shrinking;
+mod squares;
+
+pub use candidate::{Candidate, Shrunk, ShrunkAt};
+pub use laws::shrunk_jobs_have_the_same_pages;
+pub use looking::is_same;
+pub use shrinking::{shrink, shrink_auto};

@@ -1,0 +1,88 @@
+//! Pages written as rasters of some resolution.
+
+use crate::squares::coarse_page;
+use itoa::Buffer;
+use pcl_base::Dpi;
+use pcl_page::Page;
+use pcl_plan::plan;
+use pcl_writer::write_page;
+use std::alloc::{AllocError, Global};
+
+/// The text of a page.
+#[derive(Drop)]
+pub struct Text {
+    pub bytes: Vec<u8>,
+    /// Whether its raster has a coarser resolution than the page.
+    pub is_coarse: bool,
+}
+
+/// Appends what stands before the text of the page of this number, from 0: nothing.
+pub fn append_page_start(_page: usize, _out: &mut Vec<u8>) -> Result<(), AllocError> {
+    Ok(())
+}
+
+/// The shortest of the least page text (docs/OUTPUT.md) and those with rasters of coarser resolutions that the page has.
+pub fn shortest_text(alloc: Global, page: &Page) -> Result<Text, AllocError> {
+    let mut shortest = Text {
+        bytes: least_text(alloc, page)?,
+        is_coarse: false,
+    };
+    for side in sides(page.dpi) {
+        if let Some(coarse) = coarse_page(alloc, page, *side)? {
+            let bytes = coarse_text(alloc, &coarse, *side)?;
+            if bytes.len() < shortest.bytes.len() {
+                let is_coarse = true;
+                shortest = Text { bytes, is_coarse };
+            }
+        }
+    }
+    Ok(shortest)
+}
+
+/// How many dots wide and high the squares of coarser rasters are: 150, 100 and 75 dots per inch, and before these at 600 dots per
+/// inch 300 and 200.
+fn sides(dpi: Dpi) -> &'static [u32] {
+    match dpi {
+        Dpi::Dpi300 => &[2, 3, 4],
+        Dpi::Dpi600 => &[2, 3, 4, 6, 8],
+    }
+}
+
+/// The least page text of a page.
+fn least_text(alloc: Global, page: &Page) -> Result<Vec<u8>, AllocError> {
+    let least = plan(alloc, page)?;
+    let mut text = Vec::new(alloc);
+    write_page(page, &least, &mut text)?;
+    Ok(text)
+}
+
+/// The text of a page whose dots, in its upper left corner, stand for squares of so many dots.
+fn coarse_text(alloc: Global, coarse: &Page, side: u32) -> Result<Vec<u8>, AllocError> {
+    let side = side.max(1);
+    let least = least_text(alloc, coarse)?;
+    let mut text = Vec::new(alloc);
+    append_number(b"\x1b&l", u32::from(coarse.copies), &mut text)?;
+    append_number(b"x", coarse.size.code(), &mut text)?;
+    append_number(b"a0E\x1b*p0x0Y\x1b*t", coarse.dpi.dots() / side, &mut text)?;
+    let columns = coarse.size.width(coarse.dpi).div_ceil(side);
+    append_number(b"R\x1b*r", columns, &mut text)?;
+    text.extend_from_slice(b"s0A")?;
+    text.extend_from_slice(rows_of_text(&least))?;
+    Ok(text)
+}
+
+/// What stands in a page text behind the start of its raster, which ends with the first `A`.
+fn rows_of_text(text: &[u8]) -> &[u8] {
+    let start = match text.iter().position(|byte| *byte == b'A') {
+        Some(place) => place.saturating_add(1).min(text.len()),
+        None => 0,
+    };
+    &text[start..]
+}
+
+/// Appends a label and a number in decimal after it.
+fn append_number(label: &[u8], number: u32, out: &mut Vec<u8>) -> Result<(), AllocError> {
+    let mut digits = Buffer::new();
+    out.extend_from_slice(label)?;
+    out.extend_from_slice(digits.format(number).as_bytes())
+}
