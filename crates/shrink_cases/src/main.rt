@@ -1,0 +1,152 @@
+//! Jobs, and what they are shrunk to. It prints a line for each: which candidate wins, and the bytes that came in and that go out;
+//! `stdout` has what has to come.
+//!
+//! The least raster job of a white Letter page has 42 bytes: `ESC E` 2, `ESC&l1x2a0E` 9, `ESC*p0x0Y` 7, `ESC*t300R` 7,
+//! `ESC*r2400s0A` 10, `ESC*rC` 4, the form feed 1, `ESC E` 2. A row of n bytes, for n up to 9, takes 5 and n more. With squares of
+//! four dots `ESC*t75R` and `ESC*r600s0A` save a byte each; with squares of two dots nothing is saved around the rows.
+//!
+//! The line of ninety letters is the example of docs/GLYPHS.md with all letters 24 dots apart: 166 bytes beside its codes and
+//! moves, `ESC*p34x10Y` 9, and 90 codes. At 600 dots per inch it has squares of two dots, and nine rows of 90 changes, which method
+//! 3 says in 2 bytes each: the 42 bytes around the rows, `ESC*b3m1y180W` 11, eight times `ESC*b180W` 7, and nine times 180.
+#![tactic(auto)]
+
+use pcl_base::{Dpi, JobFault};
+use pcl_shrink::{Shrunk, shrink, shrink_auto};
+use std::alloc::{AllocError, Global};
+use std::io;
+
+/// A job, and what it is a case of.
+struct Case {
+    name: &'static str,
+    job: &'static [u8],
+}
+
+/// A raster at 600 dots per inch.
+const FINE: &[u8] = b"\x1b*t600R\x1b*r1A\x1b*b1W\x80";
+
+/// A raster at 300 dots per inch.
+const USUAL: &[u8] = b"\x1b*t300R\x1b*r1A\x1b*b1W\x80";
+
+const CASES: [Case; 10] = [
+    Case {
+        name: "an empty job",
+        job: b"",
+    },
+    Case {
+        name: "resets alone",
+        job: b"\x1bE\x1bE\x1bE\x1bE",
+    },
+    Case {
+        name: "a job that is refused",
+        job: b"\x1b*cP\x1be",
+    },
+    Case {
+        name: "a white page",
+        job: b"\x1b*cP",
+    },
+    Case {
+        name: "a dot by a rectangle",
+        job: b"\x1b&l0E\x1b*p0x0Y\x1b*c1a1b0P",
+    },
+    Case {
+        name: "a dot by a raster with much around it",
+        job: b"\x1bE\x1b&l1X\x1b&l2A\x1b&l0E\x1b*p0x0Y\x1b*t300R\x1b*r2400S\x1b*r0A\x1b*b0M\x1b*b0Y\x1b*b1W\x80\x1b*rC\x0c\x1bE",
+    },
+    Case {
+        name: "squares of four dots at 75 dots per inch",
+        job: b"\x1bE\x1b&l1X\x1b&l2A\x1b&l0E\x1b*p0x0Y\x1b*t75R\x1b*r600S\x1b*r0A\
+            \x1b*b0M\x1b*b4W\xa5\x5a\xc3\x3d\x1b*b4W\x5a\xa5\x3c\xd3\x1b*rC\x0c\x1bE",
+    },
+    Case {
+        name: "squares of two dots at 150 dots per inch",
+        job: b"\x1bE\x1b&l1X\x1b&l2A\x1b&l0E\x1b*p0x0Y\x1b*t150R\x1b*r1200S\x1b*r0A\
+            \x1b*b0M\x1b*b4W\xa5\x5a\xc3\x3d\x1b*b4W\x5a\xa5\x3c\xd3\x1b*rC\x0c\x1bE",
+    },
+    Case {
+        name: "the least raster at 75 dots per inch",
+        job: b"\x1bE\x1b&l1x2a0E\x1b*p0x0Y\x1b*t75R\x1b*r600s0A\x1b*b4W\xa5\x5a\xc3\x3d\x1b*b4W\x5a\xa5\x3c\xd3\x1b*rC\x0c\x1bE",
+    },
+    Case {
+        name: "a fine page and a coarse one",
+        job: b"\x1bE\x1b&l1X\x1b&l2A\x1b&l0E\x1b*p0x0Y\x1b*t300R\x1b*r2400S\x1b*r0A\
+            \x1b*b0M\x1b*b1W\x80\x1b*rC\x0c\x1b*p0x0Y\x1b*t75R\x1b*r600S\x1b*r0A\x1b*b0M\x1b*b4W\xa5\x5a\xc3\x3d\x1b*rC\x0c\x1bE",
+    },
+];
+
+fn main(rt: HostRuntime) -> io::Result<()> {
+    for case in &CASES {
+        print_shrunk(&rt, case.name, case.job, Dpi::Dpi300)?;
+    }
+    let letters = letters(rt.alloc(), 90)?;
+    print_shrunk(&rt, "a letter ninety times", &letters, Dpi::Dpi300)?;
+    print_shrunk(&rt, "the same at 600 dots per inch", &letters, Dpi::Dpi600)?;
+    let again = shrink(rt.alloc(), &letters, Dpi::Dpi300);
+    if let Ok(shrunk) = again {
+        print_shrunk(
+            &rt,
+            "soft fonts: what it was shrunk to",
+            &shrunk.job,
+            Dpi::Dpi300,
+        )?;
+    }
+    print_auto(&rt, "a raster that 300 dots per inch refuse", FINE)?;
+    print_auto(&rt, "one that 300 dots per inch accept", USUAL)?;
+    print_auto(&rt, "one that both refuse", b"\x1b*cP\x1be")
+}
+
+/// Prints the line of a case.
+fn print_shrunk<R: Print + AllocGlobal>(
+    rt: &R,
+    name: &str,
+    job: &[u8],
+    dpi: Dpi,
+) -> io::Result<()> {
+    match shrink(rt.alloc(), job, dpi) {
+        Ok(shrunk) => print_lengths(rt, name, job, &shrunk),
+        Err(fault) => print_fault(rt, name, fault),
+    }
+}
+
+/// Prints the line of a case whose resolution isn't given.
+fn print_auto<R: Print + AllocGlobal>(rt: &R, name: &str, job: &[u8]) -> io::Result<()> {
+    match shrink_auto(rt.alloc(), job) {
+        Ok(found) => {
+            print!(rt; "{} dots per inch: ", found.dpi.dots())?;
+            print_lengths(rt, name, job, &found.shrunk)
+        }
+        Err(fault) => print_fault(rt, name, fault),
+    }
+}
+
+/// Prints which candidate wins, and the bytes that came in and that go out.
+fn print_lengths(rt: &impl Print, name: &str, job: &[u8], shrunk: &Shrunk) -> io::Result<()> {
+    println!(rt;
+        "{name}: {:?}, {} to {}",
+        shrunk.by,
+        job.len(),
+        shrunk.job.len()
+    )
+}
+
+/// Prints why there is no answer.
+fn print_fault(rt: &impl Print, name: &str, fault: JobFault) -> io::Result<()> {
+    match fault {
+        JobFault::Refused(refusal) => println!(rt; "{name}: refused at {}", refusal.at),
+        JobFault::Memory => println!(rt; "{name}: out of memory"),
+    }
+}
+
+/// A line of so many letters, each a raster of nine rows of its own.
+fn letters(alloc: Global, count: usize) -> Result<Vec<u8>, AllocError> {
+    let mut job = Vec::new(alloc);
+    job.extend_from_slice(b"\x1b&l0E\x1b*t300R\x1b*p10x10Y")?;
+    for _ in 0..count {
+        job.extend_from_slice(b"\x1b*p+24X\x1b*p-9Y\x1b*r1A")?;
+        for row in b"\x78\xf0\x78\xf0\x78\x3c\x78\x3c\x78" {
+            job.extend_from_slice(b"\x1b*b1W")?;
+            job.push(*row)?;
+        }
+        job.extend_from_slice(b"\x1b*rB")?;
+    }
+    Ok(job)
+}
