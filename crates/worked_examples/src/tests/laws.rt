@@ -3,7 +3,7 @@
 use super::assert_gives;
 use pcl_base::{Dpi, JobFault, Kind, Name, Refusal, Value};
 use pcl_escape::{Command, read_job};
-use pcl_page::{Page, PageSink, one_meaning, run};
+use pcl_page::{Asked, Page, PageSink, one_meaning, perform_asked, run};
 use std::alloc::{AllocError, Global};
 use std::process::Abort;
 use std::test::Fail;
@@ -75,4 +75,39 @@ fn runs_commands(rt: HostRuntime) -> Result<(), Fail> {
     let refused = (Err(JobFault::Refused(REFUSAL)), 1);
     assert_runs(&rt, rt.alloc(), &COMMANDS, 9, &refused);
     Ok(())
+}
+
+/// A page with sides 1, one from paper source 2 besides, and then a universal exit with a line.
+const ASKING: &[u8] = b"\x1b&l1S\x1b*b1W\x80\x1b&l2H\x1b*b1W\x80\x1b%-12345X@PJL EOJ\n";
+
+fn assert_asks(rt: &impl Abort, alloc: Global) -> Result<(), Fail> {
+    let mut count = Count { pages: 0 };
+    let performed = perform_asked(alloc, ASKING, Dpi::Dpi300, &mut count);
+    let asks = performed.ok().ok_or("the job is right")?;
+    let first = Asked {
+        sides: Some(1),
+        ..Asked::NOTHING
+    };
+    let second = Asked {
+        paper_source: Some(2),
+        ..first
+    };
+    assert_gives(
+        rt,
+        &"pages",
+        &asks.pages.as_slice(),
+        &[first, second].as_slice(),
+    );
+    assert_gives(rt, &"exits", &asks.exits.len(), &1);
+    for exit in asks.exits.iter() {
+        let wanted = (2, b"@PJL EOJ\n".as_slice());
+        assert_gives(rt, &"exit", &(exit.pages, exit.lines), &wanted);
+    }
+    Ok(())
+}
+
+// What each page was asked with stood before the command that ejects it, and an exit's own page is before it.
+#[test]
+fn gives_what_is_asked(rt: HostRuntime) -> Result<(), Fail> {
+    assert_asks(&rt, rt.alloc())
 }
