@@ -13,7 +13,8 @@ use Rattle.pcl_tool.specs.declared.fault.Fault.TheVariants.{Refused, Memory, Rea
 use Rattle.pcl_tool.specs.Minimizing.{IsRead, input_limit}
 use Rattle.pcl_tool.specs.Transfer.{IsWritten}
 use Rattle.pcl_pages.specs.Describing.{IsDescribed}
-use Rattle.pcl_command.specs.Runs.{IsTextRun, TellsOfPages}
+use Rattle.pcl_shrink.specs.Shrinking.{IsShrunk}
+use Rattle.pcl_command.specs.Runs.{IsTextRun}
 
 -- of a job that was read to its end, where its text was written, or a prefix of it
 pub told : (Tells : List ℕ → List ℕ → Type 0) (Refuses : List ℕ → Refusal → Type 0) {given left : Option (List ℕ)}
@@ -27,9 +28,22 @@ told Tells Refuses old new (Err NoSuchPage) read t w = absurd w
 told Tells Refuses old new (Err ReadFault) read t w = absurd w
 told Tells Refuses old new (Err TooLong) read t w = absurd w
 
--- of a job that was read to its end, whose pages can't be described
-pub undescribed : (dpi : Dpi) {given left : Option (List ℕ)} (held : Option (List ℕ)) {job : List ℕ} (why : JobFault)
-    → IsRead given left job → length job ≤ input_limit → IsDescribed dpi job (Err why)
-    → IsTextRun (TellsOfPages dpi) (IsRefusal dpi) given left held held (Err (fault_of why))
-undescribed dpi held {job} (fault.Refused refusal) read short d = (job, read, d, Keeps-refl held)
-undescribed dpi held {job} fault.Memory read short d = ((job, read.given, omega (arith, short)), Keeps-refl held)
+-- a job is refused so, or memory ran out
+abbrev pub IsUntold : Dpi → List ℕ → JobFault → Type 0
+IsUntold dpi job (fault.Refused refusal) = IsRefusal dpi job refusal
+IsUntold dpi job fault.Memory = Unit {0}
+
+-- of a job that was read to its end, of which nothing can be told
+pub untold : (Tells : List ℕ → List ℕ → Type 0) (dpi : Dpi) {given left : Option (List ℕ)} (held : Option (List ℕ)) {job : List ℕ}
+    (why : JobFault) → IsRead given left job → length job ≤ input_limit → IsUntold dpi job why
+    → IsTextRun Tells (IsRefusal dpi) given left held held (Err (fault_of why))
+untold Tells dpi held {job} (fault.Refused refusal) read short u = (job, read, u, Keeps-refl held)
+untold Tells dpi held {job} fault.Memory read short u = ((job, read.given, omega (arith, short)), Keeps-refl held)
+
+pub undescribed : (dpi : Dpi) (job : List ℕ) (why : JobFault) → IsDescribed dpi job (Err why) → IsUntold dpi job why
+undescribed dpi job (fault.Refused refusal) d = d
+undescribed dpi job fault.Memory d = tt
+
+pub unshrunk : (dpi : Dpi) (job : List ℕ) (why : JobFault) → IsShrunk dpi job (Err why) → IsUntold dpi job why
+unshrunk dpi job (fault.Refused refusal) s = s
+unshrunk dpi job fault.Memory s = tt

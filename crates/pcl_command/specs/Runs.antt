@@ -12,6 +12,7 @@ use Rattle.pcl_tool.specs.Preview.{IsPreview}
 use Rattle.pcl_tool.specs.Transfer.{GivesAtMost, AppendsFront}
 use Rattle.pcl_explain.specs.Findings.{Explains}
 use Rattle.pcl_pages.specs.Describing.{IsAccepted}
+use Rattle.pcl_shrink.specs.Shrinking.{IsSmallerJob}
 use Rattle.pcl_command.specs.Messages.{line_of, status_for}
 use Rattle.pcl_command.specs.Files.{FileAct, Opened, Unopened, Made, Unmade, Closed, Begun, Placed, Dropped}
 use Rattle.pcl_command.specs.Checks.{IsCheckRun, verdict_status_for}
@@ -19,7 +20,7 @@ use Rattle.pcl_command.specs.ComparisonLines.{compare_line_of, compare_status_fo
 use Rattle.pcl_command.specs.Comparisons.{IsCompareRun}
 use Rattle.pcl_command.specs.declared.comparisons.CompareFault.{CompareFault}
 use Rattle.pcl_command.specs.declared.request.Task.{Task}
-use Rattle.pcl_command.specs.declared.request.Task.TheVariants.{Minimize, Certify, Preview, Explain, DescribePages}
+use Rattle.pcl_command.specs.declared.request.Task.TheVariants.{Minimize, Certify, Preview, Explain, DescribePages, Shrink}
 use Rattle.pcl_command.specs.declared.request.Run.{Run}
 use Rattle.pcl_command.specs.declared.request.Source.{Source}
 use Rattle.pcl_command.specs.declared.request.Source.TheVariants as source
@@ -39,6 +40,7 @@ page_of (Certify file format) = 0
 page_of (Preview page) = page
 page_of Explain = 0
 page_of DescribePages = 0
+page_of Shrink = 0
 
 -- what a reader gave and a writer holds after the preview of a page of the job that it gives
 abbrev pub IsPreviewRun : Dpi → ℕ → (given left old new : Option (List ℕ)) → Result (Unit {0}) Fault → Type 0
@@ -95,6 +97,8 @@ HasDoneTask acts (Preview page) dpi files kept given left old new done = (kept �
 HasDoneTask acts Explain dpi files kept given left old new done = (kept ≡ files) × IsTextRun (Explains dpi) NeverRefuses given left old new done
 HasDoneTask acts DescribePages dpi files kept given left old new done =
     (kept ≡ files) × IsTextRun (TellsOfPages dpi) (IsRefusal dpi) given left old new done
+HasDoneTask acts Shrink dpi files kept given left old new done =
+    (kept ≡ files) × IsTextRun (IsSmallerJob dpi) (IsRefusal dpi) given left old new done
 
 -- A file that was begun is placed where the task was done, and dropped where it failed or the file can't be placed.
 abbrev pub IsSettled : {F : Type 0} → (F → FileAct → F → Type 0) → List ℕ → (holds : Option (List ℕ)) → Result (Unit {0}) Fault

@@ -20,6 +20,8 @@ pub enum Task<'w> {
     Explain,
     /// Write what its pages are.
     DescribePages,
+    /// Write the smallest job that is found with its pages, which asks for the same.
+    Shrink,
 }
 
 /// Where a run takes its job from.
@@ -59,7 +61,11 @@ impl Run<'_> {
         ensures { result ≡ page_of self.entry.task }
     {
         match self.task {
-            Task::Minimize | Task::Certify { .. } | Task::Explain | Task::DescribePages => 0,
+            Task::Minimize
+            | Task::Certify { .. }
+            | Task::Explain
+            | Task::DescribePages
+            | Task::Shrink => 0,
             Task::Preview { page } => page,
         }
     }

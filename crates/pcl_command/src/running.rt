@@ -3,6 +3,7 @@
 ghost use Rattle.std.specs.Prelude.{◌≡◌, if◌then◌else◌, None, Some};
 ghost use Rattle.pcl_page.specs.Delivering.{IsRefusal};
 ghost use Rattle.pcl_explain.specs.Findings.{Explains};
+ghost use Rattle.pcl_shrink.specs.Shrinking.{IsSmallerJob};
 ghost use Rattle.pcl_command.specs.Messages.{line_of, status_for};
 ghost use Rattle.pcl_command.specs.ComparisonLines.{compare_line_of, compare_status_for};
 ghost use Rattle.pcl_command.specs.Runs.{HasDone, HasDoneTask, HasEnded, HasFailed, HasWritten, IsCertifyRun, IsPreviewRun, IsSettled, IsStatus, IsTextRun, NeverRefuses, TellsOfPages};
@@ -19,6 +20,7 @@ use pcl_cert::Format;
 use pcl_explain::explanation;
 use pcl_pages::describe_pages;
 use pcl_same::Comparison;
+use pcl_shrink::shrink;
 use pcl_tool::{
     Fault, INPUT_LIMIT, JobVerdict, Watcher, filter_cert_watched, filter_watched, preview, read_all,
     write_all,
@@ -187,6 +189,7 @@ fn do_task<F: JobFiles, R: Read, W: Write, P: Watcher>(
         Task::Preview { page } => show(alloc, page, run.dpi, reader, out),
         Task::Explain => explain(alloc, run.dpi, reader, out),
         Task::DescribePages => describe(alloc, run.dpi, reader, out),
+        Task::Shrink => write_smaller(alloc, run.dpi, reader, out),
     }
 }
 
@@ -255,6 +258,21 @@ fn describe<R: Read, W: Write>(
     let job = read_all(alloc, reader, INPUT_LIMIT)?;
     let text = describe_pages(alloc, &job, dpi)?;
     write_all(out, &text)
+}
+
+/// Writes the smallest job that is found with the pages of the job that a reader gives, which asks for the same.
+fn write_smaller<R: Read, W: Write>(
+    alloc: Global,
+    dpi: Dpi,
+    reader: &mut R,
+    out: &mut W,
+) -> Result<(), Fault>
+    ensures { IsTextRun (IsSmallerJob dpi) (IsRefusal dpi) (R.remaining reader.old) (R.remaining reader.new)
+        (W.contents out.old) (W.contents out.new) result }
+{
+    let job = read_all(alloc, reader, INPUT_LIMIT)?;
+    let shrunk = shrink(alloc, &job, dpi)?;
+    write_all(out, &shrunk.job)
 }
 
 /// The end of a comparison that failed.

@@ -9,6 +9,7 @@ mod finding;
 mod languages;
 mod lines;
 mod refusals;
+mod sequences;
 
 pub use finding::{Finding, Findings};
 pub use lines::explanation;

@@ -3,6 +3,7 @@
 ghost use Rattle.std.specs.Prelude.{◌≡◌, IfOk};
 ghost use Rattle.pcl_explain.specs.Findings.{AreFindings, IsFirstRefusal};
 
+use crate::sequences::blank_sequence;
 use crate::{Finding, Findings};
 use pcl_base::{Dpi, JobFault, Kind, Refusal};
 use pcl_escape::{Command, read_job};
@@ -51,12 +52,76 @@ fn findings_from(
                 later: later_findings(alloc, commands, job.len(), dpi)?,
             })
         }
-        Err(JobFault::Refused(_)) => Ok(Findings {
-            first: Finding::without_command(refusal),
-            later: Vec::new(alloc),
-        }),
+        Err(JobFault::Refused(_)) => {
+            let unread = read_on(alloc, job, refusal, dpi)?;
+            Ok(Findings {
+                first: Finding {
+                    refusal,
+                    value: None,
+                    times: unread.times,
+                },
+                later: unread.later,
+            })
+        }
         Err(JobFault::Memory) => Err(AllocError),
     }
+}
+
+/// What is found after a sequence that can't be read.
+#[derive(Drop)]
+struct Unread {
+    /// How many sequences can't be read as the first can't.
+    times: usize,
+    later: Vec<Finding>,
+}
+
+/// Reads a job on after a sequence that can't be read, with it and later ones left out, as long as it is known where they end.
+fn read_on(alloc: Global, job: &[u8], first: Refusal, dpi: Dpi) -> Result<Unread, AllocError> {
+    let mut bytes = Vec::from_slice(alloc, job)?;
+    let mut unread = Unread {
+        times: 1,
+        later: Vec::new(alloc),
+    };
+    let mut refused = first;
+    for _ in 1..FINDING_LIMIT {
+        if !is_of_one_sequence(refused.kind) {
+            return Ok(unread);
+        }
+        blank_sequence(&mut bytes, refused.at);
+        match read_job(alloc, &bytes) {
+            Ok(commands) => {
+                for finding in later_findings(alloc, commands, job.len(), dpi)?.iter() {
+                    unread.later.push(*finding)?;
+                }
+                return Ok(unread);
+            }
+            Err(JobFault::Refused(refusal)) => refused = refusal,
+            Err(JobFault::Memory) => return Err(AllocError),
+        }
+        if refused.kind == first.kind && refused.name == first.name {
+            unread.times = unread.times.saturating_add(1);
+        } else {
+            add_unread(&mut unread.later, refused)?;
+        }
+    }
+    Ok(unread)
+}
+
+/// Whether a refusal of reading is that of one sequence, so that reading can go on after it.
+fn is_of_one_sequence(kind: Kind) -> bool {
+    matches!(kind, Kind::UnsupportedCommand | Kind::ValueRange)
+}
+
+/// Adds a sequence that can't be read to findings, or counts it where one of its name is there.
+fn add_unread(findings: &mut Vec<Finding>, refusal: Refusal) -> Result<(), AllocError> {
+    for finding in findings.iter_mut() {
+        if finding.refusal.kind == refusal.kind && finding.refusal.name == refusal.name {
+            finding.times = finding.times.saturating_add(1);
+            return Ok(());
+        }
+    }
+    findings.push(Finding::without_command(refusal))?;
+    Ok(())
 }
 
 /// What is found in commands, one after the other, each without those that were found before.

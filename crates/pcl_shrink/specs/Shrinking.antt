@@ -6,10 +6,11 @@ use Rattle.pcl_base.specs.declared.fault.JobFault.{JobFault}
 use Rattle.pcl_base.specs.declared.fault.JobFault.TheVariants.{Refused, Memory}
 use Rattle.pcl_base.specs.declared.refusal.Refusal.{Refusal}
 use Rattle.pcl_page.specs.Situation.{Sheet}
-use Rattle.pcl_page.specs.Jobs.{HasPages}
+use Rattle.pcl_page.specs.Asks.{Asks}
+use Rattle.pcl_page.specs.Jobs.{HasPages, HasAsks}
 use Rattle.pcl_page.specs.Delivering.{IsRefusal}
 use Rattle.pcl_page.specs.Alike.{AllAlike}
-use Rattle.pcl_meaning.specs.JobTexts.{IsJobText}
+use Rattle.pcl_tool.specs.Minimizing.{IsJobOf}
 use Rattle.pcl_shrink.specs.declared.candidate.Shrunk.{Shrunk}
 use Rattle.pcl_shrink.specs.declared.candidate.ShrunkAt.{ShrunkAt}
 
@@ -19,14 +20,19 @@ pub record PrintsAlike (dpi : Dpi) (pages : List Sheet) (job : List ℕ) : Type 
   pub accepted : HasPages dpi job again
   pub alike : AllAlike dpi pages again
 
--- The input is accepted, and the output prints its pages. The output is no longer than the input, nor than any job text that prints
--- these pages, of which the least raster job is one.
+-- The input is accepted, and the output prints its pages and asks for what it asks for. The output is no longer than the input, nor
+-- than a least raster job of the input where that asks for the same.
 pub record IsSmallerJob (dpi : Dpi) (job output : List ℕ) : Type 0 where
   pub pages : List Sheet
   pub meaning : HasPages dpi job pages
   pub prints : PrintsAlike dpi pages output
+  pub asks : Asks
+  pub asked : HasAsks dpi job asks
+  pub asked_again : HasAsks dpi output asks
   pub within_input : length output ≤ length job
-  pub within_rasters : (text : List ℕ) → IsJobText dpi pages text → length output ≤ length text
+  pub raster : List ℕ
+  pub raster_is : IsJobOf dpi job raster
+  pub within_raster : HasAsks dpi raster asks → length output ≤ length raster
 
 abbrev pub IsShrunk : Dpi → List ℕ → Result Shrunk JobFault → Type 0
 IsShrunk dpi job (Ok shrunk) = IsSmallerJob dpi job shrunk.job.items

@@ -2,35 +2,43 @@
 
 ghost use Rattle.pcl_glyphs.specs.Outcome.{IsOutcome};
 
-use crate::rasters::{append_page_start, shortest_text};
+use crate::asking::{append_end, append_page_start, asks_for_nothing};
+use crate::rasters::shortest_text;
 use pcl_base::{Dpi, JobFault};
-use pcl_page::{Page, PageSink, perform};
-use pcl_writer::write_frame;
+use pcl_page::{Asks, Page, PageSink, perform};
 use std::alloc::{AllocError, Global};
 use std::marker::Model;
 
-/// A proposal of a smaller job with the same pages, in which pages go as rasters of coarser resolutions: none where no page would
-/// take fewer bytes so. Nothing is promised of it but that the input is accepted. A refusal is the job's.
-pub fn write_coarse_job(alloc: Global, job: &[u8], dpi: Dpi) -> Result<Option<Vec<u8>>, JobFault>
+/// A proposal of a smaller job with the same pages, which asks for what a job asks for, with pages as rasters of coarser
+/// resolutions: none where no page would take fewer bytes so and nothing is asked for. Nothing is promised of it but that the
+/// input is accepted. A refusal is the job's.
+pub fn write_raster_job(
+    alloc: Global,
+    job: &[u8],
+    asks: &Asks<'_>,
+    dpi: Dpi,
+) -> Result<Option<Vec<u8>>, JobFault>
     ensures { IsOutcome dpi job.now result }
 {
     let mut writer = RasterWriter {
+        asks,
         pages: 0,
         is_coarse: false,
         out: Vec::new(alloc),
     };
-    write_frame(&mut writer.out)?;
     perform(alloc, job, dpi, &mut writer)?;
-    if !writer.is_coarse {
+    if !writer.is_coarse && asks_for_nothing(asks) {
         return Ok(None);
     }
-    write_frame(&mut writer.out)?;
+    append_end(asks, writer.pages, &mut writer.out)?;
     Ok(Some(writer.out))
 }
 
 /// Writes the pages that come.
 #[derive(Drop)]
-struct RasterWriter {
+struct RasterWriter<'a, 'b> {
+    /// What the job asks for.
+    asks: &'b Asks<'a>,
     /// How many pages came.
     pages: usize,
     /// Whether one of them is written as a raster of a coarser resolution.
@@ -38,20 +46,20 @@ struct RasterWriter {
     out: Vec<u8>,
 }
 
-impl Model for RasterWriter {
+impl<'a, 'b> Model for RasterWriter<'a, 'b> {
     // Nothing is said of what was written.
     ghost Value = { Unit {0} };
 
     ghost view = { λ _. tt };
 }
 
-impl PageSink for RasterWriter {
+impl<'a, 'b> PageSink for RasterWriter<'a, 'b> {
     ghost takes = { λ old page new. Unit {0} };
 
     fn page(&mut self, page: &Page) -> Result<(), AllocError> {
         let alloc = *self.out.allocator();
         let text = shortest_text(alloc, page)?;
-        append_page_start(self.pages, &mut self.out)?;
+        append_page_start(self.asks, self.pages, &mut self.out)?;
         self.out.extend_from_slice(&text.bytes)?;
         self.pages = self.pages.saturating_add(1);
         self.is_coarse |= text.is_coarse;

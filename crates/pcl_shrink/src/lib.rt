@@ -1,9 +1,10 @@
 //! The smallest job that is found with the same pages (docs/SHRINK.md).
 //!
 //! Candidates are made by code of which nothing is promised but that it returns. Each is performed and compared with the input, dot
-//! for dot, before it is taken.
+//! for dot and in what it asks of the printer, before it is taken.
 #![tactic(auto)]
 
+mod asking;
 mod candidate;
 mod coarse;
 mod laws;
@@ -14,5 +15,5 @@ mod squares;
 
 pub use candidate::{Candidate, Shrunk, ShrunkAt};
 pub use laws::shrunk_jobs_have_the_same_pages;
-pub use looking::is_same;
+pub use looking::{asks_the_same, is_same};
 pub use shrinking::{shrink, shrink_auto};

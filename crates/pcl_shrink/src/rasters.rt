@@ -16,11 +16,6 @@ pub struct Text {
     pub is_coarse: bool,
 }
 
-/// Appends what stands before the text of the page of this number, from 0: nothing.
-pub fn append_page_start(_page: usize, _out: &mut Vec<u8>) -> Result<(), AllocError> {
-    Ok(())
-}
-
 /// The shortest of the least page text (docs/OUTPUT.md) and those with rasters of coarser resolutions that the page has.
 pub fn shortest_text(alloc: Global, page: &Page) -> Result<Text, AllocError> {
     let mut shortest = Text {

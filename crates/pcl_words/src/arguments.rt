@@ -33,12 +33,13 @@ fn request_of<'w>(matches: &ArgMatches<'w>) -> Option<Request<'w>> {
     }
 }
 
-/// What the words of `min`, `pbm`, `pages` or `explain` ask for. Only `min` tells how far it has come.
+/// What the words of `min`, `pbm`, `pages`, `explain` or `shrink` ask for. Only `min` tells how far it has come.
 fn run_of<'w>(name: &str, command: &ArgMatches<'w>) -> Option<Run<'w>> {
     let (task, quiet) = match name {
         "min" => (min_task(command), command.get_flag("quiet")),
         "explain" => (Task::Explain, true),
         "pages" => (Task::DescribePages, true),
+        "shrink" => (Task::Shrink, true),
         _ => (preview_task(command)?, true),
     };
     Some(Run {
@@ -112,7 +113,8 @@ fn pclmin<'a>(alloc: Global) -> Result<Command<'a>, AllocError> {
     let command = command.subcommand(same(alloc)?)?;
     let command = command
         .subcommand(explain(alloc)?)?
-        .subcommand(pages(alloc)?)?;
+        .subcommand(pages(alloc)?)?
+        .subcommand(shrink(alloc)?)?;
     command.subcommand(check(alloc)?)?.subcommand(pbm(alloc)?)
 }
 
@@ -170,6 +172,14 @@ fn check<'a>(alloc: Global) -> Result<Command<'a>, AllocError> {
 fn explain<'a>(alloc: Global) -> Result<Command<'a>, AllocError> {
     let command = Command::new(alloc, "explain").about(
         "Names everything in a job that is refused, and says what to set instead",
+    );
+    with_files(alloc, command)?.arg(dpi(alloc))
+}
+
+/// The command that writes the smallest job that is found.
+fn shrink<'a>(alloc: Global) -> Result<Command<'a>, AllocError> {
+    let command = Command::new(alloc, "shrink").about(
+        "Writes the smallest job that is found with the same dots, sides, trays, bins and @PJL lines",
     );
     with_files(alloc, command)?.arg(dpi(alloc))
 }

@@ -4,7 +4,7 @@ use Rattle.pcl_page.specs.Delivering.{IsRefusal}
 use Rattle.pcl_tool.specs.Transfer.{IsWritten}
 use Rattle.pcl_pages.specs.Describing.{IsAccepted, IsDescribed}
 use Rattle.pcl_command.specs.Runs.{TellsOfPages}
-use Rattle.pcl_command.proofs.Told.{told, undescribed}
+use Rattle.pcl_command.proofs.Told.{told, untold, undescribed}
 use Rattle.pcl_command.proofs.running.describe.Goals as goal
 
 pub returns-in_err-text : goal.returns-in_err-text
@@ -12,8 +12,8 @@ returns-in_err-text g c =
     let p = err_from_is_err_and c.from_residual-in_err-text.result c.from_residual-in_err-text.ensures.1 in
     let r = c.in_ok-job.ensures in
     rw (p.1, p.2)
-    (undescribed c.args.dpi _ c.in_err-text.field-0.0 (record { given = r.0; ended = r.1 }) r.2
-    (subst (λ (job : List ℕ). IsDescribed c.args.dpi job (Err c.in_err-text.field-0.0)) c.deref.ensures.value c.in_err-text.ensures))
+    (untold (TellsOfPages c.args.dpi) c.args.dpi _ c.in_err-text.field-0.0 (record { given = r.0; ended = r.1 }) r.2
+    (undescribed c.args.dpi _ c.in_err-text.field-0.0 (subst (λ (job : List ℕ). IsDescribed c.args.dpi job (Err c.in_err-text.field-0.0)) c.deref.ensures.value c.in_err-text.ensures)))
 
 pub returns : goal.returns
 returns g c =

@@ -14,3 +14,6 @@ returns-in-Explain g c = rw c.in-Explain.is assumption
 
 pub returns-in-DescribePages : goal.returns-in-DescribePages
 returns-in-DescribePages g c = rw c.in-DescribePages.is assumption
+
+pub returns-in-Shrink : goal.returns-in-Shrink
+returns-in-Shrink g c = rw c.in-Shrink.is assumption
