@@ -4,7 +4,7 @@
 PREFIX ?= /usr/local
 PROGRAM := crates/pclmin/out/pclmin
 
-.PHONY: demo build test test-memory test-process test-home oracle examples bench bench-certificates install deb clean
+.PHONY: demo build test test-memory test-process test-home test-cups oracle examples bench bench-certificates install install-cups deb clean
 
 # Previews the sample job into build/demo.pbm by the kit's quick run, a minute or two after a fresh clone: nothing is proved.
 demo:
@@ -57,6 +57,10 @@ test-home:
 	home/blocks.py $(PROGRAM) README.md
 	home/sceptic.py $(PROGRAM)
 
+# Runs the CUPS backend with a device behind it that only keeps what comes. Needs the program that `make build` left.
+test-cups:
+	cups/try.sh $(PROGRAM)
+
 # A short run of the programs of oracle/, which share no line with this one, beside it. Needs rustc, Python 3, and the
 # program that `make build` left.
 oracle:
@@ -85,6 +89,14 @@ install:
 	install -D -m 644 completions/pclmin.bash $(DESTDIR)$(PREFIX)/share/bash-completion/completions/pclmin
 	install -D -m 644 completions/_pclmin $(DESTDIR)$(PREFIX)/share/zsh/site-functions/_pclmin
 	install -D -m 644 completions/pclmin.fish $(DESTDIR)$(PREFIX)/share/fish/vendor_completions.d/pclmin.fish
+
+# Puts the CUPS backend where CUPS looks for it (docs/CUPS.md).
+CUPSDIR ?= /usr/lib/cups
+
+install-cups:
+	install -d $(DESTDIR)$(CUPSDIR)/backend
+	sed 's|/usr/local/bin/pclmin|$(PREFIX)/bin/pclmin|' cups/backend/pclmin > $(DESTDIR)$(CUPSDIR)/backend/pclmin
+	chmod 755 $(DESTDIR)$(CUPSDIR)/backend/pclmin
 
 # Makes a Debian package of the same under build/. Needs dpkg-deb; `home/deb.sh try` also installs, runs and purges it, as root.
 deb:

@@ -3,7 +3,7 @@ _pclmin() {
     local word=${COMP_WORDS[COMP_CWORD]} previous=${COMP_WORDS[COMP_CWORD - 1]} command=${COMP_WORDS[1]}
     COMPREPLY=()
     if [ "$COMP_CWORD" -eq 1 ]; then
-        mapfile -t COMPREPLY < <(compgen -W "min pbm pages explain check same help --help --version" -- "$word")
+        mapfile -t COMPREPLY < <(compgen -W "min pbm shrink pages explain check same help --help --version" -- "$word")
         return
     fi
     case $previous in
@@ -15,11 +15,11 @@ _pclmin() {
     case $command:$word in
         min:-*) mapfile -t COMPREPLY < <(compgen -W "--dpi --cert --format --quiet --output --help" -- "$word") ;;
         pbm:-*) mapfile -t COMPREPLY < <(compgen -W "--dpi --page --output --help" -- "$word") ;;
-        pages:-* | explain:-*) mapfile -t COMPREPLY < <(compgen -W "--dpi --output --help" -- "$word") ;;
+        shrink:-* | pages:-* | explain:-*) mapfile -t COMPREPLY < <(compgen -W "--dpi --output --help" -- "$word") ;;
         check:-*) mapfile -t COMPREPLY < <(compgen -W "--dpi --quiet --help" -- "$word") ;;
         same:-*) mapfile -t COMPREPLY < <(compgen -W "--dpi --image --help" -- "$word") ;;
-        min:* | pbm:* | pages:* | explain:* | check:* | same:*) mapfile -t COMPREPLY < <(compgen -f -- "$word") ;;
-        help:*) mapfile -t COMPREPLY < <(compgen -W "min pbm pages explain check same" -- "$word") ;;
+        min:* | pbm:* | shrink:* | pages:* | explain:* | check:* | same:*) mapfile -t COMPREPLY < <(compgen -f -- "$word") ;;
+        help:*) mapfile -t COMPREPLY < <(compgen -W "min pbm shrink pages explain check same" -- "$word") ;;
     esac
 }
 complete -o filenames -F _pclmin pclmin

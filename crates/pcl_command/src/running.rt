@@ -22,8 +22,8 @@ use pcl_pages::describe_pages;
 use pcl_same::Comparison;
 use pcl_shrink::shrink;
 use pcl_tool::{
-    Fault, INPUT_LIMIT, JobVerdict, Watcher, filter_cert_watched, filter_watched, preview, read_all,
-    write_all,
+    Fault, INPUT_LIMIT, JobVerdict, Watcher, filter_cert_watched, filter_watched, preview,
+    read_all, write_all,
 };
 use std::alloc::Global;
 use std::io::{Read, Write};
