@@ -186,8 +186,9 @@ fn shrink<'a>(alloc: Global) -> Result<Command<'a>, AllocError> {
 
 /// The command that says what the pages are.
 fn pages<'a>(alloc: Global) -> Result<Command<'a>, AllocError> {
-    let command = Command::new(alloc, "pages")
-        .about("Lists the pages of a job: size, copies, black dots in percent, bytes as least raster");
+    let command = Command::new(alloc, "pages").about(
+        "Lists the pages of a job: size, copies, black dots in percent, bytes as least raster",
+    );
     with_files(alloc, command)?.arg(dpi(alloc))
 }
 
