@@ -63,7 +63,12 @@ pub fn minimize_watched<P: Watcher>(
 
 /// Writes a job again as the least raster job of the same pages, without a certificate. The watcher is called for each page that
 /// is done. A refusal is the job's; no fault comes but this and out of memory.
-pub fn least_job<P: Watcher>(alloc: Global, job: &[u8], dpi: Dpi, watcher: P) -> Result<Vec<u8>, Fault>
+pub fn least_job<P: Watcher>(
+    alloc: Global,
+    job: &[u8],
+    dpi: Dpi,
+    watcher: P,
+) -> Result<Vec<u8>, Fault>
     ensures { IsJobWritten dpi job.now result }
 {
     let mut bytes = Vec::new(alloc);
