@@ -94,7 +94,8 @@ HasDoneTask acts Minimize dpi files kept given left old new done = (kept ≡ fil
 HasDoneTask acts (Certify file format) dpi files kept given left old new done =
     IsCertifyRun acts file.now dpi format files kept given left old new done
 HasDoneTask acts (Preview page) dpi files kept given left old new done = (kept ≡ files) × IsPreviewRun dpi page given left old new done
-HasDoneTask acts Explain dpi files kept given left old new done = (kept ≡ files) × IsTextRun (Explains dpi) NeverRefuses given left old new done
+HasDoneTask acts Explain dpi files kept given left old new done =
+    (kept ≡ files) × IsTextRun (Explains dpi) NeverRefuses given left old new done
 HasDoneTask acts DescribePages dpi files kept given left old new done =
     (kept ≡ files) × IsTextRun (TellsOfPages dpi) (IsRefusal dpi) given left old new done
 HasDoneTask acts Shrink dpi files kept given left old new done =
@@ -119,7 +120,8 @@ HasWrittenFile {F} acts run name files kept given left done =
 -- the same by where it writes to: nothing reaches the writer where that is a file
 abbrev pub HasWritten : {F : Type 0} → (F → FileAct → F → Type 0) → Run → Target → (files kept : F)
     → (given left old new : Option (List ℕ)) → Result (Unit {0}) Fault → Type 0
-HasWritten acts run target.StandardOutput files kept given left old new done = HasDoneTask acts run.task run.dpi files kept given left old new done
+HasWritten acts run target.StandardOutput files kept given left old new done =
+    HasDoneTask acts run.task run.dpi files kept given left old new done
 HasWritten acts run (target.File name) files kept given left old new done =
     (new ≡ old) × HasWrittenFile acts run name.now files kept given left done
 
@@ -127,7 +129,8 @@ HasWritten acts run (target.File name) files kept given left old new done =
 -- written; nothing is read of the reader where the job is that of a file
 abbrev pub HasDoneFrom : {F : Type 0} → (F → FileAct → F → Type 0) → Run → Source → (files kept : F)
     → (given left old new : Option (List ℕ)) → Result (Unit {0}) Fault → Type 0
-HasDoneFrom acts run source.StandardInput files kept given left old new done = HasWritten acts run run.target files kept given left old new done
+HasDoneFrom acts run source.StandardInput files kept given left old new done =
+    HasWritten acts run run.target files kept given left old new done
 HasDoneFrom acts run (source.File name) files kept given left old new done =
     (left ≡ given)
     × ((acts files (Unopened name.now) files × (kept ≡ files) × (done ≡ Err ReadFault) × (new ≡ old))
@@ -183,8 +186,10 @@ HasCompared acts asked files kept given left old new failed =
 abbrev pub HasEnded : {F : Type 0} → (F → FileAct → F → Type 0) → Request → (files kept : F) → (given left old new : Option (List ℕ))
     → Ending → Type 0
 HasEnded acts (asked.Run run) files kept given left old new ending = HasRun acts run files kept given left old new ending
-HasEnded acts (asked.Check files_asked) files kept given left old new ending = HasChecked acts files_asked files kept given left old new ending
-HasEnded acts (asked.Compare files_asked) files kept given left old new ending = HasCompared acts files_asked files kept given left old new ending
+HasEnded acts (asked.Check files_asked) files kept given left old new ending =
+    HasChecked acts files_asked files kept given left old new ending
+HasEnded acts (asked.Compare files_asked) files kept given left old new ending =
+    HasCompared acts files_asked files kept given left old new ending
 
 -- the status of the program; 3 where memory ran out
 abbrev pub IsStatus : Ending → ℕ → Type 0

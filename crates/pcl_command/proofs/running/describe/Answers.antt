@@ -13,7 +13,8 @@ returns-in_err-text g c =
     let r = c.in_ok-job.ensures in
     rw (p.1, p.2)
     (untold (TellsOfPages c.args.dpi) c.args.dpi _ c.in_err-text.field-0.0 (record { given = r.0; ended = r.1 }) r.2
-    (undescribed c.args.dpi _ c.in_err-text.field-0.0 (subst (λ (job : List ℕ). IsDescribed c.args.dpi job (Err c.in_err-text.field-0.0)) c.deref.ensures.value c.in_err-text.ensures)))
+    (undescribed c.args.dpi _ c.in_err-text.field-0.0
+    (subst (λ (job : List ℕ). IsDescribed c.args.dpi job (Err c.in_err-text.field-0.0)) c.deref.ensures.value c.in_err-text.ensures)))
 
 pub returns : goal.returns
 returns g c =
