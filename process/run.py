@@ -147,7 +147,7 @@ def check_terminal(program):
     if taken < 1 and said:
         wrong.append(f"a run of {taken:.1f} seconds says {said!r}")
     page = b"\x1b*p0x0Y\x1b*t300R\x1b*r0A" + b"".join(
-        b"\x1b*b300W" + bytes((row * 37 + column * 11 + row * column) % 251 for column in range(300)) for row in range(400)) + b"\x0c"
+        b"\x1b*b300W" + bytes((row * 37 + column * 11 + row * column) % 251 for column in range(300)) for row in range(1600)) + b"\x0c"
     long = b"\x1b&l0E" + page * 200
     said, taken = run_on_terminal(program, ["min"], long)
     if taken < 1.5:
