@@ -1,16 +1,17 @@
 -- What is found in a job.
 use Rattle.std.specs.Prelude.{◌≡◌, ℕ, List, length, take, codes, Option, Some, None}
 use Rattle.pcl_base.specs.declared.dpi.Dpi.{Dpi}
+use Rattle.pcl_base.specs.declared.kind.Kind.{Kind}
 use Rattle.pcl_base.specs.declared.refusal.Refusal.{Refusal}
 use Rattle.pcl_base.specs.Refusal.{refusal_text}
-use Rattle.pcl_page.specs.Situation.{Sheet}
-use Rattle.pcl_page.specs.Jobs.{HasPages}
+use Rattle.pcl_base.specs.Kind.{kind_name}
+use Rattle.pcl_page.specs.Accepting.{IsAccepted}
 use Rattle.pcl_page.specs.Delivering.{IsRefusal}
 use Rattle.pcl_explain.specs.declared.finding.Findings.{Findings}
 
 -- the refusal of a job, or none where it is accepted
 abbrev pub IsFirstRefusal : Dpi → List ℕ → Option Refusal → Type 0
-IsFirstRefusal dpi job None = (pages : List Sheet) × HasPages dpi job pages
+IsFirstRefusal dpi job None = IsAccepted dpi job
 IsFirstRefusal dpi job (Some refusal) = IsRefusal dpi job refusal
 
 -- nothing is found where the job is accepted; else first its refusal
@@ -30,3 +31,7 @@ IsTextOn (Some findings) text = BeginsWith (refusal_text findings.first.refusal)
 -- what is said of a job
 abbrev pub Explains : Dpi → List ℕ → List ℕ → Type 0
 Explains dpi job text = (findings : Option Findings) × AreFindings dpi job findings × IsTextOn findings text
+
+-- what is said of a kind of refusal begins with its name
+abbrev pub ExplainsKind : Kind → List ℕ → Type 0
+ExplainsKind kind text = BeginsWith (kind_name kind) text

@@ -6,11 +6,13 @@
 
 mod advice;
 mod finding;
+mod kinds;
 mod languages;
 mod lines;
 mod refusals;
 mod sequences;
 
 pub use finding::{Finding, Findings};
+pub use kinds::{kind_explanation, kind_named};
 pub use lines::explanation;
 pub use refusals::find_refusals;

@@ -7,7 +7,7 @@ use crate::sequences::blank_sequence;
 use crate::{Finding, Findings};
 use pcl_base::{Dpi, JobFault, Kind, Refusal};
 use pcl_escape::{Command, read_job};
-use pcl_page::{Page, PageSink, perform, run};
+use pcl_page::{Page, PageSink, page_count, run};
 use std::alloc::{AllocError, Global};
 
 /// How many findings there are at most.
@@ -28,8 +28,8 @@ pub fn find_refusals(alloc: Global, job: &[u8], dpi: Dpi) -> Result<Option<Findi
 fn first_refusal(alloc: Global, job: &[u8], dpi: Dpi) -> Result<Option<Refusal>, AllocError>
     ensures { IfOk result (λ refusal. IsFirstRefusal dpi job.now refusal) }
 {
-    match perform(alloc, job, dpi, &mut Unseen) {
-        Ok(()) => Ok(None),
+    match page_count(alloc, job, dpi) {
+        Ok(_) => Ok(None),
         Err(JobFault::Refused(refusal)) => Ok(Some(refusal)),
         Err(JobFault::Memory) => Err(AllocError),
     }

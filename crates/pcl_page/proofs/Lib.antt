@@ -4,6 +4,7 @@ pub mod Sizes
 pub mod Turns
 pub mod Keeping
 pub mod Sinks
+pub mod Counts
 pub mod Steps
 pub mod Unfolded
 pub mod Interpreted

@@ -8,4 +8,5 @@ pub mod Performing
 pub mod Jobs
 pub mod Alike
 pub mod Delivering
+pub mod Accepting
 pub mod inner

@@ -1,6 +1,7 @@
 //! Performing a job: its commands become pages of dots, which are handed over one at a time.
 #![tactic(auto)]
 
+mod accepting;
 mod asks;
 mod fonts;
 mod interpreter;
@@ -10,6 +11,7 @@ mod performer;
 mod raster;
 mod text;
 
+pub use accepting::{first_accepted, is_accepted, page_count};
 pub use asks::{Asks, Exit};
 pub use job::{one_meaning, perform, perform_asked, read_pages, run, run_asked};
 pub use pcl_bitmap::{Page, PageSink};

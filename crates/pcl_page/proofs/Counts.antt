@@ -1,0 +1,17 @@
+-- How many pages a sink counted.
+use Rattle.std.proofs.Common.{◌≡◌, ℕ, ◌+◌, List, [], ◌∷◌, length, ap, arith}
+use Rattle.pcl_base.specs.declared.dpi.Dpi.{Dpi}
+use Rattle.pcl_bitmap.specs.declared.page.Page.{Page}
+use Rattle.pcl_page.specs.Situation.{Sheet}
+use Rattle.pcl_page.specs.Delivering.{Hands}
+use Rattle.pcl_page.specs.declared.accepting.Counted.{Counted}
+
+abbrev pub counts_one : Counted → Page → Counted → Type 0
+counts_one old page new = new.pages ≡ old.pages + 1
+
+pub all_counted : (dpi : Dpi) (sheets : List Sheet) (old new : Counted) → Hands counts_one dpi sheets old new
+    → new.pages ≡ old.pages + length sheets
+all_counted dpi [] old new h = let e = ap (λ (c : Counted). c.pages) h in omega (arith, e)
+all_counted dpi (sheet ∷ sheets) old new h =
+    let one = h.3 in
+    let rest = all_counted dpi sheets h.1 new h.4 in omega (arith, one, rest)
