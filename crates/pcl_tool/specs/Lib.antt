@@ -2,11 +2,13 @@ pub mod JobFaults
 pub mod Transfer
 pub mod Image
 pub mod Preview
+pub mod PageImages
 pub mod Watching
 pub mod Certified
 pub mod Minimizing
 pub mod Writing
 pub mod JobVerdicts
+pub mod ImageVerdicts
 pub mod LeastJobs
 pub mod Headline
 pub mod inner

@@ -3,3 +3,4 @@ pub mod Certifying
 pub mod CheckerSteps
 pub mod Choice
 pub mod PageChecks
+pub mod Showing

@@ -1,7 +1,7 @@
 //! Images in Netpbm's raw bitmap form, P4.
 
-ghost use Rattle.std.specs.Prelude.{◌≡◌, IfOk};
-ghost use Rattle.pcl_tool.specs.Image.{header_of, IsImageWritten};
+ghost use Rattle.std.specs.Prelude.{◌≡◌, ◌++◌, IfOk, OnOk, OnErr};
+ghost use Rattle.pcl_tool.specs.Image.{header_of, image_of, IsImageWritten};
 
 use crate::Fault;
 use crate::writing::{write_all, write_bytes};
@@ -19,6 +19,21 @@ pub fn write_image<W: Write>(alloc: Global, bitmap: &Bitmap, out: &mut W) -> Res
     let header = header(alloc, bitmap.size(), bitmap.dpi())?;
     write_bytes(out, &header)?;
     write_all(out, bitmap.bytes())
+}
+
+/// Appends a page as an image. Where memory runs out nothing is appended.
+pub fn append_image(bitmap: &Bitmap, images: &mut Vec<u8>) -> Result<(), AllocError>
+    ensures appended { OnOk result (images.new.items ≡ images.old.items ++ image_of bitmap.now) }
+    ensures kept { OnErr result (images.new.items ≡ images.old.items) }
+{
+    let header = header(*images.allocator(), bitmap.size(), bitmap.dpi())?;
+    let before = images.len();
+    images.extend_from_slice(&header)?;
+    let appended = images.extend_from_slice(bitmap.bytes());
+    if appended.is_err() {
+        images.truncate(before);
+    }
+    appended
 }
 
 /// The header of an image: the form, the width and the height in dots.

@@ -16,3 +16,12 @@ pub enum JobVerdict {
     /// The output prints the pages of the input, and no job text that does is shorter.
     Proved,
 }
+
+/// What is answered of a written job beside its input, or beside images of its pages.
+#[derive(Clone, Copy, Debug, PartialEq, Eq)]
+pub enum CheckAnswer {
+    /// The images of the pages that it prints are others than those that are given.
+    OtherImages,
+    /// No images are given or they are the same, and the checker answers this.
+    Job(JobVerdict),
+}

@@ -5,10 +5,12 @@ mod certifying;
 mod checking;
 mod fault;
 mod image;
+mod image_checks;
 mod job_verdict;
 mod laws;
 mod minimizing;
 mod page_checks;
+mod page_images;
 mod page_preview;
 mod reading;
 mod watching;
@@ -17,7 +19,8 @@ mod writing;
 pub use checking::{check_job, check_job_watched};
 pub use fault::Fault;
 pub use image::write_image;
-pub use job_verdict::JobVerdict;
+pub use image_checks::check_images;
+pub use job_verdict::{CheckAnswer, JobVerdict};
 pub use laws::{
     certified_jobs_are_proved, proved_jobs_are_least, the_headline, written_jobs_are_least,
 };
@@ -25,6 +28,7 @@ pub use minimizing::{
     Output, filter, filter_cert, filter_cert_watched, filter_watched, least_job, minimize,
     minimize_watched,
 };
+pub use page_images::{PageChoice, preview_pages};
 pub use page_preview::{page_dots, preview};
 pub use pcl_base::INPUT_LIMIT;
 pub use pcl_meaning::page_texts_mean_their_pages;

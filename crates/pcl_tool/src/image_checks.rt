@@ -1,0 +1,31 @@
+//! A written job checked beside images of its pages, by a certificate from anybody.
+
+ghost use Rattle.pcl_tool.specs.ImageVerdicts.{IsCheckedByImages};
+
+use crate::checking::check_job_watched;
+use crate::page_images::page_images;
+use crate::{CheckAnswer, Fault, PageChoice, Watcher};
+use pcl_base::Dpi;
+use std::alloc::Global;
+
+/// Checks that an output prints the pages of PBM images, which stand one after the other as [`preview_pages`](crate::preview_pages)
+/// writes them, and that no job text with these pages is shorter, by a certificate (docs/CERTIFICATE.md). So whoever has a renderer
+/// of his own needs no input. Copies aren't in an image: the output says how many. A refusal is the output's; else it fails only
+/// where memory runs out. The watcher is called for each page that is done.
+pub fn check_images<P: Watcher>(
+    alloc: Global,
+    images: &[u8],
+    output: &[u8],
+    certificate: &[u8],
+    dpi: Dpi,
+    watcher: P,
+) -> Result<CheckAnswer, Fault>
+    ensures { IsCheckedByImages dpi images.now output.now certificate.now result }
+{
+    let printed = page_images(alloc, output, PageChoice::All, dpi)?;
+    if printed.as_slice() != images {
+        return Ok(CheckAnswer::OtherImages);
+    }
+    let verdict = check_job_watched(alloc, output, output, certificate, dpi, watcher)?;
+    Ok(CheckAnswer::Job(verdict))
+}
