@@ -7,17 +7,25 @@ use Rattle.pcl_base.specs.Size.{page_width, page_height}
 use Rattle.pcl_bitmap.specs.Bitmap.{Picture, dot}
 use Rattle.pcl_bitmap.specs.declared.page.Page.{Page}
 use Rattle.pcl_page.specs.Alike.{AreAlike, AllAlike}
+use Rattle.pcl_page.specs.Asks.{Asks, asks_of}
+use Rattle.pcl_page.specs.Jobs.{HasPages, HasAsks}
 use Rattle.pcl_page.specs.Marks.{is_black}
 use Rattle.pcl_page.specs.Performing.{Shows}
 use Rattle.pcl_page.specs.Situation.{Sheet}
-use Rattle.pcl_same.specs.declared.comparison.Comparison.{Comparison}
-use Rattle.pcl_same.specs.declared.comparison.Comparison.TheVariants as comparison
+use Rattle.pcl_same.specs.declared.comparison.AskedComparison.{AskedComparison}
 use Rattle.pcl_same.specs.declared.comparison.Difference.{Difference}
 use Rattle.pcl_same.specs.declared.comparison.Difference.TheVariants.{Size, Copies, Dot}
+use Rattle.pcl_same.specs.declared.comparison.PagesDifference.{PagesDifference}
+use Rattle.pcl_same.specs.declared.comparison.PagesDifference.TheVariants as difference
+use Rattle.pcl_same.specs.declared.keeping.KeptJob.{KeptJob}
 use Rattle.pcl_same.specs.declared.keeping.KeptPage.{KeptPage}
-use Rattle.pcl_same.specs.Comparing.{Compare}
+use Rattle.pcl_same.specs.Comparing.{Compare, of_pages, CompareAsks, IsAskedComparison}
 use Rattle.pcl_same.specs.Differing.{IsFirstDot, DifferBy, DifferFirst}
-use Rattle.pcl_same.specs.inner.Pages.{KeepsPage, KeepAll, PagesDiffer, IsFound, FindAll, IsAlike, IsConcluded}
+use Rattle.pcl_same.specs.Kept.{KeepsPage, KeepAll}
+use Rattle.pcl_same.specs.inner.Pages.{PagesDiffer, IsFound, FindAll, IsAlike, IsConcluded, comparison_of}
+use Rattle.pcl_same.specs.Keeping.{IsKept}
+use Rattle.pcl_same.proofs.AskedPages.{OnePages, asked_pages}
+use Rattle.pcl_same.proofs.OneAnswer.{alike_count}
 
 -- ---- two pages, by the sheets that they show
 
@@ -150,17 +158,47 @@ first_differ dpi (page ∷ pages) (one ∷ kept) (other ∷ others) (b ∷ befor
 -- ---- the jobs
 
 pub compared_so : (dpi : Dpi) (pages : List Sheet) (kept : List KeptPage) (others : List Sheet) (found : List (Option Difference))
-    (result : Comparison) → KeepAll dpi pages kept → FindAll dpi kept others found → IsConcluded (length kept) found result
-    → Compare dpi pages others result
-compared_so dpi pages kept others found comparison.Same k f is = all_alike dpi pages kept others found k f is.0 is.1
-compared_so dpi pages kept others found (comparison.PageCount count other_count) k f is =
+    (result : Option PagesDifference) → KeepAll dpi pages kept → FindAll dpi kept others found → IsConcluded (length kept) found result
+    → Compare dpi pages others (comparison_of result)
+compared_so dpi pages kept others found None k f is = all_alike dpi pages kept others found k f is.0 is.1
+compared_so dpi pages kept others found (Some (difference.Count count other_count)) k f is =
     (kept_count dpi pages kept k ∙ sym is.0, found_count dpi kept others found f ∙ sym is.1, is.2)
-compared_so dpi pages kept others found (comparison.Page number difference) k f is =
+compared_so dpi pages kept others found (Some (difference.Page number by)) k f is =
     let first = is.1 in
-    let all : FindAll dpi kept others (first.before ++ Some difference ∷ first.after) =
+    let all : FindAll dpi kept others (first.before ++ Some by ∷ first.after) =
     subst (FindAll dpi kept others) first.found_are f in
     let count = ap length (sym first.found_are) ∙ is.0 in (
       kept_count dpi pages kept k ∙ sym is.0 ∙ sym (found_count dpi kept others found f),
-      subst (λ (n : ℕ). DifferFirst dpi pages others n difference) (sym first.counted)
+      subst (λ (n : ℕ). DifferFirst dpi pages others n by) (sym first.counted)
           (first_differ dpi pages kept others first.before first.after k all count first.alike_before),
     )
+
+-- two jobs have as many pages where no difference is found
+as_many_found : (dpi : Dpi) (pages others : List Sheet) {found : Option PagesDifference} → Compare dpi pages others (comparison_of found)
+    → found ≡ None → length pages ≡ length others
+as_many_found dpi pages others compare none =
+    alike_count dpi pages others (subst (λ (d : Option PagesDifference). Compare dpi pages others (comparison_of d)) none compare)
+
+-- a job beside one that is kept
+pub beside_kept : OnePages → {dpi : Dpi} {first second : List ℕ} {kept : KeptJob} {others : List Sheet} {other_asks : Asks} → (k : IsKept dpi first kept)
+    → HasPages dpi second others → HasAsks dpi second other_asks
+    → (difference : Option PagesDifference) (found : List (Option Difference)) → FindAll dpi kept.pages.items others found
+    → IsConcluded (length kept.pages.items) found difference → (result : AskedComparison) → of_pages result ≡ comparison_of difference
+    → ((difference ≡ None → length kept.asks.pages.items ≡ length other_asks.pages) → CompareAsks (asks_of kept.asks) other_asks result)
+    → IsAskedComparison dpi first second result
+beside_kept one {dpi} {first} {second} {kept} {others} {other_asks} k meaning asked difference found f is result pages asks =
+    let compare : Compare dpi k.pages others (comparison_of difference) =
+    compared_so dpi k.pages kept.pages.items others found difference k.keeps f is in
+    record {
+      pages = k.pages;
+      meaning = k.meaning;
+      asks = asks_of kept.asks;
+      asked = k.asked;
+      others = others;
+      other_meaning = meaning;
+      other_asks = other_asks;
+      other_asked = asked;
+      compare = subst (Compare dpi k.pages others) (sym pages) compare;
+      compare_asks = asks (λ none.
+          asked_pages one k.meaning k.asked ∙ as_many_found dpi k.pages others compare none ∙ sym (asked_pages one meaning asked));
+    }

@@ -9,11 +9,12 @@ use Rattle.pcl_bitmap.specs.Bitmap.{dot}
 use Rattle.pcl_bitmap.specs.declared.page.Page.{Page}
 use Rattle.pcl_page.specs.Situation.{Sheet}
 use Rattle.pcl_page.specs.Delivering.{Hands}
-use Rattle.pcl_same.specs.declared.comparison.Comparison.{Comparison}
 use Rattle.pcl_same.specs.declared.comparison.Difference.{Difference}
+use Rattle.pcl_same.specs.declared.comparison.PagesDifference.{PagesDifference}
 use Rattle.pcl_same.specs.declared.keeping.KeptPage.{KeptPage}
 use Rattle.pcl_same.specs.Differing.{IsFirstDot}
-use Rattle.pcl_same.specs.inner.Pages.{KeepsMore, KeepAll, Compared, IsFound, IsFoundNext, ComparesNext, FindAll, IsConcluded}
+use Rattle.pcl_same.specs.Kept.{KeepAll}
+use Rattle.pcl_same.specs.inner.Pages.{KeepsMore, Compared, IsFound, IsFoundNext, ComparesNext, FindAll, IsConcluded}
 
 -- ---- the first job
 
@@ -133,7 +134,7 @@ compares {old} {page} {kept} {new_kept} {found} {same_found} {new_found} next vi
 
 -- ---- the conclusion
 
-pub concluded : {count count' : ℕ} {found found' : List (Option Difference)} (result : Comparison) → count ≡ count' → found ≡ found'
+pub concluded : {count count' : ℕ} {found found' : List (Option Difference)} (result : Option PagesDifference) → count ≡ count' → found ≡ found'
     → IsConcluded count found result → IsConcluded count' found' result
 concluded {count} {count'} {found} {found'} result c f is =
     subst (λ (n : ℕ). IsConcluded n found' result) c

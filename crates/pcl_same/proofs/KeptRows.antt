@@ -15,8 +15,9 @@ use Rattle.pcl_rows.specs.Rows.{Decodes}
 use Rattle.pcl_rows.proofs.OneReading.{one_row}
 use Rattle.pcl_same.specs.declared.kept_bitmap.KeptBitmap.{KeptBitmap}
 use Rattle.pcl_same.specs.Differing.{IsFirstDot}
-use Rattle.pcl_same.specs.inner.Rows.{IsFirstDotOfRow, IsPiece, piece, row_above, MakesRow}
-use Rattle.pcl_same.specs.inner.Kept.{data_of, KeepsPicture}
+use Rattle.pcl_same.specs.Kept.{piece, row_above, MakesRow}
+use Rattle.pcl_same.specs.inner.Rows.{IsFirstDotOfRow, IsPiece}
+use Rattle.pcl_same.specs.Kept.{data_of, KeepsPicture}
 
 -- ---- rows that are kept one after the other
 

@@ -3,5 +3,8 @@ pub mod KeptRows
 pub mod Beside
 pub mod Concluded
 pub mod Answered
+pub mod AskedPages
+pub mod FirstAsked
 pub mod OneAnswer
+pub mod OneAskedAnswer
 pub mod DifferingDots

@@ -135,7 +135,7 @@ first_same {dpi} {pages} {others} {n} {m} p q =
     let number : n ≡ m = a.counted ∙ ap (λ (k : ℕ). k + 1) one.0 ∙ sym b.counted in
     let difference = one.1 in cc
 
-one_comparison : (dpi : Dpi) (pages others : List Sheet) (a b : Comparison) → Compare dpi pages others a → Compare dpi pages others b
+pub one_comparison : (dpi : Dpi) (pages others : List Sheet) (a b : Comparison) → Compare dpi pages others a → Compare dpi pages others b
     → a ≡ b
 one_comparison dpi pages others Same Same p q = refl
 one_comparison dpi pages others Same (PageCount n m) p q = absurd (q.2 (sym q.0 ∙ alike_count dpi pages others p ∙ q.1))

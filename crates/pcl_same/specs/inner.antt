@@ -1,4 +1,4 @@
 -- What only proofs and contracts of private functions cite.
-pub mod Kept
+pub mod Asking
 pub mod Pages
 pub mod Rows

@@ -1,52 +1,74 @@
-//! The pages of the second job, each compared with the kept page of its number.
+//! A second job, compared with one that is kept: each page with the kept page of its number, and what is asked.
 
-ghost use Rattle.std.specs.Prelude.{◌≡◌, ℕ, MatchOption};
-ghost use Rattle.pcl_bitmap.specs.declared.page.Page.{Page as MeantPage};
-ghost use Rattle.pcl_same.specs.inner.Pages.{IsFound, AreCompared, IsConcluded};
+ghost use Rattle.std.specs.Prelude.{◌≡◌, ℕ, List, length, None};
+ghost use Rattle.pcl_page.specs.Asks.{asks_of};
+ghost use Rattle.pcl_same.specs.Comparing.{of_pages, CompareAsks};
+ghost use Rattle.pcl_same.specs.Keeping.{IsKept, IsComparedBeside};
+ghost use Rattle.pcl_same.specs.inner.Pages.{IsFound, IsConcluded, comparison_of};
 
-use crate::keeping::KeptPage;
-use crate::{Comparison, Difference};
+use crate::asking::asks_difference;
+use crate::keeping::{KeptJob, KeptPage};
+use crate::{AskedComparison, Difference, PagesDifference};
 use pcl_base::{Dpi, JobFault};
-use pcl_page::{Page, PageSink, perform};
+use pcl_page::{Asks, Page, PageSink, one_meaning, perform_asked};
 use std::alloc::{AllocError, Global};
 use std::marker::Model;
 
-/// What is found of each page of a job beside the kept page of its number.
-pub fn compare_pages(
+/// How a job compares with one that is kept, at the resolution at which that was performed: in its pages, as by
+/// `same`, and where these are the same, in what it asks of the printer. A refusal is that of the job. One page at a
+/// time is held as dots.
+pub fn compare_kept(
     alloc: Global,
-    kept: Vec<KeptPage>,
+    kept: &KeptJob<'_>,
     job: &[u8],
     dpi: Dpi,
-) -> Result<Comparison, JobFault>
-    ensures { AreCompared dpi kept.items job.now result }
+) -> Result<AskedComparison, JobFault>
+    ensures { (first : List ℕ) → IsKept dpi first kept.now → IsComparedBeside dpi first job.now result }
 {
+    one_meaning();
     let mut comparer = Comparer {
-        kept,
+        kept: &kept.pages,
         found: Vec::new(alloc),
     };
-    perform(alloc, job, dpi, &mut comparer)?;
-    Ok(conclude(comparer.kept.len(), &comparer.found))
+    let asks = perform_asked(alloc, job, dpi, &mut comparer)?;
+    let pages = pages_difference(kept.pages.len(), &comparer.found);
+    Ok(conclude(pages, &kept.asks, &asks))
 }
 
-/// What is found of so many pages beside others.
-fn conclude(count: usize, found: &[Option<Difference>]) -> Comparison
+/// What two jobs are found to be whose pages differ so, if they do, and which ask for this.
+fn conclude(pages: Option<PagesDifference>, first: &Asks<'_>, second: &Asks<'_>) -> AskedComparison
+    ensures pages { of_pages result ≡ comparison_of pages }
+    ensures asks { (pages ≡ None → length first.now.pages.items ≡ length second.now.pages.items)
+        → CompareAsks (asks_of first.now) (asks_of second.now) result }
+{
+    if let Some(difference) = pages {
+        return AskedComparison::Pages(difference);
+    }
+    match asks_difference(first, second) {
+        Some(difference) => AskedComparison::Asks(difference),
+        None => AskedComparison::Same,
+    }
+}
+
+/// How so many pages differ from others, by what was found of each of these.
+fn pages_difference(count: usize, found: &[Option<Difference>]) -> Option<PagesDifference>
     ensures { IsConcluded count found.now result }
 {
     if found.len() != count {
-        return Comparison::PageCount {
+        return Some(PagesDifference::Count {
             first: count,
             second: found.len(),
-        };
+        });
     }
     for (before, difference) in found.iter().enumerate() {
         if let Some(difference) = difference {
-            return Comparison::Page {
+            return Some(PagesDifference::Page {
                 number: before + 1,
                 difference: *difference,
-            };
+            });
         }
     }
-    Comparison::Same
+    None
 }
 
 /// How a page differs from one that is kept.
@@ -71,13 +93,13 @@ fn difference(kept: &KeptPage, page: &Page) -> Option<Difference>
 
 /// Compares each page that comes with the kept one of its number. Pages past the last kept one are counted.
 #[derive(Drop)]
-struct Comparer {
-    kept: Vec<KeptPage>,
+struct Comparer<'a> {
+    kept: &'a [KeptPage],
     /// What was found of each page.
     found: Vec<Option<Difference>>,
 }
 
-impl Model for Comparer {
+impl<'a> Model for Comparer<'a> {
     ghost use Rattle.pcl_same.specs.inner.Pages.{Compared, compared};
 
     ghost Value = { Compared };
@@ -85,7 +107,7 @@ impl Model for Comparer {
     ghost view = { compared };
 }
 
-impl PageSink for Comparer {
+impl<'a> PageSink for Comparer<'a> {
     ghost use Rattle.pcl_same.specs.inner.Pages.{ComparesNext};
 
     ghost takes = { ComparesNext };

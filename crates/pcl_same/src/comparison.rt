@@ -1,6 +1,11 @@
 //! What two jobs are found to be.
 
-use pcl_base::Size;
+ghost use Rattle.std.specs.Prelude.{◌≡◌};
+ghost use Rattle.std.specs.Bool.{Decides};
+ghost use Rattle.pcl_same.specs.Comparing.{of_pages};
+ghost use Rattle.pcl_same.specs.declared.comparison.AskedComparison.TheVariants.{Same};
+
+use pcl_base::{Asking, Size};
 
 /// What two accepted jobs are found to be.
 #[derive(Clone, Copy, Debug, PartialEq, Eq)]
@@ -19,6 +24,56 @@ pub enum Comparison {
     },
 }
 
+/// What two accepted jobs are found to be, in their pages and then in what they ask of the printer besides dots.
+#[derive(Clone, Copy, Debug, PartialEq, Eq)]
+pub enum AskedComparison {
+    /// They have the same pages, and ask for the same.
+    Same,
+    /// They don't have the same pages.
+    Pages(PagesDifference),
+    /// They have the same pages, and ask for different things.
+    Asks(AsksDifference),
+}
+
+impl AskedComparison {
+    /// Whether the jobs have the same pages and ask for the same.
+    pub fn is_same(self) -> bool
+        ensures { Decides result (self ≡ Same) }
+    {
+        self == AskedComparison::Same
+    }
+
+    /// What is found of the pages alone.
+    pub fn of_pages(self) -> Comparison
+        ensures { result ≡ of_pages self }
+    {
+        match self {
+            AskedComparison::Pages(PagesDifference::Count { first, second }) => {
+                Comparison::PageCount { first, second }
+            }
+            AskedComparison::Pages(PagesDifference::Page { number, difference }) => {
+                Comparison::Page { number, difference }
+            }
+            AskedComparison::Same | AskedComparison::Asks(_) => Comparison::Same,
+        }
+    }
+}
+
+/// How the pages of two jobs differ.
+#[derive(Clone, Copy, Debug, PartialEq, Eq)]
+pub enum PagesDifference {
+    /// There are different numbers of them.
+    Count {
+        first: usize,
+        second: usize,
+    },
+    /// There are as many, and the first that differs is the one of this number, counted from 1.
+    Page {
+        number: usize,
+        difference: Difference,
+    },
+}
+
 /// How a page of one job differs from that of another: in its size, else in its copies, else in dots.
 #[derive(Clone, Copy, Debug, PartialEq, Eq)]
 pub enum Difference {
@@ -29,4 +84,42 @@ pub enum Difference {
     /// The topmost dot that differs, and of those in its row the leftmost: `x` dots from the left edge and `y` from
     /// the upper one.
     Dot { x: u32, y: u32 },
+}
+
+/// How what two jobs with as many pages ask of the printer differs: for a page, else in the universal exits.
+#[derive(Clone, Copy, Debug, PartialEq, Eq)]
+pub enum AsksDifference {
+    /// The first page for which they ask different things is the one of this number, counted from 1.
+    Page {
+        number: usize,
+        difference: SettingDifference,
+    },
+    /// They have different numbers of universal exits.
+    ExitCount {
+        first: usize,
+        second: usize,
+    },
+    /// They have as many universal exits, and the first that differs is the one of this number, counted from 1.
+    Exit {
+        number: usize,
+        difference: ExitDifference,
+    },
+}
+
+/// The first setting in which what two pages are asked with differs, of sides, output bin, media type, paper source and side of
+/// the sheet, and its values: `None` where nothing is asked.
+#[derive(Clone, Copy, Debug, PartialEq, Eq)]
+pub struct SettingDifference {
+    pub setting: Asking,
+    pub first: Option<i32>,
+    pub second: Option<i32>,
+}
+
+/// How a universal exit of one job differs from that of another: in its place, else in its lines.
+#[derive(Clone, Copy, Debug, PartialEq, Eq)]
+pub enum ExitDifference {
+    /// How many pages each has before it.
+    Place { first: u32, second: u32 },
+    /// They have different lines after them.
+    Lines,
 }

@@ -1,12 +1,30 @@
-//! The pages of the first job, kept.
+//! A job that was performed once, kept.
 
-ghost use Rattle.pcl_same.specs.inner.Pages.{AreKept};
+ghost use Rattle.pcl_same.specs.Keeping.{KeepsJob};
 
 use crate::kept_bitmap::KeptBitmap;
 use pcl_base::{Dpi, JobFault};
-use pcl_page::{Page, PageSink, perform};
+use pcl_page::{Asks, Page, PageSink, perform_asked};
 use std::alloc::{AllocError, Global};
 use std::marker::Model;
+
+/// A job that was performed once, to be compared with others: its pages as row data, and what it asks of the printer.
+#[derive(Drop)]
+pub struct KeptJob<'a> {
+    pub(crate) pages: Vec<KeptPage>,
+    pub(crate) asks: Asks<'a>,
+}
+
+impl<'a> KeptJob<'a> {
+    ghost use Rattle.std.specs.Prelude.{◌≡◌};
+
+    /// What the job asks of the printer besides dots.
+    pub fn asks(&self) -> &Asks<'a>
+        ensures { result.now ≡ self.now.asks }
+    {
+        &self.asks
+    }
+}
 
 /// A page that is kept.
 #[derive(Drop)]
@@ -19,7 +37,7 @@ pub struct KeptPage {
 
 impl KeptPage {
     ghost use Rattle.std.specs.Prelude.{IfOk};
-    ghost use Rattle.pcl_same.specs.inner.Pages.{KeepsPage};
+    ghost use Rattle.pcl_same.specs.Kept.{KeepsPage};
 
     /// Keeps a page. It fails where memory runs out.
     pub fn new(alloc: Global, page: &Page) -> Result<KeptPage, AllocError>
@@ -32,15 +50,16 @@ impl KeptPage {
     }
 }
 
-/// The pages of a job, in order.
-pub fn keep_pages(alloc: Global, job: &[u8], dpi: Dpi) -> Result<Vec<KeptPage>, JobFault>
-    ensures { AreKept dpi job.now result }
+/// Performs a job, and keeps its pages and what it asks of the printer. One page at a time is held as dots.
+pub fn keep_job<'a>(alloc: Global, job: &'a [u8], dpi: Dpi) -> Result<KeptJob<'a>, JobFault>
+    ensures { KeepsJob dpi job.now result }
 {
     let mut keeper = Keeper {
         pages: Vec::new(alloc),
     };
-    perform(alloc, job, dpi, &mut keeper)?;
-    Ok(keeper.pages)
+    let asks = perform_asked(alloc, job, dpi, &mut keeper)?;
+    let pages = keeper.pages;
+    Ok(KeptJob { pages, asks })
 }
 
 /// Keeps each page that comes.

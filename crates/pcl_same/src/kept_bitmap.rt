@@ -28,7 +28,8 @@ pub struct KeptBitmap {
 }
 
 impl KeptBitmap {
-    ghost use Rattle.pcl_same.specs.inner.Kept.{data_of, KeepsPicture, IsFirstDotOf};
+    ghost use Rattle.pcl_same.specs.Kept.{data_of, KeepsPicture};
+    ghost use Rattle.pcl_same.specs.inner.Rows.{IsFirstDotOf};
 
     /// Keeps the dots of a bitmap. It fails where memory runs out.
     pub fn new(alloc: Global, bitmap: &Bitmap) -> Result<KeptBitmap, AllocError>

@@ -1,49 +1,28 @@
 -- The pages of the first job, kept, and those of the second beside them.
-use Rattle.std.specs.Prelude.{◌≡◌, ◌≢◌, ℕ, ◌+◌, List, [], ◌∷◌, ◌++◌, length, drop, Option, Some, None, Result, Ok, Err}
-use Rattle.std.specs.Global.{Vec}
+use Rattle.std.specs.Prelude.{◌≡◌, ◌≢◌, ℕ, ◌+◌, List, [], ◌∷◌, ◌++◌, length, drop, Option, Some, None}
 use Rattle.std.specs.List.{AllByRecursion}
 use Rattle.pcl_base.specs.declared.dpi.Dpi.{Dpi}
-use Rattle.pcl_base.specs.declared.fault.JobFault.{JobFault}
-use Rattle.pcl_base.specs.declared.fault.JobFault.TheVariants.{Refused, Memory}
 use Rattle.pcl_base.specs.Size.{page_width, page_height}
 use Rattle.pcl_bitmap.specs.Bitmap.{dot}
 use Rattle.pcl_bitmap.specs.declared.page.Page.{Page}
 use Rattle.pcl_page.specs.Situation.{Sheet}
 use Rattle.pcl_page.specs.Performing.{Shows}
-use Rattle.pcl_page.specs.Jobs.{HasPages}
-use Rattle.pcl_page.specs.Delivering.{IsRefusal}
 use Rattle.pcl_same.specs.declared.comparison.Comparison.{Comparison}
 use Rattle.pcl_same.specs.declared.comparison.Comparison.TheVariants as comparison
 use Rattle.pcl_same.specs.declared.comparison.Difference.{Difference}
 use Rattle.pcl_same.specs.declared.comparison.Difference.TheVariants as difference
+use Rattle.pcl_same.specs.declared.comparison.PagesDifference.{PagesDifference}
+use Rattle.pcl_same.specs.declared.comparison.PagesDifference.TheVariants as pages
 use Rattle.pcl_same.specs.declared.keeping.KeptPage.{KeptPage}
 use Rattle.pcl_same.specs.declared.comparing.Comparer.TheInside.{Inside}
 use Rattle.pcl_same.specs.Differing.{IsFirstDot}
-use Rattle.pcl_same.specs.inner.Kept.{KeepsPicture}
+use Rattle.pcl_same.specs.Kept.{KeepsPage}
 
 -- ---- the first job
-
--- the page is kept
-pub record KeepsPage (page : Page) (kept : KeptPage) : Type 0 where
-  pub copies : kept.copies ≡ page.copies
-  pub bitmap : KeepsPicture page.bitmap kept.bitmap
 
 -- a page more is kept
 abbrev pub KeepsMore : List KeptPage → Page → List KeptPage → Type 0
 KeepsMore old page new = (kept : KeptPage) × (new ≡ old ++ kept ∷ []) × KeepsPage page kept
-
--- pages that show the sheets are kept, one by one
-abbrev pub KeepAll : Dpi → List Sheet → List KeptPage → Type 0
-KeepAll dpi [] [] = Unit {0}
-KeepAll dpi [] (kept ∷ others) = ⊥
-KeepAll dpi (sheet ∷ sheets) [] = ⊥
-KeepAll dpi (sheet ∷ sheets) (kept ∷ others) =
-    (page : Page) × Shows dpi page sheet × KeepsPage page kept × KeepAll dpi sheets others
-
-abbrev pub AreKept : Dpi → List ℕ → Result (Vec KeptPage) JobFault → Type 0
-AreKept dpi job (Ok kept) = (pages : List Sheet) × HasPages dpi job pages × KeepAll dpi pages kept.items
-AreKept dpi job (Err (Refused refusal)) = IsRefusal dpi job refusal
-AreKept dpi job (Err Memory) = Unit {0}
 
 -- ---- a page of the second job
 
@@ -67,7 +46,7 @@ pub record Compared : Type 0 where
   pub found : List (Option Difference)
 
 abbrev pub compared : Inside → Compared
-compared a = record { kept = a.kept.items; found = a.found.items }
+compared a = record { kept = a.kept.now; found = a.found.items }
 
 -- what is found of a page by the kept pages that are left: nothing is said where there is none
 abbrev pub IsFoundNext : List KeptPage → Page → Option Difference → Type 0
@@ -95,10 +74,17 @@ pub record IsFirstFound (found : List (Option Difference)) (number : ℕ) (diffe
   pub alike_before : AllByRecursion IsAlike before
   pub counted : number ≡ length before + 1
 
-abbrev pub IsConcluded : ℕ → List (Option Difference) → Comparison → Type 0
-IsConcluded count found comparison.Same = (length found ≡ count) × AllByRecursion IsAlike found
-IsConcluded count found (comparison.PageCount first second) = (first ≡ count) × (second ≡ length found) × (first ≢ second)
-IsConcluded count found (comparison.Page number difference) = (length found ≡ count) × IsFirstFound found number difference
+-- how so many pages differ from others, by what was found of each of these
+abbrev pub IsConcluded : ℕ → List (Option Difference) → Option PagesDifference → Type 0
+IsConcluded count found None = (length found ≡ count) × AllByRecursion IsAlike found
+IsConcluded count found (Some (pages.Count first second)) = (first ≡ count) × (second ≡ length found) × (first ≢ second)
+IsConcluded count found (Some (pages.Page number difference)) = (length found ≡ count) × IsFirstFound found number difference
+
+-- the same as an answer
+abbrev pub comparison_of : Option PagesDifference → Comparison
+comparison_of None = comparison.Same
+comparison_of (Some (pages.Count first second)) = comparison.PageCount first second
+comparison_of (Some (pages.Page number difference)) = comparison.Page number difference
 
 -- the job's pages, each found beside the kept one of its number
 abbrev pub FindAll : Dpi → List KeptPage → List Sheet → List (Option Difference) → Type 0
@@ -107,10 +93,3 @@ FindAll dpi kept [] (found ∷ more) = ⊥
 FindAll dpi kept (sheet ∷ sheets) [] = ⊥
 FindAll dpi kept (sheet ∷ sheets) (found ∷ more) =
     (page : Page) × Shows dpi page sheet × IsFoundNext kept page found × FindAll dpi (drop 1 kept) sheets more
-
-abbrev pub AreCompared : Dpi → List KeptPage → List ℕ → Result Comparison JobFault → Type 0
-AreCompared dpi kept job (Ok comparison) =
-    (pages : List Sheet) × HasPages dpi job pages × (found : List (Option Difference)) × FindAll dpi kept pages found
-    × IsConcluded (length kept) found comparison
-AreCompared dpi kept job (Err (Refused refusal)) = IsRefusal dpi job refusal
-AreCompared dpi kept job (Err Memory) = Unit {0}

@@ -1,6 +1,6 @@
 use Rattle.std.proofs.Common.{◌≡◌, take}
 use Rattle.pcl_base.specs.Size.{page_row_bytes}
-use Rattle.pcl_same.specs.inner.Rows.{row_above}
+use Rattle.pcl_same.specs.Kept.{row_above}
 use Rattle.pcl_same.proofs.KeptRows.{KeepsRows}
 use Rattle.pcl_same.proofs.kept_bitmap.KeptBitmap.new.Given as goal
 

@@ -1,7 +1,7 @@
 use Rattle.std.proofs.Common.{take}
 use Rattle.std.specs.List.{AllByRecursion}
 use Rattle.pcl_same.specs.inner.Pages.{IsAlike}
-use Rattle.pcl_same.proofs.comparing.conclude.Given as goal
+use Rattle.pcl_same.proofs.comparing.pages_difference.Given as goal
 
 abbrev pub invariant-loop-before : goal.invariant-loop-before
 invariant-loop-before l = AllByRecursion IsAlike (take l.before l.found)

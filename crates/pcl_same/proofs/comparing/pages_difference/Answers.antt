@@ -3,7 +3,7 @@ use Rattle.std.specs.List.{AllByRecursion}
 use Rattle.std.proofs.Math.Seq.{take-length}
 use Rattle.pcl_same.specs.inner.Pages.{IsAlike}
 use Rattle.pcl_same.proofs.Concluded.{next_alike, first_found}
-use Rattle.pcl_same.proofs.comparing.conclude.Goals as goal
+use Rattle.pcl_same.proofs.comparing.pages_difference.Goals as goal
 
 pub loop-before-init : goal.loop-before-init
 loop-before-init c = tt

@@ -1,0 +1,10 @@
+use Rattle.std.proofs.Common.{arith}
+use Rattle.pcl_env.specs.Settings.{nothing_asked}
+use Rattle.pcl_same.specs.DifferingAsks.{IsFirstSetting}
+use Rattle.pcl_same.proofs.FirstAsked.{differ_here}
+use Rattle.pcl_same.proofs.asking.page_difference.Goals as goal
+
+pub returns-in-Some : goal.returns-in-Some
+returns-in-Some c = λ same.
+    differ_here (λ one other. IsFirstSetting one other c.in-Some.difference) c.args.first.now c.args.second.now nothing_asked nothing_asked
+    (omega (arith, same)) (omega (arith, same)) c.loop-place.invariant c.in-Some.ensures

@@ -1,0 +1,68 @@
+-- Where what two jobs ask of the printer differs.
+use Rattle.std.specs.Prelude.{◌≡◌, ◌≢◌, ℕ, ◌+◌, ◌<◌, List, ◌∷◌, ◌++◌, length, Option}
+use Rattle.std.specs.Prelude.{ℤ}
+use Rattle.pcl_base.specs.declared.operation.Asking.{Asking}
+use Rattle.pcl_base.specs.declared.operation.Asking.TheVariants.{Sides, OutputBin, MediaType, PaperSource, SheetSide}
+use Rattle.pcl_env.specs.declared.asked.Asked.{Asked}
+use Rattle.pcl_page.specs.Asks.{Asks, Exit as UniversalExit}
+use Rattle.pcl_same.specs.declared.comparison.AsksDifference.{AsksDifference}
+use Rattle.pcl_same.specs.declared.comparison.AsksDifference.TheVariants.{Page, ExitCount, Exit}
+use Rattle.pcl_same.specs.declared.comparison.ExitDifference.{ExitDifference}
+use Rattle.pcl_same.specs.declared.comparison.ExitDifference.TheVariants.{Place, Lines}
+use Rattle.pcl_same.specs.declared.comparison.SettingDifference.{SettingDifference}
+
+-- what has this number in two lists, counted from 1, differs so, and what is before it is the same
+pub record DifferAt {A : Type 0} (differ : A → A → Type 0) (ones others : List A) (number : ℕ) : Type 0 where
+  pub before : List A
+  pub one : A
+  pub ones_after : List A
+  pub ones_are : ones ≡ before ++ one ∷ ones_after
+  pub other : A
+  pub others_after : List A
+  pub others_are : others ≡ before ++ other ∷ others_after
+  pub counted : number ≡ length before + 1
+  pub differs : differ one other
+
+-- ---- a page
+
+-- what a page is asked with, setting by setting
+abbrev pub setting_of : Asking → Asked → Option ℤ
+setting_of Sides asked = asked.sides
+setting_of OutputBin asked = asked.output_bin
+setting_of MediaType asked = asked.media_type
+setting_of PaperSource asked = asked.paper_source
+setting_of SheetSide asked = asked.sheet_side
+
+-- the order in which settings are compared
+abbrev pub order_of : Asking → ℕ
+order_of Sides = 0
+order_of OutputBin = 1
+order_of MediaType = 2
+order_of PaperSource = 3
+order_of SheetSide = 4
+
+-- two pages are asked with different values of this setting, these, and with the same of all settings before it
+pub record IsFirstSetting (one other : Asked) (difference : SettingDifference) : Type 0 where
+  pub first : difference.first ≡ setting_of difference.setting one
+  pub second : difference.second ≡ setting_of difference.setting other
+  pub differ : difference.first ≢ difference.second
+  pub same_before : (setting : Asking) → order_of setting < order_of difference.setting → setting_of setting one ≡ setting_of setting other
+
+-- ---- a universal exit
+
+-- two exits differ so: in how many pages come before them; else in their lines
+abbrev pub ExitsDifferBy : UniversalExit → UniversalExit → ExitDifference → Type 0
+ExitsDifferBy one other (Place first second) = (one.pages ≡ first) × (other.pages ≡ second) × (first ≢ second)
+ExitsDifferBy one other Lines = (one.pages ≡ other.pages) × (one.lines ≢ other.lines)
+
+-- ---- jobs
+
+-- what is asked differs so: for a page, the first; else in how many exits there are; else in an exit, the first
+abbrev pub AsksDifferBy : Asks → Asks → AsksDifference → Type 0
+AsksDifferBy asks others (Page number difference) =
+    DifferAt (λ one other. IsFirstSetting one other difference) asks.pages others.pages number
+AsksDifferBy asks others (ExitCount first second) =
+    (asks.pages ≡ others.pages) × (length asks.exits ≡ first) × (length others.exits ≡ second) × (first ≢ second)
+AsksDifferBy asks others (Exit number difference) =
+    (asks.pages ≡ others.pages) × (length asks.exits ≡ length others.exits)
+    × DifferAt (λ one other. ExitsDifferBy one other difference) asks.exits others.exits number
