@@ -1,5 +1,5 @@
-//! Pages of letters, written with soft fonts and compared with what they were. It prints a line for each case; `stdout` has what
-//! has to come: whether anything is proposed, and that a proposal has the same pages.
+//! Pages of letters, written with soft fonts or macros and compared with what they were. It prints a line for each case; `stdout`
+//! has what has to come: whether anything is proposed, and that a proposal has the same pages.
 //!
 //! A letter is a stroke of four dots in each of nine rows, which goes to the left or to the right from row to row as the bits of
 //! its number say. So there are 256 of them, each one shape, and no row is like the one above.
@@ -16,6 +16,8 @@ use std::io;
 #[derive(Clone, Copy)]
 struct Case {
     name: &'static str,
+    /// The resolution of the page, and of the dots of letters.
+    dpi: Dpi,
     /// What stands before each page.
     start: &'static [u8],
     pages: u32,
@@ -40,6 +42,7 @@ struct Case {
 /// A line of letters in the middle of a page, which the cases change.
 const LINE: Case = Case {
     name: "a letter forty times",
+    dpi: Dpi::Dpi300,
     start: b"",
     pages: 1,
     lines: 1,
@@ -54,7 +57,17 @@ const LINE: Case = Case {
     dotted: false,
 };
 
-const CASES: [Case; 18] = [
+/// The same at 600 dots per inch, at odd places.
+const FINE_LINE: Case = Case {
+    name: "a letter forty times, at 600",
+    dpi: Dpi::Dpi600,
+    x: 101,
+    y: 101,
+    step: 25,
+    ..LINE
+};
+
+const CASES: [Case; 37] = [
     LINE,
     Case {
         name: "one letter",
@@ -159,6 +172,118 @@ const CASES: [Case; 18] = [
         pages: 2,
         ..LINE
     },
+    FINE_LINE,
+    Case {
+        name: "one letter, at 600",
+        letters: 1,
+        ..FINE_LINE
+    },
+    Case {
+        name: "two letters in turn, at 600",
+        kinds: 2,
+        ..FINE_LINE
+    },
+    Case {
+        name: "a dot above each letter, at 600",
+        dotted: true,
+        ..FINE_LINE
+    },
+    Case {
+        name: "boxes that overlap, at 600",
+        first: 0,
+        step: 6,
+        ..FINE_LINE
+    },
+    Case {
+        name: "letters that touch, at 600",
+        first: 0,
+        step: 4,
+        ..FINE_LINE
+    },
+    Case {
+        name: "gaps in turn, at 600",
+        shifts: &[0, 1, 3, 6, 5, 4, 2, 8, 0, 7],
+        ..FINE_LINE
+    },
+    Case {
+        name: "gaps that are frequent, at 600",
+        lines: 40,
+        kinds: 3,
+        shifts: &[0, 1, 3, 6, 5, 4, 2, 8, 0, 7],
+        ..FINE_LINE
+    },
+    Case {
+        name: "advances that are no whole dots, at 600",
+        lines: 40,
+        letters: 20,
+        kinds: 7,
+        shifts: &[0, 0, 0, 1, 1, 2, 2, 2, 3, 3, 4, 4, 4, 5, 5, 6, 6, 6, 7, 7],
+        ..FINE_LINE
+    },
+    Case {
+        name: "letters that go back, at 600",
+        kinds: 4,
+        shifts: &[0, 80, 7],
+        ..FINE_LINE
+    },
+    Case {
+        name: "many letters, at 600",
+        lines: 24,
+        letters: 64,
+        kinds: 256,
+        first: 0,
+        ..FINE_LINE
+    },
+    Case {
+        name: "at the upper edge, at 600",
+        y: 0,
+        ..FINE_LINE
+    },
+    Case {
+        name: "at the left edge, at 600",
+        lines: 40,
+        letters: 2,
+        first: 0,
+        x: 0,
+        shifts: &[0, 1, 3],
+        ..FINE_LINE
+    },
+    Case {
+        name: "cut by the right edge, at 600",
+        lines: 40,
+        letters: 2,
+        x: 4763,
+        ..FINE_LINE
+    },
+    Case {
+        name: "a line up to the right edge, at 600",
+        letters: 188,
+        ..FINE_LINE
+    },
+    Case {
+        name: "cut by the lower edge, at 600",
+        y: 6595,
+        ..FINE_LINE
+    },
+    Case {
+        name: "lines that are near, at 600",
+        lines: 40,
+        leading: 11,
+        ..FINE_LINE
+    },
+    Case {
+        name: "three pages, at 600",
+        pages: 3,
+        lines: 3,
+        kinds: 5,
+        ..FINE_LINE
+    },
+    Case {
+        name: "another size, and copies, at 600",
+        start: b"\x1b&l26a2X",
+        pages: 2,
+        ..FINE_LINE
+    },
 ];
 
 fn main(rt: HostRuntime) -> io::Result<()> {
@@ -166,10 +291,10 @@ fn main(rt: HostRuntime) -> io::Result<()> {
     print_outcome(&rt, "a white page", b"\x1b*cP", Dpi::Dpi300)?;
     print_outcome(&rt, "a job that is refused", b"\x1b*cP\x1be", Dpi::Dpi300)?;
     let job = job_of(rt.alloc(), &LINE)?;
-    print_outcome(&rt, "at 600 dots per inch", &job, Dpi::Dpi600)?;
+    print_outcome(&rt, "squares of two dots", &job, Dpi::Dpi600)?;
     for case in &CASES {
         let job = job_of(rt.alloc(), case)?;
-        print_outcome(&rt, case.name, &job, Dpi::Dpi300)?;
+        print_outcome(&rt, case.name, &job, case.dpi)?;
     }
     Ok(())
 }
@@ -197,13 +322,22 @@ fn job_of(alloc: Global, case: &Case) -> Result<Vec<u8>, AllocError> {
     let mut job = Vec::new(alloc);
     for _ in 0..case.pages {
         job.extend_from_slice(case.start)?;
-        job.extend_from_slice(b"\x1b&l0E\x1b*t300R")?;
+        job.extend_from_slice(b"\x1b&l0E")?;
+        job.extend_from_slice(unit_of(case.dpi))?;
         for line in 0..case.lines {
             append_line(case, line, &mut job)?;
         }
         job.push(12)?;
     }
     Ok(job)
+}
+
+/// What makes a raster dot, and a PCL unit, a dot of the page.
+fn unit_of(dpi: Dpi) -> &'static [u8] {
+    match dpi {
+        Dpi::Dpi300 => b"\x1b*t300R",
+        Dpi::Dpi600 => b"\x1b*t600R\x1b&u600D",
+    }
 }
 
 /// Appends the letters of a line.

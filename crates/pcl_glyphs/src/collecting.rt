@@ -1,11 +1,11 @@
 //! The shapes of all pages of a job.
 
 use crate::baselines::{count_bottoms, guess_baseline};
+use crate::forms::Form;
 use crate::patterns::{Pattern, draw_patterns};
 use crate::runs::find_runs;
 use crate::shapes::{Extent, find_shapes};
 use indexmap::IndexSet;
-use pcl_base::Dpi;
 use pcl_page::{Page, PageSink};
 use std::alloc::{AllocError, Global};
 use std::marker::Model;
@@ -28,10 +28,13 @@ pub struct Item {
     pub baseline: u32,
 }
 
-/// The shapes of the pages that came, in order. Shapes that are too large aren't kept, and none of a page that hasn't 300
-/// dots per inch, since a bit of a font is a dot of these.
+/// The shapes of the pages that came, in order. Shapes that are too large aren't kept.
 #[derive(Drop)]
 pub struct Collection {
+    /// How its letters will be printed.
+    pub form: Form,
+    /// The width of each page, in dots.
+    pub widths: Vec<u32>,
     /// The height of each page, in dots.
     pub heights: Vec<u32>,
     /// The patterns of the shapes, each once.
@@ -47,8 +50,10 @@ impl Model for Collection {
 }
 
 impl Collection {
-    pub fn new(alloc: Global) -> Collection {
+    pub fn new(alloc: Global, form: Form) -> Collection {
         Collection {
+            form,
+            widths: Vec::new(alloc),
             heights: Vec::new(alloc),
             patterns: IndexSet::new(alloc),
             items: Vec::new(alloc),
@@ -59,15 +64,18 @@ impl Collection {
     fn collect(&mut self, page: &Page) -> Result<(), AllocError> {
         let alloc = *self.items.allocator();
         let number = self.heights.len();
+        let scale = self.form.scale();
         let runs = find_runs(alloc, &page.bitmap)?;
         let shapes = find_shapes(alloc, &runs)?;
-        let patterns = draw_patterns(alloc, &runs.runs, &shapes)?;
-        let bottoms = count_bottoms(alloc, page.size.height(page.dpi), &shapes.extents)?;
+        let patterns = draw_patterns(alloc, &runs.runs, &shapes, scale)?;
+        let height = page.size.height(page.dpi);
+        let bottoms = count_bottoms(alloc, height, &shapes.extents, scale)?;
         for (extent, pattern) in shapes.extents.iter().zip(patterns) {
             if !pattern.rows.is_empty() {
+                let baseline = guess_baseline(*extent, &bottoms, scale);
                 let (pattern, _) = self.patterns.insert_full(pattern)?;
                 self.items
-                    .push(item_of(number, pattern, *extent, &bottoms))?;
+                    .push(item_of(number, pattern, *extent, baseline))?;
             }
         }
         Ok(())
@@ -75,13 +83,13 @@ impl Collection {
 }
 
 /// The shape with this box.
-fn item_of(page: usize, pattern: usize, extent: Extent, bottoms: &[u32]) -> Item {
+fn item_of(page: usize, pattern: usize, extent: Extent, baseline: u32) -> Item {
     Item {
         page,
         pattern,
         x: extent.left,
         top: extent.top,
-        baseline: guess_baseline(extent, bottoms),
+        baseline,
     }
 }
 
@@ -89,9 +97,10 @@ impl PageSink for Collection {
     ghost takes = { λ old page new. Unit {0} };
 
     fn page(&mut self, page: &Page) -> Result<(), AllocError> {
-        if page.dpi == Dpi::Dpi300 && self.items.len() < ITEM_LIMIT {
+        if self.items.len() < ITEM_LIMIT {
             self.collect(page)?;
         }
+        self.widths.push(page.size.width(page.dpi))?;
         self.heights.push(page.size.height(page.dpi))?;
         Ok(())
     }

@@ -1,4 +1,4 @@
-//! What of a job is printed as text, and by which characters.
+//! What of a job is printed by characters, and by which.
 
 use crate::codes::{Code, code_of_rank};
 use crate::collecting::Collection;
@@ -44,13 +44,6 @@ impl Layout {
             }
         }
         Some((usual_code, usual.advance))
-    }
-
-    /// The letters of a page, of those from this place on, which are of this page and later ones.
-    pub fn letters_of_page(&self, page: usize, from: usize) -> &[Letter] {
-        let letters = self.letters.letters.get(from..).unwrap_or(&[]);
-        let count = letters.partition_point(|letter| letter.page <= page);
-        letters.get(..count).unwrap_or(&[])
     }
 }
 

@@ -57,6 +57,13 @@ impl Letters {
         self.glyphs.get_index(glyph).map_or(0, |glyph| glyph.top)
     }
 
+    /// The letters of a page, of those from this place on, which are of this page and later ones.
+    pub fn of_page(&self, page: usize, from: usize) -> &[Letter] {
+        let letters = self.letters.get(from..).unwrap_or(&[]);
+        let count = letters.partition_point(|letter| letter.page <= page);
+        letters.get(..count).unwrap_or(&[])
+    }
+
     /// The pattern of a glyph.
     pub fn pattern_of<'a>(
         &self,
@@ -67,7 +74,7 @@ impl Letters {
     }
 }
 
-/// The letters of a job: the shapes of patterns that are so frequent that they take fewer bytes as characters.
+/// The letters of a job: the shapes of patterns that are so frequent that they take fewer bytes so.
 pub fn find_letters(alloc: Global, collection: &Collection) -> Result<Letters, AllocError> {
     let stands = count_stands(alloc, &collection.items)?;
     let tops = usual_tops(alloc, collection, &stands)?;
@@ -116,7 +123,7 @@ fn glyph_of(
     let stand = stand_of(item);
     let count = stands.get(&stand).copied().unwrap_or(0);
     let bytes = match collection.patterns.get_index(item.pattern) {
-        Some(pattern) => pattern.character_bytes(),
+        Some(pattern) => collection.form.definition_bytes(pattern),
         None => usize::MAX,
     };
     if count.saturating_mul(LINE_START_BYTES) > bytes {
@@ -128,7 +135,7 @@ fn glyph_of(
     }
 }
 
-/// For each pattern, whether it takes fewer bytes as a character for all its shapes than they take in rasters.
+/// For each pattern, whether it takes fewer bytes as letters for all its shapes than they take in rasters.
 fn find_frequent(alloc: Global, collection: &Collection) -> Result<Vec<bool>, AllocError> {
     let mut uses = vec![in alloc; 0usize; collection.patterns.len()]?;
     for item in collection.items.iter() {
@@ -136,11 +143,13 @@ fn find_frequent(alloc: Global, collection: &Collection) -> Result<Vec<bool>, Al
             *count = count.saturating_add(1);
         }
     }
+    let form = collection.form;
     let mut are_frequent = Vec::new(alloc);
     for (pattern, uses) in collection.patterns.iter().zip(uses.iter()) {
-        // One byte for the code, and about one to get to it.
-        let saved = pattern.raster_bytes().saturating_sub(2);
-        are_frequent.push(uses.saturating_mul(saved) > pattern.character_bytes())?;
+        let saved = form
+            .raster_bytes(pattern)
+            .saturating_sub(form.letter_bytes());
+        are_frequent.push(uses.saturating_mul(saved) > form.definition_bytes(pattern))?;
     }
     Ok(are_frequent)
 }

@@ -21,3 +21,9 @@ pub fn append_word(number: u32, out: &mut Vec<u8>) -> Result<(), AllocError> {
 pub fn digit_count(number: u32) -> usize {
     Buffer::new().format(number).len()
 }
+
+/// Appends a number with its sign, in decimal.
+pub fn append_signed(number: i32, out: &mut Vec<u8>) -> Result<(), AllocError> {
+    let sign = if number < 0 { b"-" } else { b"+" };
+    append_labelled(sign, number.unsigned_abs(), out)
+}

@@ -6,14 +6,11 @@ use crate::runs::Run;
 use crate::shapes::{Extent, Shapes};
 use std::alloc::{AllocError, Global};
 
-/// The largest width and height of a shape that may become a glyph, in dots.
+/// The largest width and height of a shape that may become a glyph, in dots at 300 per inch.
 const SIDE_LIMIT: u32 = 400;
 
 /// How many bytes the patterns of one page may have together.
 const PAGE_BYTES_LIMIT: usize = 16_777_216;
-
-/// The bytes around a pattern where it is sent as a character: the commands, with the descriptor's 16 bytes.
-const CHARACTER_BYTES: usize = 29;
 
 /// The dots of a shape.
 #[derive(Debug, PartialEq, Eq, Hash, Drop)]
@@ -27,13 +24,18 @@ pub struct Pattern {
 }
 
 impl Pattern {
-    /// A white pattern for a shape with this box. Where it would be too large, or have more bytes than there is room
-    /// for, it has no rows.
-    fn blank(alloc: Global, extent: Extent, room: usize) -> Result<Pattern, AllocError> {
+    /// A white pattern for a shape with this box. Where a side would be longer than `limit`, or the pattern have more bytes than
+    /// there is room for, it has no rows.
+    fn blank(
+        alloc: Global,
+        extent: Extent,
+        limit: u32,
+        room: usize,
+    ) -> Result<Pattern, AllocError> {
         let width = extent.width();
         let height = extent.height();
         let size = (width as usize).div_ceil(8).saturating_mul(height as usize);
-        let is_held = width <= SIDE_LIMIT && height <= SIDE_LIMIT && size <= room;
+        let is_held = width <= limit && height <= limit && size <= room;
         let count = if is_held { size } else { 0 };
         Ok(Pattern {
             width,
@@ -65,25 +67,41 @@ impl Pattern {
         }
     }
 
-    /// About how many bytes the dots take in a raster, each time that they stand in it: in each row the bytes that
-    /// aren't those of the row above, and a command byte.
-    pub fn raster_bytes(&self) -> usize {
-        let mut bytes: usize = 0;
+    /// The rows and bytes that aren't those of the row above.
+    pub fn changes(&self) -> Changes {
+        let mut changes = Changes { rows: 0, bytes: 0 };
         let mut above: &[u8] = &[];
         for row in self.rows.chunks(self.row_bytes()) {
-            bytes = bytes.saturating_add(changed_bytes(above, row));
+            changes = changes.with(changed_bytes(above, row));
             above = row;
         }
-        bytes
-    }
-
-    /// How many bytes the pattern takes as a character of a font, once for the job.
-    pub fn character_bytes(&self) -> usize {
-        self.rows.len().saturating_add(CHARACTER_BYTES)
+        changes
     }
 }
 
-/// The bytes of a row that aren't those of the row above, and one more where there is such a byte.
+/// How much of a pattern differs from the row above, where a white row stands above the uppermost one.
+#[derive(Clone, Copy, Debug)]
+pub struct Changes {
+    /// The rows that differ.
+    pub rows: usize,
+    /// The bytes of these that differ.
+    pub bytes: usize,
+}
+
+impl Changes {
+    /// With a row of which so many bytes differ.
+    fn with(self, bytes: usize) -> Changes {
+        if bytes == 0 {
+            return self;
+        }
+        Changes {
+            rows: self.rows.saturating_add(1),
+            bytes: self.bytes.saturating_add(bytes),
+        }
+    }
+}
+
+/// How many bytes of a row aren't those of the row above.
 fn changed_bytes(above: &[u8], row: &[u8]) -> usize {
     let mut changed: usize = 0;
     for (place, byte) in row.iter().enumerate() {
@@ -91,20 +109,18 @@ fn changed_bytes(above: &[u8], row: &[u8]) -> usize {
             changed = changed.saturating_add(1);
         }
     }
-    if changed > 0 {
-        changed.saturating_add(1)
-    } else {
-        0
-    }
+    changed
 }
 
-/// The pattern of each shape of a page, without rows where the shape is too large.
+/// The pattern of each shape of a page, without rows where the shape is too large. `scale` dots are one at 300 dots per inch.
 pub fn draw_patterns(
     alloc: Global,
     runs: &[Run],
     shapes: &Shapes,
+    scale: u32,
 ) -> Result<Vec<Pattern>, AllocError> {
-    let mut patterns = blank_patterns(alloc, &shapes.extents)?;
+    let limit = SIDE_LIMIT.saturating_mul(scale);
+    let mut patterns = blank_patterns(alloc, &shapes.extents, limit)?;
     for (run, number) in runs.iter().zip(shapes.numbers.iter()) {
         if let (Some(pattern), Some(extent)) = (
             patterns.get_mut(*number),
@@ -117,11 +133,15 @@ pub fn draw_patterns(
 }
 
 /// White patterns for shapes with these boxes.
-fn blank_patterns(alloc: Global, extents: &[Extent]) -> Result<Vec<Pattern>, AllocError> {
+fn blank_patterns(
+    alloc: Global,
+    extents: &[Extent],
+    limit: u32,
+) -> Result<Vec<Pattern>, AllocError> {
     let mut patterns = Vec::new(alloc);
     let mut room = PAGE_BYTES_LIMIT;
     for extent in extents {
-        let pattern = Pattern::blank(alloc, *extent, room)?;
+        let pattern = Pattern::blank(alloc, *extent, limit, room)?;
         room = room.saturating_sub(pattern.rows.len());
         patterns.push(pattern)?;
     }

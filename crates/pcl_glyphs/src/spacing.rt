@@ -1,5 +1,6 @@
 //! How far letters advance, and what makes the gaps that differ.
 
+use crate::forms::Form;
 use crate::letters::{Letter, Letters};
 use crate::patterns::Pattern;
 use indexmap::{IndexMap, IndexSet};
@@ -143,7 +144,7 @@ fn find_characters(
 /// Whether a character that is used so often saves more bytes than it takes, where each use saves one.
 fn pays(patterns: &IndexSet<Pattern>, found: &Letters, character: Character, count: u32) -> bool {
     match found.pattern_of(patterns, character.glyph) {
-        Some(pattern) => count as usize > pattern.character_bytes(),
+        Some(pattern) => count as usize > Form::Characters.definition_bytes(pattern),
         None => false,
     }
 }

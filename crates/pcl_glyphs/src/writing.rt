@@ -4,9 +4,10 @@ ghost use Rattle.std.specs.Prelude.{◌≡◌, ◌<◌};
 ghost use Rattle.pcl_bitmap.specs.Bitmap.{IsPicture};
 
 use crate::layout::Layout;
-use crate::letters::Letter;
+use crate::letters::{Letter, Letters};
 use crate::patterns::Pattern;
 use crate::pen::{Pen, append_text};
+use indexmap::IndexSet;
 use pcl_bitmap::Bitmap;
 use pcl_page::{Page, PageSink};
 use pcl_plan::plan;
@@ -15,7 +16,7 @@ use std::alloc::{AllocError, Global};
 use std::marker::Model;
 
 /// The form feed that ends a page.
-const FORM_FEED: u8 = 12;
+pub const FORM_FEED: u8 = 12;
 
 /// Writes the pages that come.
 #[derive(Drop)]
@@ -54,7 +55,7 @@ impl PageSink for Writer<'_> {
 
     fn page(&mut self, page: &Page) -> Result<(), AllocError> {
         let alloc = *self.out.allocator();
-        let letters = self.layout.letters_of_page(self.page, self.written);
+        let letters = self.layout.letters.of_page(self.page, self.written);
         let mut text = Vec::new(alloc);
         let pen = self.pen.on_page(page.size.width(page.dpi));
         self.pen = append_page(alloc, self.layout, letters, page, pen, &mut text)?;
@@ -74,30 +75,41 @@ fn append_page(
     pen: Pen,
     out: &mut Vec<u8>,
 ) -> Result<Pen, AllocError> {
-    let others = page_without(alloc, layout, letters, page)?;
-    let least = plan(alloc, &others)?;
-    write_page(&others, &least, out)?;
-    // The form feed comes after the text.
-    out.pop();
+    append_raster(alloc, &layout.patterns, &layout.letters, letters, page, out)?;
     let pen = append_text(layout, letters, pen, out)?;
     out.push(FORM_FEED)?;
     Ok(pen)
 }
 
+/// Appends a page text of what of a page isn't one of some letters, without its form feed.
+pub fn append_raster(
+    alloc: Global,
+    patterns: &IndexSet<Pattern>,
+    found: &Letters,
+    letters: &[Letter],
+    page: &Page,
+    out: &mut Vec<u8>,
+) -> Result<(), AllocError> {
+    let others = page_without(alloc, patterns, found, letters, page)?;
+    let least = plan(alloc, &others)?;
+    write_page(&others, &least, out)?;
+    out.pop();
+    Ok(())
+}
+
 /// A page without the dots of some letters.
 fn page_without(
     alloc: Global,
-    layout: &Layout,
+    patterns: &IndexSet<Pattern>,
+    found: &Letters,
     letters: &[Letter],
     page: &Page,
 ) -> Result<Page, AllocError> {
     let row_bytes = page.size.row_bytes(page.dpi);
     let mut bytes = Vec::from_slice(alloc, page.bitmap.bytes())?;
     for letter in letters {
-        if let Some(pattern) = layout.pattern_of(letter.glyph) {
-            let top = letter
-                .baseline
-                .saturating_sub(layout.letters.top_of(letter.glyph));
+        if let Some(pattern) = found.pattern_of(patterns, letter.glyph) {
+            let top = letter.baseline.saturating_sub(found.top_of(letter.glyph));
             erase(&mut bytes, row_bytes, letter.x, top, pattern);
         }
     }

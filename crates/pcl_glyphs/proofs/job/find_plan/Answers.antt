@@ -1,5 +1,5 @@
 use Rattle.pcl_page.proofs.Jobs.{accepted_pages, has_pages}
-use Rattle.pcl_glyphs.proofs.job.write_pages.Goals as goal
+use Rattle.pcl_glyphs.proofs.job.find_plan.Goals as goal
 
 pub returns : goal.returns
 returns c =

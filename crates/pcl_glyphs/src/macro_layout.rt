@@ -1,0 +1,43 @@
+//! What of a job is printed by macros.
+
+use crate::collecting::Collection;
+use crate::letters::{Letters, find_letters};
+use crate::macros::Macros;
+use crate::marks::find_script;
+use crate::metrics::{Metrics, find_metrics};
+use crate::patterns::Pattern;
+use crate::phrases::{Text, find_phrases};
+use indexmap::IndexSet;
+use std::alloc::{AllocError, Global};
+
+/// How many glyphs have macros, at most: there are twice as many IDs.
+const GLYPH_LIMIT: usize = 16_384;
+
+/// What of a job is printed by macros.
+#[derive(Drop)]
+pub struct MacroLayout {
+    pub patterns: IndexSet<Pattern>,
+    pub letters: Letters,
+    pub metrics: Metrics,
+    pub text: Text,
+    pub macros: Macros,
+}
+
+/// The layout of these shapes.
+pub fn lay_out_macros(alloc: Global, collection: Collection) -> Result<MacroLayout, AllocError> {
+    let mut letters = find_letters(alloc, &collection)?;
+    letters.letters.retain(|letter| letter.glyph < GLYPH_LIMIT);
+    let widths = &collection.widths;
+    let found = &letters.letters;
+    let metrics = find_metrics(alloc, widths, found, letters.glyphs.len())?;
+    let script = find_script(alloc, widths, found, &metrics)?;
+    let text = find_phrases(alloc, script)?;
+    let macros = Macros::new(alloc, &text)?;
+    Ok(MacroLayout {
+        patterns: collection.patterns,
+        letters,
+        metrics,
+        text,
+        macros,
+    })
+}

@@ -1,0 +1,377 @@
+//! How far letters advance and where they stand from the cursor.
+//!
+//! Whoever placed the letters of a text added up widths that are no whole dots, and rounded each place. The distance from one
+//! letter to the next is fitted, in parts of a dot, as a number of the first and one of the second, and these are rounded then:
+//! so most letters follow from where the one before them stands, and the others are a dot off.
+
+use crate::letters::Letter;
+use indexmap::IndexMap;
+use std::alloc::{AllocError, Global};
+
+/// The parts of a dot in which distances are fitted.
+const FINE: i64 = 64;
+
+/// How often medians are taken, which distances across a space don't disturb, and then means of what is near.
+const MEDIAN_ROUNDS: u32 = 8;
+
+const MEAN_ROUNDS: u32 = 12;
+
+/// How letters advance and stand.
+#[derive(Drop)]
+pub struct Metrics {
+    /// For each glyph, how far the cursor moves, in dots.
+    pub advances: Vec<i32>,
+    /// For each glyph, how far right of the cursor its left edge stands, in dots.
+    pub bearings: Vec<i32>,
+}
+
+impl Metrics {
+    /// How far the cursor moves after a glyph, in dots.
+    pub fn advance(&self, glyph: usize) -> i32 {
+        self.advances.get(glyph).copied().unwrap_or(0)
+    }
+
+    /// How far right of the cursor the left edge of a glyph stands, in dots.
+    pub fn bearing(&self, glyph: usize) -> i32 {
+        self.bearings.get(glyph).copied().unwrap_or(0)
+    }
+}
+
+/// The metrics that fit the letters of a job best, where `widths` are those of its pages. The place of the cursor at a letter is
+/// on the page.
+pub fn find_metrics(
+    alloc: Global,
+    widths: &[u32],
+    letters: &[Letter],
+    glyphs: usize,
+) -> Result<Metrics, AllocError> {
+    let pairs = find_pairs(alloc, letters)?;
+    let mut fit = Fit::new(alloc, glyphs)?;
+    for _ in 0..MEDIAN_ROUNDS {
+        fit.distances = medians(alloc, &pairs, &fit, Side::Left)?;
+        fit.places = medians(alloc, &pairs, &fit, Side::Right)?;
+    }
+    for _ in 0..MEAN_ROUNDS {
+        fit.distances = means(alloc, &pairs, &fit, Side::Left)?;
+        fit.places = means(alloc, &pairs, &fit, Side::Right)?;
+    }
+    let shift = whole_shift(&pairs, &fit);
+    let room = find_room(alloc, widths, letters, glyphs)?;
+    let bearings = whole_places(alloc, &fit, shift, &room)?;
+    fit.set_places(&bearings, shift);
+    let distances = means(alloc, &pairs, &fit, Side::Left)?;
+    let advances = whole_advances(alloc, &distances, &bearings)?;
+    Ok(Metrics { advances, bearings })
+}
+
+/// Two letters in turn, and how far apart they stand.
+#[derive(Clone, Copy, PartialEq, Eq, PartialOrd, Ord, Hash)]
+struct Step {
+    left: usize,
+    right: usize,
+    /// In dots.
+    distance: u32,
+}
+
+/// Two glyphs, and how far apart they mostly stand in turn.
+#[derive(Clone, Copy)]
+struct Pair {
+    left: usize,
+    right: usize,
+    /// In fine parts of a dot.
+    distance: i64,
+    /// How often they stand so.
+    count: u32,
+}
+
+/// How often letters stand so in turn.
+fn count_steps(alloc: Global, letters: &[Letter]) -> Result<IndexMap<Step, u32>, AllocError> {
+    let mut steps = IndexMap::new(alloc);
+    for (letter, next) in letters.iter().zip(letters.iter().skip(1)) {
+        if let Some(distance) = letter.gap_to(next) {
+            let left = letter.glyph;
+            let right = next.glyph;
+            let step = Step {
+                left,
+                right,
+                distance,
+            };
+            let count = steps.entry(step)?.or_insert(0u32);
+            *count = count.saturating_add(1);
+        }
+    }
+    steps.sort_keys()?;
+    Ok(steps)
+}
+
+/// The pairs of glyphs that stand in turn: each with the mean of the two distances next to each other that are the most frequent
+/// together.
+fn find_pairs(alloc: Global, letters: &[Letter]) -> Result<Vec<Pair>, AllocError> {
+    let steps = count_steps(alloc, letters)?;
+    let mut pairs: Vec<Pair> = Vec::new(alloc);
+    for (place, (step, count)) in steps.iter().enumerate() {
+        let next = steps.get_index(place.saturating_add(1));
+        let pair = pair_of(*step, *count, next);
+        match pairs.last_mut() {
+            Some(last) if last.left == pair.left && last.right == pair.right => {
+                if pair.count > last.count {
+                    *last = pair;
+                }
+            }
+            _ => pairs.push(pair)?,
+        }
+    }
+    Ok(pairs)
+}
+
+/// The pair of a step, and of the next one if it is a dot longer.
+fn pair_of(step: Step, count: u32, next: Option<(&Step, &u32)>) -> Pair {
+    let longer = Step {
+        left: step.left,
+        right: step.right,
+        distance: step.distance.saturating_add(1),
+    };
+    let more = match next {
+        Some((next, more)) if *next == longer => *more,
+        _ => 0,
+    };
+    let all = count.saturating_add(more);
+    let part = quotient(i64::from(more).saturating_mul(FINE), i64::from(all));
+    Pair {
+        left: step.left,
+        right: step.right,
+        distance: i64::from(step.distance)
+            .saturating_mul(FINE)
+            .saturating_add(part),
+        count: all,
+    }
+}
+
+/// The quotient, rounded down, or 0 where the divisor isn't above 0.
+fn quotient(dividend: i64, divisor: i64) -> i64 {
+    if divisor > 0 {
+        dividend.div_euclid(divisor)
+    } else {
+        0
+    }
+}
+
+/// One of the two glyphs of a pair.
+#[derive(Clone, Copy, PartialEq, Eq)]
+enum Side {
+    Left,
+    Right,
+}
+
+/// What is fitted so far: the distance of a pair is that of its left glyph and the place of its right one, in fine parts of a dot.
+#[derive(Drop)]
+struct Fit {
+    /// For each glyph, how far its left edge lies left of the next letter's cursor.
+    distances: Vec<i64>,
+    /// For each glyph, how far right of the cursor it stands.
+    places: Vec<i64>,
+}
+
+impl Fit {
+    fn new(alloc: Global, glyphs: usize) -> Result<Fit, AllocError> {
+        Ok(Fit {
+            distances: vec![in alloc; 0i64; glyphs]?,
+            places: vec![in alloc; 0i64; glyphs]?,
+        })
+    }
+
+    /// The numbers of a side.
+    fn side(&self, side: Side) -> &[i64] {
+        match side {
+            Side::Left => &self.distances,
+            Side::Right => &self.places,
+        }
+    }
+
+    /// What a pair says of the glyph on a side.
+    fn sample(&self, pair: &Pair, side: Side) -> Sample {
+        let (glyph, other) = match side {
+            Side::Left => (pair.left, number_of(&self.places, pair.right)),
+            Side::Right => (pair.right, number_of(&self.distances, pair.left)),
+        };
+        Sample {
+            glyph,
+            value: pair.distance.saturating_sub(other),
+            count: pair.count,
+        }
+    }
+
+    /// Sets the places to whole dots, and the distances so that their sums stay.
+    fn set_places(&mut self, bearings: &[i32], shift: i64) {
+        for (place, bearing) in self.places.iter_mut().zip(bearings.iter()) {
+            *place = i64::from(*bearing).saturating_mul(FINE);
+        }
+        for distance in self.distances.iter_mut() {
+            *distance = distance.saturating_add(shift);
+        }
+    }
+}
+
+/// The number of a glyph.
+fn number_of(numbers: &[i64], glyph: usize) -> i64 {
+    numbers.get(glyph).copied().unwrap_or(0)
+}
+
+/// What a pair says of a glyph. Their order is that of glyphs, and of values.
+#[derive(Clone, Copy, PartialEq, Eq, PartialOrd, Ord)]
+struct Sample {
+    glyph: usize,
+    value: i64,
+    count: u32,
+}
+
+/// For each glyph, the median of what the pairs say of it on a side.
+fn medians(alloc: Global, pairs: &[Pair], fit: &Fit, side: Side) -> Result<Vec<i64>, AllocError> {
+    let mut found = Vec::from_slice(alloc, fit.side(side))?;
+    let mut samples = Vec::new(alloc);
+    let mut left = vec![in alloc; 0i64; found.len()]?;
+    for pair in pairs {
+        let sample = fit.sample(pair, side);
+        samples.push(sample)?;
+        add(&mut left, sample.glyph, i64::from(sample.count));
+    }
+    samples.sort()?;
+    // Each sample takes its count twice from that of its glyph: the median is the first that brings it to 0.
+    for sample in samples.iter() {
+        let before = number_of(&left, sample.glyph);
+        let after = before.saturating_sub(i64::from(sample.count).saturating_mul(2));
+        set(&mut left, sample.glyph, after);
+        if before > 0 && after <= 0 {
+            set(&mut found, sample.glyph, sample.value);
+        }
+    }
+    Ok(found)
+}
+
+/// For each glyph, the mean of what the pairs say of it on a side, of those that lie within a dot of what is fitted so far.
+fn means(alloc: Global, pairs: &[Pair], fit: &Fit, side: Side) -> Result<Vec<i64>, AllocError> {
+    let old = fit.side(side);
+    let mut sums = vec![in alloc; 0i64; old.len()]?;
+    let mut counts = vec![in alloc; 0i64; old.len()]?;
+    for pair in pairs {
+        let sample = fit.sample(pair, side);
+        let change = sample.value.saturating_sub(number_of(old, sample.glyph));
+        if -FINE <= change && change <= FINE {
+            let count = i64::from(sample.count);
+            add(&mut sums, sample.glyph, change.saturating_mul(count));
+            add(&mut counts, sample.glyph, count);
+        }
+    }
+    let mut found = Vec::new(alloc);
+    for (number, (sum, count)) in old.iter().zip(sums.iter().zip(counts.iter())) {
+        found.push(number.saturating_add(quotient(*sum, *count)))?;
+    }
+    Ok(found)
+}
+
+/// Adds to the number of a glyph.
+fn add(numbers: &mut [i64], glyph: usize, more: i64) {
+    if let Some(number) = numbers.get_mut(glyph) {
+        *number = number.saturating_add(more);
+    }
+}
+
+/// Sets the number of a glyph.
+fn set(numbers: &mut [i64], glyph: usize, new: i64) {
+    if let Some(number) = numbers.get_mut(glyph) {
+        *number = new;
+    }
+}
+
+/// The part of a dot by which all places are moved so that they are nearest to whole dots. What is fitted says nothing of it,
+/// since distances make up for it.
+fn whole_shift(pairs: &[Pair], fit: &Fit) -> i64 {
+    let mut best = 0;
+    let mut least = i64::MAX;
+    for shift in 0..FINE {
+        let sum = distance_to_whole(pairs, fit, shift);
+        if sum < least {
+            best = shift;
+            least = sum;
+        }
+    }
+    best
+}
+
+/// How far places are from whole dots, of all pairs together, where they are moved to the left so far.
+fn distance_to_whole(pairs: &[Pair], fit: &Fit, shift: i64) -> i64 {
+    let mut sum: i64 = 0;
+    for pair in pairs {
+        let moved = number_of(&fit.places, pair.right).saturating_sub(shift);
+        let part = moved.rem_euclid(FINE);
+        let off = part.min(FINE.saturating_sub(part));
+        sum = sum.saturating_add(off.saturating_mul(i64::from(pair.count)));
+    }
+    sum
+}
+
+/// The whole dots of a number of fine parts, rounded to the nearest.
+fn nearest_whole(number: i64) -> i32 {
+    let half = FINE / 2;
+    i32::try_from(number.saturating_add(half).div_euclid(FINE)).unwrap_or(0)
+}
+
+/// The places that a glyph may have, in dots.
+#[derive(Clone, Copy)]
+struct Room {
+    least: i32,
+    most: i32,
+}
+
+/// For each glyph, the places that it may have where the cursor is to be on the page at all its letters.
+fn find_room(
+    alloc: Global,
+    widths: &[u32],
+    letters: &[Letter],
+    glyphs: usize,
+) -> Result<Vec<Room>, AllocError> {
+    let all = Room {
+        least: i32::MIN,
+        most: i32::MAX,
+    };
+    let mut rooms = vec![in alloc; all; glyphs]?;
+    for letter in letters {
+        let width = widths.get(letter.page).copied().unwrap_or(0);
+        let width = i32::try_from(width).unwrap_or(0);
+        let x = i32::try_from(letter.x).unwrap_or(0);
+        if let Some(room) = rooms.get_mut(letter.glyph) {
+            room.most = room.most.min(x);
+            room.least = room.least.max(x.saturating_add(1).saturating_sub(width));
+        }
+    }
+    Ok(rooms)
+}
+
+/// For each glyph, how far right of the cursor it stands, in dots.
+fn whole_places(
+    alloc: Global,
+    fit: &Fit,
+    shift: i64,
+    rooms: &[Room],
+) -> Result<Vec<i32>, AllocError> {
+    let mut bearings = Vec::new(alloc);
+    for (place, room) in fit.places.iter().zip(rooms.iter()) {
+        let bearing = nearest_whole(place.saturating_sub(shift));
+        bearings.push(bearing.max(room.least).min(room.most))?;
+    }
+    Ok(bearings)
+}
+
+/// For each glyph, how far the cursor moves, in dots.
+fn whole_advances(
+    alloc: Global,
+    distances: &[i64],
+    bearings: &[i32],
+) -> Result<Vec<i32>, AllocError> {
+    let mut advances = Vec::new(alloc);
+    for (distance, bearing) in distances.iter().zip(bearings.iter()) {
+        let advance = distance.saturating_add(i64::from(*bearing).saturating_mul(FINE));
+        advances.push(nearest_whole(advance))?;
+    }
+    Ok(advances)
+}
