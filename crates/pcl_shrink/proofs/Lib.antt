@@ -1,2 +1,2 @@
 mod Smaller
-mod AskLooks
+mod Looked

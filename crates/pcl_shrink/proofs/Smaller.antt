@@ -1,12 +1,14 @@
 -- Smaller jobs with the same pages, which ask for the same.
 use Rattle.std.proofs.Common.{◌≡◌, ℕ, ◌<◌, ◌≤◌, List, [], ◌∷◌, length, refl, sym, subst, arith}
 use Rattle.pcl_base.specs.declared.dpi.Dpi.{Dpi}
-use Rattle.pcl_page.specs.Asks.{Asks}
+use Rattle.pcl_page.specs.Asks.{Asks, asks_of}
 use Rattle.pcl_page.specs.Situation.{Sheet}
 use Rattle.pcl_page.specs.Jobs.{HasPages, HasAsks}
 use Rattle.pcl_page.specs.Alike.{AllAlike}
-use Rattle.pcl_same.specs.declared.comparison.Comparison.TheVariants.{Same}
-use Rattle.pcl_same.specs.Comparing.{IsComparison}
+use Rattle.pcl_same.specs.declared.comparison.AskedComparison.TheVariants.{Same}
+use Rattle.pcl_same.specs.declared.keeping.KeptJob.{KeptJob}
+use Rattle.pcl_same.specs.Comparing.{IsAskedComparison}
+use Rattle.pcl_same.specs.Keeping.{IsKept}
 use Rattle.pcl_tool.specs.Minimizing.{IsJobOf}
 use Rattle.pcl_shrink.specs.Shrinking.{PrintsAlike, IsSmallerJob}
 
@@ -23,22 +25,23 @@ same_pages dpi [] = tt
 same_pages dpi (sheet ∷ sheets) =
     (record { size = refl; copies = refl; dots = λ x y across down. refl }, same_pages dpi sheets)
 
-pub raster_smaller : {dpi : Dpi} {job raster : List ℕ} (asks : Asks) → HasAsks dpi job asks → IsJobOf dpi job raster
-    → HasAsks dpi raster asks → length raster ≤ length job → IsSmallerJob dpi job raster
-raster_smaller {raster} asks asked w again short = record {
+-- a least raster job that was looked at
+pub raster_smaller : {dpi : Dpi} {job raster : List ℕ} → IsJobOf dpi job raster → IsAskedComparison dpi job raster Same
+    → length raster < length job → IsSmallerJob dpi job raster
+raster_smaller {dpi} {job} {raster} w looked short = record {
   pages = w.pages;
   meaning = w.meaning;
   prints = record { again = w.again; accepted = w.accepted; alike = w.alike };
-  asks = asks;
-  asked = asked;
-  asked_again = again;
-  within_input = short;
+  asks = looked.asks;
+  asked = looked.asked;
+  asked_again = subst (HasAsks dpi raster) (sym looked.compare_asks) looked.other_asked;
+  within_input = omega (arith, short);
   raster = raster;
   raster_is = w;
   within_raster = λ same. omega arith;
 }
 
-pub input_smaller : {dpi : Dpi} {job raster : List ℕ} (asks : Asks) → HasAsks dpi job asks → IsJobOf dpi job raster
+input_smaller : {dpi : Dpi} {job raster : List ℕ} (asks : Asks) → HasAsks dpi job asks → IsJobOf dpi job raster
     → (HasAsks dpi raster asks → length job ≤ length raster) → IsSmallerJob dpi job job
 input_smaller {dpi} {raster} asks asked w short = record {
   pages = w.pages;
@@ -53,10 +56,33 @@ input_smaller {dpi} {raster} asks asked w short = record {
   within_raster = short;
 }
 
-pub proposal_smaller : OnePages → OneAsks → {dpi : Dpi} {job best proposal : List ℕ} (asks : Asks) → HasAsks dpi job asks
-    → IsSmallerJob dpi job best → IsComparison dpi job proposal Same → HasAsks dpi proposal asks → length proposal < length best
-    → IsSmallerJob dpi job proposal
-proposal_smaller one one_asks {dpi} {job} {best} {proposal} asks asked s looked again short = record {
+-- the job itself, where the least raster job is no shorter
+pub input_no_longer : {dpi : Dpi} {job raster : List ℕ} {kept : KeptJob} → IsKept dpi job kept → IsJobOf dpi job raster
+    → length job ≤ length raster → IsSmallerJob dpi job job
+input_no_longer {kept = kept} k w short = input_smaller (asks_of kept.asks) k.asked w (λ same. short)
+
+-- and where that asks for something else
+pub input_unlike : {dpi : Dpi} {job raster : List ℕ} {kept : KeptJob} → IsKept dpi job kept → IsJobOf dpi job raster
+    → (IsAskedComparison dpi job raster Same → ⊥) → IsSmallerJob dpi job job
+input_unlike {kept = kept} k w unlike =
+    input_smaller (asks_of kept.asks) k.asked w
+    (λ same. absurd (unlike (record {
+      pages = w.pages;
+      meaning = w.meaning;
+      asks = asks_of kept.asks;
+      asked = k.asked;
+      others = w.again;
+      other_meaning = w.accepted;
+      other_asks = asks_of kept.asks;
+      other_asked = same;
+      compare = w.alike;
+      compare_asks = refl;
+    })))
+
+-- a proposal that was looked at
+pub proposal_smaller : OnePages → OneAsks → {dpi : Dpi} {job best proposal : List ℕ} → IsSmallerJob dpi job best
+    → IsAskedComparison dpi job proposal Same → length proposal < length best → IsSmallerJob dpi job proposal
+proposal_smaller one one_asks {dpi} {job} {best} {proposal} s looked short = record {
   pages = s.pages;
   meaning = s.meaning;
   prints = record {
@@ -65,14 +91,15 @@ proposal_smaller one one_asks {dpi} {job} {best} {proposal} asks asked s looked 
     alike = subst (λ (pages : List Sheet). AllAlike dpi pages looked.others)
         (one dpi job looked.pages s.pages looked.meaning s.meaning) looked.compare;
   };
-  asks = asks;
-  asked = asked;
-  asked_again = again;
+  asks = looked.asks;
+  asked = looked.asked;
+  asked_again = subst (HasAsks dpi proposal) (sym looked.compare_asks) looked.other_asked;
   within_input = let within = s.within_input in omega (arith, within, short);
   raster = s.raster;
   raster_is = s.raster_is;
   within_raster = λ same.
-      let within = s.within_raster (subst (HasAsks dpi s.raster) (one_asks dpi job asks s.asks asked s.asked) same) in
+      let within =
+      s.within_raster (subst (HasAsks dpi s.raster) (one_asks dpi job looked.asks s.asks looked.asked s.asked) same) in
       omega (arith, within, short);
 }
 

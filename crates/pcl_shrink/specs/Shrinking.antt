@@ -1,10 +1,8 @@
 -- The smallest job that is found with the pages of another.
-use Rattle.std.specs.Prelude.{◌≡◌, ℕ, ◌≤◌, List, length, Result, Ok, Err}
+use Rattle.std.specs.Prelude.{ℕ, ◌≤◌, List, length, Result, Ok, Err}
 use Rattle.pcl_base.specs.declared.dpi.Dpi.{Dpi}
-use Rattle.pcl_base.specs.declared.dpi.Dpi.TheVariants.{Dpi300, Dpi600}
 use Rattle.pcl_base.specs.declared.fault.JobFault.{JobFault}
 use Rattle.pcl_base.specs.declared.fault.JobFault.TheVariants.{Refused, Memory}
-use Rattle.pcl_base.specs.declared.refusal.Refusal.{Refusal}
 use Rattle.pcl_page.specs.Situation.{Sheet}
 use Rattle.pcl_page.specs.Asks.{Asks}
 use Rattle.pcl_page.specs.Jobs.{HasPages, HasAsks}
@@ -12,7 +10,6 @@ use Rattle.pcl_page.specs.Delivering.{IsRefusal}
 use Rattle.pcl_page.specs.Alike.{AllAlike}
 use Rattle.pcl_tool.specs.Minimizing.{IsJobOf}
 use Rattle.pcl_shrink.specs.declared.candidate.Shrunk.{Shrunk}
-use Rattle.pcl_shrink.specs.declared.candidate.ShrunkAt.{ShrunkAt}
 
 -- a job that is accepted, with pages like these one by one: as many, of the same sizes, with as many copies, dot for dot
 pub record PrintsAlike (dpi : Dpi) (pages : List Sheet) (job : List ℕ) : Type 0 where
@@ -38,14 +35,3 @@ abbrev pub IsShrunk : Dpi → List ℕ → Result Shrunk JobFault → Type 0
 IsShrunk dpi job (Ok shrunk) = IsSmallerJob dpi job shrunk.job.items
 IsShrunk dpi job (Err (Refused refusal)) = IsRefusal dpi job refusal
 IsShrunk dpi job (Err Memory) = Unit {0}
-
--- the job is accepted at no resolution before this one, 300 before 600
-abbrev pub IsRefusedBefore : Dpi → List ℕ → Type 0
-IsRefusedBefore Dpi300 job = Unit {0}
-IsRefusedBefore Dpi600 job = (refusal : Refusal) × IsRefusal Dpi300 job refusal
-
--- at the first of 300 and 600 dots per inch at which the job is accepted; a job that is refused at both is refused as at 300
-abbrev pub IsShrunkAuto : List ℕ → Result ShrunkAt JobFault → Type 0
-IsShrunkAuto job (Ok found) = IsRefusedBefore found.dpi job × IsSmallerJob found.dpi job found.shrunk.job.items
-IsShrunkAuto job (Err (Refused refusal)) = IsRefusal Dpi300 job refusal × ((other : Refusal) × IsRefusal Dpi600 job other)
-IsShrunkAuto job (Err Memory) = Unit {0}

@@ -1,7 +1,5 @@
 //! What a job is shrunk to.
 
-use pcl_base::Dpi;
-
 /// A way to write the pages of a job.
 #[derive(Clone, Copy, Debug, PartialEq, Eq)]
 pub enum Candidate {
@@ -22,13 +20,4 @@ pub struct Shrunk {
     pub job: Vec<u8>,
     /// How it is written.
     pub by: Candidate,
-}
-
-/// The same, and the resolution at which the jobs were compared.
-#[derive(Debug, Drop)]
-pub struct ShrunkAt {
-    /// The first of 300 and 600 dots per inch at which the job is accepted.
-    pub dpi: Dpi,
-    /// The smallest job that was found.
-    pub shrunk: Shrunk,
 }

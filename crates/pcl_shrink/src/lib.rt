@@ -1,7 +1,7 @@
 //! The smallest job that is found with the same pages (docs/SHRINK.md).
 //!
-//! Candidates are made by code of which nothing is promised but that it returns. Each is performed and compared with the input, dot
-//! for dot and in what it asks of the printer, before it is taken.
+//! Candidates are made by code of which nothing is promised but that it returns. Each is performed and compared with the input, which
+//! is performed once for all looks, dot for dot and in what it asks of the printer, before it is taken.
 #![tactic(auto)]
 
 mod asking;
@@ -13,7 +13,6 @@ mod rasters;
 mod shrinking;
 mod squares;
 
-pub use candidate::{Candidate, Shrunk, ShrunkAt};
+pub use candidate::{Candidate, Shrunk};
 pub use laws::shrunk_jobs_have_the_same_pages;
-pub use looking::{asks_the_same, is_same};
-pub use shrinking::{shrink, shrink_auto};
+pub use shrinking::shrink;

@@ -1,18 +1,18 @@
 //! A job shrunk.
 
-ghost use Rattle.std.specs.Prelude.{◌≡◌, IfOk};
-ghost use Rattle.pcl_page.specs.Asks.{asks_of};
-ghost use Rattle.pcl_page.specs.Jobs.{HasAsks};
+ghost use Rattle.std.specs.Prelude.{◌≡◌, ℕ, List, IfOk};
 ghost use Rattle.pcl_glyphs.specs.Outcome.{IsOutcome};
-ghost use Rattle.pcl_shrink.specs.Shrinking.{IsSmallerJob, IsShrunk, IsShrunkAuto};
+ghost use Rattle.pcl_same.specs.Keeping.{IsKept};
+ghost use Rattle.pcl_shrink.specs.Shrinking.{IsSmallerJob, IsShrunk};
 
 use crate::asking::asked_throughout;
 use crate::coarse::write_raster_job;
-use crate::looking::{Unseen, asks_the_same, is_same};
-use crate::{Candidate, Shrunk, ShrunkAt};
+use crate::looking::is_same;
+use crate::{Candidate, Shrunk};
 use pcl_base::{Dpi, JobFault};
 use pcl_glyphs::write_glyph_job;
-use pcl_page::{Asks, one_meaning, perform_asked};
+use pcl_page::{Asks, one_meaning};
+use pcl_same::{KeptJob, keep_job};
 use pcl_tool::{Fault, Unwatched, least_job};
 use std::alloc::{AllocError, Global};
 
@@ -21,41 +21,22 @@ use std::alloc::{AllocError, Global};
 pub fn shrink(alloc: Global, job: &[u8], dpi: Dpi) -> Result<Shrunk, JobFault>
     ensures { IsShrunk dpi job.now result }
 {
-    let asks = perform_asked(alloc, job, dpi, &mut Unseen)?;
-    let best = input_or_raster(alloc, job, &asks, dpi)?;
-    let raster = write_raster_job(alloc, job, &asks, dpi)?;
-    let best = shorter(alloc, job, &asks, dpi, best, raster, Candidate::Coarse)?;
-    let glyphs = write_asked_glyph_job(alloc, job, &asks, dpi)?;
-    shorter(alloc, job, &asks, dpi, best, glyphs, Candidate::Glyphs)
+    let kept = keep_job(alloc, job, dpi)?;
+    let best = input_or_raster(alloc, job, &kept, dpi)?;
+    let raster = write_raster_job(alloc, job, kept.asks(), dpi)?;
+    let best = shorter(alloc, &kept, dpi, best, raster, Candidate::Coarse)?;
+    let glyphs = write_asked_glyph_job(alloc, job, kept.asks(), dpi)?;
+    Ok(shorter(alloc, &kept, dpi, best, glyphs, Candidate::Glyphs)?)
 }
 
-/// The same at the first of 300 and 600 dots per inch at which the job is accepted. Where it is accepted at neither, the refusal is
-/// the one at 300.
-pub fn shrink_auto(alloc: Global, job: &[u8]) -> Result<ShrunkAt, JobFault>
-    ensures { IsShrunkAuto job.now result }
-{
-    let refusal = match shrink(alloc, job, Dpi::Dpi300) {
-        Ok(shrunk) => {
-            let dpi = Dpi::Dpi300;
-            return Ok(ShrunkAt { dpi, shrunk });
-        }
-        Err(JobFault::Refused(refusal)) => refusal,
-        Err(JobFault::Memory) => return Err(JobFault::Memory),
-    };
-    match shrink(alloc, job, Dpi::Dpi600) {
-        Ok(shrunk) => {
-            let dpi = Dpi::Dpi600;
-            Ok(ShrunkAt { dpi, shrunk })
-        }
-        Err(JobFault::Refused(_)) => Err(JobFault::Refused(refusal)),
-        Err(JobFault::Memory) => Err(JobFault::Memory),
-    }
-}
-
-/// A job that asks for this, or its least raster job, which has the same pages, as is proved: the shorter where both ask for the
-/// same.
-fn input_or_raster(alloc: Global, job: &[u8], asks: &Asks<'_>, dpi: Dpi) -> Result<Shrunk, JobFault>
-    requires { HasAsks dpi job.now (asks_of asks.now) }
+/// A job that is kept, or its least raster job, which has the same pages, as is proved: the shorter where both ask for the same.
+fn input_or_raster(
+    alloc: Global,
+    job: &[u8],
+    kept: &KeptJob<'_>,
+    dpi: Dpi,
+) -> Result<Shrunk, JobFault>
+    requires { IsKept dpi job.now kept.now }
     ensures { IsShrunk dpi job.now result }
 {
     let raster = match least_job(alloc, job, dpi, Unwatched) {
@@ -63,14 +44,14 @@ fn input_or_raster(alloc: Global, job: &[u8], asks: &Asks<'_>, dpi: Dpi) -> Resu
         Err(Fault::Refused(refusal)) => return Err(JobFault::Refused(refusal)),
         Err(_) => return Err(JobFault::Memory),
     };
-    if !asks_the_same(alloc, asks, &raster, dpi)? {
+    if raster.len() >= job.len() {
         return Ok(input(alloc, job)?);
     }
-    if raster.len() < job.len() {
-        let by = Candidate::Raster;
-        return Ok(Shrunk { job: raster, by });
+    if !is_same(alloc, kept, &raster, dpi)? {
+        return Ok(input(alloc, job)?);
     }
-    Ok(input(alloc, job)?)
+    let by = Candidate::Raster;
+    Ok(Shrunk { job: raster, by })
 }
 
 /// A job as it came.
@@ -97,27 +78,23 @@ fn write_asked_glyph_job(
     }
 }
 
-/// A proposal where it is shorter than the best job so far, has the same pages and asks for the same; else that job.
+/// A proposal where it is shorter than the best job so far, has the pages of the job that is kept and asks for the same; else the best
+/// job so far.
 fn shorter(
     alloc: Global,
-    job: &[u8],
-    asks: &Asks<'_>,
+    kept: &KeptJob<'_>,
     dpi: Dpi,
     best: Shrunk,
     proposal: Option<Vec<u8>>,
     by: Candidate,
-) -> Result<Shrunk, JobFault>
-    requires asked { HasAsks dpi job.now (asks_of asks.now) }
-    requires best { IsSmallerJob dpi job.now best.job.items }
-    ensures { IsShrunk dpi job.now result }
+) -> Result<Shrunk, AllocError>
+    ensures { (job : List ℕ) → IsKept dpi job kept.now → IsSmallerJob dpi job best.job.items
+        → IfOk result (λ shrunk. IsSmallerJob dpi job shrunk.job.items) }
 {
     let Some(proposal) = proposal else {
         return Ok(best);
     };
-    if proposal.len() >= best.job.len() || !is_same(alloc, job, &proposal, dpi)? {
-        return Ok(best);
-    }
-    if !asks_the_same(alloc, asks, &proposal, dpi)? {
+    if proposal.len() >= best.job.len() || !is_same(alloc, kept, &proposal, dpi)? {
         return Ok(best);
     }
     one_meaning();

@@ -6,12 +6,12 @@
 //! four dots `ESC*t75R` and `ESC*r600s0A` save a byte each; with squares of two dots nothing is saved around the rows.
 //!
 //! The line of ninety letters is the example of docs/GLYPHS.md with all letters 24 dots apart: 166 bytes beside its codes and
-//! moves, `ESC*p34x10Y` 9, and 90 codes. At 600 dots per inch it has squares of two dots, and nine rows of 90 changes, which method
-//! 3 says in 2 bytes each: the 42 bytes around the rows, `ESC*b3m1y180W` 11, eight times `ESC*b180W` 7, and nine times 180.
+//! moves, `ESC*p34x10Y` 9, and 90 codes. At 600 dots per inch it goes by macros: 9 bytes before them, 129 for the letter's, 23 for
+//! that of two letters and 31 for that of eight, 37 of the page text, `ESC*b3M` 5, `ESC*p68x20Y` 9, twelve runs 51, and 3 after.
 #![tactic(auto)]
 
 use pcl_base::{Dpi, JobFault};
-use pcl_shrink::{Shrunk, shrink, shrink_auto};
+use pcl_shrink::{Shrunk, shrink};
 use std::alloc::{AllocError, Global};
 use std::io;
 
@@ -89,9 +89,20 @@ fn main(rt: HostRuntime) -> io::Result<()> {
             Dpi::Dpi300,
         )?;
     }
-    print_auto(&rt, "a raster that 300 dots per inch refuse", FINE)?;
-    print_auto(&rt, "one that 300 dots per inch accept", USUAL)?;
-    print_auto(&rt, "one that both refuse", b"\x1b*cP\x1be")
+    print_shrunk(
+        &rt,
+        "a raster that 300 dots per inch refuse",
+        FINE,
+        Dpi::Dpi300,
+    )?;
+    print_shrunk(&rt, "and that 600 accept", FINE, Dpi::Dpi600)?;
+    print_shrunk(&rt, "one that 300 dots per inch accept", USUAL, Dpi::Dpi300)?;
+    print_shrunk(
+        &rt,
+        "one that 600 refuse as well",
+        b"\x1b*cP\x1be",
+        Dpi::Dpi600,
+    )
 }
 
 /// Prints the line of a case.
@@ -103,17 +114,6 @@ fn print_shrunk<R: Print + AllocGlobal>(
 ) -> io::Result<()> {
     match shrink(rt.alloc(), job, dpi) {
         Ok(shrunk) => print_lengths(rt, name, job, &shrunk),
-        Err(fault) => print_fault(rt, name, fault),
-    }
-}
-
-/// Prints the line of a case whose resolution isn't given.
-fn print_auto<R: Print + AllocGlobal>(rt: &R, name: &str, job: &[u8]) -> io::Result<()> {
-    match shrink_auto(rt.alloc(), job) {
-        Ok(found) => {
-            print!(rt; "{} dots per inch: ", found.dpi.dots())?;
-            print_lengths(rt, name, job, &found.shrunk)
-        }
         Err(fault) => print_fault(rt, name, fault),
     }
 }
