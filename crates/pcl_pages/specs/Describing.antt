@@ -4,13 +4,8 @@ use Rattle.std.specs.Global.{Vec}
 use Rattle.pcl_base.specs.declared.dpi.Dpi.{Dpi}
 use Rattle.pcl_base.specs.declared.fault.JobFault.{JobFault}
 use Rattle.pcl_base.specs.declared.fault.JobFault.TheVariants.{Refused, Memory}
-use Rattle.pcl_page.specs.Situation.{Sheet}
-use Rattle.pcl_page.specs.Jobs.{HasPages}
+use Rattle.pcl_page.specs.Accepting.{IsAccepted}
 use Rattle.pcl_page.specs.Delivering.{IsRefusal}
-
--- the job is accepted
-abbrev pub IsAccepted : Dpi → List ℕ → Type 0
-IsAccepted dpi job = (pages : List Sheet) × HasPages dpi job pages
 
 -- a text comes of an accepted job alone; else its refusal
 abbrev pub IsDescribed : Dpi → List ℕ → Result (Vec ℕ) JobFault → Type 0

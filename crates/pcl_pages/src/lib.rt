@@ -1,7 +1,8 @@
-//! What the pages of a job are: a line of text for each.
+//! What the pages of a job are: a line of text for each, or one object of JSON.
 #![tactic(auto)]
 
 mod describing;
+mod facts;
 mod lines;
 
-pub use describing::describe_pages;
+pub use describing::{Layout, describe_pages};

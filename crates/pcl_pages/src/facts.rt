@@ -1,0 +1,199 @@
+//! What is known of the pages of a job.
+
+use pcl_base::{Dpi, Method, Size};
+use pcl_env::Asked;
+use pcl_output::Step;
+use pcl_page::Page;
+use pcl_plan::{Plan, plan};
+use pcl_writer::write_page;
+use serde::Serialize;
+use std::alloc::{AllocError, Global};
+
+/// How many bytes of row data go by each method.
+#[derive(Clone, Copy, Serialize)]
+pub struct DataBytes {
+    pub method_0: usize,
+    pub method_1: usize,
+    pub method_2: usize,
+    pub method_3: usize,
+}
+
+impl DataBytes {
+    const NONE: DataBytes = DataBytes {
+        method_0: 0,
+        method_1: 0,
+        method_2: 0,
+        method_3: 0,
+    };
+
+    /// Those of the rows that a plan sends.
+    fn of_plan(plan: &Plan) -> DataBytes {
+        let mut bytes = DataBytes::NONE;
+        let mut method = Method::Plain;
+        for step in plan.steps() {
+            match step {
+                Step::Skip(_) => {}
+                Step::Switch(next) => method = *next,
+                Step::Row(length) => bytes = bytes.with(method, usize::from(*length)),
+            }
+        }
+        bytes
+    }
+
+    /// With so many more by a method.
+    fn with(self, method: Method, more: usize) -> DataBytes {
+        match method {
+            Method::Plain => DataBytes {
+                method_0: self.method_0.saturating_add(more),
+                ..self
+            },
+            Method::Runs => DataBytes {
+                method_1: self.method_1.saturating_add(more),
+                ..self
+            },
+            Method::Packed => DataBytes {
+                method_2: self.method_2.saturating_add(more),
+                ..self
+            },
+            Method::Delta => DataBytes {
+                method_3: self.method_3.saturating_add(more),
+                ..self
+            },
+        }
+    }
+
+    /// Those of both.
+    fn plus(self, other: DataBytes) -> DataBytes {
+        self.with(Method::Plain, other.method_0)
+            .with(Method::Runs, other.method_1)
+            .with(Method::Packed, other.method_2)
+            .with(Method::Delta, other.method_3)
+    }
+}
+
+/// What is known of a page.
+#[derive(Clone, Copy, Serialize)]
+pub struct PageFacts {
+    /// Counted from 1.
+    pub page: usize,
+    pub size: &'static str,
+    pub copies: u8,
+    /// One side or both, where the job asks for it (`&lS`).
+    pub sides: Option<i32>,
+    /// Where the paper comes from, where the job asks for it (`&lH`).
+    pub source: Option<i32>,
+    pub dots: u64,
+    pub black_dots: u64,
+    /// The bytes of its least page text (docs/OUTPUT.md).
+    pub bytes: usize,
+    /// The bytes of row data in that text, by method.
+    pub data: DataBytes,
+}
+
+impl PageFacts {
+    /// Those of a page with this number, but for what it is asked with.
+    pub fn of_page(alloc: Global, number: usize, page: &Page) -> Result<PageFacts, AllocError> {
+        let least = plan(alloc, page)?;
+        let mut text = Vec::new(alloc);
+        write_page(page, &least, &mut text)?;
+        Ok(PageFacts {
+            page: number,
+            size: size_name(page.size),
+            copies: page.copies,
+            sides: None,
+            source: None,
+            dots: u64::from(page.size.width(page.dpi)) * u64::from(page.size.height(page.dpi)),
+            black_dots: black_dots(page),
+            bytes: text.len(),
+            data: DataBytes::of_plan(&least),
+        })
+    }
+
+    /// The same with what the page is asked with.
+    pub fn asked(self, asked: &Asked) -> PageFacts {
+        PageFacts {
+            sides: asked.sides,
+            source: asked.paper_source,
+            ..self
+        }
+    }
+}
+
+/// The sums over the pages of a job.
+#[derive(Clone, Copy, Serialize)]
+pub struct Total {
+    pub pages: usize,
+    pub copies: usize,
+    pub dots: u64,
+    pub black_dots: u64,
+    pub bytes: usize,
+    pub data: DataBytes,
+}
+
+impl Total {
+    /// Of no page.
+    const NOTHING: Total = Total {
+        pages: 0,
+        copies: 0,
+        dots: 0,
+        black_dots: 0,
+        bytes: 0,
+        data: DataBytes::NONE,
+    };
+
+    /// With one page more.
+    fn with(self, page: &PageFacts) -> Total {
+        Total {
+            pages: self.pages.saturating_add(1),
+            copies: self.copies.saturating_add(usize::from(page.copies)),
+            dots: self.dots.saturating_add(page.dots),
+            black_dots: self.black_dots.saturating_add(page.black_dots),
+            bytes: self.bytes.saturating_add(page.bytes),
+            data: self.data.plus(page.data),
+        }
+    }
+}
+
+/// What is known of the pages of a job.
+#[derive(Drop, Serialize)]
+pub struct JobFacts {
+    /// The resolution at which they are seen.
+    pub dpi: u32,
+    pub pages: Vec<PageFacts>,
+    pub total: Total,
+}
+
+impl JobFacts {
+    /// Of these pages, each with what it is asked with.
+    pub fn new(dpi: Dpi, mut pages: Vec<PageFacts>, asked: &[Asked]) -> JobFacts {
+        let mut total = Total::NOTHING;
+        for (page, asked) in pages.iter_mut().zip(asked.iter()) {
+            *page = page.asked(asked);
+            total = total.with(page);
+        }
+        JobFacts {
+            dpi: dpi.dots(),
+            pages,
+            total,
+        }
+    }
+}
+
+/// How many dots of a page are black.
+fn black_dots(page: &Page) -> u64 {
+    let mut black: u64 = 0;
+    for byte in page.bitmap.bytes() {
+        black = black.saturating_add(u64::from(byte.count_ones()));
+    }
+    black
+}
+
+/// The name of a page size.
+fn size_name(size: Size) -> &'static str {
+    match size {
+        Size::Executive => "Executive",
+        Size::Letter => "Letter",
+        Size::Legal => "Legal",
+        Size::A4 => "A4",
+    }
+}
