@@ -4,3 +4,4 @@ pub mod Appended
 pub mod SamePages
 pub mod Drawn
 pub mod Told
+pub mod ComparedFor

@@ -2,18 +2,26 @@
 use Rattle.std.specs.Prelude.{◌≡◌, ◌⊎◌, ℕ, List, Option, Result, Ok, Err}
 use Rattle.std.specs.Global.{Vec}
 use Rattle.std.specs.Io.KnownBytes.{Appends, Keeps}
+use Rattle.pcl_base.specs.declared.dpi.Dpi.{Dpi}
 use Rattle.pcl_base.specs.declared.refusal.Refusal.{Refusal}
 use Rattle.pcl_page.specs.Delivering.{IsRefusal}
 use Rattle.pcl_tool.specs.declared.fault.Fault.{Fault}
 use Rattle.pcl_tool.specs.declared.fault.Fault.TheVariants.{Refused, Memory, ReadFault, TooLong, WriteFault, NoSuchPage}
 use Rattle.pcl_tool.specs.declared.job_verdict.JobVerdict.{JobVerdict}
 use Rattle.pcl_tool.specs.declared.job_verdict.JobVerdict.TheVariants as job
+use Rattle.pcl_tool.specs.declared.job_verdict.CheckAnswer.{CheckAnswer}
+use Rattle.pcl_tool.specs.declared.job_verdict.CheckAnswer.TheVariants as answer
+use Rattle.pcl_tool.specs.JobFaults.{RefusedOrMemory}
 use Rattle.pcl_tool.specs.JobVerdicts.{IsJobVerdict}
+use Rattle.pcl_tool.specs.ImageVerdicts.{IsImagesAnswer}
 use Rattle.pcl_tool.specs.Transfer.{AppendsFront, IsReadAll}
 use Rattle.pcl_tool.specs.Minimizing.{input_limit}
 use Rattle.pcl_command.specs.Files.{FileAct, Opened, Unopened}
 use Rattle.pcl_command.specs.declared.request.CheckedFiles.{CheckedFiles}
-use Rattle.pcl_command.specs.Verdicts.{verdict_line_of}
+use Rattle.pcl_command.specs.declared.request.Beside.{Beside}
+use Rattle.pcl_command.specs.declared.request.Beside.TheVariants.{Input, Images}
+use Rattle.pcl_command.specs.Resolutions.{IsSeenAt}
+use Rattle.pcl_command.specs.Verdicts.{answer_line_of}
 
 -- a file of this name was opened, and read to its end or up to a fault; or it can't be opened, which is a fault of reading
 abbrev pub IsFileRead : {F : Type 0} → (F → FileAct → F → Type 0) → F → List ℕ → Result (Vec ℕ) Fault → Type 0
@@ -36,23 +44,42 @@ IsUnread acts files asked fault =
     ⊎ ((input output : Vec ℕ) × IsFileRead acts files asked.input.now (Ok input) × IsFileRead acts files asked.output.now (Ok output)
     × IsFileRead acts files asked.certificate.now (Err fault))
 
--- the answer is right of the bytes of the three files
-abbrev pub IsAnswer : {F : Type 0} → (F → FileAct → F → Type 0) → F → CheckedFiles → JobVerdict → Type 0
-IsAnswer acts files asked verdict =
-    (input output certificate : Vec ℕ) × AreRead acts files asked input output certificate
-    × IsJobVerdict asked.dpi input.items output.items certificate.items verdict
+-- the job that is performed: the input, or where images are given the output
+abbrev pub performed : Beside → (input output : List ℕ) → List ℕ
+performed Input input output = input
+performed Images input output = output
 
--- the input is refused so, and the three files were read
+-- an answer is right of an input, or of images of its pages, of an output and a certificate
+abbrev pub IsAnswerBeside : Beside → Dpi → (input output certificate : List ℕ) → CheckAnswer → Type 0
+IsAnswerBeside Input dpi input output certificate answer.OtherImages = ⊥
+IsAnswerBeside Input dpi input output certificate (answer.Job verdict) = IsJobVerdict dpi input output certificate verdict
+IsAnswerBeside Images dpi images output certificate given = IsImagesAnswer dpi images output certificate given
+
+-- no fault comes but the refusal of the job that is performed and out of memory
+abbrev pub IsCheckedBeside : Beside → Dpi → (input output certificate : List ℕ) → Result CheckAnswer Fault → Type 0
+IsCheckedBeside beside dpi input output certificate (Ok given) = IsAnswerBeside beside dpi input output certificate given
+IsCheckedBeside beside dpi input output certificate (Err fault) = RefusedOrMemory (IsRefusal dpi (performed beside input output)) fault
+
+-- the answer is right of the bytes of the three files
+abbrev pub IsAnswer : {F : Type 0} → (F → FileAct → F → Type 0) → F → CheckedFiles → CheckAnswer → Type 0
+IsAnswer acts files asked given =
+    (input output certificate : Vec ℕ) × (dpi : Dpi) × AreRead acts files asked input output certificate
+    × IsSeenAt asked.resolution (performed asked.beside input.items output.items) dpi
+    × IsAnswerBeside asked.beside dpi input.items output.items certificate.items given
+
+-- the job that is performed is refused so, and the three files were read
 abbrev pub IsRefused : {F : Type 0} → (F → FileAct → F → Type 0) → F → CheckedFiles → Refusal → Type 0
 IsRefused acts files asked refusal =
-    (input output certificate : Vec ℕ) × AreRead acts files asked input output certificate × IsRefusal asked.dpi input.items refusal
+    (input output certificate : Vec ℕ) × (dpi : Dpi) × AreRead acts files asked input output certificate
+    × IsSeenAt asked.resolution (performed asked.beside input.items output.items) dpi
+    × IsRefusal dpi (performed asked.beside input.items output.items) refusal
 
 -- the line of an answer is written; nothing where a fault came before, and a prefix of the line where its write failed
 abbrev pub IsCheckRun : {F : Type 0} → (F → FileAct → F → Type 0) → F → CheckedFiles → (old new : Option (List ℕ))
-    → Result JobVerdict Fault → Type 0
-IsCheckRun acts files asked old new (Ok verdict) = IsAnswer acts files asked verdict × Appends old new (verdict_line_of verdict)
+    → Result CheckAnswer Fault → Type 0
+IsCheckRun acts files asked old new (Ok given) = IsAnswer acts files asked given × Appends old new (answer_line_of given)
 IsCheckRun acts files asked old new (Err WriteFault) =
-    (verdict : JobVerdict) × IsAnswer acts files asked verdict × AppendsFront old new (verdict_line_of verdict)
+    (given : CheckAnswer) × IsAnswer acts files asked given × AppendsFront old new (answer_line_of given)
 IsCheckRun acts files asked old new (Err (Refused refusal)) = IsRefused acts files asked refusal × Keeps old new
 IsCheckRun acts files asked old new (Err ReadFault) = IsUnread acts files asked ReadFault × Keeps old new
 IsCheckRun acts files asked old new (Err TooLong) = IsUnread acts files asked TooLong × Keeps old new
@@ -66,3 +93,7 @@ verdict_status_for (job.Certificate fault) = 1
 verdict_status_for job.PageCount = 1
 verdict_status_for job.Frame = 1
 verdict_status_for (job.Page page verdict) = 1
+
+abbrev pub answer_status_for : CheckAnswer → ℕ
+answer_status_for answer.OtherImages = 1
+answer_status_for (answer.Job verdict) = verdict_status_for verdict

@@ -1,10 +1,20 @@
 -- What the program says of two compared jobs.
-use Rattle.std.specs.Prelude.{ℕ, List, ◌++◌, codes, decimal}
+use Rattle.std.specs.Prelude.{ℕ, ℤ, List, ◌++◌, Option, None, Some, codes, decimal}
+use Rattle.std.specs.Fmt.{signed_decimal}
 use Rattle.pcl_base.specs.Refusal.{refusal_text}
 use Rattle.pcl_base.specs.declared.size.Size.{Size}
 use Rattle.pcl_base.specs.declared.size.Size.TheVariants.{Executive, Letter, Legal, A4}
-use Rattle.pcl_same.specs.declared.comparison.Comparison.{Comparison}
-use Rattle.pcl_same.specs.declared.comparison.Comparison.TheVariants.{Same, PageCount, Page}
+use Rattle.pcl_base.specs.declared.operation.Asking.{Asking}
+use Rattle.pcl_base.specs.declared.operation.Asking.TheVariants.{Sides, OutputBin, MediaType, PaperSource, SheetSide}
+use Rattle.pcl_same.specs.declared.comparison.AskedComparison.{AskedComparison}
+use Rattle.pcl_same.specs.declared.comparison.AskedComparison.TheVariants.{Same, Pages, Asks}
+use Rattle.pcl_same.specs.declared.comparison.PagesDifference.{PagesDifference}
+use Rattle.pcl_same.specs.declared.comparison.PagesDifference.TheVariants as pages
+use Rattle.pcl_same.specs.declared.comparison.AsksDifference.{AsksDifference}
+use Rattle.pcl_same.specs.declared.comparison.AsksDifference.TheVariants as asks
+use Rattle.pcl_same.specs.declared.comparison.ExitDifference.{ExitDifference}
+use Rattle.pcl_same.specs.declared.comparison.ExitDifference.TheVariants as exit
+use Rattle.pcl_same.specs.declared.comparison.SettingDifference.{SettingDifference}
 use Rattle.pcl_same.specs.declared.comparison.Difference.{Difference}
 use Rattle.pcl_same.specs.declared.comparison.Difference.TheVariants as difference
 use Rattle.pcl_same.specs.declared.fault.Job.{Job}
@@ -29,20 +39,50 @@ difference_text (difference.Size first second) = pair_text (codes "size ") (size
 difference_text (difference.Copies first second) = pair_text (codes "copies ") (decimal first) (decimal second)
 difference_text (difference.Dot x y) = pair_text (codes "dot ") (decimal x) (decimal y)
 
-abbrev pub comparison_text : Comparison → List ℕ
-comparison_text Same = codes "same"
-comparison_text (PageCount first second) = pair_text (codes "not the same: page count ") (decimal first) (decimal second)
-comparison_text (Page number difference) = page_text (codes "not the same: page ") number ++ difference_text difference
+abbrev pub pages_text : PagesDifference → List ℕ
+pages_text (pages.Count first second) = pair_text (codes "not the same: page count ") (decimal first) (decimal second)
+pages_text (pages.Page number difference) = page_text (codes "not the same: page ") number ++ difference_text difference
 
--- the line on standard output
-abbrev pub comparison_line_of : Comparison → List ℕ
+-- ---- what is asked
+
+abbrev pub setting_label : Asking → List ℕ
+setting_label Sides = codes "sides "
+setting_label OutputBin = codes "bin "
+setting_label MediaType = codes "media "
+setting_label PaperSource = codes "source "
+setting_label SheetSide = codes "side "
+
+abbrev pub value_text : Option ℤ → List ℕ
+value_text (Some value) = signed_decimal value
+value_text None = codes "none"
+
+abbrev pub setting_text : SettingDifference → List ℕ
+setting_text difference = pair_text (setting_label difference.setting) (value_text difference.first) (value_text difference.second)
+
+abbrev pub exit_text : ExitDifference → List ℕ
+exit_text (exit.Place first second) = pair_text (codes "pages before ") (decimal first) (decimal second)
+exit_text exit.Lines = codes "lines"
+
+abbrev pub asks_text : AsksDifference → List ℕ
+asks_text (asks.Page number difference) = page_text (codes "not the same: page ") number ++ setting_text difference
+asks_text (asks.ExitCount first second) = pair_text (codes "not the same: exit count ") (decimal first) (decimal second)
+asks_text (asks.Exit number difference) = page_text (codes "not the same: exit ") number ++ exit_text difference
+
+-- ---- the line on standard output, and the status
+
+abbrev pub comparison_text : AskedComparison → List ℕ
+comparison_text Same = codes "same"
+comparison_text (Pages difference) = pages_text difference
+comparison_text (Asks difference) = asks_text difference
+
+abbrev pub comparison_line_of : AskedComparison → List ℕ
 comparison_line_of comparison = comparison_text comparison ++ codes "\n"
 
 -- 0 where the jobs are the same, else 1
-abbrev pub comparison_status_for : Comparison → ℕ
+abbrev pub comparison_status_for : AskedComparison → ℕ
 comparison_status_for Same = 0
-comparison_status_for (PageCount first second) = 1
-comparison_status_for (Page number difference) = 1
+comparison_status_for (Pages difference) = 1
+comparison_status_for (Asks difference) = 1
 
 -- ---- faults
 

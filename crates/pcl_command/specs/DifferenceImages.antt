@@ -13,7 +13,6 @@ use Rattle.pcl_same.specs.declared.comparison.Difference.TheVariants.{Dot}
 use Rattle.pcl_same.specs.Comparing.{IsComparison}
 use Rattle.pcl_same.specs.DifferingDots.{IsDifference}
 use Rattle.pcl_command.specs.Files.{FileAct, Made, Unmade, Closed}
-use Rattle.pcl_command.specs.declared.request.ComparedFiles.{ComparedFiles}
 
 -- the page where the first difference is one of dots
 abbrev pub dotted_page : Comparison → Option ℕ
@@ -58,7 +57,7 @@ IsDrawnTo acts (Some name) (Some number) dpi first second files kept done =
 IsDrawnTo acts name number dpi first second files kept done = (kept ≡ files) × (done ≡ Ok tt)
 
 -- what becomes of the image of a comparison
-abbrev pub IsDrawn : {F : Type 0} → (F → FileAct → F → Type 0) → ComparedFiles → (first second : List ℕ) → Comparison → (files kept : F)
-    → Result (Unit {0}) Fault → Type 0
-IsDrawn acts asked first second comparison files kept done =
-    IsDrawnTo acts asked.image (dotted_page comparison) asked.dpi first second files kept done
+abbrev pub IsDrawn : {F : Type 0} → (F → FileAct → F → Type 0) → Option (Bor (List ℕ)) → Dpi → (first second : List ℕ) → Comparison
+    → (files kept : F) → Result (Unit {0}) Fault → Type 0
+IsDrawn acts name dpi first second comparison files kept done =
+    IsDrawnTo acts name (dotted_page comparison) dpi first second files kept done

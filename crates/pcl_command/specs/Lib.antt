@@ -1,6 +1,7 @@
 pub mod Messages
 pub mod Verdicts
 pub mod Files
+pub mod Resolutions
 pub mod Checks
 pub mod ComparisonLines
 pub mod DifferenceImages

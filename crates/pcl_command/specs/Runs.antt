@@ -1,26 +1,30 @@
 -- What a run of the program reads and writes, and how what is asked for ends.
-use Rattle.std.specs.Prelude.{◌≡◌, ℕ, ◌+◌, List, length, ◌⊎◌, Option, Result, Ok, Err}
+use Rattle.std.specs.Prelude.{◌≡◌, ℕ, ◌+◌, Bool, true, false, ◌&&◌, List, codes, length, ◌⊎◌, Option, Some, Result, Ok, Err}
 use Rattle.std.specs.Io.KnownBytes.{Consumes, Appends, Keeps}
 use Rattle.pcl_base.specs.declared.dpi.Dpi.{Dpi}
+use Rattle.pcl_base.specs.declared.kind.Kind.{Kind}
 use Rattle.pcl_base.specs.declared.refusal.Refusal.{Refusal}
 use Rattle.pcl_page.specs.Delivering.{IsRefusal}
 use Rattle.pcl_tool.specs.declared.fault.Fault.{Fault}
 use Rattle.pcl_tool.specs.declared.fault.Fault.TheVariants.{Refused, Memory, ReadFault, TooLong, WriteFault, NoSuchPage}
 use Rattle.pcl_cert.specs.declared.format.Format.{Format}
 use Rattle.pcl_tool.specs.Minimizing.{IsFiltered, IsFilteredCert, IsRead, input_limit}
-use Rattle.pcl_tool.specs.Preview.{IsPreview}
-use Rattle.pcl_tool.specs.Transfer.{GivesAtMost, AppendsFront}
-use Rattle.pcl_explain.specs.Findings.{Explains}
-use Rattle.pcl_pages.specs.Describing.{IsAccepted}
+use Rattle.pcl_tool.specs.declared.page_images.PageChoice.{PageChoice}
+use Rattle.pcl_tool.specs.PageImages.{last_page, IsPagesPreview}
+use Rattle.pcl_tool.specs.Transfer.{GivesAtMost, AppendsFront, IsWritten}
+use Rattle.pcl_page.specs.Accepting.{IsAccepted, IsFirstAccepted}
+use Rattle.pcl_explain.specs.Findings.{Explains, ExplainsKind}
 use Rattle.pcl_shrink.specs.Shrinking.{IsSmallerJob}
 use Rattle.pcl_command.specs.Messages.{line_of, status_for}
 use Rattle.pcl_command.specs.Files.{FileAct, Opened, Unopened, Made, Unmade, Closed, Begun, Placed, Dropped}
-use Rattle.pcl_command.specs.Checks.{IsCheckRun, verdict_status_for}
+use Rattle.pcl_command.specs.Checks.{IsCheckRun, answer_status_for}
 use Rattle.pcl_command.specs.ComparisonLines.{compare_line_of, compare_status_for, comparison_status_for}
 use Rattle.pcl_command.specs.Comparisons.{IsCompareRun}
 use Rattle.pcl_command.specs.declared.comparisons.CompareFault.{CompareFault}
 use Rattle.pcl_command.specs.declared.request.Task.{Task}
-use Rattle.pcl_command.specs.declared.request.Task.TheVariants.{Minimize, Certify, Preview, Explain, DescribePages, Shrink}
+use Rattle.pcl_command.specs.declared.request.Task.TheVariants.{Minimize, Certify, Preview, Explain, ExplainKind, DescribePages, Shrink}
+use Rattle.pcl_command.specs.declared.request.Resolution.{Resolution}
+use Rattle.pcl_command.specs.declared.request.Resolution.TheVariants.{Given, FirstAccepted}
 use Rattle.pcl_command.specs.declared.request.Run.{Run}
 use Rattle.pcl_command.specs.declared.request.Source.{Source}
 use Rattle.pcl_command.specs.declared.request.Source.TheVariants as source
@@ -33,22 +37,25 @@ use Rattle.pcl_command.specs.declared.request.Request.TheVariants as asked
 use Rattle.pcl_command.specs.declared.running.Ending.{Ending}
 use Rattle.pcl_command.specs.declared.running.Ending.TheVariants.{Done, Checked, Compared, Failed, NoMemory}
 
--- the page that is asked for, 0 where none is
+-- the last page that is asked for by its number, 0 where none is
 abbrev pub page_of : Task → ℕ
-page_of Minimize = 0
-page_of (Certify file format) = 0
-page_of (Preview page) = page
-page_of Explain = 0
-page_of DescribePages = 0
-page_of Shrink = 0
+page_of (Preview choice) = last_page choice
+page_of other = 0
 
--- what a reader gave and a writer holds after the preview of a page of the job that it gives
-abbrev pub IsPreviewRun : Dpi → ℕ → (given left old new : Option (List ℕ)) → Result (Unit {0}) Fault → Type 0
-IsPreviewRun dpi page given left old new (Err Memory) = GivesAtMost given left (input_limit + 1) × Keeps old new
-IsPreviewRun dpi page given left old new (Err ReadFault) = GivesAtMost given left input_limit × Keeps old new
-IsPreviewRun dpi page given left old new (Err TooLong) =
-    (bytes : List ℕ) × Consumes given left bytes × (length bytes ≡ input_limit + 1) × Keeps old new
-IsPreviewRun dpi page given left old new shown = (job : List ℕ) × IsRead given left job × IsPreview dpi job page old new shown
+-- what a reader gave and a writer holds where the job that it gives can't be read to its end, or memory runs out
+abbrev pub IsUnread : (given left old new : Option (List ℕ)) → Fault → Type 0
+IsUnread given left old new Memory = GivesAtMost given left (input_limit + 1) × Keeps old new
+IsUnread given left old new ReadFault = GivesAtMost given left input_limit × Keeps old new
+IsUnread given left old new TooLong = (bytes : List ℕ) × Consumes given left bytes × (length bytes ≡ input_limit + 1) × Keeps old new
+IsUnread given left old new other = ⊥
+
+-- what a reader gave and a writer holds after the preview of pages of the job that it gives
+abbrev pub IsPreviewRun : Dpi → PageChoice → (given left old new : Option (List ℕ)) → Result (Unit {0}) Fault → Type 0
+IsPreviewRun dpi choice given left old new (Err Memory) = IsUnread given left old new Memory
+IsPreviewRun dpi choice given left old new (Err ReadFault) = IsUnread given left old new ReadFault
+IsPreviewRun dpi choice given left old new (Err TooLong) = IsUnread given left old new TooLong
+IsPreviewRun dpi choice given left old new shown =
+    (job : List ℕ) × IsRead given left job × IsPagesPreview dpi job choice old new shown
 
 -- what a reader gave and a writer holds after a text on the job that it gives was written, which tells of the job what is to be told,
 -- or after it was refused
@@ -60,11 +67,7 @@ IsTextRun Tells Refuses given left old new (Err WriteFault) =
     (job text : List ℕ) × IsRead given left job × Tells job text × AppendsFront old new text
 IsTextRun Tells Refuses given left old new (Err (Refused refusal)) =
     (job : List ℕ) × IsRead given left job × Refuses job refusal × Keeps old new
-IsTextRun Tells Refuses given left old new (Err Memory) = GivesAtMost given left (input_limit + 1) × Keeps old new
-IsTextRun Tells Refuses given left old new (Err ReadFault) = GivesAtMost given left input_limit × Keeps old new
-IsTextRun Tells Refuses given left old new (Err TooLong) =
-    (bytes : List ℕ) × Consumes given left bytes × (length bytes ≡ input_limit + 1) × Keeps old new
-IsTextRun Tells Refuses given left old new (Err NoSuchPage) = ⊥
+IsTextRun Tells Refuses given left old new (Err fault) = IsUnread given left old new fault
 
 -- no job is refused that is explained
 abbrev pub NeverRefuses : List ℕ → Refusal → Type 0
@@ -73,6 +76,11 @@ NeverRefuses job refusal = ⊥
 -- a text on the pages of a job comes of an accepted one
 abbrev pub TellsOfPages : Dpi → List ℕ → List ℕ → Type 0
 TellsOfPages dpi job text = IsAccepted dpi job
+
+-- a writer holds what is to be said of a kind of refusal, or a prefix of it where its write failed
+abbrev pub IsKindExplained : Kind → (old new : Option (List ℕ)) → Result (Unit {0}) Fault → Type 0
+IsKindExplained kind old new (Err Memory) = Keeps old new
+IsKindExplained kind old new done = (text : List ℕ) × ExplainsKind kind text × IsWritten old new text done
 
 -- no file was made, nothing was read and nothing written
 abbrev pub HasStayed : {F : Type 0} → (files kept : F) → (given left old new : Option (List ℕ)) → Type 0
@@ -93,13 +101,25 @@ abbrev pub HasDoneTask : {F : Type 0} → (F → FileAct → F → Type 0) → T
 HasDoneTask acts Minimize dpi files kept given left old new done = (kept ≡ files) × IsFiltered dpi given left old new done
 HasDoneTask acts (Certify file format) dpi files kept given left old new done =
     IsCertifyRun acts file.now dpi format files kept given left old new done
-HasDoneTask acts (Preview page) dpi files kept given left old new done = (kept ≡ files) × IsPreviewRun dpi page given left old new done
+HasDoneTask acts (Preview choice) dpi files kept given left old new done = (kept ≡ files) × IsPreviewRun dpi choice given left old new done
 HasDoneTask acts Explain dpi files kept given left old new done =
     (kept ≡ files) × IsTextRun (Explains dpi) NeverRefuses given left old new done
-HasDoneTask acts DescribePages dpi files kept given left old new done =
+HasDoneTask acts (ExplainKind kind) dpi files kept given left old new done =
+    (kept ≡ files) × (left ≡ given) × IsKindExplained kind old new done
+HasDoneTask acts (DescribePages layout) dpi files kept given left old new done =
     (kept ≡ files) × IsTextRun (TellsOfPages dpi) (IsRefusal dpi) given left old new done
-HasDoneTask acts Shrink dpi files kept given left old new done =
+HasDoneTask acts (Shrink report) dpi files kept given left old new done =
     (kept ≡ files) × IsTextRun (IsSmallerJob dpi) (IsRefusal dpi) given left old new done
+
+-- the same at a resolution that is given; else the job can't be read, or it is done with the bytes of the job, at the first
+-- resolution at which that is accepted
+abbrev pub HasDoneSeen : {F : Type 0} → (F → FileAct → F → Type 0) → Task → Resolution → (files kept : F)
+    → (given left old new : Option (List ℕ)) → Result (Unit {0}) Fault → Type 0
+HasDoneSeen acts task (Given dpi) files kept given left old new done = HasDoneTask acts task dpi files kept given left old new done
+HasDoneSeen acts task FirstAccepted files kept given left old new done =
+    ((fault : Fault) × (kept ≡ files) × (done ≡ Err fault) × IsUnread given left old new fault)
+    ⊎ ((job : List ℕ) × (rest : Option (List ℕ)) × (dpi : Dpi) × IsRead given left job × IsFirstAccepted job dpi
+    × HasDoneTask acts task dpi files kept (Some job) rest old new done)
 
 -- A file that was begun is placed where the task was done, and dropped where it failed or the file can't be placed.
 abbrev pub IsSettled : {F : Type 0} → (F → FileAct → F → Type 0) → List ℕ → (holds : Option (List ℕ)) → Result (Unit {0}) Fault
@@ -108,6 +128,14 @@ IsSettled acts name holds (Ok unit) files kept done =
     (acts files (Placed name holds) kept × (done ≡ Ok tt)) ⊎ (acts files (Dropped name) kept × (done ≡ Err WriteFault))
 IsSettled acts name holds (Err fault) files kept done = acts files (Dropped name) kept × (done ≡ Err fault)
 
+-- a file was begun for this name, got these bytes and was settled; or it can't be begun
+abbrev pub IsFileWritten : {F : Type 0} → (F → FileAct → F → Type 0) → (name bytes : List ℕ) → (files kept : F)
+    → Result (Unit {0}) Fault → Type 0
+IsFileWritten {F} acts name bytes files kept done =
+    (acts files (Unmade name) kept × (done ≡ Err WriteFault))
+    ⊎ ((begun : F) × (held holds : Option (List ℕ)) × (written : Result (Unit {0}) Fault) × acts files (Begun name held) begun
+    × IsWritten held holds bytes written × IsSettled acts name holds written begun kept done)
+
 -- the task is done, or failed so, with what a file holds that was begun for this name, and the file was settled; or it can't be
 -- begun, and then nothing was read
 abbrev pub HasWrittenFile : {F : Type 0} → (F → FileAct → F → Type 0) → Run → List ℕ → (files kept : F) → (given left : Option (List ℕ))
@@ -115,13 +143,13 @@ abbrev pub HasWrittenFile : {F : Type 0} → (F → FileAct → F → Type 0) �
 HasWrittenFile {F} acts run name files kept given left done =
     (acts files (Unmade name) kept × (done ≡ Err WriteFault) × (left ≡ given))
     ⊎ ((begun ended : F) × (held holds : Option (List ℕ)) × (outcome : Result (Unit {0}) Fault) × acts files (Begun name held) begun
-    × HasDoneTask acts run.task run.dpi begun ended given left held holds outcome × IsSettled acts name holds outcome ended kept done)
+    × HasDoneSeen acts run.task run.resolution begun ended given left held holds outcome × IsSettled acts name holds outcome ended kept done)
 
 -- the same by where it writes to: nothing reaches the writer where that is a file
 abbrev pub HasWritten : {F : Type 0} → (F → FileAct → F → Type 0) → Run → Target → (files kept : F)
     → (given left old new : Option (List ℕ)) → Result (Unit {0}) Fault → Type 0
 HasWritten acts run target.StandardOutput files kept given left old new done =
-    HasDoneTask acts run.task run.dpi files kept given left old new done
+    HasDoneSeen acts run.task run.resolution files kept given left old new done
 HasWritten acts run (target.File name) files kept given left old new done =
     (new ≡ old) × HasWrittenFile acts run name.now files kept given left done
 
@@ -147,14 +175,34 @@ abbrev pub HasFailed : List ℕ → ℕ → Ending → Type 0
 HasFailed said code (Failed line status) = (line.items ≡ said) × (status ≡ code)
 HasFailed said code NoMemory = Unit {0}
 HasFailed said code Done = ⊥
-HasFailed said code (Checked verdict) = ⊥
+HasFailed said code (Checked answer) = ⊥
 HasFailed said code (Compared comparison) = ⊥
+
+-- a job or an image is made, and not a text
+abbrev pub makes_raw : Task → Bool
+makes_raw Explain = false
+makes_raw (ExplainKind kind) = false
+makes_raw (DescribePages layout) = false
+makes_raw other = true
+
+abbrev pub is_standard_output : Target → Bool
+is_standard_output target.StandardOutput = true
+is_standard_output (target.File name) = false
+
+-- one is written to standard output
+abbrev pub writes_raw : Request → Bool
+writes_raw (asked.Run run) = makes_raw run.task && is_standard_output run.target
+writes_raw other = false
+
+-- what is said where a job or an image would be written to a terminal
+abbrev pub terminal_line : List ℕ
+terminal_line = codes "pclmin: nothing is written to a terminal: send standard output to a file, or give -o FILE\n"
 
 -- how a run ends, by what it read and wrote
 abbrev pub HasRun : {F : Type 0} → (F → FileAct → F → Type 0) → Run → (files kept : F) → (given left old new : Option (List ℕ))
     → Ending → Type 0
 HasRun acts run files kept given left old new Done = HasDone acts run files kept given left old new (Ok tt)
-HasRun acts run files kept given left old new (Checked verdict) = ⊥
+HasRun acts run files kept given left old new (Checked answer) = ⊥
 HasRun acts run files kept given left old new (Compared comparison) = ⊥
 HasRun acts run files kept given left old new failed =
     (fault : Fault) × HasDone acts run files kept given left old new (Err fault)
@@ -165,8 +213,8 @@ abbrev pub HasChecked : {F : Type 0} → (F → FileAct → F → Type 0) → Ch
     → (given left old new : Option (List ℕ)) → Ending → Type 0
 HasChecked acts asked files kept given left old new Done = ⊥
 HasChecked acts asked files kept given left old new (Compared comparison) = ⊥
-HasChecked acts asked files kept given left old new (Checked verdict) =
-    (kept ≡ files) × (left ≡ given) × IsCheckRun acts files asked old new (Ok verdict)
+HasChecked acts asked files kept given left old new (Checked answer) =
+    (kept ≡ files) × (left ≡ given) × IsCheckRun acts files asked old new (Ok answer)
 HasChecked acts asked files kept given left old new failed =
     (fault : Fault) × (kept ≡ files) × (left ≡ given) × IsCheckRun acts files asked old new (Err fault)
     × HasFailed (line_of fault 0) (status_for fault) failed
@@ -175,7 +223,7 @@ HasChecked acts asked files kept given left old new failed =
 abbrev pub HasCompared : {F : Type 0} → (F → FileAct → F → Type 0) → ComparedFiles → (files kept : F)
     → (given left old new : Option (List ℕ)) → Ending → Type 0
 HasCompared acts asked files kept given left old new Done = ⊥
-HasCompared acts asked files kept given left old new (Checked verdict) = ⊥
+HasCompared acts asked files kept given left old new (Checked answer) = ⊥
 HasCompared acts asked files kept given left old new (Compared comparison) =
     (left ≡ given) × IsCompareRun acts asked files kept old new (Ok comparison)
 HasCompared acts asked files kept given left old new failed =
@@ -194,7 +242,7 @@ HasEnded acts (asked.Compare files_asked) files kept given left old new ending =
 -- the status of the program; 3 where memory ran out
 abbrev pub IsStatus : Ending → ℕ → Type 0
 IsStatus Done status = status ≡ 0
-IsStatus (Checked verdict) status = status ≡ verdict_status_for verdict
+IsStatus (Checked answer) status = status ≡ answer_status_for answer
 IsStatus (Compared comparison) status = status ≡ comparison_status_for comparison
 IsStatus (Failed line code) status = status ≡ code
 IsStatus NoMemory status = status ≡ 3

@@ -8,6 +8,8 @@ use Rattle.pcl_cert.specs.declared.fault.CertFault.{CertFault}
 use Rattle.pcl_cert.specs.declared.fault.CertFault.TheVariants as faults
 use Rattle.pcl_tool.specs.declared.job_verdict.JobVerdict.{JobVerdict}
 use Rattle.pcl_tool.specs.declared.job_verdict.JobVerdict.TheVariants as job
+use Rattle.pcl_tool.specs.declared.job_verdict.CheckAnswer.{CheckAnswer}
+use Rattle.pcl_tool.specs.declared.job_verdict.CheckAnswer.TheVariants as answer
 
 abbrev pub fault_text : CertFault → List ℕ
 fault_text faults.BadMagic = codes "BadMagic"
@@ -49,3 +51,7 @@ job_text job.Proved = codes "proved"
 -- the line on standard output
 abbrev pub verdict_line_of : JobVerdict → List ℕ
 verdict_line_of verdict = job_text verdict ++ codes "\n"
+
+abbrev pub answer_line_of : CheckAnswer → List ℕ
+answer_line_of answer.OtherImages = codes "not proved: images\n"
+answer_line_of (answer.Job verdict) = verdict_line_of verdict

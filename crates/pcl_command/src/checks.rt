@@ -1,15 +1,19 @@
 //! A check: a written job beside its input, by a certificate, each from a file.
 
-ghost use Rattle.pcl_command.specs.Checks.{IsCheckRun, IsFileRead};
+ghost use Rattle.pcl_command.specs.Checks.{IsCheckRun, IsCheckedBeside, IsFileRead};
 
 use crate::files::JobFiles;
-use crate::request::CheckedFiles;
-use crate::verdicts::verdict_line;
-use pcl_tool::{Fault, INPUT_LIMIT, JobVerdict, Watcher, check_job_watched, read_all, write_all};
+use crate::request::{Beside, CheckedFiles};
+use crate::resolutions::resolve;
+use crate::verdicts::answer_line;
+use pcl_base::Dpi;
+use pcl_tool::{
+    CheckAnswer, Fault, INPUT_LIMIT, Watcher, check_images, check_job_watched, read_all, write_all,
+};
 use std::alloc::Global;
 use std::io::Write;
 
-/// Reads the files, the input first, checks the job, and writes the line of the answer; the watcher is told of each page that is
+/// Reads the files, the input or the images first, checks the job, and writes the line of the answer; the watcher is told of each page that is
 /// done, and that the last one is before the line is written. Nothing is written after any fault but of a write, and then a
 /// prefix of the line.
 pub fn check<F: JobFiles, W: Write, P: Watcher>(
@@ -18,16 +22,50 @@ pub fn check<F: JobFiles, W: Write, P: Watcher>(
     asked: CheckedFiles<'_>,
     out: &mut W,
     watcher: P,
-) -> Result<JobVerdict, Fault>
+) -> Result<CheckAnswer, Fault>
     ensures { IsCheckRun F.acts files.now asked.entry (W.contents out.old) (W.contents out.new) result }
 {
     let input = read_file(files, alloc, asked.input)?;
     let output = read_file(files, alloc, asked.output)?;
     let certificate = read_file(files, alloc, asked.certificate)?;
-    let verdict = check_job_watched(alloc, &input, &output, &certificate, asked.dpi, watcher)?;
-    let line = verdict_line(alloc, &verdict)?;
+    let dpi = resolve(
+        alloc,
+        asked.resolution,
+        asked.beside.performed(&input, &output),
+    )?;
+    let answer = answer(
+        alloc,
+        asked.beside,
+        &input,
+        &output,
+        &certificate,
+        dpi,
+        watcher,
+    )?;
+    let line = answer_line(alloc, &answer)?;
     write_all(out, &line)?;
-    Ok(verdict)
+    Ok(answer)
+}
+
+/// What is answered of a written job beside its input, or beside images of its pages.
+fn answer<P: Watcher>(
+    alloc: Global,
+    beside: Beside,
+    input: &[u8],
+    output: &[u8],
+    certificate: &[u8],
+    dpi: Dpi,
+    watcher: P,
+) -> Result<CheckAnswer, Fault>
+    ensures { IsCheckedBeside beside dpi input.now output.now certificate.now result }
+{
+    match beside {
+        Beside::Input => {
+            let verdict = check_job_watched(alloc, input, output, certificate, dpi, watcher)?;
+            Ok(CheckAnswer::Job(verdict))
+        }
+        Beside::Images => check_images(alloc, input, output, certificate, dpi, watcher),
+    }
 }
 
 /// The bytes of the file of a name. ReadFault comes too where it can't be opened.

@@ -1,19 +1,23 @@
 //! What the program says of two compared jobs.
 
 ghost use Rattle.std.specs.Prelude.{◌≡◌, ◌++◌, IfOk, OnOk};
-ghost use Rattle.pcl_command.specs.ComparisonLines.{size_text, pair_text, difference_text, comparison_text, comparison_line_of};
+ghost use Rattle.pcl_command.specs.ComparisonLines.{size_text, pair_text, difference_text, pages_text, comparison_text, comparison_line_of};
+ghost use Rattle.pcl_command.specs.ComparisonLines.{setting_label, setting_text, value_text, exit_text, asks_text};
 ghost use Rattle.pcl_command.specs.ComparisonLines.{comparison_status_for, refused_job_text, compare_line_of, compare_status_for};
 
 use crate::comparisons::CompareFault;
 use crate::messages::{fault_line, status_of};
 use crate::verdicts::append_page;
 use itoa::Buffer;
-use pcl_base::Size;
-use pcl_same::{Comparison, Difference, Job};
+use pcl_base::{Asking, Size};
+use pcl_same::{
+    AskedComparison, AsksDifference, Difference, ExitDifference, Job, PagesDifference,
+    SettingDifference,
+};
 use std::alloc::{AllocError, Global};
 
 /// The line for how two jobs compare, with its line feed.
-pub fn comparison_line(alloc: Global, comparison: &Comparison) -> Result<Vec<u8>, AllocError>
+pub fn comparison_line(alloc: Global, comparison: &AskedComparison) -> Result<Vec<u8>, AllocError>
     ensures { IfOk result (λ line. line.items ≡ comparison_line_of comparison.now) }
 {
     let mut line = Vec::new(alloc);
@@ -23,21 +27,103 @@ pub fn comparison_line(alloc: Global, comparison: &Comparison) -> Result<Vec<u8>
 }
 
 /// Appends how two jobs compare.
-fn append_comparison(comparison: Comparison, line: &mut Vec<u8>) -> Result<(), AllocError>
+fn append_comparison(comparison: AskedComparison, line: &mut Vec<u8>) -> Result<(), AllocError>
     ensures { OnOk result (line.new.items ≡ line.old.items ++ comparison_text comparison) }
 {
     match comparison {
-        Comparison::Same => line.extend_from_slice(b"same"),
-        Comparison::PageCount { first, second } => append_pair(
+        AskedComparison::Same => line.extend_from_slice(b"same"),
+        AskedComparison::Pages(difference) => append_pages(difference, line),
+        AskedComparison::Asks(difference) => append_asks(difference, line),
+    }
+}
+
+/// Appends how the pages of two jobs differ.
+fn append_pages(difference: PagesDifference, line: &mut Vec<u8>) -> Result<(), AllocError>
+    ensures { OnOk result (line.new.items ≡ line.old.items ++ pages_text difference) }
+{
+    match difference {
+        PagesDifference::Count { first, second } => append_pair(
             b"not the same: page count ",
             Buffer::new().format(first).as_bytes(),
             Buffer::new().format(second).as_bytes(),
             line,
         ),
-        Comparison::Page { number, difference } => {
+        PagesDifference::Page { number, difference } => {
             append_page(b"not the same: page ", number, line)?;
             append_difference(difference, line)
         }
+    }
+}
+
+/// Appends how what two jobs ask of the printer differs.
+fn append_asks(difference: AsksDifference, line: &mut Vec<u8>) -> Result<(), AllocError>
+    ensures { OnOk result (line.new.items ≡ line.old.items ++ asks_text difference) }
+{
+    match difference {
+        AsksDifference::Page { number, difference } => {
+            append_page(b"not the same: page ", number, line)?;
+            append_setting(difference, line)
+        }
+        AsksDifference::ExitCount { first, second } => append_pair(
+            b"not the same: exit count ",
+            Buffer::new().format(first).as_bytes(),
+            Buffer::new().format(second).as_bytes(),
+            line,
+        ),
+        AsksDifference::Exit { number, difference } => {
+            append_page(b"not the same: exit ", number, line)?;
+            append_exit(difference, line)
+        }
+    }
+}
+
+/// Appends the setting that two pages are asked with, and its values.
+fn append_setting(difference: SettingDifference, line: &mut Vec<u8>) -> Result<(), AllocError>
+    ensures { OnOk result (line.new.items ≡ line.old.items ++ setting_text difference) }
+{
+    append_pair(
+        setting_label(difference.setting),
+        value_of(difference.first, &mut Buffer::new()),
+        value_of(difference.second, &mut Buffer::new()),
+        line,
+    )
+}
+
+/// The text of a value that is asked for.
+fn value_of(value: Option<i32>, digits: &mut Buffer) -> &[u8]
+    ensures { result.now ≡ value_text value }
+{
+    match value {
+        Some(value) => digits.format(value).as_bytes(),
+        None => b"none",
+    }
+}
+
+/// What a page is asked with, as a label.
+fn setting_label(setting: Asking) -> &'static [u8]
+    ensures { result.now ≡ setting_label setting }
+{
+    match setting {
+        Asking::Sides => b"sides ",
+        Asking::OutputBin => b"bin ",
+        Asking::MediaType => b"media ",
+        Asking::PaperSource => b"source ",
+        Asking::SheetSide => b"side ",
+    }
+}
+
+/// Appends how two universal exits differ.
+fn append_exit(difference: ExitDifference, line: &mut Vec<u8>) -> Result<(), AllocError>
+    ensures { OnOk result (line.new.items ≡ line.old.items ++ exit_text difference) }
+{
+    match difference {
+        ExitDifference::Place { first, second } => append_pair(
+            b"pages before ",
+            Buffer::new().format(first).as_bytes(),
+            Buffer::new().format(second).as_bytes(),
+            line,
+        ),
+        ExitDifference::Lines => line.extend_from_slice(b"lines"),
     }
 }
 
@@ -92,12 +178,12 @@ fn size_name(size: Size) -> &'static [u8]
 }
 
 /// The status of a run that compared two jobs so.
-pub fn comparison_status(comparison: &Comparison) -> u8
+pub fn comparison_status(comparison: &AskedComparison) -> u8
     ensures { result ≡ comparison_status_for comparison.now }
 {
     match comparison {
-        Comparison::Same => 0,
-        Comparison::PageCount { .. } | Comparison::Page { .. } => 1,
+        AskedComparison::Same => 0,
+        AskedComparison::Pages(_) | AskedComparison::Asks(_) => 1,
     }
 }
 

@@ -3,15 +3,16 @@
 ghost use Rattle.std.specs.Prelude.{◌≡◌};
 ghost use Rattle.pcl_tool.specs.declared.fault.Fault.TheVariants.{Memory};
 ghost use Rattle.pcl_command.specs.declared.comparisons.CompareFault.TheVariants.{Failed};
-ghost use Rattle.pcl_command.specs.Comparisons.{compare_fault_of, IsCompareRun};
+ghost use Rattle.pcl_command.specs.Comparisons.{compare_fault_of, IsComparedFor, IsCompareRun};
 
 use crate::checks::read_file;
 use crate::comparison_lines::comparison_line;
 use crate::difference_images::draw_difference;
 use crate::files::JobFiles;
 use crate::request::ComparedFiles;
-use pcl_base::Refusal;
-use pcl_same::{Comparison, Job, SameFault, same};
+use crate::resolutions::resolve_both;
+use pcl_base::{Dpi, Refusal};
+use pcl_same::{AskedComparison, Job, SameFault, same_asked};
 use pcl_tool::{Fault, write_all};
 use std::alloc::{AllocError, Global};
 use std::io::Write;
@@ -59,14 +60,33 @@ pub fn compare<F: JobFiles, W: Write>(
     alloc: Global,
     asked: ComparedFiles<'_>,
     out: &mut W,
-) -> Result<Comparison, CompareFault>
+) -> Result<AskedComparison, CompareFault>
     ensures { IsCompareRun F.acts asked.entry files.old files.new (W.contents out.old) (W.contents out.new) result }
 {
     let first = read_file(files, alloc, asked.first)?;
     let second = read_file(files, alloc, asked.second)?;
-    let comparison = same(alloc, &first, &second, asked.dpi)?;
+    let dpi = resolve_both(alloc, asked.resolution, &first, &second)?;
+    let comparison = compare_jobs(alloc, asked.asks, &first, &second, dpi)?;
     let line = comparison_line(alloc, &comparison)?;
-    draw_difference(files, alloc, asked, &first, &second, &comparison)?;
+    let pages = comparison.of_pages();
+    draw_difference(files, alloc, asked.image, &first, &second, dpi, &pages)?;
     write_all(out, &line)?;
     Ok(comparison)
+}
+
+/// How two jobs compare: what they ask of the printer counts only where that is wanted.
+pub fn compare_jobs(
+    alloc: Global,
+    asks: bool,
+    first: &[u8],
+    second: &[u8],
+    dpi: Dpi,
+) -> Result<AskedComparison, SameFault>
+    ensures { IsComparedFor asks dpi first.now second.now result }
+{
+    match same_asked(alloc, first, second, dpi) {
+        Ok(AskedComparison::Asks(_)) if !asks => Ok(AskedComparison::Same),
+        Ok(comparison) => Ok(comparison),
+        Err(fault) => Err(fault),
+    }
 }

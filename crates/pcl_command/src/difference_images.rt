@@ -5,7 +5,6 @@ ghost use Rattle.pcl_same.specs.Comparing.{IsComparison};
 ghost use Rattle.pcl_command.specs.DifferenceImages.{dotted_page, DifferInDots, IsDifferingPage, IsImageMade, IsDrawn};
 
 use crate::files::JobFiles;
-use crate::request::ComparedFiles;
 use pcl_base::Dpi;
 use pcl_bitmap::Bitmap;
 use pcl_same::{Comparison, Difference, differing_dots};
@@ -17,17 +16,18 @@ use std::alloc::Global;
 pub fn draw_difference<F: JobFiles>(
     files: &mut F,
     alloc: Global,
-    asked: ComparedFiles<'_>,
+    image: Option<&str>,
     first: &[u8],
     second: &[u8],
+    dpi: Dpi,
     comparison: &Comparison,
 ) -> Result<(), Fault>
-    requires { IsComparison asked.dpi first.now second.now comparison.now }
-    ensures { IsDrawn F.acts asked.entry first.now second.now comparison.now files.old files.new result }
+    requires { IsComparison dpi first.now second.now comparison.now }
+    ensures { IsDrawn F.acts image.entry dpi first.now second.now comparison.now files.old files.new result }
 {
-    match (asked.image, dotted_page(comparison)) {
+    match (image, dotted_page(comparison)) {
         (Some(name), Some(page)) => {
-            let image = differing_page(alloc, first, second, page, asked.dpi)?;
+            let image = differing_page(alloc, first, second, page, dpi)?;
             make_image(files, alloc, name, &image)
         }
         _ => Ok(()),

@@ -7,12 +7,22 @@ mod comparisons;
 mod difference_images;
 mod files;
 mod messages;
+mod reporting;
 mod request;
+mod resolutions;
 mod running;
 mod verdicts;
 
+pub use checks::read_file;
+pub use comparison_lines::{compare_fault_line, comparison_line};
+pub use comparisons::{CompareFault, compare_jobs};
 pub use files::JobFiles;
-pub use messages::{fault_line, status_of};
-pub use request::{CheckedFiles, ComparedFiles, Request, Run, Source, Target, Task, resolution};
-pub use running::{Ending, carry_out};
-pub use verdicts::{verdict_line, verdict_status};
+pub use messages::{USAGE_STATUS, fault_line, status_of};
+pub use reporting::Reporter;
+pub use request::{
+    Beside, CheckedFiles, ComparedFiles, Request, Resolution, Run, Source, Target, Task,
+    resolution_named,
+};
+pub use resolutions::{resolve, resolve_both};
+pub use running::{Ending, carry_out, refuse_terminal, write_file};
+pub use verdicts::{answer_line, answer_status, verdict_line, verdict_status};

@@ -10,6 +10,9 @@ use std::alloc::{AllocError, Global};
 /// The status where memory runs out.
 pub const MEMORY_STATUS: u8 = 3;
 
+/// The status of a usage fault.
+pub const USAGE_STATUS: u8 = 2;
+
 /// The line for a fault of a run that was asked for a page, with its line feed.
 pub fn fault_line(alloc: Global, fault: &Fault, page: usize) -> Result<Vec<u8>, AllocError>
     ensures { IfOk result (λ line. line.items ≡ line_of fault.now page) }

@@ -1,11 +1,15 @@
 //! What the program is asked for.
 
-ghost use Rattle.std.specs.Prelude.{◌≡◌, ◌≢◌, MatchOption};
-ghost use Rattle.pcl_base.specs.Dpi.{dots_per_inch};
-ghost use Rattle.pcl_command.specs.Runs.{page_of};
+ghost use Rattle.std.specs.Prelude.{◌≡◌, ◌&&◌, MatchOption};
+ghost use Rattle.pcl_command.specs.Checks.{performed};
+ghost use Rattle.pcl_command.specs.Resolutions.{IsWordFor};
+ghost use Rattle.pcl_command.specs.declared.request.Resolution.{Resolution};
+ghost use Rattle.pcl_command.specs.Runs.{is_standard_output, makes_raw, page_of, writes_raw};
 
-use pcl_base::Dpi;
+use pcl_base::{Dpi, Kind};
 use pcl_cert::Format;
+use pcl_pages::Layout;
+use pcl_tool::PageChoice;
 
 /// What a run is asked to do with its job.
 #[derive(Clone, Copy)]
@@ -14,14 +18,16 @@ pub enum Task<'w> {
     Minimize,
     /// The same, and write a certificate of a format to the file of this name.
     Certify { file: &'w str, format: Format },
-    /// Write the image of the page of this number, from 1.
-    Preview { page: usize },
+    /// Write the images of the pages that are asked for.
+    Preview { choice: PageChoice },
     /// Write what the rules refuse in it, and what can be done.
     Explain,
-    /// Write what its pages are.
-    DescribePages,
-    /// Write the smallest job that is found with its pages, which asks for the same.
-    Shrink,
+    /// Write what a kind of refusal means, and what can be done. No job is read.
+    ExplainKind { kind: Kind },
+    /// Write what its pages are, in a layout.
+    DescribePages { layout: Layout },
+    /// Write the smallest job that is found with its pages, which asks for the same, and report its bytes if that is asked for.
+    Shrink { report: bool },
 }
 
 /// Where a run takes its job from.
@@ -40,6 +46,15 @@ pub enum Target<'w> {
     File(&'w str),
 }
 
+/// The resolution at which jobs are seen.
+#[derive(Clone, Copy)]
+pub enum Resolution {
+    /// This one.
+    Given(Dpi),
+    /// The first of 300 and 600 dots per inch at which they are accepted; 300 where there is none.
+    FirstAccepted,
+}
+
 /// A run: its task, where its job comes from and what it makes goes, and the resolution at which it sees the job.
 #[derive(Clone, Copy)]
 pub struct Run<'w> {
@@ -50,13 +65,13 @@ pub struct Run<'w> {
     /// Where what is made goes.
     pub target: Target<'w>,
     /// The resolution.
-    pub dpi: Dpi,
+    pub resolution: Resolution,
     /// Whether nothing is told of how far it has come.
     pub quiet: bool,
 }
 
 impl Run<'_> {
-    /// The number of the page that is asked for, 0 where none is.
+    /// The number of the last page that is asked for, 0 where none is by its number.
     pub fn page(self) -> usize
         ensures { result ≡ page_of self.entry.task }
     {
@@ -64,9 +79,64 @@ impl Run<'_> {
             Task::Minimize
             | Task::Certify { .. }
             | Task::Explain
-            | Task::DescribePages
-            | Task::Shrink => 0,
-            Task::Preview { page } => page,
+            | Task::ExplainKind { .. }
+            | Task::DescribePages { .. }
+            | Task::Shrink { .. } => 0,
+            Task::Preview { choice } => choice.last(),
+        }
+    }
+}
+
+impl Run<'_> {
+    /// Whether a job or an image is written to standard output, and not text.
+    fn writes_raw(self) -> bool
+        ensures { result ≡ (makes_raw self.entry.task && is_standard_output self.entry.target) }
+    {
+        self.task.makes_raw() && self.target.is_standard_output()
+    }
+}
+
+impl Task<'_> {
+    /// Whether a job or an image is made, and not text.
+    fn makes_raw(self) -> bool
+        ensures { result ≡ makes_raw self.entry }
+    {
+        match self {
+            Task::Minimize | Task::Certify { .. } | Task::Preview { .. } | Task::Shrink { .. } =>
+                true,
+            Task::Explain | Task::ExplainKind { .. } | Task::DescribePages { .. } => false,
+        }
+    }
+}
+
+impl Target<'_> {
+    fn is_standard_output(self) -> bool
+        ensures { result ≡ is_standard_output self.entry }
+    {
+        match self {
+            Target::StandardOutput => true,
+            Target::File(_) => false,
+        }
+    }
+}
+
+/// What a written job is checked beside.
+#[derive(Clone, Copy)]
+pub enum Beside {
+    /// The job as it was.
+    Input,
+    /// Images of its pages, in PBM.
+    Images,
+}
+
+impl Beside {
+    /// The job that is performed, of what a written job is checked beside and that job.
+    pub fn performed<'a>(self, input: &'a [u8], output: &'a [u8]) -> &'a [u8]
+        ensures { result.now ≡ performed self input.now output.now }
+    {
+        match self {
+            Beside::Input => input,
+            Beside::Images => output,
         }
     }
 }
@@ -74,14 +144,16 @@ impl Run<'_> {
 /// What is checked: the names of the files, and the resolution.
 #[derive(Clone, Copy)]
 pub struct CheckedFiles<'w> {
-    /// The file of the input.
+    /// What the first file has.
+    pub beside: Beside,
+    /// The file of the input, or of images of its pages.
     pub input: &'w str,
     /// The file of the job that it is written as.
     pub output: &'w str,
     /// The file of the certificate.
     pub certificate: &'w str,
     /// The resolution.
-    pub dpi: Dpi,
+    pub resolution: Resolution,
     /// Whether nothing is told of how far the check has come.
     pub quiet: bool,
 }
@@ -93,10 +165,12 @@ pub struct ComparedFiles<'w> {
     pub first: &'w str,
     /// The file of the other.
     pub second: &'w str,
+    /// Whether what they ask of the printer besides dots is compared too.
+    pub asks: bool,
     /// The file that is made where dots differ, of an image of these.
     pub image: Option<&'w str>,
     /// The resolution.
-    pub dpi: Dpi,
+    pub resolution: Resolution,
 }
 
 /// What the program is asked for.
@@ -110,13 +184,27 @@ pub enum Request<'w> {
     Compare(ComparedFiles<'w>),
 }
 
-/// The resolution of so many dots per inch.
-pub fn resolution(dots: u16) -> Option<Dpi>
-    ensures { MatchOption result ((dots ≢ 300) × (dots ≢ 600)) (λ dpi. dots_per_inch dpi ≡ dots) }
+impl Request<'_> {
+    /// Whether a job or an image is written to standard output, and not text.
+    pub fn writes_raw(self) -> bool
+        ensures { result ≡ writes_raw self.entry }
+    {
+        match self {
+            Request::Run(run) => run.writes_raw(),
+            Request::Check(_) | Request::Compare(_) => false,
+        }
+    }
+}
+
+/// The resolution that a word names: `300` or `600` dots per inch, or `auto`.
+pub fn resolution_named(word: &str) -> Option<Resolution>
+    ensures { MatchOption result ((resolution : Resolution) → IsWordFor resolution word.now → ⊥)
+        (λ resolution. IsWordFor resolution word.now) }
 {
-    match dots {
-        300 => Some(Dpi::Dpi300),
-        600 => Some(Dpi::Dpi600),
+    match word {
+        "300" => Some(Resolution::Given(Dpi::Dpi300)),
+        "600" => Some(Resolution::Given(Dpi::Dpi600)),
+        "auto" => Some(Resolution::FirstAccepted),
         _ => None,
     }
 }

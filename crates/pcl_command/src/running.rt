@@ -6,24 +6,26 @@ ghost use Rattle.pcl_explain.specs.Findings.{Explains};
 ghost use Rattle.pcl_shrink.specs.Shrinking.{IsSmallerJob};
 ghost use Rattle.pcl_command.specs.Messages.{line_of, status_for};
 ghost use Rattle.pcl_command.specs.ComparisonLines.{compare_line_of, compare_status_for};
-ghost use Rattle.pcl_command.specs.Runs.{HasDone, HasDoneTask, HasEnded, HasFailed, HasWritten, IsCertifyRun, IsPreviewRun, IsSettled, IsStatus, IsTextRun, NeverRefuses, TellsOfPages};
+ghost use Rattle.pcl_command.specs.Runs.{HasDone, HasDoneSeen, HasDoneTask, HasEnded, HasFailed, HasWritten, IsCertifyRun, IsFileWritten, IsKindExplained, IsPreviewRun, IsSettled, IsStatus, IsTextRun, NeverRefuses, TellsOfPages, terminal_line};
 
 use crate::checks::check;
 use crate::comparison_lines::{compare_fault_line, compare_status_of, comparison_status};
 use crate::comparisons::{CompareFault, compare};
 use crate::files::JobFiles;
-use crate::messages::{MEMORY_STATUS, fault_line, status_of};
-use crate::request::{Request, Run, Source, Target, Task};
-use crate::verdicts::verdict_status;
-use pcl_base::Dpi;
+use crate::messages::{MEMORY_STATUS, USAGE_STATUS, fault_line, status_of};
+use crate::reporting::{Reporter, report_no_page, report_shrunk};
+use crate::request::{Request, Resolution, Run, Source, Target, Task};
+use crate::verdicts::answer_status;
+use pcl_base::{Dpi, Kind};
 use pcl_cert::Format;
-use pcl_explain::explanation;
-use pcl_pages::describe_pages;
-use pcl_same::Comparison;
+use pcl_explain::{explanation, kind_explanation};
+use pcl_page::first_accepted;
+use pcl_pages::{Layout, describe_pages};
+use pcl_same::AskedComparison;
 use pcl_shrink::shrink;
 use pcl_tool::{
-    Fault, INPUT_LIMIT, JobVerdict, Watcher, filter_cert_watched, filter_watched, preview,
-    read_all, write_all,
+    CheckAnswer, Fault, INPUT_LIMIT, PageChoice, Watcher, filter_cert_watched, filter_watched,
+    preview_pages, read_all, write_all,
 };
 use std::alloc::Global;
 use std::io::{Read, Write};
@@ -34,9 +36,9 @@ pub enum Ending {
     /// The run that was asked for is done.
     Done,
     /// A job was checked, and the line of this answer was written.
-    Checked(JobVerdict),
+    Checked(CheckAnswer),
     /// Two jobs were compared, and the line of this comparison was written.
-    Compared(Comparison),
+    Compared(AskedComparison),
     /// It failed: the line for standard error, with its line feed, and the status.
     Failed { line: Vec<u8>, status: u8 },
     /// Memory ran out, for the line of a fault too.
@@ -50,7 +52,7 @@ impl Ending {
     {
         match self {
             Ending::Done => 0,
-            Ending::Checked(verdict) => verdict_status(verdict),
+            Ending::Checked(answer) => answer_status(answer),
             Ending::Compared(comparison) => comparison_status(comparison),
             Ending::Failed { status, .. } => *status,
             Ending::NoMemory => MEMORY_STATUS,
@@ -60,7 +62,7 @@ impl Ending {
 
 /// Does what is asked for, a run with the job that a reader gives. The watcher is called for each page that is done, unless the
 /// request is a quiet one.
-pub fn carry_out<F: JobFiles, R: Read, W: Write, P: Watcher>(
+pub fn carry_out<F: JobFiles, R: Read, W: Write, P: Reporter>(
     files: &mut F,
     alloc: Global,
     request: Request<'_>,
@@ -82,7 +84,7 @@ pub fn carry_out<F: JobFiles, R: Read, W: Write, P: Watcher>(
         Request::Check(asked) => {
             let told = told_of(asked.quiet, watcher);
             match check(files, alloc, asked, out, told) {
-                Ok(verdict) => Ending::Checked(verdict),
+                Ok(answer) => Ending::Checked(answer),
                 Err(fault) => failed(alloc, &fault, 0),
             }
         }
@@ -94,14 +96,14 @@ pub fn carry_out<F: JobFiles, R: Read, W: Write, P: Watcher>(
 }
 
 /// Who is told of the pages of a run: nobody where it is to be quiet.
-fn told_of<P: Watcher>(quiet: bool, watcher: P) -> Option<P>
+fn told_of<P: Reporter>(quiet: bool, watcher: P) -> Option<P>
     ensures { result ≡ (if quiet then None else Some watcher) }
 {
     if quiet { None } else { Some(watcher) }
 }
 
 /// Does the task of a run with the job of its source. ReadFault comes too where that is a file that can't be opened.
-fn do_run<F: JobFiles, R: Read, W: Write, P: Watcher>(
+fn do_run<F: JobFiles, R: Read, W: Write, P: Reporter>(
     files: &mut F,
     alloc: Global,
     run: Run<'_>,
@@ -125,7 +127,7 @@ fn do_run<F: JobFiles, R: Read, W: Write, P: Watcher>(
 
 /// Does the task of a run with the job that a reader gives, and writes to the run's target. WriteFault comes too where that is a
 /// file that can't be begun or placed.
-fn write_result<F: JobFiles, R: Read, W: Write, P: Watcher>(
+fn write_result<F: JobFiles, R: Read, W: Write, P: Reporter>(
     files: &mut F,
     alloc: Global,
     run: Run<'_>,
@@ -137,10 +139,10 @@ fn write_result<F: JobFiles, R: Read, W: Write, P: Watcher>(
         (W.contents out.old) (W.contents out.new) result }
 {
     match run.target {
-        Target::StandardOutput => do_task(files, alloc, run, reader, out, watcher),
+        Target::StandardOutput => do_seen(files, alloc, run, reader, out, watcher),
         Target::File(name) => match files.begin(name) {
             Ok(mut file) => {
-                let done = do_task(files, alloc, run, reader, &mut file, watcher);
+                let done = do_seen(files, alloc, run, reader, &mut file, watcher);
                 settle(files, name, file, done)
             }
             Err(_) => Err(Fault::WriteFault),
@@ -169,8 +171,23 @@ fn settle<F: JobFiles>(
     }
 }
 
-/// Does the task of a run with the job that a reader gives.
-fn do_task<F: JobFiles, R: Read, W: Write, P: Watcher>(
+/// Writes a file of these bytes, which takes the place of what its name had only where it is whole. After a fault, which is
+/// WriteFault, what was there stays.
+pub fn write_file<F: JobFiles>(files: &mut F, name: &str, bytes: &[u8]) -> Result<(), Fault>
+    ensures { IsFileWritten F.acts name.now bytes.now files.old files.new result }
+{
+    match files.begin(name) {
+        Ok(mut file) => {
+            let written = write_all(&mut file, bytes);
+            settle(files, name, file, written)
+        }
+        Err(_) => Err(Fault::WriteFault),
+    }
+}
+
+/// Does the task of a run with the job that a reader gives, at the run's resolution: where that depends on the job, it is read
+/// first.
+fn do_seen<F: JobFiles, R: Read, W: Write, P: Reporter>(
     files: &mut F,
     alloc: Global,
     run: Run<'_>,
@@ -178,18 +195,43 @@ fn do_task<F: JobFiles, R: Read, W: Write, P: Watcher>(
     out: &mut W,
     watcher: P,
 ) -> Result<(), Fault>
-    ensures { HasDoneTask F.acts run.entry.task run.entry.dpi files.old files.new (R.remaining reader.old) (R.remaining reader.new)
+    ensures { HasDoneSeen F.acts run.entry.task run.entry.resolution files.old files.new (R.remaining reader.old)
+        (R.remaining reader.new) (W.contents out.old) (W.contents out.new) result }
+{
+    match run.resolution {
+        Resolution::Given(dpi) => do_task(files, alloc, run.task, dpi, reader, out, watcher),
+        Resolution::FirstAccepted => {
+            let job = read_all(alloc, reader, INPUT_LIMIT)?;
+            let dpi = first_accepted(alloc, &job)?;
+            let mut bytes: &[u8] = &job;
+            do_task(files, alloc, run.task, dpi, &mut bytes, out, watcher)
+        }
+    }
+}
+
+/// Does a task with the job that a reader gives, at a resolution.
+fn do_task<F: JobFiles, R: Read, W: Write, P: Reporter>(
+    files: &mut F,
+    alloc: Global,
+    task: Task<'_>,
+    dpi: Dpi,
+    reader: &mut R,
+    out: &mut W,
+    watcher: P,
+) -> Result<(), Fault>
+    ensures { HasDoneTask F.acts task.entry dpi files.old files.new (R.remaining reader.old) (R.remaining reader.new)
         (W.contents out.old) (W.contents out.new) result }
 {
-    match run.task {
-        Task::Minimize => filter_watched(alloc, reader, run.dpi, out, watcher),
+    match task {
+        Task::Minimize => filter_watched(alloc, reader, dpi, out, watcher),
         Task::Certify { file, format } => {
-            certify(files, alloc, file, format, run.dpi, reader, out, watcher)
+            certify(files, alloc, file, format, dpi, reader, out, watcher)
         }
-        Task::Preview { page } => show(alloc, page, run.dpi, reader, out),
-        Task::Explain => explain(alloc, run.dpi, reader, out),
-        Task::DescribePages => describe(alloc, run.dpi, reader, out),
-        Task::Shrink => write_smaller(alloc, run.dpi, reader, out),
+        Task::Preview { choice } => show(alloc, choice, dpi, reader, out),
+        Task::Explain => explain(alloc, dpi, reader, out, watcher),
+        Task::ExplainKind { kind } => explain_kind(alloc, kind, out),
+        Task::DescribePages { layout } => describe(alloc, layout, dpi, reader, out, watcher),
+        Task::Shrink { report } => write_smaller(alloc, report, dpi, reader, out, watcher),
     }
 }
 
@@ -216,63 +258,95 @@ fn certify<F: JobFiles, R: Read, W: Write, P: Watcher>(
     written
 }
 
-/// Writes the image of a page of the job that a reader gives.
+/// Writes the images of the pages of the job that a reader gives that are asked for.
 fn show<R: Read, W: Write>(
     alloc: Global,
-    page: usize,
+    choice: PageChoice,
     dpi: Dpi,
     reader: &mut R,
     out: &mut W,
 ) -> Result<(), Fault>
-    ensures { IsPreviewRun dpi page (R.remaining reader.old) (R.remaining reader.new) (W.contents out.old) (W.contents out.new) result }
+    ensures { IsPreviewRun dpi choice (R.remaining reader.old) (R.remaining reader.new) (W.contents out.old) (W.contents out.new) result }
 {
     let job = read_all(alloc, reader, INPUT_LIMIT)?;
-    preview(alloc, &job, page, dpi, out)
+    preview_pages(alloc, &job, choice, dpi, out)
 }
 
-/// Writes what the rules refuse in the job that a reader gives, and what can be done.
-fn explain<R: Read, W: Write>(
+/// Writes what the rules refuse in the job that a reader gives, and what can be done. A job without pages is reported.
+fn explain<R: Read, W: Write, P: Reporter>(
     alloc: Global,
     dpi: Dpi,
     reader: &mut R,
     out: &mut W,
+    reporter: P,
 ) -> Result<(), Fault>
     ensures { IsTextRun (Explains dpi) NeverRefuses (R.remaining reader.old) (R.remaining reader.new)
         (W.contents out.old) (W.contents out.new) result }
 {
     let job = read_all(alloc, reader, INPUT_LIMIT)?;
     let text = explanation(alloc, &job, dpi)?;
+    report_no_page(alloc, &job, dpi, reporter)?;
     write_all(out, &text)
 }
 
-/// Writes what the pages of the job are that a reader gives.
-fn describe<R: Read, W: Write>(
+/// Writes what a kind of refusal means, and what can be done.
+fn explain_kind<W: Write>(alloc: Global, kind: Kind, out: &mut W) -> Result<(), Fault>
+    ensures { IsKindExplained kind (W.contents out.old) (W.contents out.new) result }
+{
+    let text = kind_explanation(alloc, kind)?;
+    write_all(out, &text)
+}
+
+/// Writes what the pages of the job are that a reader gives. A job without pages is reported.
+fn describe<R: Read, W: Write, P: Reporter>(
     alloc: Global,
+    layout: Layout,
     dpi: Dpi,
     reader: &mut R,
     out: &mut W,
+    reporter: P,
 ) -> Result<(), Fault>
     ensures { IsTextRun (TellsOfPages dpi) (IsRefusal dpi) (R.remaining reader.old) (R.remaining reader.new)
         (W.contents out.old) (W.contents out.new) result }
 {
     let job = read_all(alloc, reader, INPUT_LIMIT)?;
-    let text = describe_pages(alloc, &job, dpi)?;
+    let text = describe_pages(alloc, &job, dpi, layout)?;
+    report_no_page(alloc, &job, dpi, reporter)?;
     write_all(out, &text)
 }
 
-/// Writes the smallest job that is found with the pages of the job that a reader gives, which asks for the same.
-fn write_smaller<R: Read, W: Write>(
+/// Writes the smallest job that is found with the pages of the job that a reader gives, which asks for the same. A job without
+/// pages is reported, and what shrinking it did if that is asked for.
+fn write_smaller<R: Read, W: Write, P: Reporter>(
     alloc: Global,
+    report: bool,
     dpi: Dpi,
     reader: &mut R,
     out: &mut W,
+    reporter: P,
 ) -> Result<(), Fault>
     ensures { IsTextRun (IsSmallerJob dpi) (IsRefusal dpi) (R.remaining reader.old) (R.remaining reader.new)
         (W.contents out.old) (W.contents out.new) result }
 {
     let job = read_all(alloc, reader, INPUT_LIMIT)?;
     let shrunk = shrink(alloc, &job, dpi)?;
+    report_shrunk(alloc, &job, &shrunk, report, dpi, reporter)?;
     write_all(out, &shrunk.job)
+}
+
+/// The end where a job or an image would be written to a terminal.
+pub fn refuse_terminal(alloc: Global) -> Ending
+    ensures { HasFailed terminal_line 2 result }
+{
+    let said =
+        b"pclmin: nothing is written to a terminal: send standard output to a file, or give -o FILE\n";
+    match Vec::from_slice(alloc, said) {
+        Ok(line) => Ending::Failed {
+            line,
+            status: USAGE_STATUS,
+        },
+        Err(_) => Ending::NoMemory,
+    }
 }
 
 /// The end of a comparison that failed.

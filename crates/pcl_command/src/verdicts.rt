@@ -1,14 +1,24 @@
 //! What the program says of a checked job.
 
 ghost use Rattle.std.specs.Prelude.{◌≡◌, ◌++◌, IfOk, OnOk};
-ghost use Rattle.pcl_command.specs.Checks.{verdict_status_for};
-ghost use Rattle.pcl_command.specs.Verdicts.{fault_text, numbers_text, verdict_text, page_text, job_text, verdict_line_of};
+ghost use Rattle.pcl_command.specs.Checks.{answer_status_for, verdict_status_for};
+ghost use Rattle.pcl_command.specs.Verdicts.{fault_text, numbers_text, verdict_text, page_text, job_text, verdict_line_of, answer_line_of};
 
 use itoa::Buffer;
 use pcl_base::Method;
 use pcl_cert::{CertFault, Verdict};
-use pcl_tool::JobVerdict;
+use pcl_tool::{CheckAnswer, JobVerdict};
 use std::alloc::{AllocError, Global};
+
+/// The line for what a check answers, with its line feed.
+pub fn answer_line(alloc: Global, answer: &CheckAnswer) -> Result<Vec<u8>, AllocError>
+    ensures { IfOk result (λ line. line.items ≡ answer_line_of answer.now) }
+{
+    match answer {
+        CheckAnswer::OtherImages => Vec::from_slice(alloc, b"not proved: images\n"),
+        CheckAnswer::Job(verdict) => verdict_line(alloc, verdict),
+    }
+}
 
 /// The line for what the checker of a job answers, with its line feed.
 pub fn verdict_line(alloc: Global, verdict: &JobVerdict) -> Result<Vec<u8>, AllocError>
@@ -97,6 +107,16 @@ fn fault_name(fault: CertFault) -> &'static [u8]
         CertFault::Rows => b"Rows",
         CertFault::Places => b"Places",
         CertFault::Memory => b"Memory",
+    }
+}
+
+/// The status of a check that answered so.
+pub fn answer_status(answer: &CheckAnswer) -> u8
+    ensures { result ≡ answer_status_for answer.now }
+{
+    match answer {
+        CheckAnswer::OtherImages => 1,
+        CheckAnswer::Job(verdict) => verdict_status(verdict),
     }
 }
 

@@ -2,7 +2,8 @@ use Rattle.std.proofs.Common.{List, ℕ, Err, subst}
 use Rattle.std.proofs.lemmas.Result.{err_from_is_err_and}
 use Rattle.pcl_page.specs.Delivering.{IsRefusal}
 use Rattle.pcl_tool.specs.Transfer.{IsWritten}
-use Rattle.pcl_pages.specs.Describing.{IsAccepted, IsDescribed}
+use Rattle.pcl_page.specs.Accepting.{IsAccepted}
+use Rattle.pcl_pages.specs.Describing.{IsDescribed}
 use Rattle.pcl_command.specs.Runs.{TellsOfPages}
 use Rattle.pcl_command.proofs.Told.{told, untold, undescribed}
 use Rattle.pcl_command.proofs.running.describe.Goals as goal
@@ -22,4 +23,4 @@ returns g c =
     told (TellsOfPages c.args.dpi) (IsRefusal c.args.dpi) _ _ _ (record { given = r.0; ended = r.1 })
     (subst (IsAccepted c.args.dpi) c.deref.ensures.value c.in_ok-text.ensures)
     (subst (λ (text : List ℕ). IsWritten (g.W.Write.contents c.args.out.now) (g.W.Write.contents c.write_all.new.out) text
-    c.write_all.result) c.deref-2.ensures.value c.write_all.ensures)
+    c.write_all.result) c.deref-3.ensures.value c.write_all.ensures)

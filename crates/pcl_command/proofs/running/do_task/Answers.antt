@@ -12,6 +12,9 @@ returns-in-Preview g c = rw c.in-Preview.is assumption
 pub returns-in-Explain : goal.returns-in-Explain
 returns-in-Explain g c = rw c.in-Explain.is assumption
 
+pub returns-in-ExplainKind : goal.returns-in-ExplainKind
+returns-in-ExplainKind g c = rw c.in-ExplainKind.is assumption
+
 pub returns-in-DescribePages : goal.returns-in-DescribePages
 returns-in-DescribePages g c = rw c.in-DescribePages.is assumption
 

@@ -11,4 +11,4 @@ returns g c =
     told (Explains c.args.dpi) NeverRefuses _ _ _ (record { given = r.0; ended = r.1 })
     (subst (λ (job : List ℕ). Explains c.args.dpi job c.in_ok-text.text.items) c.deref.ensures.value c.in_ok-text.ensures)
     (subst (λ (text : List ℕ). IsWritten (g.W.Write.contents c.args.out.now) (g.W.Write.contents c.write_all.new.out) text
-    c.write_all.result) c.deref-2.ensures.value c.write_all.ensures)
+    c.write_all.result) c.deref-3.ensures.value c.write_all.ensures)

@@ -1,0 +1,39 @@
+-- The resolution at which jobs are seen.
+use Rattle.std.specs.Prelude.{◌≡◌, ◌⊎◌, ℕ, List, Bool, true, false, codes}
+use Rattle.pcl_base.specs.declared.dpi.Dpi.{Dpi}
+use Rattle.pcl_base.specs.declared.dpi.Dpi.TheVariants.{Dpi300, Dpi600}
+use Rattle.pcl_page.specs.Accepting.{IsAccepted, IsRefused, IsFirstAccepted}
+use Rattle.pcl_command.specs.declared.request.Resolution.{Resolution}
+use Rattle.pcl_command.specs.declared.request.Resolution.TheVariants.{Given, FirstAccepted}
+
+-- the words that name them
+abbrev pub IsWordFor : Resolution → List ℕ → Type 0
+IsWordFor (Given Dpi300) word = word ≡ codes "300"
+IsWordFor (Given Dpi600) word = word ≡ codes "600"
+IsWordFor FirstAccepted word = word ≡ codes "auto"
+
+-- a job is seen at this
+abbrev pub IsSeenAt : Resolution → List ℕ → Dpi → Type 0
+IsSeenAt (Given dpi) job at = at ≡ dpi
+IsSeenAt FirstAccepted job at = IsFirstAccepted job at
+
+abbrev pub AreBothAccepted : Dpi → (first second : List ℕ) → Type 0
+AreBothAccepted dpi first second = IsAccepted dpi first × IsAccepted dpi second
+
+abbrev pub IsOneRefused : Dpi → (first second : List ℕ) → Type 0
+IsOneRefused dpi first second = IsRefused dpi first ⊎ IsRefused dpi second
+
+abbrev pub SayIfAccepted : Dpi → (first second : List ℕ) → Bool → Type 0
+SayIfAccepted dpi first second true = AreBothAccepted dpi first second
+SayIfAccepted dpi first second false = IsOneRefused dpi first second
+
+-- the first of 300 and 600 dots per inch at which two jobs are accepted, or 300 where there is none
+abbrev pub IsFirstCommon : (first second : List ℕ) → Dpi → Type 0
+IsFirstCommon first second Dpi300 =
+    AreBothAccepted Dpi300 first second ⊎ (IsOneRefused Dpi300 first second × IsOneRefused Dpi600 first second)
+IsFirstCommon first second Dpi600 = IsOneRefused Dpi300 first second × AreBothAccepted Dpi600 first second
+
+-- two jobs are seen at this
+abbrev pub AreSeenAt : Resolution → (first second : List ℕ) → Dpi → Type 0
+AreSeenAt (Given dpi) first second at = at ≡ dpi
+AreSeenAt FirstAccepted first second at = IsFirstCommon first second at

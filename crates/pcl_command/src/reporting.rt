@@ -1,0 +1,102 @@
+//! What is said of a run besides what it writes.
+
+use itoa::Buffer;
+use pcl_base::{Dpi, JobFault};
+use pcl_page::page_count;
+use pcl_shrink::{Candidate, Shrunk};
+use pcl_tool::Watcher;
+use std::alloc::{AllocError, Global};
+
+/// What is said of a job without pages.
+const NO_PAGE: &[u8] = b"pclmin: no page\n";
+
+/// Is told what there is to say of a run besides what it writes, and how far it has come. No contract speaks of what it does
+/// then.
+pub trait Reporter: Watcher {
+    /// A line, with its line feed.
+    fn report(&self, line: &[u8]);
+}
+
+/// Where there is no reporter, nobody is told.
+impl<P: Reporter> Reporter for Option<P> {
+    fn report(&self, line: &[u8]) {
+        if let Some(reporter) = self {
+            reporter.report(line);
+        }
+    }
+}
+
+/// Reports that a job has no page, if that is so.
+pub fn report_no_page<P: Reporter>(
+    alloc: Global,
+    job: &[u8],
+    dpi: Dpi,
+    reporter: P,
+) -> Result<(), AllocError> {
+    if count_pages(alloc, job, dpi)? == Some(0) {
+        reporter.report(NO_PAGE);
+    }
+    Ok(())
+}
+
+/// Reports that a job has no page, if that is so, and where it is asked for, the bytes of the job and of the one that it was
+/// shrunk to, its pages, and how they are written.
+pub fn report_shrunk<P: Reporter>(
+    alloc: Global,
+    job: &[u8],
+    shrunk: &Shrunk,
+    is_asked_for: bool,
+    dpi: Dpi,
+    reporter: P,
+) -> Result<(), AllocError> {
+    let pages = count_pages(alloc, job, dpi)?.unwrap_or(0);
+    if pages == 0 {
+        reporter.report(NO_PAGE);
+    }
+    if is_asked_for {
+        reporter.report(&shrunk_line(alloc, job.len(), shrunk, pages)?);
+    }
+    Ok(())
+}
+
+/// What is said of a job of so many bytes that was shrunk.
+fn shrunk_line(
+    alloc: Global,
+    len: usize,
+    shrunk: &Shrunk,
+    pages: usize,
+) -> Result<Vec<u8>, AllocError> {
+    let mut line = Vec::from_slice(alloc, b"pclmin: ")?;
+    append_number(len, b" bytes in, ", &mut line)?;
+    append_number(shrunk.job.len(), b" out, ", &mut line)?;
+    append_number(pages, b" pages, ", &mut line)?;
+    line.extend_from_slice(candidate_name(shrunk.by))?;
+    line.extend_from_slice(b"\n")?;
+    Ok(line)
+}
+
+/// How many pages a job has; none where it is refused.
+fn count_pages(alloc: Global, job: &[u8], dpi: Dpi) -> Result<Option<usize>, AllocError> {
+    match page_count(alloc, job, dpi) {
+        Ok(pages) => Ok(Some(pages)),
+        Err(JobFault::Refused(_)) => Ok(None),
+        Err(JobFault::Memory) => Err(AllocError),
+    }
+}
+
+/// How the pages of a job are written.
+fn candidate_name(by: Candidate) -> &'static [u8] {
+    match by {
+        Candidate::Input => b"as they came",
+        Candidate::Raster => b"as least rasters",
+        Candidate::Coarse => b"as rasters of other resolutions",
+        Candidate::Glyphs => b"as glyphs",
+    }
+}
+
+/// Appends a number in decimal and what follows it.
+fn append_number(number: usize, rest: &[u8], line: &mut Vec<u8>) -> Result<(), AllocError> {
+    let mut digits = Buffer::new();
+    line.extend_from_slice(digits.format(number).as_bytes())?;
+    line.extend_from_slice(rest)
+}
