@@ -1,0 +1,164 @@
+//! A batch: what is done with its jobs, and how it ends.
+
+use crate::job::write_job;
+use crate::paths::file_name;
+use crate::report::{Entry, Form, header};
+use indexmap::IndexSet;
+use itoa::Buffer;
+use pcl_command::{Ending, JobFiles, Reporter, Resolution, USAGE_STATUS, fault_line, status_of};
+use pcl_tool::{Fault, write_all};
+use std::alloc::{AllocError, Global};
+use std::io::Write;
+
+/// How each job is written again.
+#[derive(Clone, Copy, Debug, PartialEq, Eq)]
+pub enum Rewriting {
+    /// As the smallest job that is found with the same dots.
+    Shrink,
+    /// As the least raster job, with a certificate of the first format in a file of its own.
+    Certify,
+}
+
+/// What is done with each job, and where it goes.
+#[derive(Clone, Copy)]
+pub struct Batch<'w> {
+    /// The folder that gets what is written: for the job `NAME` a file `NAME`, its digests `NAME.sha256`, and where it is asked for
+    /// its certificate `NAME.cert`. It has to be there.
+    pub folder: &'w str,
+    pub rewriting: Rewriting,
+    pub resolution: Resolution,
+    /// How the report is laid out.
+    pub form: Form,
+}
+
+/// How many jobs failed, and what is worst among their statuses.
+#[derive(Clone, Copy)]
+struct Tally {
+    failed: usize,
+    status: u8,
+}
+
+impl Tally {
+    /// Of no job.
+    const NOTHING: Tally = Tally {
+        failed: 0,
+        status: 0,
+    };
+
+    /// With one job more that has this status.
+    fn with(self, status: u8) -> Tally {
+        Tally {
+            failed: self.failed.saturating_add(usize::from(status != 0)),
+            status: self.status.max(status),
+        }
+    }
+}
+
+/// Writes the jobs of files again, one after the other, and a report of them. A job that fails stops none of those after it, and what
+/// an earlier batch did isn't done again. The end has the worst of their statuses.
+pub fn run_batch<F: JobFiles, W: Write, P: Reporter + Copy>(
+    files: &mut F,
+    alloc: Global,
+    batch: Batch<'_>,
+    paths: &[&str],
+    out: &mut W,
+    reporter: P,
+) -> Ending {
+    match write_jobs(files, alloc, batch, paths, out, reporter) {
+        Ok(tally) => ended(alloc, paths.len(), tally),
+        Err(fault) => stopped(alloc, &fault),
+    }
+}
+
+/// Writes the jobs, and a line of the report after each.
+fn write_jobs<F: JobFiles, W: Write, P: Reporter + Copy>(
+    files: &mut F,
+    alloc: Global,
+    batch: Batch<'_>,
+    paths: &[&str],
+    out: &mut W,
+    reporter: P,
+) -> Result<Tally, Fault> {
+    let mut names = IndexSet::new(alloc);
+    let mut tally = Tally::NOTHING;
+    write_all(out, header(batch.form).as_bytes())?;
+    for path in paths {
+        let is_new = take_name(&mut names, path)?;
+        let status = write_entry(files, alloc, batch, path, is_new, out, reporter)?;
+        tally = tally.with(status);
+    }
+    Ok(tally)
+}
+
+/// Writes a job, unless another one of its name was written before it, and its line of the report. It gives the job's status.
+fn write_entry<F: JobFiles, W: Write, P: Reporter>(
+    files: &mut F,
+    alloc: Global,
+    batch: Batch<'_>,
+    path: &str,
+    is_new: bool,
+    out: &mut W,
+    reporter: P,
+) -> Result<u8, Fault> {
+    let entry = entry_of(files, alloc, batch, path, is_new, reporter)?;
+    let line = entry.line(alloc, batch.form)?;
+    write_all(out, &line)?;
+    Ok(entry.status)
+}
+
+/// Notes the name of a job, and says whether no job before it had this name.
+fn take_name<'w>(names: &mut IndexSet<&'w str>, path: &'w str) -> Result<bool, AllocError> {
+    match names.insert(file_name(path)) {
+        Ok(is_new) => Ok(is_new),
+        Err(_) => Err(AllocError),
+    }
+}
+
+/// Writes a job, unless another one of its name was written before it.
+fn entry_of<'w, F: JobFiles, P: Reporter>(
+    files: &mut F,
+    alloc: Global,
+    batch: Batch<'_>,
+    path: &'w str,
+    is_new: bool,
+    reporter: P,
+) -> Result<Entry<'w>, AllocError> {
+    if is_new {
+        return write_job(files, alloc, batch, path, reporter);
+    }
+    let said = String::from_str(alloc, "a job before this one has its name")?;
+    Ok(Entry::failed(path, USAGE_STATUS, said))
+}
+
+/// The end of a batch of so many jobs.
+fn ended(alloc: Global, jobs: usize, tally: Tally) -> Ending {
+    let Tally { failed, status } = tally;
+    if status == 0 {
+        return Ending::Done;
+    }
+    match failed_line(alloc, jobs, failed) {
+        Ok(line) => Ending::Failed { line, status },
+        Err(_) => Ending::NoMemory,
+    }
+}
+
+/// What is said where some jobs failed, with its line feed.
+fn failed_line(alloc: Global, jobs: usize, failed: usize) -> Result<Vec<u8>, AllocError> {
+    let mut line = Vec::from_slice(alloc, b"pclmin: ")?;
+    line.extend_from_slice(Buffer::new().format(failed).as_bytes())?;
+    line.extend_from_slice(b" of ")?;
+    line.extend_from_slice(Buffer::new().format(jobs).as_bytes())?;
+    line.extend_from_slice(b" jobs failed\n")?;
+    Ok(line)
+}
+
+/// The end of a batch whose report can't be written, or that has no memory for it.
+fn stopped(alloc: Global, fault: &Fault) -> Ending {
+    match fault_line(alloc, fault, 0) {
+        Ok(line) => Ending::Failed {
+            line,
+            status: status_of(fault),
+        },
+        Err(_) => Ending::NoMemory,
+    }
+}
