@@ -160,6 +160,31 @@ def check_terminal(program):
     return wrong, 3
 
 
+def on_terminals(program, words, typed):
+    """What a run says where its standard input and output are a terminal, and nothing is typed but this; and its status."""
+    leader, follower = pty.openpty()
+    process = subprocess.Popen([program] + words, stdin=follower, stdout=follower, stderr=subprocess.PIPE)
+    os.close(follower)
+    os.write(leader, typed)
+    _, said = process.communicate(timeout=60)
+    os.close(leader)
+    return said.decode(), process.returncode
+
+
+def check_spared_terminal(program):
+    """No job and no image is written to a terminal, and one that is read from gets a hint."""
+    end, wrong = b"\x04", []
+    spared = "pclmin: nothing is written to a terminal: send standard output to a file, or give -o FILE\n"
+    hint = "pclmin: the job is read from this terminal: end it with control D, or give a file\n"
+    wanted = [(["min"], spared, 2), (["shrink"], spared, 2), (["pbm"], spared, 2), (["pages"], hint + "pclmin: no page\n", 0),
+              (["explain"], hint + "pclmin: no page\n", 0), (["min", "-q", "-o", "/dev/null"], hint, 0), (["--version"], "", 0)]
+    for words, said, status in wanted:
+        came = on_terminals(program, words, end)
+        if came != (said, status):
+            wrong.append(f"{' '.join(words)} on a terminal: {came}, and not {(said, status)}")
+    return wrong, len(wanted)
+
+
 def main():
     program = os.path.abspath(sys.argv[1] if len(sys.argv) > 1 else os.path.join(HERE, "../crates/pclmin/out/pclmin"))
     if not os.access(program, os.X_OK):
@@ -169,7 +194,7 @@ def main():
         copy = shutil.copy(program, os.path.join(folder, "program"))
         os.chmod(copy, 0o755)
         wrong, count = [], 0
-        for check in (check_table, check_memory, check_terminal):
+        for check in (check_table, check_memory, check_terminal, check_spared_terminal):
             faults, cases_of_it = check(copy)
             wrong += faults
             count += cases_of_it

@@ -2,6 +2,7 @@
 #![tactic(auto)]
 
 mod files;
+mod input;
 mod progress;
 mod running;
 

@@ -1,5 +1,6 @@
-//! How far a long run has come, told on a terminal.
+//! What is told on standard error: how far a long run has come, and what there is to say of it.
 
+use pcl_command::Reporter;
 use pcl_tool::Watcher;
 use std::io::IsTerminal;
 use std::time::Instant;
@@ -44,6 +45,39 @@ impl Watcher for Progress<'_> {
     fn ended(&self) {
         if self.is_long() {
             let _ = self.rt.eprint("\r\x1b[K");
+        }
+    }
+}
+
+/// Tells on standard error how far a long run has come, on a terminal, and what there is to say of it.
+#[derive(Clone, Copy)]
+pub struct Voice<'a> {
+    rt: &'a HostRuntime,
+    progress: Option<Progress<'a>>,
+}
+
+impl<'a> Voice<'a> {
+    /// Of a run that begins now.
+    pub(crate) fn new(rt: &'a HostRuntime) -> Voice<'a> {
+        let progress = Progress::new(rt);
+        Voice { rt, progress }
+    }
+}
+
+impl Watcher for Voice<'_> {
+    fn pages_done(&self, pages: u32) {
+        self.progress.pages_done(pages);
+    }
+
+    fn ended(&self) {
+        self.progress.ended();
+    }
+}
+
+impl Reporter for Voice<'_> {
+    fn report(&self, line: &[u8]) {
+        if let Ok(text) = std::str::from_utf8(line) {
+            let _ = self.rt.eprint(text);
         }
     }
 }

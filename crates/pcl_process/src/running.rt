@@ -1,13 +1,14 @@
 //! A run of the process.
 
 use crate::files::SystemFiles;
-use crate::progress::Progress;
+use crate::input::Input;
+use crate::progress::Voice;
 use clap::Error;
 use pcl_command::Ending;
 use pcl_words::{USAGE_STATUS, exit_status, run};
 use std::alloc::AllocError;
 use std::env;
-use std::io::{self, ErrorKind};
+use std::io::{self, ErrorKind, IsTerminal};
 use std::process::ExitCode;
 
 /// The status where help or the version can't be written.
@@ -21,9 +22,10 @@ pub fn run_process(rt: &HostRuntime) -> ExitCode {
             &mut SystemFiles::new(rt),
             rt.alloc(),
             &words,
-            &mut rt.reader(),
+            &mut Input::new(rt, rt.reader()),
             &mut io::writer(rt),
-            Progress::new(rt),
+            rt.stdout().is_terminal(),
+            Voice::new(rt),
         ),
         Ok(None) => {
             let _ = rt.eprint("pclmin: the arguments aren't text\n");

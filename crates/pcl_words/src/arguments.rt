@@ -1,61 +1,161 @@
-//! The command line.
+//! What the words of a command line ask for.
 
+use crate::vocabulary::pclmin;
 use clap::error::ErrorKind;
-use clap::{Arg, ArgAction, ArgMatches, Command, Error, value_parser};
+use clap::{ArgMatches, Error};
+use pcl_base::{Dpi, PAGE_LIMIT};
+use pcl_batch::{Batch, Form, Rewriting};
 use pcl_cert::Format;
-use pcl_command::{CheckedFiles, ComparedFiles, Request, Run, Source, Target, Task, resolution};
+use pcl_command::{
+    Beside, CheckedFiles, ComparedFiles, Request, Resolution, Run, Source, Target, Task,
+    resolution_named,
+};
+use pcl_explain::kind_named;
+use pcl_pages::Layout;
+use pcl_tool::PageChoice;
 use std::alloc::{AllocError, Global};
 use std::convert::AsStr;
 
+/// What the words of a command line ask for.
+#[derive(Drop)]
+pub enum Asked<'w> {
+    /// Something that is done by itself.
+    Request(Request<'w>),
+    /// A batch with the jobs of these files, or where none is named of those that standard input names.
+    Batch {
+        batch: Batch<'w>,
+        paths: Vec<&'w str>,
+    },
+}
+
 /// What the words of a command line ask for, or the help, the version or the fault to print.
-pub fn parse_arguments<'w, S: AsStr>(alloc: Global, words: &'w [S]) -> Result<Request<'w>, Error> {
+pub fn parse_arguments<'w, S: AsStr>(alloc: Global, words: &'w [S]) -> Result<Asked<'w>, Error> {
     let matches = pclmin(alloc)?.try_get_matches_from(words)?;
-    match request_of(&matches) {
-        Some(request) => Ok(request),
-        None => Err(wrong_resolution(alloc)?),
+    match asked_by(alloc, &matches)? {
+        Ok(asked) => Ok(asked),
+        Err(wrong) => {
+            let text = wrong.text(alloc)?;
+            Err(pclmin(alloc)?.error(ErrorKind::InvalidValue, text.as_str())?)
+        }
     }
 }
 
-/// The fault of a resolution that is none.
-fn wrong_resolution(alloc: Global) -> Result<Error, AllocError> {
-    pclmin(alloc)?.error(
-        ErrorKind::InvalidValue,
-        "the resolution of --dpi is 300 or 600",
-    )
-}
-
-/// What the words of a command ask for, where its resolution is one.
-fn request_of<'w>(matches: &ArgMatches<'w>) -> Option<Request<'w>> {
-    match matches.subcommand()? {
-        ("check", check) => Some(Request::Check(checked_files(check)?)),
-        ("same", same) => Some(Request::Compare(compared_files(same)?)),
-        (name, command) => Some(Request::Run(run_of(name, command)?)),
+/// What the words ask for, where memory is there for the files of a batch.
+fn asked_by<'w>(
+    alloc: Global,
+    matches: &ArgMatches<'w>,
+) -> Result<Result<Asked<'w>, WrongWord<'w>>, AllocError> {
+    match matches.subcommand() {
+        Some(("batch", command)) => {
+            let paths = batch_paths(alloc, command)?;
+            Ok(batch_of(command).map(|batch| Asked::Batch { batch, paths }))
+        }
+        _ => Ok(request_of(matches).map(Asked::Request)),
     }
 }
 
-/// What the words of `min`, `pbm`, `pages`, `explain` or `shrink` ask for. Only `min` tells how far it has come.
-fn run_of<'w>(name: &str, command: &ArgMatches<'w>) -> Option<Run<'w>> {
-    let (task, quiet) = match name {
-        "min" => (min_task(command), command.get_flag("quiet")),
-        "explain" => (Task::Explain, true),
-        "pages" => (Task::DescribePages, true),
-        "shrink" => (Task::Shrink, true),
-        _ => (preview_task(command)?, true),
-    };
-    Some(Run {
-        task,
-        source: source_of(command),
-        target: target_of(command),
-        dpi: resolution(command.get_one::<u16>("dpi")?)?,
-        quiet,
+/// The files of the jobs that the words after `batch` name.
+fn batch_paths<'w>(alloc: Global, batch: &ArgMatches<'w>) -> Result<Vec<&'w str>, AllocError> {
+    match batch.get_strs("JOB") {
+        Some(paths) => Vec::from_slice(alloc, paths),
+        None => Ok(Vec::new(alloc)),
+    }
+}
+
+/// What the words after `batch` ask for.
+fn batch_of<'w>(batch: &ArgMatches<'w>) -> Result<Batch<'w>, WrongWord<'w>> {
+    Ok(Batch {
+        folder: batch.get_str("output").ok_or(WrongWord::Missing)?,
+        rewriting: if batch.get_flag("min") {
+            Rewriting::Certify
+        } else {
+            Rewriting::Shrink
+        },
+        resolution: resolution_of(batch)?,
+        form: if batch.get_flag("json") {
+            Form::Json
+        } else {
+            Form::Table
+        },
     })
 }
 
-/// Where the job comes from: the file that is named, or standard input where none or `-` is.
-fn source_of<'w>(command: &ArgMatches<'w>) -> Source<'w> {
-    match command.get_str("JOB") {
-        None | Some("-") => Source::StandardInput,
-        Some(file) => Source::File(file),
+/// A word that has no value of its kind.
+#[derive(Clone, Copy)]
+enum WrongWord<'w> {
+    Resolution(&'w str),
+    Pages(&'w str),
+    /// One that has to be there isn't.
+    Missing,
+}
+
+impl WrongWord<'_> {
+    /// What is said of it.
+    fn text(self, alloc: Global) -> Result<String, AllocError> {
+        match self {
+            WrongWord::Resolution(word) => format!(in alloc;
+                "the resolution of --dpi is 300 or 600, or auto, and not '{word}'"
+            ),
+            WrongWord::Pages(word) => format!(in alloc;
+                "--page is a number from 1 to 256, or a range such as 2-5, and not '{word}'"
+            ),
+            WrongWord::Missing => String::from_str(alloc, "a word is missing"),
+        }
+    }
+}
+
+/// What the words of a command ask for.
+fn request_of<'w>(matches: &ArgMatches<'w>) -> Result<Request<'w>, WrongWord<'w>> {
+    let (name, command) = matches.subcommand().ok_or(WrongWord::Missing)?;
+    match name {
+        "check" => Ok(Request::Check(checked_files(command)?)),
+        "same" => Ok(Request::Compare(compared_files(command)?)),
+        _ => Ok(Request::Run(run_of(name, command)?)),
+    }
+}
+
+/// What the words of `min`, `pbm`, `pages`, `explain` or `shrink` ask for.
+fn run_of<'w>(name: &str, command: &ArgMatches<'w>) -> Result<Run<'w>, WrongWord<'w>> {
+    let resolution = resolution_of(command)?;
+    let task = match name {
+        "min" => min_task(command),
+        "explain" => explain_task(command),
+        "pages" => pages_task(command),
+        "shrink" => Task::Shrink {
+            report: command.get_flag("report"),
+        },
+        _ => Task::Preview {
+            choice: page_choice(command)?,
+        },
+    };
+    Ok(Run {
+        task,
+        source: source_of(task, command),
+        target: target_of(command),
+        resolution: seen_at(task, resolution),
+        quiet: name == "min" && command.get_flag("quiet"),
+    })
+}
+
+/// The resolution at which a task sees its job: no matter which where it has none.
+fn seen_at(task: Task<'_>, resolution: Resolution) -> Resolution {
+    match task {
+        Task::ExplainKind { .. } => Resolution::Given(Dpi::Dpi300),
+        _ => resolution,
+    }
+}
+
+/// The resolution that is asked for.
+fn resolution_of<'w>(command: &ArgMatches<'w>) -> Result<Resolution, WrongWord<'w>> {
+    let word = command.get_str("dpi").ok_or(WrongWord::Missing)?;
+    resolution_named(word).ok_or(WrongWord::Resolution(word))
+}
+
+/// Where the job comes from: the file that is named, or standard input where none or `-` is, or where none is read.
+fn source_of<'w>(task: Task<'w>, command: &ArgMatches<'w>) -> Source<'w> {
+    match (task, command.get_str("JOB")) {
+        (Task::ExplainKind { .. }, _) | (_, None | Some("-")) => Source::StandardInput,
+        (_, Some(file)) => Source::File(file),
     }
 }
 
@@ -68,24 +168,36 @@ fn target_of<'w>(command: &ArgMatches<'w>) -> Target<'w> {
 }
 
 /// What the words of `check` ask for.
-fn checked_files<'w>(check: &ArgMatches<'w>) -> Option<CheckedFiles<'w>> {
-    Some(CheckedFiles {
-        input: check.get_str("IN")?,
-        output: check.get_str("OUT")?,
-        certificate: check.get_str("CERT")?,
-        dpi: resolution(check.get_one::<u16>("dpi")?)?,
+fn checked_files<'w>(check: &ArgMatches<'w>) -> Result<CheckedFiles<'w>, WrongWord<'w>> {
+    let beside = if check.get_flag("page") {
+        Beside::Images
+    } else {
+        Beside::Input
+    };
+    Ok(CheckedFiles {
+        beside,
+        input: file_of(check, "IN")?,
+        output: file_of(check, "OUT")?,
+        certificate: file_of(check, "CERT")?,
+        resolution: resolution_of(check)?,
         quiet: check.get_flag("quiet"),
     })
 }
 
 /// What the words of `same` ask for.
-fn compared_files<'w>(same: &ArgMatches<'w>) -> Option<ComparedFiles<'w>> {
-    Some(ComparedFiles {
-        first: same.get_str("A")?,
-        second: same.get_str("B")?,
+fn compared_files<'w>(same: &ArgMatches<'w>) -> Result<ComparedFiles<'w>, WrongWord<'w>> {
+    Ok(ComparedFiles {
+        first: file_of(same, "A")?,
+        second: file_of(same, "B")?,
+        asks: same.get_flag("asked"),
         image: same.get_str("image"),
-        dpi: resolution(same.get_one::<u16>("dpi")?)?,
+        resolution: resolution_of(same)?,
     })
+}
+
+/// A file that has to be named.
+fn file_of<'w>(command: &ArgMatches<'w>, name: &str) -> Result<&'w str, WrongWord<'w>> {
+    command.get_str(name).ok_or(WrongWord::Missing)
 }
 
 /// What the words after `min` ask for.
@@ -100,173 +212,47 @@ fn min_task<'w>(min: &ArgMatches<'w>) -> Task<'w> {
     }
 }
 
-/// What the words after `pbm` ask for.
-fn preview_task<'w>(pbm: &ArgMatches<'w>) -> Option<Task<'w>> {
-    Some(Task::Preview {
-        page: pbm.get_one::<usize>("page")?,
-    })
+/// What the words after `pages` ask for.
+fn pages_task<'w>(pages: &ArgMatches<'w>) -> Task<'w> {
+    let layout = if pages.get_flag("json") {
+        Layout::Json
+    } else {
+        Layout::Table
+    };
+    Task::DescribePages { layout }
 }
 
-/// The program's command line.
-fn pclmin<'a>(alloc: Global) -> Result<Command<'a>, AllocError> {
-    let command = program(alloc).subcommand(min(alloc)?)?;
-    let command = command.subcommand(same(alloc)?)?;
-    let command = command
-        .subcommand(explain(alloc)?)?
-        .subcommand(pages(alloc)?)?
-        .subcommand(shrink(alloc)?)?;
-    command.subcommand(check(alloc)?)?.subcommand(pbm(alloc)?)
+/// What the words after `explain` ask for: a kind of refusal, where its name stands in place of a file.
+fn explain_task<'w>(explain: &ArgMatches<'w>) -> Task<'w> {
+    let Some(word) = explain.get_str("JOB") else {
+        return Task::Explain;
+    };
+    match kind_named(word) {
+        Some(kind) => Task::ExplainKind { kind },
+        None => Task::Explain,
+    }
 }
 
-/// The program, without its commands.
-fn program<'a>(alloc: Global) -> Command<'a> {
-    Command::new(alloc, "pclmin")
-        .version("0.1.0")
-        .about("A print filter for HP PCL 5: reads a job, and writes or shows what it prints.")
-        .after_help(
-            "Statuses: 0 done, proved or the same, 1 refused, no such page, not proved or not the same, 2 usage, 3 reading, writing or memory.",
-        )
-        .subcommand_required(true)
-        .arg_required_else_help(true)
+/// The pages that the words after `pbm` ask for: all where none is named.
+fn page_choice<'w>(pbm: &ArgMatches<'w>) -> Result<PageChoice, WrongWord<'w>> {
+    match pbm.get_str("page") {
+        None => Ok(PageChoice::All),
+        Some(word) => page_range(word).ok_or(WrongWord::Pages(word)),
+    }
 }
 
-/// The command that writes a job again.
-fn min<'a>(alloc: Global) -> Result<Command<'a>, AllocError> {
-    let command = Command::new(alloc, "min").about(
-        "Writes a job again as the least raster job of the same pages",
-    );
-    let command = with_files(alloc, command)?;
-    of_every_run(alloc, command.arg(cert(alloc))?.arg(format(alloc)?)?)
+/// The pages of a number from 1 to 256, or of two with a hyphen between them.
+fn page_range(word: &str) -> Option<PageChoice> {
+    let (first, last) = word.split_once('-').unwrap_or((word, word));
+    let before = page_number(first)?.checked_sub(1)?;
+    let count = page_number(last)?.checked_sub(before)?;
+    (count > 0).then_some(PageChoice::Range { before, count })
 }
 
-/// The file of a certificate.
-fn cert<'a>(alloc: Global) -> Arg<'a> {
-    Arg::new(alloc, "cert").long("cert").value_name("FILE").help(
-        "Also write a certificate of the job to this file, which is made or emptied first",
-    )
-}
-
-/// The format of a certificate.
-fn format<'a>(alloc: Global) -> Result<Arg<'a>, AllocError> {
-    let format = Arg::new(alloc, "format")
-        .long("format")
-        .value_name("N")
-        .value_parser(value_parser!(u16).range(1..=2))
-        .requires_arg("cert")?;
-    Ok(format.help("The format of the certificate, 1 or 2; 1 where none is given"))
-}
-
-/// The command that checks a written job.
-fn check<'a>(alloc: Global) -> Result<Command<'a>, AllocError> {
-    let command = Command::new(alloc, "check").about(
-        "Checks by a certificate that a written job prints the pages of another one, and that none is shorter",
-    );
-    let command = command
-        .arg(file(alloc, "IN", "The job as it was"))?
-        .arg(file(alloc, "OUT", "The job that it was written as"))?
-        .arg(file(alloc, "CERT", "The certificate of the written job"))?;
-    of_every_run(alloc, command)
-}
-
-/// The command that says what the rules refuse.
-fn explain<'a>(alloc: Global) -> Result<Command<'a>, AllocError> {
-    let command = Command::new(alloc, "explain").about(
-        "Names everything in a job that is refused, and says what to set instead",
-    );
-    with_files(alloc, command)?.arg(dpi(alloc))
-}
-
-/// The command that writes the smallest job that is found.
-fn shrink<'a>(alloc: Global) -> Result<Command<'a>, AllocError> {
-    let command = Command::new(alloc, "shrink").about(
-        "Writes the smallest job that is found with the same dots, sides, trays, bins and @PJL lines",
-    );
-    with_files(alloc, command)?.arg(dpi(alloc))
-}
-
-/// The command that says what the pages are.
-fn pages<'a>(alloc: Global) -> Result<Command<'a>, AllocError> {
-    let command = Command::new(alloc, "pages").about(
-        "Lists the pages of a job: size, copies, black dots in percent, bytes as least raster",
-    );
-    with_files(alloc, command)?.arg(dpi(alloc))
-}
-
-/// The command that compares two jobs.
-fn same<'a>(alloc: Global) -> Result<Command<'a>, AllocError> {
-    Command::new(alloc, "same")
-        .about("Tells whether two jobs print the same pages, and where not")
-        .arg(file(alloc, "A", "The one job"))?
-        .arg(file(alloc, "B", "The other job"))?
-        .arg(image(alloc))?
-        .arg(dpi(alloc))
-}
-
-/// The file of an image.
-fn image<'a>(alloc: Global) -> Arg<'a> {
-    Arg::new(alloc, "image")
-        .long("image")
-        .value_name("FILE")
-        .help(
-            "Where the first difference is a dot, write a PBM image (P4) of all dots of its page that differ to this file; else it isn't made",
-        )
-}
-
-/// A command with what those that run over whole jobs take.
-fn of_every_run<'a>(alloc: Global, command: Command<'a>) -> Result<Command<'a>, AllocError> {
-    command.arg(quiet(alloc))?.arg(dpi(alloc))
-}
-
-/// A command with the job that it reads and the file that it writes.
-fn with_files<'a>(alloc: Global, command: Command<'a>) -> Result<Command<'a>, AllocError> {
-    let job = Arg::new(alloc, "JOB").value_name("JOB").help(
-        "The file of the job; standard input where none or - is given",
-    );
-    let output = Arg::new(alloc, "output")
-        .short('o')
-        .long("output")
-        .value_name("FILE")
-        .help(
-            "Write to this file, which keeps what it has until the run is done; standard output where none or - is given",
-        );
-    command.arg(job)?.arg(output)
-}
-
-/// A file that is asked for.
-fn file<'a>(alloc: Global, name: &'a str, help: &'a str) -> Arg<'a> {
-    Arg::new(alloc, name)
-        .value_name(name)
-        .required(true)
-        .help(help)
-}
-
-/// The command that previews a page.
-fn pbm<'a>(alloc: Global) -> Result<Command<'a>, AllocError> {
-    let page = Arg::new(alloc, "page")
-        .long("page")
-        .value_name("N")
-        .value_parser(value_parser!(u16).range(1..=256))
-        .required(true)
-        .help("The number of the page, from 1 to 256");
-    let command = Command::new(alloc, "pbm").about("Writes a page of a job as a PBM image (P4)");
-    with_files(alloc, command)?.arg(page)?.arg(dpi(alloc))
-}
-
-/// Silence, where a run would tell how far it has come.
-fn quiet<'a>(alloc: Global) -> Arg<'a> {
-    Arg::new(alloc, "quiet")
-        .short('q')
-        .long("quiet")
-        .action(ArgAction::SetTrue)
-        .help("Don't tell on a terminal how many pages are done")
-}
-
-/// The resolution, which all commands take.
-fn dpi<'a>(alloc: Global) -> Arg<'a> {
-    Arg::new(alloc, "dpi")
-        .long("dpi")
-        .value_name("N")
-        .value_parser(value_parser!(u16))
-        .default_value("300")
-        .help("The resolution in dots per inch, 300 or 600")
+/// The number of a page, up to 256.
+fn page_number(word: &str) -> Option<u16> {
+    match word.parse::<u16>() {
+        Ok(number) if u32::from(number) <= PAGE_LIMIT => Some(number),
+        _ => None,
+    }
 }

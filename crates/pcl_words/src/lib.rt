@@ -2,6 +2,9 @@
 #![tactic(auto)]
 
 mod arguments;
+mod names;
 mod running;
+mod vocabulary;
 
-pub use running::{USAGE_STATUS, exit_status, run};
+pub use pcl_command::USAGE_STATUS;
+pub use running::{exit_status, run, run_request};
