@@ -7,6 +7,7 @@
 //! more ESC*c1a1b0P                   more of it
 //! reader fails                       it can't be read, up to the next job
 //! writer fails                       standard output can't be written, up to the line `writer holds`
+//! writer types                       it is a terminal, up to the line `writer holds`
 //! file page.pcl ESCE                 a file with these bytes is made, in a folder in memory; the runs below find it
 //! remove page.pcl                    a file is removed
 //! case a page that isn't there       a case. What is wanted of it, in any order:
@@ -23,7 +24,7 @@ use crate::folder::{Folder, Held};
 use crate::notation::bytes_of;
 use crate::table::{CasesOfLines, TableFault, number};
 use clap::Error;
-use pcl_command::Ending;
+use pcl_command::{Ending, Reporter};
 use pcl_tool::Watcher;
 use pcl_words::{exit_status, run};
 use std::alloc::{AllocError, Global};
@@ -73,6 +74,30 @@ struct Told {
     times: Cell<u32>,
     /// How often the end was.
     ends: Cell<u32>,
+    /// What was reported.
+    said: Cell<Vec<u8>>,
+    alloc: Global,
+}
+
+impl Told {
+    /// Before the run.
+    fn new(alloc: Global) -> Told {
+        Told {
+            pages: Cell::new(0),
+            times: Cell::new(0),
+            ends: Cell::new(0),
+            said: Cell::new(Vec::new(alloc)),
+            alloc,
+        }
+    }
+}
+
+impl Reporter for &Told {
+    fn report(&self, line: &[u8]) {
+        let mut said = self.said.replace(Vec::new(self.alloc));
+        let _ = said.extend_from_slice(line);
+        self.said.set(said);
+    }
 }
 
 impl Watcher for &Told {
@@ -118,6 +143,8 @@ pub struct Commands {
     job: Option<Vec<u8>>,
     /// Whether standard output can be written.
     is_held: bool,
+    /// Whether it is a terminal.
+    is_terminal: bool,
     /// The name of the case.
     name: String,
     /// The words of its command line.
@@ -139,6 +166,7 @@ impl Commands {
             folder: Folder::new(alloc),
             job: None,
             is_held: true,
+            is_terminal: false,
             name: String::new(alloc),
             line: String::new(alloc),
             written: nothing(alloc),
@@ -191,7 +219,11 @@ impl Commands {
             }
             ("reader", "fails") => self.job = None,
             ("writer", "fails") => self.is_held = false,
-            ("writer", "holds") => self.is_held = true,
+            ("writer", "types") => self.is_terminal = true,
+            ("writer", "holds") => {
+                self.is_held = true;
+                self.is_terminal = false;
+            }
             ("file", _) => {
                 let (file, notation) = rest.split_once(' ').unwrap_or((rest, ""));
                 self.folder.put(file, bytes_of(alloc, notation)?)?;
@@ -220,13 +252,19 @@ impl Commands {
         let words = self.line.as_str().split(' ').collect::<Vec<&str>>(alloc)?;
         let mut given = Given(self.job.as_deref());
         let mut taken = Taken(self.is_held.then_some(Held::new(alloc)));
-        let told = Told {
-            pages: Cell::new(0),
-            times: Cell::new(0),
-            ends: Cell::new(0),
-        };
-        let ended = run(folder, alloc, &words, &mut given, &mut taken, &told);
-        let said = text_of(alloc, &ended)?;
+        let told = Told::new(alloc);
+        let ended = run(
+            folder,
+            alloc,
+            &words,
+            &mut given,
+            &mut taken,
+            self.is_terminal,
+            &told,
+        );
+        let reported = told.said.replace(Vec::new(alloc));
+        let mut said = String::from_utf8_lossy(alloc, &reported)?;
+        said.push_str(text_of(alloc, &ended)?.as_str())?;
         let held = taken.0.unwrap_or(Held::new(alloc));
         let written = held.bytes();
         let is_right = usize::from(exit_status(&ended)) == status

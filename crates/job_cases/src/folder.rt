@@ -49,7 +49,7 @@ struct Named {
     bytes: Vec<u8>,
 }
 
-/// Files by their names; no name has a slash.
+/// Files by their names. Of folders below this one `out` alone is there.
 #[derive(Drop)]
 pub(crate) struct Folder {
     alloc: Global,
@@ -101,7 +101,7 @@ impl JobFiles for Folder {
     }
 
     fn make(&mut self, name: &str) -> io::Result<Held> {
-        if name.contains('/') {
+        if !is_there(name) {
             return Err(io::Error::from(ErrorKind::NotFound));
         }
         self.put(name, Vec::new(self.alloc))?;
@@ -121,7 +121,7 @@ impl JobFiles for Folder {
     }
 
     fn begin(&mut self, name: &str) -> io::Result<Held> {
-        if name.contains('/') {
+        if !is_there(name) {
             return Err(io::Error::from(ErrorKind::NotFound));
         }
         Ok(Held::new(self.alloc))
@@ -135,4 +135,12 @@ impl JobFiles for Folder {
     }
 
     fn discard(&mut self, _name: &str, _file: Held) {}
+}
+
+/// Whether the folder of a file is there.
+fn is_there(name: &str) -> bool {
+    match name.split_once('/') {
+        Some((folder, _)) => folder == "out",
+        None => true,
+    }
 }
