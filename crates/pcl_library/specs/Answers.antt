@@ -1,0 +1,156 @@
+-- What an answer tells.
+use Rattle.std.specs.Prelude.{◌≡◌, ◌⊎◌, ◌↔◌, ℕ, false, List, [], ◌∷◌, ◌++◌, length, IsTrue}
+use Rattle.std.specs.Prelude.{Option, Some, None, Result, Ok, Err}
+use Rattle.std.specs.declared.alloc.AllocError.{AllocError}
+use Rattle.std.specs.Global.{Vec}
+use Rattle.pcl_base.specs.declared.dpi.Dpi.{Dpi}
+use Rattle.pcl_base.specs.declared.refusal.Refusal.{Refusal}
+use Rattle.pcl_base.specs.Dpi.{dots_per_inch}
+use Rattle.pcl_base.specs.Kind.{kind_number}
+use Rattle.pcl_page.specs.Situation.{Sheet}
+use Rattle.pcl_page.specs.Jobs.{HasPages}
+use Rattle.pcl_page.specs.Accepting.{IsAccepted}
+use Rattle.pcl_page.specs.Delivering.{IsRefusal}
+use Rattle.pcl_cert.specs.declared.format.Format.{Format}
+use Rattle.pcl_tool.specs.declared.fault.Fault.TheVariants as run
+use Rattle.pcl_tool.specs.declared.job_verdict.JobVerdict.{JobVerdict}
+use Rattle.pcl_tool.specs.declared.job_verdict.JobVerdict.TheVariants as verdicts
+use Rattle.pcl_tool.specs.declared.page_images.PageChoice.{PageChoice}
+use Rattle.pcl_tool.specs.PageImages.{AreImagesOf, LacksPage}
+use Rattle.pcl_tool.specs.Minimizing.{IsJobOf, IsCertifiedJobOf}
+use Rattle.pcl_tool.specs.JobVerdicts.{IsJobVerdict}
+use Rattle.pcl_same.specs.declared.comparison.AskedComparison.{AskedComparison}
+use Rattle.pcl_same.specs.declared.comparison.AskedComparison.TheVariants as comparisons
+use Rattle.pcl_command.specs.Comparisons.{IsComparisonFor}
+use Rattle.pcl_shrink.specs.Shrinking.{IsSmallerJob}
+use Rattle.pcl_explain.specs.Findings.{Explains}
+use Rattle.pcl_same.specs.declared.fault.Job.{Job}
+use Rattle.pcl_same.specs.declared.fault.Job.TheVariants.{First, Second}
+use Rattle.pcl_command.specs.declared.comparisons.CompareFault.TheVariants as compare
+use Rattle.pcl_command.specs.Messages.{line_of}
+use Rattle.pcl_command.specs.Verdicts.{verdict_line_of}
+use Rattle.pcl_command.specs.ComparisonLines.{comparison_line_of, compare_line_of}
+use Rattle.pcl_library.specs.Arguments.{IsSeen, AreSeen, IsChoiceFor, IsFormatFor}
+use Rattle.pcl_library.specs.Failures.{outcome_of, job_number}
+use Rattle.pcl_library.specs.declared.answer.Answer.{Answer}
+use Rattle.pcl_library.specs.declared.failure.Failure.{Failure}
+use Rattle.pcl_library.specs.declared.failure.Failure.TheVariants.{Run, OneRefused}
+
+-- ---- lines and failures
+
+-- a line and a zero byte, or nothing where memory ran out for it
+abbrev pub IsLine : List ℕ → List ℕ → Type 0
+IsLine text line = (line ≡ text ++ 0 ∷ []) ⊎ (line ≡ [])
+
+-- the same of a line that may not have been made
+abbrev pub IsLineOf : Result (Vec ℕ) AllocError → List ℕ → Type 0
+IsLineOf (Ok text) line = IsLine text.items line
+IsLineOf (Err e) line = line ≡ []
+
+-- a refusal by the number of its kind, by its place, by the number of the job, and by a line
+pub record TellsOf (job : Job) (line : List ℕ) (refusal : Refusal) (answer : Answer) : Type 0 where
+  pub refused : answer.outcome ≡ 1
+  pub which : answer.refused_job ≡ job_number job
+  pub kind : answer.kind ≡ kind_number refusal.kind
+  pub place : answer.place ≡ refusal.at
+  pub said : IsLine line answer.line.now
+
+-- the refusal of a job, as the program says it
+abbrev pub TellsRefusal : Refusal → Answer → Type 0
+TellsRefusal refusal answer = TellsOf First (line_of (run.Refused refusal) 0) refusal answer
+
+-- the refusal of one of two jobs, as the program says it
+abbrev pub TellsRefusalOf : Job → Refusal → Answer → Type 0
+TellsRefusalOf which refusal answer = TellsOf which (compare_line_of (compare.Refused which refusal)) refusal answer
+
+-- what an answer tells of a failure of a call that was asked for pages up to this one
+abbrev pub Tells : Failure → ℕ → Answer → Type 0
+Tells (Run (run.Refused refusal)) page answer = TellsRefusal refusal answer
+Tells (OneRefused which refusal) page answer = TellsRefusalOf which refusal answer
+Tells (Run run.NoSuchPage) page answer = (answer.outcome ≡ 2) × IsLine (line_of run.NoSuchPage page) answer.line.now
+Tells other page answer = answer.outcome ≡ outcome_of other
+
+-- ---- calls on one job
+
+-- what an answer tells at a resolution: of a call that is done this holds, and a refusal is the job's
+pub record AnswersAt (dpi : Dpi) (job : List ℕ) (Done : Answer → Type 0) (answer : Answer) : Type 0 where
+  pub done : answer.outcome ≡ 0 → (answer.resolution ≡ dots_per_inch dpi) × Done answer
+  pub refused : answer.outcome ≡ 1 → (refusal : Refusal) × IsRefusal dpi job refusal × TellsRefusal refusal answer
+
+-- the same at the resolution at which the job is seen by a number
+pub record Answers (number : ℕ) (job : List ℕ) (Done : Dpi → Answer → Type 0) (answer : Answer) : Type 0 where
+  pub done : answer.outcome ≡ 0 → (dpi : Dpi) × IsSeen number job dpi × (answer.resolution ≡ dots_per_inch dpi) × Done dpi answer
+  pub refused : answer.outcome ≡ 1
+      → (dpi : Dpi) × IsSeen number job dpi × ((refusal : Refusal) × IsRefusal dpi job refusal × TellsRefusal refusal answer)
+
+-- the images of the pages from one number to another, one after the other
+abbrev pub HasImages : List ℕ → (first last : ℕ) → Dpi → Answer → Type 0
+HasImages job first last dpi answer =
+    (choice : PageChoice) × IsChoiceFor first last choice × AreImagesOf dpi job choice answer.made.now
+
+-- one of these pages is missing in an accepted job, as the program says
+abbrev pub LacksPagesAt : Dpi → List ℕ → (first last : ℕ) → Answer → Type 0
+LacksPagesAt dpi job first last answer =
+    ((choice : PageChoice) × IsChoiceFor first last choice × LacksPage dpi job choice)
+    × IsLine (line_of run.NoSuchPage last) answer.line.now
+
+abbrev pub LacksPages : ℕ → List ℕ → (first last : ℕ) → Answer → Type 0
+LacksPages number job first last answer = (dpi : Dpi) × IsSeen number job dpi × LacksPagesAt dpi job first last answer
+
+-- a least raster job of the job's pages, and its certificate where one of a format is asked for
+abbrev pub HasLeastJob : List ℕ → Option Format → Dpi → Answer → Type 0
+HasLeastJob job None dpi answer = IsJobOf dpi job answer.made.now
+HasLeastJob job (Some format) dpi answer = IsCertifiedJobOf dpi format job answer.made.now answer.certificate.now
+
+-- the same with the format of a number
+abbrev pub HasWrittenJob : List ℕ → ℕ → Dpi → Answer → Type 0
+HasWrittenJob job number dpi answer = (format : Option Format) × IsFormatFor number format × HasLeastJob job format dpi answer
+
+-- a job with the same pages, which asks for the same and is no longer
+abbrev pub HasSmallerJob : List ℕ → Dpi → Answer → Type 0
+HasSmallerJob job dpi answer = IsSmallerJob dpi job answer.made.now
+
+-- the number of the job's pages
+abbrev pub HasPageCount : List ℕ → Dpi → Answer → Type 0
+HasPageCount job dpi answer = (pages : List Sheet) × HasPages dpi job pages × (length pages ≡ answer.pages)
+
+-- the job is accepted; of the text on its pages nothing is said
+abbrev pub IsOfAccepted : List ℕ → Dpi → Answer → Type 0
+IsOfAccepted job dpi answer = IsAccepted dpi job
+
+-- a text on the refusal of the job, or that there is none
+abbrev pub HasExplanation : List ℕ → Dpi → Answer → Type 0
+HasExplanation job dpi answer = Explains dpi job answer.made.now
+
+-- the right verdict on a job, its output and a certificate; it holds where that is Proved
+pub record HasVerdict (input output certificate : List ℕ) (dpi : Dpi) (answer : Answer) : Type 0 where
+  pub verdict : JobVerdict
+  pub right : IsJobVerdict dpi input output certificate verdict
+  pub line : IsLine (verdict_line_of verdict) answer.line.now
+  pub holds : IsTrue answer.holds ↔ (verdict ≡ verdicts.Proved)
+
+-- ---- two jobs
+
+-- the right comparison of two jobs; it holds where they are the same
+pub record HasComparison (first second : List ℕ) (dpi : Dpi) (answer : Answer) : Type 0 where
+  pub comparison : AskedComparison
+  pub right : IsComparisonFor false dpi first second comparison
+  pub line : IsLine (comparison_line_of comparison) answer.line.now
+  pub holds : IsTrue answer.holds ↔ (comparison ≡ comparisons.Same)
+
+-- one of two jobs is refused, and which
+abbrev pub TellsOneRefused : Dpi → (first second : List ℕ) → Answer → Type 0
+TellsOneRefused dpi first second answer =
+    ((refusal : Refusal) × IsRefusal dpi first refusal × TellsRefusalOf First refusal answer)
+    ⊎ ((refusal : Refusal) × IsRefusal dpi second refusal × TellsRefusalOf Second refusal answer)
+
+-- what an answer tells at a resolution
+pub record ComparesAt (dpi : Dpi) (first second : List ℕ) (answer : Answer) : Type 0 where
+  pub done : answer.outcome ≡ 0 → (answer.resolution ≡ dots_per_inch dpi) × HasComparison first second dpi answer
+  pub refused : answer.outcome ≡ 1 → TellsOneRefused dpi first second answer
+
+-- the same at the resolution at which the jobs are seen by a number
+pub record Compares (number : ℕ) (first second : List ℕ) (answer : Answer) : Type 0 where
+  pub done : answer.outcome ≡ 0
+      → (dpi : Dpi) × AreSeen number first second dpi × (answer.resolution ≡ dots_per_inch dpi) × HasComparison first second dpi answer
+  pub refused : answer.outcome ≡ 1 → (dpi : Dpi) × AreSeen number first second dpi × TellsOneRefused dpi first second answer

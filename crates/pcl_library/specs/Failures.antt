@@ -1,0 +1,45 @@
+-- Why a call fails, and what is said of it.
+use Rattle.std.specs.Prelude.{◌≡◌, ℕ, ◌<◌, List}
+use Rattle.pcl_base.specs.declared.fault.JobFault.{JobFault}
+use Rattle.pcl_tool.specs.declared.fault.Fault.TheVariants as run
+use Rattle.pcl_tool.specs.JobFaults.{fault_of}
+use Rattle.pcl_same.specs.declared.fault.Job.{Job}
+use Rattle.pcl_same.specs.declared.fault.Job.TheVariants.{First, Second}
+use Rattle.pcl_same.specs.declared.fault.SameFault.{SameFault}
+use Rattle.pcl_same.specs.declared.fault.SameFault.TheVariants as same
+use Rattle.pcl_command.specs.declared.comparisons.CompareFault.TheVariants as compare
+use Rattle.pcl_command.specs.Messages.{line_of}
+use Rattle.pcl_command.specs.ComparisonLines.{compare_line_of}
+use Rattle.pcl_library.specs.declared.failure.Failure.{Failure}
+use Rattle.pcl_library.specs.declared.failure.Failure.TheVariants.{Wrong, Run, OneRefused}
+
+abbrev pub failure_of_job : JobFault → Failure
+failure_of_job fault = Run (fault_of fault)
+
+abbrev pub failure_of_jobs : SameFault → Failure
+failure_of_jobs (same.Refused which refusal) = OneRefused which refusal
+failure_of_jobs same.Memory = Run run.Memory
+
+-- the number of a failure, as lib/pclmin.h has it; 0 is that of a call that is done
+abbrev pub outcome_of : Failure → ℕ
+outcome_of (Run (run.Refused refusal)) = 1
+outcome_of (OneRefused which refusal) = 1
+outcome_of (Run run.NoSuchPage) = 2
+outcome_of (Wrong argument) = 3
+outcome_of (Run run.TooLong) = 4
+outcome_of (Run other) = 5
+
+-- the call fails before a job is performed, or memory runs out
+abbrev pub IsUnperformed : Failure → Type 0
+IsUnperformed failure = 2 < outcome_of failure
+
+-- the number of one of two jobs
+abbrev pub job_number : Job → ℕ
+job_number First = 1
+job_number Second = 2
+
+-- the line is the one that the program says, with its line feed
+abbrev pub IsSaid : Failure → ℕ → List ℕ → Type 0
+IsSaid (Wrong argument) page line = Unit {0}
+IsSaid (Run fault) page line = line ≡ line_of fault page
+IsSaid (OneRefused which refusal) page line = line ≡ compare_line_of (compare.Refused which refusal)

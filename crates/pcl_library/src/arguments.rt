@@ -1,0 +1,93 @@
+//! Arguments that come as numbers, and jobs that are too long.
+
+ghost use Rattle.std.specs.Prelude.{◌≡◌, IfOk, IfErr, IfSome};
+ghost use Rattle.pcl_library.specs.Arguments.{resolution_number, IsSeen, AreSeen, IsChoiceFor, IsFormatFor};
+ghost use Rattle.pcl_library.specs.Failures.{IsUnperformed};
+
+use crate::failure::{Argument, Failure};
+use pcl_base::{Dpi, PAGE_LIMIT};
+use pcl_cert::Format;
+use pcl_command::{Resolution, resolve, resolve_both};
+use pcl_tool::{Fault, INPUT_LIMIT, PageChoice};
+use std::alloc::Global;
+
+/// The resolution at which a job is seen by the number of one: 300 or 600 dots per inch, or 0 for the first of these at which the
+/// job is accepted.
+pub fn seen_at(alloc: Global, job: &[u8], resolution: u32) -> Result<Dpi, Failure>
+    ensures seen { IfOk result (IsSeen resolution job.now) }
+    ensures unperformed { IfErr result IsUnperformed }
+{
+    within_limit(job)?;
+    let asked = resolution_numbered(resolution)?;
+    Ok(resolve(alloc, asked, job)?)
+}
+
+/// The same of two jobs; 0 is for the first resolution at which both are accepted.
+pub fn both_seen_at(
+    alloc: Global,
+    first: &[u8],
+    second: &[u8],
+    resolution: u32,
+) -> Result<Dpi, Failure>
+    ensures seen { IfOk result (AreSeen resolution first.now second.now) }
+    ensures unperformed { IfErr result IsUnperformed }
+{
+    within_limit(first)?;
+    within_limit(second)?;
+    let asked = resolution_numbered(resolution)?;
+    Ok(resolve_both(alloc, asked, first, second)?)
+}
+
+/// Fails where there are more bytes than the program reads as one input.
+pub fn within_limit(bytes: &[u8]) -> Result<(), Failure>
+    ensures { IfErr result IsUnperformed }
+{
+    if bytes.len() > INPUT_LIMIT {
+        Err(Failure::Run(Fault::TooLong))
+    } else {
+        Ok(())
+    }
+}
+
+/// The resolution that a number asks for.
+fn resolution_numbered(number: u32) -> Result<Resolution, Failure>
+    ensures named { IfOk result (λ asked. resolution_number asked ≡ number) }
+    ensures unperformed { IfErr result IsUnperformed }
+{
+    match number {
+        0 => Ok(Resolution::FirstAccepted),
+        300 => Ok(Resolution::Given(Dpi::Dpi300)),
+        600 => Ok(Resolution::Given(Dpi::Dpi600)),
+        _ => Err(Failure::Wrong(Argument::Resolution)),
+    }
+}
+
+/// The pages from one number to another, counted from 1, or all of them by 0 and 0.
+pub fn pages_between(first: u32, last: u32) -> Result<PageChoice, Failure>
+    ensures chosen { IfOk result (IsChoiceFor first last) }
+    ensures unperformed { IfErr result IsUnperformed }
+{
+    if first == 0 && last == 0 {
+        return Ok(PageChoice::All);
+    }
+    if first == 0 || last < first || last > PAGE_LIMIT {
+        return Err(Failure::Wrong(Argument::Pages));
+    }
+    Ok(PageChoice::Range {
+        before: (first - 1) as u16,
+        count: (last - first + 1) as u16,
+    })
+}
+
+/// The format of certificates that a number asks for; none by 0.
+pub fn format_numbered(number: u32) -> Result<Option<Format>, Failure>
+    ensures named { IfOk result (IsFormatFor number) }
+    ensures unperformed { IfErr result IsUnperformed }
+{
+    match number {
+        0 => Ok(None),
+        1 => Ok(Some(Format::One)),
+        2 => Ok(Some(Format::Two)),
+        _ => Err(Failure::Wrong(Argument::Format)),
+    }
+}

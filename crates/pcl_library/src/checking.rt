@@ -1,0 +1,62 @@
+//! A written job checked beside its input, by a certificate from anybody.
+
+ghost use Rattle.std.specs.Prelude.{IfOk, IfErr};
+ghost use Rattle.pcl_library.specs.Arguments.{IsSeen};
+ghost use Rattle.pcl_library.specs.Failures.{IsUnperformed};
+ghost use Rattle.pcl_library.specs.Answers.{Answers, AnswersAt, HasVerdict};
+
+use crate::answer::Answer;
+use crate::arguments::{seen_at, within_limit};
+use crate::failure::Failure;
+use pcl_base::Dpi;
+use pcl_command::verdict_line;
+use pcl_tool::{JobVerdict, check_job};
+use std::alloc::Global;
+
+/// `pclmin_check`: whether an output has the pages of an input and is the shortest such job text, by a certificate, and the line
+/// that says which test fails first.
+#[unsafe(no_mangle)]
+pub extern "C" fn pcl_library_check(
+    alloc: Global,
+    input: &[u8],
+    output: &[u8],
+    certificate: &[u8],
+    resolution: u32,
+    answer: &mut Answer,
+)
+    ensures { Answers resolution input.now (HasVerdict input.now output.now certificate.now) answer.new }
+{
+    *answer = match checked_at(alloc, input, output, certificate, resolution) {
+        Ok(dpi) => check_answer(alloc, input, output, certificate, dpi),
+        Err(failure) => Answer::of_failure(alloc, &failure, 0),
+    };
+}
+
+/// The resolution at which an input is seen beside an output and a certificate.
+fn checked_at(
+    alloc: Global,
+    input: &[u8],
+    output: &[u8],
+    certificate: &[u8],
+    resolution: u32,
+) -> Result<Dpi, Failure>
+    ensures seen { IfOk result (IsSeen resolution input.now) }
+    ensures unperformed { IfErr result IsUnperformed }
+{
+    within_limit(output)?;
+    within_limit(certificate)?;
+    seen_at(alloc, input, resolution)
+}
+
+/// What the checker answers.
+fn check_answer(alloc: Global, input: &[u8], output: &[u8], certificate: &[u8], dpi: Dpi) -> Answer
+    ensures { AnswersAt dpi input.now (HasVerdict input.now output.now certificate.now dpi) result }
+{
+    match check_job(alloc, input, output, certificate, dpi) {
+        Ok(verdict) => {
+            let holds = matches!(verdict, JobVerdict::Proved);
+            Answer::of_line(verdict_line(alloc, &verdict), holds, dpi)
+        }
+        Err(fault) => Answer::of_failure(alloc, &Failure::Run(fault), 0),
+    }
+}

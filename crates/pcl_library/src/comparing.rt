@@ -1,0 +1,40 @@
+//! Two jobs compared.
+
+ghost use Rattle.pcl_library.specs.Answers.{Compares, ComparesAt};
+
+use crate::answer::Answer;
+use crate::arguments::both_seen_at;
+use crate::failure::Failure;
+use pcl_base::Dpi;
+use pcl_command::{compare_jobs, comparison_line};
+use std::alloc::Global;
+
+/// `pclmin_same`: whether two jobs have the same pages, and the line that says what differs first.
+#[unsafe(no_mangle)]
+pub extern "C" fn pcl_library_same(
+    alloc: Global,
+    first: &[u8],
+    second: &[u8],
+    resolution: u32,
+    answer: &mut Answer,
+)
+    ensures { Compares resolution first.now second.now answer.new }
+{
+    *answer = match both_seen_at(alloc, first, second, resolution) {
+        Ok(dpi) => same_answer(alloc, first, second, dpi),
+        Err(failure) => Answer::of_failure(alloc, &failure, 0),
+    };
+}
+
+/// Whether two jobs have the same pages.
+fn same_answer(alloc: Global, first: &[u8], second: &[u8], dpi: Dpi) -> Answer
+    ensures { ComparesAt dpi first.now second.now result }
+{
+    match compare_jobs(alloc, false, first, second, dpi) {
+        Ok(comparison) => {
+            let line = comparison_line(alloc, &comparison);
+            Answer::of_line(line, comparison.is_same(), dpi)
+        }
+        Err(fault) => Answer::of_failure(alloc, &Failure::from(fault), 0),
+    }
+}

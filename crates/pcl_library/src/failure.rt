@@ -1,0 +1,106 @@
+//! Why a call fails.
+
+ghost use Rattle.std.specs.Prelude.{◌≡◌, IfOk};
+ghost use Rattle.pcl_tool.specs.declared.fault.Fault.TheVariants.{Memory};
+ghost use Rattle.pcl_library.specs.declared.failure.Failure.TheVariants.{Run};
+ghost use Rattle.pcl_library.specs.Failures.{failure_of_job, failure_of_jobs, IsSaid, outcome_of};
+
+use pcl_base::{JobFault, Refusal};
+use pcl_command::{CompareFault, compare_fault_line, fault_line};
+use pcl_same::{Job, SameFault};
+use pcl_tool::Fault;
+use std::alloc::{AllocError, Global};
+
+/// An argument that is a number.
+#[derive(Clone, Copy, Debug, PartialEq, Eq)]
+pub enum Argument {
+    /// The resolution: 300, 600 or 0.
+    Resolution,
+    /// The first and the last page: 1 to 256, or 0 and 0.
+    Pages,
+    /// The format of a certificate: 1, 2 or 0.
+    Format,
+}
+
+impl Argument {
+    /// What is said where it has another value.
+    fn line(self) -> &'static [u8] {
+        match self {
+            Argument::Resolution =>
+                b"pclmin: the resolution is 300 or 600, or 0 for the first at which the job is accepted\n",
+            Argument::Pages =>
+                b"pclmin: pages are 1 to 256, the last no earlier than the first, or 0 and 0 for all\n",
+            Argument::Format => b"pclmin: the format of a certificate is 1 or 2, or 0 for none\n",
+        }
+    }
+}
+
+/// Why a call fails.
+#[derive(Clone, Copy, Debug)]
+pub enum Failure {
+    /// An argument has a value that the call doesn't take.
+    Wrong(Argument),
+    /// The call fails as a run of the program does.
+    Run(Fault),
+    /// One of two jobs is refused.
+    OneRefused { which: Job, refusal: Refusal },
+}
+
+impl Failure {
+    /// The number of the failure, as lib/pclmin.h has it.
+    pub fn outcome(&self) -> u32
+        ensures { result ≡ outcome_of self.now }
+    {
+        match self {
+            Failure::Run(Fault::Refused(_)) | Failure::OneRefused { .. } => 1,
+            Failure::Run(Fault::NoSuchPage) => 2,
+            Failure::Wrong(_) => 3,
+            Failure::Run(Fault::TooLong) => 4,
+            Failure::Run(Fault::Memory | Fault::ReadFault | Fault::WriteFault) => 5,
+        }
+    }
+
+    /// What the program says of it, with a line feed; `page` is the last page that was asked for.
+    pub fn line(&self, alloc: Global, page: usize) -> Result<Vec<u8>, AllocError>
+        ensures { IfOk result (λ line. IsSaid self.now page line.items) }
+    {
+        match self {
+            Failure::Wrong(argument) => Vec::from_slice(alloc, argument.line()),
+            Failure::Run(fault) => fault_line(alloc, fault, page),
+            Failure::OneRefused { which, refusal } => {
+                let refused = CompareFault::Refused {
+                    which: *which,
+                    refusal: *refusal,
+                };
+                compare_fault_line(alloc, &refused)
+            }
+        }
+    }
+}
+
+impl From<AllocError> for Failure {
+    ghost from_gives = { λ _ e. e ≡ Run Memory };
+
+    fn from(_e: AllocError) -> Failure {
+        Failure::Run(Fault::Memory)
+    }
+}
+
+impl From<JobFault> for Failure {
+    ghost from_gives = { λ fault e. e ≡ failure_of_job fault };
+
+    fn from(fault: JobFault) -> Failure {
+        Failure::Run(Fault::from(fault))
+    }
+}
+
+impl From<SameFault> for Failure {
+    ghost from_gives = { λ fault e. e ≡ failure_of_jobs fault };
+
+    fn from(fault: SameFault) -> Failure {
+        match fault {
+            SameFault::Refused { which, refusal } => Failure::OneRefused { which, refusal },
+            SameFault::Memory => Failure::Run(Fault::Memory),
+        }
+    }
+}

@@ -1,0 +1,87 @@
+//! Jobs written again.
+
+ghost use Rattle.std.specs.Prelude.{Some, None};
+ghost use Rattle.pcl_library.specs.Answers.{Answers, AnswersAt, HasLeastJob, HasWrittenJob, HasSmallerJob};
+
+use crate::answer::Answer;
+use crate::arguments::{format_numbered, seen_at};
+use crate::failure::Failure;
+use pcl_base::Dpi;
+use pcl_cert::Format;
+use pcl_shrink::shrink;
+use pcl_tool::{Unwatched, least_job, minimize};
+use std::alloc::Global;
+
+/// `pclmin_min`: a least raster job of the job's pages, with a certificate of format 1 or 2, or by 0 with none.
+#[unsafe(no_mangle)]
+pub extern "C" fn pcl_library_min(
+    alloc: Global,
+    job: &[u8],
+    resolution: u32,
+    format: u32,
+    answer: &mut Answer,
+)
+    ensures { Answers resolution job.now (HasWrittenJob job.now format) answer.new }
+{
+    *answer = match seen_at(alloc, job, resolution) {
+        Ok(dpi) => min_answer(alloc, job, format, dpi),
+        Err(failure) => Answer::of_failure(alloc, &failure, 0),
+    };
+}
+
+/// A least raster job, with the certificate that a number asks for.
+fn min_answer(alloc: Global, job: &[u8], format: u32, dpi: Dpi) -> Answer
+    ensures { AnswersAt dpi job.now (HasWrittenJob job.now format dpi) result }
+{
+    match format_numbered(format) {
+        Ok(None) => least_answer(alloc, job, dpi),
+        Ok(Some(format)) => certified_answer(alloc, job, format, dpi),
+        Err(failure) => Answer::of_failure(alloc, &failure, 0),
+    }
+}
+
+/// A least raster job.
+fn least_answer(alloc: Global, job: &[u8], dpi: Dpi) -> Answer
+    ensures { AnswersAt dpi job.now (HasLeastJob job.now None dpi) result }
+{
+    match least_job(alloc, job, dpi, Unwatched) {
+        Ok(least) => Answer::of_bytes(least, dpi),
+        Err(fault) => Answer::of_failure(alloc, &Failure::Run(fault), 0),
+    }
+}
+
+/// A least raster job and its certificate.
+fn certified_answer(alloc: Global, job: &[u8], format: Format, dpi: Dpi) -> Answer
+    ensures { AnswersAt dpi job.now (HasLeastJob job.now (Some format) dpi) result }
+{
+    match minimize(alloc, job, dpi, format) {
+        Ok(output) => Answer::of_output(output, dpi),
+        Err(fault) => Answer::of_failure(alloc, &Failure::Run(fault), 0),
+    }
+}
+
+/// `pclmin_shrink`: the smallest job that is found with the same pages, which asks the printer for the same.
+#[unsafe(no_mangle)]
+pub extern "C" fn pcl_library_shrink(
+    alloc: Global,
+    job: &[u8],
+    resolution: u32,
+    answer: &mut Answer,
+)
+    ensures { Answers resolution job.now (HasSmallerJob job.now) answer.new }
+{
+    *answer = match seen_at(alloc, job, resolution) {
+        Ok(dpi) => shrink_answer(alloc, job, dpi),
+        Err(failure) => Answer::of_failure(alloc, &failure, 0),
+    };
+}
+
+/// The smallest job that is found.
+fn shrink_answer(alloc: Global, job: &[u8], dpi: Dpi) -> Answer
+    ensures { AnswersAt dpi job.now (HasSmallerJob job.now dpi) result }
+{
+    match shrink(alloc, job, dpi) {
+        Ok(shrunk) => Answer::of_bytes(shrunk.job, dpi),
+        Err(fault) => Answer::of_failure(alloc, &Failure::from(fault), 0),
+    }
+}

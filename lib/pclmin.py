@@ -1,0 +1,136 @@
+"""The calls of pclmin for Python, by ctypes: build/libpclmin.so (lib/build.sh shared), or the library that PCLMIN_LIBRARY names.
+
+    import pclmin
+    answer = pclmin.shrink(open("job.pcl", "rb").read())
+    if answer.fault == pclmin.DONE:
+        open("small.pcl", "wb").write(answer.bytes)
+    else:
+        print(answer.line, end="")
+
+A resolution is 300 or 600 dots per inch, or 0 for the first of these at which the job is accepted.
+"""
+import ctypes
+import os
+from typing import NamedTuple
+
+DONE, REFUSED, NO_PAGE, WRONG_ARGUMENT, TOO_LONG, NO_MEMORY = range(6)
+KINDS = (
+    "", "Truncated", "BadSequence", "ValueRange", "UnsupportedCommand", "UnsupportedValue", "FontHeader", "CharacterData",
+    "NoFont", "MacroOpen", "MacroControl", "MacroDepth", "TooManyCommands", "TooManyPages", "NotPcl",
+)
+
+_HERE = os.path.dirname(os.path.abspath(__file__))
+LIBRARY = os.environ.get("PCLMIN_LIBRARY", os.path.join(_HERE, "..", "build", "libpclmin.so"))
+
+
+class Answer(NamedTuple):
+    """What a call answers, as lib/pclmin.h says, copied out of the library's memory."""
+
+    bytes: bytes
+    certificate: bytes
+    line: str
+    place: int
+    pages: int
+    fault: int
+    kind: int
+    job: int
+    resolution: int
+    holds: bool
+
+
+class _Answer(ctypes.Structure):
+    """`pclmin_answer` of lib/pclmin.h."""
+
+    _fields_ = [
+        ("bytes", ctypes.c_void_p),
+        ("length", ctypes.c_size_t),
+        ("certificate", ctypes.c_void_p),
+        ("certificate_length", ctypes.c_size_t),
+        ("line", ctypes.c_char_p),
+        ("place", ctypes.c_size_t),
+        ("pages", ctypes.c_size_t),
+        ("fault", ctypes.c_int),
+        ("kind", ctypes.c_int),
+        ("job", ctypes.c_int),
+        ("resolution", ctypes.c_int),
+        ("holds", ctypes.c_int),
+    ]
+
+
+def _declared(name, jobs, numbers):
+    """A call that takes so many jobs and then so many numbers."""
+    call = getattr(_LIBRARY, name)
+    call.argtypes = [ctypes.c_char_p, ctypes.c_size_t] * jobs + [ctypes.c_uint] * numbers + [ctypes.POINTER(_Answer)]
+    call.restype = ctypes.c_int
+    return call
+
+
+def _asked(call, jobs, numbers):
+    """What a call answers."""
+    arguments = []
+    for job in jobs:
+        arguments += [job, len(job)]
+    answer = _Answer()
+    call(*arguments, *numbers, ctypes.byref(answer))
+    try:
+        return Answer(
+            ctypes.string_at(answer.bytes, answer.length) if answer.length else b"",
+            ctypes.string_at(answer.certificate, answer.certificate_length) if answer.certificate_length else b"",
+            answer.line.decode("latin-1"), answer.place, answer.pages, answer.fault, answer.kind, answer.job,
+            answer.resolution, bool(answer.holds),
+        )
+    finally:
+        _FREE(ctypes.byref(answer))
+
+
+_LIBRARY = ctypes.CDLL(os.path.abspath(LIBRARY))
+_FREE = _LIBRARY.pclmin_free
+_FREE.argtypes, _FREE.restype = [ctypes.POINTER(_Answer)], None
+_PREVIEW = _declared("pclmin_preview", 1, 3)
+_MIN = _declared("pclmin_min", 1, 2)
+_SHRINK = _declared("pclmin_shrink", 1, 1)
+_SAME = _declared("pclmin_same", 2, 1)
+_CHECK = _declared("pclmin_check", 3, 1)
+_PAGE_COUNT = _declared("pclmin_page_count", 1, 1)
+_PAGES = _declared("pclmin_pages", 1, 1)
+_EXPLAIN = _declared("pclmin_explain", 1, 1)
+
+
+def preview(job, resolution=300, first=0, last=0):
+    """Pages first to last, counted from 1, as PBM images, one after the other; all pages by 0 and 0."""
+    return _asked(_PREVIEW, [job], [resolution, first, last])
+
+
+def minimize(job, resolution=300, certificate_format=0):
+    """The job as a least raster job, with a certificate of format 1 or 2, or with none by 0."""
+    return _asked(_MIN, [job], [resolution, certificate_format])
+
+
+def shrink(job, resolution=300):
+    """The smallest job that is found with the same pages, which asks the printer for the same."""
+    return _asked(_SHRINK, [job], [resolution])
+
+
+def same(first, second, resolution=300):
+    """Whether two jobs have the same pages."""
+    return _asked(_SAME, [first, second], [resolution])
+
+
+def check(job, output, certificate, resolution=300):
+    """Whether an output has a job's pages and is the shortest such job text, by a certificate."""
+    return _asked(_CHECK, [job, output, certificate], [resolution])
+
+
+def page_count(job, resolution=300):
+    """How many pages the job has."""
+    return _asked(_PAGE_COUNT, [job], [resolution])
+
+
+def pages(job, resolution=300):
+    """What the pages are, as the command `pages --json` writes it."""
+    return _asked(_PAGES, [job], [resolution])
+
+
+def explain(job, resolution=300):
+    """All that is refused in the job, and what can be done, as text."""
+    return _asked(_EXPLAIN, [job], [resolution])

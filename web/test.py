@@ -1,0 +1,351 @@
+#!/usr/bin/env python3
+"""The page of this folder beside the program, in Chromium without a window: five jobs are opened, the dots on the canvas are those
+of `pclmin pbm`, the sizes and copies those of `pclmin pages`, one job is refused with its place marked, what is saved is what
+`pclmin shrink` writes, and a dropped file is opened too. Where there is no Chromium the server's answers alone are tested, and a
+line says so. Prints what doesn't hold and how much does; status 1 if something doesn't.
+
+    web/test.py [PROGRAM] [--picture FILE]     PROGRAM is crates/pclmin/out/pclmin where none is given; FILE gets a picture of the page
+"""
+import argparse
+import base64
+import hashlib
+import http.client
+import json
+import os
+import shutil
+import subprocess
+import sys
+import tempfile
+import threading
+import time
+
+HERE = os.path.dirname(os.path.abspath(__file__))
+TOP = os.path.dirname(HERE)
+sys.path.insert(0, HERE)
+sys.dont_write_bytecode = True
+import server  # noqa: E402
+
+CHROMIUM = next(filter(None, map(shutil.which, ("chromium", "chromium-browser", "google-chrome"))), None)
+
+JOBS = {
+    "two.pcl": b"\x1bE\x1b&l26a3X\x1b*p0x0Y\x1b*t300R\x1b*r0A\x1b*b1W\x80\x1b*rC\x0c\x1b*p30x40Y\x1b*c900a90b0P\x0c\x1bE",
+    "fine.pcl": b"\x1bE\x1b*t600R\x1b*r0A\x1b*b2W\xaa\x55\x1b*rC\x0c\x1bE",
+    "refused.pcl": b"\x1bE\x1b&l2A\x1b*p300x300Y\x1b*c90a90b0P Hello, printer\r\n\x0c\x1bE",
+}
+REFUSED = "refused.pcl"
+PATIENCE = 60
+
+
+class Held:
+    """How much held, and how much didn't."""
+
+    def __init__(self):
+        self.yes, self.no = 0, 0
+
+    def tell(self, holds, what):
+        """Counts something that holds, or says that it doesn't."""
+        if holds:
+            self.yes += 1
+        else:
+            self.no += 1
+            print(f"doesn't hold: {what}")
+
+
+class Program:
+    """`pclmin` in the folder of the jobs."""
+
+    def __init__(self, program, folder):
+        self.program, self.folder = program, folder
+
+    def run(self, *words):
+        """What it writes, and says on standard error."""
+        done = subprocess.run([self.program, *words], capture_output=True, cwd=self.folder)
+        return done.stdout, done.stderr.decode("latin-1")
+
+
+# ---- the server
+
+def asked(port, path, body, headers=None):
+    """The status and the body of an answer."""
+    connection = http.client.HTTPConnection("127.0.0.1", port, timeout=PATIENCE)
+    connection.request("POST", path, body, headers or {})
+    answer = connection.getresponse()
+    got = answer.status, answer.read()
+    connection.close()
+    return got
+
+
+def test_server(held, port, program, jobs):
+    """What the server answers, beside what the program writes."""
+    for job in jobs:
+        with open(os.path.join(program.folder, job), "rb") as file:
+            content = file.read()
+        for path, words in (("/pages/0", ["pages", "--json"]), ("/preview/0/1/1", ["pbm", "--page", "1"]), ("/shrink/0", ["shrink"]),
+                            ("/explain/0", ["explain"])):
+            status, body = asked(port, path, content)
+            head, made = body.split(b"\n", 1)
+            written, said = program.run(*words, "--dpi", "auto", job)
+            held.tell(status == 200 and made == written, f"{path} of {job} is what the program writes")
+            held.tell(json.loads(head)["line"] == ("" if words[0] == "explain" else said.replace("pclmin: no page\n", "")),
+                      f"{path} of {job} says what the program says")
+    foreign = {"Host": "example.com"}
+    for path, body, headers, wanted in (
+            ("/pages/0", b"", foreign, 403), ("/pages/0", b"", {"Origin": "http://example.com"}, 403), ("/remove/0", b"", {}, 404),
+            ("/preview/0/1", b"", {}, 404), ("/pages/x", b"", {}, 404), ("/pages/0", b"", {"Content-Length": str(server.LIMIT + 1)}, 413)):
+        status, body = asked(port, path, body, headers)
+        held.tell(status == wanted and body.count(b"\n") == 1, f"{path} with {headers} has status {wanted} and one line: {status} {body}")
+    slow = b"\x1bE\x1b*c2400a3300b" + b"0p1p" * 200_000 + b"0P\x1bE"
+    seconds, server.SECONDS = server.SECONDS, 1
+    status, body = asked(port, "/pages/300", slow)
+    server.SECONDS = seconds
+    held.tell(status == 504 and body.count(b"\n") == 1, f"a job that takes long ends in one line: {status} {body[:200]}")
+
+
+# ---- Chromium, by its debugging protocol over a pipe
+
+class Browser:
+    """One page in Chromium without a window."""
+
+    def __init__(self, folder):
+        to_browser, self.out = os.pipe()
+        self.into, from_browser = os.pipe()
+        words = [CHROMIUM, "--headless", "--no-sandbox", "--disable-gpu", "--remote-debugging-pipe", "--disable-dev-shm-usage",
+                 "--user-data-dir=" + os.path.join(folder, "profile"), "--window-size=1280,800", "about:blank"]
+
+        def take_pipes():
+            # The protocol is spoken on the descriptors 3 and 4.
+            high = [os.dup(descriptor) for descriptor in (to_browser, from_browser)]
+            high = [os.dup2(descriptor, 100 + index) for index, descriptor in enumerate(high)]
+            os.dup2(high[0], 3)
+            os.dup2(high[1], 4)
+
+        self.process = subprocess.Popen(words, preexec_fn=take_pipes, close_fds=False, stdout=subprocess.DEVNULL,
+                                        stderr=subprocess.DEVNULL)
+        os.close(to_browser)
+        os.close(from_browser)
+        self.number, self.session, self.unread = 0, None, b""
+        self.faults = []
+        target = self.send("Target.createTarget", url="about:blank")["targetId"]
+        self.session = self.send("Target.attachToTarget", targetId=target, flatten=True)["sessionId"]
+        for domain in ("Page", "Runtime", "DOM", "Log"):
+            self.send(domain + ".enable")
+
+    def message(self):
+        """The next message of the browser."""
+        while b"\0" not in self.unread:
+            read = os.read(self.into, 1 << 20)
+            if not read:
+                sys.exit("Chromium has ended")
+            self.unread += read
+        first, self.unread = self.unread.split(b"\0", 1)
+        return json.loads(first)
+
+    def send(self, method, **parameters):
+        """What the browser answers to a command."""
+        self.number += 1
+        command = {"id": self.number, "method": method, "params": parameters}
+        if self.session:
+            command["sessionId"] = self.session
+        os.write(self.out, json.dumps(command).encode() + b"\0")
+        while True:
+            message = self.message()
+            if message.get("id") == self.number:
+                if "error" in message:
+                    sys.exit(f"{method}: {message['error']}")
+                return message["result"]
+            self.note(message)
+
+    def note(self, message):
+        """Keeps what the browser says of a fault in the page."""
+        entry = message.get("params", {}).get("entry", {})
+        if message.get("method") == "Runtime.exceptionThrown" or entry.get("level") == "error":
+            self.faults.append(json.dumps(message["params"]))
+
+    def value(self, expression):
+        """The value of an expression in the page, which may be a promise."""
+        got = self.send("Runtime.evaluate", expression=expression, awaitPromise=True, returnByValue=True)
+        if "exceptionDetails" in got:
+            sys.exit(f"{expression}: {got['exceptionDetails']}")
+        return got["result"].get("value")
+
+    def wait(self, expression):
+        """Waits until an expression is true; whether it was in time."""
+        end = time.monotonic() + PATIENCE
+        while time.monotonic() < end:
+            if self.value(f"Boolean({expression})"):
+                return True
+            time.sleep(0.05)
+        return False
+
+    def choose(self, path):
+        """Gives a file to the page's input."""
+        root = self.send("DOM.getDocument")["root"]["nodeId"]
+        node = self.send("DOM.querySelector", nodeId=root, selector="#file")["nodeId"]
+        self.send("DOM.setFileInputFiles", nodeId=node, files=[path])
+
+    def close(self):
+        """Ends the browser that was started here."""
+        self.send("Browser.close")
+        self.process.wait(PATIENCE)
+
+
+# The size of the canvas and its dots, as the header and the rows of a PBM image in P4.
+CANVAS = """(() => {
+  const canvas = document.getElementById("page");
+  const pixels = canvas.getContext("2d").getImageData(0, 0, canvas.width, canvas.height).data;
+  const rowBytes = (canvas.width + 7) >> 3;
+  const rows = new Uint8Array(rowBytes * canvas.height);
+  for (let y = 0; y < canvas.height; y++) for (let x = 0; x < canvas.width; x++) {
+    const pixel = 4 * (y * canvas.width + x);
+    if (pixels[pixel] === 0) rows[y * rowBytes + (x >> 3)] |= 128 >> (x & 7);
+    else if (pixels[pixel] !== 255) throw new Error("a grey dot");
+  }
+  const header = new TextEncoder().encode(`P4\\n${canvas.width} ${canvas.height}\\n`);
+  return crypto.subtle.digest("SHA-256", new Uint8Array([...header, ...rows]))
+    .then(digest => [...new Uint8Array(digest)].map(byte => byte.toString(16).padStart(2, "0")).join(""));
+})()"""
+
+
+def open_job(held, browser, program, job):
+    """Opens a job by the page's input; whether the page shows it."""
+    browser.value("element('said').textContent = ''")
+    browser.choose(os.path.join(program.folder, job))
+    shown = browser.wait(f"element('said').textContent.startsWith({json.dumps(job + ':')})")
+    held.tell(shown, f"{job} is opened: {browser.value('element(`said`).textContent')}")
+    return shown
+
+
+def test_pages(held, browser, program, job):
+    """The pages of a job on the canvas and in the list."""
+    listed, _ = program.run("pages", "--json", "--dpi", "auto", job)
+    pages = json.loads(listed)["pages"]
+    if not open_job(held, browser, program, job):
+        return
+    names = browser.value("[...document.querySelectorAll('nav button span')].map(span => span.textContent)")
+    wanted = [f"{page['page']}: {page['size']}" + ("" if page["copies"] == 1 else f", {page['copies']} copies") for page in pages]
+    held.tell(names == wanted, f"{job} lists {wanted}: {names}")
+    for number in range(1, len(pages) + 1):
+        browser.value(f"document.querySelectorAll('nav button')[{number - 1}].click()")
+        held.tell(browser.wait(f"element('page').dataset.page === '{number}'"), f"page {number} of {job} is shown")
+        image, _ = program.run("pbm", "--page", str(number), "--dpi", "auto", job)
+        held.tell(browser.value(CANVAS) == hashlib.sha256(image).hexdigest(), f"page {number} of {job} has the program's dots")
+    held.tell(browser.wait("[...document.querySelectorAll('nav canvas')].every(canvas => canvas.width > 150 && canvas.height > 150)"),
+              f"{job} has small pictures")
+
+
+def test_saved(held, browser, program, folder, job):
+    """What is saved of a job that is shrunk."""
+    open_job(held, browser, program, job)
+    browser.wait("!element('shrink').hidden")
+    browser.value("element('shrink').click()")
+    held.tell(browser.wait("!element('save').hidden"), f"{job} is shrunk")
+    browser.send("Browser.setDownloadBehavior", behavior="allow", downloadPath=folder)
+    browser.value("element('save').click()")
+    saved = os.path.join(folder, os.path.splitext(job)[0] + ".small.pcl")
+    end = time.monotonic() + PATIENCE
+    while not os.path.exists(saved) and time.monotonic() < end:
+        time.sleep(0.05)
+    wanted, _ = program.run("shrink", "--dpi", "auto", job)
+    content = b""
+    if os.path.exists(saved):
+        with open(saved, "rb") as file:
+            content = file.read()
+    held.tell(content == wanted, f"what is saved of {job} is what the program writes")
+
+
+def test_refused(held, browser, program, job):
+    """The line, the mark and the advice of a job that is refused."""
+    _, said = program.run("pbm", "--dpi", "auto", job)
+    place = int(said.split(" at ")[1].split()[0])
+    with open(os.path.join(program.folder, job), "rb") as file:
+        byte = file.read()[place]
+    open_job(held, browser, program, job)
+    held.tell(browser.wait("!element('refusal').hidden && element('advice').textContent !== ''"), f"{job} is refused")
+    line = browser.value("element('line').textContent")
+    held.tell("pclmin: " + line + "\n" == said, f"{job} is refused as the program says: {line}, {said}")
+    marks = browser.value("[...document.querySelectorAll('#bytes mark')].map(mark => [Number(mark.dataset.place), mark.textContent])")
+    held.tell([mark[0] for mark in marks] == [place, place] and marks[0][1] == f"{byte:02x}", f"{job} has its place marked: {marks}")
+    explained, _ = program.run("explain", "--dpi", "auto", job)
+    advice = browser.value("[...document.querySelectorAll('#advice span')].map(span => span.textContent).join('\\n') + '\\n'")
+    held.tell(advice.encode("latin-1") == explained, f"{job} is explained as the program does: {advice}")
+
+
+def test_drop(held, browser, job):
+    """A file that is dropped on the page."""
+    content = json.dumps(base64.b64encode(JOBS[job]).decode())
+    browser.value(f"""(() => {{
+      const dropped = new DataTransfer();
+      dropped.items.add(new File([Uint8Array.from(atob({content}), letter => letter.charCodeAt(0))], "dropped.pcl"));
+      document.body.dispatchEvent(new DragEvent("drop", {{ dataTransfer: dropped, bubbles: true, cancelable: true }}));
+    }})()""")
+    held.tell(browser.wait("element('said').textContent.startsWith('dropped.pcl:')"), "a dropped job is opened")
+
+
+def test_zoom(held, browser):
+    """The keys and buttons that change the size of the page."""
+    held.tell(browser.wait("element('page').dataset.page === '1'"), "the page is shown")
+    for what, wanted in (("document.body.dispatchEvent(new KeyboardEvent('keydown', { key: '1', bubbles: true }))", "100 %"),
+                         ("element('larger').click()", "200 %"), ("element('smaller').click()", "100 %")):
+        browser.value(what)
+        zoom = browser.value("element('zoom').textContent")
+        held.tell(zoom == wanted, f"{what} leads to {wanted}: {zoom}")
+    browser.value("element('fit').click()")
+    seen = browser.value("""(() => {
+      const small = element("small").getBoundingClientRect();
+      return small.height > 300 && small.height <= element("view").clientHeight && element("page").hidden;
+    })()""")
+    held.tell(seen, "the whole page is seen")
+
+
+def test_page(held, address, program, folder, jobs, picture):
+    """The page in Chromium."""
+    browser = Browser(folder)
+    browser.send("Page.navigate", url=address)
+    browser.wait("document.readyState === 'complete' && typeof openJob === 'function'")
+    for job in jobs:
+        if job == REFUSED:
+            test_refused(held, browser, program, job)
+        else:
+            test_pages(held, browser, program, job)
+    test_drop(held, browser, "two.pcl")
+    test_saved(held, browser, program, folder, "picture.pcl")
+    test_zoom(held, browser)
+    held.tell(not browser.faults, f"nothing fails in the page: {browser.faults}")
+    if picture:
+        taken = browser.send("Page.captureScreenshot", format="png")["data"]
+        with open(picture, "wb") as file:
+            file.write(base64.b64decode(taken))
+    browser.close()
+
+
+def main():
+    parser = argparse.ArgumentParser(description="Tests the page that shows jobs.")
+    parser.add_argument("program", nargs="?", default=os.path.join(TOP, "crates/pclmin/out/pclmin"))
+    parser.add_argument("--picture", help="a file for a picture of the page")
+    words = parser.parse_args()
+    if not os.path.exists(words.program):
+        sys.exit(f"there is no {words.program}: run make build first")
+    held = Held()
+    with tempfile.TemporaryDirectory() as folder:
+        for name, content in JOBS.items():
+            with open(os.path.join(folder, name), "wb") as file:
+                file.write(content)
+        for name in ("dot.pcl", "picture.pcl"):
+            shutil.copy(os.path.join(TOP, "examples", name), folder)
+        jobs = ["dot.pcl", *JOBS, "picture.pcl"]
+        program = Program(os.path.abspath(words.program), folder)
+        serving = server.make_server(0)
+        threading.Thread(target=serving.serve_forever, daemon=True).start()
+        port = serving.server_address[1]
+        test_server(held, port, program, jobs)
+        if CHROMIUM:
+            test_page(held, f"http://127.0.0.1:{port}/", program, folder, jobs, words.picture)
+        else:
+            print("there is no Chromium: the page itself isn't tested")
+        serving.shutdown()
+    print(f"{held.yes} comparisons hold, {held.no} don't")
+    sys.exit(1 if held.no else 0)
+
+
+if __name__ == "__main__":
+    main()
