@@ -4,7 +4,7 @@
 PREFIX ?= /usr/local
 PROGRAM := crates/pclmin/out/pclmin
 
-.PHONY: demo build test test-memory test-process test-home test-cups oracle examples bench bench-certificates install install-cups deb clean
+.PHONY: demo build test test-memory test-process test-home test-cups oracle examples bench bench-certificates bench-clients install install-cups deb test-cupsd clean lib install-lib test-library web serve test-web
 
 # Previews the sample job into build/demo.pbm by the kit's quick run, a minute or two after a fresh clone: nothing is proved.
 demo:
@@ -49,17 +49,22 @@ test-memory:
 test-process:
 	process/run.py $(PROGRAM)
 
-# The manual page by its linter, the completions in each shell, what the console blocks of README print, and a second checker
+# The manual pages by their linter, the completions in each shell, what the console blocks of README print, and a second checker
 # beside `check`. Needs Python 3, mandoc, zsh, fish, and the program that `make build` left.
 test-home:
-	mandoc -T lint -W warning man/pclmin.1
+	mandoc -T lint -W warning man/pclmin.1 man/pclmin-cups.8
 	home/completions.sh
-	home/blocks.py $(PROGRAM) README.md
+	home/blocks.py $(PROGRAM) README.md docs/*.md examples/README.md
 	home/sceptic.py $(PROGRAM)
 
 # Runs the CUPS backend with a device behind it that only keeps what comes. Needs the program that `make build` left.
 test-cups:
 	cups/try.sh $(PROGRAM)
+
+# Prints through a CUPS server of its own on loopback, with and without the backend, by real drivers, and compares what the
+# printer gets. It takes a minute or two. Needs root, the packages that cups/server.py names, and the program that `make build` left.
+test-cupsd:
+	cups/server.py $(PROGRAM)
 
 # A short run of the programs of oracle/, which share no line with this one, beside it. Needs rustc, Python 3, and the
 # program that `make build` left.
@@ -81,6 +86,11 @@ bench:
 bench-certificates:
 	bench/certificates.sh
 
+# Has some 230 jobs of real clients written again by `min` and `shrink`, and checks each. Needs Python 3, the packages that the
+# head of the script lists, and the program that `make build` left.
+bench-clients:
+	bench/clients.py $(PROGRAM)
+
 # Copies the program that `make build` left to $(PREFIX)/bin, its manual page and its completions to $(PREFIX)/share.
 install:
 	@test -x $(PROGRAM) || { echo "there is no $(PROGRAM): run make build first" >&2; exit 1; }
@@ -90,13 +100,51 @@ install:
 	install -D -m 644 completions/_pclmin $(DESTDIR)$(PREFIX)/share/zsh/site-functions/_pclmin
 	install -D -m 644 completions/pclmin.fish $(DESTDIR)$(PREFIX)/share/fish/vendor_completions.d/pclmin.fish
 
-# Puts the CUPS backend where CUPS looks for it (docs/CUPS.md).
+# Proves the library, and makes build/libpclmin.a and build/pclmin.h of it (docs/LIBRARY.md). Needs a C compiler and binutils.
+lib:
+	lib/build.sh
+
+# Copies the archive, the header and what pkg-config reads to $(PREFIX).
+install-lib:
+	@test -f build/libpclmin.a || { echo "there is no build/libpclmin.a: run make lib first" >&2; exit 1; }
+	install -D -m 644 build/libpclmin.a $(DESTDIR)$(PREFIX)/lib/libpclmin.a
+	install -D -m 644 build/pclmin.h $(DESTDIR)$(PREFIX)/include/pclmin.h
+	install -d $(DESTDIR)$(PREFIX)/lib/pkgconfig
+	sed 's|@PREFIX@|$(PREFIX)|' lib/pclmin.pc.in > $(DESTDIR)$(PREFIX)/lib/pkgconfig/pclmin.pc
+	chmod 644 $(DESTDIR)$(PREFIX)/lib/pkgconfig/pclmin.pc
+
+# Calls the library from C, Rust and Python, and compares what they get with what the program writes (lib/tests/run.py). It takes
+# some minutes. Needs a C compiler, Python 3, the program that `make build` left, and takes valgrind and rustc where they are.
+test-library:
+	lib/build.sh shared
+	lib/tests/run.py $(PROGRAM)
+
+# Makes build/libpclmin.so, by which the page of web/ is served.
+web:
+	lib/build.sh shared
+
+# Serves the page that shows jobs, to this machine alone. Needs Python 3, and the library that `make web` left.
+serve:
+	web/server.py
+
+# Opens jobs in that page and compares what it shows with what the program writes. Needs Python 3, the program that `make build`
+# left, the library that `make web` left, and Chromium: where that isn't there, the server alone is tested.
+test-web:
+	web/test.py $(PROGRAM)
+
+# Puts the CUPS backend where CUPS looks for it (docs/CUPS.md), and its manual page to $(PREFIX)/share. CUPSMODE=700 is for devices
+# whose own backend only root may run.
 CUPSDIR ?= /usr/lib/cups
+CUPSMODE ?= 755
 
 install-cups:
 	install -d $(DESTDIR)$(CUPSDIR)/backend
 	sed 's|/usr/local/bin/pclmin|$(PREFIX)/bin/pclmin|' cups/backend/pclmin > $(DESTDIR)$(CUPSDIR)/backend/pclmin
-	chmod 755 $(DESTDIR)$(CUPSDIR)/backend/pclmin
+	chmod $(CUPSMODE) $(DESTDIR)$(CUPSDIR)/backend/pclmin
+	install -d $(DESTDIR)$(PREFIX)/share/man/man8
+	sed 's|/usr/local/bin/pclmin|$(PREFIX)/bin/pclmin|; s|/usr/lib/cups/backend|$(CUPSDIR)/backend|' man/pclmin-cups.8 \
+		> $(DESTDIR)$(PREFIX)/share/man/man8/pclmin-cups.8
+	chmod 644 $(DESTDIR)$(PREFIX)/share/man/man8/pclmin-cups.8
 
 # Makes a Debian package of the same under build/. Needs dpkg-deb; `home/deb.sh try` also installs, runs and purges it, as root.
 deb:

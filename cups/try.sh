@@ -54,6 +54,12 @@ holds "no program: the job goes as it came" 'PCLMIN=/none send $job auto; cmp -s
 holds "no such resolution stops the queue" 'send $job 200; test $? -eq 4'
 holds "no such device stops the queue" \
     'DEVICE_URI=pclmin:/auto/none://there cups/backend/pclmin 1 me title 1 "" $job 2> /dev/null; test $? -eq 4'
+cp "$folder/backend/keep" "$folder/backend/locked"
+chmod 644 "$folder/backend/locked"
+holds "a device that it may not run stops the queue, and says what to do" \
+    'DEVICE_URI=pclmin:/auto/locked://there cups/backend/pclmin 1 me title 1 "" $job 2> "$folder/said"; test $? -eq 4 && grep -q "mode 700" "$folder/said"'
+holds "pages of a raw job are told" 'CONTENT_TYPE=application/vnd.cups-raw send $job auto && grep -qx "PAGE: 1 1" "$folder/said"'
+holds "those of others are their filters'" 'send $job auto && ! grep -q "^PAGE:" "$folder/said"'
 holds "TERM reaches the device" \
     '(WAIT=100 DEVICE_URI=pclmin:/auto/keep://there exec cups/backend/pclmin 1 me title 1 "" "$folder/text" 2> /dev/null) & backend=$!; sleep 1; kill -TERM $backend; wait $backend; test $? -eq 9 && grep -qx stopped "$folder/called"'
 holds "nothing is left" 'test -z "$(ls "$folder/tmp")"'

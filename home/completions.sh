@@ -23,12 +23,16 @@ in_fish() {
 
 offers bash "$(in_bash pclmin m)" "min"
 offers bash "$(in_bash pclmin pages --o)" "--output"
-offers bash "$(in_bash pclmin min --dpi "")" "300 600"
+offers bash "$(in_bash pclmin batch --)" "--dpi --help --json --min --output"
+offers bash "$(in_bash pclmin check --page examples/p)" "examples/picture.pcl"
+offers bash "$(in_bash pclmin min --dpi "")" "300 600 auto"
 offers bash "$(in_bash pclmin min --f)" "--format"
+offers bash "$(in_bash pclmin shrink --r)" "--report"
 offers bash "$(in_bash pclmin pbm --)" "--dpi --help --output --page"
 offers bash "$(in_bash pclmin same examples/p)" "examples/picture.pcl"
 offers fish "$(in_fish pclmin p)" "pages pbm"
-offers fish "$(in_fish pclmin min --dpi "")" "300 600"
+offers fish "$(in_fish pclmin pages --t)" "--tsv"
+offers fish "$(in_fish pclmin min --dpi "")" "300 600 auto"
 offers fish "$(in_fish pclmin min --f)" "--format"
 zsh -n completions/_pclmin
 exit "$failed"

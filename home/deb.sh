@@ -1,6 +1,6 @@
 #!/usr/bin/env bash
-# Makes build/pclmin_VERSION_ARCHITECTURE.deb of what `make install` installs. With `try` it is also installed, run and purged,
-# which has to be done as root. Needs dpkg-deb, and the program that `make build` left.
+# Makes build/pclmin_VERSION_ARCHITECTURE.deb of what `make install install-cups` installs. With `try` it is also installed, run
+# and purged, which has to be done as root. Needs dpkg-deb, and the program that `make build` left.
 set -euo pipefail
 cd "$(dirname "$0")/.."
 program=crates/pclmin/out/pclmin
@@ -11,8 +11,8 @@ architecture=$(dpkg --print-architecture)
 root=build/deb
 package=build/pclmin_${version}_$architecture.deb
 rm -rf "$root"
-make --no-print-directory install DESTDIR="$PWD/$root" PREFIX=/usr > /dev/null
-gzip -9n "$root/usr/share/man/man1/pclmin.1"
+make --no-print-directory install install-cups DESTDIR="$PWD/$root" PREFIX=/usr > /dev/null
+gzip -9n "$root/usr/share/man/man1/pclmin.1" "$root/usr/share/man/man8/pclmin-cups.8"
 mkdir "$root/DEBIAN"
 cat > "$root/DEBIAN/control" <<CONTROL
 Package: pclmin
@@ -20,12 +20,13 @@ Version: $version
 Architecture: $architecture
 Maintainer: Yulmado maintainers <maintainers@users.noreply.yulmado.example>
 Depends: libc6
+Suggests: cups
 Section: text
 Priority: optional
 Description: proved print filter for PCL 5
  Writes print jobs in PCL 5 again as the smallest raster job of a stated form,
  with a certificate that nothing smaller exists; previews pages; checks
- certificates; compares jobs.
+ certificates; compares jobs. A CUPS backend sends jobs as smaller ones.
 CONTROL
 dpkg-deb --root-owner-group --build "$root" "$package" > /dev/null
 echo "$package"
@@ -33,9 +34,15 @@ echo "$package"
 if [ "${1:-}" = try ]; then
     dpkg --install "$package" > /dev/null
     [ "$(pclmin --version)" = "pclmin $version" ]
-    pclmin pbm --page 1 < examples/dot.pcl | head -c 2 | grep -q P4
+    pclmin pbm --page 1 -o build/dot.pbm examples/dot.pcl
+    [ "$(head -c 2 build/dot.pbm)" = P4 ]
     man -w pclmin > /dev/null
+    man -w pclmin-cups > /dev/null
+    /usr/lib/cups/backend/pclmin | grep -q '^network pclmin '
+    grep -q '^program=.*/usr/bin/pclmin' /usr/lib/cups/backend/pclmin
     dpkg --purge pclmin > /dev/null
-    if [ -e /usr/bin/pclmin ]; then echo "/usr/bin/pclmin is still there" >&2; exit 1; fi
+    for left in /usr/bin/pclmin /usr/lib/cups/backend/pclmin; do
+        if [ -e "$left" ]; then echo "$left is still there" >&2; exit 1; fi
+    done
     echo "installed, run and purged"
 fi

@@ -1,0 +1,245 @@
+#!/usr/bin/env python3
+"""Prints through a CUPS server of its own, with and without the backend, and compares what the printer gets.
+
+    cups/server.py PROGRAM          as root; PROGRAM is a built pclmin
+
+cupsd runs on loopback, out of a temporary folder: its own settings, spool and queues, and the program and the backend as
+`make install install-cups` puts them there. Where a printer would be, a listener keeps what comes. Each driver has two queues,
+one with the backend and one without. Each document goes through both, once plain and once two-sided in two copies.
+
+A job holds where, at the resolution at which the job without the backend is accepted, the printer gets what `shrink` writes of
+it, no longer than it was and the same by `pclmin same --asked`; and where no resolution is, where it gets it byte for byte. Prints of
+each job the queue, the document, the kind, the bytes without the backend and with it, and how they compare; then the sums by
+driver, and how many hold; status 1 if one doesn't.
+
+Needs Debian's packages cups, cups-ppdc, cups-filters, ghostscript, foomatic-db-compressed-ppds, printer-driver-gutenprint and
+printer-driver-hpijs.
+"""
+import os
+import socket
+import subprocess
+import sys
+import tempfile
+import threading
+import time
+
+HERE = os.path.dirname(os.path.abspath(__file__))
+# How long all jobs may take, in seconds.
+PATIENCE = 900
+FOOMATIC = "foomatic-db-compressed-ppds:0/ppd/foomatic-ppd/"
+# A queue's name, its driver as `lpadmin -m` takes it (None: RASTERTOHP), options of each of its jobs, and whether all of them
+# have to be accepted.
+DRIVERS = [
+    ("rastertohp-300", None, ["Resolution=300dpi"], True),
+    ("rastertohp-600", None, ["Resolution=600dpi"], True),
+    ("gutenprint", "gutenprint.5.3://hp-lj_4_plus/expert", [], True),
+    ("hpijs", "drv:///hpijs.drv/hp-laserjet_4050_series-hpijs-pcl3.ppd", [], True),
+    ("ljet2p", FOOMATIC + "HP-LaserJet_2P-ljet2p.ppd", [], True),
+    ("ljet4d", FOOMATIC + "Generic-PCL_5e_Printer-ljet4d.ppd", [], False),
+]
+# A driver of CUPS's rastertohp, as ppdc takes it.
+RASTERTOHP = """
+#include <font.defs>
+#include <media.defs>
+#include <raster.defs>
+#include <hp.h>
+DriverType hp
+Manufacturer "HP"
+ModelName "LaserJet"
+Version "1"
+ModelNumber $HP_LASERJET
+PCFileName "laserjet.ppd"
+Font *
+ColorDevice No
+HWMargins 18 12 18 12
+*MediaSize A4
+MediaSize Letter
+*ColorModel Gray/Grayscale w chunky 0
+*Resolution k 1 0 0 0 "300dpi/300 DPI"
+Resolution k 1 0 0 0 "600dpi/600 DPI"
+Duplex normal
+"""
+KINDS = [("plain", []), ("two-sided, 2 copies", ["-n", "2", "-o", "sides=two-sided-long-edge"])]
+
+# ---- the documents, in PostScript
+
+PROLOGUE = """%!PS
+<< /PageSize [595 842] >> setpagedevice
+/words { 36 string cvs dup show pop ( prints its line of the letter and goes on to the next) show } def
+/text { /Times-Roman findfont 11 scalefont setfont 0 1 3 -1 roll 1 sub { 60 780 2 index 14 mul sub moveto 17 mul words } for } def
+/form { 0 1 19 { 30 mul 120 add dup 60 exch moveto 475 0 rlineto 62 exch 9 add moveto
+  /Helvetica findfont 9 scalefont setfont (Amount, date, name) show } for
+  60 165 535 { dup 120 moveto 690 lineto } for 0.8 setlinewidth stroke } def
+/picture { gsave 60 220 translate 240 240 scale 64 64 8 [64 0 0 64 0 0]
+  { 64 string 0 1 63 { 2 copy dup row mul 4 idiv 255 and put pop } for /row row 1 add def } /row 0 def image grestore } def
+"""
+DOCUMENTS = [
+    ("text", "50 text showpage"),
+    ("form", "form showpage"),
+    ("picture", "picture showpage"),
+    ("mixed", "20 text picture 300 300 200 1 rectfill showpage"),
+    ("pages", "50 text showpage form showpage 10 text picture showpage"),
+]
+
+
+def make_documents(folder):
+    """Writes the documents as PDF, and gives the names of the files by document."""
+    files = {}
+    for name, drawing in DOCUMENTS:
+        source, files[name] = f"{folder}/{name}.ps", f"{folder}/{name}.pdf"
+        with open(source, "w") as out:
+            out.write(PROLOGUE + drawing + "\n")
+        run("ps2pdf", source, files[name])
+    return files
+
+
+# ---- the printer and the server
+
+class Printer:
+    """Listens on a port of loopback, and keeps what each connection sends, in their order."""
+
+    def __init__(self):
+        self.jobs = []
+        self.listener = socket.create_server(("127.0.0.1", 0), backlog=64)
+        self.uri = f"socket://127.0.0.1:{self.listener.getsockname()[1]}/?snmp=false&waiteof=false"
+        threading.Thread(target=self.listen, daemon=True).start()
+
+    def listen(self):
+        while True:
+            connection = self.listener.accept()[0]
+            with connection, connection.makefile("rb") as came:
+                self.jobs.append(came.read())
+
+
+def run(*command):
+    """Runs a command; where it fails, says what it said and ends."""
+    done = subprocess.run(command, stdin=subprocess.DEVNULL, stdout=subprocess.PIPE, stderr=subprocess.STDOUT, text=True)
+    if done.returncode != 0:
+        sys.exit(f"{' '.join(command)}: status {done.returncode}\n{done.stdout}")
+    return done.stdout
+
+
+def write_settings(folder, port):
+    """Lays out the server's folder, with the installed program and backend."""
+    for name in ["bin/backend", "spool/tmp", "cache", "state", "log"]:
+        os.makedirs(f"{folder}/{name}")
+    for name in ["filter", "daemon", "driver"]:
+        os.symlink(f"/usr/lib/cups/{name}", f"{folder}/bin/{name}")
+    run("install", "-m", "755", "/usr/lib/cups/backend/socket", f"{folder}/bin/backend/socket")
+    run("chmod", "1777", f"{folder}/spool/tmp")
+    run("chown", "-R", "root:lp", f"{folder}/spool", f"{folder}/cache", f"{folder}/state", f"{folder}/log")
+    run("chmod", "g+rwx", f"{folder}/cache", f"{folder}/spool")
+    with open(f"{folder}/cups-files.conf", "w") as out:
+        out.write(f"ServerRoot {folder}\nServerBin {folder}/bin\nDataDir /usr/share/cups\nRequestRoot {folder}/spool\n"
+                  f"TempDir {folder}/spool/tmp\nCacheDir {folder}/cache\nStateDir {folder}/state\nUser lp\nGroup lp\n"
+                  f"SystemGroup root\nAccessLog {folder}/log/access\nErrorLog {folder}/log/error\nPageLog {folder}/log/page\n")
+    with open(f"{folder}/cupsd.conf", "w") as out:
+        out.write(f"Listen 127.0.0.1:{port}\nLogLevel debug\nMaxLogSize 0\nBrowsing No\nWebInterface No\nDefaultAuthType None\n"
+                  "MaxJobs 0\n<Location />\nAllow 127.0.0.1\n</Location>\n<Location /admin>\nAllow 127.0.0.1\n</Location>\n"
+                  "<Policy default>\n<Limit All>\nOrder deny,allow\n</Limit>\n</Policy>\n")
+    with open(f"{folder}/laserjet.drv", "w") as out:
+        out.write(RASTERTOHP)
+    run("ppdc", "-d", folder, f"{folder}/laserjet.drv")
+
+
+def start_server(folder, port):
+    server = subprocess.Popen(["cupsd", "-f", "-c", f"{folder}/cupsd.conf", "-s", f"{folder}/cups-files.conf"])
+    for _ in range(100):
+        if subprocess.run(["lpstat", "-h", f"127.0.0.1:{port}", "-r"], stdout=subprocess.PIPE).stdout.strip().endswith(b"is running"):
+            return server
+        time.sleep(0.1)
+    server.terminate()
+    sys.exit("cupsd doesn't answer")
+
+
+def free_port():
+    with socket.create_server(("127.0.0.1", 0)) as taken:
+        return taken.getsockname()[1]
+
+
+# ---- printing and comparing
+
+def add_queue(at, folder, name, driver, device):
+    source = ["-P", f"{folder}/laserjet.ppd"] if driver is None else ["-m", driver]
+    run("lpadmin", "-h", at, "-p", name, "-E", "-v", device, *source, "-o", "printer-error-policy=abort-job")
+
+
+def print_all(at, queue, options, files):
+    """Sends each document of each kind, in one order for every queue."""
+    chosen = [word for option in options for word in ["-o", option]]
+    for name, _ in DOCUMENTS:
+        for _, asked in KINDS:
+            run("lp", "-h", at, "-d", queue, "-t", name, "-o", "PageSize=A4", *chosen, *asked, files[name])
+
+
+def judge(program, folder, without, came):
+    """What became of a job: the resolution and `same`, or `unchanged`, or what is wrong; and whether it holds."""
+    plain, sent, smaller = f"{folder}/without.pcl", f"{folder}/came.pcl", f"{folder}/smaller.pcl"
+    for name, content in [(plain, without), (sent, came)]:
+        with open(name, "wb") as out:
+            out.write(content)
+    for resolution in ["300", "600"]:
+        if subprocess.run([program, "shrink", "--dpi", resolution, "-o", smaller, plain], stderr=subprocess.DEVNULL).returncode != 0:
+            continue
+        with open(smaller, "rb") as wanted:
+            if came != wanted.read() or len(came) > len(without):
+                return f"not what shrink writes at {resolution}", False
+        said = subprocess.run([program, "same", "--asked", "--dpi", resolution, plain, sent], stdout=subprocess.PIPE, text=True)
+        return f"{said.stdout.strip()} at {resolution}", said.returncode == 0
+    return ("refused, unchanged", True) if came == without else ("refused, and changed", False)
+
+
+def compare(program, folder, printers):
+    """Prints the tables, and gives how many jobs hold and how many there are."""
+    held, sums = 0, []
+    for name, _, _, accepted in DRIVERS:
+        before = after = shrunk = 0
+        kinds = [(document, kind) for document, _ in DOCUMENTS for kind, _ in KINDS]
+        without, came = printers[name]
+        for (document, kind), one, other in zip(kinds, without.jobs, came.jobs):
+            said, holds = judge(program, folder, one, other)
+            holds = holds and (said.startswith("same") or not accepted)
+            print(f"{name}\t{document}\t{kind}\t{len(one)}\t{len(other)}\t{said}{'' if holds else ': DOES NOT HOLD'}", flush=True)
+            held, shrunk = held + holds, shrunk + (holds and said.startswith("same"))
+            before, after = before + len(one), after + len(other)
+        if len(without.jobs) != len(kinds) or len(came.jobs) != len(kinds):
+            print(f"{name}\t{len(without.jobs)} and {len(came.jobs)} of {len(kinds)} jobs came: DOES NOT HOLD")
+        sums.append(f"{name}\t{len(kinds)} jobs\t{shrunk} smaller\t{before}\t{after}")
+    print("\n".join(["", *sums]))
+    return held, len(DRIVERS) * len(DOCUMENTS) * len(KINDS)
+
+
+def main(program):
+    with tempfile.TemporaryDirectory() as folder:
+        os.chmod(folder, 0o755)
+        port = free_port()
+        at = f"127.0.0.1:{port}"
+        write_settings(folder, port)
+        run("make", "-s", "-C", os.path.dirname(HERE), "install", "install-cups", f"PROGRAM={program}", f"PREFIX={folder}/usr",
+            f"CUPSDIR={folder}/bin")
+        files = make_documents(folder)
+        printers = {name: (Printer(), Printer()) for name, _, _, _ in DRIVERS}
+        server = start_server(folder, port)
+        try:
+            for name, driver, options, _ in DRIVERS:
+                without, came = printers[name]
+                add_queue(at, folder, name, driver, without.uri)
+                add_queue(at, folder, name + "-small", driver, "pclmin:/auto/" + came.uri)
+                print_all(at, name, options, files)
+                print_all(at, name + "-small", options, files)
+            wanted = len(DOCUMENTS) * len(KINDS)
+            end = time.monotonic() + PATIENCE
+            while time.monotonic() < end and any(len(one.jobs) < wanted for pair in printers.values() for one in pair):
+                time.sleep(0.5)
+        finally:
+            server.terminate()
+            server.wait()
+        held, jobs = compare(program, folder, printers)
+    print(f"{held} of {jobs} hold")
+    return 0 if held == jobs else 1
+
+
+if __name__ == "__main__":
+    if len(sys.argv) != 2 or os.geteuid() != 0:
+        sys.exit("usage: cups/server.py PROGRAM, as root")
+    sys.exit(main(os.path.realpath(sys.argv[1])))
