@@ -1,0 +1,251 @@
+#!/usr/bin/env python3
+"""Has jobs of real clients written again by `min` and by `shrink`, and tells whether each of them holds.
+
+    bench/clients.py PROGRAM [WORD..]
+
+PROGRAM is a built pclmin. The jobs are made anew in a temporary folder: documents by drivers, at their resolutions. A job is
+tried at 300 and then at 600 dots per inch, until it is accepted. It holds then if what `shrink` writes is no longer than the
+job, and if `same` says `same` of the job and what `min` and `shrink` write. A refused one holds if both refuse it in the same
+words and write nothing. The result is a table by client, with the bytes of the accepted jobs, then each refusal, and `N of M
+hold`; the status is 1 if not all do. With WORDs only jobs whose names have all of these are made, and each has its own row.
+
+Needs ghostscript, cups, cups-ppdc, cups-ipp-utils, printer-driver-gutenprint, printer-driver-hpijs, netpbm, imagemagick,
+hp2xx, barcode, texlive-binaries and texlive-base.
+"""
+
+import collections
+import concurrent.futures
+import math
+import os
+import re
+import shutil
+import subprocess
+import sys
+import tempfile
+
+PROCESSORS, RESOLUTIONS = 2, (300, 600)
+REFUSED = re.compile(r"pclmin: refused: (.+)")
+NEEDS = ("gs ppdc pbmtolj ppmtolj convert hp2xx barcode tex dvilj dvilj2p hpijs /usr/sbin/ippevepcl /usr/lib/cups/filter/rastertohp "
+         "/usr/lib/cups/filter/rastertogutenprint.5.3 /usr/lib/cups/driver/gutenprint.5.3")
+WORDS = "the printer at the far end of a slow line waits for each byte of a page while its paper and its toner wait too".split()
+
+Job = collections.namedtuple("Job", "client options document command")
+Result = collections.namedtuple("Result", "job sent dpi least smaller refusal fault", defaults=(0, 0, 0, None, None))
+
+
+# ---- the documents
+
+def text(page=0):
+    """A page of 54 lines in Times at 11 points."""
+    lines = ["/Times-Roman findfont 11 scalefont setfont"]
+    for line in range(54):
+        words = " ".join(WORDS[(7 * line + 5 * word + 3 * page + line * word) % len(WORDS)] for word in range(17))
+        lines.append("72 %d moveto (%s) show" % (708 - 12 * line, words))
+    return lines + ["showpage"]
+
+
+def form():
+    """A form: a frame, rules, boxes to tick, and a name at each."""
+    lines = ["/Helvetica findfont 9 scalefont setfont 0.5 setlinewidth 54 72 504 648 rectstroke"]
+    for line in range(24):
+        base = 693 - 27 * line
+        lines.append("54 %d moveto 558 %d lineto stroke 60 %d moveto (%d. %s) show" % (base, base, base + 9, line + 1, WORDS[line % 20]))
+        lines += ["%d %d 9 9 rectstroke" % (360 + 36 * box, base + 9) for box in range(5)]
+    return lines + ["1.5 setlinewidth 216 72 moveto 216 720 lineto 342 72 moveto 342 720 lineto stroke", "showpage"]
+
+
+def shades(left, bottom, side):
+    """A grey picture of 128 by 128 shades."""
+    grey = ("%02x" % int(128 + 60 * math.sin(x / 17) + 60 * math.cos((y + x / 3) / 23)) for y in range(128) for x in range(128))
+    return ["gsave %d %d translate %d dup scale /shade 128 string def" % (left, bottom, side),
+            "128 128 8 [128 0 0 -128 0 128] { currentfile shade readhexstring pop } image", "".join(grey), "grestore"]
+
+
+def mixed():
+    """Text, a picture, a table of rules, and bars."""
+    lines = text()[:26] + shades(72, 180, 200)
+    for row in range(9):
+        lines.append("300 %d moveto 540 %d lineto stroke 306 %d moveto (%s) show" % ((180 + 25 * row,) * 2 + (186 + 25 * row, WORDS[row])))
+        lines.append("%g setgray 420 %d %d 12 rectfill 0 setgray" % (row / 10, 183 + 25 * row, 12 * row + 8))
+    return lines + ["showpage"]
+
+
+DOCUMENTS = {"text": text(), "form": form(), "grey": shades(72, 162, 468) + ["showpage"], "mixed": mixed(),
+             "pages": text(1) + text(2) + text(3)}
+
+def make_documents(folder):
+    """Writes what the commands of the jobs read, each in a folder of its own within this one."""
+    for name, lines in DOCUMENTS.items():
+        with open(os.path.join(folder, name + ".ps"), "w") as out:
+            out.write("\n".join(["%!PS", "<< /PageSize [612 792] >> setpagedevice"] + lines) + "\n")
+    with open(os.path.join(folder, "drawing"), "w") as out:
+        out.write("IN;SP1;PU400,400;PD4000,400,4000,3000,400,3000,400,400;PU1000,1000;PD3000,2500;PU2000,1700;CI600;PU;SP0;\n")
+    document = os.path.join(os.path.dirname(os.path.realpath(__file__)), "document.tex")
+    for command in ("ppdc -d . /usr/share/cups/drv/sample.drv",
+                    "/usr/lib/cups/driver/gutenprint.5.3 cat gutenprint.5.3://pcl-g_5e/expert > gutenprint.ppd",
+                    "tex -interaction=batchmode '%s'" % document):
+        subprocess.run(["bash", "-c", command], cwd=folder, check=True, stdout=subprocess.DEVNULL, stderr=subprocess.DEVNULL)
+
+
+# ---- the clients: each job's command writes it to standard output
+
+def painted(device, dpi, document, options=""):
+    return "gs -q -dSAFER -dBATCH -dNOPAUSE -sDEVICE=%s -r%d %s -sOutputFile=- ../%s.ps" % (device, dpi, options, document)
+
+
+def ghostscript():
+    devices = {"laserjet": (75, 150, 300), "ljetplus": (75, 150, 300), "ljet2p": (75, 150, 300), "lj4dith": (300, 600), "fs600": (300, 600),
+               "ljet3": (300,), "ljet4": (600,), "hl1250": (600,), "deskjet": (300,), "lj5gray": (300,), "pclm": (300,)}
+    for device, resolutions in devices.items():
+        for dpi in resolutions:
+            for document in DOCUMENTS:
+                yield Job("ghostscript " + device, str(dpi), document, painted(device, dpi, document))
+
+
+def hpijs():
+    options = ('-sIjsServer=hpijs -dIjsUseOutputFD -sDeviceManufacturer=HEWLETT-PACKARD "-sDeviceModel=%s" '
+               "-sIjsParams=Quality:Quality=%d,Quality:ColorMode=0,Quality:MediaType=0,Quality:PenSet=0,Quality:FullBleed=0")
+    for dpi, quality in ((300, 1), (600, 0)):
+        for document in DOCUMENTS:
+            yield Job("hpijs LaserJet", str(dpi), document, painted("ijs", dpi, document, options % ("HP LaserJet", quality)))
+    yield Job("hpijs DeskJet", "300", "text", painted("ijs", 300, "text", options % ("DESKJET 600", 1)))
+
+
+def cups():
+    """The filters of CUPS; the number after the resolution is the method of row data."""
+    space = "-dcupsBitsPerColor=%d -dcupsColorSpace=%d -dcupsColorOrder=0 -dcupsCompression=%d"
+    for document in DOCUMENTS:
+        for dpi, method in ((75, 2), (150, 2), (300, 0), (300, 1), (300, 2), (600, 2)):
+            yield Job("CUPS rastertohp", "%d %d" % (dpi, method), document, painted("cups", dpi, document, space % (1, 3, method))
+                      + " | PPD=../laserjet.ppd /usr/lib/cups/filter/rastertohp 1 user title 1 ''")
+        for dpi, setting in ((150, 2), (300, 3), (600, 4)):  # what Gutenprint's PPD sets for these resolutions
+            yield Job("Gutenprint", str(dpi), document, painted("cups", dpi, document, space % (8, 0, setting))
+                      + " | PPD=../gutenprint.ppd /usr/lib/cups/filter/rastertogutenprint.5.3 1 user title 1 StpColorCorrection=Threshold")
+        for dpi in RESOLUTIONS:
+            yield Job("CUPS ippevepcl", str(dpi), document, painted("pwgraster", dpi, document, "-dcupsBitsPerColor=8 -dcupsColorSpace=18")
+                      + " > page.pwg && CONTENT_TYPE=image/pwg-raster /usr/sbin/ippevepcl page.pwg")
+
+
+def bitmaps():
+    pbmtolj = [dpi + option for dpi in ("150", "300") for option in ("", " -packbits", " -delta", " -compress")] + ["600"]
+    for document in ("text", "form", "grey", "mixed"):
+        for options in pbmtolj:
+            command = painted("pbmraw", int(options[:3]), document) + " | pbmtolj -quiet -resolution " + options
+            yield Job("netpbm pbmtolj", options, document, command)
+        for dpi in (150, 300):
+            for compression in ("None", "RLE"):
+                yield Job("ImageMagick", "%d %s" % (dpi, compression), document, painted("pbmraw", dpi, document) +
+                          " > page.pbm && convert page.pbm -density %d -units PixelsPerInch -compress %s pcl:-" % (dpi, compression))
+    yield Job("netpbm ppmtolj", "150", "mixed", painted("ppmraw", 150, "mixed") + " | ppmtolj -quiet -resolution 150")
+
+
+def drawings():
+    for options in ("75", "100", "150", "300", "75 -i -F", "100 -i -F", "150 -i -F", "300 -i -F", "300 -S 1"):
+        yield Job("hp2xx", options, "drawing", "hp2xx -q -m pcl -d %s -f job ../drawing && cat job" % options)
+    for encoding, options in (("39", "-P -n"), ("ean", "-P -n"), ("128", "-P -n"), ("ean", "-P")):
+        yield Job("GNU barcode", options, encoding, "barcode -b 1234567 -e %s %s" % (encoding, options))
+    for program in ("dvilj", "dvilj2p"):
+        yield Job(program, "300", "TeX", "%s -q -ejob ../document.dvi && cat job" % program)
+
+
+def all_jobs():
+    return [job for client in (ghostscript, hpijs, cups, bitmaps, drawings) for job in client()]
+
+
+# ---- one job
+
+def name_of(job):
+    return " ".join(job[:3])
+
+
+def written(program, how, dpi, job, out):
+    """Has a job written again, and gives its refusal, if any."""
+    run = subprocess.run([program, how, "--dpi", str(dpi), "-o", out, job], stderr=subprocess.PIPE, text=True)
+    if run.returncode == 0:
+        return None
+    refused = REFUSED.fullmatch(run.stderr.strip())
+    if run.returncode == 1 and refused and not os.path.exists(out):
+        return refused.group(1)
+    raise ValueError("%s ends with status %d: %s" % (how, run.returncode, run.stderr.strip()))
+
+
+def again(program, job, outs):
+    """Has a job written both ways, and gives its resolution, or none and its refusal."""
+    for dpi in RESOLUTIONS:
+        refusals = {written(program, how, dpi, job, out) for how, out in outs.items()}
+        if len(refusals) > 1:
+            raise ValueError("min and shrink end in different ways: %s" % refusals)
+        refusal = refusals.pop()
+        if refusal is None:
+            return dpi, None
+    return 0, refusal
+
+
+def fault_of(program, dpi, job, outs):
+    """What doesn't hold of an accepted job, if anything."""
+    for how, out in outs.items():
+        asked = ["--asked"] if how == "shrink" else []
+        run = subprocess.run([program, "same", *asked, "--dpi", str(dpi), job, out], stdout=subprocess.PIPE, stderr=subprocess.STDOUT,
+                             text=True)
+        if run.returncode != 0 or run.stdout != "same\n":
+            return "%s: %s" % (how, run.stdout.strip())
+    return "shrink: longer than it came" if os.path.getsize(outs["shrink"]) > os.path.getsize(job) else None
+
+
+def tried(program, folder, number, job):
+    os.mkdir(own := os.path.join(folder, str(number)))
+    path, least, smaller = (os.path.join(own, name) for name in ("job.pcl", "least.pcl", "smaller.pcl"))
+    outs = {"min": least, "shrink": smaller}
+    with open(path, "wb") as out:
+        run = subprocess.run(["bash", "-o", "pipefail", "-c", job.command], cwd=own, stdout=out, stderr=subprocess.DEVNULL)
+    sent = os.path.getsize(path)
+    if run.returncode != 0 or sent == 0:
+        return Result(job, sent, fault="the client fails")
+    try:
+        dpi, refusal = again(program, path, outs)
+    except ValueError as fault:
+        return Result(job, sent, fault=str(fault))
+    if refusal:
+        return Result(job, sent, refusal=refusal)
+    return Result(job, sent, dpi, os.path.getsize(least), os.path.getsize(smaller), fault=fault_of(program, dpi, path, outs))
+
+
+# ---- the table
+
+def row(cells):
+    print("| " + " | ".join("{:,}".format(cell) if isinstance(cell, int) else cell for cell in cells) + " |")
+
+
+def table(results, named):
+    groups = collections.defaultdict(list)
+    for result in results:
+        groups[named(result.job)].append(result)
+    row(["Client", "Jobs", "Accepted", "As sent", "`min`", "`shrink`"])
+    row(["---"] + ["---:"] * 5)
+    for name, group in groups.items():
+        read = [result for result in group if result.dpi]
+        row([name, len(group), len(read)] + [sum(getattr(result, size) for result in read) for size in ("sent", "least", "smaller")])
+
+
+def main(program, *words):
+    missing = [name for name in NEEDS.split() if not shutil.which(name)]
+    if missing:
+        sys.exit("not installed: " + " ".join(missing))
+    jobs = [job for job in all_jobs() if set(words) <= set(name_of(job).split())]
+    with tempfile.TemporaryDirectory() as folder:
+        make_documents(folder)
+        with concurrent.futures.ThreadPoolExecutor(PROCESSORS) as pool:
+            results = list(pool.map(lambda each: tried(os.path.realpath(program), folder, *each), enumerate(jobs)))
+    table(results, name_of if words else lambda job: job.client)
+    for result in results:
+        if result.refusal or result.fault:
+            print("%s %s: %s" % ("FAULT" if result.fault else "refused", name_of(result.job), result.fault or result.refusal))
+    held = sum(not result.fault for result in results)
+    print("%d of %d hold" % (held, len(results)))
+    return 0 if results and held == len(results) else 1
+
+
+if __name__ == "__main__":
+    if len(sys.argv) < 2:
+        sys.exit(__doc__)
+    sys.exit(main(*sys.argv[1:]))

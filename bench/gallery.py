@@ -1,0 +1,70 @@
+#!/usr/bin/env python3
+"""Makes docs/GALLERY.md and its pictures anew: ten jobs of clients.py, with their first page and their bytes.
+
+    bench/gallery.py PROGRAM
+
+PROGRAM is a built pclmin. A picture is page 1 by `pclmin pbm`, made smaller to greys. Needs what clients.py needs.
+"""
+
+import os
+import subprocess
+import sys
+import tempfile
+
+sys.dont_write_bytecode = True
+import clients
+
+NAMES = ["ghostscript ljet2p 300 text", "Gutenprint 300 pages", "CUPS rastertohp 300 0 form", "ghostscript laserjet 150 form",
+         "netpbm pbmtolj 300 -packbits mixed", "ImageMagick 300 RLE grey", "ghostscript fs600 600 mixed", "hp2xx 300 -i -F drawing",
+         "GNU barcode -P -n 128", "dvilj 300 TeX"]
+WIDTH = 320  # of a picture, in dots
+DEPTH = 15  # of a picture: the number of white
+MOST_BYTES = 20000
+HEAD = """# Ten jobs of real clients
+
+A title names the driver, its options, and the document. The picture is page 1 by `pclmin pbm`, made smaller; the bytes are those
+of all pages. What `min` and `shrink` write prints the same pages as the job that was sent, dot for dot, by `pclmin same`.
+
+`bench/gallery.py PROGRAM` makes this page anew. [bench/README.md](../bench/README.md) has such jobs by the hundred, by client.
+"""
+
+
+def picture(program, dpi, job, target):
+    """Draws page 1 of a job as a small PNG, and tells its size."""
+    page = subprocess.run([program, "pbm", "--page", "1", "--dpi", str(dpi), job], stdout=subprocess.PIPE, check=True).stdout
+    command = "pbmtopgm 1 1 | pamdepth 255 | pamscale -xsize %d | pamdepth %d | pnmtopng -quiet -compression 9" % (WIDTH, DEPTH)
+    with open(target, "wb") as out:
+        subprocess.run(["bash", "-o", "pipefail", "-c", command], input=page, stdout=out, check=True)
+    return os.path.getsize(target)
+
+
+def entry(program, folder, gallery, number, job):
+    """Makes the picture of a job and gives its lines of the page."""
+    result = clients.tried(program, folder, number, job)
+    name = clients.name_of(job)
+    if result.fault or result.refusal:
+        sys.exit("%s: %s" % (name, result.fault or result.refusal))
+    file = "-".join(name.replace("-", " ").lower().split()) + ".png"
+    drawn = picture(program, result.dpi, os.path.join(folder, str(number), "job.pcl"), os.path.join(gallery, file))
+    if drawn > MOST_BYTES:
+        sys.exit("%s has %d bytes" % (file, drawn))
+    sizes = "{:,} | {:,} | {:,}".format(result.sent, result.least, result.smaller)
+    return "\n## %s\n\n| dpi | As sent | `min` | `shrink` |\n|---:|---:|---:|---:|\n| %d | %s |\n\n![Page 1 of %s](gallery/%s)\n" % (
+        name, result.dpi, sizes, name, file)
+
+
+def main(program):
+    docs = os.path.join(os.path.dirname(os.path.realpath(__file__)), "..", "docs")
+    gallery = os.path.join(docs, "gallery")
+    os.makedirs(gallery, exist_ok=True)
+    jobs = {clients.name_of(job): job for job in clients.all_jobs()}
+    with tempfile.TemporaryDirectory() as folder:
+        clients.make_documents(folder)
+        entries = [entry(os.path.realpath(program), folder, gallery, number, jobs[name]) for number, name in enumerate(NAMES)]
+    with open(os.path.join(docs, "GALLERY.md"), "w") as out:
+        out.write(HEAD + "".join(entries))
+
+
+if len(sys.argv) != 2:
+    sys.exit(__doc__)
+main(sys.argv[1])
