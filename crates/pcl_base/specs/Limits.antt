@@ -17,6 +17,18 @@ page_limit = 256
 abbrev pub row_limit : ℕ
 row_limit = 600
 
+-- copies of a page
+abbrev pub copies_limit : ℕ
+copies_limit = 99
+
+-- the ID of a font or of a macro
+abbrev pub id_limit : ℕ
+id_limit = 32767
+
+-- bytes of row data
+abbrev pub data_limit : ℕ
+data_limit = 65535
+
 -- positions on the cursor stack
 abbrev pub stack_limit : ℕ
 stack_limit = 20

@@ -19,8 +19,8 @@ pub use fault::{CallFault, JobFault};
 pub use kind::Kind;
 pub use laws::codes_lead_back;
 pub use limits::{
-    COMMAND_LIMIT, COPIES_LIMIT, DOT_UNITS, INPUT_LIMIT, MACRO_LIMIT, PAGE_LIMIT, ROW_LIMIT,
-    STACK_LIMIT,
+    COMMAND_LIMIT, COPIES_LIMIT, DOT_UNITS, ID_LIMIT, INPUT_LIMIT, MACRO_LIMIT, PAGE_LIMIT,
+    ROW_LIMIT, STACK_LIMIT,
 };
 pub use method::Method;
 pub use name::Name;

@@ -15,6 +15,9 @@ pub const ROW_LIMIT: usize = 600;
 /// The most copies of a page.
 pub const COPIES_LIMIT: u8 = 99;
 
+/// The greatest ID of a font or of a macro.
+pub const ID_LIMIT: u32 = 32_767;
+
 /// The most positions that the cursor stack keeps.
 pub const STACK_LIMIT: usize = 20;
 

@@ -1,5 +1,5 @@
 -- What each command does to the settings and to the page, and which values it takes.
-use Rattle.std.specs.Prelude.{◌≡◌, ℕ, ◌+◌, ◌-◌, ◌*◌, ◌/◌, ◌==◌, ◌&&◌, ◌||◌, nat_lt, nat_le, Bool, min, max, if◌then◌else◌, length, List, [], ◌∷◌, Option, Some, None, Result, Ok, IsErr}
+use Rattle.std.specs.Prelude.{◌≡◌, ℕ, ◌+◌, ◌-◌, ◌*◌, ◌/◌, ◌==◌, ◌&&◌, nat_lt, nat_le, Bool, min, max, if◌then◌else◌, length, List, [], ◌∷◌, Option, Some, None, Result, Ok, IsErr}
 use Rattle.std.specs.List.{list_any}
 use Rattle.pcl_base.specs.declared.dpi.Dpi.{Dpi}
 use Rattle.pcl_base.specs.declared.dpi.Dpi.TheVariants.{Dpi300, Dpi600}
@@ -17,13 +17,14 @@ use Rattle.pcl_base.specs.declared.size.Size.{Size}
 use Rattle.pcl_base.specs.declared.value.Sign.{Sign}
 use Rattle.pcl_base.specs.declared.value.Sign.TheVariants.{Absent, Plus, Minus}
 use Rattle.pcl_base.specs.declared.value.Value.{Value}
+use Rattle.pcl_base.specs.Limits.{copies_limit, id_limit, stack_limit}
 use Rattle.pcl_base.specs.Method.{method_with_code}
 use Rattle.pcl_base.specs.Size.{size_with_code, units_wide, units_high}
 use Rattle.pcl_base.specs.Value.{whole_of, signed_whole, is_minus, is_below_zero, scaled_by}
 use Rattle.pcl_env.specs.declared.effect.Effect.{Effect}
 use Rattle.pcl_env.specs.declared.effect.Effect.TheVariants as page
 use Rattle.pcl_env.specs.declared.effect.Unsupported.{Unsupported}
-use Rattle.pcl_env.specs.Settings.{Position, Settings, put_x, put_y, put, to_first_line, asked_with, defaults, with_size}
+use Rattle.pcl_env.specs.Settings.{inch, margin, Position, Settings, put_x, put_y, put, to_first_line, asked_with, defaults, with_size}
 
 -- the settings after a command and what becomes of the page; none where the value isn't taken
 abbrev pub Outcome : Type 0
@@ -42,6 +43,19 @@ counted v f = if is_below_zero v then None else f (whole_of v)
 
 abbrev pub is_one_of : List ℕ → ℕ → Bool
 is_one_of numbers n = list_any (λ m. m == n) numbers
+
+-- these settings, where the whole part is from 0 on, within two bounds, up to one, or one of some numbers
+abbrev pub from_zero : Value → Settings → Outcome
+from_zero v s = counted v (λ n. stays s)
+
+abbrev pub within : ℕ → ℕ → Value → Settings → Outcome
+within least most v s = counted v (λ n. stays_if (nat_le least n && nat_le n most) s)
+
+abbrev pub up_to : ℕ → Value → Settings → Outcome
+up_to most v s = counted v (λ n. stays_if (nat_le n most) s)
+
+abbrev pub one_of : List ℕ → Value → Settings → Outcome
+one_of numbers v s = counted v (λ n. stays_if (is_one_of numbers n) s)
 
 -- ---- lines and columns
 
@@ -73,7 +87,7 @@ tab_stop s =
 -- a margin past the page's end isn't taken; on an unmarked page the cursor goes to the first line
 abbrev pub set_top : ℕ → Bool → Settings → Settings
 set_top top is_marked s =
-    let set = record s { top = top; bottom = units_high s.size - 3600 } in
+    let set = record s { top = top; bottom = units_high s.size - margin } in
     if nat_lt (units_high s.size) top then s else (if is_marked then set else to_first_line set)
 
 abbrev pub set_bottom : ℕ → Settings → Settings
@@ -114,7 +128,7 @@ move_along Vertical unit v s = put_y (moved v.sign (origin_of Vertical unit s) s
 
 -- a full stack stays as it is
 abbrev pub push : Settings → Settings
-push s = if nat_lt (length s.stack) 20 then record s { stack = s.cursor ∷ s.stack } else s
+push s = if nat_lt (length s.stack) stack_limit then record s { stack = s.cursor ∷ s.stack } else s
 
 -- the newest position comes back, if there is one
 abbrev pub popped : List Position → Settings → Settings
@@ -179,42 +193,42 @@ outcome dpi FormFeed v m s = Some (before_feed s, page.Eject)
 outcome dpi CarriageReturn v m s = if s.return_feeds then feed s.vmi (return_carriage s) else stays (return_carriage s)
 outcome dpi (Shift side) v m s = stays (record s { in_use = side })
 outcome dpi PageSize v m s = counted v (λ n. set_size (size_with_code n) s)
-outcome dpi Copies v m s = counted v (λ n. stays_if (nat_le 1 n && nat_le n 99) (record s { copies = n }))
-outcome dpi VerticalMotionIndex v m s = counted v (λ n. stays (record s { vmi = scaled_by 150 v }))
-outcome dpi LineSpacing v m s = counted v (λ n. stays_if (is_one_of line_spacings n) (record s { vmi = 7200 / n }))
-outcome dpi TopMargin v m s = counted v (λ n. stays (set_top (n * s.vmi) m s))
+outcome dpi Copies v m s = within 1 copies_limit v (record s { copies = whole_of v })
+outcome dpi VerticalMotionIndex v m s = from_zero v (record s { vmi = scaled_by 150 v })
+outcome dpi LineSpacing v m s = one_of line_spacings v (record s { vmi = inch / whole_of v })
+outcome dpi TopMargin v m s = from_zero v (set_top (whole_of v * s.vmi) m s)
 outcome dpi TextLength v m s = counted v (λ n. stays_if (nat_le 1 n) (set_bottom (s.top + n * s.vmi) s))
-outcome dpi PerforationSkip v m s = counted v (λ n. stays_if (nat_le n 1) (record s { skips = n == 1 }))
+outcome dpi PerforationSkip v m s = up_to 1 v (record s { skips = whole_of v == 1 })
 outcome dpi OnlyZero v m s = stays_if (whole_of v == 0) s
 outcome dpi (Ask what) v m s = Some (record s { asked = asked_with what (signed_whole v) s.asked }, effect_of_asking what)
-outcome dpi UnitOfMeasure v m s = counted v (λ n. stays_if (is_one_of units_of_measure n) (record s { pcl_unit = 7200 / n }))
-outcome dpi HorizontalMotionIndex v m s = counted v (λ n. stays (record s { hmi = scaled_by 60 v }))
-outcome dpi LineTermination v m s = counted v (λ n. stays_if (nat_le n 3)
-    (record s { return_feeds = n == 1 || n == 3; feed_returns = n == 2 || n == 3 }))
-outcome dpi LeftMargin v m s = counted v (λ n. stays (set_left (n * s.hmi) s))
+outcome dpi UnitOfMeasure v m s = one_of units_of_measure v (record s { pcl_unit = inch / whole_of v })
+outcome dpi HorizontalMotionIndex v m s = from_zero v (record s { hmi = scaled_by 60 v })
+outcome dpi LineTermination v m s =
+    up_to 3 v (record s { return_feeds = is_one_of (1 ∷ 3 ∷ []) (whole_of v); feed_returns = is_one_of (2 ∷ 3 ∷ []) (whole_of v) })
+outcome dpi LeftMargin v m s = from_zero v (set_left (whole_of v * s.hmi) s)
 outcome dpi (Move axis unit) v m s = stays (move_along axis unit v s)
-outcome dpi CursorStack v m s = counted v (λ n. if n == 0 then stays (push s) else stays_if (n == 1) (pop s))
-outcome dpi MacroId v m s = counted v (λ n. stays_if (nat_le n 32767) (record s { macro_id = n }))
-outcome dpi ControlMacros v m s = counted v (λ n. stays_if (nat_le n 3 || nat_le 6 n && nat_le n 10) s)
-outcome dpi (RectangleSize axis unit) v m s = counted v (λ n. stays (set_rectangle axis (scaled_by (unit_of axis unit s) v) s))
-outcome dpi FillRectangle v m s = counted v (λ n. stays_if (is_one_of (0 ∷ 1 ∷ 5 ∷ []) n) s)
-outcome dpi FontId v m s = counted v (λ n. stays_if (nat_le n 32767) (record s { font_id = n }))
-outcome dpi CharacterCode v m s = counted v (λ n. stays_if (nat_le n 255) (record s { character_code = n }))
-outcome dpi ControlFonts v m s = counted v (λ n. stays_if (nat_le n 5) s)
-outcome dpi DownloadFont v m s = counted v (λ n. stays s)
-outcome dpi DownloadCharacter v m s = counted v (λ n. stays s)
-outcome dpi (SelectFont side) v m s = counted v (λ n. stays s)
-outcome dpi PrintText v m s = counted v (λ n. stays s)
-outcome dpi RasterResolution v m s = counted v (λ n. stays_if (is_one_of (resolutions dpi) n) (record s { resolution = n }))
-outcome dpi RasterWidth v m s = counted v (λ n. stays (record s { raster_width = none_if_zero n }))
-outcome dpi RasterHeight v m s = counted v (λ n. stays (record s { raster_height = none_if_zero n }))
-outcome dpi RasterPresentation v m s = counted v (λ n. stays_if (n == 0 || n == 3) s)
-outcome dpi StartRaster v m s = counted v (λ n. stays_if (nat_le n 1) s)
+outcome dpi CursorStack v m s = up_to 1 v (if whole_of v == 0 then push s else pop s)
+outcome dpi MacroId v m s = up_to id_limit v (record s { macro_id = whole_of v })
+outcome dpi ControlMacros v m s = one_of (0 ∷ 1 ∷ 2 ∷ 3 ∷ 6 ∷ 7 ∷ 8 ∷ 9 ∷ 10 ∷ []) v s
+outcome dpi (RectangleSize axis unit) v m s = from_zero v (set_rectangle axis (scaled_by (unit_of axis unit s) v) s)
+outcome dpi FillRectangle v m s = one_of (0 ∷ 1 ∷ 5 ∷ []) v s
+outcome dpi FontId v m s = up_to id_limit v (record s { font_id = whole_of v })
+outcome dpi CharacterCode v m s = up_to 255 v (record s { character_code = whole_of v })
+outcome dpi ControlFonts v m s = up_to 5 v s
+outcome dpi DownloadFont v m s = from_zero v s
+outcome dpi DownloadCharacter v m s = from_zero v s
+outcome dpi (SelectFont side) v m s = from_zero v s
+outcome dpi PrintText v m s = from_zero v s
+outcome dpi RasterResolution v m s = one_of (resolutions dpi) v (record s { resolution = whole_of v })
+outcome dpi RasterWidth v m s = from_zero v (record s { raster_width = none_if_zero (whole_of v) })
+outcome dpi RasterHeight v m s = from_zero v (record s { raster_height = none_if_zero (whole_of v) })
+outcome dpi RasterPresentation v m s = one_of (0 ∷ 3 ∷ []) v s
+outcome dpi StartRaster v m s = up_to 1 v s
 outcome dpi EndRaster v m s = stays s
 outcome dpi EndRasterResetMethod v m s = stays (record s { method = Plain })
 outcome dpi RasterMethod v m s = counted v (λ n. set_method (method_with_code n) s)
-outcome dpi RasterOffset v m s = counted v (λ n. stays s)
-outcome dpi RasterRow v m s = counted v (λ n. stays s)
+outcome dpi RasterOffset v m s = from_zero v s
+outcome dpi RasterRow v m s = from_zero v s
 outcome dpi NoEffect v m s = stays s
 
 -- ---- what a call answers

@@ -11,6 +11,27 @@ use Rattle.pcl_base.specs.declared.size.Size.TheVariants.{Letter}
 use Rattle.pcl_base.specs.Size.{units_wide, units_high}
 use Rattle.pcl_env.specs.declared.asked.Asked.{Asked}
 
+-- ---- lengths
+
+abbrev pub inch : ℕ
+inch = 7200
+
+-- the PCL unit, the column width and the line spacing until a job sets others: 300, 10 and 6 to the inch
+abbrev pub default_unit : ℕ
+default_unit = 24
+
+abbrev pub default_column : ℕ
+default_column = 720
+
+abbrev pub default_line : ℕ
+default_line = 1200
+
+-- the margin above and below the text until a job sets another: half an inch
+abbrev pub margin : ℕ
+margin = 3600
+
+-- ---- the settings
+
 -- a place on the page, from its upper left corner
 pub record Position : Type 0 where
   pub x : ℕ
@@ -95,16 +116,16 @@ abbrev pub defaults : Settings
 defaults = record {
   size = Letter;
   copies = 1;
-  pcl_unit = 24;
-  hmi = 720;
-  vmi = 1200;
-  top = 3600;
-  bottom = units_high Letter - 3600;
+  pcl_unit = default_unit;
+  hmi = default_column;
+  vmi = default_line;
+  top = margin;
+  bottom = units_high Letter - margin;
   left = 0;
   skips = true;
   return_feeds = false;
   feed_returns = false;
-  cursor = record { x = 0; y = 4500 };
+  cursor = record { x = 0; y = margin + 3 * default_line / 4 };
   stack = [];
   macro_id = 0;
   font_id = 0;
@@ -124,7 +145,7 @@ defaults = record {
 -- a page size sets the margins, and moves the cursor to the left end of the first line
 abbrev pub with_size : Size → Settings → Settings
 with_size size s =
-    to_first_line (record s { size = size; top = 3600; bottom = units_high size - 3600; left = 0; cursor = record { x = 0; y = 0 } })
+    to_first_line (record s { size = size; top = margin; bottom = units_high size - margin; left = 0; cursor = record { x = 0; y = 0 } })
 
 -- ---- fonts and calls
 

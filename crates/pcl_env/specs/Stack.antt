@@ -1,14 +1,15 @@
 -- Cited by contracts of private functions alone: a stack of positions, the newest first.
 use Rattle.std.specs.Prelude.{nat_lt, if◌then◌else◌, length, List, [], ◌∷◌, Option, Some, None}
+use Rattle.pcl_base.specs.Limits.{stack_limit}
 use Rattle.pcl_env.specs.declared.stack.Position.{Position as Place}
 use Rattle.pcl_env.specs.Settings.{Position}
 
 abbrev pub place_of : Place → Position
 place_of place = record { x = place.x; y = place.y }
 
--- one position more; 20 are kept at most
+-- one position more, where the stack isn't full
 abbrev pub kept_with : Position → List Position → List Position
-kept_with place places = if nat_lt (length places) 20 then place ∷ places else places
+kept_with place places = if nat_lt (length places) stack_limit then place ∷ places else places
 
 abbrev pub newest_of : List Position → Option Position
 newest_of [] = None

@@ -15,7 +15,7 @@ pub struct Position {
     pub y: u32,
 }
 
-/// The positions that a job has pushed, 20 at most.
+/// The positions that a job has pushed, `STACK_LIMIT` at most.
 #[derive(Debug, Drop)]
 pub struct Stack {
     places: ArrayVec<Position, STACK_LIMIT>,

@@ -9,10 +9,7 @@ ghost use Rattle.pcl_env.specs.Outcome.{outcome, Answers};
 
 use super::Env;
 use crate::{Effect, Unsupported};
-use pcl_base::{Side, Value};
-
-/// The greatest ID of a font or of a macro.
-const ID_LIMIT: u32 = 32_767;
+use pcl_base::{ID_LIMIT, Side, Value};
 
 impl Env {
     /// Takes the primary or the secondary font into use (PCL 5 manual, "Shift In", "Shift Out").
