@@ -1,6 +1,7 @@
 //! Pages, and what takes them.
 
 ghost use Rattle.std.specs.Prelude.{◌≡◌, ◌≤◌, OnOk, OnErr};
+ghost use Rattle.pcl_base.specs.Limits.{copies_limit};
 ghost use Rattle.pcl_bitmap.specs.Bitmap.{IsPicture};
 
 use crate::bitmap::Bitmap;
@@ -18,7 +19,7 @@ pub struct Page {
     pub dpi: Dpi,
     /// The dots, which have the page's size and resolution.
     pub bitmap: Bitmap,
-    ghost copies_in_range: { (1 ≤ copies) × (copies ≤ 99) },
+    ghost copies_in_range: { (1 ≤ copies) × (copies ≤ copies_limit) },
     ghost size_is: { bitmap.size ≡ size },
     ghost dpi_is: { bitmap.dpi ≡ dpi },
     ghost picture: { IsPicture bitmap },

@@ -1,6 +1,7 @@
 //! Patterns of bits that are set on a page, as the characters of a soft font are.
 
 ghost use Rattle.std.specs.Prelude.{◌≡◌, ℕ, ◌+◌, ◌-◌, ◌*◌, ◌/◌, ◌^◌, ◌<◌, ◌≤◌, nat_le, ◌||◌, if◌then◌else◌, Some, None, length, drop, All};
+ghost use Rattle.pcl_base.specs.Limits.{row_limit};
 ghost use Rattle.pcl_bitmap.specs.Bitmap.{bit_of_byte, dot_of_row};
 ghost use Rattle.pcl_bitmap.specs.Dots.{rectangle_dot, dots_past};
 
@@ -43,7 +44,7 @@ fn eight_bits_from(row: &[u8], start: usize) -> u8
 
 // Writes the bits of a row from bit `start` on to all of `target`. Bits past its end are clear.
 fn write_bits(target: &mut [u8], row: &[u8], start: usize)
-    requires { (start ≤ 2 ^ 32) × (length target.old ≤ 600) }
+    requires { (start ≤ 2 ^ 32) × (length target.old ≤ row_limit) }
     ensures { (k : ℕ) → k < 8 * length target.old → dot_of_row target.new k ≡ dot_of_row row.now (start + k) }
 {
     for i in 0..target.len() {
@@ -55,7 +56,7 @@ fn write_bits(target: &mut [u8], row: &[u8], start: usize)
 // `target`.
 fn write_dots(target: &mut [u8], row: &[u8], scale: usize, start: usize)
     requires scale { (1 ≤ scale) × (scale ≤ 8) }
-    requires small { (start ≤ 2 ^ 32) × (length target.old ≤ 600) }
+    requires small { (start ≤ 2 ^ 32) × (length target.old ≤ row_limit) }
     ensures { (k : ℕ) → k < 8 * length target.old → dot_of_row target.new k ≡ dot_of_row row.now ((start + k) / scale) }
 {
     if scale == 1 {
@@ -80,7 +81,7 @@ pub fn or_pattern(page: &mut [u8], row_bytes: usize, area: Area, window: Window,
     requires scale { (1 ≤ window.scale) × (window.scale ≤ 8) }
     requires skipped { (window.x ≤ 2 ^ 32) × (window.y ≤ 2 ^ 32) }
     requires bits { (j : ℕ) → j < area.height → (j + window.y) / window.scale * window.row_bytes ≤ length rows.now }
-    requires narrow { area.width ≤ 8 * 600 }
+    requires narrow { area.width ≤ 8 * row_limit }
     requires wide { area.x + area.width ≤ 8 * row_bytes }
     requires high { (area.y + area.height) * row_bytes ≤ length page.old }
     requires small { length page.old < 2 ^ 32 }

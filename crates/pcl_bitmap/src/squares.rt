@@ -1,6 +1,7 @@
 //! Rows of raster data whose dots are squares of the page's dots.
 
 ghost use Rattle.std.specs.Prelude.{◌≡◌, ℕ, ◌+◌, ◌-◌, ◌*◌, ◌/◌, ◌^◌, ◌<◌, ◌≤◌, ◌||◌, if◌then◌else◌, length, All};
+ghost use Rattle.pcl_base.specs.Limits.{row_limit};
 ghost use Rattle.std.specs.Int.{bit_at};
 ghost use Rattle.pcl_bitmap.specs.Bitmap.{bit_of_byte, dot_of_row};
 ghost use Rattle.pcl_bitmap.specs.Dots.{rectangle_dot, in_run};
@@ -88,7 +89,7 @@ fn or_rows(page: &mut [u8], row_bytes: usize, area: Area, source: &[u8])
 /// bit a square of `scale` dots and the first at the left edge.
 pub fn paint_squares(page: &mut [u8], row_bytes: usize, area: Area, scale: usize, row: &[u8])
     requires scale { (1 ≤ scale) × (scale ≤ 8) }
-    requires narrow { area.width ≤ 8 * 600 }
+    requires narrow { area.width ≤ 8 * row_limit }
     requires wide { area.x + area.width ≤ 8 * row_bytes }
     requires high { (area.y + area.height) * row_bytes ≤ length page.old }
     requires small { length page.old < 2 ^ 32 }

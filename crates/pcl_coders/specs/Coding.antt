@@ -1,12 +1,13 @@
 -- Least data for a row.
 use Rattle.std.specs.Prelude.{◌≡◌, ℕ, ◌≤◌, List, ◌++◌, length}
+use Rattle.pcl_base.specs.Limits.{row_limit}
 use Rattle.pcl_base.specs.declared.method.Method.{Method}
 use Rattle.pcl_rows.specs.Rows.{IsRowData}
 
 -- a row and a seed row that a coder takes
 pub record IsCodable (seed row : List ℕ) : Type 0 where
   pub same_size : length seed ≡ length row
-  pub small : length row ≤ 600
+  pub small : length row ≤ row_limit
 
 -- the least length of whole data for the row: some has it, and none is shorter
 pub record IsLeastLength (method : Method) (seed row : List ℕ) (least : ℕ) : Type 0 where

@@ -1,6 +1,7 @@
 //! The element that begins the least data for the rest of a row.
 
 ghost use Rattle.std.specs.Prelude.{◌≡◌, ℕ, ◌+◌, ◌-◌, ◌*◌, ◌<◌, ◌≤◌, min, length, slice_index, MatchOption};
+ghost use Rattle.pcl_base.specs.Limits.{row_limit};
 ghost use Rattle.pcl_coders.specs.inner.Choosing.{IsLeastLen, IsLiteralLen, NoLiteral, IsPlace};
 ghost use Rattle.pcl_coders.specs.inner.Filling.{AreRightFrom};
 ghost use Rattle.pcl_coders.specs.inner.Replacement.{replacement_bytes};
@@ -65,7 +66,7 @@ impl Choice {
     fn behind(offset: usize, row_bytes: usize, numbers: &[u16]) -> Choice
         requires inside { offset < row_bytes }
         requires size { length numbers.now ≡ row_bytes + 1 }
-        requires small { row_bytes ≤ 600 }
+        requires small { row_bytes ≤ row_limit }
         ensures { IsReplacement offset row_bytes numbers.now result.shape result.sum }
     {
         let best = LeastLen::among(

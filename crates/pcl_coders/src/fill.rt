@@ -9,11 +9,8 @@ ghost use Rattle.pcl_coders.specs.inner.Filling.{AreRightFrom, IsFirstEnd, IsBeg
 
 use crate::choice::{command_bytes, least_behind};
 use crate::window::Window;
-use pcl_base::Method;
+use pcl_base::{Method, ROW_LIMIT};
 use pcl_bitmap::{first_difference, trimmed_len};
-
-/// The most bytes of a row.
-pub const MOST_BYTES: usize = 600;
 
 /// Fills in the least number of bytes of each place of a row, and of its end, where no more data is needed
 /// from `end` on.
@@ -98,8 +95,8 @@ fn fill_packed(row: &[u8], end: usize, out: &mut [u16])
     requires { IsBegun (white_like row.now) row.now out.old end }
     ensures { AreRightFrom methods.Packed (white_like row.now) row.now out.new 0 }
 {
-    let mut numbers = [0; MOST_BYTES];
-    let mut places = [0; MOST_BYTES];
+    let mut numbers = [0; ROW_LIMIT];
+    let mut places = [0; ROW_LIMIT];
     let mut window = Window::new(&mut numbers, &mut places);
     let mut run_end = end;
     for place in (0..end).rev() {

@@ -1,6 +1,7 @@
 //! The shapes of the elements that coders try.
 
 ghost use Rattle.std.specs.Prelude.{◌≡◌, ◌+◌, ◌<◌, ◌≤◌, ◌/◌, ◌%◌, [], ◌∷◌, ◌++◌, length, replicate, take, OnOk, OnErr};
+ghost use Rattle.pcl_base.specs.Limits.{row_limit};
 ghost use Rattle.pcl_rows.specs.Elements.{element_bytes};
 ghost use Rattle.pcl_rows.specs.Heads.{head_bytes};
 ghost use Rattle.pcl_coders.specs.inner.Replacement.{replacement};
@@ -41,7 +42,7 @@ impl Shape {
     /// may stand there.
     pub fn append(self, wanted: &[u8], out: &mut Vec<u8>) -> Result<(), AllocError>
         requires within { IsShapeWithin self (length wanted.now) }
-        requires small { length wanted.now ≤ 600 }
+        requires small { length wanted.now ≤ row_limit }
         ensures ok { OnOk result (out.new.items ≡ out.old.items ++ element_bytes (element_of self wanted.now)) }
         ensures err { OnErr result (take (length out.old.items) out.new.items ≡ out.old.items) }
     {

@@ -1,6 +1,7 @@
 //! Tables of least numbers, and data along them.
 
 ghost use Rattle.std.specs.Prelude.{◌≡◌, ◌+◌, ◌≤◌, ◌++◌, length, take, replicate, slice_index, OnOk, OnErr};
+ghost use Rattle.pcl_base.specs.Limits.{row_limit};
 ghost use Rattle.pcl_base.specs.declared.method.Method.TheVariants as methods;
 ghost use Rattle.pcl_rows.specs.Rows.{base};
 ghost use Rattle.pcl_coders.specs.RowWalks.{IsLeastTable};
@@ -8,8 +9,8 @@ ghost use Rattle.pcl_coders.specs.Coding.{IsCodable, IsLeastLength, AppendsLeast
 ghost use Rattle.pcl_coders.specs.inner.Filling.{AreRightFrom, AppendsWalk, IsFirstEnd};
 
 use crate::choice::Choice;
-use crate::fill::{MOST_BYTES, fill_before, needed_len};
-use pcl_base::Method;
+use crate::fill::{fill_before, needed_len};
+use pcl_base::{Method, ROW_LIMIT};
 use std::alloc::AllocError;
 
 /// Fills in the least number of bytes of each place of a row, and of its end.
@@ -33,7 +34,7 @@ pub fn least(method: Method, row: &[u8], seed: &[u8]) -> usize
     match method {
         Method::Plain => end,
         Method::Runs | Method::Packed | Method::Delta => {
-            let mut numbers = [0; MOST_BYTES + 1];
+            let mut numbers = [0; ROW_LIMIT + 1];
             least_in(method, row, seed, end, &mut numbers[..row.len() + 1])
         }
     }
@@ -59,7 +60,7 @@ pub fn append(method: Method, row: &[u8], seed: &[u8], out: &mut Vec<u8>) -> Res
     match method {
         Method::Plain => append_trimmed(row, seed, out),
         Method::Runs | Method::Packed | Method::Delta => {
-            let mut numbers = [0; MOST_BYTES + 1];
+            let mut numbers = [0; ROW_LIMIT + 1];
             append_in(method, row, seed, &mut numbers[..row.len() + 1], out)
         }
     }
@@ -109,7 +110,7 @@ pub fn append_along(
     if let Method::Plain = method {
         return append_trimmed(row, seed, out);
     }
-    let zeros = [0; MOST_BYTES];
+    let zeros = [0; ROW_LIMIT];
     let old = base_row(method, seed, &zeros);
     let start = out.len();
     let appended = append_steps(method, old, row, numbers, out);
@@ -122,8 +123,8 @@ pub fn append_along(
 /// The row before its data comes: zeros, and the seed row in method 3. `zeros` are as many as the longest row has bytes,
 /// `ROW_LIMIT`.
 pub fn base_row<'a>(method: Method, seed: &'a [u8], zeros: &'a [u8]) -> &'a [u8]
-    requires zeros { zeros.now ≡ replicate 600 0 }
-    requires small { length seed.now ≤ 600 }
+    requires zeros { zeros.now ≡ replicate row_limit 0 }
+    requires small { length seed.now ≤ row_limit }
     ensures { result.now ≡ base method seed.now }
 {
     match method {
@@ -142,7 +143,7 @@ pub fn append_steps(
     out: &mut Vec<u8>,
 ) -> Result<(), AllocError>
     requires same { length old.now ≡ length row.now }
-    requires small { length row.now ≤ 600 }
+    requires small { length row.now ≤ row_limit }
     requires size { length numbers.now ≡ length row.now + 1 }
     requires right { AreRightFrom method old.now row.now numbers.now 0 }
     ensures ok { OnOk result (AppendsWalk method old.now row.now numbers.now out.old.items out.new.items) }

@@ -1,6 +1,7 @@
 //! What parameters cost, in bytes.
 
 ghost use Rattle.std.specs.Prelude.{◌≡◌, ◌+◌, ◌<◌, ◌≤◌};
+ghost use Rattle.pcl_base.specs.Limits.{data_limit};
 ghost use Rattle.pcl_output.specs.Spelling.{digit_count, row_cost};
 
 /// How many digits a number needs: 0 has none.
@@ -21,7 +22,7 @@ pub fn digits(number: u32) -> u32
 
 /// What a row of so many bytes of data costs: the digits of its length, its letter and its data.
 pub fn row_cost(bytes: u32) -> u32
-    requires { bytes ≤ 65535 }
+    requires { bytes ≤ data_limit }
     ensures cost { result ≡ row_cost bytes }
     ensures small { result ≤ 65541 }
 {

@@ -1,6 +1,7 @@
 //! Performing one command after the other.
 
 ghost use Rattle.std.specs.Prelude.{◌≤◌, ◌*◌, ◌^◌};
+ghost use Rattle.pcl_base.specs.Limits.{copies_limit};
 ghost use Rattle.pcl_page.specs.Raster.{rows_in};
 
 use crate::asks::Asks;
@@ -174,7 +175,7 @@ impl<'a> Performer<'a> {
         sink: &mut S,
     ) -> Result<(), AllocError>
         requires few { self.old.ejected < 256 }
-        requires copies { (1 ≤ copies) × (copies ≤ 99) }
+        requires copies { (1 ≤ copies) × (copies ≤ copies_limit) }
         ensures ok { OnOk result (IsEjected asked self.old self.new × Takes S.takes copies self.old sink.old sink.new) }
         ensures err { OnErr result (sink.new ≡ sink.old) }
     {

@@ -1,6 +1,7 @@
 //! The table of a plan, filled from the last row upwards.
 
 ghost use Rattle.std.specs.Prelude.{◌≡◌, ◌+◌, ◌<◌, ◌≤◌, length};
+ghost use Rattle.pcl_base.specs.Limits.{data_limit};
 ghost use Rattle.pcl_base.specs.declared.method.Method.{Method as RowMethod};
 ghost use Rattle.pcl_coders.specs.Coding.{IsLeastLength};
 ghost use Rattle.pcl_output.specs.Nodes.{row_at, row_above};
@@ -81,7 +82,7 @@ fn least_lengths<L: LeastLengths>(lengths: &L, rows: &Rows<'_>, row: u32) -> ByM
 /// after them. `bytes` is how many the row's data has.
 fn least_starts(table: &Table, row: u32, run: u32, bytes: ByMethod) -> ByMethod
     requires readable { IsReadable table.now row run }
-    requires bytes { (method : RowMethod) → by_method bytes method ≤ 65535 }
+    requires bytes { (method : RowMethod) → by_method bytes method ≤ data_limit }
     ensures { (method : RowMethod)
         → IsLeastStart (node_number table.now) row method run (by_method bytes method) (by_method result method) }
 {
@@ -97,7 +98,7 @@ fn least_starts(table: &Table, row: u32, run: u32, bytes: ByMethod) -> ByMethod
 /// what skipping some of `run` rows costs.
 fn least_start(table: &Table, row: u32, method: Method, run: u32, bytes: u32) -> u32
     requires readable { IsReadable table.now row run }
-    requires bytes { bytes ≤ 65535 }
+    requires bytes { bytes ≤ data_limit }
     ensures { IsLeastStart (node_number table.now) row method run bytes result }
 {
     let sent = row_cost(bytes) + table.number(row + 1, method, false);

@@ -1,6 +1,7 @@
 //! The steps of a plan, read off its table from the topmost row downwards.
 
 ghost use Rattle.std.specs.Prelude.{◌≡◌, ◌≢◌, ℕ, ◌+◌, ◌^◌, ◌<◌, ◌≤◌, [], length, OnOk, IfSome, IfNone};
+ghost use Rattle.pcl_base.specs.Limits.{data_limit};
 ghost use Rattle.pcl_base.specs.declared.method.Method.{Method as RowMethod};
 ghost use Rattle.pcl_base.specs.Method.{method_code};
 ghost use Rattle.pcl_coders.specs.Coding.{IsLeastLength};
@@ -98,7 +99,7 @@ fn beginning_skip(table: &Table, row: u32, method: Method, run: u32, least: u32)
 fn least_length<L: LeastLengths>(lengths: &L, rows: &Rows<'_>, row: u32, method: Method) -> u32
     requires { row < rows.now.count }
     ensures least { IsLeastLength method (row_above rows.now.width (rows_of rows.now) row) (row_at (rows_of rows.now) row) result }
-    ensures small { result ≤ 65535 }
+    ensures small { result ≤ data_limit }
 {
     let zeros = [0; ROW_LIMIT];
     lengths.least(method, rows.row(row), rows.row_above(row, &zeros))

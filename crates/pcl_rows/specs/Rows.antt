@@ -1,5 +1,6 @@
 -- The row that row data makes over a seed row.
 use Rattle.std.specs.Prelude.{◌≡◌, ℕ, ◌+◌, ◌<◌, ◌≤◌, List, [], ◌∷◌, ◌++◌, length, take, drop, replicate, flat_map}
+use Rattle.pcl_base.specs.Limits.{data_limit}
 use Rattle.pcl_base.specs.declared.method.Method.{Method}
 use Rattle.pcl_base.specs.declared.method.Method.TheVariants.{Plain, Runs, Packed, Delta}
 use Rattle.pcl_rows.specs.Heads.{Head, head_bytes, offset_of}
@@ -54,4 +55,4 @@ IsWhole method bytes row_bytes =
 pub record IsRowData (method : Method) (seed row bytes : List ℕ) : Type 0 where
   pub whole : IsWhole method bytes (length row)
   pub decodes : Decodes method seed bytes row
-  pub fits : length bytes ≤ 65535
+  pub fits : length bytes ≤ data_limit

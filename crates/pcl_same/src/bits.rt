@@ -1,6 +1,7 @@
 //! The first dot at which rows of bytes differ.
 
 ghost use Rattle.std.specs.Prelude.{◌≡◌, ◌≢◌, ℕ, ◌^◌, ◌<◌, ◌≤◌, length, MatchOption};
+ghost use Rattle.pcl_base.specs.Limits.{row_limit};
 ghost use Rattle.pcl_same.specs.inner.Rows.{IsFirstBit, IsFirstDotOfRow};
 
 use pcl_bitmap::first_difference;
@@ -8,7 +9,7 @@ use pcl_bitmap::first_difference;
 /// The leftmost dot at which two rows of one length differ.
 pub fn first_dot_of_row(one: &[u8], other: &[u8]) -> Option<u32>
     requires len { length one.now ≡ length other.now }
-    requires small { length one.now ≤ 600 }
+    requires small { length one.now ≤ row_limit }
     ensures { MatchOption result (one.now ≡ other.now) (IsFirstDotOfRow one.now other.now) }
 {
     let place = first_difference(one, other);

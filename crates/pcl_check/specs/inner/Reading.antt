@@ -1,5 +1,6 @@
 -- A page text while it is read.
 use Rattle.std.specs.Prelude.{◌≡◌, ℕ, ◌+◌, ◌-◌, ◌<◌, ◌≤◌, ◌↔◌, Bool, true, false, IsTrue, List, ◌∷◌, ◌++◌, length, take, drop, replicate, min, codes, decimal, Option, Some, None}
+use Rattle.pcl_base.specs.Limits.{data_limit}
 use Rattle.std.specs.Borrow.{Bor}
 use Rattle.std.specs.List.{flat_map, AllByRecursion}
 use Rattle.pcl_base.specs.declared.dpi.Dpi.{Dpi}
@@ -28,8 +29,8 @@ pub record IsParameter (text : List ℕ) (found : Parameter) : Type 0 where
 
 -- so many bytes and those after them, where there are so many and no row has more
 abbrev pub IsSplit : ℕ → List ℕ → Option (Bor (List ℕ) × Bor (List ℕ)) → Type 0
-IsSplit number bytes None = number ≤ 65535 → length bytes < number
-IsSplit number bytes (Some parts) = (number ≤ 65535) × (length parts.0.now ≡ number) × (bytes ≡ parts.0.now ++ parts.1.now)
+IsSplit number bytes None = number ≤ data_limit → length bytes < number
+IsSplit number bytes (Some parts) = (number ≤ data_limit) × (length parts.0.now ≡ number) × (bytes ≡ parts.0.now ++ parts.1.now)
 
 -- ---- the start of a text
 

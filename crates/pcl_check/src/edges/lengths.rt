@@ -1,6 +1,7 @@
 //! The lengths that rows are counted with where the steps of a page are tested.
 
 ghost use Rattle.std.specs.Prelude.{◌≡◌, ℕ, ◌<◌, ◌≤◌};
+ghost use Rattle.pcl_base.specs.Limits.{data_limit};
 ghost use Rattle.pcl_base.specs.declared.method.Method.{Method as RowMethod};
 ghost use Rattle.pcl_base.specs.Size.{page_height, page_row_bytes};
 ghost use Rattle.pcl_bitmap.specs.declared.page.Page.{Page as PageModel};
@@ -26,7 +27,7 @@ pub trait RowLengths {
         requires row { row < page_height page.now.size page.now.dpi }
         ensures counts { counts self.now page.now row method result }
         ensures alone { (bytes : ℕ) → counts self.now page.now row method bytes → bytes ≡ result }
-        ensures small { result ≤ 65535 };
+        ensures small { result ≤ data_limit };
 }
 
 /// The least lengths of row data, as the coders give them.

@@ -1,6 +1,7 @@
 //! The body of a page text: its sequences, and the rows that they say.
 
 ghost use Rattle.std.specs.Prelude.{◌≡◌, ℕ, ◌≤◌, ◌⊎◌, true, false, List, length};
+ghost use Rattle.pcl_base.specs.Limits.{data_limit};
 ghost use Rattle.pcl_base.specs.declared.size.Size.{Size};
 ghost use Rattle.pcl_base.specs.Size.{page_height, page_row_bytes};
 ghost use Rattle.pcl_bitmap.specs.Bitmap.{Picture};
@@ -152,7 +153,7 @@ fn send<'a>(
 /// Makes a row of the row above it, and answers whether its data is whole and its pad bits are clear.
 fn paint(comparison: Comparison<'_>, method: Method, bytes: &[u8], above: &mut [u8]) -> bool
     requires above { length above.old ≡ page_row_bytes comparison.size comparison.bitmap.now.dpi }
-    requires fits { length bytes.now ≤ 65535 }
+    requires fits { length bytes.now ≤ data_limit }
     ensures { IsPaintedRow comparison.entry.bitmap.now.dpi comparison.entry.size method above.old bytes.now result above.new }
 {
     let mut space = [0; ROW_LIMIT];

@@ -1,6 +1,7 @@
 //! Numbers of a text, and the letters after them.
 
 ghost use Rattle.std.specs.Prelude.{◌≡◌, ℕ, ◌≤◌, ◌<◌, false, List, ◌∷◌, ◌++◌, length, min, decimal, MatchOption};
+ghost use Rattle.pcl_base.specs.Limits.{data_limit};
 ghost use Rattle.std.specs.List.{prefix_len};
 ghost use Rattle.pcl_base.specs.Digits.{is_digit, number_of};
 ghost use Rattle.pcl_base.specs.Digits.{AreDigits};
@@ -41,7 +42,7 @@ pub fn read_parameter(text: &[u8]) -> Option<Parameter<'_>>
 /// Reads a number without leading zeros and this letter after it: the number, and what stands after the letter.
 pub fn read_decimal(text: &[u8], letter: u8) -> Option<(u32, &[u8])>
     requires { is_digit letter ≡ false }
-    ensures { MatchOption result ((n : ℕ) (rest : List ℕ) → n ≤ 65535 → text.now ≡ decimal n ++ letter ∷ rest → ⊥)
+    ensures { MatchOption result ((n : ℕ) (rest : List ℕ) → n ≤ data_limit → text.now ≡ decimal n ++ letter ∷ rest → ⊥)
         (λ found. (text.now ≡ decimal found.0 ++ letter ∷ found.1.now) × (found.0 ≤ 65536)) }
 {
     let parameter = read_parameter(text)?;

@@ -1,5 +1,6 @@
 -- The element that begins the least data for the rest of a row.
 use Rattle.std.specs.Prelude.{◌≡◌, ◌≢◌, ℕ, ◌+◌, ◌*◌, ◌<◌, ◌≤◌, List, length, slice_index}
+use Rattle.pcl_base.specs.Limits.{row_limit}
 use Rattle.pcl_base.specs.declared.method.Method.{Method}
 use Rattle.pcl_rows.specs.Elements.{Element, IsElement, stop}
 use Rattle.pcl_coders.specs.RowWalks.{Agrees, cost}
@@ -34,4 +35,4 @@ pub record IsChoice (method : Method) (old wanted numbers : List ℕ) (e : Eleme
 pub record IsPlace (wanted numbers : List ℕ) : Type 0 where
   pub size : length numbers ≡ length wanted + 1
   pub some : 0 < length wanted
-  pub small : length wanted ≤ 600
+  pub small : length wanted ≤ row_limit

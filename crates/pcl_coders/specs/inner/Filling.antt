@@ -1,5 +1,6 @@
 -- A table of least numbers while it is filled, and data while it is appended.
 use Rattle.std.specs.Prelude.{◌≡◌, ℕ, ◌+◌, ◌-◌, ◌*◌, ◌<◌, ◌≤◌, ◌⊎◌, List, ◌++◌, length, drop, replicate, slice_index, flat_map}
+use Rattle.pcl_base.specs.Limits.{row_limit}
 use Rattle.pcl_base.specs.declared.method.Method.{Method}
 use Rattle.pcl_rows.specs.Elements.{Element, IsElement, element_bytes, stop}
 use Rattle.pcl_base.specs.Walks.{Walk, total}
@@ -33,7 +34,7 @@ pub record IsFirstEnd (old row : List ℕ) (end : ℕ) : Type 0 where
 -- a table that is filled where no more data is needed: with 0 from the first such place on
 pub record IsBegun (old row table : List ℕ) (end : ℕ) : Type 0 where
   pub same_size : length old ≡ length row
-  pub small : length row ≤ 600
+  pub small : length row ≤ row_limit
   pub size : length table ≡ length row + 1
   pub first_end : IsFirstEnd old row end
   pub zeros : (place : ℕ) → end ≤ place → slice_index table place ≡ 0

@@ -10,7 +10,10 @@ ghost use Rattle.pcl_env.specs.Outcome.{outcome, Answers};
 use super::{Env, MARGIN};
 use crate::stack::Position;
 use crate::{Effect, Unsupported};
-use pcl_base::{Asking, Size, Value};
+use pcl_base::{Asking, COPIES_LIMIT, Size, Value};
+
+/// The most copies of a page.
+const MOST_COPIES: u32 = COPIES_LIMIT as u32;
 
 /// The whole part of a universal exit.
 const EXIT: i32 = -12_345;
@@ -57,7 +60,7 @@ impl Env {
         ensures { Answers (outcome Dpi300 Copies value false self.old) result self.old self.new }
     {
         match value.count() {
-            Some(copies @ 1..=99) => {
+            Some(copies @ 1..=MOST_COPIES) => {
                 self.setup.copies = copies as u8;
                 Ok(Effect::Stay)
             }
