@@ -1,5 +1,5 @@
 -- What a run by the words of a command line does with files, reads and writes, and how it ends.
-use Rattle.std.specs.Prelude.{◌≡◌, ℕ, Bool, true, List, ◌⊎◌, Option, Result, Ok, Err}
+use Rattle.std.specs.Prelude.{◌≡◌, ◌≢◌, ℕ, Bool, ◌&&◌, MatchBool, List, [], ◌∷◌, codes, ◌⊎◌, Option, Some, None, Result, Ok, Err}
 use Rattle.clap.specs.Values.{kind_of}
 use Rattle.clap.specs.declared.error.Error.{Error}
 use Rattle.clap.specs.declared.error.kind.ErrorKind.TheVariants.{DisplayHelp, DisplayVersion, OutOfMemory}
@@ -9,28 +9,42 @@ use Rattle.pcl_command.specs.declared.running.Ending.TheVariants.{NoMemory}
 use Rattle.pcl_command.specs.Files.{FileAct}
 use Rattle.pcl_command.specs.Runs.{HasEnded, HasFailed, HasStayed, IsStatus, terminal_line, writes_raw}
 
--- something was asked for, and ended so
-abbrev pub EndsRequest : {F : Type 0} → (F → FileAct → F → Type 0) → (files kept : F) → (given left old new : Option (List ℕ)) → Ending
-    → Type 0
-EndsRequest acts files kept given left old new ending = (request : Request) × HasEnded acts request files kept given left old new ending
-
 -- nothing was done, so that no job and no image reaches a terminal, and that is said
-abbrev pub SparesTerminal : {F : Type 0} → (is_terminal : Bool) → (files kept : F) → (given left old new : Option (List ℕ)) → Ending
-    → Type 0
-SparesTerminal is_terminal files kept given left old new ending =
-    (is_terminal ≡ true) × ((request : Request) × (writes_raw request ≡ true)) × HasStayed files kept given left old new
-    × HasFailed terminal_line 2 ending
+abbrev pub SparesTerminal : {F : Type 0} → (files kept : F) → (given left old new : Option (List ℕ)) → Ending → Type 0
+SparesTerminal files kept given left old new ending = HasStayed files kept given left old new × HasFailed terminal_line 2 ending
 
--- how a run by words ends, by what it did with files, read and wrote: memory may run out before it is known what they ask for, which
--- is no error that is shown; one is where they ask for nothing that reads or writes
+-- an error is shown, but for memory that ran out, which ends a run
+abbrev pub IsShown : Error → Result Ending Error → Type 0
+IsShown why (Ok ending) = (kind_of why ≡ OutOfMemory) × (ending ≡ NoMemory)
+IsShown why (Err error) = (kind_of why ≢ OutOfMemory) × (error ≡ why)
+
+-- how a run ends that is given what its words ask for, or why they ask for nothing that reads or writes: what is asked for is done,
+-- unless it would write to a terminal
+abbrev pub HasRunAsked : {F : Type 0} → (F → FileAct → F → Type 0) → (is_terminal : Bool) → Result Request Error → (files kept : F)
+    → (given left old new : Option (List ℕ)) → Result Ending Error → Type 0
+HasRunAsked acts is_terminal (Ok request) files kept given left old new (Ok ending) =
+    MatchBool (is_terminal && writes_raw request) (SparesTerminal files kept given left old new ending)
+    (HasEnded acts request files kept given left old new ending)
+HasRunAsked acts is_terminal (Ok request) files kept given left old new (Err error) = ⊥
+HasRunAsked acts is_terminal (Err why) files kept given left old new result = IsShown why result × HasStayed files kept given left old new
+
+-- how a run by words ends, by what it did with files, read and wrote
 abbrev pub HasRunWords : {F : Type 0} → (F → FileAct → F → Type 0) → (is_terminal : Bool) → (files kept : F)
     → (given left old new : Option (List ℕ)) → Result Ending Error → Type 0
-HasRunWords acts is_terminal files kept given left old new (Ok NoMemory) =
-    EndsRequest acts files kept given left old new NoMemory ⊎ HasStayed files kept given left old new
-HasRunWords acts is_terminal files kept given left old new (Ok ending) =
-    EndsRequest acts files kept given left old new ending ⊎ SparesTerminal is_terminal files kept given left old new ending
-HasRunWords acts is_terminal files kept given left old new (Err error) =
-    (kind_of error ≡ OutOfMemory → ⊥) × HasStayed files kept given left old new
+HasRunWords acts is_terminal files kept given left old new result =
+    (asked : Result Request Error) × HasRunAsked acts is_terminal asked files kept given left old new result
+
+-- ---- the words of a batch
+
+-- the word after the program's name
+abbrev pub command_word : List (List ℕ) → Option (List ℕ)
+command_word [] = None
+command_word (program ∷ []) = None
+command_word (program ∷ word ∷ words) = Some word
+
+-- a batch is a command of its own, in which each job is a run
+abbrev pub AskForBatch : List (List ℕ) → Type 0
+AskForBatch words = command_word words ≡ Some (codes "batch")
 
 -- help and the version, which are asked for, are no fault
 abbrev pub IsAskedFor : Error → Type 0

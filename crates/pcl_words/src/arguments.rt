@@ -16,41 +16,31 @@ use pcl_tool::PageChoice;
 use std::alloc::{AllocError, Global};
 use std::convert::AsStr;
 
-/// What the words of a command line ask for.
+/// A batch, and the files of its jobs: where there are none, standard input names them.
 #[derive(Drop)]
-pub enum Asked<'w> {
-    /// Something that is done by itself.
-    Request(Request<'w>),
-    /// A batch with the jobs of these files, or where none is named of those that standard input names.
-    Batch {
-        batch: Batch<'w>,
-        paths: Vec<&'w str>,
-    },
+pub struct AskedBatch<'w> {
+    pub batch: Batch<'w>,
+    pub paths: Vec<&'w str>,
 }
 
 /// What the words of a command line ask for, or the help, the version or the fault to print.
-pub fn parse_arguments<'w, S: AsStr>(alloc: Global, words: &'w [S]) -> Result<Asked<'w>, Error> {
+pub fn parse_request<'w, S: AsStr>(alloc: Global, words: &'w [S]) -> Result<Request<'w>, Error> {
     let matches = pclmin(alloc)?.try_get_matches_from(words)?;
-    match asked_by(alloc, &matches)? {
-        Ok(asked) => Ok(asked),
-        Err(wrong) => {
-            let text = wrong.text(alloc)?;
-            Err(pclmin(alloc)?.error(ErrorKind::InvalidValue, text.as_str())?)
-        }
+    match request_of(&matches) {
+        Ok(request) => Ok(request),
+        Err(wrong) => Err(wrong.error(alloc)?),
     }
 }
 
-/// What the words ask for, where memory is there for the files of a batch.
-fn asked_by<'w>(
-    alloc: Global,
-    matches: &ArgMatches<'w>,
-) -> Result<Result<Asked<'w>, WrongWord<'w>>, AllocError> {
-    match matches.subcommand() {
-        Some(("batch", command)) => {
-            let paths = batch_paths(alloc, command)?;
-            Ok(batch_of(command).map(|batch| Asked::Batch { batch, paths }))
-        }
-        _ => Ok(request_of(matches).map(Asked::Request)),
+/// The batch that the words of a command line ask for, or the help or the fault to print.
+pub fn parse_batch<'w, S: AsStr>(alloc: Global, words: &'w [S]) -> Result<AskedBatch<'w>, Error> {
+    let matches = pclmin(alloc)?.try_get_matches_from(words)?;
+    match batch_of(&matches) {
+        Ok((batch, command)) => Ok(AskedBatch {
+            batch,
+            paths: batch_paths(alloc, command)?,
+        }),
+        Err(wrong) => Err(wrong.error(alloc)?),
     }
 }
 
@@ -62,8 +52,16 @@ fn batch_paths<'w>(alloc: Global, batch: &ArgMatches<'w>) -> Result<Vec<&'w str>
     }
 }
 
+/// What the words of `batch` ask for, with those that stand after it.
+fn batch_of<'w, 'm>(
+    matches: &'m ArgMatches<'w>,
+) -> Result<(Batch<'w>, &'m ArgMatches<'w>), WrongWord<'w>> {
+    let (_, command) = matches.subcommand().ok_or(WrongWord::Missing)?;
+    Ok((batch_with(command)?, command))
+}
+
 /// What the words after `batch` ask for.
-fn batch_of<'w>(batch: &ArgMatches<'w>) -> Result<Batch<'w>, WrongWord<'w>> {
+fn batch_with<'w>(batch: &ArgMatches<'w>) -> Result<Batch<'w>, WrongWord<'w>> {
     Ok(Batch {
         folder: batch.get_str("output").ok_or(WrongWord::Missing)?,
         rewriting: if batch.get_flag("min") {
@@ -90,6 +88,12 @@ enum WrongWord<'w> {
 }
 
 impl WrongWord<'_> {
+    /// The fault to print.
+    fn error(self, alloc: Global) -> Result<Error, AllocError> {
+        let text = self.text(alloc)?;
+        pclmin(alloc)?.error(ErrorKind::InvalidValue, text.as_str())
+    }
+
     /// What is said of it.
     fn text(self, alloc: Global) -> Result<String, AllocError> {
         match self {

@@ -1,8 +1,9 @@
 //! A run by the words of a command line, and its status.
 
-ghost use Rattle.pcl_words.specs.Runs.{HasRunWords, IsExitStatus};
+ghost use Rattle.std.specs.Prelude.{◌≡◌, ◌⊎◌, map, IsTrue};
+ghost use Rattle.pcl_words.specs.Runs.{IsShown, HasRunAsked, HasRunWords, AskForBatch, IsExitStatus};
 
-use crate::arguments::{Asked, parse_arguments};
+use crate::arguments::{parse_batch, parse_request};
 use crate::names::run_named;
 use clap::Error;
 use clap::error::ErrorKind;
@@ -21,15 +22,42 @@ pub fn run<F: JobFiles, S: AsStr, R: Read, W: Write, P: Reporter + Copy>(
     out: &mut W,
     is_terminal: bool,
     reporter: P,
-) -> Result<Ending, Error> {
-    let request = match parse_arguments(alloc, words) {
-        Ok(Asked::Request(request)) => Ok(request),
-        Ok(Asked::Batch { batch, paths }) => {
-            return Ok(run_named(files, alloc, batch, &paths, reader, out, reporter));
-        }
-        Err(shown) => Err(shown),
-    };
+) -> Result<Ending, Error>
+    ensures { AskForBatch (map S.text words.now) ⊎ HasRunWords F.acts is_terminal files.old files.new
+        (R.remaining reader.old) (R.remaining reader.new) (W.contents out.old) (W.contents out.new) result }
+{
+    if ask_for_batch(words) {
+        return run_batch_words(files, alloc, words, reader, out, reporter);
+    }
+    let request = parse_request(alloc, words);
     run_request(files, alloc, request, reader, out, is_terminal, reporter)
+}
+
+/// Whether the words of a command line ask for a batch.
+fn ask_for_batch<S: AsStr>(words: &[S]) -> bool
+    ensures { IsTrue result ↔ AskForBatch (map S.text words.now) }
+{
+    match words {
+        [_, word, ..] => word.as_str() == "batch",
+        _ => false,
+    }
+}
+
+/// Runs the batch that words ask for.
+fn run_batch_words<F: JobFiles, S: AsStr, R: Read, W: Write, P: Reporter + Copy>(
+    files: &mut F,
+    alloc: Global,
+    words: &[S],
+    reader: &mut R,
+    out: &mut W,
+    reporter: P,
+) -> Result<Ending, Error> {
+    let asked = match parse_batch(alloc, words) {
+        Ok(asked) => asked,
+        Err(error) => return shown(error),
+    };
+    let paths = &asked.paths;
+    Ok(run_named(files, alloc, asked.batch, paths, reader, out, reporter))
 }
 
 /// Does what is asked for, with the job that a reader gives. The reporter is told of each page that is done, unless silence is asked
@@ -44,14 +72,23 @@ pub fn run_request<F: JobFiles, R: Read, W: Write, P: Reporter>(
     is_terminal: bool,
     reporter: P,
 ) -> Result<Ending, Error>
-    ensures { HasRunWords F.acts is_terminal files.old files.new (R.remaining reader.old) (R.remaining reader.new)
+    ensures { HasRunAsked F.acts is_terminal asked.entry files.old files.new (R.remaining reader.old) (R.remaining reader.new)
         (W.contents out.old) (W.contents out.new) result }
 {
     match asked {
         Ok(request) if is_terminal && request.writes_raw() => Ok(refuse_terminal(alloc)),
         Ok(request) => Ok(carry_out(files, alloc, request, reader, out, reporter)),
-        Err(error) if error.kind() == ErrorKind::OutOfMemory => Ok(Ending::NoMemory),
-        Err(error) => Err(error),
+        Err(error) => shown(error),
+    }
+}
+
+/// What is to be shown where words ask for nothing that is done, unless memory ran out before that was known.
+fn shown(error: Error) -> Result<Ending, Error>
+    ensures { IsShown error.entry result }
+{
+    match error.kind() {
+        ErrorKind::OutOfMemory => Ok(Ending::NoMemory),
+        _ => Err(error),
     }
 }
 
