@@ -2,15 +2,11 @@
 
 ghost use Rattle.pcl_glyphs.specs.Outcome.{IsOutcome};
 
-use crate::collecting::Collection;
-use crate::definitions::append_definitions;
-use crate::fonts::append_fonts;
-use crate::forms::Form;
-use crate::layout::{Layout, lay_out};
-use crate::macro_layout::{MacroLayout, lay_out_macros};
-use crate::macro_writing::MacroWriter;
-use crate::writing::Writer;
 use pcl_base::{Dpi, JobFault};
+use pcl_letters::{
+    Collection, Form, Layout, MacroLayout, MacroWriter, Writer, append_definitions, append_fonts,
+    lay_out, lay_out_macros,
+};
 use pcl_page::perform;
 use pcl_writer::write_frame;
 use std::alloc::{AllocError, Global};

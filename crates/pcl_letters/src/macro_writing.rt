@@ -5,7 +5,7 @@ use crate::macros::append_marks;
 use crate::marks::Line;
 use crate::numbers::{append_labelled, digit_count};
 use crate::writing::{FORM_FEED, append_raster};
-use pcl_page::{Page, PageSink};
+use pcl_bitmap::{Page, PageSink};
 use std::alloc::AllocError;
 use std::marker::Model;
 

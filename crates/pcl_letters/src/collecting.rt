@@ -6,7 +6,7 @@ use crate::patterns::{Pattern, draw_patterns};
 use crate::runs::find_runs;
 use crate::shapes::{Extent, find_shapes};
 use indexmap::IndexSet;
-use pcl_page::{Page, PageSink};
+use pcl_bitmap::{Page, PageSink};
 use std::alloc::{AllocError, Global};
 use std::marker::Model;
 
