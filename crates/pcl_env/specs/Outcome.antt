@@ -44,12 +44,9 @@ counted v f = if is_below_zero v then None else f (whole_of v)
 abbrev pub is_one_of : List ℕ → ℕ → Bool
 is_one_of numbers n = list_any (λ m. m == n) numbers
 
--- these settings, where the whole part is from 0 on, within two bounds, up to one, or one of some numbers
+-- these settings, where the whole part is from 0 on, up to a bound, or one of some numbers
 abbrev pub from_zero : Value → Settings → Outcome
 from_zero v s = counted v (λ n. stays s)
-
-abbrev pub within : ℕ → ℕ → Value → Settings → Outcome
-within least most v s = counted v (λ n. stays_if (nat_le least n && nat_le n most) s)
 
 abbrev pub up_to : ℕ → Value → Settings → Outcome
 up_to most v s = counted v (λ n. stays_if (nat_le n most) s)
@@ -193,7 +190,7 @@ outcome dpi FormFeed v m s = Some (before_feed s, page.Eject)
 outcome dpi CarriageReturn v m s = if s.return_feeds then feed s.vmi (return_carriage s) else stays (return_carriage s)
 outcome dpi (Shift side) v m s = stays (record s { in_use = side })
 outcome dpi PageSize v m s = counted v (λ n. set_size (size_with_code n) s)
-outcome dpi Copies v m s = within 1 copies_limit v (record s { copies = whole_of v })
+outcome dpi Copies v m s = counted v (λ n. stays_if (nat_le 1 n && nat_le n copies_limit) (record s { copies = n }))
 outcome dpi VerticalMotionIndex v m s = from_zero v (record s { vmi = scaled_by 150 v })
 outcome dpi LineSpacing v m s = one_of line_spacings v (record s { vmi = inch / whole_of v })
 outcome dpi TopMargin v m s = from_zero v (set_top (whole_of v * s.vmi) m s)

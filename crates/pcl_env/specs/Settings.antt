@@ -16,19 +16,9 @@ use Rattle.pcl_env.specs.declared.asked.Asked.{Asked}
 abbrev pub inch : ℕ
 inch = 7200
 
--- the PCL unit, the column width and the line spacing until a job sets others: 300, 10 and 6 to the inch
-abbrev pub default_unit : ℕ
-default_unit = 24
-
-abbrev pub default_column : ℕ
-default_column = 720
-
-abbrev pub default_line : ℕ
-default_line = 1200
-
--- the margin above and below the text until a job sets another: half an inch
+-- above and below the text, until a job sets another
 abbrev pub margin : ℕ
-margin = 3600
+margin = inch / 2
 
 -- ---- the settings
 
@@ -116,16 +106,16 @@ abbrev pub defaults : Settings
 defaults = record {
   size = Letter;
   copies = 1;
-  pcl_unit = default_unit;
-  hmi = default_column;
-  vmi = default_line;
+  pcl_unit = inch / 300;
+  hmi = inch / 10;
+  vmi = inch / 6;
   top = margin;
   bottom = units_high Letter - margin;
   left = 0;
   skips = true;
   return_feeds = false;
   feed_returns = false;
-  cursor = record { x = 0; y = margin + 3 * default_line / 4 };
+  cursor = record { x = 0; y = margin + 3 * (inch / 6) / 4 };
   stack = [];
   macro_id = 0;
   font_id = 0;
