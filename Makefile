@@ -28,8 +28,9 @@ test:
 ALLOCATIONS := 100
 
 # Makes the first allocation of each test in which memory runs out fail, then the second, and so on, until a run in which
-# memory ran out nowhere. In each run each of these tests has to pass; the first fails in all of them. It takes some
-# minutes.
+# memory ran out nowhere. In each run each of these tests has to pass; the first fails in all of them. Then the same of runs of
+# pclmin and of the calls of crates/memory_cases, which process/memory.py says more of. It takes some minutes, a C compiler, and
+# the program that `make build` left.
 test-memory:
 	@mkdir -p build
 	@tests=$$(grep -c '^#\[test\]' crates/worked_examples/src/tests/memory.rt); \
@@ -40,9 +41,11 @@ test-memory:
 		echo "allocation $$allocation fails: memory ran out in $$failures of $$tests tests, $$passed passed"; \
 		if [ "$$passed" -ne "$$tests" ]; then exit 1; fi; \
 		if [ "$$allocation" -eq 1 ] && [ "$$failures" -ne "$$tests" ]; then exit 1; fi; \
-		if [ "$$failures" -eq 0 ]; then exit 0; fi; \
+		if [ "$$failures" -eq 0 ]; then break; fi; \
 	done; \
-	echo "memory still ran out"; exit 1
+	if [ "$$failures" -ne 0 ]; then echo "memory still ran out"; exit 1; fi
+	cd crates/memory_cases && rt run > /dev/null
+	process/memory.py $(PROGRAM) crates/memory_cases/out/memory_cases crates/memory_cases/stdout
 
 # Compares what the process says and its status where files, standard streams and memory fail, and what a terminal is told
 # (process/cases.txt). Needs Python 3, and the program that `make build` left.
