@@ -22,7 +22,8 @@ abbrev IsUndrawn : Result (Unit {0}) Fault → Type 0
 IsUndrawn (Err fault) = IsImageFault fault
 IsUndrawn (Ok done) = Unit {0}
 
-written_fault : (old new : Option (List ℕ)) (image : Picture) (fault : Fault) → IsImageWritten old new image (Err fault) → IsImageFault fault
+written_fault : (old new : Option (List ℕ)) (image : Picture) (fault : Fault) → IsImageWritten old new image (Err fault)
+    → IsImageFault fault
 written_fault old new image WriteFault w = tt
 written_fault old new image Memory w = tt
 written_fault old new image ReadFault w = w

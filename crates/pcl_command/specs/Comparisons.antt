@@ -84,6 +84,7 @@ IsCompareRun acts asked files kept old new (Err (Failed fault.ReadFault)) =
 IsCompareRun acts asked files kept old new (Err (Failed fault.TooLong)) =
     (kept ≡ files) × IsOneUnread acts files asked fault.TooLong × Keeps old new
 IsCompareRun acts asked files kept old new (Err (Failed fault.Memory)) =
-    ((kept ≡ files) ⊎ ((comparison : AskedComparison) × IsComparedAndDrawn acts asked files kept comparison (Err fault.Memory))) × Keeps old new
+    ((kept ≡ files) ⊎ ((comparison : AskedComparison) × IsComparedAndDrawn acts asked files kept comparison (Err fault.Memory)))
+    × Keeps old new
 IsCompareRun acts asked files kept old new (Err (Failed (fault.Refused refusal))) = ⊥
 IsCompareRun acts asked files kept old new (Err (Failed fault.NoSuchPage)) = ⊥

@@ -143,7 +143,8 @@ abbrev pub HasWrittenFile : {F : Type 0} → (F → FileAct → F → Type 0) �
 HasWrittenFile {F} acts run name files kept given left done =
     (acts files (Unmade name) kept × (done ≡ Err WriteFault) × (left ≡ given))
     ⊎ ((begun ended : F) × (held holds : Option (List ℕ)) × (outcome : Result (Unit {0}) Fault) × acts files (Begun name held) begun
-    × HasDoneSeen acts run.task run.resolution begun ended given left held holds outcome × IsSettled acts name holds outcome ended kept done)
+    × HasDoneSeen acts run.task run.resolution begun ended given left held holds outcome
+    × IsSettled acts name holds outcome ended kept done)
 
 -- the same by where it writes to: nothing reaches the writer where that is a file
 abbrev pub HasWritten : {F : Type 0} → (F → FileAct → F → Type 0) → Run → Target → (files kept : F)

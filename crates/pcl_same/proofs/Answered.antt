@@ -180,7 +180,8 @@ as_many_found dpi pages others compare none =
     alike_count dpi pages others (subst (λ (d : Option PagesDifference). Compare dpi pages others (comparison_of d)) none compare)
 
 -- a job beside one that is kept
-pub beside_kept : OnePages → {dpi : Dpi} {first second : List ℕ} {kept : KeptJob} {others : List Sheet} {other_asks : Asks} → (k : IsKept dpi first kept)
+pub beside_kept : OnePages → {dpi : Dpi} {first second : List ℕ} {kept : KeptJob} {others : List Sheet} {other_asks : Asks}
+    → (k : IsKept dpi first kept)
     → HasPages dpi second others → HasAsks dpi second other_asks
     → (difference : Option PagesDifference) (found : List (Option Difference)) → FindAll dpi kept.pages.items others found
     → IsConcluded (length kept.pages.items) found difference → (result : AskedComparison) → of_pages result ≡ comparison_of difference

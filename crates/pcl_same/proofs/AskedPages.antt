@@ -91,7 +91,8 @@ page_each settings s e =
     omega (arith, asked, pages, e)
 
 turned_each : (settings : Settings) (effect : Effect) (s : Situation) → Each s → Each (turned settings effect s)
-turned_each settings effect s e = each_of_both (ejects effect (is_marked s)) (turned_page settings s) (record s { settings = settings }) (page_each settings s e) e
+turned_each settings effect s e =
+    each_of_both (ejects effect (is_marked s)) (turned_page settings s) (record s { settings = settings }) (page_each settings s e) e
 
 unless_each : (why : Option Kind) (s : Situation) → Each s → EachOf (unless_refused why s)
 unless_each None s e = e

@@ -134,7 +134,8 @@ compares {old} {page} {kept} {new_kept} {found} {same_found} {new_found} next vi
 
 -- ---- the conclusion
 
-pub concluded : {count count' : ℕ} {found found' : List (Option Difference)} (result : Option PagesDifference) → count ≡ count' → found ≡ found'
+pub concluded : {count count' : ℕ} {found found' : List (Option Difference)} (result : Option PagesDifference)
+    → count ≡ count' → found ≡ found'
     → IsConcluded count found result → IsConcluded count' found' result
 concluded {count} {count'} {found} {found'} result c f is =
     subst (λ (n : ℕ). IsConcluded n found' result) c

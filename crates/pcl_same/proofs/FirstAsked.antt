@@ -142,7 +142,8 @@ differ_here {A} differ xs ys {n} d e lt lt' same differs = record {
 -- ---- universal exits
 
 -- exits of the code, by what they are
-exits_at : (R : Exit → Exit → Type 0) (xs ys : List ExitOfCode) (n : ℕ) (d : ExitOfCode) → R (exit_of (get_or xs n d)) (exit_of (get_or ys n d))
+exits_at : (R : Exit → Exit → Type 0) (xs ys : List ExitOfCode) (n : ℕ) (d : ExitOfCode)
+    → R (exit_of (get_or xs n d)) (exit_of (get_or ys n d))
     → R (get_or (map exit_of xs) n (exit_of d)) (get_or (map exit_of ys) n (exit_of d))
 exits_at R xs ys n d r =
     subst (λ (e : Exit). R e (get_or (map exit_of ys) n (exit_of d))) (sym (get_or-map exit_of xs n d))

@@ -208,7 +208,8 @@ pub same_asked : HasOneMeaning → OneAsks → {dpi : Dpi} {first second : List 
 same_asked one one_asks {dpi} {first} {second} a b p q =
     let moved : Compare dpi q.pages q.others (of_pages a) =
     subst (λ (ps : List Sheet). Compare dpi ps q.others (of_pages a)) (one.pages dpi first p.pages q.pages p.meaning q.meaning)
-    (subst (λ (os : List Sheet). Compare dpi p.pages os (of_pages a)) (one.pages dpi second p.others q.others p.other_meaning q.other_meaning)
+    (subst (λ (os : List Sheet). Compare dpi p.pages os (of_pages a))
+    (one.pages dpi second p.others q.others p.other_meaning q.other_meaning)
     p.compare) in
     let asks : CompareAsks q.asks q.other_asks a =
     subst (λ (x : Asks). CompareAsks x q.other_asks a) (one_asks dpi first p.asks q.asks p.asked q.asked)

@@ -21,7 +21,8 @@ fn program<'a>(alloc: Global) -> Command<'a> {
         .version("0.1.0")
         .about("A print filter for HP PCL 5: reads a job, and writes or shows what it prints.")
         .after_help(
-            "Statuses: 0 done, proved or the same, 1 refused, no such page, not proved or not the same, 2 usage, 3 reading, writing or memory.",
+            "Statuses: 0 done, proved or the same, 1 refused, no such page, not proved or not the same, 2 usage, \
+             3 reading, writing or memory.",
         )
         .subcommand_required(true)
         .arg_required_else_help(true)
@@ -76,7 +77,8 @@ fn check<'a>(alloc: Global) -> Result<Command<'a>, AllocError> {
 /// The command that says what the rules refuse.
 fn explain<'a>(alloc: Global) -> Result<Command<'a>, AllocError> {
     let command = Command::new(alloc, "explain").about(
-        "Names everything in a job that is refused, and says what to set instead; given the name of a kind of refusal in place of a file, as NoFont, says what that means",
+        "Names everything in a job that is refused, and says what to set instead; given the name of a kind of \
+         refusal in place of a file, as NoFont, says what that means",
     );
     with_files(alloc, command)?.arg(dpi(alloc))
 }
@@ -96,7 +98,8 @@ fn shrink<'a>(alloc: Global) -> Result<Command<'a>, AllocError> {
 /// The command that says what the pages are.
 fn pages<'a>(alloc: Global) -> Result<Command<'a>, AllocError> {
     let command = Command::new(alloc, "pages").about(
-        "Lists the pages of a job: resolution, size, copies, sides, paper source, black dots in percent, bytes as least raster, and bytes of row data by method",
+        "Lists the pages of a job: resolution, size, copies, sides, paper source, black dots in percent, \
+         bytes as least raster, and bytes of row data by method",
     );
     let json = Arg::new(alloc, "json")
         .long("json")
@@ -136,7 +139,8 @@ fn batch<'a>(alloc: Global) -> Result<Command<'a>, AllocError> {
     );
     Command::new(alloc, "batch")
         .about(
-            "Shrinks many jobs into a folder, and reports on each; one that fails doesn't stop the others, and what is done isn't done again",
+            "Shrinks many jobs into a folder, and reports on each; one that fails doesn't stop the others, \
+             and what is done isn't done again",
         )
         .arg(folder)?
         .arg(min)?
@@ -172,7 +176,8 @@ fn image<'a>(alloc: Global) -> Arg<'a> {
         .long("image")
         .value_name("FILE")
         .help(
-            "Where the first difference is a dot, write a PBM image (P4) of all dots of its page that differ to this file; else it isn't made",
+            "Where the first difference is a dot, write a PBM image (P4) of all dots of its page that differ to this \
+             file; else it isn't made",
         )
 }
 

@@ -73,7 +73,8 @@ answered asked input output certificate dpi verdict a seen p q s h =
 unchecked : {F : Type 0} {acts : F → FileAct → F → Type 0} {files : F} {asked : CheckedFiles} (held : Option (List ℕ))
     (input output certificate : Vec ℕ) (dpi : Dpi) (fault : Fault) → AreRead acts files asked input output certificate
     → IsSeenAt asked.resolution (performed asked.beside input.items output.items) dpi
-    → IsCheckedBeside asked.beside dpi input.items output.items certificate.items (Err fault) → IsCheckRun acts files asked held held (Err fault)
+    → IsCheckedBeside asked.beside dpi input.items output.items certificate.items (Err fault)
+    → IsCheckRun acts files asked held held (Err fault)
 unchecked held input output certificate dpi (Refused refusal) a seen h = ((input, output, certificate, dpi, a, seen, h), Keeps-refl held)
 unchecked held input output certificate dpi Memory a seen h = Keeps-refl held
 unchecked held input output certificate dpi ReadFault a seen h = absurd h
