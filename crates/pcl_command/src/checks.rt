@@ -13,9 +13,9 @@ use pcl_tool::{
 use std::alloc::Global;
 use std::io::Write;
 
-/// Reads the files, the input or the images first, checks the job, and writes the line of the answer; the watcher is told of each page that is
-/// done, and that the last one is before the line is written. Nothing is written after any fault but of a write, and then a
-/// prefix of the line.
+/// Reads the files, the input or the images first, checks the job, and writes the line of the answer; the watcher is told of each page
+/// that is done, and that the last one is before the line is written. Nothing is written after any fault but of a write, and then
+/// a prefix of the line.
 pub fn check<F: JobFiles, W: Write, P: Watcher>(
     files: &F,
     alloc: Global,
