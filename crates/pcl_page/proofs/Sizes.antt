@@ -1,5 +1,5 @@
 -- A command that lets the page stay keeps its size.
-use Rattle.std.specs.Prelude.{◌==◌, ◌&&◌, ◌||◌, ◌*◌, ◌/◌, if◌then◌else◌, max, nat_lt, nat_le, length}
+use Rattle.std.specs.Prelude.{◌==◌, ◌&&◌, ◌*◌, ◌/◌, if◌then◌else◌, max, nat_lt, nat_le, length}
 use Rattle.std.proofs.Common.{◌≡◌, ℕ, ◌+◌, Bool, true, false, cond, List, [], ◌∷◌, Option, Some, None, refl, subst}
 use Rattle.pcl_base.specs.declared.dpi.Dpi.{Dpi}
 use Rattle.pcl_base.specs.declared.method.Method.{Method}
@@ -11,12 +11,13 @@ use Rattle.pcl_base.specs.declared.operation.Operation.{Operation}
 use Rattle.pcl_base.specs.declared.operation.Operation.TheVariants.{Reset, UniversalExit, ClearMargins, HalfLineFeed, HorizontalTab, LineFeed, FormFeed, CarriageReturn, Shift, PageSize, Copies, VerticalMotionIndex, LineSpacing, TopMargin, TextLength, PerforationSkip, OnlyZero, Ask, UnitOfMeasure, HorizontalMotionIndex, LineTermination, LeftMargin, Move, CursorStack, MacroId, ControlMacros, RectangleSize, FillRectangle, FontId, CharacterCode, ControlFonts, DownloadFont, DownloadCharacter, SelectFont, PrintText, RasterResolution, RasterWidth, RasterHeight, RasterPresentation, StartRaster, EndRaster, EndRasterResetMethod, RasterMethod, RasterOffset, RasterRow, NoEffect}
 use Rattle.pcl_base.specs.declared.size.Size.{Size}
 use Rattle.pcl_base.specs.declared.value.Value.{Value}
+use Rattle.pcl_base.specs.Limits.{copies_limit, id_limit, stack_limit}
 use Rattle.pcl_base.specs.Size.{size_with_code, units_wide, units_high}
 use Rattle.pcl_base.specs.Method.{method_with_code}
 use Rattle.pcl_base.specs.Value.{whole_of, is_minus, is_below_zero, scaled_by}
 use Rattle.pcl_env.specs.declared.effect.Effect.TheVariants.{Stay, Eject, EjectMarked}
 use Rattle.pcl_env.specs.Settings.{Position, Settings, put_x, put_y}
-use Rattle.pcl_env.specs.Outcome.{Outcome, stays, stays_if, counted, set_top, set_bottom, set_left, before_feed, return_carriage, feed_limit, feed, move_along, push, pop, popped, set_size, set_rectangle, set_method, unit_of, none_if_zero, is_one_of, line_spacings, units_of_measure, resolutions, outcome}
+use Rattle.pcl_env.specs.Outcome.{Outcome, stays, stays_if, counted, from_zero, up_to, one_of, set_top, set_bottom, set_left, before_feed, return_carriage, feed_limit, feed, move_along, push, pop, popped, set_size, set_rectangle, set_method, unit_of, none_if_zero, is_one_of, line_spacings, units_of_measure, resolutions, outcome}
 
 -- where the page stays, the size does
 abbrev Keeps : Settings → Outcome → Type 0
@@ -48,6 +49,17 @@ counted_keeps value s f k = if_keeps (is_below_zero value) (none_keeps) (k (whol
 stays_if_keeps : (test : Bool) (s t : Settings) → t.size ≡ s.size → KeepsSize s (stays_if test t)
 stays_if_keeps test s t e = if_keeps test (stay_keeps s t e) (none_keeps)
 
+from_zero_keeps : (value : Value) (s t : Settings) → t.size ≡ s.size → KeepsSize s (from_zero value t)
+from_zero_keeps value s t e = counted_keeps value s (λ n. stays t) (λ n. stay_keeps s t e)
+
+up_to_keeps : (most : ℕ) (value : Value) (s t : Settings) → t.size ≡ s.size → KeepsSize s (up_to most value t)
+up_to_keeps most value s t e =
+    counted_keeps value s (λ n. stays_if (nat_le n most) t) (λ n. stays_if_keeps (nat_le n most) s t e)
+
+one_of_keeps : (numbers : List ℕ) (value : Value) (s t : Settings) → t.size ≡ s.size → KeepsSize s (one_of numbers value t)
+one_of_keeps numbers value s t e =
+    counted_keeps value s (λ n. stays_if (is_one_of numbers n) t) (λ n. stays_if_keeps (is_one_of numbers n) s t e)
+
 feed_keeps : (by : ℕ) {s : Settings} (t : Settings) → t.size ≡ s.size → KeepsSize s (feed by t)
 feed_keeps by {s} t e =
     if_keeps (nat_lt (feed_limit t) (t.cursor.y + by)) (eject_keeps)
@@ -67,7 +79,7 @@ bottom_size : (bottom : ℕ) (s : Settings) → (set_bottom bottom s).size ≡ s
 bottom_size bottom s = if_size (nat_lt (units_high s.size) bottom) s (record s { bottom = bottom }) refl refl
 
 push_size : (s : Settings) → (push s).size ≡ s.size
-push_size s = if_size (nat_lt (length s.stack) 20) (record s { stack = s.cursor ∷ s.stack }) s refl refl
+push_size s = if_size (nat_lt (length s.stack) stack_limit) (record s { stack = s.cursor ∷ s.stack }) s refl refl
 
 axis_size : (axis : Axis) (unit : Measure) (value : Value) (s : Settings) → (move_along axis unit value s).size ≡ s.size
 axis_size Horizontal unit value s = refl
@@ -93,121 +105,62 @@ keeps : (dpi : Dpi) (operation : Operation) (value : Value) (marked : Bool) (s :
     → KeepsSize s (outcome dpi operation value marked s)
 unfolding outcome
 keeps dpi Reset v m s = marked_keeps
-keeps dpi UniversalExit v m s =
-    if_keeps (is_minus v.sign && whole_of v == 12345) (marked_keeps) (none_keeps)
+keeps dpi UniversalExit v m s = if_keeps (is_minus v.sign && whole_of v == 12345) (marked_keeps) (none_keeps)
 keeps dpi ClearMargins v m s = stay_keeps s _ refl
 keeps dpi HalfLineFeed v m s = feed_keeps (s.vmi / 2) s refl
 keeps dpi HorizontalTab v m s = stay_keeps s _ refl
 keeps dpi LineFeed v m s = feed_keeps s.vmi (before_feed s) (if_size s.feed_returns (return_carriage s) s refl refl)
 keeps dpi FormFeed v m s = eject_keeps
 keeps dpi CarriageReturn v m s =
-    if_keeps s.return_feeds (feed_keeps s.vmi (return_carriage s) refl)
-    (stay_keeps s (return_carriage s) refl)
+    if_keeps s.return_feeds (feed_keeps s.vmi (return_carriage s) refl) (stay_keeps s (return_carriage s) refl)
 keeps dpi (Shift side) v m s = stay_keeps s _ refl
-keeps dpi PageSize v m s =
-    counted_keeps v s (λ n. set_size (size_with_code n) s)
-    (λ n. size_keeps (size_with_code n))
+keeps dpi PageSize v m s = counted_keeps v s (λ n. set_size (size_with_code n) s) (λ n. size_keeps (size_with_code n))
 keeps dpi Copies v m s =
-    counted_keeps v s (λ n. stays_if (nat_le 1 n && nat_le n 99) (record s { copies = n }))
-    (λ n. stays_if_keeps _ s _ refl)
-keeps dpi VerticalMotionIndex v m s =
-    counted_keeps v s (λ n. stays (record s { vmi = scaled_by 150 v }))
-    (λ n. stay_keeps s _ refl)
-keeps dpi LineSpacing v m s =
-    counted_keeps v s (λ n. stays_if (is_one_of line_spacings n) (record s { vmi = 7200 / n }))
-    (λ n. stays_if_keeps _ s _ refl)
-keeps dpi TopMargin v m s =
-    counted_keeps v s (λ n. stays (set_top (n * s.vmi) m s))
-    (λ n. stay_keeps s (set_top (n * s.vmi) m s) (top_size (n * s.vmi) m s))
+    counted_keeps v s (λ n. stays_if (nat_le 1 n && nat_le n copies_limit) (record s { copies = n })) (λ n. stays_if_keeps _ s _ refl)
+keeps dpi VerticalMotionIndex v m s = from_zero_keeps v s _ refl
+keeps dpi LineSpacing v m s = one_of_keeps line_spacings v s _ refl
+keeps dpi TopMargin v m s = from_zero_keeps v s (set_top (whole_of v * s.vmi) m s) (top_size (whole_of v * s.vmi) m s)
 keeps dpi TextLength v m s =
     counted_keeps v s (λ n. stays_if (nat_le 1 n) (set_bottom (s.top + n * s.vmi) s))
     (λ n. stays_if_keeps (nat_le 1 n) s (set_bottom (s.top + n * s.vmi) s) (bottom_size (s.top + n * s.vmi) s))
-keeps dpi PerforationSkip v m s =
-    counted_keeps v s (λ n. stays_if (nat_le n 1) (record s { skips = n == 1 }))
-    (λ n. stays_if_keeps _ s _ refl)
+keeps dpi PerforationSkip v m s = up_to_keeps 1 v s _ refl
 keeps dpi OnlyZero v m s = stays_if_keeps (whole_of v == 0) s s refl
 keeps dpi (Ask Sides) v m s = stay_keeps s _ refl
 keeps dpi (Ask OutputBin) v m s = stay_keeps s _ refl
 keeps dpi (Ask MediaType) v m s = stay_keeps s _ refl
 keeps dpi (Ask PaperSource) v m s = marked_keeps
 keeps dpi (Ask SheetSide) v m s = marked_keeps
-keeps dpi UnitOfMeasure v m s =
-    counted_keeps v s (λ n. stays_if (is_one_of units_of_measure n) (record s { pcl_unit = 7200 / n }))
-    (λ n. stays_if_keeps _ s _ refl)
-keeps dpi HorizontalMotionIndex v m s =
-    counted_keeps v s (λ n. stays (record s { hmi = scaled_by 60 v }))
-    (λ n. stay_keeps s _ refl)
-keeps dpi LineTermination v m s =
-    counted_keeps v s (λ n. stays_if (nat_le n 3) (record s { return_feeds = n == 1 || n == 3; feed_returns = n == 2 || n == 3 }))
-    (λ n. stays_if_keeps _ s _ refl)
-keeps dpi LeftMargin v m s =
-    counted_keeps v s (λ n. stays (set_left (n * s.hmi) s))
-    (λ n. stay_keeps s (set_left (n * s.hmi) s) (left_size (n * s.hmi) s))
+keeps dpi UnitOfMeasure v m s = one_of_keeps units_of_measure v s _ refl
+keeps dpi HorizontalMotionIndex v m s = from_zero_keeps v s _ refl
+keeps dpi LineTermination v m s = up_to_keeps 3 v s _ refl
+keeps dpi LeftMargin v m s = from_zero_keeps v s (set_left (whole_of v * s.hmi) s) (left_size (whole_of v * s.hmi) s)
 keeps dpi (Move axis unit) v m s = stay_keeps s (move_along axis unit v s) (axis_size axis unit v s)
 keeps dpi CursorStack v m s =
-    counted_keeps v s (λ n. if n == 0 then stays (push s) else stays_if (n == 1) (pop s))
-    (λ n. if_keeps (n == 0) (stay_keeps s (push s) (push_size s))
-    (stays_if_keeps (n == 1) s (pop s) (pop_size s.stack s)))
-keeps dpi MacroId v m s =
-    counted_keeps v s (λ n. stays_if (nat_le n 32767) (record s { macro_id = n }))
-    (λ n. stays_if_keeps _ s _ refl)
-keeps dpi ControlMacros v m s =
-    counted_keeps v s (λ n. stays_if (nat_le n 3 || nat_le 6 n && nat_le n 10) s)
-    (λ n. stays_if_keeps _ s s refl)
+    up_to_keeps 1 v s (if whole_of v == 0 then push s else pop s)
+    (if_size (whole_of v == 0) (push s) (pop s) (push_size s) (pop_size s.stack s))
+keeps dpi MacroId v m s = up_to_keeps id_limit v s _ refl
+keeps dpi ControlMacros v m s = one_of_keeps (0 ∷ 1 ∷ 2 ∷ 3 ∷ 6 ∷ 7 ∷ 8 ∷ 9 ∷ 10 ∷ []) v s s refl
 keeps dpi (RectangleSize axis unit) v m s =
-    counted_keeps v s (λ n. stays (set_rectangle axis (scaled_by (unit_of axis unit s) v) s))
-    (λ n. stay_keeps s (set_rectangle axis (scaled_by (unit_of axis unit s) v) s)
-    (rectangle_size axis (scaled_by (unit_of axis unit s) v) s))
-keeps dpi FillRectangle v m s =
-    counted_keeps v s (λ n. stays_if (is_one_of (0 ∷ 1 ∷ 5 ∷ []) n) s)
-    (λ n. stays_if_keeps _ s _ refl)
-keeps dpi FontId v m s =
-    counted_keeps v s (λ n. stays_if (nat_le n 32767) (record s { font_id = n }))
-    (λ n. stays_if_keeps _ s _ refl)
-keeps dpi CharacterCode v m s =
-    counted_keeps v s (λ n. stays_if (nat_le n 255) (record s { character_code = n }))
-    (λ n. stays_if_keeps _ s _ refl)
-keeps dpi ControlFonts v m s =
-    counted_keeps v s (λ n. stays_if (nat_le n 5) s)
-    (λ n. stays_if_keeps _ s _ refl)
-keeps dpi DownloadFont v m s =
-    counted_keeps v s (λ n. stays s)
-    (λ n. stay_keeps s _ refl)
-keeps dpi DownloadCharacter v m s =
-    counted_keeps v s (λ n. stays s)
-    (λ n. stay_keeps s _ refl)
-keeps dpi (SelectFont side) v m s =
-    counted_keeps v s (λ n. stays s)
-    (λ n. stay_keeps s _ refl)
-keeps dpi PrintText v m s =
-    counted_keeps v s (λ n. stays s)
-    (λ n. stay_keeps s _ refl)
-keeps dpi RasterResolution v m s =
-    counted_keeps v s (λ n. stays_if (is_one_of (resolutions dpi) n) (record s { resolution = n }))
-    (λ n. stays_if_keeps _ s _ refl)
-keeps dpi RasterWidth v m s =
-    counted_keeps v s (λ n. stays (record s { raster_width = none_if_zero n }))
-    (λ n. stay_keeps s _ refl)
-keeps dpi RasterHeight v m s =
-    counted_keeps v s (λ n. stays (record s { raster_height = none_if_zero n }))
-    (λ n. stay_keeps s _ refl)
-keeps dpi RasterPresentation v m s =
-    counted_keeps v s (λ n. stays_if (n == 0 || n == 3) s)
-    (λ n. stays_if_keeps _ s _ refl)
-keeps dpi StartRaster v m s =
-    counted_keeps v s (λ n. stays_if (nat_le n 1) s)
-    (λ n. stays_if_keeps _ s _ refl)
+    from_zero_keeps v s (set_rectangle axis (scaled_by (unit_of axis unit s) v) s)
+    (rectangle_size axis (scaled_by (unit_of axis unit s) v) s)
+keeps dpi FillRectangle v m s = one_of_keeps (0 ∷ 1 ∷ 5 ∷ []) v s s refl
+keeps dpi FontId v m s = up_to_keeps id_limit v s _ refl
+keeps dpi CharacterCode v m s = up_to_keeps 255 v s _ refl
+keeps dpi ControlFonts v m s = up_to_keeps 5 v s s refl
+keeps dpi DownloadFont v m s = from_zero_keeps v s s refl
+keeps dpi DownloadCharacter v m s = from_zero_keeps v s s refl
+keeps dpi (SelectFont side) v m s = from_zero_keeps v s s refl
+keeps dpi PrintText v m s = from_zero_keeps v s s refl
+keeps dpi RasterResolution v m s = one_of_keeps (resolutions dpi) v s _ refl
+keeps dpi RasterWidth v m s = from_zero_keeps v s _ refl
+keeps dpi RasterHeight v m s = from_zero_keeps v s _ refl
+keeps dpi RasterPresentation v m s = one_of_keeps (0 ∷ 3 ∷ []) v s s refl
+keeps dpi StartRaster v m s = up_to_keeps 1 v s s refl
 keeps dpi EndRaster v m s = stay_keeps s _ refl
 keeps dpi EndRasterResetMethod v m s = stay_keeps s _ refl
-keeps dpi RasterMethod v m s =
-    counted_keeps v s (λ n. set_method (method_with_code n) s)
-    (λ n. method_keeps (method_with_code n))
-keeps dpi RasterOffset v m s =
-    counted_keeps v s (λ n. stays s)
-    (λ n. stay_keeps s _ refl)
-keeps dpi RasterRow v m s =
-    counted_keeps v s (λ n. stays s)
-    (λ n. stay_keeps s _ refl)
+keeps dpi RasterMethod v m s = counted_keeps v s (λ n. set_method (method_with_code n) s) (λ n. method_keeps (method_with_code n))
+keeps dpi RasterOffset v m s = from_zero_keeps v s s refl
+keeps dpi RasterRow v m s = from_zero_keeps v s s refl
 keeps dpi NoEffect v m s = stay_keeps s _ refl
 
 pub size_kept : (dpi : Dpi) (operation : Operation) (value : Value) (marked : Bool) (s : Settings) {settings : Settings}
