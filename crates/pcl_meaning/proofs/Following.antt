@@ -1,24 +1,24 @@
 -- How far deeds bring a situation.
 use Rattle.std.proofs.Common.{◌≡◌, ℕ, ◌+◌, ◌≤◌, ◌<◌, Bool, false, cond, nat_le, List, [], ◌∷◌, ◌++◌, length, Option, Some, None, Result, Ok, Err, refl, sym, ap, subst, ◌∙◌, arith}
 use Rattle.std.specs.Prelude.{is_some}
-use Rattle.std.proofs.lemmas.Bool.Decides.{nat_tests}
 use Rattle.pcl_base.specs.declared.dpi.Dpi.{Dpi}
 use Rattle.pcl_base.specs.declared.kind.Kind.{Kind}
-use Rattle.pcl_base.specs.declared.kind.Kind.TheVariants.{UnsupportedCommand, TooManyCommands, TooManyPages}
+use Rattle.pcl_base.specs.declared.kind.Kind.TheVariants.{UnsupportedCommand, TooManyPages}
 use Rattle.pcl_base.specs.declared.name.Name.{Name}
 use Rattle.pcl_base.specs.declared.name.Name.TheVariants.{Empty}
 use Rattle.pcl_base.specs.declared.operation.Operation.{Operation}
 use Rattle.pcl_base.specs.declared.operation.Operation.TheVariants.{Reset, UniversalExit, ControlMacros, FillRectangle, ControlFonts, DownloadFont, DownloadCharacter, SelectFont, PrintText, StartRaster, RasterOffset, RasterRow}
 use Rattle.pcl_base.specs.declared.value.Value.{Value}
-use Rattle.pcl_base.specs.Limits.{command_limit, page_limit}
+use Rattle.pcl_base.specs.Limits.{page_limit}
 use Rattle.pcl_base.specs.Operation.{operation_of}
 use Rattle.pcl_escape.specs.Said.{Said}
-use Rattle.pcl_env.specs.Outcome.{Outcome, outcome}
+use Rattle.pcl_env.specs.Outcome.{outcome}
 use Rattle.pcl_macros.specs.Table.{Begun}
-use Rattle.pcl_page.specs.Situation.{Sheet, Situation, is_marked, turned, drawn, draw_refusal, unless_refused, done_with, counted, prepared, is_ignored, after, page_refusal, refusal_after, operation_refusal, command_refusal}
-use Rattle.pcl_page.specs.Macros.{Run, keeping_of, managed, and_then, after_at, if_not_refused, counting, defining, after_command, run_from, run_of}
+use Rattle.pcl_page.specs.Situation.{Sheet, Situation, is_marked, drawn, draw_refusal, unless_refused, ◌|>◌, turned_by, drawn_on, counted, prepared, is_ignored, after, page_refusal, within_page_limit, tried}
+use Rattle.pcl_page.specs.Macros.{Run, keeping_of, managed, counting, defining, after_command, run_from, run_of}
 use Rattle.pcl_page.specs.Performing.{Performance, done, then_on, concluded, and_run, in_order, step}
-use Rattle.pcl_page.proofs.Keeping.{after_adds}
+use Rattle.pcl_page.proofs.Keeping.{then_from, after_adds}
+use Rattle.pcl_page.proofs.Steps.{tried_as}
 use Rattle.pcl_meaning.proofs.Deeds.{Deed}
 use Rattle.pcl_meaning.proofs.Readings.{IsSaid, AreSaid}
 
@@ -52,38 +52,37 @@ refusal_same DownloadCharacter at name value bytes s = refl
 refusal_same PrintText at name value bytes s = refl
 refusal_same other at name value bytes s = refl
 
-done_same : (dpi : Dpi) (operation : Operation) (at : ℕ) (name : Name) (value : Value) (bytes : List ℕ) (o : Outcome) (s : Situation)
-    → done_with dpi operation (record { at = at; name = name; value = value; bytes = bytes }) o s
-    ≡ done_with dpi operation (record { at = 0; name = Empty; value = value; bytes = bytes }) o s
-done_same dpi operation at name value bytes None s = refl
-done_same dpi operation at name value bytes (Some done) s =
-    let now = turned done.0 done.1 s in
-    ap (λ (why : Option Kind).
-    unless_refused why (drawn dpi operation (record { at = at; name = name; value = value; bytes = bytes }) now))
-    (refusal_same operation at name value bytes now)
-    ∙ ap (λ (z : Situation).
-    unless_refused (draw_refusal operation (record { at = 0; name = Empty; value = value; bytes = bytes }) now) z)
-    (drawn_same dpi operation at name value bytes now)
-
 -- neither the place nor the name of a command matters to what it does
 after_same : (dpi : Dpi) (operation : Operation) (at : ℕ) (name : Name) (value : Value) (bytes : List ℕ) (s : Situation)
     → after dpi operation (record { at = at; name = name; value = value; bytes = bytes }) s
     ≡ after dpi operation (record { at = 0; name = Empty; value = value; bytes = bytes }) s
 unfolding after
 after_same dpi operation at name value bytes s =
-    let before = prepared dpi operation (counted s) in
-    ap (λ (o : Result Situation Kind). cond (is_ignored operation s) (Ok (counted s)) o)
-    (done_same dpi operation at name value bytes (outcome dpi operation value (is_marked before) before.settings) before)
+    let before = prepared dpi operation s in
+    ap (λ (o : Result Situation Kind). cond (is_ignored operation s) (Ok s) o)
+    (drawn_alike (turned_by (outcome dpi operation value (is_marked before) before.settings) before))
+  where
+    drawn_alike : (o : Result Situation Kind)
+        → (o |> drawn_on dpi operation (record { at = at; name = name; value = value; bytes = bytes }))
+        ≡ (o |> drawn_on dpi operation (record { at = 0; name = Empty; value = value; bytes = bytes }))
+    drawn_alike (Err kind) = refl
+    drawn_alike (Ok now) =
+        ap (λ (why : Option Kind).
+        unless_refused why (drawn dpi operation (record { at = at; name = name; value = value; bytes = bytes }) now))
+        (refusal_same operation at name value bytes now)
+        ∙ ap (λ (z : Situation).
+        unless_refused (draw_refusal operation (record { at = 0; name = Empty; value = value; bytes = bytes }) now) z)
+        (drawn_same dpi operation at name value bytes now)
 
 -- ---- deeds one after the other
 
 -- what an operation does to macros, wherever its command stands; a macro control is no deed
 abbrev pub quietly : Operation → Value → Situation → Result Situation Kind
 quietly ControlMacros value s = Err UnsupportedCommand
-quietly operation value s = managed 0 operation value s
+quietly operation value s = managed 0 (Some operation) value s
 
 abbrev pub does : Dpi → Deed → Situation → Result Situation Kind
-does dpi d s = and_then (after dpi d.operation (said_of d) s) (quietly d.operation d.value)
+does dpi d s = after dpi d.operation (said_of d) (counted s) |> quietly d.operation d.value
 
 -- the deeds lead from a situation to another, and none of them is refused
 abbrev pub Leads : Dpi → List Deed → Situation → Situation → Type 0
@@ -98,7 +97,7 @@ leads_append dpi (d ∷ one) two s middle later a b = (a.0, a.1, a.2, leads_appe
 
 -- what a deed does to macros: nothing that can run, and it opens no definition
 record IsQuiet (operation : Operation) (value : Value) (s next : Situation) : Type 0 where
-  anywhere : (place : ℕ) → managed place operation value s ≡ Ok next
+  anywhere : (place : ℕ) → managed place (Some operation) value s ≡ Ok next
   runs : run_from (Some operation) value next ≡ None
   begun : next.begun ≡ s.begun
   performed : next.performed ≡ s.performed
@@ -124,21 +123,17 @@ quiet other {s} e =
 -- each deed counts one, and leaves a definition that is open
 record IsDone (dpi : Dpi) (d : Deed) (s next : Situation) : Type 0 where
   now : Situation
-  drawn_as : after dpi d.operation (said_of d) s ≡ Ok now
+  drawn_as : after dpi d.operation (said_of d) (counted s) ≡ Ok now
   is_quiet : IsQuiet d.operation d.value now next
   performed : next.performed ≡ s.performed + 1
   begun : next.begun ≡ s.begun
 
-done_by : {dpi : Dpi} {d : Deed} {s next : Situation} (o : Result Situation Kind) → after dpi d.operation (said_of d) s ≡ o
-    → and_then o (quietly d.operation d.value) ≡ Ok next → IsDone dpi d s next
-done_by (Err kind) e q = absurd cc
-done_by {dpi} {d} {s} (Ok now) e q =
-    let is = quiet d.operation q in
-    let a = after_adds dpi d.operation (said_of d) s e in
-    record { now = now; drawn_as = e; is_quiet = is; performed = is.performed ∙ a.performed; begun = is.begun ∙ a.begun }
-
 is_done : {dpi : Dpi} {d : Deed} {s next : Situation} → does dpi d s ≡ Ok next → IsDone dpi d s next
-is_done {dpi} {d} {s} e = done_by (after dpi d.operation (said_of d) s) refl e
+is_done {dpi} {d} {s} e =
+    let t = then_from (after dpi d.operation (said_of d) (counted s)) (quietly d.operation d.value) e in
+    let is = quiet d.operation t.2 in
+    let a = after_adds dpi d.operation (said_of d) (counted s) t.1 in
+    record { now = t.0; drawn_as = t.1; is_quiet = is; performed = is.performed ∙ a.performed; begun = is.begun ∙ a.begun }
 
 pub leads_counts : (dpi : Dpi) (deeds : List Deed) (s later : Situation) → Leads dpi deeds s later
     → later.performed ≡ s.performed + length deeds
@@ -150,14 +145,6 @@ leads_counts dpi (d ∷ deeds) s later a =
 
 -- ---- commands that are deeds
 
-not_refused : (dpi : Dpi) (command : Said) {operation : Operation} (s : Situation) {next : Situation}
-    → operation_of command.name ≡ Some operation
-    → after dpi operation command s ≡ Ok next → page_refusal next ≡ None → s.performed < 100000000 → command_refusal dpi command s ≡ None
-not_refused dpi command s named done fits few =
-    let under : nat_le command_limit s.performed ≡ false = grind (arith, nat_tests) in
-    ap (λ (b : Bool). cond b (Some TooManyCommands) (operation_refusal dpi (operation_of command.name) command s)) under
-    ∙ ap (λ (o : Option Operation). operation_refusal dpi o command s) named ∙ ap refusal_after done ∙ fits
-
 -- performing a command is its deed
 deed_done : (dpi : Dpi) (command : Said) {d : Deed} (s : Situation) {next : Situation} → IsSaid command d
     → after dpi d.operation (said_of d) s ≡ Ok next
@@ -168,24 +155,27 @@ deed_done dpi command {d} s is e =
     ∙ ap (λ (bs : List ℕ). after dpi d.operation (record { at = 0; name = Empty; value = d.value; bytes = bs }) s) is.2
     ∙ e
 
-same_pages : (one other : Situation) → one.pages ≡ other.pages → page_refusal one ≡ page_refusal other
-same_pages one other e = ap (λ (ps : List Sheet). cond (nat_le (length ps) page_limit) None (Some TooManyPages)) e
+-- pages that fit, and are the same, fit too
+fits_too : (now next : Situation) → next.pages ≡ now.pages → page_refusal next ≡ None → within_page_limit now ≡ Ok now
+fits_too now next e fits =
+    ap (λ (why : Option Kind). unless_refused why now)
+    (ap (λ (ps : List Sheet). cond (nat_le (length ps) page_limit) None (Some TooManyPages)) (sym e) ∙ fits)
 
 -- outside of a definition a deed's command leads where the deed does, and runs no macro
 command_done : {dpi : Dpi} (place : ℕ) (command : Said) {d : Deed} {s next : Situation} → IsSaid command d → IsDone dpi d s next
     → page_refusal next ≡ None → s.performed < 100000000 → s.begun ≡ None
     → (after_command dpi place command s ≡ Ok next) × (run_of command s next ≡ None)
 command_done {dpi} place command {d} {s} {next} is done fits few none =
-    let drawn : after dpi d.operation command s ≡ Ok done.now = deed_done dpi command s is done.drawn_as in
-    let free : command_refusal dpi command s ≡ None =
-    not_refused dpi command s is.0 drawn (sym (same_pages next done.now done.is_quiet.pages) ∙ fits) few in
-    let closed : is_some s.begun ≡ false = ap (λ (b : Option Begun). is_some b) none in (
+    let closed : is_some s.begun ≡ false = ap (λ (b : Option Begun). is_some b) none in
+    let tried_is : tried dpi command s ≡ Ok done.now =
+    tried_as dpi command s few is.0
+    ∙ ap (λ (r : Result Situation Kind). r |> within_page_limit) (deed_done dpi command (counted s) is done.drawn_as)
+    ∙ fits_too done.now next done.is_quiet.pages fits in (
       ap (λ (b : Bool). cond b (defining dpi place (keeping_of (operation_of command.name) command.value) command s)
           (counting dpi place command s)) closed
-          ∙ ap (λ (why : Option Kind). if_not_refused why (after_at dpi place (operation_of command.name) command s)) free
-          ∙ ap (λ (o : Option Operation). after_at dpi place o command s) is.0
-          ∙ ap (λ (r : Result Situation Kind). and_then r (managed place d.operation command.value)) drawn
-          ∙ ap (λ (v : Value). managed place d.operation v done.now) is.1
+          ∙ ap (λ (r : Result Situation Kind). r |> managed place (operation_of command.name) command.value) tried_is
+          ∙ ap (λ (o : Option Operation). managed place o command.value done.now) is.0
+          ∙ ap (λ (v : Value). managed place (Some d.operation) v done.now) is.1
           ∙ done.is_quiet.anywhere place,
       ap (λ (b : Bool). cond b None (run_from (operation_of command.name) command.value next)) closed
           ∙ ap (λ (o : Option Operation). run_from o command.value next) is.0

@@ -142,7 +142,7 @@ pub text_means_page : (dpi : Dpi) (size : Size) (copies : ℕ) (rows : List (Lis
     (printed : IsPageText dpi size copies rows text) → command_count printed.tokens + 12 ≤ command_limit
     → MeansRows dpi size copies rows (job_of text)
 text_means_page dpi size copies rows text printed few =
-    let t = text_taken printed (record { method = refl; height = refl; asked = refl }) (lit≤ tt) in
+    let t = text_taken printed {n = 1} (record { method = refl; height = refl; asked = refl }) (lit≤ tt) in
     let sheet : Sheet = record { size = size; copies = copies; marks = t.inked } in
     let job = job_accepted t.settings t.count (text_read printed) t.leads (lit≤ tt)
     (omega (arith, few, text_counted dpi size copies printed.tokens)) in

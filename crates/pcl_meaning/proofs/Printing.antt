@@ -32,10 +32,9 @@ use Rattle.pcl_macros.specs.declared.table.MacroControl.TheVariants as macros
 use Rattle.pcl_macros.specs.History.{MacroEvent, control as macro_control}
 use Rattle.pcl_env.specs.declared.asked.Asked.{Asked}
 use Rattle.pcl_page.specs.Asks.{Asks, with_page}
-use Rattle.pcl_page.specs.Macros.{and_then}
 use Rattle.pcl_page.specs.Marks.{Mark, is_black, dot_at}
 use Rattle.pcl_page.specs.Raster.{Raster, ends_raster, scale_of, raster_from, bytes_of_width, cleared_past, row_sent, row_mark}
-use Rattle.pcl_page.specs.Situation.{Sheet, Situation, below, ejects, end_raster, drawn_on, done_with, taken, after, turned_page, page_refusal}
+use Rattle.pcl_page.specs.Situation.{Sheet, Situation, ◌|>◌, below, ejects, end_raster, drawn_on, turned_by, taken, counted, after, turned_page, page_refusal}
 use Rattle.pcl_rows.specs.Rows.{IsRowData}
 use Rattle.pcl_rows.proofs.Decoded.{decoded_is}
 use Rattle.pcl_output.specs.Tokens.{Token, opening, method, skip, send, PrintsRows}
@@ -96,13 +95,13 @@ drawn_between : (dpi : Dpi) (operation : Operation) (value : Value) (t : Setting
     (n : ℕ)
     → outcome dpi operation value false t ≡ Some (t', effect) → ejects effect false ≡ false
     → ((s : Situation) → drawn_on dpi operation (said_of (deed operation value [])) s ≡ Ok s)
-    → after dpi operation (said_of (deed operation value [])) (between t pages n) ≡ Ok (between t' pages (n + 1))
+    → after dpi operation (said_of (deed operation value [])) (counted (between t pages n)) ≡ Ok (between t' pages (n + 1))
 unfolding after
 drawn_between dpi operation value t {t'} {pages} n o e d =
     let command = said_of (deed operation value []) in
     let at = between t pages (n + 1) in
-    ap (λ (z : Situation). taken dpi operation command z) (prepared_is dpi (ends_raster operation))
-    ∙ ap (λ (out : Outcome). done_with dpi operation command out at) o
+    ap (λ (z : Situation). taken dpi operation value z |> drawn_on dpi operation command) (prepared_is dpi (ends_raster operation))
+    ∙ ap (λ (out : Outcome). turned_by out at |> drawn_on dpi operation command) o
     ∙ ap (λ (test : Bool).
     drawn_on dpi operation command
     (cond test (turned_page t' at) (record at { settings = t' }))) e
@@ -115,7 +114,7 @@ set_between : (dpi : Dpi) (operation : Operation) (value : Value) (t : Settings)
     → ((s : Situation) → quietly operation value s ≡ Ok s)
     → does dpi (deed operation value []) (between t pages n) ≡ Ok (between t' pages (n + 1))
 set_between dpi operation value t {t'} {pages} n o e d q =
-    ap (λ (r : Result Situation Kind). and_then r (quietly operation value)) (drawn_between dpi operation value t n o e d)
+    ap (λ (r : Result Situation Kind). r |> quietly operation value) (drawn_between dpi operation value t n o e d)
     ∙ q (between t' pages (n + 1))
 
 -- ---- what the start of a text sets

@@ -30,13 +30,13 @@ use Rattle.pcl_page.specs.declared.performer.Performer.{Performer}
 use Rattle.pcl_page.specs.declared.interpreter.Interpreter.{Interpreter}
 use Rattle.pcl_page.specs.declared.interpreter.Running.{Running}
 use Rattle.pcl_page.specs.declared.macros.Action.TheVariants.{Begin, End, Execute, Call, Control}
-use Rattle.pcl_page.specs.Situation.{Sheet, Situation, is_marked, turned, done_with, taken, counted, prepared, is_ignored, after, command_refusal, at_end, page_refusal}
-use Rattle.pcl_page.specs.Macros.{Run, definition_ended, acted, managed, and_then, after_at, if_not_refused, counting, run_by, run_from, run_with, macro_now}
+use Rattle.pcl_page.specs.Situation.{Sheet, Situation, ◌|>◌, is_marked, turned, turned_by, drawn_on, taken, counted, prepared, is_ignored, after, after_named, tried, at_end, page_refusal}
+use Rattle.pcl_page.specs.Macros.{Run, definition_ended, acted, managed, counting, run_by, run_from, run_with, macro_now}
 use Rattle.pcl_page.specs.Performing.{end_refusal}
 use Rattle.pcl_page.specs.Delivering.{Hands}
 use Rattle.pcl_page.specs.inner.Reflecting.{IsIn, HandsMore, IsTried, EndDone}
 use Rattle.pcl_page.specs.inner.Unfolding.{IsAt, Enters, IsStepped, IsActed, IsEntered, InterpreterEnds}
-use Rattle.pcl_page.proofs.Keeping.{after_adds}
+use Rattle.pcl_page.proofs.Keeping.{then_from, is_counted}
 use Rattle.pcl_page.proofs.Steps.{prepared_pages, stays_pages, no_more}
 use Rattle.pcl_page.proofs.Unfolded.{managed_acts}
 
@@ -46,18 +46,10 @@ runs_none later = None
 
 -- ---- a command that counts
 
-counting_refused : (dpi : Dpi) (place : ℕ) (command : Said) (s : Situation) {kind : Kind} → command_refusal dpi command s ≡ Some kind
-    → counting dpi place command s ≡ Err kind
-counting_refused dpi place command s e =
-    ap (λ (why : Option Kind). if_not_refused why (after_at dpi place (operation_of command.name) command s)) e
-
-counting_is : (dpi : Dpi) (place : ℕ) (command : Said) {operation : Operation} (s : Situation) {now : Situation}
-    → operation_of command.name ≡ Some operation → after dpi operation command s ≡ Ok now → command_refusal dpi command s ≡ None
-    → counting dpi place command s ≡ managed place operation command.value now
-counting_is dpi place command {operation} s named done none =
-    ap (λ (why : Option Kind). if_not_refused why (after_at dpi place (operation_of command.name) command s)) none
-    ∙ ap (λ (o : Option Operation). after_at dpi place o command s) named
-    ∙ ap (λ (r : Result Situation Kind). and_then r (managed place operation command.value)) done
+-- what is done to macros comes after the rest
+counting_is : (dpi : Dpi) (place : ℕ) (command : Said) (s : Situation) {o : Result Situation Kind} → tried dpi command s ≡ o
+    → counting dpi place command s ≡ (o |> managed place (operation_of command.name) command.value)
+counting_is dpi place command s e = ap (λ (o : Result Situation Kind). o |> managed place (operation_of command.name) command.value) e
 
 -- a macro control lets the page stay
 control_stay : (below taken : Bool) (s : Settings) {done : Settings × Effect} → cond below None (cond taken (stays s) None) ≡ Some done
@@ -72,35 +64,30 @@ control_outcome : (dpi : Dpi) (value : Value) (m : Bool) (s : Settings) {done : 
 unfolding outcome
 control_outcome dpi value m s e = control_stay (is_below_zero value) _ s e
 
-control_done : (dpi : Dpi) (command : Said) (o : Outcome) (s : Situation) {later : Situation}
-    → outcome dpi ControlMacros command.value (is_marked s) s.settings ≡ o → done_with dpi ControlMacros command o s ≡ Ok later
-    → later.pages ≡ s.pages
-control_done dpi command None s is e = absurd cc
-control_done dpi command (Some done) s {later} is e =
+control_turned : (dpi : Dpi) (value : Value) (o : Outcome) (s : Situation) {later : Situation}
+    → outcome dpi ControlMacros value (is_marked s) s.settings ≡ o → turned_by o s ≡ Ok later → later.pages ≡ s.pages
+control_turned dpi value None s is e = absurd cc
+control_turned dpi value (Some done) s {later} is e =
     let same : turned done.0 done.1 s ≡ later = cc in
-    ap (λ (z : Situation). z.pages) (sym same)
-    ∙ stays_pages done s (control_outcome dpi command.value (is_marked s) s.settings is)
+    ap (λ (z : Situation). z.pages) (sym same) ∙ stays_pages done s (control_outcome dpi value (is_marked s) s.settings is)
 
 control_by : (dpi : Dpi) (command : Said) (s : Situation) {later : Situation} (ignored : Bool)
-    → cond ignored (Ok (counted s)) (taken dpi ControlMacros command (prepared dpi ControlMacros (counted s))) ≡ Ok later
-    → later.pages ≡ s.pages
-control_by dpi command s {later} true e = let same : counted s ≡ later = cc in ap (λ (z : Situation). z.pages) (sym same)
-control_by dpi command s false e =
-    let before = prepared dpi ControlMacros (counted s) in
-    control_done dpi command (outcome dpi ControlMacros command.value (is_marked before) before.settings) before refl e
-    ∙ prepared_pages dpi true (counted s)
-
-control_pages : (dpi : Dpi) (command : Said) (s : Situation) {later : Situation} → after dpi ControlMacros command s ≡ Ok later
-    → later.pages ≡ s.pages
-unfolding after
-control_pages dpi command s e = control_by dpi command s (is_ignored ControlMacros s) e
+    → cond ignored (Ok s) (taken dpi ControlMacros command.value (prepared dpi ControlMacros s) |> drawn_on dpi ControlMacros command)
+    ≡ Ok later → later.pages ≡ s.pages
+control_by dpi command s {later} true e = let same : s ≡ later = cc in ap (λ (z : Situation). z.pages) (sym same)
+control_by dpi command s {later} false e =
+    let before = prepared dpi ControlMacros s in
+    let t = then_from (taken dpi ControlMacros command.value before) (drawn_on dpi ControlMacros command) e in
+    let same : t.0 ≡ later = let is = t.2 in cc in
+    ap (λ (z : Situation). z.pages) (sym same)
+    ∙ control_turned dpi command.value (outcome dpi ControlMacros command.value (is_marked before) before.settings) before refl t.1
+    ∙ prepared_pages dpi true s
 
 -- what is refused for macros ejects nothing
-unmanaged_pages : (dpi : Dpi) (place : ℕ) (operation : Operation) (command : Said) (s : Situation) {now : Situation} {kind : Kind}
-    → after dpi operation command s ≡ Ok now → managed place operation command.value now ≡ Err kind → now.pages ≡ s.pages
-unmanaged_pages dpi place Reset command s e m = absurd cc
-unmanaged_pages dpi place UniversalExit command s e m = absurd cc
-unmanaged_pages dpi place ControlMacros command s e m = control_pages dpi command s e
+unmanaged_pages : (dpi : Dpi) (place : ℕ) (operation : Option Operation) (command : Said) (s : Situation) {now : Situation} {kind : Kind}
+    → after_named dpi operation command s ≡ Ok now → managed place operation command.value now ≡ Err kind → now.pages ≡ s.pages
+unfolding after
+unmanaged_pages dpi place (Some ControlMacros) command s e m = control_by dpi command s (is_ignored ControlMacros s) e
 unmanaged_pages dpi place other command s e m = absurd cc
 
 same_sink : {S : Type 0} (takes : S → Page → S → Type 0) (dpi : Dpi) (s now : Situation) (sink later : S) → now.pages ≡ s.pages
@@ -117,10 +104,10 @@ items_same : (old new : Interpreter) → new.running ≡ old.running → new.run
 items_same old new e = ap (λ (r : ArrayVec Running). r.items) e
 
 -- the performer performed the command, and nothing was done to macros yet
-pub at_tried : {dpi : Dpi} (operation : Operation) (command : Said) {s now : Situation} {old middle : Interpreter} → IsAt dpi s old
-    → after dpi operation command s ≡ Ok now → IsIn dpi now middle.performer → middle.macros ≡ old.macros → IsAt dpi now middle
-at_tried {dpi} operation command {s} {now} {middle} at e i same =
-    let a = after_adds dpi operation command s e in
+pub at_tried : {dpi : Dpi} (command : Said) {s now : Situation} {old middle : Interpreter} → IsAt dpi s old
+    → tried dpi command s ≡ Ok now → IsIn dpi now middle.performer → middle.macros ≡ old.macros → IsAt dpi now middle
+at_tried {dpi} command {s} {now} {middle} at e i same =
+    let a = (is_counted dpi command s e).adds in
     record {
       is_in = i;
       macros = subst (λ (events : List MacroEvent). Holds middle.macros events) (sym a.macros)
@@ -128,70 +115,80 @@ at_tried {dpi} operation command {s} {now} {middle} at e i same =
       begun = ap (λ (t : MacroTable). t.begun) same ∙ at.begun ∙ sym a.begun;
     }
 
+-- what is refused for macros leaves the sink as it was
+unmanaged_sink : {S : Type 0} (takes : S → Page → S → Type 0) (dpi : Dpi) (place : ℕ) (command : Said) (s now : Situation) (sink later : S)
+    {kind : Kind} → tried dpi command s ≡ Ok now → managed place (operation_of command.name) command.value now ≡ Err kind
+    → HandsMore takes dpi s now sink later → later ≡ sink
+unmanaged_sink takes dpi place command s now sink later t e h =
+    same_sink takes dpi s now sink later
+    (unmanaged_pages dpi place (operation_of command.name) command (counted s) (is_counted dpi command s t).after_is e) h
+
 pub counted_stepped : {S : Type 0} (takes : S → Page → S → Type 0) (dpi : Dpi) (place : ℕ) (command : Said) (operation : Operation)
     (s : Situation) (old middle new : Interpreter) (sink later : S) (result : Result (Unit {0}) CallFault)
     → IsAt dpi s old → IsTried takes dpi command s (Ok operation) middle.performer sink later
     → middle.macros ≡ old.macros → middle.running ≡ old.running
     → ((t : Situation) → IsAt dpi t middle
-    → IsActed dpi (managed place operation command.value t) (run_from (Some operation) command.value) result middle new)
+    → IsActed dpi (managed place (Some operation) command.value t) (run_from (Some operation) command.value) result middle new)
     → IsStepped takes dpi (counting dpi place command s) (run_from (operation_of command.name) command.value) s result old new sink later
-counted_stepped takes dpi place command operation s old middle new sink later (Ok unit) at t same run f =
-    let a = f t.0 (at_tried operation command at t.2 t.4 same) in
-    let is = counting_is dpi place command s t.1 t.2 t.3 in (
+counted_stepped takes dpi place command operation s old middle new sink later result at t same run f =
+    stepped_by result (subst (λ (o : Option Operation).
+    IsActed dpi (managed place o command.value t.0) (run_from o command.value) result middle new) (sym t.1)
+    (f t.0 (at_tried command at t.2 t.3 same)))
+  where
+    stepped_by : (result : Result (Unit {0}) CallFault)
+        → IsActed dpi (managed place (operation_of command.name) command.value t.0) (run_from (operation_of command.name) command.value)
+        result middle new
+        → IsStepped takes dpi (counting dpi place command s) (run_from (operation_of command.name) command.value) s result old new
+        sink later
+    stepped_by (Ok unit) a = (
       a.0,
-      is ∙ a.1,
+      counting_is dpi place command s t.2 ∙ a.1,
       a.2,
-      subst (λ (o : Option Operation). Enters (run_from o command.value a.0) old.running.items new.running.items) (sym t.1)
-          (subst (λ (rs : List Running). Enters (run_from (Some operation) command.value a.0) rs new.running.items)
-          (items_same old middle run) a.3),
-      more_same takes dpi s t.0 a.0 sink later (managed_acts place operation command.value a.1).pages t.5,
+      subst (λ (rs : List Running). Enters (run_from (operation_of command.name) command.value a.0) rs new.running.items)
+          (items_same old middle run) a.3,
+      more_same takes dpi s t.0 a.0 sink later (managed_acts place (operation_of command.name) command.value a.1).pages t.4,
     )
-counted_stepped takes dpi place command operation s old middle new sink later (Err (Refused kind)) at t same run f =
-    let is = counting_is dpi place command s t.1 t.2 t.3 in
-    elim (f t.0 (at_tried operation command at t.2 t.4 same)) [
-      | inl e ↦ inl (
-        is ∙ e,
-        same_sink takes dpi s t.0 sink later (unmanaged_pages dpi place operation command s t.2 e) t.5,
-      )
-      | inr a ↦ inr (
-        a.0,
-        a.1,
-        is ∙ a.2,
-        ap (λ (o : Option Operation). run_from o command.value a.0) t.1 ∙ a.3,
-        ap (λ (rs : List Running). length rs) (sym (items_same old middle run)) ∙ a.4,
-        a.5,
-        more_same takes dpi s t.0 a.0 sink later (managed_acts place operation command.value a.2).pages t.5,
-      )
-    ]
-counted_stepped takes dpi place command operation s old middle new sink later (Err Memory) at t same run f =
-    let is = counting_is dpi place command s t.1 t.2 t.3 in
-    let a = f t.0 (at_tried operation command at t.2 t.4 same) in
-    inr (a.0, is ∙ a.1, more_same takes dpi s t.0 a.0 sink later (managed_acts place operation command.value a.1).pages t.5)
+    stepped_by (Err (Refused kind)) a =
+        elim a [
+          | inl e ↦ inl (counting_is dpi place command s t.2 ∙ e, unmanaged_sink takes dpi place command s t.0 sink later t.2 e t.4)
+          | inr a ↦ inr (
+            a.0,
+            a.1,
+            counting_is dpi place command s t.2 ∙ a.2,
+            a.3,
+            ap (λ (rs : List Running). length rs) (sym (items_same old middle run)) ∙ a.4,
+            a.5,
+            more_same takes dpi s t.0 a.0 sink later (managed_acts place (operation_of command.name) command.value a.2).pages t.4,
+          )
+        ]
+    stepped_by (Err Memory) a = inr (
+      a.0,
+      counting_is dpi place command s t.2 ∙ a.1,
+      more_same takes dpi s t.0 a.0 sink later (managed_acts place (operation_of command.name) command.value a.1).pages t.4,
+    )
 
 -- the performer refused it, or memory ran out there
 pub counted_untried : {S : Type 0} (takes : S → Page → S → Type 0) (dpi : Dpi) (place : ℕ) (command : Said) (s : Situation)
     (old new : Interpreter) (sink later : S) (fault : CallFault) → IsTried takes dpi command s (Err fault) new.performer sink later
     → IsStepped takes dpi (counting dpi place command s) (run_from (operation_of command.name) command.value) s
     (Err fault) old new sink later
-counted_untried takes dpi place command s old new sink later (Refused kind) t =
-    inl (counting_refused dpi place command s t.0, t.1)
+counted_untried takes dpi place command s old new sink later (Refused kind) t = inl (counting_is dpi place command s t.0, t.1)
 counted_untried takes dpi place command s old new sink later Memory t =
     elim t [
       | inl same ↦ inl same
-      | inr d ↦ short_by (managed place d.0 command.value d.1) d refl
+      | inr d ↦ short_by (managed place (operation_of command.name) command.value d.0) d refl
     ]
   where
-    short_by : (o : Result Situation Kind) → (d : (operation : Operation) × (now : Situation) × (operation_of command.name ≡ Some operation)
-        × (after dpi operation command s ≡ Ok now) × (command_refusal dpi command s ≡ None) × HandsMore takes dpi s now sink later)
-        → managed place d.0 command.value d.1 ≡ o
+    short_by : (o : Result Situation Kind) → (d : (now : Situation) × (tried dpi command s ≡ Ok now) × HandsMore takes dpi s now sink later)
+        → managed place (operation_of command.name) command.value d.0 ≡ o
         → IsStepped takes dpi (counting dpi place command s) (run_from (operation_of command.name) command.value) s (Err Memory) old new
         sink later
     short_by (Ok now) d m = inr (
       now,
-      counting_is dpi place command s d.2 d.3 d.4 ∙ m,
-      more_same takes dpi s d.1 now sink later (managed_acts place d.0 command.value m).pages d.5,
+      counting_is dpi place command s d.1 ∙ m,
+      more_same takes dpi s d.0 now sink later (managed_acts place (operation_of command.name) command.value m).pages d.2,
     )
-    short_by (Err kind) d m = inl (same_sink takes dpi s d.1 sink later (unmanaged_pages dpi place d.0 command s d.3 m) d.5)
+    short_by (Err kind) d m = inl (unmanaged_sink takes dpi place command s d.0 sink later d.1 m d.2)
 
 -- ---- what is done to macros
 

@@ -1,9 +1,13 @@
 -- What a command leaves alone.
-use Rattle.std.proofs.Common.{◌≡◌, ℕ, Bool, true, false, cond, List, [], ◌∷◌, ◌++◌, Option, Some, None, Ok, refl, sym, ap, subst, ◌∙◌, append-nil}
+use Rattle.std.proofs.Common.{◌≡◌, ℕ, ◌<◌, Bool, true, false, cond, nat_le, List, [], ◌∷◌, ◌++◌, Option, Some, None, Result, Ok, Err, refl, sym, ap, subst, ◌∙◌, append-nil, arith}
+use Rattle.std.proofs.lemmas.Bool.Decides.{nat_tests}
 use Rattle.pcl_base.specs.declared.dpi.Dpi.{Dpi}
 use Rattle.pcl_base.specs.declared.kind.Kind.{Kind}
+use Rattle.pcl_base.specs.declared.kind.Kind.TheVariants.{TooManyCommands}
 use Rattle.pcl_base.specs.declared.operation.Operation.{Operation}
 use Rattle.pcl_base.specs.declared.operation.Operation.TheVariants.{Reset, UniversalExit, FillRectangle, ControlFonts, DownloadFont, DownloadCharacter, SelectFont, PrintText, StartRaster, RasterOffset, RasterRow}
+use Rattle.pcl_base.specs.Limits.{command_limit}
+use Rattle.pcl_base.specs.Operation.{operation_of}
 use Rattle.pcl_fonts.specs.Fields.{Character}
 use Rattle.pcl_escape.specs.Said.{Said}
 use Rattle.pcl_env.specs.declared.effect.Effect.{Effect}
@@ -12,7 +16,7 @@ use Rattle.pcl_env.specs.Settings.{Settings, defaults, font_in_use}
 use Rattle.pcl_env.specs.Outcome.{Outcome, outcome}
 use Rattle.pcl_page.specs.Text.{is_proportional, prints}
 use Rattle.pcl_page.specs.Raster.{ends_raster}
-use Rattle.pcl_page.specs.Situation.{Sheet, Situation, with_font, with_character, font_now, code_printed, codes_printed, draw_refusal, unless_refused, end_raster, is_marked, ejects, sheet_of, turned, drawn, done_with, taken, counted, prepared, is_ignored, after, at_end}
+use Rattle.pcl_page.specs.Situation.{Sheet, Situation, with_font, with_character, font_now, code_printed, codes_printed, draw_refusal, unless_refused, ◌|>◌, end_raster, is_marked, ejects, sheet_of, turned, turned_by, drawn, drawn_on, taken, counted, counted_in_limit, prepared, is_ignored, after, after_named, page_refusal, within_page_limit, tried, at_end}
 use Rattle.pcl_page.proofs.Turns.{prepared_page}
 
 -- neither pages nor counts, nor what is there of macros, change where something is drawn
@@ -63,7 +67,7 @@ drawn_keeps dpi RasterOffset command = record { pages = refl; performed = refl; 
 drawn_keeps dpi RasterRow command = record { pages = refl; performed = refl; macros = refl; begun = refl }
 drawn_keeps dpi other command = record { pages = refl; performed = refl; macros = refl; begun = refl }
 
--- ---- a command
+-- ---- pages that are added
 
 -- pages are only added, and neither counts nor what is there of macros change
 pub record Adds (s later : Situation) : Type 0 where
@@ -89,12 +93,23 @@ adds_turned settings effect s true e =
 adds_turned settings effect s false e =
     record { more = []; pages = rw e (sym (append-nil s.pages)); performed = rw e refl; macros = rw e refl; begun = rw e refl }
 
-adds_on : (dpi : Dpi) (operation : Operation) (command : Said) {s now later : Situation} (why : Option Kind) → Adds s now
-    → unless_refused why (drawn dpi operation command now) ≡ Ok later → Adds s later
-adds_on dpi operation command {s} {now} {later} None t e =
-    let same : drawn dpi operation command now ≡ later = cc in
+-- ---- a command, in the order of its checks
+
+-- what follows an outcome follows a situation
+pub then_from : (o : Result Situation Kind) (next : Situation → Result Situation Kind) {later : Situation} → (o |> next) ≡ Ok later
+    → (now : Situation) × (o ≡ Ok now) × (next now ≡ Ok later)
+then_from (Ok now) next e = (now, refl, e)
+then_from (Err kind) next e = absurd cc
+
+pub unless_from : (why : Option Kind) {s later : Situation} → unless_refused why s ≡ Ok later → later ≡ s
+unless_from None e = cc
+unless_from (Some kind) e = absurd cc
+
+adds_drawn : (dpi : Dpi) (operation : Operation) (command : Said) {s now later : Situation} → Adds s now
+    → drawn_on dpi operation command now ≡ Ok later → Adds s later
+adds_drawn dpi operation command {s} {now} t e =
     let k = drawn_keeps dpi operation command in
-    subst (λ (z : Situation). Adds s z) same
+    subst (λ (z : Situation). Adds s z) (sym (unless_from (draw_refusal operation command now) e))
     (record {
       more = t.more;
       pages = k.pages ∙ t.pages;
@@ -102,15 +117,12 @@ adds_on dpi operation command {s} {now} {later} None t e =
       macros = k.macros ∙ t.macros;
       begun = k.begun ∙ t.begun;
     })
-adds_on dpi operation command (Some kind) t e = absurd cc
 
-adds_drawn : (dpi : Dpi) (operation : Operation) (command : Said) (o : Outcome) {s later : Situation}
-    → done_with dpi operation command o s ≡ Ok later → Adds s later
-adds_drawn dpi operation command None e = absurd cc
-adds_drawn dpi operation command (Some done) {s} e =
-    let now = turned done.0 done.1 s in
-    adds_on dpi operation command (draw_refusal operation command now)
-    (adds_turned done.0 done.1 s (ejects done.1 (is_marked s)) refl) e
+adds_taken : (o : Outcome) {s later : Situation} → turned_by o s ≡ Ok later → Adds s later
+adds_taken None e = absurd cc
+adds_taken (Some done) {s} {later} e =
+    let same : turned done.0 done.1 s ≡ later = cc in
+    subst (λ (z : Situation). Adds s z) same (adds_turned done.0 done.1 s (ejects done.1 (is_marked s)) refl)
 
 adds_prepared : (dpi : Dpi) (ends : Bool) (s later : Situation) → Adds (cond ends (end_raster dpi s) s) later → Adds s later
 adds_prepared dpi ends s later a =
@@ -124,18 +136,48 @@ adds_prepared dpi ends s later a =
     }
 
 adds_by : (dpi : Dpi) (operation : Operation) (command : Said) (s : Situation) {later : Situation} (ignored : Bool)
-    → cond ignored (Ok (counted s)) (taken dpi operation command (prepared dpi operation (counted s))) ≡ Ok later → Adds (counted s) later
-adds_by dpi operation command s {later} true e = let same : later ≡ counted s = cc in adds_none same
+    → cond ignored (Ok s) (taken dpi operation command.value (prepared dpi operation s) |> drawn_on dpi operation command) ≡ Ok later
+    → Adds s later
+adds_by dpi operation command s {later} true e = let same : later ≡ s = cc in adds_none same
 adds_by dpi operation command s {later} false e =
-    let before = prepared dpi operation (counted s) in
-    adds_prepared dpi (ends_raster operation) (counted s) later
-    (adds_drawn dpi operation command (outcome dpi operation command.value (is_marked before) before.settings) e)
+    let before = prepared dpi operation s in
+    let t = then_from (taken dpi operation command.value before) (drawn_on dpi operation command) e in
+    adds_prepared dpi (ends_raster operation) s later
+    (adds_drawn dpi operation command
+    (adds_taken (outcome dpi operation command.value (is_marked before) before.settings) t.1) t.2)
 
--- a command that isn't refused counts one, adds pages, and does nothing to macros
+-- a command that isn't refused adds pages, and does nothing to macros
 pub after_adds : (dpi : Dpi) (operation : Operation) (command : Said) (s : Situation) {later : Situation}
-    → after dpi operation command s ≡ Ok later → Adds (counted s) later
+    → after dpi operation command s ≡ Ok later → Adds s later
 unfolding after
 after_adds dpi operation command s e = adds_by dpi operation command s (is_ignored operation s) e
+
+adds_named : (dpi : Dpi) (operation : Option Operation) (command : Said) (s : Situation) {later : Situation}
+    → after_named dpi operation command s ≡ Ok later → Adds s later
+adds_named dpi None command s e = absurd cc
+adds_named dpi (Some operation) command s e = after_adds dpi operation command s e
+
+limit_from : (past : Bool) {s later : Situation} → nat_le command_limit s.performed ≡ past
+    → cond past (Err TooManyCommands) (Ok (counted s)) ≡ Ok later → (later ≡ counted s) × (s.performed < 100000000)
+limit_from true p e = absurd cc
+limit_from false {s} {later} p e = let same : later ≡ counted s = cc in (same, grind (arith, nat_tests))
+
+-- a command that counts, and isn't refused
+pub record IsCounted (dpi : Dpi) (command : Said) (s later : Situation) : Type 0 where
+  pub few : s.performed < 100000000
+  pub after_is : after_named dpi (operation_of command.name) command (counted s) ≡ Ok later
+  pub adds : Adds (counted s) later
+
+pub is_counted : (dpi : Dpi) (command : Said) (s : Situation) {later : Situation} → tried dpi command s ≡ Ok later
+    → IsCounted dpi command s later
+is_counted dpi command s {later} e =
+    let named = after_named dpi (operation_of command.name) command in
+    let p = then_from (counted_in_limit s |> named) within_page_limit e in
+    let c = then_from (counted_in_limit s) named p.1 in
+    let one = limit_from (nat_le command_limit s.performed) refl c.1 in
+    let is : named (counted s) ≡ Ok later =
+    ap named (sym one.0) ∙ c.2 ∙ ap (λ (z : Situation). Ok z) (sym (unless_from (page_refusal p.0) p.2)) in
+    record { few = one.1; after_is = is; adds = adds_named dpi (operation_of command.name) command (counted s) is }
 
 -- the end of the input
 pub end_adds : (dpi : Dpi) (s : Situation) → (more : List Sheet) × ((at_end dpi s).pages ≡ s.pages ++ more)

@@ -6,7 +6,7 @@ use Rattle.pcl_base.specs.declared.dpi.Dpi.{Dpi}
 use Rattle.pcl_base.specs.declared.fault.CallFault.{CallFault}
 use Rattle.pcl_base.specs.declared.fault.CallFault.TheVariants.{Refused, Memory}
 use Rattle.pcl_base.specs.declared.kind.Kind.{Kind}
-use Rattle.pcl_base.specs.declared.kind.Kind.TheVariants.{UnsupportedCommand, TooManyCommands, TooManyPages}
+use Rattle.pcl_base.specs.declared.kind.Kind.TheVariants.{TooManyCommands, TooManyPages}
 use Rattle.pcl_base.specs.declared.operation.Operation.{Operation}
 use Rattle.pcl_base.specs.declared.operation.Operation.TheVariants.{DownloadFont, DownloadCharacter, PrintText}
 use Rattle.pcl_base.specs.Limits.{command_limit, page_limit}
@@ -20,7 +20,7 @@ use Rattle.pcl_env.specs.Outcome.{Outcome, outcome, stays}
 use Rattle.pcl_bitmap.specs.declared.page.Page.{Page}
 use Rattle.pcl_page.specs.declared.performer.Performer.{Performer}
 use Rattle.pcl_page.specs.Raster.{Raster, ends_raster, is_ignored_in_raster}
-use Rattle.pcl_page.specs.Situation.{Sheet, Situation, turned_page, without_temporary, draw_refusal, unless_refused, drawn_on, settings_below, end_raster, is_marked, sheet_of, turned, drawn, done_with, taken, counted, prepared, is_ignored, after, at_end, page_refusal, refusal_after, operation_refusal, command_refusal}
+use Rattle.pcl_page.specs.Situation.{Sheet, Situation, turned_page, without_temporary, draw_refusal, unless_refused, ◌|>◌, drawn_on, settings_below, end_raster, is_marked, sheet_of, turned, turned_by, drawn, taken, counted, prepared, is_ignored, after, after_named, at_end, page_refusal, within_page_limit, tried}
 use Rattle.pcl_page.specs.Performing.{Shows}
 use Rattle.pcl_page.specs.Delivering.{Hands}
 use Rattle.pcl_page.specs.inner.Reflecting.{IsIn, IsEjected, Takes, Draws, HandsMore, IsTurned, IsTried}
@@ -52,56 +52,32 @@ counted_in i e r b m j p a f = record {
   painted = painted_same i.painted (ap (λ (q : Page). q.bitmap) b) refl;
 }
 
--- why a command is refused that is known and not past the limit
-refusal_is : (dpi : Dpi) (command : Said) (operation : Operation) (s : Situation) → s.performed < 100000000
-    → operation_of command.name ≡ Some operation
-    → command_refusal dpi command s ≡ refusal_after (after dpi operation command s)
-refusal_is dpi command operation s few named =
+-- a command that is not past the limit, by its operation
+pub tried_as : (dpi : Dpi) (command : Said) {operation : Option Operation} (s : Situation) → s.performed < 100000000
+    → operation_of command.name ≡ operation
+    → tried dpi command s ≡ (after_named dpi operation command (counted s) |> within_page_limit)
+tried_as dpi command s few named =
     let under : nat_le command_limit s.performed ≡ false = grind (arith, nat_tests) in
-    ap (λ (b : Bool). cond b (Some TooManyCommands) (operation_refusal dpi (operation_of command.name) command s)) under
-    ∙ ap (λ (o : Option Operation). operation_refusal dpi o command s) named
-
-pub refused_many : (dpi : Dpi) (command : Said) (s : Situation) → 100000000 ≤ s.performed
-    → command_refusal dpi command s ≡ Some TooManyCommands
-refused_many dpi command s many =
-    let past : nat_le command_limit s.performed ≡ true = grind (arith, nat_tests) in
-    ap (λ (b : Bool). cond b (Some TooManyCommands) (operation_refusal dpi (operation_of command.name) command s)) past
-
-pub refused_unknown : (dpi : Dpi) (command : Said) (s : Situation) → s.performed < 100000000 → operation_of command.name ≡ None
-    → command_refusal dpi command s ≡ Some UnsupportedCommand
-refused_unknown dpi command s few named =
-    let under : nat_le command_limit s.performed ≡ false = grind (arith, nat_tests) in
-    ap (λ (b : Bool). cond b (Some TooManyCommands) (operation_refusal dpi (operation_of command.name) command s)) under
-    ∙ ap (λ (o : Option Operation). operation_refusal dpi o command s) named
-
-after_ignored : (dpi : Dpi) (operation : Operation) (command : Said) (s : Situation) → is_ignored operation s ≡ true
-    → after dpi operation command s ≡ Ok (counted s)
-unfolding after
-after_ignored dpi operation command s e =
-    ap (λ (b : Bool). cond b (Ok (counted s)) (taken dpi operation command (prepared dpi operation (counted s)))) e
-
-after_taken : (dpi : Dpi) (operation : Operation) (command : Said) (s : Situation) {o : Outcome} → is_ignored operation s ≡ false
-    → outcome dpi operation command.value (is_marked (prepared dpi operation (counted s))) (prepared dpi operation (counted s)).settings ≡ o
-    → after dpi operation command s ≡ done_with dpi operation command o (prepared dpi operation (counted s))
-unfolding after
-after_taken dpi operation command s e is =
-    ap (λ (b : Bool). cond b (Ok (counted s)) (taken dpi operation command (prepared dpi operation (counted s)))) e
-    ∙ ap (λ (p : Outcome). done_with dpi operation command p (prepared dpi operation (counted s))) is
+    ap (λ (b : Bool). cond b (Err TooManyCommands) (Ok (counted s)) |> after_named dpi (operation_of command.name) command
+    |> within_page_limit) under
+    ∙ ap (λ (o : Option Operation). after_named dpi o command (counted s) |> within_page_limit) named
 
 pub tried_ignored : {S : Type 0} (takes : S → Page → S → Type 0) (dpi : Dpi) (operation : Operation) (command : Said) (s : Situation)
     (old new : Performer) (sink : S)
     → IsIn dpi s old → old.performed < 100000000 → old.ejected ≤ 256 → operation_of command.name ≡ Some operation
     → (is_some old.raster && is_ignored_in_raster operation) ≡ true → IsIn dpi (counted s) new
     → IsTried takes dpi command s (Ok operation) new sink sink
+unfolding after
 tried_ignored takes dpi operation command s old new sink i few fit named e now =
     let ignored : is_ignored operation s ≡ true =
-    ap (λ (r : Option Raster). is_some r && is_ignored_in_raster operation) (sym i.raster) ∙ e in
-    let done = after_ignored dpi operation command s ignored in (
+    ap (λ (r : Option Raster). is_some r && is_ignored_in_raster operation) (sym i.raster) ∙ e in (
       counted s,
       named,
-      done,
-      refusal_is dpi command operation s (omega (arith, i.performed)) named ∙ ap refusal_after done
-          ∙ pages_fit (counted s) (omega (arith, i.ejected)),
+      tried_as dpi command s (omega (arith, few, i.performed)) named
+          ∙ ap (λ (b : Bool). cond b (Ok (counted s))
+          (taken dpi operation command.value (prepared dpi operation (counted s)) |> drawn_on dpi operation command)
+          |> within_page_limit) ignored
+          ∙ ap (λ (why : Option Kind). unless_refused why (counted s)) (pages_fit (counted s) (omega (arith, i.ejected))),
       now,
       ([], sym (append-nil s.pages), refl),
     )
@@ -113,21 +89,21 @@ pub record AtTurn (dpi : Dpi) (operation : Operation) (command : Said) (s : Situ
   pub named : operation_of command.name ≡ Some operation
   pub performed : (is_some old.raster && is_ignored_in_raster operation) ≡ false
 
--- what the turn of the page leads to, of a command whose value is taken
-turned_after : {dpi : Dpi} {operation : Operation} {command : Said} {s : Situation} {old : Performer} {o : Outcome}
+-- what such a command leads to, by the outcome of its operation
+tried_at : {dpi : Dpi} {operation : Operation} {command : Said} {s : Situation} {old : Performer} {o : Outcome}
     → AtTurn dpi operation command s old
     → outcome dpi operation command.value (is_marked (prepared dpi operation (counted s))) (prepared dpi operation (counted s)).settings ≡ o
-    → after dpi operation command s ≡ done_with dpi operation command o (prepared dpi operation (counted s))
-turned_after {dpi} {operation} {command} {s} a is =
+    → tried dpi command s
+    ≡ (turned_by o (prepared dpi operation (counted s)) |> drawn_on dpi operation command |> within_page_limit)
+unfolding after
+tried_at {dpi} {operation} {command} {s} a is =
+    let before = prepared dpi operation (counted s) in
     let ignored : is_ignored operation s ≡ false =
     ap (λ (r : Option Raster). is_some r && is_ignored_in_raster operation) (sym a.is_in.raster) ∙ a.performed in
-    after_taken dpi operation command s ignored is
-
--- why a command is refused that is at the turn of the page
-turn_refusal : {dpi : Dpi} {operation : Operation} {command : Said} {s : Situation} {old : Performer}
-    → AtTurn dpi operation command s old → command_refusal dpi command s ≡ refusal_after (after dpi operation command s)
-turn_refusal {dpi} {operation} {command} {s} a =
-    refusal_is dpi command operation s (omega (arith, a.few, a.is_in.performed)) a.named
+    tried_as dpi command s (omega (arith, a.few, a.is_in.performed)) a.named
+    ∙ ap (λ (b : Bool). cond b (Ok (counted s)) (taken dpi operation command.value before |> drawn_on dpi operation command)
+    |> within_page_limit) ignored
+    ∙ ap (λ (p : Outcome). turned_by p before |> drawn_on dpi operation command |> within_page_limit) is
 
 -- ---- commands that are refused where they draw
 
@@ -172,16 +148,24 @@ handed_on takes dpi operation command s now sink later h = (
   h.2,
 )
 
+-- by why it isn't drawn, if it isn't
+tried_by : (dpi : Dpi) (operation : Operation) (command : Said) (s now : Situation) {why : Option Kind}
+    → tried dpi command s ≡ (drawn_on dpi operation command now |> within_page_limit) → draw_refusal operation command now ≡ why
+    → tried dpi command s ≡ (unless_refused why (drawn dpi operation command now) |> within_page_limit)
+tried_by dpi operation command s now is e =
+    is ∙ ap (λ (o : Option Kind). unless_refused o (drawn dpi operation command now) |> within_page_limit) e
+
 -- what is drawn hands over no page
-drawn_fits : (dpi : Dpi) (operation : Operation) (command : Said) (s : Situation)
-    → page_refusal (drawn dpi operation command s) ≡ page_refusal s
-drawn_fits dpi operation command s =
-    ap (λ (ps : List Sheet). cond (nat_le (length ps) page_limit) None (Some TooManyPages)) (drawn_pages dpi operation command s)
+drawn_fits : (dpi : Dpi) (operation : Operation) (command : Said) (now : Situation) {past : Option Kind} → page_refusal now ≡ past
+    → within_page_limit (drawn dpi operation command now) ≡ unless_refused past (drawn dpi operation command now)
+drawn_fits dpi operation command now e =
+    ap (λ (why : Option Kind). unless_refused why (drawn dpi operation command now))
+    (ap (λ (ps : List Sheet). cond (nat_le (length ps) page_limit) None (Some TooManyPages)) (drawn_pages dpi operation command now) ∙ e)
 
 -- the page was turned: what holds before anything is drawn, and what then is the situation after the command
 pub record IsGone {S : Type 0} (takes : S → Page → S → Type 0) (dpi : Dpi) (operation : Operation) (command : Said) (s now : Situation)
     (sink later : S) : Type 0 where
-  pub after_is : after dpi operation command s ≡ drawn_on dpi operation command now
+  pub tried_is : tried dpi command s ≡ (drawn_on dpi operation command now |> within_page_limit)
   pub fits : page_refusal now ≡ None
   pub handed : HandsMore takes dpi s (drawn dpi operation command now) sink later
   pub quiet : (kind : Kind) → draw_refusal operation command now ≡ Some kind → later ≡ sink
@@ -198,7 +182,7 @@ gone_with takes dpi operation command s old done sink later a is fits h =
     let before = prepared dpi operation (counted s) in
     let now = turned done.0 done.1 before in
     record {
-      after_is = turned_after a is;
+      tried_is = tried_at a is;
       fits = fits;
       handed = handed_on takes dpi operation command s now sink later h;
       quiet = λ kind e.
@@ -207,35 +191,19 @@ gone_with takes dpi operation command s old done sink later a is fits h =
     }
 
 -- nothing is refused where it is drawn
-drawn_after : {S : Type 0} (takes : S → Page → S → Type 0) (dpi : Dpi) (operation : Operation) (command : Said) (s now : Situation)
+gone_drawn : {S : Type 0} (takes : S → Page → S → Type 0) (dpi : Dpi) (operation : Operation) (command : Said) (s now : Situation)
     (sink later : S) → IsGone takes dpi operation command s now sink later → draw_refusal operation command now ≡ None
-    → after dpi operation command s ≡ Ok (drawn dpi operation command now)
-drawn_after takes dpi operation command s now sink later g e =
-    g.after_is ∙ ap (λ (why : Option Kind). unless_refused why (drawn dpi operation command now)) e
-
-drawn_accepted : {S : Type 0} (takes : S → Page → S → Type 0) (dpi : Dpi) (operation : Operation) (command : Said) (s now : Situation)
-    (old : Performer) (sink later : S) → AtTurn dpi operation command s old → IsGone takes dpi operation command s now sink later
-    → draw_refusal operation command now ≡ None → command_refusal dpi command s ≡ None
-drawn_accepted takes dpi operation command s now old sink later a g e =
-    turn_refusal a
-    ∙ ap refusal_after (drawn_after takes dpi operation command s now sink later g e)
-    ∙ drawn_fits dpi operation command now ∙ g.fits
+    → tried dpi command s ≡ Ok (drawn dpi operation command now)
+gone_drawn takes dpi operation command s now sink later g e =
+    tried_by dpi operation command s now g.tried_is e ∙ drawn_fits dpi operation command now g.fits
 
 -- memory ran out after the turn
 gone_short : {S : Type 0} (takes : S → Page → S → Type 0) (dpi : Dpi) (operation : Operation) (command : Said) (s now : Situation)
-    (old new : Performer) (sink later : S) (why : Option Kind)
-    → AtTurn dpi operation command s old → IsGone takes dpi operation command s now sink later
+    (new : Performer) (sink later : S) (why : Option Kind) → IsGone takes dpi operation command s now sink later
     → draw_refusal operation command now ≡ why → IsTried takes dpi command s (Err Memory) new sink later
-gone_short takes dpi operation command s now old new sink later None a g e =
-    inr (
-      operation,
-      drawn dpi operation command now,
-      a.named,
-      drawn_after takes dpi operation command s now sink later g e,
-      drawn_accepted takes dpi operation command s now old sink later a g e,
-      g.handed,
-    )
-gone_short takes dpi operation command s now old new sink later (Some kind) a g e = inl (g.quiet kind e)
+gone_short takes dpi operation command s now new sink later None g e =
+    inr (drawn dpi operation command now, gone_drawn takes dpi operation command s now sink later g e, g.handed)
+gone_short takes dpi operation command s now new sink later (Some kind) g e = inl (g.quiet kind e)
 
 -- pages that are past the limit come from a command that isn't refused where it draws
 past_why : {dpi : Dpi} {operation : Operation} {command : Said} {s : Situation} {old : Performer} {done : Settings × Effect}
@@ -263,19 +231,11 @@ turn_refused : {S : Type 0} (takes : S → Page → S → Type 0) (dpi : Dpi) (o
     → outcome dpi operation command.value (is_marked (prepared dpi operation (counted s))) (prepared dpi operation (counted s)).settings ≡ o
     → IsTurned takes dpi o (prepared dpi operation (counted s)) (Err (Refused kind)) new sink later
     → IsTried takes dpi command s (Err (Refused kind)) new sink later
-turn_refused takes dpi operation command s old new sink later kind None a is t = (
-  turn_refusal a ∙ ap refusal_after (turned_after a is)
-      ∙ ap (λ (k : Kind). Some k) (sym t.0),
-  t.1,
-)
+turn_refused takes dpi operation command s old new sink later kind None a is t = (tried_at a is ∙ ap (λ (k : Kind). Err k) (sym t.0), t.1)
 turn_refused takes dpi operation command s old new sink later kind (Some done) a is t =
     let now = turned done.0 done.1 (prepared dpi operation (counted s)) in
-    let free : draw_refusal operation command now ≡ None =
-    past_why (draw_refusal operation command now) a is t.0 refl in (
-      turn_refusal a
-          ∙ ap refusal_after (turned_after a is)
-          ∙ ap (λ (why : Option Kind). refusal_after (unless_refused why (drawn dpi operation command now))) free
-          ∙ drawn_fits dpi operation command now ∙ t.0,
+    let free : draw_refusal operation command now ≡ None = past_why (draw_refusal operation command now) a is t.0 refl in (
+      tried_by dpi operation command s now (tried_at a is) free ∙ drawn_fits dpi operation command now t.0,
       t.1,
     )
 
@@ -291,7 +251,7 @@ turn_short takes dpi operation command s old new sink later (Some done) a is t =
     elim t [
       | inl same ↦ inl same
       | inr h ↦
-          gone_short takes dpi operation command s now old new sink later (draw_refusal operation command now) a
+          gone_short takes dpi operation command s now new sink later (draw_refusal operation command now)
           (gone_with takes dpi operation command s old done sink later a is h.0 h.1) refl
     ]
 
@@ -345,8 +305,7 @@ pub tried_drawn : {S : Type 0} (takes : S → Page → S → Type 0) (dpi : Dpi)
 tried_drawn takes dpi operation command s old middle new sink later a g d = (
   drawn dpi operation command g.turned_to,
   a.named,
-  drawn_after takes dpi operation command s g.turned_to sink later g.is_gone d.0,
-  drawn_accepted takes dpi operation command s g.turned_to old sink later a g.is_gone d.0,
+  gone_drawn takes dpi operation command s g.turned_to sink later g.is_gone d.0,
   d.1,
   g.is_gone.handed,
 )
@@ -357,13 +316,10 @@ pub tried_undrawn : {S : Type 0} (takes : S → Page → S → Type 0) (dpi : Dp
     → AtTurn dpi operation command s old → (g : Gone takes dpi operation command s middle sink later) (fault : CallFault)
     → Draws dpi (draw_refusal operation command g.turned_to) (drawn dpi operation command g.turned_to) (Err fault) new
     → IsTried takes dpi command s (Err fault) new sink later
-tried_undrawn takes dpi operation command s old middle new sink later a g (Refused kind) d = (
-  turn_refusal a ∙ ap refusal_after g.is_gone.after_is
-      ∙ ap (λ (why : Option Kind). refusal_after (unless_refused why (drawn dpi operation command g.turned_to))) d,
-  g.is_gone.quiet kind d,
-)
+tried_undrawn takes dpi operation command s old middle new sink later a g (Refused kind) d =
+    (tried_by dpi operation command s g.turned_to g.is_gone.tried_is d, g.is_gone.quiet kind d)
 tried_undrawn takes dpi operation command s old middle new sink later a g Memory d =
-    gone_short takes dpi operation command s g.turned_to old new sink later (draw_refusal operation command g.turned_to) a g.is_gone refl
+    gone_short takes dpi operation command s g.turned_to new sink later (draw_refusal operation command g.turned_to) g.is_gone refl
 
 -- ---- the end of the input
 

@@ -1,15 +1,14 @@
 -- Performances of commands and of macros, unfolded.
-use Rattle.std.proofs.Common.{◌≡◌, ℕ, zero, suc, ◌+◌, ◌-◌, ◌<◌, Bool, true, false, cond, nat_le, List, [], ◌∷◌, ◌++◌, length, Option, Some, None, Result, Ok, Err, refl, sym, ap, subst, ◌∙◌, append-nil, arith, inl, inr}
+use Rattle.std.proofs.Common.{◌≡◌, ℕ, zero, suc, ◌+◌, ◌-◌, ◌<◌, Bool, true, false, cond, List, [], ◌∷◌, ◌++◌, length, Option, Some, None, Result, Ok, Err, refl, sym, ap, subst, ◌∙◌, append-nil, arith, inl, inr}
 use Rattle.std.specs.Prelude.{is_some, ◌⊎◌}
-use Rattle.std.proofs.lemmas.Bool.Decides.{nat_tests}
 use Rattle.pcl_base.specs.declared.dpi.Dpi.{Dpi}
 use Rattle.pcl_base.specs.declared.kind.Kind.{Kind}
-use Rattle.pcl_base.specs.declared.kind.Kind.TheVariants.{TooManyCommands, MacroDepth}
+use Rattle.pcl_base.specs.declared.kind.Kind.TheVariants.{MacroDepth}
 use Rattle.pcl_base.specs.declared.operation.Operation.{Operation}
 use Rattle.pcl_base.specs.declared.operation.Operation.TheVariants.{Reset, UniversalExit, ControlMacros}
 use Rattle.pcl_base.specs.declared.refusal.Refusal.{Refusal}
 use Rattle.pcl_base.specs.declared.value.Value.{Value}
-use Rattle.pcl_base.specs.Limits.{command_limit, macro_limit}
+use Rattle.pcl_base.specs.Limits.{macro_limit}
 use Rattle.pcl_base.specs.Operation.{operation_of}
 use Rattle.pcl_env.specs.Settings.{Settings}
 use Rattle.pcl_escape.specs.Said.{Said}
@@ -20,11 +19,11 @@ use Rattle.pcl_page.specs.declared.macros.Action.{Action}
 use Rattle.pcl_page.specs.declared.macros.Action.TheVariants.{Begin, End, Control}
 use Rattle.pcl_page.specs.declared.macros.Keeping.{Keeping}
 use Rattle.pcl_page.specs.declared.macros.Keeping.TheVariants.{Kept, Ends, Refused}
-use Rattle.pcl_page.specs.Situation.{Situation, after, operation_refusal, command_refusal}
-use Rattle.pcl_page.specs.Macros.{Run, action_of, keeping_of, definition_ended, acted, managed, and_then, after_at, if_not_refused, counting, defining, after_command, run_of, left}
+use Rattle.pcl_page.specs.Situation.{Situation, tried}
+use Rattle.pcl_page.specs.Macros.{Run, action_of, keeping_of, definition_ended, acted, managed, counting, defining, after_command, run_of, left}
 use Rattle.pcl_page.specs.Performing.{Performance, done, stopped, unless, then_on, in_order, concluded, and_run, step, commands_left, runs}
 use Rattle.pcl_page.specs.inner.Unfolding.{run_in, entered, HasLevel, rest_of, resumed, begun_among}
-use Rattle.pcl_page.proofs.Keeping.{after_adds}
+use Rattle.pcl_page.proofs.Keeping.{then_from, is_counted}
 use Rattle.pcl_page.proofs.Sinks.{Onward, stays_there, onward_on}
 
 -- ---- performances in a row
@@ -163,42 +162,19 @@ acted_acts place (Some End) {s} e = ended_acts place s.begun e
 acted_acts place (Some (Control what)) e = same_acts (record { pages = refl; performed = refl }) e
 acted_acts place other e = same_acts (record { pages = refl; performed = refl }) e
 
-pub managed_acts : (place : ℕ) (operation : Operation) (value : Value) {s later : Situation} → managed place operation value s ≡ Ok later
-    → ActsOnMacros s later
-managed_acts place Reset value e = same_acts (record { pages = refl; performed = refl }) e
-managed_acts place UniversalExit value e = same_acts (record { pages = refl; performed = refl }) e
-managed_acts place ControlMacros value e = acted_acts place (action_of value) e
+pub managed_acts : (place : ℕ) (operation : Option Operation) (value : Value) {s later : Situation}
+    → managed place operation value s ≡ Ok later → ActsOnMacros s later
+managed_acts place (Some Reset) value e = same_acts (record { pages = refl; performed = refl }) e
+managed_acts place (Some UniversalExit) value e = same_acts (record { pages = refl; performed = refl }) e
+managed_acts place (Some ControlMacros) value e = acted_acts place (action_of value) e
 managed_acts place other value e = same_acts (record { pages = refl; performed = refl }) e
 
-not_past : (dpi : Dpi) (command : Said) (s : Situation) (past : Bool) → nat_le command_limit s.performed ≡ past
-    → cond past (Some TooManyCommands) (operation_refusal dpi (operation_of command.name) command s) ≡ None → s.performed < 100000000
-not_past dpi command s true e n = absurd cc
-not_past dpi command s false e n = grind (arith, nat_tests)
-
-done_counts : (dpi : Dpi) (place : ℕ) (operation : Operation) (command : Said) {s later : Situation} (o : Result Situation Kind)
-    → after dpi operation command s ≡ o → and_then o (managed place operation command.value) ≡ Ok later → s.performed < 100000000
-    → Counts s later
-done_counts dpi place operation command (Err kind) e m few = absurd cc
-done_counts dpi place operation command {s} (Ok now) e m few =
-    let a = after_adds dpi operation command s e in
-    let b = managed_acts place operation command.value m in
-    record { onward = (a.more, b.pages ∙ a.pages); performed = b.performed ∙ a.performed; few = few }
-
-named_counts : (dpi : Dpi) (place : ℕ) (operation : Option Operation) (command : Said) {s later : Situation}
-    → after_at dpi place operation command s ≡ Ok later → s.performed < 100000000 → Counts s later
-named_counts dpi place None command e few = absurd cc
-named_counts dpi place (Some operation) command {s} e few =
-    done_counts dpi place operation command (after dpi operation command s) refl e few
-
-unrefused_counts : (dpi : Dpi) (place : ℕ) (command : Said) {s later : Situation} (why : Option Kind) → command_refusal dpi command s ≡ why
-    → if_not_refused why (after_at dpi place (operation_of command.name) command s) ≡ Ok later → Counts s later
-unrefused_counts dpi place command (Some kind) w e = absurd cc
-unrefused_counts dpi place command {s} None w e =
-    named_counts dpi place (operation_of command.name) command e
-    (not_past dpi command s (nat_le command_limit s.performed) refl w)
-
 counting_counts : (dpi : Dpi) (place : ℕ) (command : Said) {s later : Situation} → counting dpi place command s ≡ Ok later → Counts s later
-counting_counts dpi place command {s} e = unrefused_counts dpi place command (command_refusal dpi command s) refl e
+counting_counts dpi place command {s} e =
+    let t = then_from (tried dpi command s) (managed place (operation_of command.name) command.value) e in
+    let c = is_counted dpi command s t.1 in
+    let b = managed_acts place (operation_of command.name) command.value t.2 in
+    record { onward = (c.adds.more, b.pages ∙ c.adds.pages); performed = b.performed ∙ c.adds.performed; few = c.few }
 
 -- a command is kept, and nothing changes, or it counts
 abbrev pub KeptOrCounts : Situation → Situation → Type 0

@@ -3,7 +3,7 @@ use Rattle.std.specs.Prelude.{ℕ, ◌+◌, ◌==◌, is_some, if◌then◌else�
 use Rattle.std.specs.Option.{option_map}
 use Rattle.pcl_base.specs.declared.dpi.Dpi.{Dpi}
 use Rattle.pcl_base.specs.declared.kind.Kind.{Kind}
-use Rattle.pcl_base.specs.declared.kind.Kind.TheVariants.{UnsupportedCommand, MacroOpen, MacroControl as OutOfPlace}
+use Rattle.pcl_base.specs.declared.kind.Kind.TheVariants.{MacroOpen, MacroControl as OutOfPlace}
 use Rattle.pcl_base.specs.declared.operation.Operation.{Operation}
 use Rattle.pcl_base.specs.declared.operation.Operation.TheVariants.{Reset, UniversalExit, ControlMacros}
 use Rattle.pcl_base.specs.declared.value.Value.{Value}
@@ -18,7 +18,7 @@ use Rattle.pcl_page.specs.declared.macros.Action.{Action}
 use Rattle.pcl_page.specs.declared.macros.Action.TheVariants.{Begin, End, Execute, Call, Control}
 use Rattle.pcl_page.specs.declared.macros.Keeping.{Keeping}
 use Rattle.pcl_page.specs.declared.macros.Keeping.TheVariants.{Kept, Ends, Refused}
-use Rattle.pcl_page.specs.Situation.{Situation, end_raster, after, command_refusal}
+use Rattle.pcl_page.specs.Situation.{Situation, end_raster, ◌|>◌, tried}
 
 -- what a macro control does, by its number
 abbrev pub action_with : ℕ → Option Action
@@ -79,30 +79,17 @@ acted place (Some (Control what)) s = Ok (with_macro_event (control what s.setti
 acted place other s = Ok s
 
 -- what the command at a place does to macros and definitions; a reset deletes the temporary macros
-abbrev pub managed : ℕ → Operation → Value → Situation → Result Situation Kind
-managed place Reset value s = Ok (with_macro_event (control Temporary 0) s)
-managed place UniversalExit value s = Ok (with_macro_event (control Temporary 0) s)
-managed place ControlMacros value s = acted place (action_of value) s
+abbrev pub managed : ℕ → Option Operation → Value → Situation → Result Situation Kind
+managed place (Some Reset) value s = Ok (with_macro_event (control Temporary 0) s)
+managed place (Some UniversalExit) value s = Ok (with_macro_event (control Temporary 0) s)
+managed place (Some ControlMacros) value s = acted place (action_of value) s
 managed place other value s = Ok s
 
 -- ---- one command
 
-abbrev pub and_then : Result Situation Kind → (Situation → Result Situation Kind) → Result Situation Kind
-and_then (Err kind) next = Err kind
-and_then (Ok s) next = next s
-
-abbrev pub after_at : Dpi → ℕ → Option Operation → Said → Situation → Result Situation Kind
-after_at dpi place None command s = Err UnsupportedCommand
-after_at dpi place (Some operation) command s = and_then (after dpi operation command s) (managed place operation command.value)
-
-abbrev pub if_not_refused : Option Kind → Result Situation Kind → Result Situation Kind
-if_not_refused (Some kind) result = Err kind
-if_not_refused None result = result
-
 -- a command that counts, at this place in the list of commands
 abbrev pub counting : Dpi → ℕ → Said → Situation → Result Situation Kind
-counting dpi place command s =
-    if_not_refused (command_refusal dpi command s) (after_at dpi place (operation_of command.name) command s)
+counting dpi place command s = tried dpi command s |> managed place (operation_of command.name) command.value
 
 -- a command in a definition: one that is kept changes nothing, and doesn't count
 abbrev pub defining : Dpi → ℕ → Keeping → Said → Situation → Result Situation Kind

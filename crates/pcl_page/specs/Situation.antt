@@ -199,58 +199,68 @@ draw_refusal DownloadCharacter command s = character_refusal command.bytes (font
 draw_refusal PrintText command s = text_refusal command.bytes (font_now s)
 draw_refusal other command s = None
 
--- ---- one command
+-- ---- one command, in the order of its checks
 
 -- the situation, or why there is none
 abbrev pub unless_refused : Option Kind → Situation → Result Situation Kind
 unless_refused None s = Ok s
 unless_refused (Some kind) s = Err kind
 
-abbrev pub drawn_on : Dpi → Operation → Said → Situation → Result Situation Kind
-drawn_on dpi operation command s = unless_refused (draw_refusal operation command s) (drawn dpi operation command s)
+-- what comes next follows only where nothing was refused
+infixl 10 ◌|>◌
+abbrev pub ◌|>◌ : Result Situation Kind → (Situation → Result Situation Kind) → Result Situation Kind
+Ok s |> next = next s
+Err kind |> next = Err kind
 
--- what becomes of the page is known before anything is drawn
-abbrev pub done_with : Dpi → Operation → Said → Outcome → Situation → Result Situation Kind
-done_with dpi operation command None s = Err UnsupportedValue
-done_with dpi operation command (Some done) s = drawn_on dpi operation command (turned done.0 done.1 s)
+abbrev pub counted : Situation → Situation
+counted s = record s { performed = s.performed + 1 }
 
-abbrev pub taken : Dpi → Operation → Said → Situation → Result Situation Kind
-taken dpi operation command s = done_with dpi operation command (outcome dpi operation command.value (is_marked s) s.settings) s
+-- one command more may be performed, and counts
+abbrev pub counted_in_limit : Situation → Result Situation Kind
+counted_in_limit s = if nat_le command_limit s.performed then Err TooManyCommands else Ok (counted s)
+
+abbrev pub is_ignored : Operation → Situation → Bool
+is_ignored operation s = is_some s.raster && is_ignored_in_raster operation
 
 -- a raster that the command ends is ended first
 abbrev pub prepared : Dpi → Operation → Situation → Situation
 prepared dpi operation s = if ends_raster operation then end_raster dpi s else s
 
-abbrev pub is_ignored : Operation → Situation → Bool
-is_ignored operation s = is_some s.raster && is_ignored_in_raster operation
+-- a value that is taken sets something and may turn the page
+abbrev pub turned_by : Outcome → Situation → Result Situation Kind
+turned_by None s = Err UnsupportedValue
+turned_by (Some done) s = Ok (turned done.0 done.1 s)
 
-abbrev pub counted : Situation → Situation
-counted s = record s { performed = s.performed + 1 }
+abbrev pub taken : Dpi → Operation → Value → Situation → Result Situation Kind
+taken dpi operation value s = turned_by (outcome dpi operation value (is_marked s) s.settings) s
 
--- the situation after a command, the page that it ejects among its pages, or why it is refused; macros and limits aside
+-- what becomes of the page is known before anything is drawn
+abbrev pub drawn_on : Dpi → Operation → Said → Situation → Result Situation Kind
+drawn_on dpi operation command s = unless_refused (draw_refusal operation command s) (drawn dpi operation command s)
+
+-- a command that is known and counted: in a raster some are ignored
 unfoldable pub after : Dpi → Operation → Said → Situation → Result Situation Kind
 after dpi operation command s =
-    if is_ignored operation s then Ok (counted s) else taken dpi operation command (prepared dpi operation (counted s))
+    if is_ignored operation s then Ok s
+    else (taken dpi operation command.value (prepared dpi operation s) |> drawn_on dpi operation command)
 
--- the end of the input acts as a reset that counts nothing; no macro runs after it
-abbrev pub at_end : Dpi → Situation → Situation
-at_end dpi s = without_temporary (turned defaults EjectMarked (end_raster dpi s))
-
--- ---- refusals
+abbrev pub after_named : Dpi → Option Operation → Said → Situation → Result Situation Kind
+after_named dpi None command s = Err UnsupportedCommand
+after_named dpi (Some operation) command s = after dpi operation command s
 
 -- one page more than there may be was ejected
 abbrev pub page_refusal : Situation → Option Kind
 page_refusal s = if nat_le (length s.pages) page_limit then None else Some TooManyPages
 
-abbrev pub refusal_after : Result Situation Kind → Option Kind
-refusal_after (Err kind) = Some kind
-refusal_after (Ok s) = page_refusal s
+abbrev pub within_page_limit : Situation → Result Situation Kind
+within_page_limit s = unless_refused (page_refusal s) s
 
-abbrev pub operation_refusal : Dpi → Option Operation → Said → Situation → Option Kind
-operation_refusal dpi None command s = Some UnsupportedCommand
-operation_refusal dpi (Some operation) command s = refusal_after (after dpi operation command s)
+-- the situation after a command that counts, the page that it ejects among its pages, or the first reason to refuse it; macros aside
+abbrev pub tried : Dpi → Said → Situation → Result Situation Kind
+tried dpi command s = counted_in_limit s |> after_named dpi (operation_of command.name) command |> within_page_limit
 
--- why a command is refused that counts, the first reason in order, but for what it does to macros
-abbrev pub command_refusal : Dpi → Said → Situation → Option Kind
-command_refusal dpi command s =
-    if nat_le command_limit s.performed then Some TooManyCommands else operation_refusal dpi (operation_of command.name) command s
+-- ---- the end of the input
+
+-- the end of the input acts as a reset that counts nothing; no macro runs after it
+abbrev pub at_end : Dpi → Situation → Situation
+at_end dpi s = without_temporary (turned defaults EjectMarked (end_raster dpi s))

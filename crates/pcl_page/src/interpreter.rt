@@ -217,7 +217,7 @@ impl<'a> Interpreter<'a> {
         requires begun { (is_begun self.old.macros ≡ false) ⊎ (action_of value ≡ Some Action.End) }
         requires place { place < 2 ^ 63 }
         ensures { (dpi : Dpi) (s : Situation) → IsAt dpi s self.old
-            → IsActed dpi (managed place operation value s) (run_from (Some operation) value) result self.old self.new }
+            → IsActed dpi (managed place (Some operation) value s) (run_from (Some operation) value) result self.old self.new }
     {
         match operation {
             Operation::Reset | Operation::UniversalExit => self

@@ -1,13 +1,14 @@
 -- Each page of a job was asked with something.
-use Rattle.std.proofs.Common.{◌≡◌, ℕ, zero, suc, ◌+◌, Bool, true, false, cond, List, [], ◌∷◌, length, Option, Some, None, Result, Ok, Err, refl, ap, ◌∙◌, length-append, arith}
+use Rattle.std.proofs.Common.{◌≡◌, ℕ, zero, suc, ◌+◌, Bool, true, false, cond, nat_le, List, [], ◌∷◌, length, Option, Some, None, Result, Ok, Err, refl, ap, ◌∙◌, length-append, arith}
 use Rattle.std.specs.Prelude.{is_some}
 use Rattle.pcl_base.specs.declared.dpi.Dpi.{Dpi}
 use Rattle.pcl_base.specs.declared.kind.Kind.{Kind}
+use Rattle.pcl_base.specs.declared.kind.Kind.TheVariants.{TooManyCommands}
 use Rattle.pcl_base.specs.declared.operation.Operation.{Operation}
 use Rattle.pcl_base.specs.declared.operation.Operation.TheVariants.{Reset, UniversalExit, FillRectangle, ControlFonts, DownloadFont, DownloadCharacter, SelectFont, PrintText, StartRaster, RasterOffset, RasterRow, ControlMacros}
 use Rattle.pcl_base.specs.declared.refusal.Refusal.{Refusal}
 use Rattle.pcl_base.specs.declared.value.Value.{Value}
-use Rattle.pcl_base.specs.Limits.{macro_limit}
+use Rattle.pcl_base.specs.Limits.{command_limit, macro_limit}
 use Rattle.pcl_base.specs.Operation.{operation_of}
 use Rattle.pcl_env.specs.declared.effect.Effect.{Effect}
 use Rattle.pcl_env.specs.declared.effect.Effect.TheVariants.{EjectMarked}
@@ -22,10 +23,10 @@ use Rattle.pcl_page.specs.declared.macros.Keeping.{Keeping}
 use Rattle.pcl_page.specs.declared.macros.Keeping.TheVariants.{Kept, Ends, Refused}
 use Rattle.pcl_page.specs.Asks.{Asks}
 use Rattle.pcl_page.specs.Jobs.{HasPages, HasAsks, performance_of}
-use Rattle.pcl_page.specs.Macros.{Run, action_of, keeping_of, definition_ended, acted, managed, and_then, after_at, if_not_refused, counting, defining, after_command, run_of, left}
+use Rattle.pcl_page.specs.Macros.{Run, action_of, keeping_of, definition_ended, acted, managed, counting, defining, after_command, run_of, left}
 use Rattle.pcl_page.specs.Performing.{Performance, done, unless, then_on, in_order, concluded, and_run, step, commands_left, runs, after_all, end_refusal, ended, after_end, performance, pages_of}
 use Rattle.pcl_page.specs.Raster.{ends_raster}
-use Rattle.pcl_page.specs.Situation.{Sheet, Situation, at_begin, with_font, with_character, font_now, code_printed, codes_printed, drawn, draw_refusal, unless_refused, end_raster, is_marked, ejects, sheet_of, turned_page, turned, done_with, taken, counted, prepared, is_ignored, after, command_refusal}
+use Rattle.pcl_page.specs.Situation.{Sheet, Situation, at_begin, with_font, with_character, font_now, code_printed, codes_printed, drawn, draw_refusal, unless_refused, ◌|>◌, end_raster, is_marked, ejects, sheet_of, turned_page, turned, turned_by, drawn_on, taken, counted, counted_in_limit, prepared, is_ignored, after, after_named, page_refusal, within_page_limit, tried}
 use Rattle.pcl_page.specs.Text.{is_proportional, prints}
 
 -- as many pages were ejected as what they were asked with is known
@@ -98,21 +99,42 @@ unless_each : (why : Option Kind) (s : Situation) → Each s → EachOf (unless_
 unless_each None s e = e
 unless_each (Some kind) s e = tt
 
-done_each : (dpi : Dpi) (operation : Operation) (command : Said) (o : Outcome) (s : Situation) → Each s
-    → EachOf (done_with dpi operation command o s)
-done_each dpi operation command None s e = tt
-done_each dpi operation command (Some done) s e =
-    let now = turned done.0 done.1 s in
-    unless_each (draw_refusal operation command now) (drawn dpi operation command now)
-    (drawn_each dpi operation command now (turned_each done.0 done.1 s e))
+then_each_of : (o : Result Situation Kind) (next : Situation → Result Situation Kind) → EachOf o
+    → ((s : Situation) → Each s → EachOf (next s)) → EachOf (o |> next)
+then_each_of (Err kind) next e f = tt
+then_each_of (Ok s) next e f = f s e
+
+turned_by_each : (o : Outcome) (s : Situation) → Each s → EachOf (turned_by o s)
+turned_by_each None s e = tt
+turned_by_each (Some done) s e = turned_each done.0 done.1 s e
+
+drawn_on_each : (dpi : Dpi) (operation : Operation) (command : Said) (s : Situation) → Each s → EachOf (drawn_on dpi operation command s)
+drawn_on_each dpi operation command s e =
+    unless_each (draw_refusal operation command s) (drawn dpi operation command s) (drawn_each dpi operation command s e)
 
 after_each : (dpi : Dpi) (operation : Operation) (command : Said) (s : Situation) → Each s → EachOf (after dpi operation command s)
 unfolding after
 after_each dpi operation command s e =
-    let before = prepared dpi operation (counted s) in
-    each_of_results (is_ignored operation s) (Ok (counted s)) (taken dpi operation command before) e
-    (done_each dpi operation command (outcome dpi operation command.value (is_marked before) before.settings) before
-    (each_of_both (ends_raster operation) (end_raster dpi (counted s)) (counted s) e e))
+    let before = prepared dpi operation s in
+    let led = taken dpi operation command.value before in
+    each_of_results (is_ignored operation s) (Ok s) (led |> drawn_on dpi operation command) e
+    (then_each_of led (drawn_on dpi operation command)
+    (turned_by_each (outcome dpi operation command.value (is_marked before) before.settings) before
+    (each_of_both (ends_raster operation) (end_raster dpi s) s e e))
+    (drawn_on_each dpi operation command))
+
+named_each : (dpi : Dpi) (operation : Option Operation) (command : Said) (s : Situation) → Each s
+    → EachOf (after_named dpi operation command s)
+named_each dpi None command s e = tt
+named_each dpi (Some operation) command s e = after_each dpi operation command s e
+
+tried_each : (dpi : Dpi) (command : Said) (s : Situation) → Each s → EachOf (tried dpi command s)
+tried_each dpi command s e =
+    let named = after_named dpi (operation_of command.name) command in
+    then_each_of (counted_in_limit s |> named) within_page_limit
+    (then_each_of (counted_in_limit s) named
+    (each_of_results (nat_le command_limit s.performed) (Err TooManyCommands) (Ok (counted s)) tt e)
+    (named_each dpi (operation_of command.name) command)) (λ now each. unless_each (page_refusal now) now each)
 
 -- ---- what it does to macros
 
@@ -126,32 +148,17 @@ acted_each place (Some End) s e = ended_each place s.begun s e
 acted_each place (Some (Control what)) s e = e
 acted_each place other s e = e
 
-managed_each : (place : ℕ) (operation : Operation) (value : Value) (s : Situation) → Each s → EachOf (managed place operation value s)
-managed_each place Reset value s e = e
-managed_each place UniversalExit value s e = e
-managed_each place ControlMacros value s e = acted_each place (action_of value) s e
+managed_each : (place : ℕ) (operation : Option Operation) (value : Value) (s : Situation) → Each s
+    → EachOf (managed place operation value s)
+managed_each place (Some Reset) value s e = e
+managed_each place (Some UniversalExit) value s e = e
+managed_each place (Some ControlMacros) value s e = acted_each place (action_of value) s e
 managed_each place other value s e = e
-
-and_then_each : (o : Result Situation Kind) (next : Situation → Result Situation Kind) → EachOf o
-    → ((s : Situation) → Each s → EachOf (next s)) → EachOf (and_then o next)
-and_then_each (Err kind) next e f = tt
-and_then_each (Ok s) next e f = f s e
-
-named_each : (dpi : Dpi) (place : ℕ) (operation : Option Operation) (command : Said) (s : Situation) → Each s
-    → EachOf (after_at dpi place operation command s)
-named_each dpi place None command s e = tt
-named_each dpi place (Some operation) command s e =
-    and_then_each (after dpi operation command s) (managed place operation command.value) (after_each dpi operation command s e)
-    (managed_each place operation command.value)
-
-not_refused_each : (why : Option Kind) (o : Result Situation Kind) → EachOf o → EachOf (if_not_refused why o)
-not_refused_each (Some kind) o e = tt
-not_refused_each None o e = e
 
 counting_each : (dpi : Dpi) (place : ℕ) (command : Said) (s : Situation) → Each s → EachOf (counting dpi place command s)
 counting_each dpi place command s e =
-    not_refused_each (command_refusal dpi command s) (after_at dpi place (operation_of command.name) command s)
-    (named_each dpi place (operation_of command.name) command s e)
+    then_each_of (tried dpi command s) (managed place (operation_of command.name) command.value) (tried_each dpi command s e)
+    (managed_each place (operation_of command.name) command.value)
 
 defining_each : (dpi : Dpi) (place : ℕ) (keeping : Keeping) (command : Said) (s : Situation) → Each s
     → EachOf (defining dpi place keeping command s)

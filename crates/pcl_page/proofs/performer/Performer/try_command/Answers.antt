@@ -4,7 +4,7 @@ use Rattle.pcl_escape.specs.Said.{view}
 use Rattle.pcl_page.specs.Raster.{Raster, rows_in, ends_raster}
 use Rattle.pcl_page.specs.Situation.{counted, prepared}
 use Rattle.pcl_page.proofs.Turns.{prepared_in}
-use Rattle.pcl_page.proofs.Steps.{counted_in, AtTurn, refused_unknown, tried_ignored, tried_refused, gone, tried_drawn, tried_undrawn}
+use Rattle.pcl_page.proofs.Steps.{counted_in, AtTurn, tried_as, tried_ignored, tried_refused, gone, tried_drawn, tried_undrawn}
 use Rattle.pcl_page.proofs.performer.Performer.try_command.Goals as goal
 
 -- a raster that may have ended has no more rows than before
@@ -22,7 +22,7 @@ more_rows rows old fit = omega arith
 
 pub returns-in_default : goal.returns-in_default
 returns-in_default g c = λ s i. (
-  refused_unknown c.args.dpi (view c.args.command.now) s (omega (arith, i.performed)) (sym c.with_name.ensures ∙ c.in_default.is),
+  tried_as c.args.dpi (view c.args.command.now) s (omega (arith, i.performed)) (sym c.with_name.ensures ∙ c.in_default.is),
   refl,
 )
 
