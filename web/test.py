@@ -1,8 +1,8 @@
 #!/usr/bin/env python3
 """The page of this folder beside the program, in Chromium without a window: five jobs are opened, the dots on the canvas are those
-of `pclmin pbm`, the sizes and copies those of `pclmin pages`, one job is refused with its place marked, what is saved is what
-`pclmin shrink` writes, and a dropped file is opened too. Where there is no Chromium the server's answers alone are tested, and a
-line says so. Prints what doesn't hold and how much does; status 1 if something doesn't.
+of `pclmin pbm`, the sizes, the copies and what is asked those of `pclmin pages`, a sixth job is refused with its place marked among
+its bytes, what is saved is what `pclmin shrink` writes, and a dropped file is opened too. Where there is no Chromium the server's
+answers alone are tested, and a line says so. Prints what doesn't hold and how much does; status 1 if something doesn't.
 
     web/test.py [PROGRAM] [--picture FILE]     PROGRAM is crates/pclmin/out/pclmin where none is given; FILE gets a picture of the page
 """
@@ -30,9 +30,12 @@ CHROMIUM = next(filter(None, map(shutil.which, ("chromium", "chromium-browser", 
 JOBS = {
     "two.pcl": b"\x1bE\x1b&l26a3X\x1b*p0x0Y\x1b*t300R\x1b*r0A\x1b*b1W\x80\x1b*rC\x0c\x1b*p30x40Y\x1b*c900a90b0P\x0c\x1bE",
     "fine.pcl": b"\x1bE\x1b*t600R\x1b*r0A\x1b*b2W\xaa\x55\x1b*rC\x0c\x1bE",
+    "asked.pcl": b"\x1b%-12345X@PJL SET OUTBIN=UPPER\r\n@PJL ENTER LANGUAGE=PCL\r\n\x1bE\x1b&l1S\x1b&l4H\x1b*c90a90b0P\x0c\x1b&l2S"
+                 b"\x1b&l1X\x1b*c900a9b0P\x0c\x0c\x1b&l0s1H\x1b&l1A\x1b*c9a9b0P\x0c\x1bE\x1b%-12345X",
     "refused.pcl": b"\x1bE\x1b&l2A\x1b*p300x300Y\x1b*c90a90b0P Hello, printer\r\n\x0c\x1bE",
 }
 REFUSED = "refused.pcl"
+SIDES = {0: "one side", 1: "both sides, long edge", 2: "both sides, short edge"}
 PATIENCE = 60
 
 
@@ -206,6 +209,29 @@ CANVAS = """(() => {
 })()"""
 
 
+# Whether each small picture has ink.
+INKED = """[...document.querySelectorAll('nav canvas')].map(canvas =>
+  canvas.getContext("2d").getImageData(0, 0, canvas.width, canvas.height).data.some((value, at) => at % 4 === 0 && value < 255))"""
+
+
+def details_of(page):
+    """What stands below a page's number: what it asks of the printer, and how much is on it."""
+    asked = [SIDES[page["sides"]]] if page["sides"] is not None else []
+    asked += [f"paper source {page['source']}"] if page["source"] else []
+    black = f"{100 * page['black_dots'] / page['dots']:.2f} % black"
+    return ", ".join([*asked, black, f"{page['bytes']:,} bytes as raster"])
+
+
+def bytes_shown(content, place):
+    """The rows of sixteen bytes around a place, in hexadecimal and as text."""
+    lines = []
+    for at in range(max(0, place // 16 - 4) * 16, min((place // 16 + 4) * 16, len(content)) + 1, 16):
+        row = content[at:at + 16]
+        text = "".join(chr(byte) if 32 <= byte < 127 else "\u00b7" for byte in row)
+        lines.append(f"{at:08x}  {''.join(f'{byte:02x} ' for byte in row):48} {text:16}\n")
+    return "".join(lines)
+
+
 def open_job(held, browser, program, job):
     """Opens a job by the page's input; whether the page shows it."""
     browser.value("element('said').textContent = ''")
@@ -224,6 +250,8 @@ def test_pages(held, browser, program, job):
     names = browser.value("[...document.querySelectorAll('nav button span')].map(span => span.textContent)")
     wanted = [f"{page['page']}: {page['size']}" + ("" if page["copies"] == 1 else f", {page['copies']} copies") for page in pages]
     held.tell(names == wanted, f"{job} lists {wanted}: {names}")
+    details = browser.value("[...document.querySelectorAll('nav button small')].map(small => small.textContent)")
+    held.tell(details == list(map(details_of, pages)), f"{job} says of its pages {list(map(details_of, pages))}: {details}")
     for number in range(1, len(pages) + 1):
         browser.value(f"document.querySelectorAll('nav button')[{number - 1}].click()")
         held.tell(browser.wait(f"element('page').dataset.page === '{number}'"), f"page {number} of {job} is shown")
@@ -231,6 +259,8 @@ def test_pages(held, browser, program, job):
         held.tell(browser.value(CANVAS) == hashlib.sha256(image).hexdigest(), f"page {number} of {job} has the program's dots")
     held.tell(browser.wait("[...document.querySelectorAll('nav canvas')].every(canvas => canvas.width > 150 && canvas.height > 150)"),
               f"{job} has small pictures")
+    inked = browser.value(INKED)
+    held.tell(inked == [page["black_dots"] > 0 for page in pages], f"the small pictures of {job} have ink where its pages have: {inked}")
 
 
 def test_saved(held, browser, program, folder, job):
@@ -258,13 +288,16 @@ def test_refused(held, browser, program, job):
     _, said = program.run("pbm", "--dpi", "auto", job)
     place = int(said.split(" at ")[1].split()[0])
     with open(os.path.join(program.folder, job), "rb") as file:
-        byte = file.read()[place]
+        content = file.read()
     open_job(held, browser, program, job)
     held.tell(browser.wait("!element('refusal').hidden && element('advice').textContent !== ''"), f"{job} is refused")
     line = browser.value("element('line').textContent")
     held.tell("pclmin: " + line + "\n" == said, f"{job} is refused as the program says: {line}, {said}")
     marks = browser.value("[...document.querySelectorAll('#bytes mark')].map(mark => [Number(mark.dataset.place), mark.textContent])")
-    held.tell([mark[0] for mark in marks] == [place, place] and marks[0][1] == f"{byte:02x}", f"{job} has its place marked: {marks}")
+    held.tell([mark[0] for mark in marks] == [place, place] and marks[0][1] == f"{content[place]:02x}",
+              f"{job} has its place marked: {marks}")
+    shown = browser.value("element('bytes').textContent")
+    held.tell(shown == bytes_shown(content, place), f"{job} has its bytes shown: {shown}")
     explained, _ = program.run("explain", "--dpi", "auto", job)
     advice = browser.value("[...document.querySelectorAll('#advice span')].map(span => span.textContent).join('\\n') + '\\n'")
     held.tell(advice.encode("latin-1") == explained, f"{job} is explained as the program does: {advice}")
