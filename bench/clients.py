@@ -5,9 +5,10 @@
 
 PROGRAM is a built pclmin. The jobs are made anew in a temporary folder: documents by drivers, at their resolutions. A job is
 tried at 300 and then at 600 dots per inch, until it is accepted. It holds then if what `shrink` writes is no longer than the
-job, and if `same` says `same` of the job and what `min` and `shrink` write. A refused one holds if both refuse it in the same
-words and write nothing. The result is a table by client, with the bytes of the accepted jobs, then each refusal, and `N of M
-hold`; the status is 1 if not all do. With WORDs only jobs whose names have all of these are made, and each has its own row.
+job, and if `same` says `same` of the job and what `min` writes, and `same --asked` of the job and what `shrink` writes. A refused
+one holds if both refuse it in the same words and write nothing. The result is a table by client, with the bytes of the accepted
+jobs, then each refusal, and `N of M hold`; the status is 1 if not all do. With WORDs only jobs whose names have all of these are
+made, and each has its own row.
 
 Needs ghostscript, cups, cups-ppdc, cups-ipp-utils, printer-driver-gutenprint, printer-driver-hpijs, netpbm, imagemagick,
 hp2xx, barcode, texlive-binaries and texlive-base.
