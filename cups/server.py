@@ -5,12 +5,14 @@
 
 cupsd runs on loopback, out of a temporary folder: its own settings, spool and queues, and the program and the backend as
 `make install install-cups` puts them there. Where a printer would be, a listener keeps what comes. Each driver has two queues,
-one with the backend and one without. Each document goes through both, once plain and once two-sided in two copies.
+one with the backend and one without. Each document goes through both, once plain and once two-sided in two copies. What came of
+the driver RAW without the backend is then sent once more, to a raw queue with the backend.
 
 A job holds where, at the resolution at which the job without the backend is accepted, the printer gets what `shrink` writes of
-it, no longer than it was and the same by `pclmin same --asked`; and where no resolution is, where it gets it byte for byte. Prints of
-each job the queue, the document, the kind, the bytes without the backend and with it, and how they compare; then the sums by
-driver, and how many hold; status 1 if one doesn't.
+it, no longer than it was and the same by `pclmin same --asked`; and where no resolution is, where it gets it byte for byte. A raw
+job also has to be in the server's log of pages, with as many pages as `pclmin pages` finds. Prints of each job the queue, the
+document, the kind, the bytes without the backend and with it, and how they compare; then the sums by driver, and how many hold;
+status 1 if one doesn't.
 
 Needs Debian's packages cups, cups-ppdc, cups-filters, ghostscript, foomatic-db-compressed-ppds, printer-driver-gutenprint and
 printer-driver-hpijs.
@@ -35,8 +37,11 @@ DRIVERS = [
     ("gutenprint", "gutenprint.5.3://hp-lj_4_plus/expert", [], True),
     ("hpijs", "drv:///hpijs.drv/hp-laserjet_4050_series-hpijs-pcl3.ppd", [], True),
     ("ljet2p", FOOMATIC + "HP-LaserJet_2P-ljet2p.ppd", [], True),
+    ("ljet4", FOOMATIC + "Generic-PCL_5e_Printer-ljet4.ppd", [], False),
     ("ljet4d", FOOMATIC + "Generic-PCL_5e_Printer-ljet4d.ppd", [], False),
 ]
+# The driver whose jobs go through a raw queue too.
+RAW = "ljet2p"
 # A driver of CUPS's rastertohp, as ppdc takes it.
 RASTERTOHP = """
 #include <font.defs>
@@ -135,7 +140,8 @@ def write_settings(folder, port):
                   f"SystemGroup root\nAccessLog {folder}/log/access\nErrorLog {folder}/log/error\nPageLog {folder}/log/page\n")
     with open(f"{folder}/cupsd.conf", "w") as out:
         out.write(f"Listen 127.0.0.1:{port}\nLogLevel debug\nMaxLogSize 0\nBrowsing No\nWebInterface No\nDefaultAuthType None\n"
-                  "MaxJobs 0\n<Location />\nAllow 127.0.0.1\n</Location>\n<Location /admin>\nAllow 127.0.0.1\n</Location>\n"
+                  "MaxJobs 0\nPageLogFormat %p %j %P %C\n"
+                  "<Location />\nAllow 127.0.0.1\n</Location>\n<Location /admin>\nAllow 127.0.0.1\n</Location>\n"
                   "<Policy default>\n<Limit All>\nOrder deny,allow\n</Limit>\n</Policy>\n")
     with open(f"{folder}/laserjet.drv", "w") as out:
         out.write(RASTERTOHP)
@@ -172,6 +178,21 @@ def print_all(at, queue, options, files):
             run("lp", "-h", at, "-d", queue, "-t", name, "-o", "PageSize=A4", *chosen, *asked, files[name])
 
 
+def print_raw(at, queue, folder, jobs):
+    """Sends jobs of a driver as they are, in their order."""
+    for job in jobs:
+        with open(f"{folder}/raw.pcl", "wb") as out:
+            out.write(job)
+        run("lp", "-h", at, "-d", queue, f"{folder}/raw.pcl")
+
+
+def wait_for(printers, wanted):
+    """Waits until so many jobs have come to each printer, or patience ends."""
+    end = time.monotonic() + PATIENCE
+    while time.monotonic() < end and any(len(one.jobs) < wanted for one in printers):
+        time.sleep(0.5)
+
+
 def judge(program, folder, without, came):
     """What became of a job: the resolution and `same`, or `unchanged`, or what is wrong; and whether it holds."""
     plain, sent, smaller = f"{folder}/without.pcl", f"{folder}/came.pcl", f"{folder}/smaller.pcl"
@@ -189,13 +210,30 @@ def judge(program, folder, without, came):
     return ("refused, unchanged", True) if came == without else ("refused, and changed", False)
 
 
-def compare(program, folder, printers):
+def pages_of(program, folder, job):
+    """How many pages a job prints, with their copies."""
+    with open(f"{folder}/raw.pcl", "wb") as out:
+        out.write(job)
+    rows = [line.split("\t") for line in run(program, "pages", "--dpi", "auto", f"{folder}/raw.pcl").splitlines()[1:]]
+    return sum(int(row[3]) for row in rows if row[2] != "total")
+
+
+def compare_logged(program, folder, queue, jobs):
+    """Says whether the server has logged as many pages of each job of a raw queue."""
+    with open(f"{folder}/log/page") as log:
+        logged = {int(line[1]): int(line[3]) for line in map(str.split, log) if line[0] == queue}
+    came = [pages for _, pages in sorted(logged.items())]
+    holds = came == [pages_of(program, folder, job) for job in jobs]
+    print(f"{queue}\t{sum(came)} pages of {len(came)} jobs logged{'' if holds else ': DOES NOT HOLD'}")
+    return holds
+
+
+def compare(program, folder, queues):
     """Prints the tables, and gives how many jobs hold and how many there are."""
     held, sums = 0, []
-    for name, _, _, accepted in DRIVERS:
+    for name, without, came, accepted in queues:
         before = after = shrunk = 0
         kinds = [(document, kind) for document, _ in DOCUMENTS for kind, _ in KINDS]
-        without, came = printers[name]
         for (document, kind), one, other in zip(kinds, without.jobs, came.jobs):
             said, holds = judge(program, folder, one, other)
             holds = holds and (said.startswith("same") or not accepted)
@@ -206,7 +244,7 @@ def compare(program, folder, printers):
             print(f"{name}\t{len(without.jobs)} and {len(came.jobs)} of {len(kinds)} jobs came: DOES NOT HOLD")
         sums.append(f"{name}\t{len(kinds)} jobs\t{shrunk} smaller\t{before}\t{after}")
     print("\n".join(["", *sums]))
-    return held, len(DRIVERS) * len(DOCUMENTS) * len(KINDS)
+    return held, len(queues) * len(DOCUMENTS) * len(KINDS)
 
 
 def main(program):
@@ -219,6 +257,7 @@ def main(program):
             f"CUPSDIR={folder}/bin")
         files = make_documents(folder)
         printers = {name: (Printer(), Printer()) for name, _, _, _ in DRIVERS}
+        raw, wanted = Printer(), len(DOCUMENTS) * len(KINDS)
         server = start_server(folder, port)
         try:
             for name, driver, options, _ in DRIVERS:
@@ -227,16 +266,18 @@ def main(program):
                 add_queue(at, folder, name + "-small", driver, "pclmin:/auto/" + came.uri)
                 print_all(at, name, options, files)
                 print_all(at, name + "-small", options, files)
-            wanted = len(DOCUMENTS) * len(KINDS)
-            end = time.monotonic() + PATIENCE
-            while time.monotonic() < end and any(len(one.jobs) < wanted for pair in printers.values() for one in pair):
-                time.sleep(0.5)
+            wait_for([one for pair in printers.values() for one in pair], wanted)
+            run("lpadmin", "-h", at, "-p", "raw", "-E", "-v", "pclmin:/auto/" + raw.uri)
+            print_raw(at, "raw", folder, printers[RAW][0].jobs)
+            wait_for([raw], wanted)
         finally:
             server.terminate()
             server.wait()
-        held, jobs = compare(program, folder, printers)
+        queues = [(name, *printers[name], accepted) for name, _, _, accepted in DRIVERS]
+        held, jobs = compare(program, folder, [*queues, ("raw", printers[RAW][0], raw, True)])
+        logged = compare_logged(program, folder, "raw", printers[RAW][0].jobs)
     print(f"{held} of {jobs} hold")
-    return 0 if held == jobs else 1
+    return 0 if held == jobs and logged else 1
 
 
 if __name__ == "__main__":

@@ -16,6 +16,9 @@ folder=$(dirname "$(dirname "$0")")
 echo "$DEVICE_URI $# $4" > "$folder/called"
 trap 'echo stopped >> "$folder/called"; exit 9' TERM
 if [ $# -eq 6 ]; then cat "$6"; else cat; fi > "$folder/kept"
+# as CUPS's own: one page for each file
+if [ $# -eq 6 ]; then echo "PAGE: 1 1" >&2; fi
+echo "INFO: kept" >&2
 i=0
 while [ "$i" -lt "${WAIT:-0}" ]; do sleep 0.1; i=$((i + 1)); done
 exit "${ENDS:-0}"
@@ -58,8 +61,11 @@ cp "$folder/backend/keep" "$folder/backend/locked"
 chmod 644 "$folder/backend/locked"
 holds "a device that it may not run stops the queue, and says what to do" \
     'DEVICE_URI=pclmin:/auto/locked://there cups/backend/pclmin 1 me title 1 "" $job 2> "$folder/said"; test $? -eq 4 && grep -q "mode 700" "$folder/said"'
-holds "pages of a raw job are told" 'CONTENT_TYPE=application/vnd.cups-raw send $job auto && grep -qx "PAGE: 1 1" "$folder/said"'
-holds "those of others are their filters'" 'send $job auto && ! grep -q "^PAGE:" "$folder/said"'
+holds "pages of a raw job are told once, with the copies of the job" \
+    'CONTENT_TYPE=application/vnd.cups-raw send $job auto && test "$(grep "^PAGE:" "$folder/said")" = "PAGE: 1 2" && grep -qx "INFO: kept" "$folder/said"'
+holds "those of a job that is refused are the device's" \
+    'CONTENT_TYPE=application/vnd.cups-raw send "$folder/text" auto && test "$(grep "^PAGE:" "$folder/said")" = "PAGE: 1 1"'
+holds "those of other jobs are their filters' and the device's" 'send $job auto && test "$(grep "^PAGE:" "$folder/said")" = "PAGE: 1 1"'
 holds "TERM reaches the device" \
     '(WAIT=100 DEVICE_URI=pclmin:/auto/keep://there exec cups/backend/pclmin 1 me title 1 "" "$folder/text" 2> /dev/null) & backend=$!; sleep 1; kill -TERM $backend; wait $backend; test $? -eq 9 && grep -qx stopped "$folder/called"'
 holds "nothing is left" 'test -z "$(ls "$folder/tmp")"'
