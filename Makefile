@@ -6,15 +6,18 @@ PROGRAM := crates/pclmin/out/pclmin
 
 .PHONY: demo build test test-memory test-process test-home test-cups oracle examples bench bench-certificates bench-clients install install-cups deb test-cupsd clean lib install-lib test-library web serve test-web
 
-# Previews the sample job into build/demo.pbm by the kit's quick run, a minute or two after a fresh clone: nothing is proved.
+# Previews the sample job into build/demo.pbm, and shrinks it into build/demo.pcl, by two of the kit's quick runs side by side: a minute
+# or two after a fresh clone, and nothing is proved.
 demo:
 	mkdir -p build
-	cd crates/pclmin && rt try -- pbm --page 1 < ../../examples/picture.pcl > ../../build/demo.pbm
-	@echo "build/demo.pbm is page 1 of examples/picture.pcl, by a program that isn't proved yet: see make build"
+	cd crates/pclmin && { rt try -- shrink < ../../examples/picture.pcl > ../../build/demo.pcl & \
+		rt try -- pbm --page 1 < ../../examples/picture.pcl > ../../build/demo.pbm && wait $$!; }
+	@echo "build/demo.pbm is page 1 of examples/picture.pcl, and build/demo.pcl the same page in $$(wc -c < build/demo.pcl) bytes in place of"
+	@echo "$$(wc -c < examples/picture.pcl), by a program that isn't proved yet: see make build"
 	@if command -v pnmtopng > /dev/null; then pnmtopng -quiet build/demo.pbm > build/demo.png && echo "build/demo.png is the same"; fi
 
 # How many libraries `make build` proves side by side: one for each processor, and for every 6 GB of free memory.
-LANES ?= $(shell awk -v most="$$(nproc)" '/^MemAvailable/ { n = int($$2 / 6000000); if (n > most) n = most; print(n < 1 ? 1 : n) }' /proc/meminfo)
+LANES ?= $(shell awk -v most="$$(nproc)" '/^MemAvailable/ { n = int($$2 / 6000000) } END { print(n < 1 ? 1 : n > most ? most : n) }' /proc/meminfo)
 
 # Proves the libraries that the program stands on side by side, then proves and builds the program, and previews the sample job into
 # build/sample.pbm.

@@ -13,8 +13,8 @@ cat > "$folder/backend/keep" << 'END'
 #!/bin/sh
 # Keeps what comes and how it is called, waits so many seconds, and ends with a status.
 folder=$(dirname "$(dirname "$0")")
-echo "$DEVICE_URI $# $4" > "$folder/called"
 trap 'echo stopped >> "$folder/called"; exit 9' TERM
+echo "$DEVICE_URI $# $4" > "$folder/called"
 if [ $# -eq 6 ]; then cat "$6"; else cat; fi > "$folder/kept"
 # as CUPS's own: one page for each file
 if [ $# -eq 6 ]; then echo "PAGE: 1 1" >&2; fi
@@ -67,7 +67,7 @@ holds "those of a job that is refused are the device's" \
     'CONTENT_TYPE=application/vnd.cups-raw send "$folder/text" auto && test "$(grep "^PAGE:" "$folder/said")" = "PAGE: 1 1"'
 holds "those of other jobs are their filters' and the device's" 'send $job auto && test "$(grep "^PAGE:" "$folder/said")" = "PAGE: 1 1"'
 holds "TERM reaches the device" \
-    '(WAIT=100 DEVICE_URI=pclmin:/auto/keep://there exec cups/backend/pclmin 1 me title 1 "" "$folder/text" 2> /dev/null) & backend=$!; sleep 1; kill -TERM $backend; wait $backend; test $? -eq 9 && grep -qx stopped "$folder/called"'
+    'rm "$folder/called"; (WAIT=100 DEVICE_URI=pclmin:/auto/keep://there exec cups/backend/pclmin 1 me title 1 "" "$folder/text" 2> /dev/null) & backend=$!; until test -s "$folder/called"; do sleep 0.1; done; kill -TERM $backend; wait $backend; test $? -eq 9 && grep -qx stopped "$folder/called"'
 holds "nothing is left" 'test -z "$(ls "$folder/tmp")"'
 
 echo "$((cases - failed)) of $cases hold"
