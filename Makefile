@@ -4,7 +4,7 @@
 PREFIX ?= /usr/local
 PROGRAM := crates/pclmin/out/pclmin
 
-.PHONY: demo build test test-memory test-process test-home test-cups oracle examples bench bench-certificates bench-clients install install-cups deb test-cupsd clean lib install-lib test-library web serve test-web
+.PHONY: demo build test test-memory test-process test-home test-batch test-cups oracle examples bench bench-certificates bench-clients install install-cups deb test-cupsd clean lib install-lib test-library web serve test-web
 
 # Previews the sample job into build/demo.pbm, and shrinks it into build/demo.pcl, by two of the kit's quick runs side by side: a minute
 # or two after a fresh clone, and nothing is proved.
@@ -67,6 +67,12 @@ test-home:
 	home/completions.sh
 	home/blocks.py $(PROGRAM) README.md docs/*.md examples/README.md
 	home/sceptic.py $(PROGRAM)
+
+# Makes 1,000 jobs, some of them refused, empty or not there, and runs batches over them: one that is killed and run again, and those
+# of GNU parallel in docs/BATCH.md, on this machine and over ssh on loopback. Needs the packages that home/batch.py names, and the
+# program that `make build` left.
+test-batch:
+	home/batch.py $(PROGRAM)
 
 # Runs the CUPS backend with a device behind it that only keeps what comes. Needs the program that `make build` left.
 test-cups:
