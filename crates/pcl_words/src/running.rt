@@ -1,6 +1,6 @@
 //! A run by the words of a command line, and its status.
 
-ghost use Rattle.std.specs.Prelude.{◌≡◌, ◌⊎◌, map, IsTrue};
+ghost use Rattle.std.specs.Prelude.{◌⊎◌, ◌↔◌, map, IsTrue};
 ghost use Rattle.pcl_words.specs.Runs.{IsShown, HasRunAsked, HasRunWords, AskForBatch, IsExitStatus};
 
 use crate::arguments::{parse_batch, parse_request};
@@ -84,7 +84,7 @@ pub fn run_request<F: JobFiles, R: Read, W: Write, P: Reporter>(
 
 /// What is to be shown where words ask for nothing that is done, unless memory ran out before that was known.
 fn shown(error: Error) -> Result<Ending, Error>
-    ensures { IsShown error.entry result }
+    ensures { IsShown error result }
 {
     match error.kind() {
         ErrorKind::OutOfMemory => Ok(Ending::NoMemory),
