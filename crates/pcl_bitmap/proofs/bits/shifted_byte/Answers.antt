@@ -6,7 +6,8 @@ use Rattle.pcl_bitmap.proofs.bits.shifted_byte.Goals.{then-index-gt0, else-index
 
 pub returns : goal.returns
 returns c k small =
-    let shifted = bit_of_byte-shifted c.args.source.now c.if-index-gt0.before c.byte_at.result c.args.index c.args.shift (omega arith) (omega arith)
+    let shifted = bit_of_byte-shifted c.args.source.now c.if-index-gt0.before c.byte_at.result c.args.index c.args.shift
+    (omega arith) (omega arith)
     c.byte_at.ensures in
     ap (λ b. bit_of_byte b k) c.bits_of_pair.ensures
     ∙ (elim c.if-index-gt0.branch [
