@@ -6,7 +6,9 @@ use Rattle.pcl_bitmap.specs.Bitmap.{Picture}
 use Rattle.pcl_tool.specs.declared.fault.Fault.{Fault}
 use Rattle.pcl_tool.specs.declared.fault.Fault.TheVariants.{Refused, Memory, ReadFault, TooLong, WriteFault, NoSuchPage}
 use Rattle.pcl_tool.specs.Image.{IsImageWritten}
-use Rattle.pcl_command.specs.Files.{FileAct}
+use Rattle.pcl_command.specs.declared.files.FileFault.{FileFault}
+use Rattle.pcl_command.specs.declared.files.FileFault.TheVariants as file
+use Rattle.pcl_command.specs.Files.{FileAct, write_fault_of}
 use Rattle.pcl_command.specs.DifferenceImages.{IsDifferingPage, IsImageMade, IsDrawnTo}
 
 -- a fault that an image can have
@@ -31,9 +33,13 @@ written_fault old new image TooLong w = w
 written_fault old new image (Refused refusal) w = w
 written_fault old new image NoSuchPage w = w
 
+unmade_fault : (why : FileFault) → IsImageFault (write_fault_of why)
+unmade_fault file.Memory = tt
+unmade_fault file.System = tt
+
 made_fault : {F : Type 0} (acts : F → FileAct → F → Type 0) (name : List ℕ) (image : Picture) (files kept : F) (fault : Fault)
     → IsImageMade acts name image files kept (Err fault) → IsImageFault fault
-made_fault acts name image files kept fault (inl m) = subst IsUndrawn (sym m.1) tt
+made_fault acts name image files kept fault (inl m) = subst IsUndrawn (sym m.2) (unmade_fault m.0)
 made_fault acts name image files kept fault (inr m) = written_fault m.1 m.2 image fault m.4
 
 pub drawn_fault : {F : Type 0} (acts : F → FileAct → F → Type 0) (name : Option (Bor (List ℕ))) (number : Option ℕ) (dpi : Dpi)

@@ -12,7 +12,8 @@ use Rattle.pcl_same.specs.declared.comparison.Comparison.TheVariants.{Page}
 use Rattle.pcl_same.specs.declared.comparison.Difference.TheVariants.{Dot}
 use Rattle.pcl_same.specs.Comparing.{IsComparison}
 use Rattle.pcl_same.specs.DifferingDots.{IsDifference}
-use Rattle.pcl_command.specs.Files.{FileAct, Made, Unmade, Closed}
+use Rattle.pcl_command.specs.Files.{FileAct, Made, Unmade, Closed, write_fault_of}
+use Rattle.pcl_command.specs.declared.files.FileFault.{FileFault}
 
 -- the page where the first difference is one of dots
 abbrev pub dotted_page : Comparison → Option ℕ
@@ -44,7 +45,7 @@ IsDifferingPage dpi first second number (Err (Refused refusal)) = ⊥
 -- the file of this name is made, gets the image, and is closed; or it can't be made
 abbrev pub IsImageMade : {F : Type 0} → (F → FileAct → F → Type 0) → List ℕ → Picture → (files kept : F) → Result (Unit {0}) Fault → Type 0
 IsImageMade {F} acts name image files kept done =
-    (acts files (Unmade name) kept × (done ≡ Err WriteFault))
+    ((why : FileFault) × acts files (Unmade name why) kept × (done ≡ Err (write_fault_of why)))
     ⊎ ((made : F) × (held holds : Option (List ℕ)) × acts files (Made name held) made × IsImageWritten held holds image done
     × acts made (Closed name holds) kept)
 

@@ -16,7 +16,8 @@ use Rattle.pcl_page.specs.Accepting.{IsAccepted, IsFirstAccepted}
 use Rattle.pcl_explain.specs.Findings.{Explains, ExplainsKind}
 use Rattle.pcl_shrink.specs.Shrinking.{IsSmallerJob}
 use Rattle.pcl_command.specs.Messages.{line_of, status_for}
-use Rattle.pcl_command.specs.Files.{FileAct, Opened, Unopened, Made, Unmade, Closed, Begun, Placed, Dropped}
+use Rattle.pcl_command.specs.Files.{FileAct, Opened, Unopened, Made, Unmade, Closed, Begun, Placed, Unplaced, Dropped, write_fault_of}
+use Rattle.pcl_command.specs.declared.files.FileFault.{FileFault}
 use Rattle.pcl_command.specs.Checks.{IsCheckRun, answer_status_for}
 use Rattle.pcl_command.specs.ComparisonLines.{compare_line_of, compare_status_for, comparison_status_for}
 use Rattle.pcl_command.specs.Comparisons.{IsCompareRun}
@@ -91,7 +92,7 @@ HasStayed files kept given left old new = (kept ≡ files) × (left ≡ given) �
 abbrev pub IsCertifyRun : {F : Type 0} → (F → FileAct → F → Type 0) → List ℕ → Dpi → Format → (files kept : F)
     → (given left old new : Option (List ℕ)) → Result (Unit {0}) Fault → Type 0
 IsCertifyRun {F} acts name dpi format files kept given left old new done =
-    (acts files (Unmade name) kept × (done ≡ Err WriteFault) × (left ≡ given) × (new ≡ old))
+    ((why : FileFault) × acts files (Unmade name why) kept × (done ≡ Err (write_fault_of why)) × (left ≡ given) × (new ≡ old))
     ⊎ ((made : F) × (held holds : Option (List ℕ)) × acts files (Made name held) made
     × IsFilteredCert dpi format given left old new held holds done × acts made (Closed name holds) kept)
 
@@ -125,14 +126,15 @@ HasDoneSeen acts task FirstAccepted files kept given left old new done =
 abbrev pub IsSettled : {F : Type 0} → (F → FileAct → F → Type 0) → List ℕ → (holds : Option (List ℕ)) → Result (Unit {0}) Fault
     → (files kept : F) → Result (Unit {0}) Fault → Type 0
 IsSettled acts name holds (Ok unit) files kept done =
-    (acts files (Placed name holds) kept × (done ≡ Ok tt)) ⊎ (acts files (Dropped name) kept × (done ≡ Err WriteFault))
+    (acts files (Placed name holds) kept × (done ≡ Ok tt))
+    ⊎ ((why : FileFault) × acts files (Unplaced name why) kept × (done ≡ Err (write_fault_of why)))
 IsSettled acts name holds (Err fault) files kept done = acts files (Dropped name) kept × (done ≡ Err fault)
 
 -- a file was begun for this name, got these bytes and was settled; or it can't be begun
 abbrev pub IsFileWritten : {F : Type 0} → (F → FileAct → F → Type 0) → (name bytes : List ℕ) → (files kept : F)
     → Result (Unit {0}) Fault → Type 0
 IsFileWritten {F} acts name bytes files kept done =
-    (acts files (Unmade name) kept × (done ≡ Err WriteFault))
+    ((why : FileFault) × acts files (Unmade name why) kept × (done ≡ Err (write_fault_of why)))
     ⊎ ((begun : F) × (held holds : Option (List ℕ)) × (written : Result (Unit {0}) Fault) × acts files (Begun name held) begun
     × IsWritten held holds bytes written × IsSettled acts name holds written begun kept done)
 
@@ -141,7 +143,7 @@ IsFileWritten {F} acts name bytes files kept done =
 abbrev pub HasWrittenFile : {F : Type 0} → (F → FileAct → F → Type 0) → Run → List ℕ → (files kept : F) → (given left : Option (List ℕ))
     → Result (Unit {0}) Fault → Type 0
 HasWrittenFile {F} acts run name files kept given left done =
-    (acts files (Unmade name) kept × (done ≡ Err WriteFault) × (left ≡ given))
+    ((why : FileFault) × acts files (Unmade name why) kept × (done ≡ Err (write_fault_of why)) × (left ≡ given))
     ⊎ ((begun ended : F) × (held holds : Option (List ℕ)) × (outcome : Result (Unit {0}) Fault) × acts files (Begun name held) begun
     × HasDoneSeen acts run.task run.resolution begun ended given left held holds outcome
     × IsSettled acts name holds outcome ended kept done)

@@ -64,7 +64,7 @@ fn differing_page(
     Ok(differing_dots(alloc, &one, &other)?)
 }
 
-/// Makes the file of a name, writes an image to it and closes it. WriteFault comes too where it can't be made.
+/// Makes the file of a name, writes an image to it and closes it. The fault of a file that can't be made comes too.
 fn make_image<F: JobFiles>(
     files: &mut F,
     alloc: Global,
@@ -73,9 +73,7 @@ fn make_image<F: JobFiles>(
 ) -> Result<(), Fault>
     ensures { IsImageMade F.acts name.now image.now files.old files.new result }
 {
-    let Ok(mut file) = files.make(name) else {
-        return Err(Fault::WriteFault);
-    };
+    let mut file = files.make(name)?;
     let written = write_image(alloc, image, &mut file);
     files.close(name, file);
     written

@@ -16,7 +16,7 @@ mod verdicts;
 pub use checks::read_file;
 pub use comparison_lines::{compare_fault_line, comparison_line};
 pub use comparisons::{CompareFault, compare_jobs};
-pub use files::JobFiles;
+pub use files::{FileFault, JobFiles};
 pub use messages::{USAGE_STATUS, fault_line, status_of};
 pub use reporting::Reporter;
 pub use request::{

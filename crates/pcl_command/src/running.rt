@@ -125,8 +125,8 @@ fn do_run<F: JobFiles, R: Read, W: Write, P: Reporter>(
     }
 }
 
-/// Does the task of a run with the job that a reader gives, and writes to the run's target. WriteFault comes too where that is a
-/// file that can't be begun or placed.
+/// Does the task of a run with the job that a reader gives, and writes to the run's target. The fault of a file that
+/// can't be begun or placed comes too.
 fn write_result<F: JobFiles, R: Read, W: Write, P: Reporter>(
     files: &mut F,
     alloc: Global,
@@ -145,7 +145,7 @@ fn write_result<F: JobFiles, R: Read, W: Write, P: Reporter>(
                 let done = do_seen(files, alloc, run, reader, &mut file, watcher);
                 settle(files, name, file, done)
             }
-            Err(_) => Err(Fault::WriteFault),
+            Err(why) => Err(Fault::from(why)),
         },
     }
 }
@@ -162,7 +162,7 @@ fn settle<F: JobFiles>(
     match done {
         Ok(()) => match files.place(name, file) {
             Ok(()) => Ok(()),
-            Err(_) => Err(Fault::WriteFault),
+            Err(why) => Err(Fault::from(why)),
         },
         Err(fault) => {
             files.discard(name, file);
@@ -172,7 +172,7 @@ fn settle<F: JobFiles>(
 }
 
 /// Writes a file of these bytes, which takes the place of what its name had only where it is whole. After a fault, which is
-/// WriteFault, what was there stays.
+/// WriteFault or Memory, what was there stays.
 pub fn write_file<F: JobFiles>(files: &mut F, name: &str, bytes: &[u8]) -> Result<(), Fault>
     ensures { IsFileWritten F.acts name.now bytes.now files.old files.new result }
 {
@@ -181,7 +181,7 @@ pub fn write_file<F: JobFiles>(files: &mut F, name: &str, bytes: &[u8]) -> Resul
             let written = write_all(&mut file, bytes);
             settle(files, name, file, written)
         }
-        Err(_) => Err(Fault::WriteFault),
+        Err(why) => Err(Fault::from(why)),
     }
 }
 
@@ -236,7 +236,7 @@ fn do_task<F: JobFiles, R: Read, W: Write, P: Reporter>(
 }
 
 /// Writes the job that a reader gives again, and its certificate to the file of this name, which is made before anything is read,
-/// and closed at the end. WriteFault comes too where it can't be made.
+/// and closed at the end. The fault of a file that can't be made comes too.
 fn certify<F: JobFiles, R: Read, W: Write, P: Watcher>(
     files: &mut F,
     alloc: Global,
@@ -250,9 +250,7 @@ fn certify<F: JobFiles, R: Read, W: Write, P: Watcher>(
     ensures { IsCertifyRun F.acts name.now dpi format files.old files.new (R.remaining reader.old) (R.remaining reader.new)
         (W.contents out.old) (W.contents out.new) result }
 {
-    let Ok(mut file) = files.make(name) else {
-        return Err(Fault::WriteFault);
-    };
+    let mut file = files.make(name)?;
     let written = filter_cert_watched(alloc, reader, dpi, format, out, &mut file, watcher);
     files.close(name, file);
     written

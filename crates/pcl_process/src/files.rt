@@ -1,6 +1,6 @@
 //! The files of the system.
 
-use pcl_command::JobFiles;
+use pcl_command::{FileFault, JobFiles};
 use std::fs::{self, File};
 use std::io::{self, ErrorKind};
 use std::os::fd::AsFd;
@@ -84,7 +84,10 @@ impl SystemFiles<'_> {
     fn path_of(&self, path: &str) -> io::Result<String> {
         match fs::canonicalize(self.rt, path) {
             Ok(real) => Ok(real.into_string()),
-            Err(_) => Ok(String::from_str(self.rt.alloc(), path)?),
+            Err(error) if error.kind() == ErrorKind::NotFound => {
+                Ok(String::from_str(self.rt.alloc(), path)?)
+            }
+            Err(error) => Err(error),
         }
     }
 
@@ -116,21 +119,21 @@ impl JobFiles for SystemFiles<'_> {
         fs::open(self.rt, name)
     }
 
-    fn make(&mut self, name: &str) -> io::Result<File> {
+    fn make(&mut self, name: &str) -> Result<File, FileFault> {
         self.require_standard_streams()?;
         if self.is_standard(name) || self.is_begun(name)? {
-            return Err(io::Error::from(ErrorKind::InvalidInput));
+            return Err(FileFault::System);
         }
-        fs::create(self.rt, name)
+        Ok(fs::create(self.rt, name)?)
     }
 
     fn close(&mut self, _name: &str, _file: File) {}
 
-    fn begin(&mut self, name: &str) -> io::Result<File> {
+    fn begin(&mut self, name: &str) -> Result<File, FileFault> {
         self.require_standard_streams()?;
         self.begun = None;
         if self.is_special(name) {
-            return fs::create(self.rt, name);
+            return Ok(fs::create(self.rt, name)?);
         }
         let path = self.path_of(name)?;
         let (part, file) = self.create_part(&path)?;
@@ -138,7 +141,7 @@ impl JobFiles for SystemFiles<'_> {
         Ok(file)
     }
 
-    fn place(&mut self, _name: &str, file: File) -> io::Result<()> {
+    fn place(&mut self, _name: &str, file: File) -> Result<(), FileFault> {
         let Some(Begun { part, path }) = self.begun.take() else {
             return Ok(());
         };
@@ -150,7 +153,7 @@ impl JobFiles for SystemFiles<'_> {
         if placed.is_err() {
             let _ = fs::remove_file(self.rt, &part);
         }
-        placed
+        Ok(placed?)
     }
 
     fn discard(&mut self, _name: &str, _file: File) {
