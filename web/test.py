@@ -30,8 +30,8 @@ CHROMIUM = next(filter(None, map(shutil.which, ("chromium", "chromium-browser", 
 JOBS = {
     "two.pcl": b"\x1bE\x1b&l26a3X\x1b*p0x0Y\x1b*t300R\x1b*r0A\x1b*b1W\x80\x1b*rC\x0c\x1b*p30x40Y\x1b*c900a90b0P\x0c\x1bE",
     "fine.pcl": b"\x1bE\x1b*t600R\x1b*r0A\x1b*b2W\xaa\x55\x1b*rC\x0c\x1bE",
-    "asked.pcl": b"\x1b%-12345X@PJL SET OUTBIN=UPPER\r\n@PJL ENTER LANGUAGE=PCL\r\n\x1bE\x1b&l1S\x1b&l4H\x1b*c90a90b0P\x0c\x1b&l2S"
-                 b"\x1b&l1X\x1b*c900a9b0P\x0c\x0c\x1b&l0s1H\x1b&l1A\x1b*c9a9b0P\x0c\x1bE\x1b%-12345X",
+    "asked.pcl": b"\x1b%-12345X@PJL SET OUTBIN=UPPER\r\n@PJL ENTER LANGUAGE=PCL\r\n\x1bE\x1b&l1s3g2M\x1b&l4H\x1b*c90a90b0P\x0c\x1b&l2S"
+                 b"\x1b&l1X\x1b*c900a9b0P\x0c\x0c\x1b&l0s1H\x1b&a2G\x1b&l1A\x1b*c9a9b0P\x0c\x1bE\x1b%-12345X",
     "refused.pcl": b"\x1bE\x1b&l2A\x1b*p300x300Y\x1b*c90a90b0P Hello, printer\r\n\x0c\x1bE",
 }
 REFUSED = "refused.pcl"
@@ -217,7 +217,9 @@ INKED = """[...document.querySelectorAll('nav canvas')].map(canvas =>
 def details_of(page):
     """What stands below a page's number: what it asks of the printer, and how much is on it."""
     asked = [SIDES[page["sides"]]] if page["sides"] is not None else []
-    asked += [f"paper source {page['source']}"] if page["source"] else []
+    for name, key in (("paper source", "source"), ("output bin", "output_bin"), ("media type", "media_type"),
+                      ("side of the sheet", "sheet_side")):
+        asked += [f"{name} {page[key]}"] if page[key] is not None else []
     black = f"{100 * page['black_dots'] / page['dots']:.2f} % black"
     return ", ".join([*asked, black, f"{page['bytes']:,} bytes as raster"])
 
@@ -252,6 +254,10 @@ def test_pages(held, browser, program, job):
     held.tell(names == wanted, f"{job} lists {wanted}: {names}")
     details = browser.value("[...document.querySelectorAll('nav button small')].map(small => small.textContent)")
     held.tell(details == list(map(details_of, pages)), f"{job} says of its pages {list(map(details_of, pages))}: {details}")
+    exits = [exit for exit in json.loads(listed)["exits"] if exit["lines"]]
+    lines = browser.value("[...document.querySelectorAll('nav pre')].map(text => [text.previousElementSibling.textContent, text.textContent])")
+    wanted = [[f"before page {exit['pages'] + 1}" if exit["pages"] < len(pages) else "at the end", exit["lines"]] for exit in exits]
+    held.tell(lines == wanted, f"{job} has the lines {wanted}: {lines}")
     for number in range(1, len(pages) + 1):
         browser.value(f"document.querySelectorAll('nav button')[{number - 1}].click()")
         held.tell(browser.wait(f"element('page').dataset.page === '{number}'"), f"page {number} of {job} is shown")

@@ -1,6 +1,6 @@
 //! A folder in memory, with the files of a run by their names.
 
-use pcl_command::JobFiles;
+use pcl_command::{FileFault, JobFiles};
 use std::alloc::{AllocError, Global};
 use std::io::{self, Cursor, ErrorKind, Write};
 
@@ -100,9 +100,9 @@ impl JobFiles for Folder {
         }
     }
 
-    fn make(&mut self, name: &str) -> io::Result<Held> {
+    fn make(&mut self, name: &str) -> Result<Held, FileFault> {
         if !is_there(name) {
-            return Err(io::Error::from(ErrorKind::NotFound));
+            return Err(FileFault::System);
         }
         self.put(name, Vec::new(self.alloc))?;
         Ok(Held::new(self.alloc))
@@ -120,15 +120,15 @@ impl JobFiles for Folder {
         }
     }
 
-    fn begin(&mut self, name: &str) -> io::Result<Held> {
+    fn begin(&mut self, name: &str) -> Result<Held, FileFault> {
         if !is_there(name) {
-            return Err(io::Error::from(ErrorKind::NotFound));
+            return Err(FileFault::System);
         }
         Ok(Held::new(self.alloc))
     }
 
     /// What wasn't flushed is lost.
-    fn place(&mut self, name: &str, file: Held) -> io::Result<()> {
+    fn place(&mut self, name: &str, file: Held) -> Result<(), FileFault> {
         let Held { mut bytes, flushed } = file;
         bytes.truncate(flushed);
         Ok(self.put(name, bytes)?)

@@ -33,7 +33,7 @@ pub fn describe_pages(
         pages: Vec::new(alloc),
     };
     let asks = perform_asked(alloc, job, dpi, &mut collected)?;
-    let facts = JobFacts::new(dpi, collected.pages, &asks.pages);
+    let facts = JobFacts::new(alloc, dpi, collected.pages, &asks)?;
     Ok(laid_out(alloc, &facts, layout)?)
 }
 

@@ -3,7 +3,7 @@
 use pcl_base::{Dpi, Method, Size};
 use pcl_env::Asked;
 use pcl_output::Step;
-use pcl_page::Page;
+use pcl_page::{Asks, Exit, Page};
 use pcl_plan::{Plan, plan};
 use pcl_writer::write_page;
 use serde::Serialize;
@@ -82,6 +82,12 @@ pub struct PageFacts {
     pub sides: Option<i32>,
     /// Where the paper comes from, where the job asks for it (`&lH`).
     pub source: Option<i32>,
+    /// Where printed sheets go, where the job asks for it (`&lG`).
+    pub output_bin: Option<i32>,
+    /// The kind of paper, where the job asks for it (`&lM`).
+    pub media_type: Option<i32>,
+    /// The front or the back of a sheet, where the job asks for it (`&aG`).
+    pub sheet_side: Option<i32>,
     pub dots: u64,
     pub black_dots: u64,
     /// The bytes of its least page text (docs/OUTPUT.md).
@@ -102,6 +108,9 @@ impl PageFacts {
             copies: page.copies,
             sides: None,
             source: None,
+            output_bin: None,
+            media_type: None,
+            sheet_side: None,
             dots: u64::from(page.size.width(page.dpi)) * u64::from(page.size.height(page.dpi)),
             black_dots: black_dots(page),
             bytes: text.len(),
@@ -114,6 +123,9 @@ impl PageFacts {
         PageFacts {
             sides: asked.sides,
             source: asked.paper_source,
+            output_bin: asked.output_bin,
+            media_type: asked.media_type,
+            sheet_side: asked.sheet_side,
             ..self
         }
     }
@@ -154,28 +166,63 @@ impl Total {
     }
 }
 
+/// A universal exit of a job.
+#[derive(Drop, Serialize)]
+pub struct ExitFacts {
+    /// How many pages come before it.
+    pub pages: u32,
+    /// The lines of the printer's job language after it, each byte as the character of its number.
+    pub lines: String,
+}
+
+impl ExitFacts {
+    /// Those of an exit.
+    fn of_exit(alloc: Global, exit: &Exit<'_>) -> Result<ExitFacts, AllocError> {
+        let mut lines = String::new(alloc);
+        for byte in exit.lines {
+            lines.push(char::from(*byte))?;
+        }
+        Ok(ExitFacts {
+            pages: exit.pages,
+            lines,
+        })
+    }
+}
+
 /// What is known of the pages of a job.
 #[derive(Drop, Serialize)]
 pub struct JobFacts {
     /// The resolution at which they are seen.
     pub dpi: u32,
     pub pages: Vec<PageFacts>,
+    /// The universal exits, in order.
+    pub exits: Vec<ExitFacts>,
     pub total: Total,
 }
 
 impl JobFacts {
-    /// Of these pages, each with what it is asked with.
-    pub fn new(dpi: Dpi, mut pages: Vec<PageFacts>, asked: &[Asked]) -> JobFacts {
+    /// Of these pages and what the job asks for.
+    pub fn new(
+        alloc: Global,
+        dpi: Dpi,
+        mut pages: Vec<PageFacts>,
+        asks: &Asks<'_>,
+    ) -> Result<JobFacts, AllocError> {
         let mut total = Total::NOTHING;
-        for (page, asked) in pages.iter_mut().zip(asked.iter()) {
+        for (page, asked) in pages.iter_mut().zip(asks.pages.iter()) {
             *page = page.asked(asked);
             total = total.with(page);
         }
-        JobFacts {
+        let mut exits = Vec::new(alloc);
+        for exit in asks.exits.iter() {
+            exits.push(ExitFacts::of_exit(alloc, exit)?)?;
+        }
+        Ok(JobFacts {
             dpi: dpi.dots(),
             pages,
+            exits,
             total,
-        }
+        })
     }
 }
 
