@@ -67,7 +67,7 @@ const FINE_LINE: Case = Case {
     ..LINE
 };
 
-const CASES: [Case; 37] = [
+const CASES: [Case; 38] = [
     LINE,
     Case {
         name: "one letter",
@@ -276,6 +276,13 @@ const CASES: [Case; 37] = [
         pages: 3,
         lines: 3,
         kinds: 5,
+        ..FINE_LINE
+    },
+    // The rule is wider than a letter may be, so that each page has a raster.
+    Case {
+        name: "a rule on each of two pages, at 600",
+        start: b"\x1b*c2250a1b0P",
+        pages: 2,
         ..FINE_LINE
     },
     Case {

@@ -9,6 +9,9 @@ use pcl_bitmap::{Page, PageSink};
 use std::alloc::AllocError;
 use std::marker::Model;
 
+/// Puts back method 0, by which the rows of a page text begin.
+const END_RASTER: &[u8] = b"\x1b*rC";
+
 /// Writes the pages that come.
 #[derive(Drop)]
 pub struct MacroWriter<'a> {
@@ -19,6 +22,8 @@ pub struct MacroWriter<'a> {
     letters: usize,
     lines: usize,
     marks: usize,
+    /// Whether the last page has macros, after which the method is that of their rows.
+    leaves_method: bool,
     pub out: Vec<u8>,
 }
 
@@ -38,6 +43,7 @@ impl<'a> MacroWriter<'a> {
             letters: 0,
             lines: 0,
             marks: 0,
+            leaves_method: false,
             out,
         }
     }
@@ -49,6 +55,9 @@ impl<'a> MacroWriter<'a> {
         let letters = layout.letters.of_page(self.page, self.letters);
         let lines = layout.text.script.of_page(self.page, self.lines);
         let mut text = Vec::new(alloc);
+        if self.leaves_method {
+            text.extend_from_slice(END_RASTER)?;
+        }
         append_raster(
             alloc,
             &layout.patterns,
@@ -64,6 +73,7 @@ impl<'a> MacroWriter<'a> {
         self.letters = self.letters.saturating_add(letters.len());
         self.lines = self.lines.saturating_add(lines.len());
         self.marks = marks;
+        self.leaves_method = !lines.is_empty();
         Ok(())
     }
 }
