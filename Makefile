@@ -56,9 +56,11 @@ test-memory:
 	process/memory.py $(PROGRAM) crates/memory_cases/out/memory_cases crates/memory_cases/stdout
 
 # Compares what the process says and its status where files, standard streams and memory fail, and what a terminal is told
-# (process/cases.txt). Needs Python 3, and the program that `make build` left.
+# (process/cases.txt), and makes each call of the system in some runs fail in turn (process/calls.py). Needs Python 3, a C compiler, and
+# the program that `make build` left.
 test-process:
 	process/run.py $(PROGRAM)
+	process/calls.py $(PROGRAM)
 
 # The manual pages by their linter, the completions in each shell, what the console blocks of README print, and a second checker
 # beside `check`. Needs Python 3, mandoc, zsh, fish, and the program that `make build` left.

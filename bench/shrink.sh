@@ -7,7 +7,7 @@ program=$(realpath "${1:-crates/pclmin/out/pclmin}")
 folder=$(mktemp -d)
 trap 'rm -rf "$folder"' EXIT
 
-{ printf '.ps 11\n.vs 13\n'; tr -cd 'A-Za-z0-9 .,;:\n-' < docs/LANGUAGE.md | head -c 14000; echo; } > "$folder/once"
+{ printf '.ps 11\n.vs 13\n'; tr -cd 'A-Za-z0-9 .,;:\n-' < docs/LANGUAGE.md | { head -c 14000; cat > /dev/null; }; echo; } > "$folder/once"
 echo "pages sent xz least shrink time"
 for times in 1 4; do
     for ((i = 0; i < times; i++)); do cat "$folder/once"; done > "$folder/text"

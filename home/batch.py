@@ -6,7 +6,8 @@
 The jobs are made in a temporary folder: pages of text by ghostscript's drivers and copies of the samples, and among them some that
 are refused, cut short, empty or not there. A batch over all of them is killed in the middle, run again, and run once more; then the
 lines of docs/BATCH.md that use GNU parallel are run as they stand there, over an ssh server on loopback in place of the hosts. Each
-time each job has to have one line of the report with the right outcome and digests, and a file in the folder that is whole. Some
+time each job has to have one line of the report with the right outcome and digests, and a file in the folder that is whole. The
+batch that is killed may leave the one file that it was writing, `NAME.part1`; nothing after it may touch that or add to it. Some
 jobs are compared, and some are written with certificates, which are checked. Prints what held, and how many jobs, pages and bytes a
 batch does in how many seconds; status 1 if something doesn't hold.
 
@@ -111,8 +112,9 @@ def read_report(path, is_json):
                  text(it["sha256_in"]), text(it["sha256_out"])) for it in csv.DictReader(report, delimiter="\t", quoting=csv.QUOTE_NONE)]
 
 
-def look(what, home, wanted, report, folder, outcomes, is_json=False):
-    """Looks at a report and the folder: each job has one row, and what is in the folder is what the row says."""
+def look(what, home, wanted, report, folder, outcomes, is_json=False, left=frozenset()):
+    """Looks at a report and the folder: each job has one row, and what is in the folder is what the row says. The names of `left`
+    have to be there besides."""
     rows = read_report(report, is_json)
     holds(f"{what}: a line for each of {len(wanted)} jobs", collections.Counter(it[0] for it in rows) == collections.Counter([*wanted]))
     holds(f"{what}: each has its status", all(status == wanted[name] for name, _, status, *_ in rows))
@@ -122,7 +124,8 @@ def look(what, home, wanted, report, folder, outcomes, is_json=False):
     sums = subprocess.run("cat *.sha256 | sha256sum -c --quiet", shell=True, cwd=folder, stderr=subprocess.DEVNULL)
     done = sum(not status for status in wanted.values())
     holds(f"{what}: {done} files of sums, and all are right", sums.returncode == 0 and len(list(folder.glob("*.sha256"))) == done)
-    holds(f"{what}: nothing else is left", len(list(folder.iterdir())) == 2 * done)
+    names = {it.name for it in folder.iterdir()}
+    holds(f"{what}: nothing else is left", left <= names and len(names) == 2 * done + len(left))
     return rows
 
 
@@ -189,11 +192,13 @@ def main(program, count):
         batch(program, home, names, home / "killed.tsv", *words, until=len(names) // 2)
         parts = [it for it in (home / "again").iterdir() if it.name.endswith(".pcl")]
         holds("killed: what lies in the folder is whole", all(digest(it) == digest(home / "smaller" / it.name) for it in parts) and parts)
+        left = {it.name for it in (home / "again").iterdir() if re.search(r"\.part\d+$", it.name)}
+        holds("killed: at most the one file that was being written is left", len(left) <= 1)
         batch(program, home, names, home / "resumed.tsv", *words)
-        rows = look("resumed", home, wanted, home / "resumed.tsv", home / "again", ["written", "kept"])
+        rows = look("resumed", home, wanted, home / "resumed.tsv", home / "again", ["written", "kept"], left=left)
         holds("resumed: what was done is kept", sum(it[1] == "kept" for it in rows) >= len(parts) - 1)
         _, _, seconds = batch(program, home, names, home / "kept.tsv", *words)
-        look("once more", home, wanted, home / "kept.tsv", home / "again", ["kept"])
+        look("once more", home, wanted, home / "kept.tsv", home / "again", ["kept"], left=left)
         print(f"nothing is to be done in {seconds:.0f} seconds", flush=True)
 
         well = [name for name in names if wanted[name] == 0]

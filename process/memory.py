@@ -8,13 +8,14 @@ and has written nothing; and files are as they were. CASES is the built program 
 more where memory ran out: it always prints what the file EXPECTED has. Needs a C compiler.
 """
 
-import os
 import pathlib
 import subprocess
 import sys
 import tempfile
 
-HERE = pathlib.Path(__file__).resolve().parent
+sys.dont_write_bytecode = True
+from failing import HERE, Failing
+
 EXAMPLES = HERE.parent / "examples"
 LINE = b"pclmin: out of memory\n"
 RUNS = ["pbm --page 1 dot.pcl", "min dot.pcl", "min --cert cert --format 2 dot.pcl", "shrink dot.pcl", "pages dot.pcl",
@@ -22,45 +23,27 @@ RUNS = ["pbm --page 1 dot.pcl", "min dot.pcl", "min --cert cert --format 2 dot.p
         "same --asked dot.pcl dot.min", "shrink -o kept dot.pcl", "min --dpi auto dot.pcl"]
 
 
-def allocations(shim, room, words, holds):
-    """Runs words with each allocation failing in turn, and gives how many there are. What each run did has to hold."""
-    count = room / "count"
-    number = 1
-    while True:
-        count.write_text("0")
-        (room / "kept").write_bytes(b"kept")
-        environment = dict(os.environ, LD_PRELOAD=str(shim), FAIL_AT=str(number), FAIL_COUNT=str(count))
-        ran = subprocess.run(words, cwd=room, env=environment, stdin=subprocess.DEVNULL, capture_output=True, timeout=60)
-        if not holds(ran):
-            sys.exit("allocation %d of %s: status %d, %r, %r" % (number, " ".join(map(str, words)), ran.returncode, ran.stdout[:200],
-                                                                ran.stderr[:200]))
-        if int(count.read_text()) < number:
-            return number - 1
-        number += 1
-
-
 def main():
     program, cases, expected = map(pathlib.Path.resolve, map(pathlib.Path, sys.argv[1:]))
     with tempfile.TemporaryDirectory() as name:
-        room = pathlib.Path(name)
-        shim = room / "failing.so"
-        subprocess.run(["cc", "-O1", "-shared", "-fPIC", "-o", shim, HERE / "failing.c", "-ldl"], check=True)
+        folder = pathlib.Path(name)
+        failing = Failing(folder)
         for file in EXAMPLES.glob("dot*"):
-            (room / file.name).write_bytes(file.read_bytes())
+            (folder / file.name).write_bytes(file.read_bytes())
         wanted = expected.read_bytes()
-        found = allocations(shim, room, [cases], lambda ran: (ran.returncode, ran.stdout) == (0, wanted))
+        found = failing.each([cases], lambda ran: (ran.returncode, ran.stdout) == (0, wanted))
         print("memory_cases: %d allocations, each failed in turn" % found, flush=True)
         for run in RUNS:
             words = [program, *run.split()]
-            ample = subprocess.run(words, cwd=room, stdin=subprocess.DEVNULL, capture_output=True)
-            made = (room / "kept").read_bytes() if "kept" in run else b"kept"
+            ample = subprocess.run(words, cwd=folder, stdin=subprocess.DEVNULL, capture_output=True, check=False)
+            made = (folder / "kept").read_bytes() if "kept" in run else b"kept"
 
             def holds(ran):
-                kept = (room / "kept").read_bytes()
+                kept = (folder / "kept").read_bytes()
                 done = (ran.returncode, ran.stdout, kept) == (ample.returncode, ample.stdout, made)
                 return done or (ran.returncode, ran.stdout, ran.stderr, kept) == (3, b"", LINE, b"kept")
 
-            print("pclmin %s: %d allocations, each failed in turn" % (run, allocations(shim, room, words, holds)), flush=True)
+            print("pclmin %s: %d allocations, each failed in turn" % (run, failing.each(words, holds)), flush=True)
 
 
 main()

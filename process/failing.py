@@ -1,0 +1,39 @@
+"""Runs of a program in which one call fails, the first, the second, and so on (failing.c). Needs a C compiler."""
+
+import os
+import pathlib
+import subprocess
+import sys
+
+HERE = pathlib.Path(__file__).resolve().parent
+
+
+class Failing:
+    """Runs in a folder, where a file `kept` is put before each."""
+
+    def __init__(self, folder):
+        self.folder = folder
+        self.shim = folder / "failing.so"
+        self.count = folder / "count"
+        subprocess.run(["cc", "-O1", "-shared", "-fPIC", "-o", self.shim, HERE / "failing.c", "-ldl"], check=True)
+
+    def run(self, words, **settings):
+        """What one run did; settings are those of failing.c, without FAIL_."""
+        (self.folder / "kept").write_bytes(b"kept")
+        added = {"FAIL_" + name.upper(): str(value) for name, value in settings.items()}
+        environment = dict(os.environ, LD_PRELOAD=str(self.shim), FAIL_COUNT=str(self.count), **added)
+        return subprocess.run(words, cwd=self.folder, env=environment, stdin=subprocess.DEVNULL, capture_output=True, timeout=60,
+                              check=False)
+
+    def each(self, words, holds, **settings):
+        """Runs words with each call failing in turn, and gives how many there are. What each run did has to hold."""
+        number = 1
+        while True:
+            self.count.write_text("0")
+            ran = self.run(words, at=number, **settings)
+            if not holds(ran):
+                sys.exit("call %d of %s, %s: status %d, %r, %r" % (number, " ".join(map(str, words)), settings, ran.returncode,
+                                                                  ran.stdout[:200], ran.stderr[:200]))
+            if int(self.count.read_text()) < number:
+                return number - 1
+            number += 1
