@@ -1,5 +1,5 @@
-//! Pages of letters, written with soft fonts or macros and compared with what they were. It prints a line for each case; `stdout`
-//! has what has to come: whether anything is proposed, and that a proposal has the same pages.
+//! Pages of letters, shrunk. It prints a line for each case; `stdout` has what has to come: which candidate wins, and the bytes
+//! that came in and that go out. Glyphs win where letters go as soft fonts or macros, and what is written has the same pages.
 //!
 //! A letter is a stroke of four dots in each of nine rows, which goes to the left or to the right from row to row as the bits of
 //! its number say. So there are 256 of them, each one shape, and no row is like the one above.
@@ -7,8 +7,7 @@
 
 use itoa::Buffer;
 use pcl_base::{Dpi, JobFault};
-use pcl_glyphs::write_glyph_job;
-use pcl_same::{Comparison, same};
+use pcl_shrink::shrink;
 use std::alloc::{AllocError, Global};
 use std::io;
 
@@ -313,12 +312,15 @@ fn print_outcome<R: Print + AllocGlobal>(
     job: &[u8],
     dpi: Dpi,
 ) -> io::Result<()> {
-    match write_glyph_job(rt.alloc(), job, dpi) {
-        Ok(Some(written)) => match same(rt.alloc(), job, &written, dpi) {
-            Ok(Comparison::Same) => println!(rt; "{name}: proposed, the same"),
-            answer => println!(rt; "{name}: proposed, {answer:?}"),
-        },
-        Ok(None) => println!(rt; "{name}: nothing proposed"),
+    match shrink(rt.alloc(), job, dpi) {
+        Ok(shrunk) => {
+            println!(rt;
+                "{name}: {:?}, {} to {}",
+                shrunk.by,
+                job.len(),
+                shrunk.job.len()
+            )
+        }
         Err(JobFault::Refused(refusal)) => println!(rt; "{name}: refused at {}", refusal.at),
         Err(JobFault::Memory) => println!(rt; "{name}: out of memory"),
     }

@@ -6,6 +6,7 @@ use crate::patterns::{Pattern, draw_patterns};
 use crate::runs::find_runs;
 use crate::shapes::{Extent, find_shapes};
 use indexmap::IndexSet;
+use pcl_base::Dpi;
 use pcl_bitmap::{Page, PageSink};
 use std::alloc::{AllocError, Global};
 use std::marker::Model;
@@ -50,9 +51,10 @@ impl Model for Collection {
 }
 
 impl Collection {
-    pub fn new(alloc: Global, form: Form) -> Collection {
+    /// No page yet, of pages of so many dots per inch.
+    pub fn new(alloc: Global, dpi: Dpi) -> Collection {
         Collection {
-            form,
+            form: Form::at(dpi),
             widths: Vec::new(alloc),
             heights: Vec::new(alloc),
             patterns: IndexSet::new(alloc),

@@ -1,42 +1,34 @@
 //! Pages written as rasters and macros that are run.
 
+use crate::letters::Letter;
 use crate::macro_layout::MacroLayout;
 use crate::macros::append_marks;
 use crate::marks::Line;
 use crate::numbers::{append_labelled, digit_count};
 use crate::writing::{FORM_FEED, append_raster};
-use pcl_bitmap::{Page, PageSink};
+use pcl_bitmap::Page;
 use std::alloc::AllocError;
-use std::marker::Model;
 
 /// Puts back method 0, by which the rows of a page text begin.
 const END_RASTER: &[u8] = b"\x1b*rC";
 
-/// Writes the pages that come.
+/// Writes pages with letters as macros, one after the other.
 #[derive(Drop)]
 pub struct MacroWriter<'a> {
     layout: &'a MacroLayout,
     /// How many pages came.
     page: usize,
-    /// How many letters, lines and marks are written.
+    /// How many letters, lines and marks these have.
     letters: usize,
     lines: usize,
     marks: usize,
-    /// Whether the last page has macros, after which the method is that of their rows.
+    /// Whether the page before has macros, after which the method is that of their rows.
     leaves_method: bool,
-    pub out: Vec<u8>,
-}
-
-impl<'a> Model for MacroWriter<'a> {
-    // Nothing is said of what was written.
-    ghost Value = { Unit {0} };
-
-    ghost view = { λ _. tt };
 }
 
 impl<'a> MacroWriter<'a> {
-    /// Goes on after these bytes.
-    pub fn new(layout: &'a MacroLayout, out: Vec<u8>) -> MacroWriter<'a> {
+    /// At the first page.
+    pub fn new(layout: &'a MacroLayout) -> MacroWriter<'a> {
         MacroWriter {
             layout,
             page: 0,
@@ -44,46 +36,59 @@ impl<'a> MacroWriter<'a> {
             lines: 0,
             marks: 0,
             leaves_method: false,
-            out,
         }
     }
 
-    /// Appends a page: the raster of what macros don't print, and the macros.
-    fn append_page(&mut self, page: &Page) -> Result<(), AllocError> {
-        let alloc = *self.out.allocator();
+    /// Goes on after a reset, which puts back method 0.
+    pub fn restart(&mut self) {
+        self.leaves_method = false;
+    }
+
+    /// Appends the next page, of which this is a text without letters: that text, or one with letters where it takes fewer bytes.
+    pub fn append_page(
+        &mut self,
+        page: &Page,
+        plain: &[u8],
+        out: &mut Vec<u8>,
+    ) -> Result<(), AllocError> {
         let layout = self.layout;
         let letters = layout.letters.of_page(self.page, self.letters);
         let lines = layout.text.script.of_page(self.page, self.lines);
-        let mut text = Vec::new(alloc);
-        if self.leaves_method {
-            text.extend_from_slice(END_RASTER)?;
-        }
-        append_raster(
-            alloc,
-            &layout.patterns,
-            &layout.letters,
-            letters,
-            page,
-            &mut text,
-        )?;
-        let marks = append_lines(layout, lines, self.marks, &mut text)?;
-        text.push(FORM_FEED)?;
-        self.out.extend_from_slice(&text)?;
         self.page = self.page.saturating_add(1);
         self.letters = self.letters.saturating_add(letters.len());
         self.lines = self.lines.saturating_add(lines.len());
-        self.marks = marks;
-        self.leaves_method = !lines.is_empty();
-        Ok(())
+        if self.leaves_method {
+            out.extend_from_slice(END_RASTER)?;
+        }
+        self.leaves_method = false;
+        if letters.is_empty() {
+            return out.extend_from_slice(plain);
+        }
+        let mut text = Vec::new(*out.allocator());
+        self.marks = append_lettered(layout, letters, lines, self.marks, page, &mut text)?;
+        if text.len() >= plain.len() {
+            return out.extend_from_slice(plain);
+        }
+        self.leaves_method = true;
+        out.extend_from_slice(&text)
     }
 }
 
-impl PageSink for MacroWriter<'_> {
-    ghost takes = { λ old page new. Unit {0} };
-
-    fn page(&mut self, page: &Page) -> Result<(), AllocError> {
-        self.append_page(page)
-    }
+/// Appends a page: the raster of what macros don't print, and the macros. The marks of its lines begin at this place; says where they
+/// end.
+fn append_lettered(
+    layout: &MacroLayout,
+    letters: &[Letter],
+    lines: &[Line],
+    start: usize,
+    page: &Page,
+    out: &mut Vec<u8>,
+) -> Result<usize, AllocError> {
+    let alloc = *out.allocator();
+    append_raster(alloc, &layout.patterns, &layout.letters, letters, page, out)?;
+    let end = append_lines(layout, lines, start, out)?;
+    out.push(FORM_FEED)?;
+    Ok(end)
 }
 
 /// Appends the lines of a page, whose marks begin at this place, and says where they end.

@@ -8,73 +8,76 @@ use crate::letters::{Letter, Letters};
 use crate::patterns::Pattern;
 use crate::pen::{Pen, append_text};
 use indexmap::IndexSet;
-use pcl_bitmap::{Bitmap, Page, PageSink};
+use pcl_bitmap::{Bitmap, Page};
 use pcl_plan::plan;
 use pcl_writer::write_page;
 use std::alloc::{AllocError, Global};
-use std::marker::Model;
 
 /// The form feed that ends a page.
 pub const FORM_FEED: u8 = 12;
 
-/// Writes the pages that come.
+/// Writes pages with letters as characters, one after the other.
 #[derive(Drop)]
-pub struct Writer<'a> {
+pub struct CharacterWriter<'a> {
     layout: &'a Layout,
     /// How many pages came.
     page: usize,
-    /// How many letters are written.
-    written: usize,
+    /// How many letters these have.
+    letters: usize,
     pen: Pen,
-    pub out: Vec<u8>,
 }
 
-impl<'a> Model for Writer<'a> {
-    // Nothing is said of what was written.
-    ghost Value = { Unit {0} };
-
-    ghost view = { λ _. tt };
-}
-
-impl<'a> Writer<'a> {
-    /// Goes on after these bytes.
-    pub fn new(layout: &'a Layout, out: Vec<u8>) -> Writer<'a> {
-        Writer {
+impl<'a> CharacterWriter<'a> {
+    /// At the first page.
+    pub fn new(layout: &'a Layout) -> CharacterWriter<'a> {
+        CharacterWriter {
             layout,
             page: 0,
-            written: 0,
+            letters: 0,
             pen: Pen::new(),
-            out,
         }
     }
-}
 
-impl PageSink for Writer<'_> {
-    ghost takes = { λ old page new. Unit {0} };
+    /// Goes on after a reset: no font is selected.
+    pub fn restart(&mut self) {
+        self.pen = Pen::new();
+    }
 
-    fn page(&mut self, page: &Page) -> Result<(), AllocError> {
-        let alloc = *self.out.allocator();
-        let letters = self.layout.letters.of_page(self.page, self.written);
-        let mut text = Vec::new(alloc);
-        let pen = self.pen.on_page(page.size.width(page.dpi));
-        self.pen = append_page(alloc, self.layout, letters, page, pen, &mut text)?;
-        self.out.extend_from_slice(&text)?;
+    /// Appends the next page, of which this is a text without letters: that text, or one with letters where it takes fewer bytes.
+    pub fn append_page(
+        &mut self,
+        page: &Page,
+        plain: &[u8],
+        out: &mut Vec<u8>,
+    ) -> Result<(), AllocError> {
+        let layout = self.layout;
+        let letters = layout.letters.of_page(self.page, self.letters);
         self.page = self.page.saturating_add(1);
-        self.written = self.written.saturating_add(letters.len());
-        Ok(())
+        self.letters = self.letters.saturating_add(letters.len());
+        if letters.is_empty() {
+            return out.extend_from_slice(plain);
+        }
+        let mut text = Vec::new(*out.allocator());
+        let pen = append_lettered(layout, letters, page, self.pen, &mut text)?;
+        if text.len() >= plain.len() {
+            return out.extend_from_slice(plain);
+        }
+        self.pen = pen;
+        out.extend_from_slice(&text)
     }
 }
 
 /// Appends a page: the raster of what isn't printed as text, and the text.
-fn append_page(
-    alloc: Global,
+fn append_lettered(
     layout: &Layout,
     letters: &[Letter],
     page: &Page,
     pen: Pen,
     out: &mut Vec<u8>,
 ) -> Result<Pen, AllocError> {
+    let alloc = *out.allocator();
     append_raster(alloc, &layout.patterns, &layout.letters, letters, page, out)?;
+    let pen = pen.on_page(page.size.width(page.dpi));
     let pen = append_text(layout, letters, pen, out)?;
     out.push(FORM_FEED)?;
     Ok(pen)

@@ -13,7 +13,7 @@ use Rattle.pcl_base.specs.Size.{page_width, page_height, page_row_bytes}
 use Rattle.pcl_base.proofs.PageBounds.{height_small}
 use Rattle.pcl_escape.specs.Said.{Said}
 use Rattle.pcl_escape.specs.Pieces.{commands_of}
-use Rattle.pcl_env.specs.Settings.{Settings, defaults}
+use Rattle.pcl_env.specs.Settings.{Settings, defaults, nothing_asked}
 use Rattle.pcl_env.specs.Outcome.{outcome}
 use Rattle.pcl_bitmap.specs.Bitmap.{dot}
 use Rattle.pcl_bitmap.specs.declared.page.Page.{Page}
@@ -23,13 +23,14 @@ use Rattle.pcl_macros.specs.declared.table.MacroControl.TheVariants as macros
 use Rattle.pcl_macros.specs.History.{control as macro_control}
 use Rattle.pcl_page.specs.Marks.{Mark, is_black}
 use Rattle.pcl_page.specs.Situation.{Sheet, Situation, at_begin, at_end, after, page_refusal}
-use Rattle.pcl_page.specs.Performing.{Shows, Performance, done, unless, then_on, runs, after_all, end_refusal, ended, after_end, performance, pages_of}
-use Rattle.pcl_page.specs.Jobs.{HasPages, performance_of}
+use Rattle.pcl_page.specs.Performing.{Shows, Performance, done, unless, then_on, runs, after_all, end_refusal, ended, after_end, performance, pages_of, asks_among}
+use Rattle.pcl_page.specs.Asks.{Asks}
+use Rattle.pcl_page.specs.Jobs.{HasPages, HasAsks, performance_of}
 use Rattle.pcl_output.specs.Tokens.{Token, opening, method, skip, send, commands_in, command_count, token_bytes, start_bytes, end_bytes, frame_bytes}
 use Rattle.pcl_output.specs.PageText.{IsPageText, bitmap_rows}
 use Rattle.pcl_writer.specs.Appending.{IsWrittenPage}
 use Rattle.pcl_page.specs.Alike.{AreAlike, AllAlike}
-use Rattle.pcl_meaning.specs.JobTexts.{PrintEach, most_commands}
+use Rattle.pcl_meaning.specs.JobTexts.{PrintEach, most_commands, nothing_for}
 use Rattle.pcl_meaning.specs.PageTexts.{dot_of_rows, job_of, MeansRows}
 use Rattle.pcl_meaning.proofs.Deeds.{Deed}
 use Rattle.pcl_meaning.proofs.Readings.{ReadsAs, reads_joined, reads_none, said_many}
@@ -102,9 +103,10 @@ ended_there : (dpi : Dpi) (end : ℕ) {pages : List Sheet} {n : ℕ} → length 
     → after_end dpi end (closed pages n) ≡ done (at_end dpi (closed pages n))
 ended_there dpi end {pages} {n} few = ap (λ (why : Option Kind). ended dpi end why (closed pages n)) (end_refused dpi pages n few)
 
--- the job is accepted with these pages, and read as so many commands
+-- the job is accepted with these pages, asks for nothing, and is read as so many commands
 pub record IsAccepted (dpi : Dpi) (job : List ℕ) (pages : List Sheet) (count : ℕ) : Type 0 where
   pub meaning : HasPages dpi job pages
+  pub asks : HasAsks dpi job (nothing_for pages)
   pub counted : length meaning.commands ≡ count
 
 -- bytes that are read as deeds that eject these pages
@@ -132,6 +134,12 @@ job_accepted {dpi} {text} {deeds} t {pages} n read leads fits few =
         reading = record { pieces = r.pieces; each = r.each []; spelled = r.spelled; said = refl };
         accepted = ap (λ (p : Performance). p.refusal) accepted;
         ejected = sym (ap pages_of accepted);
+      };
+      asks = record {
+        commands = commands;
+        reading = record { pieces = r.pieces; each = r.each []; spelled = r.spelled; said = refl };
+        accepted = ap (λ (p : Performance). p.refusal) accepted;
+        asked = sym (ap asks_among accepted);
       };
       counted = omega (arith, said_many commands all (r.said 0), length-append deeds (reset ∷ []));
     }
@@ -294,11 +302,20 @@ few_commands : (dpi : Dpi) (sheets : List Sheet) → most_commands dpi sheets �
 few_commands dpi [] = omega arith
 few_commands dpi (sheet ∷ sheets) = omega (arith, few_commands dpi sheets, height_small sheet.size dpi)
 
--- the written job is accepted, its pages are alike, and it has few commands
+nothing_alike : (again meant : List Sheet) → length again ≡ length meant → nothing_for again ≡ nothing_for meant
+nothing_alike [] [] e = refl
+nothing_alike [] (sheet ∷ meant) e = absurd cc
+nothing_alike (sheet ∷ again) [] e = absurd cc
+nothing_alike (sheet ∷ again) (other ∷ meant) e =
+    let fewer : length again ≡ length meant = cc in
+    ap (λ (asks : Asks). record { pages = nothing_asked ∷ asks.pages; exits = [] }) (nothing_alike again meant fewer)
+
+-- the written job is accepted, its pages are alike, it asks for nothing, and it has few commands
 pub record IsAgain (dpi : Dpi) (pages : List Sheet) (job : List ℕ) : Type 0 where
   pub again : List Sheet
   pub meaning : HasPages dpi job again
   pub alike : AllAlike dpi pages again
+  pub asks : HasAsks dpi job (nothing_for pages)
   pub few : length meaning.commands ≤ most_commands dpi pages
 
 pub written_again : {dpi : Dpi} {job : List ℕ} (texts : List ℕ) {pages : List Sheet} → HasPages dpi job pages
@@ -309,4 +326,10 @@ written_again {dpi} texts {pages} h p =
     let t = texts_taken pages p (record { method = refl; height = refl; asked = refl }) (omega (arith, fits)) in
     let job = job_accepted t.settings t.count t.read t.leads (omega (arith, t.same_many, fits))
     (omega (arith, fits, t.few, few_commands dpi pages)) in
-    record { again = t.again; meaning = job.meaning; alike = t.alike; few = omega (arith, job.counted, t.few) }
+    record {
+      again = t.again;
+      meaning = job.meaning;
+      alike = t.alike;
+      asks = subst (HasAsks dpi (frame_bytes ++ texts ++ frame_bytes)) (nothing_alike t.again pages t.same_many) job.asks;
+      few = omega (arith, job.counted, t.few);
+    }

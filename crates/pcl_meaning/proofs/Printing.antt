@@ -39,6 +39,7 @@ use Rattle.pcl_rows.specs.Rows.{IsRowData}
 use Rattle.pcl_rows.proofs.Decoded.{decoded_is}
 use Rattle.pcl_output.specs.Tokens.{Token, opening, method, skip, send, PrintsRows}
 use Rattle.pcl_output.specs.PageText.{IsRowOf, IsPageText}
+use Rattle.pcl_meaning.specs.JobTexts.{nothing_for}
 use Rattle.pcl_meaning.specs.PageTexts.{dot_of_rows}
 use Rattle.pcl_meaning.proofs.Deeds.{Deed, deed}
 use Rattle.pcl_meaning.proofs.Readings.{number_value, whole_is}
@@ -63,10 +64,6 @@ reset_fonts = control Temporary 0 0 ∷ []
 abbrev pub reset_macros : List MacroEvent
 reset_macros = macro_control macros.Temporary 0 ∷ []
 
--- each page was asked with nothing
-abbrev pub asks_for : List Sheet → Asks
-asks_for pages = record { pages = map (λ (sheet : Sheet). nothing_asked) pages; exits = [] }
-
 -- an unmarked page with no raster, and no definition
 abbrev pub between : Settings → List Sheet → ℕ → Situation
 between t pages n = record {
@@ -77,7 +74,7 @@ between t pages n = record {
   begun = None;
   marks = [];
   pages = pages;
-  asks = asks_for pages;
+  asks = nothing_for pages;
   performed = n;
 }
 
@@ -194,7 +191,7 @@ in_body size dpi t m k seed marks pages n = record {
   begun = None;
   marks = marks;
   pages = pages;
-  asks = asks_for pages;
+  asks = nothing_for pages;
   performed = n;
 }
 
@@ -277,7 +274,7 @@ start_after {size} dpi {copies} {t} {pages} n b =
       begun = None;
       marks = [];
       pages = pages;
-      asks = asks_for pages;
+      asks = nothing_for pages;
       performed = n + 1;
     })) raster
     ∙ ap (λ (m : Method). Ok
@@ -289,7 +286,7 @@ start_after {size} dpi {copies} {t} {pages} n b =
       begun = None;
       marks = [];
       pages = pages;
-      asks = asks_for pages;
+      asks = nothing_for pages;
       performed = n + 1;
     })) b.method
 
@@ -520,9 +517,9 @@ end_after size dpi t m k seed n = refl
 
 -- one page more
 asks_more : {asked : Asked} (pages : List Sheet) (sheet : Sheet) → asked ≡ nothing_asked
-    → with_page asked (asks_for pages) ≡ asks_for (pages ++ sheet ∷ [])
+    → with_page asked (nothing_for pages) ≡ nothing_for (pages ++ sheet ∷ [])
 asks_more pages sheet e =
-    ap (λ (one : Asked). with_page one (asks_for pages)) e
+    ap (λ (one : Asked). with_page one (nothing_for pages)) e
     ∙ ap (λ (all : List Asked). record { pages = all; exits = [] }) (sym (map-append (λ (one : Sheet). nothing_asked) pages (sheet ∷ [])))
 
 feed_after : (dpi : Dpi) (u : Settings) (marks : List Mark) (pages : List Sheet) (n : ℕ) → u.asked ≡ nothing_asked

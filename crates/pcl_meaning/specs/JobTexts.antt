@@ -1,8 +1,10 @@
 -- Job texts that print pages, and the least of them.
-use Rattle.std.specs.Prelude.{◌≡◌, ℕ, ◌+◌, ◌*◌, ◌≤◌, List, [], ◌∷◌, ◌++◌, length}
+use Rattle.std.specs.Prelude.{◌≡◌, ℕ, ◌+◌, ◌*◌, ◌≤◌, List, [], ◌∷◌, ◌++◌, length, map}
 use Rattle.pcl_base.specs.declared.dpi.Dpi.{Dpi}
 use Rattle.pcl_base.specs.Size.{page_height}
 use Rattle.pcl_bitmap.specs.declared.page.Page.{Page}
+use Rattle.pcl_env.specs.Settings.{nothing_asked}
+use Rattle.pcl_page.specs.Asks.{Asks}
 use Rattle.pcl_page.specs.Situation.{Sheet}
 use Rattle.pcl_page.specs.Performing.{Shows}
 use Rattle.pcl_output.specs.Tokens.{frame_bytes}
@@ -44,3 +46,7 @@ pub record IsLeastJobText (dpi : Dpi) (pages : List Sheet) (job : List ℕ) : Ty
 abbrev pub most_commands : Dpi → List Sheet → ℕ
 most_commands dpi [] = 2
 most_commands dpi (sheet ∷ sheets) = 3 * page_height sheet.size dpi + 10 + most_commands dpi sheets
+
+-- what a job with these pages asks for that asks for nothing besides dots
+abbrev pub nothing_for : List Sheet → Asks
+nothing_for pages = record { pages = map (λ (sheet : Sheet). nothing_asked) pages; exits = [] }

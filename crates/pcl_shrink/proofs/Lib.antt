@@ -1,2 +1,5 @@
 mod Smaller
+mod Shorter
 mod Looked
+mod Asked
+mod Listed

@@ -1,5 +1,5 @@
 -- Smaller jobs with the same pages, which ask for the same.
-use Rattle.std.proofs.Common.{◌≡◌, ℕ, ◌<◌, ◌≤◌, List, [], ◌∷◌, length, refl, sym, subst, arith}
+use Rattle.std.proofs.Common.{◌≡◌, ℕ, ◌<◌, ◌≤◌, List, [], ◌∷◌, length, refl, sym, ◌∙◌, subst, arith}
 use Rattle.pcl_base.specs.declared.dpi.Dpi.{Dpi}
 use Rattle.pcl_page.specs.Asks.{Asks, asks_of}
 use Rattle.pcl_page.specs.Situation.{Sheet}
@@ -9,8 +9,10 @@ use Rattle.pcl_same.specs.declared.comparison.AskedComparison.TheVariants.{Same}
 use Rattle.pcl_same.specs.declared.keeping.KeptJob.{KeptJob}
 use Rattle.pcl_same.specs.Comparing.{IsAskedComparison}
 use Rattle.pcl_same.specs.Keeping.{IsKept}
+use Rattle.pcl_meaning.specs.JobTexts.{nothing_for}
 use Rattle.pcl_tool.specs.Minimizing.{IsJobOf}
 use Rattle.pcl_shrink.specs.Shrinking.{PrintsAlike, IsSmallerJob}
+use Rattle.pcl_shrink.specs.inner.Best.{IsBest}
 
 -- a job has one list of pages, and asks for one thing
 abbrev pub OnePages : Type 0
@@ -18,6 +20,10 @@ OnePages = (dpi : Dpi) (job : List ℕ) (pages others : List Sheet) → HasPages
 
 abbrev pub OneAsks : Type 0
 OneAsks = (dpi : Dpi) (job : List ℕ) (asks others : Asks) → HasAsks dpi job asks → HasAsks dpi job others → asks ≡ others
+
+-- a least raster job asks for nothing
+abbrev pub AskNothing : Type 0
+AskNothing = (dpi : Dpi) (job output : List ℕ) → (w : IsJobOf dpi job output) → HasAsks dpi output (nothing_for w.pages)
 
 -- pages are like themselves
 same_pages : (dpi : Dpi) (pages : List Sheet) → AllAlike dpi pages pages
@@ -27,7 +33,7 @@ same_pages dpi (sheet ∷ sheets) =
 
 -- a least raster job that was looked at
 pub raster_smaller : {dpi : Dpi} {job raster : List ℕ} → IsJobOf dpi job raster → IsAskedComparison dpi job raster Same
-    → length raster < length job → IsSmallerJob dpi job raster
+    → length raster < length job → IsBest dpi job raster
 raster_smaller {dpi} {job} {raster} w looked short = record {
   pages = w.pages;
   meaning = w.meaning;
@@ -41,8 +47,8 @@ raster_smaller {dpi} {job} {raster} w looked short = record {
   within_raster = λ same. omega arith;
 }
 
-input_smaller : {dpi : Dpi} {job raster : List ℕ} (asks : Asks) → HasAsks dpi job asks → IsJobOf dpi job raster
-    → (HasAsks dpi raster asks → length job ≤ length raster) → IsSmallerJob dpi job job
+input_smaller : {dpi : Dpi} {job raster : List ℕ} (asks : Asks) → HasAsks dpi job asks → (w : IsJobOf dpi job raster)
+    → (asks ≡ nothing_for w.pages → length job ≤ length raster) → IsBest dpi job job
 input_smaller {dpi} {raster} asks asked w short = record {
   pages = w.pages;
   meaning = w.meaning;
@@ -58,13 +64,13 @@ input_smaller {dpi} {raster} asks asked w short = record {
 
 -- the job itself, where the least raster job is no shorter
 pub input_no_longer : {dpi : Dpi} {job raster : List ℕ} {kept : KeptJob} → IsKept dpi job kept → IsJobOf dpi job raster
-    → length job ≤ length raster → IsSmallerJob dpi job job
+    → length job ≤ length raster → IsBest dpi job job
 input_no_longer {kept = kept} k w short = input_smaller (asks_of kept.asks) k.asked w (λ same. short)
 
--- and where that asks for something else
-pub input_unlike : {dpi : Dpi} {job raster : List ℕ} {kept : KeptJob} → IsKept dpi job kept → IsJobOf dpi job raster
-    → (IsAskedComparison dpi job raster Same → ⊥) → IsSmallerJob dpi job job
-input_unlike {kept = kept} k w unlike =
+-- and where that asks for something else: it asks for nothing
+pub input_unlike : AskNothing → {dpi : Dpi} {job raster : List ℕ} {kept : KeptJob} → IsKept dpi job kept → IsJobOf dpi job raster
+    → (IsAskedComparison dpi job raster Same → ⊥) → IsBest dpi job job
+input_unlike nothing {dpi} {job} {raster} {kept} k w unlike =
     input_smaller (asks_of kept.asks) k.asked w
     (λ same. absurd (unlike (record {
       pages = w.pages;
@@ -74,14 +80,14 @@ input_unlike {kept = kept} k w unlike =
       others = w.again;
       other_meaning = w.accepted;
       other_asks = asks_of kept.asks;
-      other_asked = same;
+      other_asked = subst (HasAsks dpi raster) (sym same) (nothing dpi job raster w);
       compare = w.alike;
       compare_asks = refl;
     })))
 
 -- a proposal that was looked at
-pub proposal_smaller : OnePages → OneAsks → {dpi : Dpi} {job best proposal : List ℕ} → IsSmallerJob dpi job best
-    → IsAskedComparison dpi job proposal Same → length proposal < length best → IsSmallerJob dpi job proposal
+pub proposal_smaller : OnePages → OneAsks → {dpi : Dpi} {job best proposal : List ℕ} → IsBest dpi job best
+    → IsAskedComparison dpi job proposal Same → length proposal < length best → IsBest dpi job proposal
 proposal_smaller one one_asks {dpi} {job} {best} {proposal} s looked short = record {
   pages = s.pages;
   meaning = s.meaning;
@@ -98,8 +104,7 @@ proposal_smaller one one_asks {dpi} {job} {best} {proposal} s looked short = rec
   raster = s.raster;
   raster_is = s.raster_is;
   within_raster = λ same.
-      let within =
-      s.within_raster (subst (HasAsks dpi s.raster) (one_asks dpi job looked.asks s.asks looked.asked s.asked) same) in
+      let within = s.within_raster (one_asks dpi job s.asks looked.asks s.asked looked.asked ∙ same) in
       omega (arith, within, short);
 }
 

@@ -1,2 +1,6 @@
 pub mod Shrinking
+pub mod Texts
+pub mod Asking
 pub mod Looking
+pub mod Outcome
+pub mod inner

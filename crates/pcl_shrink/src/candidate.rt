@@ -5,11 +5,11 @@
 pub enum Candidate {
     /// The bytes that came in.
     Input,
-    /// The least raster job (docs/OUTPUT.md).
+    /// The least page texts (docs/OUTPUT.md), with what the job asks for.
     Raster,
     /// Rasters of coarser resolutions, where a page has them.
     Coarse,
-    /// Letters as soft fonts (docs/GLYPHS.md).
+    /// Letters as soft fonts or as macros, where that takes fewer bytes (docs/GLYPHS.md).
     Glyphs,
 }
 

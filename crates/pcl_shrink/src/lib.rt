@@ -6,12 +6,14 @@
 
 mod asking;
 mod candidate;
-mod coarse;
 mod laws;
+mod letter_jobs;
 mod looking;
+mod raster_jobs;
 mod rasters;
 mod shrinking;
 mod squares;
+mod texts;
 
 pub use candidate::{Candidate, Shrunk};
 pub use laws::shrunk_jobs_have_the_same_pages;

@@ -1,5 +1,8 @@
 //! Pages written as rasters of some resolution.
 
+ghost use Rattle.std.specs.Prelude.{IfOk};
+ghost use Rattle.pcl_writer.specs.Appending.{IsWrittenPage};
+
 use crate::squares::coarse_page;
 use itoa::Buffer;
 use pcl_base::Dpi;
@@ -8,26 +11,48 @@ use pcl_plan::plan;
 use pcl_writer::write_page;
 use std::alloc::{AllocError, Global};
 
-/// The text of a page.
+/// The texts of a page as a raster.
 #[derive(Drop)]
 pub struct Text {
-    pub bytes: Vec<u8>,
-    /// Whether its raster has a coarser resolution than the page.
-    pub is_coarse: bool,
+    /// The least page text (docs/OUTPUT.md).
+    pub least: Vec<u8>,
+    /// The shortest with a raster of a coarser resolution, where the page has one that is shorter.
+    pub coarse: Option<Vec<u8>>,
 }
 
-/// The shortest of the least page text (docs/OUTPUT.md) and those with rasters of coarser resolutions that the page has.
-pub fn shortest_text(alloc: Global, page: &Page) -> Result<Text, AllocError> {
-    let mut shortest = Text {
-        bytes: least_text(alloc, page)?,
-        is_coarse: false,
-    };
+impl Text {
+    /// The shortest of them.
+    pub fn shortest(&self) -> &[u8] {
+        match &self.coarse {
+            Some(coarse) => coarse,
+            None => &self.least,
+        }
+    }
+}
+
+/// The texts of a page as a raster.
+pub fn page_text(alloc: Global, page: &Page) -> Result<Text, AllocError>
+    ensures { IfOk result (λ text. IsWrittenPage page.now text.least.items) }
+{
+    let least = least_text(alloc, page)?;
+    let coarse = shortest_coarse(alloc, page, least.len())?;
+    Ok(Text { least, coarse })
+}
+
+/// The shortest text with a raster of a coarser resolution that the page has: none where none is shorter than so many bytes.
+fn shortest_coarse(
+    alloc: Global,
+    page: &Page,
+    limit: usize,
+) -> Result<Option<Vec<u8>>, AllocError> {
+    let mut limit = limit;
+    let mut shortest = None;
     for side in sides(page.dpi) {
         if let Some(coarse) = coarse_page(alloc, page, *side)? {
-            let bytes = coarse_text(alloc, &coarse, *side)?;
-            if bytes.len() < shortest.bytes.len() {
-                let is_coarse = true;
-                shortest = Text { bytes, is_coarse };
+            let text = coarse_text(alloc, &coarse, *side)?;
+            if text.len() < limit {
+                limit = text.len();
+                shortest = Some(text);
             }
         }
     }
@@ -44,7 +69,9 @@ fn sides(dpi: Dpi) -> &'static [u32] {
 }
 
 /// The least page text of a page.
-fn least_text(alloc: Global, page: &Page) -> Result<Vec<u8>, AllocError> {
+fn least_text(alloc: Global, page: &Page) -> Result<Vec<u8>, AllocError>
+    ensures { IfOk result (λ text. IsWrittenPage page.now text.items) }
+{
     let least = plan(alloc, page)?;
     let mut text = Vec::new(alloc);
     write_page(page, &least, &mut text)?;

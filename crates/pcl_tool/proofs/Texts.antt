@@ -7,10 +7,10 @@ use Rattle.pcl_base.specs.declared.fault.JobFault.TheVariants.{Refused, Memory}
 use Rattle.pcl_bitmap.specs.declared.page.Page.{Page}
 use Rattle.pcl_page.specs.Situation.{Sheet}
 use Rattle.pcl_page.specs.Delivering.{Hands, IsRefusal}
-use Rattle.pcl_page.specs.Jobs.{HasPages}
+use Rattle.pcl_page.specs.Jobs.{HasPages, HasAsks}
 use Rattle.pcl_output.specs.Tokens.{frame_bytes}
 use Rattle.pcl_writer.specs.Appending.{AppendsPage, IsWrittenPage}
-use Rattle.pcl_meaning.specs.JobTexts.{PrintEach}
+use Rattle.pcl_meaning.specs.JobTexts.{PrintEach, nothing_for}
 use Rattle.pcl_meaning.proofs.Jobs.{IsAgain, written_again}
 use Rattle.pcl_tool.specs.JobFaults.{fault_of, RefusedOrMemory}
 use Rattle.pcl_tool.specs.Watching.{HasTaken}
@@ -27,6 +27,11 @@ texts_gathered dpi (sheet ∷ sheets) old h =
       (text, rest.0, (h.0, h.2, h.3.2), refl, rest.1),
       rest.2 ∙ ap (λ (t : List ℕ). t ++ rest.0) h.3.1 ∙ append_assoc old text rest.0,
     )
+
+-- a least raster job asks for nothing
+pub asks_nothing : {dpi : Dpi} {job output : List ℕ} (w : IsJobOf dpi job output) → HasAsks dpi output (nothing_for w.pages)
+asks_nothing {dpi} w =
+    subst (λ (bytes : List ℕ). HasAsks dpi bytes (nothing_for w.pages)) (sym w.spelled) (written_again w.texts w.meaning w.print).asks
 
 -- page texts of the job's pages between two resets
 unfoldable pub job_of_texts : (dpi : Dpi) (job start body output texts : List ℕ) (pages : List Sheet) → HasPages dpi job pages

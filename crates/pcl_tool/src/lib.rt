@@ -23,6 +23,7 @@ pub use image_checks::check_images;
 pub use job_verdict::{CheckAnswer, JobVerdict};
 pub use laws::{
     certified_jobs_are_proved, proved_jobs_are_least, the_headline, written_jobs_are_least,
+    written_jobs_ask_for_nothing,
 };
 pub use minimizing::{
     Output, filter, filter_cert, filter_cert_watched, filter_watched, least_job, minimize,

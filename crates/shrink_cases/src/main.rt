@@ -21,6 +21,83 @@ struct Case {
     job: &'static [u8],
 }
 
+/// Pages with a line of letters each.
+struct Lettered {
+    name: &'static str,
+    dpi: Dpi,
+    /// What stands before each page, and how many letters it has.
+    pages: &'static [(&'static [u8], usize)],
+}
+
+/// A page with a single dot.
+const DOT: &[u8] = b"\x1b&l0E\x1b*p0x0Y\x1b*c1a1b0P\x0c";
+
+/// A universal exit with a line.
+const EXIT: &[u8] = b"\x1b%-12345X@PJL SET DUPLEX=ON\n";
+
+const LETTERED: [Lettered; 12] = [
+    Lettered {
+        name: "two pages of letters",
+        dpi: Dpi::Dpi300,
+        pages: &[(b"", 90), (b"", 90)],
+    },
+    Lettered {
+        name: "a reset between them, and nothing asked",
+        dpi: Dpi::Dpi300,
+        pages: &[(b"", 90), (b"\x1bE", 90)],
+    },
+    Lettered {
+        name: "one side for the first, and a reset",
+        dpi: Dpi::Dpi300,
+        pages: &[(b"\x1b&l1S", 90), (b"\x1bE", 90)],
+    },
+    Lettered {
+        name: "one side for the first, and both for the second",
+        dpi: Dpi::Dpi300,
+        pages: &[(b"\x1b&l1S", 90), (b"\x1b&l2S", 90)],
+    },
+    Lettered {
+        name: "a universal exit between them",
+        dpi: Dpi::Dpi300,
+        pages: &[(b"", 90), (EXIT, 90)],
+    },
+    Lettered {
+        name: "a universal exit before two letters",
+        dpi: Dpi::Dpi300,
+        pages: &[(b"", 90), (EXIT, 2)],
+    },
+    Lettered {
+        name: "a dot between pages of letters",
+        dpi: Dpi::Dpi300,
+        pages: &[(b"", 90), (DOT, 90)],
+    },
+    Lettered {
+        name: "two pages of letters, at 600",
+        dpi: Dpi::Dpi600,
+        pages: &[(b"", 90), (b"", 90)],
+    },
+    Lettered {
+        name: "one side for the first, and a reset, at 600",
+        dpi: Dpi::Dpi600,
+        pages: &[(b"\x1b&l1S", 90), (b"\x1bE", 90)],
+    },
+    Lettered {
+        name: "a universal exit between them, at 600",
+        dpi: Dpi::Dpi600,
+        pages: &[(b"", 90), (EXIT, 90)],
+    },
+    Lettered {
+        name: "a universal exit before two letters, at 600",
+        dpi: Dpi::Dpi600,
+        pages: &[(b"", 90), (EXIT, 2)],
+    },
+    Lettered {
+        name: "a dot between pages of letters, at 600",
+        dpi: Dpi::Dpi600,
+        pages: &[(b"", 90), (DOT, 90)],
+    },
+];
+
 /// A raster at 600 dots per inch.
 const FINE: &[u8] = b"\x1b*t600R\x1b*r1A\x1b*b1W\x80";
 
@@ -77,7 +154,12 @@ fn main(rt: HostRuntime) -> io::Result<()> {
     for case in &CASES {
         print_shrunk(&rt, case.name, case.job, Dpi::Dpi300)?;
     }
-    let letters = letters(rt.alloc(), 90)?;
+    for case in &LETTERED {
+        let job = lettered(rt.alloc(), case)?;
+        print_shrunk(&rt, case.name, &job, case.dpi)?;
+    }
+    let mut letters = Vec::new(rt.alloc());
+    append_letters(90, &mut letters)?;
     print_shrunk(&rt, "a letter ninety times", &letters, Dpi::Dpi300)?;
     print_shrunk(&rt, "the same at 600 dots per inch", &letters, Dpi::Dpi600)?;
     let again = shrink(rt.alloc(), &letters, Dpi::Dpi300);
@@ -136,9 +218,19 @@ fn print_fault(rt: &impl Print, name: &str, fault: JobFault) -> io::Result<()> {
     }
 }
 
-/// A line of so many letters, each a raster of nine rows of its own.
-fn letters(alloc: Global, count: usize) -> Result<Vec<u8>, AllocError> {
+/// The job of a case.
+fn lettered(alloc: Global, case: &Lettered) -> Result<Vec<u8>, AllocError> {
     let mut job = Vec::new(alloc);
+    for (start, count) in case.pages {
+        job.extend_from_slice(start)?;
+        append_letters(*count, &mut job)?;
+        job.push(12)?;
+    }
+    Ok(job)
+}
+
+/// Appends a line of so many letters, each a raster of nine rows of its own.
+fn append_letters(count: usize, job: &mut Vec<u8>) -> Result<(), AllocError> {
     job.extend_from_slice(b"\x1b&l0E\x1b*t300R\x1b*p10x10Y")?;
     for _ in 0..count {
         job.extend_from_slice(b"\x1b*p+24X\x1b*p-9Y\x1b*r1A")?;
@@ -148,5 +240,5 @@ fn letters(alloc: Global, count: usize) -> Result<Vec<u8>, AllocError> {
         }
         job.extend_from_slice(b"\x1b*rB")?;
     }
-    Ok(job)
+    Ok(())
 }

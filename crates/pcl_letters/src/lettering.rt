@@ -1,0 +1,83 @@
+//! What of a job goes as letters, and how.
+
+use crate::collecting::Collection;
+use crate::definitions::append_definitions;
+use crate::fonts::append_fonts;
+use crate::forms::Form;
+use crate::layout::{Layout, lay_out};
+use crate::macro_layout::{MacroLayout, lay_out_macros};
+use crate::macro_writing::MacroWriter;
+use crate::writing::CharacterWriter;
+use pcl_bitmap::Page;
+use std::alloc::{AllocError, Global};
+
+/// The letters of a job: as characters of soft fonts, or as macros.
+#[derive(Drop)]
+pub enum Lettering {
+    Characters(Layout),
+    Macros(MacroLayout),
+}
+
+impl Lettering {
+    /// The letters of pages that were collected.
+    pub fn new(alloc: Global, collection: Collection) -> Result<Lettering, AllocError> {
+        match collection.form {
+            Form::Characters => Ok(Lettering::Characters(lay_out(alloc, collection)?)),
+            Form::Macros => Ok(Lettering::Macros(lay_out_macros(alloc, collection)?)),
+        }
+    }
+
+    /// Whether there is none: no shape takes fewer bytes as a letter.
+    pub fn is_empty(&self) -> bool {
+        match self {
+            Lettering::Characters(layout) => layout.letters.letters.is_empty(),
+            Lettering::Macros(layout) => layout.letters.letters.is_empty(),
+        }
+    }
+
+    /// Appends what is sent before pages with letters: the fonts or the macros. A reset deletes them.
+    pub fn append_start(&self, alloc: Global, out: &mut Vec<u8>) -> Result<(), AllocError> {
+        match self {
+            Lettering::Characters(layout) => append_fonts(layout, out),
+            Lettering::Macros(layout) => append_definitions(alloc, layout, out),
+        }
+    }
+}
+
+/// Writes the pages of a job with its letters, one after the other.
+#[derive(Drop)]
+pub enum PageWriter<'a> {
+    Characters(CharacterWriter<'a>),
+    Macros(MacroWriter<'a>),
+}
+
+impl<'a> PageWriter<'a> {
+    /// At the first page.
+    pub fn new(lettering: &'a Lettering) -> PageWriter<'a> {
+        match lettering {
+            Lettering::Characters(layout) => PageWriter::Characters(CharacterWriter::new(layout)),
+            Lettering::Macros(layout) => PageWriter::Macros(MacroWriter::new(layout)),
+        }
+    }
+
+    /// Goes on after a reset.
+    pub fn restart(&mut self) {
+        match self {
+            PageWriter::Characters(writer) => writer.restart(),
+            PageWriter::Macros(writer) => writer.restart(),
+        }
+    }
+
+    /// Appends the next page, of which this is a text without letters: that text, or one with letters where it takes fewer bytes.
+    pub fn append_page(
+        &mut self,
+        page: &Page,
+        plain: &[u8],
+        out: &mut Vec<u8>,
+    ) -> Result<(), AllocError> {
+        match self {
+            PageWriter::Characters(writer) => writer.append_page(page, plain, out),
+            PageWriter::Macros(writer) => writer.append_page(page, plain, out),
+        }
+    }
+}

@@ -1,0 +1,24 @@
+-- The texts of a job's pages, listed.
+use Rattle.std.proofs.Common.{◌≡◌, ℕ, List, [], ◌∷◌, ◌++◌, sym, ap, subst, ◌∙◌, append_assoc, append-nil}
+use Rattle.pcl_base.specs.declared.dpi.Dpi.{Dpi}
+use Rattle.pcl_page.specs.Situation.{Sheet}
+use Rattle.pcl_page.specs.Delivering.{Hands}
+use Rattle.pcl_shrink.specs.Texts.{AreLeastTexts, TakesText}
+
+pub texts_listed : (dpi : Dpi) (sheets : List Sheet) (old : List (List ℕ)) {new : List (List ℕ)} → Hands TakesText dpi sheets old new
+    → (texts : List (List ℕ)) × AreLeastTexts dpi sheets texts × (new ≡ old ++ texts)
+texts_listed dpi [] old h = ([], tt, h ∙ sym (append-nil old))
+texts_listed dpi (sheet ∷ sheets) old h =
+    let rest = texts_listed dpi sheets h.1 h.4 in
+    let text = h.3.0 in (
+      text ∷ rest.0,
+      ((h.0, h.2, h.3.2), rest.1),
+      rest.2 ∙ ap (λ (ts : List (List ℕ)). ts ++ rest.0) h.3.1 ∙ append_assoc old (text ∷ []) rest.0,
+    )
+
+-- a list that was empty before
+pub texts_from_none : (dpi : Dpi) (sheets : List Sheet) {old : List (List ℕ)} (new : List (List ℕ)) → Hands TakesText dpi sheets old new → old ≡ []
+    → AreLeastTexts dpi sheets new
+texts_from_none dpi sheets {old} new h e =
+    let t = texts_listed dpi sheets old h in
+    subst (AreLeastTexts dpi sheets) (sym (t.2 ∙ ap (λ (o : List (List ℕ)). o ++ t.0) e)) t.1

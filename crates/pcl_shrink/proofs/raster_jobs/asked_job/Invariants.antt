@@ -1,0 +1,9 @@
+use Rattle.std.proofs.Common.{◌≡◌, take}
+use Rattle.pcl_page.specs.Asks.{asks_of}
+use Rattle.pcl_shrink.specs.Asking.{asked_pages}
+use Rattle.pcl_shrink.specs.Texts.{least_of}
+use Rattle.pcl_shrink.proofs.raster_jobs.asked_job.Given as goal
+
+-- the pages so far are written
+abbrev pub invariant-loop-number : goal.invariant-loop-number
+invariant-loop-number l = l.out.items ≡ asked_pages (asks_of l.asks) 0 (least_of (take l.number l.texts))

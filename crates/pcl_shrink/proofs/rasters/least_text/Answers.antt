@@ -1,0 +1,8 @@
+use Rattle.std.proofs.Common.{◌∙◌, List, ℕ, ◌++◌, sym, ap, subst}
+use Rattle.pcl_writer.specs.Appending.{IsWrittenPage}
+use Rattle.pcl_shrink.proofs.rasters.least_text.Goals as goal
+
+pub returns : goal.returns
+returns c =
+    let w = c.in_ok-write_page.ensures.ok in
+    subst (IsWrittenPage c.args.page.now) (sym (w.1 ∙ ap (λ (old : List ℕ). old ++ w.0) c.new-text.ensures.items)) w.2

@@ -1,0 +1,36 @@
+-- The texts of pages as rasters.
+use Rattle.std.specs.Prelude.{◌≡◌, ℕ, List, [], ◌∷◌, ◌++◌, map, Result, Ok, Err}
+use Rattle.std.specs.Global.{Vec}
+use Rattle.pcl_base.specs.declared.dpi.Dpi.{Dpi}
+use Rattle.pcl_base.specs.declared.fault.JobFault.{JobFault}
+use Rattle.pcl_base.specs.declared.fault.JobFault.TheVariants.{Refused, Memory}
+use Rattle.pcl_bitmap.specs.declared.page.Page.{Page}
+use Rattle.pcl_page.specs.Situation.{Sheet}
+use Rattle.pcl_page.specs.Performing.{Shows}
+use Rattle.pcl_page.specs.Jobs.{HasPages}
+use Rattle.pcl_page.specs.Delivering.{IsRefusal}
+use Rattle.pcl_writer.specs.Appending.{IsWrittenPage}
+use Rattle.pcl_shrink.specs.declared.rasters.Text.{Text}
+
+-- a least page text for each page
+abbrev pub AreLeastTexts : Dpi → List Sheet → List (List ℕ) → Type 0
+AreLeastTexts dpi [] [] = Unit {0}
+AreLeastTexts dpi [] (text ∷ texts) = ⊥
+AreLeastTexts dpi (sheet ∷ sheets) [] = ⊥
+AreLeastTexts dpi (sheet ∷ sheets) (text ∷ texts) =
+    ((page : Page) × Shows dpi page sheet × IsWrittenPage page text) × AreLeastTexts dpi sheets texts
+
+-- ---- of the code
+
+abbrev pub least_of : List Text → List (List ℕ)
+least_of texts = map (λ (text : Text). text.least.items) texts
+
+-- a page more has its text
+abbrev pub TakesText : List (List ℕ) → Page → List (List ℕ) → Type 0
+TakesText old page new = (text : List ℕ) × (new ≡ old ++ text ∷ []) × IsWrittenPage page text
+
+-- the job is accepted, and these are its pages' texts
+abbrev pub HasTexts : Dpi → List ℕ → Result (Vec Text) JobFault → Type 0
+HasTexts dpi job (Ok texts) = (pages : List Sheet) × HasPages dpi job pages × AreLeastTexts dpi pages (least_of texts.items)
+HasTexts dpi job (Err (Refused refusal)) = IsRefusal dpi job refusal
+HasTexts dpi job (Err Memory) = Unit {0}

@@ -1,0 +1,47 @@
+//! The pages of a job as texts.
+
+ghost use Rattle.pcl_shrink.specs.Texts.{HasTexts};
+
+use crate::rasters::{Text, page_text};
+use pcl_base::{Dpi, JobFault};
+use pcl_page::{Page, PageSink, perform};
+use std::alloc::{AllocError, Global};
+use std::marker::Model;
+
+/// The texts of the pages of a job as rasters. A refusal is the job's.
+pub fn page_texts(alloc: Global, job: &[u8], dpi: Dpi) -> Result<Vec<Text>, JobFault>
+    ensures { HasTexts dpi job.now result }
+{
+    let mut writer = TextWriter {
+        texts: Vec::new(alloc),
+    };
+    perform(alloc, job, dpi, &mut writer)?;
+    Ok(writer.texts)
+}
+
+/// Writes the pages that come.
+#[derive(Drop)]
+struct TextWriter {
+    texts: Vec<Text>,
+}
+
+impl Model for TextWriter {
+    ghost use Rattle.std.specs.Prelude.{ℕ, List};
+    ghost use Rattle.pcl_shrink.specs.Texts.{least_of};
+
+    ghost Value = { List (List ℕ) };
+
+    ghost view = { λ a. least_of a.texts.items };
+}
+
+impl PageSink for TextWriter {
+    ghost use Rattle.pcl_shrink.specs.Texts.{TakesText};
+
+    ghost takes = { λ old page new. TakesText old page new };
+
+    fn page(&mut self, page: &Page) -> Result<(), AllocError> {
+        let text = page_text(*self.texts.allocator(), page)?;
+        self.texts.push(text)?;
+        Ok(())
+    }
+}
