@@ -227,7 +227,7 @@ const CASES: [Case; 38] = [
     },
     Case {
         name: "many letters, at 600",
-        lines: 24,
+        lines: 140,
         letters: 64,
         kinds: 256,
         first: 0,

@@ -8,6 +8,9 @@
 //! The line of ninety letters is the example of docs/GLYPHS.md with all letters 24 dots apart: 166 bytes beside its codes and
 //! moves, `ESC*p34x10Y` 9, and 90 codes. At 600 dots per inch it goes by macros: 9 bytes before them, 129 for the letter's, 23 for
 //! that of two letters and 31 for that of eight, 37 of the page text, `ESC*b3M` 5, `ESC*p68x20Y` 9, twelve runs 51, and 3 after.
+//!
+//! A second page of the line at 300 dots per inch takes 137 bytes: the page text 37, the move 9, 90 codes, the form feed. After a reset,
+//! 2, or the universal exit, 28, the font goes again, 124. A page with a dot takes 44 as a raster.
 #![tactic(auto)]
 
 use pcl_base::{Dpi, JobFault};
@@ -155,7 +158,7 @@ fn main(rt: HostRuntime) -> io::Result<()> {
         print_shrunk(&rt, case.name, case.job, Dpi::Dpi300)?;
     }
     for case in &LETTERED {
-        let job = lettered(rt.alloc(), case)?;
+        let job = lettered_job(rt.alloc(), case)?;
         print_shrunk(&rt, case.name, &job, case.dpi)?;
     }
     let mut letters = Vec::new(rt.alloc());
@@ -219,7 +222,7 @@ fn print_fault(rt: &impl Print, name: &str, fault: JobFault) -> io::Result<()> {
 }
 
 /// The job of a case.
-fn lettered(alloc: Global, case: &Lettered) -> Result<Vec<u8>, AllocError> {
+fn lettered_job(alloc: Global, case: &Lettered) -> Result<Vec<u8>, AllocError> {
     let mut job = Vec::new(alloc);
     for (start, count) in case.pages {
         job.extend_from_slice(start)?;
