@@ -1,4 +1,5 @@
 mod Smaller
+mod LeastJobs
 mod Shorter
 mod Looked
 mod Asked

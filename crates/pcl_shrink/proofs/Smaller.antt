@@ -1,5 +1,5 @@
 -- Smaller jobs with the same pages, which ask for the same.
-use Rattle.std.proofs.Common.{◌≡◌, ℕ, ◌<◌, ◌≤◌, List, [], ◌∷◌, length, refl, sym, ◌∙◌, subst, arith}
+use Rattle.std.proofs.Common.{◌≡◌, ℕ, ◌<◌, List, [], ◌∷◌, length, refl, sym, subst, arith}
 use Rattle.pcl_base.specs.declared.dpi.Dpi.{Dpi}
 use Rattle.pcl_page.specs.Asks.{Asks, asks_of}
 use Rattle.pcl_page.specs.Situation.{Sheet}
@@ -31,59 +31,33 @@ same_pages dpi [] = tt
 same_pages dpi (sheet ∷ sheets) =
     (record { size = refl; copies = refl; dots = λ x y across down. refl }, same_pages dpi sheets)
 
--- a least raster job that was looked at
-pub raster_smaller : {dpi : Dpi} {job raster : List ℕ} → IsJobOf dpi job raster → IsAskedComparison dpi job raster Same
-    → length raster < length job → IsBest dpi job raster
-raster_smaller {dpi} {job} {raster} w looked short = record {
-  pages = w.pages;
-  meaning = w.meaning;
-  prints = record { again = w.again; accepted = w.accepted; alike = w.alike };
-  asks = looked.asks;
-  asked = looked.asked;
-  asked_again = subst (HasAsks dpi raster) (sym looked.compare_asks) looked.other_asked;
-  within_input = omega (arith, short);
-  raster = raster;
-  raster_is = w;
-  within_raster = λ same. omega arith;
+-- the job itself
+pub input_best : {dpi : Dpi} {job : List ℕ} {kept : KeptJob} → IsKept dpi job kept → IsBest dpi job job
+input_best {dpi} {kept = kept} k = record {
+  pages = k.pages;
+  meaning = k.meaning;
+  prints = record { again = k.pages; accepted = k.meaning; alike = same_pages dpi k.pages };
+  asks = asks_of kept.asks;
+  asked = k.asked;
+  asked_again = k.asked;
+  within_input = omega arith;
 }
 
-input_smaller : {dpi : Dpi} {job raster : List ℕ} (asks : Asks) → HasAsks dpi job asks → (w : IsJobOf dpi job raster)
-    → (asks ≡ nothing_for w.pages → length job ≤ length raster) → IsBest dpi job job
-input_smaller {dpi} {raster} asks asked w short = record {
+-- a least raster job is the same as a job that asks for nothing
+pub same_as_raster : AskNothing → {dpi : Dpi} {job raster : List ℕ} (w : IsJobOf dpi job raster) (asks : Asks) → HasAsks dpi job asks
+    → asks ≡ nothing_for w.pages → IsAskedComparison dpi job raster Same
+same_as_raster ask_nothing {dpi} {job} {raster} w asks asked nothing = record {
   pages = w.pages;
   meaning = w.meaning;
-  prints = record { again = w.pages; accepted = w.meaning; alike = same_pages dpi w.pages };
   asks = asks;
   asked = asked;
-  asked_again = asked;
-  within_input = omega arith;
-  raster = raster;
-  raster_is = w;
-  within_raster = short;
+  others = w.again;
+  other_meaning = w.accepted;
+  other_asks = asks;
+  other_asked = subst (HasAsks dpi raster) (sym nothing) (ask_nothing dpi job raster w);
+  compare = w.alike;
+  compare_asks = refl;
 }
-
--- the job itself, where the least raster job is no shorter
-pub input_no_longer : {dpi : Dpi} {job raster : List ℕ} {kept : KeptJob} → IsKept dpi job kept → IsJobOf dpi job raster
-    → length job ≤ length raster → IsBest dpi job job
-input_no_longer {kept = kept} k w short = input_smaller (asks_of kept.asks) k.asked w (λ same. short)
-
--- and where that asks for something else: it asks for nothing
-pub input_unlike : AskNothing → {dpi : Dpi} {job raster : List ℕ} {kept : KeptJob} → IsKept dpi job kept → IsJobOf dpi job raster
-    → (IsAskedComparison dpi job raster Same → ⊥) → IsBest dpi job job
-input_unlike nothing {dpi} {job} {raster} {kept} k w unlike =
-    input_smaller (asks_of kept.asks) k.asked w
-    (λ same. absurd (unlike (record {
-      pages = w.pages;
-      meaning = w.meaning;
-      asks = asks_of kept.asks;
-      asked = k.asked;
-      others = w.again;
-      other_meaning = w.accepted;
-      other_asks = asks_of kept.asks;
-      other_asked = subst (HasAsks dpi raster) (sym same) (nothing dpi job raster w);
-      compare = w.alike;
-      compare_asks = refl;
-    })))
 
 -- a proposal that was looked at
 pub proposal_smaller : OnePages → OneAsks → {dpi : Dpi} {job best proposal : List ℕ} → IsBest dpi job best
@@ -101,11 +75,6 @@ proposal_smaller one one_asks {dpi} {job} {best} {proposal} s looked short = rec
   asked = looked.asked;
   asked_again = subst (HasAsks dpi proposal) (sym looked.compare_asks) looked.other_asked;
   within_input = let within = s.within_input in omega (arith, within, short);
-  raster = s.raster;
-  raster_is = s.raster_is;
-  within_raster = λ same.
-      let within = s.within_raster (one_asks dpi job s.asks looked.asks s.asked looked.asked ∙ same) in
-      omega (arith, within, short);
 }
 
 pub prints_pages : OnePages → (dpi : Dpi) (job output : List ℕ) (pages : List Sheet) → IsSmallerJob dpi job output → HasPages dpi job pages

@@ -3,7 +3,7 @@
 ghost use Rattle.std.specs.Prelude.{◌≡◌, ℕ, List, IfOk};
 ghost use Rattle.pcl_same.specs.Keeping.{IsKept};
 ghost use Rattle.pcl_shrink.specs.Shrinking.{IsShrunk};
-ghost use Rattle.pcl_shrink.specs.inner.Best.{IsBestFound, IsShorter};
+ghost use Rattle.pcl_shrink.specs.inner.Best.{IsShorter};
 
 use crate::letter_jobs::letter_job;
 use crate::looking::is_same;
@@ -13,7 +13,7 @@ use crate::{Candidate, Shrunk};
 use pcl_base::{Dpi, JobFault};
 use pcl_page::one_meaning;
 use pcl_same::{KeptJob, keep_job};
-use pcl_tool::{Fault, Unwatched, least_job, written_jobs_ask_for_nothing};
+use pcl_tool::written_jobs_ask_for_nothing;
 use std::alloc::{AllocError, Global};
 
 /// The smallest job that is found with the pages of a job, dot for dot, and which asks the printer for what that asks for. It is
@@ -22,41 +22,16 @@ pub fn shrink(alloc: Global, job: &[u8], dpi: Dpi) -> Result<Shrunk, JobFault>
     ensures { IsShrunk dpi job.now result }
 {
     let kept = keep_job(alloc, job, dpi)?;
-    let best = input_or_raster(alloc, job, &kept, dpi)?;
     let texts = page_texts(alloc, job, dpi)?;
     let asked = asked_job(alloc, kept.asks(), &texts)?;
+    let best = input(alloc, job)?;
     let best = shorter(alloc, &kept, dpi, best, Some(asked), Candidate::Raster)?;
     let coarse = coarse_job(alloc, kept.asks(), &texts)?;
     let best = shorter(alloc, &kept, dpi, best, coarse, Candidate::Coarse)?;
     let letters = letter_job(alloc, job, dpi, kept.asks(), &texts)?;
     one_meaning();
-    Ok(shorter(alloc, &kept, dpi, best, letters, Candidate::Glyphs)?)
-}
-
-/// A job that is kept, or its least raster job, which has the same pages, as is proved: the shorter where both ask for the same.
-fn input_or_raster(
-    alloc: Global,
-    job: &[u8],
-    kept: &KeptJob<'_>,
-    dpi: Dpi,
-) -> Result<Shrunk, JobFault>
-    requires { IsKept dpi job.now kept.now }
-    ensures { IsBestFound dpi job.now result }
-{
-    let raster = match least_job(alloc, job, dpi, Unwatched) {
-        Ok(raster) => raster,
-        Err(Fault::Refused(refusal)) => return Err(JobFault::Refused(refusal)),
-        Err(_) => return Err(JobFault::Memory),
-    };
-    if raster.len() >= job.len() {
-        return Ok(input(alloc, job)?);
-    }
     written_jobs_ask_for_nothing();
-    if !is_same(alloc, kept, &raster, dpi)? {
-        return Ok(input(alloc, job)?);
-    }
-    let by = Candidate::Raster;
-    Ok(Shrunk { job: raster, by })
+    Ok(shorter(alloc, &kept, dpi, best, letters, Candidate::Glyphs)?)
 }
 
 /// A job as it came.
