@@ -1,8 +1,8 @@
 //! Pages of letters, shrunk. It prints a line for each case; `stdout` has what has to come: which candidate wins, and the bytes
 //! that came in and that go out. Glyphs win where letters go as soft fonts or macros, and what is written has the same pages.
 //!
-//! A letter is a stroke of four dots in each of nine rows, which goes to the left or to the right from row to row as the bits of
-//! its number say. So there are 256 of them, each one shape, and no row is like the one above.
+//! A letter is a stroke of four dots in each of its rows, mostly nine, which goes to the left or to the right from row to row as the
+//! bits of its number say. So there are 256 of them, each one shape, and no row is like the one above; with thirteen rows 4,096.
 #![tactic(auto)]
 
 use itoa::Buffer;
@@ -26,6 +26,8 @@ struct Case {
     /// How many letters there are, in turn, and the number of the first.
     kinds: u32,
     first: u32,
+    /// How many rows a letter has.
+    rows: u32,
     /// The place of the first letter, in dots.
     x: u32,
     y: u32,
@@ -48,6 +50,7 @@ const LINE: Case = Case {
     letters: 40,
     kinds: 1,
     first: 0b0101_1010,
+    rows: 9,
     x: 100,
     y: 100,
     step: 24,
@@ -66,7 +69,7 @@ const FINE_LINE: Case = Case {
     ..LINE
 };
 
-const CASES: [Case; 38] = [
+const CASES: [Case; 39] = [
     LINE,
     Case {
         name: "one letter",
@@ -120,6 +123,18 @@ const CASES: [Case; 38] = [
         letters: 64,
         kinds: 256,
         first: 0,
+        ..LINE
+    },
+    Case {
+        name: "more letters than all fonts have codes",
+        pages: 4,
+        lines: 78,
+        letters: 64,
+        kinds: 4096,
+        first: 0,
+        rows: 13,
+        step: 36,
+        x: 40,
         ..LINE
     },
     Case {
@@ -360,7 +375,7 @@ fn append_line(case: &Case, line: u32, job: &mut Vec<u8>) -> Result<(), AllocErr
         if case.dotted {
             append_dot(x.saturating_add(shift), y.saturating_sub(8), job)?;
         }
-        append_letter(kind, x.saturating_add(shift), y, job)?;
+        append_letter(kind, case.rows, x.saturating_add(shift), y, job)?;
         number = number.saturating_add(1);
         x = x.saturating_add(case.step);
     }
@@ -373,12 +388,18 @@ fn shift_of(case: &Case, place: u32) -> u32 {
     case.shifts.get(turn).copied().unwrap_or(0)
 }
 
-/// Appends a letter whose raster starts at `(x, y)`.
-fn append_letter(kind: u32, x: u32, y: u32, job: &mut Vec<u8>) -> Result<(), AllocError> {
+/// Appends a letter of so many rows, whose raster starts at `(x, y)`.
+fn append_letter(
+    kind: u32,
+    rows: u32,
+    x: u32,
+    y: u32,
+    job: &mut Vec<u8>,
+) -> Result<(), AllocError> {
     append_start(x, y, job)?;
     let mut bits = kind;
     let mut place: u32 = 8;
-    for _ in 0..9 {
+    for _ in 0..rows {
         let [_, left, middle, right] = (0xF0_0000u32 >> place.min(20)).to_be_bytes();
         job.extend_from_slice(&[b'\x1b', b'*', b'b', b'3', b'W', left, middle, right])?;
         place = if bits % 2 == 1 {
