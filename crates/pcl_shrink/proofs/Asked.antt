@@ -83,7 +83,8 @@ writes_there number exits {i} d old mid {new} before lt here so_far written same
     )
 
 pub writes_elsewhere : (number : ℕ) (exits : List ExitOfCode) {i : ℕ} (d : ExitOfCode) (old mid : List ℕ) {new : List ℕ}
-    (before : Bool) {found : Bool} → i < length exits → (get_or exits i d).pages ≢ number → WritesExits number exits i old mid before → new ≡ mid → found ≡ before
+    (before : Bool) {found : Bool} → i < length exits → (get_or exits i d).pages ≢ number → WritesExits number exits i old mid before
+    → new ≡ mid → found ≡ before
     → WritesExits number exits (i + 1) old new found
 writes_elsewhere number exits {i} d old mid {new} before lt here so_far stays same =
     let front = map exit_of (take i exits) in

@@ -17,7 +17,8 @@ texts_listed dpi (sheet ∷ sheets) old h =
     )
 
 -- a list that was empty before
-pub texts_from_none : (dpi : Dpi) (sheets : List Sheet) {old : List (List ℕ)} (new : List (List ℕ)) → Hands TakesText dpi sheets old new → old ≡ []
+pub texts_from_none : (dpi : Dpi) (sheets : List Sheet) {old : List (List ℕ)} (new : List (List ℕ))
+    → Hands TakesText dpi sheets old new → old ≡ []
     → AreLeastTexts dpi sheets new
 texts_from_none dpi sheets {old} new h e =
     let t = texts_listed dpi sheets old h in
