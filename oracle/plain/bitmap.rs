@@ -1,7 +1,7 @@
 //! The dots of a page.
 
 use crate::fonts::Glyph;
-use crate::plan;
+use crate::plan::{self, Rows};
 use crate::settings::Size;
 use std::io::{self, Write};
 
@@ -17,8 +17,7 @@ pub struct Bitmap {
 impl Bitmap {
     /// A white page.
     pub fn new(size: Size, dpi: u32) -> Bitmap {
-        let (width, height) = size.dots();
-        let (width, height) = ((width * dpi / 300) as usize, (height * dpi / 300) as usize);
+        let (width, height) = size.dots_at(dpi);
         let row_bytes = width.div_ceil(8);
         Bitmap {
             size,
@@ -110,13 +109,13 @@ impl Bitmap {
 
     /// Appends the page as a raster of its rows, by a least body.
     pub fn rewrite(&self, dpi: u32, copies: u32, text: &mut Vec<u8>) {
-        let start = format!(
-            "\x1b&l{copies}x{}a0E\x1b*p0x0Y\x1b*t{dpi}R\x1b*r{}s0A",
-            self.size as u32, self.width
-        );
-        text.extend_from_slice(start.as_bytes());
-        plan::append_body(&self.dots, self.row_bytes, text);
+        text.extend_from_slice(start_of(self.size, copies as usize, dpi).as_bytes());
+        plan::append_body(&self.rows(), text);
         text.extend_from_slice(b"\x1b*rC\x0c");
+    }
+
+    pub fn rows(&self) -> Rows<'_> {
+        Rows::new(&self.dots, self.row_bytes)
     }
 
     pub fn write(&self, out: &mut impl Write) -> io::Result<()> {
@@ -124,6 +123,12 @@ impl Bitmap {
         out.write_all(&self.dots)?;
         out.flush()
     }
+}
+
+/// What stands before the body of a page text.
+pub fn start_of(size: Size, copies: usize, dpi: u32) -> String {
+    let (width, _) = size.dots_at(dpi);
+    format!("\x1b&l{copies}x{}a0E\x1b*p0x0Y\x1b*t{dpi}R\x1b*r{width}s0A", size as u32)
 }
 
 /// Each bit of the bytes, `scale` times.

@@ -30,6 +30,18 @@ pub fn least(method: u32, old: &[u8], row: &[u8]) -> usize {
     numbers[0] as usize
 }
 
+/// How many bytes the least data has from each place on, up to the first that needs none.
+pub fn numbers(method: u32, old: &[u8], row: &[u8]) -> Vec<u16> {
+    if old == row {
+        return Vec::new();
+    }
+    let end = needed_len(method, old, row);
+    let mut numbers = vec![0; row.len() + 1];
+    fill_before(method, old, row, end, &mut numbers);
+    numbers.truncate(end);
+    numbers
+}
+
 /// Appends the least data: of methods 1 and 2 by the longest elements, of method 3 by the latest starts.
 pub fn write(method: u32, old: &[u8], row: &[u8], out: &mut Vec<u8>) {
     let end = needed_len(method, old, row);

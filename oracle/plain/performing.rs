@@ -16,21 +16,23 @@ const QUARTER_DOT: u64 = 6;
 const GREATEST_ID: u32 = 32767;
 
 /// What becomes of the pages.
-pub enum Task {
+pub enum Task<'a> {
     /// The page of this number, from 1, is kept.
     Preview { wanted: usize, kept: Option<Bitmap> },
     /// Each is written again, behind these bytes.
     Rewrite(Vec<u8>),
+    /// Each is shown to this, with its copies.
+    Visit(&'a mut dyn FnMut(&Bitmap, u32)),
 }
 
 /// What came of a job: how many pages it has, and the task with them.
-pub struct Done {
+pub struct Done<'a> {
     pub pages: usize,
-    pub task: Task,
+    pub task: Task<'a>,
 }
 
 /// Performs a job as it is read. A fault of the reading comes before every refusal of the performing.
-pub fn perform(job: &[u8], task: Task, dpi: u32) -> Result<Done, Refusal> {
+pub fn perform<'a>(job: &'a [u8], task: Task<'a>, dpi: u32) -> Result<Done<'a>, Refusal> {
     let mut performer = Performer::new(task, dpi);
     let mut reader = Reader::new(job);
     loop {
@@ -54,7 +56,7 @@ pub fn perform(job: &[u8], task: Task, dpi: u32) -> Result<Done, Refusal> {
 
 struct Performer<'a> {
     dpi: u32,
-    task: Task,
+    task: Task<'a>,
     settings: Settings,
     cursor: Cursor,
     fonts: HashMap<u32, Font<'a>>,
@@ -67,7 +69,7 @@ struct Performer<'a> {
 }
 
 impl<'a> Performer<'a> {
-    fn new(task: Task, dpi: u32) -> Performer<'a> {
+    fn new(task: Task<'a>, dpi: u32) -> Performer<'a> {
         Performer {
             dpi,
             task,
@@ -96,7 +98,7 @@ impl<'a> Performer<'a> {
     }
 
     /// What is done at the end of the job.
-    fn end(mut self) -> Result<Done, Kind> {
+    fn end(mut self) -> Result<Done<'a>, Kind> {
         if self.macros.is_defining() {
             return Err(Kind::MacroOpen);
         }
@@ -452,6 +454,7 @@ impl<'a> Performer<'a> {
             }
             Task::Preview { .. } => {}
             Task::Rewrite(text) => self.bitmap.rewrite(self.dpi, self.settings.copies, text),
+            Task::Visit(see) => see(&self.bitmap, self.settings.copies),
         }
         self.bitmap.clear();
         Ok(())

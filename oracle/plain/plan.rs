@@ -4,9 +4,9 @@ use crate::linear;
 
 /// The numbers of the nodes behind the same rows, by method: outside a sequence, and inside one.
 #[derive(Clone, Copy)]
-struct Numbers {
-    outside: [u32; 4],
-    inside: [u32; 4],
+pub struct Numbers {
+    pub outside: [u32; 4],
+    pub inside: [u32; 4],
 }
 
 impl Numbers {
@@ -21,23 +21,29 @@ impl Numbers {
 }
 
 /// The rows of a page, with zeros above the topmost one.
-struct Rows<'a> {
-    dots: &'a [u8],
+pub struct Rows<'a> {
+    pub dots: &'a [u8],
     width: usize,
     zeros: Vec<u8>,
 }
 
-impl Rows<'_> {
-    fn count(&self) -> usize {
+impl<'a> Rows<'a> {
+    /// Rows of so many bytes.
+    pub fn new(dots: &'a [u8], width: usize) -> Rows<'a> {
+        let zeros = vec![0; width];
+        Rows { dots, width, zeros }
+    }
+
+    pub fn count(&self) -> usize {
         self.dots.len() / self.width
     }
 
-    fn row(&self, y: usize) -> &[u8] {
+    pub fn row(&self, y: usize) -> &[u8] {
         &self.dots[y * self.width..][..self.width]
     }
 
     /// The row before its data comes.
-    fn old(&self, method: usize, y: usize) -> &[u8] {
+    pub fn old(&self, method: usize, y: usize) -> &[u8] {
         if method == 3 && y > 0 {
             self.row(y - 1)
         } else {
@@ -45,7 +51,7 @@ impl Rows<'_> {
         }
     }
 
-    fn is_white(&self, y: usize) -> bool {
+    pub fn is_white(&self, y: usize) -> bool {
         self.row(y) == self.zeros
     }
 
@@ -54,7 +60,7 @@ impl Rows<'_> {
     }
 }
 
-fn digits(number: u32) -> u32 {
+pub fn digits(number: u32) -> u32 {
     match number {
         0 => 0,
         1..=9 => 1,
@@ -66,13 +72,8 @@ fn digits(number: u32) -> u32 {
 }
 
 /// Appends the body of a page.
-pub fn append_body(dots: &[u8], width: usize, text: &mut Vec<u8>) {
-    let rows = Rows {
-        dots,
-        width,
-        zeros: vec![0; width],
-    };
-    let table = table_of(&rows);
+pub fn append_body(rows: &Rows, text: &mut Vec<u8>) {
+    let table = table_of(rows);
     let (mut y, mut method, mut is_open) = (0, 0, false);
     while table[y].outside[method] > 0 {
         if !is_open {
@@ -109,7 +110,7 @@ fn append_number(number: u32, text: &mut Vec<u8>) {
 }
 
 /// The numbers of all nodes, from behind the last row upwards.
-fn table_of(rows: &Rows) -> Vec<Numbers> {
+pub fn table_of(rows: &Rows) -> Vec<Numbers> {
     let count = rows.count();
     let mut table = vec![Numbers::END; count + 1];
     let mut run = 0;

@@ -30,6 +30,16 @@ fn refused<T>(kind: Kind, place: usize, name: Name) -> Result<T, Refusal> {
     Err(Refusal { kind, place, name })
 }
 
+/// The names of a job's commands, each on a line.
+pub fn names(job: &[u8]) -> Result<String, Refusal> {
+    let mut reader = Reader::new(job);
+    let mut names = String::new();
+    while let Some(command) = reader.next_command()? {
+        names += &format!("{}\n", command.name);
+    }
+    Ok(names)
+}
+
 impl<'a> Reader<'a> {
     pub fn new(job: &'a [u8]) -> Reader<'a> {
         Reader {

@@ -15,10 +15,10 @@ pub enum Size {
 }
 
 impl Size {
+    pub const ALL: [Size; 4] = [Size::Executive, Size::Letter, Size::Legal, Size::A4];
+
     pub fn with_code(code: u32) -> Option<Size> {
-        [Size::Executive, Size::Letter, Size::Legal, Size::A4]
-            .into_iter()
-            .find(|&size| size as u32 == code)
+        Size::ALL.into_iter().find(|&size| size as u32 == code)
     }
 
     /// The width and the height in dots at 300 per inch.
@@ -29,6 +29,12 @@ impl Size {
             Size::Legal => (2400, 4200),
             Size::A4 => (2338, 3507),
         }
+    }
+
+    /// The width and the height in dots at a resolution.
+    pub fn dots_at(self, dpi: u32) -> (usize, usize) {
+        let (width, height) = self.dots();
+        ((width * dpi / 300) as usize, (height * dpi / 300) as usize)
     }
 
     pub fn units_wide(self) -> u64 {
