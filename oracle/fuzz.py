@@ -1,385 +1,165 @@
 #!/usr/bin/env python3
-"""Compares pclmin with the plain program (plain/), and with the second model (reference.py), on random and mutated jobs.
+"""Compares pclmin with the plain program (plain/), and with the second model (reference.py), on random and mutated jobs, and on triples.
 
-    python3 oracle/fuzz.py PCLMIN PLAIN COUNT SEED [--model] [--workers N] [--folder FOLDER]
+    python3 oracle/fuzz.py PCLMIN PLAIN COUNT SEED [--triples | --model] [--workers N] [--folder FOLDER]
+
+PCLMIN is the program, which is started for each question, or the library, as build/libpclmin.so (`lib/build.sh shared`), which is called
+in this script's own processes and answers far more of them.
 
 Each job is made of random commands of every part of docs/LANGUAGE.md, with values at and near their bounds, and every
-fourth one is then changed in some of its bytes, cut, or joined from two. At a resolution that is drawn too, both programs
+fourth one is then changed in some of its bytes, cut, or joined from two (random_jobs.py). At a resolution that is drawn too, both programs
 have to give the same status, the same bytes on standard output, and the same line on standard error: of a job that is
 refused once, of one that is accepted for a page of it, and of every fourth for the page behind its last one. Every
-twentieth accepted job is also written again by both; every two hundredth is written with a certificate of each format,
-and checked.
+twentieth, where it is accepted, is also written again by both, and its pages are counted; every two hundredth is written with a
+certificate of each format, both have to write the same one, and both have to prove it.
+
+With --triples COUNT triples of a job, an output and a certificate are made, eight of each job. The first is what pclmin writes: it has to
+be what the plain program writes, byte for byte, and be proved. In the others some of the three are changed (triples.py). Both programs
+have to give the same status and the same line of `check`, and an output that is proved has to be as long as the one that was written.
 
 With --model the status, the line of a refusal and the image of a page also have to be those of reference.py, and a job
 that was written again has to have the same pages by it. The model takes most of the time then.
 
-A job on which the two differ is kept in FOLDER (build/fuzz) as SEED-NUMBER.pcl, with a line on standard output, and the
-status is then 1. The number of workers is 1 if it isn't given; the jobs don't depend on it.
+A job on which the two differ is kept in FOLDER (build/fuzz) as SEED-NUMBER.pcl, and the output and the certificate of a triple beside it
+as .out and .cert, with a line on standard output, and the status is then 1. The number of workers is 1 if it isn't given; what is made
+doesn't depend on it. At the end it is told what was reached, beside what the tables of crates/job_cases/data reach.
 """
 
 import argparse
 import collections
-import fcntl
-import multiprocessing
+import concurrent.futures
+import glob
 import os
 import random
-import subprocess
+import re
 import sys
+import time
 
 sys.dont_write_bytecode = True
+import programs
 import reference
+from random_jobs import job_of, long_job, picture, right_job
+from triples import Triple, changed
 
-ESC = b"\x1b"
+TABLES = os.path.join(os.path.dirname(os.path.abspath(__file__)), "..", "crates", "job_cases", "data", "*.txt")
 REVERSED = bytes(int(format(byte, "08b")[::-1], 2) for byte in range(256))
 MOST_PAGES = 256
+# How seldom a job performs as many commands as it may, which takes each program some seconds.
+LONG_JOBS = 1 / 100_000
+TRIPLES_OF_A_JOB = 8
+# Jobs whose certificates are longer are seldom taken for triples.
+LONG_CERTIFICATE = 700_000
+# How many jobs a worker is given at once.
+CHUNK = 100
+# How many names of what is missing are printed.
+MOST_NAMED = 20
 
-# What stands behind ESC, by the part of the language; %s is a value.
-FORMS = {
-    "settings": [b"&l%sA", b"&l%sX", b"&l%sC", b"&l%sD", b"&l%sE", b"&l%sF", b"&l%sL", b"&u%sD", b"&k%sH", b"&k%sG", b"&a%sL", b"9"],
-    "moves": [b"*p%sX", b"*p%sY", b"&a%sH", b"&a%sV", b"&a%sC", b"&a%sR", b"=", b"&f%sS"],
-    "rasters": [b"*t%sR", b"*r%sT", b"*r%sS", b"*r%sA", b"*b%sM", b"*b%sY", b"*rB", b"*rC", b"*r%sF"],
-    "rectangles": [b"*c%sA", b"*c%sB", b"*c%sH", b"*c%sV", b"*c%sP", b"*c0P"],
-    "fonts": [b"*c%sD", b"*c%sE", b"*c%sF", b"(%sX", b")%sX"],
-    "macros": [b"&f%sY"] * 6 + [b"&f2X", b"&f3X"] * 2 + [b"&f%sX"] * 4 + [b"&f0X", b"&f1X"],
-    "ends": [b"E", b"%%-12345X", b"&l%sH", b"&a%sG"],
-    "others": [b"&l%sO", b"&l%sU", b"&l%sZ", b"&a%sP", b"*v%sN", b"*v%sT", b"%%%sA", b"&l%sS", b"&l%sG", b"&l%sM", b"&l%sP", b"&a%sM",
-               b"&s%sC", b"&d%s@", b"*v%sO", b"*c%sG", b"(s%sP", b")s%sH", b"(s%sV", b")s%sS", b"(s%sB", b")s%sT", b"(%sU", b")%s@"],
-    "unknown": [b"e", b"Y", b"z", b"&q%sQ", b"*q%sX", b"*b%sL", b"*r%sU", b"%%%sX", b"%%a%sX", b"&f%sZ", b"(s%sX", b"!a%sA", b"*%sE"],
-}
-# The parts whose commands are also put together into one sequence, and what such sequences begin with.
-COMBINED = ["settings", "moves", "rasters", "rectangles", "fonts", "macros"]
-PREFIXES = [b"*p", b"&a", b"&l", b"&f", b"*r", b"*b", b"*c"]
-
-# What a value mostly is. Where many stand for one, the others are refused.
-ONLY_ZERO = ["0"] * 20 + ["1"]
-VALUES = {
-    b"&l%sA": ["1", "2", "3", "26"] * 8 + ["5"], b"&l%sX": ["1", "2", "3", "99"] * 8 + ["100", "0"], b"&l%sL": ["0", "1"] * 8 + ["2"],
-    b"&l%sD": ["6", "8", "1", "48"] * 8 + ["5", "0"], b"&u%sD": ["300", "600", "96", "7200", "1200", "225"] * 6 + ["97", "0"],
-    b"&k%sG": ["0", "1", "2", "3"] * 8 + ["4"], b"&f%sS": ["0", "1"] * 10 + ["2"],
-    b"*t%sR": ["75", "100", "150", "300"] * 6 + ["200", "600"], b"*b%sM": ["0", "1", "2", "3"] * 12 + ["4", "9"],
-    b"*b%sY": ["0", "1", "2", "30"], b"*r%sA": ["0", "1"] * 20 + ["2", "3"], b"*r%sF": ["0", "3"] * 8 + ["1"],
-    b"*r%sT": ["0", "1", "5", "40"], b"*r%sS": ["0", "1", "4", "9", "2400", "40"],
-    b"*c%sP": ["0", "1"] * 20 + ["2", "5"], b"*c%sF": ["0", "1", "2", "3", "4", "5"] * 8 + ["6"],
-    b"*c%sD": ["0", "1", "2"] * 8 + ["32767", "32768"], b"*c%sE": ["32", "65", "66", "200"] * 8 + ["255", "256"],
-    b"(%sX": ["0", "1", "2"], b")%sX": ["0", "1", "2"], b"&f%sY": ["0", "1", "2", "3"] * 8 + ["32767", "32768"],
-    b"&f%sX": ["2", "3", "2", "3", "6", "7", "8", "9", "10"] * 6 + ["0", "1", "4", "11", "-0.5"],
-    b"&l%sO": ONLY_ZERO, b"&l%sU": ONLY_ZERO, b"&l%sZ": ONLY_ZERO, b"&a%sP": ONLY_ZERO, b"*v%sN": ONLY_ZERO, b"*v%sT": ONLY_ZERO,
-}
-LINES = [b"@PJL SET X=1\r\n", b"@PJL\n", b"@PJL COMMENT \x1bE\n", b"@PJL ENTER LANGUAGE = PCL\r\n", b"@PJL enter language=pcl\n",
-         b"@PJLENTER\tLANGUAGE=PCL"]
-WRONG_LINES = [b"@PJL ENTER LANGUAGE=PCLXL\n", b"@PJL ENTER LANGUAGE=\n", b"@pjl x\n", b" @PJL\n"]
-PARTS = (["settings"] * 3 + ["moves"] * 4 + ["rasters"] * 3 + ["rows"] * 4 + ["rectangles"] * 3 + ["fonts"] * 2
-         + ["header", "character"] * 2 + ["text"] * 2 + ["transparent"] + ["codes"] * 2 + ["body"] * 3 + ["macros"] * 3
-         + ["parameters"] * 2 + ["ends", "others", "others", "chain", "chain", "kept", "stack"] + ["show"] * 4)
-BODY_PARTS = ["settings", "moves", "rasters", "rectangles", "rows", "codes", "fonts", "macros", "runs", "runs", "text", "transparent",
-              "parameters", "character", "others", "show", "show"]
-# What shows where the cursor and the settings are.
-SHOWS = [ESC + b"*cP", ESC + b"*c3a2b0P", ESC + b"*r1A" + ESC + b"*b2W\xff\x81", ESC + b"*b1W\x80", b"\n" + ESC + b"*c2a2b0P",
-         b"\t" + ESC + b"*c1a1b0P", ESC + b"*c1P"]
+KINDS = ["Truncated", "BadSequence", "ValueRange", "UnsupportedCommand", "UnsupportedValue", "FontHeader", "CharacterData", "NoFont",
+         "MacroOpen", "MacroControl", "MacroDepth", "TooManyCommands", "TooManyPages", "NotPcl"]
+NAMES = sorted([name.decode() for name in reference.NAMES] + ["text", "HT", "LF", "FF", "CR", "SO", "SI"]
+               + [side + chr(letter) for side in "()" for letter in range(64, 95) if chr(letter) != "X"])
+VERDICTS = (["proved", "proved with another output", "proved with another certificate", "refused", "page count", "frame"]
+            + ["NotGrammar", "OtherPage", "Rows", "Length"]
+            + ["certificate " + fault for fault in ("BadMagic", "Short", "Rows", "Places", "Extra")]
+            + ["Place method %d" % method for method in range(4)]
+            + ["Edge method %d %s" % (method, side) for method in range(4) for side in ("closed", "open")])
+PROVED = (0, b"proved\n", b"")
 
 
-def number(draw):
-    """A value, small or at a bound, with any sign and decimals."""
-    size = draw.choice([1, 3, 10, 100, 720, 2400, 3300, 7200, 32767, 65535])
-    text = str(draw.randint(0, size)) if draw.random() < 0.9 else draw.choice(["0", "", "32767", "007", "1", "2"])
-    if draw.random() < 0.005:
-        text = draw.choice(["32768", "65535", "65536"])
-    if draw.random() < 0.1:
-        text += "." + draw.choice(["5", "25", "0416", "99999", ""])
-    return draw.choice(["", "", "", "+", "-"]) + text
+class Reached:
+    """What became of jobs or triples, and what stands in them."""
 
+    def __init__(self):
+        self.outcomes, self.names, self.pairs, self.refusals, self.verdicts = (collections.Counter() for _ in range(5))
 
-def value(draw, form):
-    return (draw.choice(VALUES[form]) if form in VALUES and draw.random() < 0.97 else number(draw)).encode()
+    def add(self, other):
+        for mine, others in zip(vars(self).values(), vars(other).values()):
+            mine.update(others)
 
-
-def data(draw, most):
-    """Bytes as row data have them: runs, counts and bits."""
-    count = draw.randint(0, most)
-    if draw.random() < 0.5:
-        return draw.randbytes(count)
-    return bytes(draw.choices([0, 1, 2, 31, 32, 127, 128, 129, 254, 255, 0x80, 0x81], k=count))
-
-
-def header(draw):
-    size = draw.choice([64] * 20 + [65, 63])
-    head = bytearray(size)
-    head[:2] = draw.choice([64] * 30 + [size, 63, 70]).to_bytes(2, "big")
-    head[3], head[13] = draw.choice([0, 1, 2] * 10 + [3]), draw.choice([0, 1] * 15 + [2])
-    head[16:18] = draw.choice([0, 8, 50, 120, 400, 65535]).to_bytes(2, "big")
-    return bytes(head)
-
-
-def character(draw):
-    width, height = draw.randint(0, 19), draw.randint(0, 9)
-    fields = [draw.randint(-20, 20), draw.randint(-20, 20), width, height, draw.choice([-9, 0, 12, 80, 400])]
-    bits = draw.randbytes((width + 7) // 8 * height)
-    head = bytes([4, 0, 14, 1, 0, draw.choice([0, 0, 7])]) + b"".join(field.to_bytes(2, "big", signed=True) for field in fields)
-    if draw.random() < 0.01:
-        head = head[:draw.randint(0, 16)]
-    return head + bits[:len(bits) - (draw.random() < 0.01)]
-
-
-def with_data(prefix, letter, content):
-    return ESC + prefix + str(len(content)).encode() + letter + content
-
-
-def spelled(draw, form):
-    """A command of a form."""
-    command = ESC + (form % value(draw, form) if b"%s" in form else form.replace(b"%%", b"%"))
-    if form != b"%%-12345X" or draw.random() < 0.5:
-        return command
-    lines = [draw.choice(LINES if draw.random() < 0.98 else WRONG_LINES) for _ in range(draw.randint(0, 3))]
-    return command + b"".join(lines)
-
-
-def parameters(draw):
-    """Some parameters of one sequence."""
-    prefix = draw.choice(PREFIXES)
-    forms = [form for part in COMBINED for form in FORMS[part] if form[:2] == prefix]
-    chosen = [draw.choice(forms) for _ in range(draw.randint(2, 4))]
-    said = [form[2:] % value(draw, form) if b"%s" in form else form[2:] for form in chosen]
-    return ESC + prefix + b"".join(said[:-1]).lower() + said[-1]
-
-
-def codes(draw, has_font):
-    """The codes of a run of text, and of control codes in it."""
-    common = [32, 65, 66, 200, 33, 9, 10, 13] if has_font else [32, 1, 9, 10, 13]
-    if draw.random() < 0.02:
-        common = common + [65]
-    return bytes(draw.choices(common, k=draw.randint(1, 8)))
-
-
-def body(draw, has_font):
-    """The definition of a macro, mostly without what definitions refuse."""
-    parts = b"".join(part_of(draw, draw.choice(BODY_PARTS), has_font) for _ in range(draw.randint(0, 5)))
-    if draw.random() < 0.95:
-        parts = parts.replace(b"&f0X", b"&f2X").replace(b"&f1X", b"&f3X")
-    begin = draw.choice([b"&f%dy0X", b"&f%dY\x1b&fX", b"&f%dy0x2X"])
-    return ESC + begin % draw.randint(0, 3) + parts + ESC + draw.choice([b"&f1X"] * 20 + [b"&f1x2X", b"&f1x3X", b"E"])
-
-
-def parts_of(draw, most, has_font):
-    """What stands in a macro and is seldom refused."""
-    kinds = ["moves", "moves", "rasters", "rows", "show", "show", "rectangles", "settings"]
-    return b"".join(part_of(draw, draw.choice(kinds), has_font) for _ in range(draw.randint(0, most)))
-
-
-def macro_of(number, content):
-    return ESC + b"&f%dy0X" % number + content + ESC + b"&f1X"
-
-
-def chain(draw, has_font):
-    """Macros each of which runs the next one, and the first is run."""
-    macros = []
-    last = draw.choice([1, 2, 2, 2, 2, 3])
-    for number in range(last + 1):
-        runs = ESC + b"&f%dy%dX" % (number + 1, draw.randint(2, 3)) if number < last else b""
-        macros.append(macro_of(number, parts_of(draw, 2, has_font) + runs + parts_of(draw, 2, has_font)))
-    draw.shuffle(macros)
-    return b"".join(macros) + parts_of(draw, 2, has_font) + ESC + b"&f0y%dX" % draw.randint(2, 3) + draw.choice(SHOWS)
-
-
-def kept(draw, has_font):
-    """Macros that are temporary or permanent, deleted or not, and then run."""
-    definitions = b"".join(macro_of(number, parts_of(draw, 1, has_font) + draw.choice(SHOWS)) + draw.choice([b"", ESC + b"&f10X"])
-                           for number in range(2))
-    ends = [ESC + b"E", ESC + b"%-12345X", ESC + b"&f7X", ESC + b"&f8X", ESC + b"&f6X", ESC + b"&f9X" + ESC + b"E"]
-    return definitions + draw.choice(ends) + b"".join(ESC + b"&f%dy%dX" % (number, draw.randint(2, 3)) for number in range(2))
-
-
-def stack(draw):
-    """Positions that are pushed and popped."""
-    pushes = b"".join(ESC + b"*p+%dx+%dY" % (draw.randint(0, 90), draw.randint(0, 90)) + ESC + b"&f0S"
-                      for _ in range(draw.choice([1, 3, 19, 20, 21])))
-    size = ESC + b"&l%dA" % draw.choice([1, 2, 3, 26]) if draw.random() < 0.5 else b""
-    return pushes + size + (ESC + b"&f1S" + draw.choice(SHOWS)) * draw.choice([1, 3, 20, 22])
-
-
-def part_of(draw, part, has_font):
-    """One command, or some that belong together."""
-    if part == "rows":
-        rows = [data(draw, draw.choice([2, 5, 40, 300])) for _ in range(draw.randint(1, 4))]
-        return b"".join(with_data(b"*b", b"W", row) for row in rows)
-    if part == "text":
-        return codes(draw, has_font)
-    if part == "transparent":
-        return with_data(b"&p", b"X", codes(draw, has_font))
-    if part == "codes":
-        return bytes([draw.choice([7, 0, 9, 10, 11, 12, 13, 14, 15, 26] * 12 + [8])])
-    if part == "header":
-        return with_data(b")s", b"W", header(draw))
-    if part == "character":
-        return with_data(b"(s", b"W", character(draw))
-    if part == "body":
-        return body(draw, has_font)
-    if part == "show":
-        return draw.choice(SHOWS)
-    if part == "chain":
-        return chain(draw, has_font)
-    if part == "kept":
-        return kept(draw, has_font)
-    if part == "stack":
-        return stack(draw)
-    if part == "runs":
-        return ESC + b"&f%dy%dX" % (draw.randint(0, 3), draw.randint(2, 3))
-    if part == "parameters":
-        return parameters(draw)
-    return spelled(draw, draw.choice(FORMS[part]))
-
-
-FONT = (ESC + b"*c0D" + with_data(b")s", b"W", bytes([0, 64, 0, 2]) + bytes(13) + b"\x30" + bytes(46))
-        + ESC + b"*c65E" + with_data(b"(s", b"W", bytes([4, 0, 14, 1, 0, 0, 0, 1, 0, 2, 0, 9, 0, 3, 0, 40]) + bytes([0x81, 0x80] * 3))
-        + ESC + b"(0X")
-
-
-def right_job(draw):
-    """A job that is mostly accepted."""
-    begin = draw.choice([b"", ESC + b"E", ESC + b"&l0E", ESC + b"&l0E" + ESC + b"*p0x0Y" + ESC + b"*t300R"])
-    has_font = draw.random() < 0.5
-    parts = [part_of(draw, draw.choice(PARTS), has_font) for _ in range(draw.randint(1, draw.choice([4, 12, 30])))]
-    if draw.random() < 0.03:
-        parts.insert(draw.randint(0, len(parts)), spelled(draw, draw.choice(FORMS["unknown"])))
-    if draw.random() < 0.004:
-        parts.insert(draw.randint(0, len(parts)), b"\f" * draw.choice([254, 255, 256, 257]))
-    if draw.random() < 0.6:
-        parts.append(draw.choice(SHOWS))
-    return begin + (FONT if has_font else b"") + b"".join(parts)
-
-
-def mutated(draw, job):
-    job = bytearray(job)
-    for _ in range(draw.randint(1, 4)):
-        way = draw.randint(0, 3)
-        at = draw.randint(0, len(job))
-        if way == 0 and at < len(job):
-            job[at] = draw.choice([draw.randint(0, 255), 27, 48 + draw.randint(0, 9), 65 + draw.randint(0, 25)])
-        elif way == 1:
-            del job[at:at + draw.randint(1, 5)]
-        elif way == 2:
-            job[at:at] = bytes([draw.randint(0, 255)])
+    def add_job(self, plain, job, answer):
+        """Adds what became of a job: the kind of its refusal and the command, or the commands of one that is accepted."""
+        line = answer[2].decode().split()
+        if line[1:2] == ["refused:"]:
+            self.outcomes[line[2]] += 1
+            self.refusals[line[2], line[5]] += 1
         else:
-            del job[at:]
-    return bytes(job)
-
-
-def job_of(draw):
-    job = right_job(draw)
-    if draw.random() < 0.25:
-        job = mutated(draw, job if draw.random() < 0.7 else job + right_job(draw))
-    return job
-
-
-class Program:
-    """A program that is started for each job, with its streams in files of memory."""
-
-    def __init__(self, path):
-        self.path = os.path.abspath(path)
-        self.files = [os.memfd_create(name) for name in ("input", "output", "errors")]
-
-    def run(self, words, job):
-        """The status, and what it wrote to standard output and to standard error."""
-        source = self.files[0]
-        os.ftruncate(source, 0)
-        os.pwrite(source, job, 0)
-        for file in self.files:
-            os.lseek(file, 0, os.SEEK_SET)
-        streams = [(os.POSIX_SPAWN_DUP2, file, stream) for stream, file in enumerate(self.files)]
-        child = os.posix_spawn(self.path, [self.path] + words, os.environ, file_actions=streams)
-        status = os.waitstatus_to_exitcode(os.waitpid(child, 0)[1])
-        return (status, *(os.pread(file, os.lseek(file, 0, os.SEEK_CUR), 0) for file in self.files[1:]))
-
-
-class Plain:
-    """The plain program, which answers all jobs in one run."""
-
-    def __init__(self, path):
-        self.child = subprocess.Popen([path, "jobs"], stdin=subprocess.PIPE, stdout=subprocess.PIPE)
-        fcntl.fcntl(self.child.stdout, fcntl.F_SETPIPE_SZ, 1 << 20)
-
-    def run(self, words, job):
-        """As of a program that is started for the job, and how many pages the job has."""
-        self.child.stdin.write(b"%s %d\n" % (" ".join(words).encode(), len(job)) + job)
-        self.child.stdin.flush()
-        status, pages, written, said = map(int, self.child.stdout.readline().split())
-        return (status, self.child.stdout.read(written), self.child.stdout.read(said)), pages
-
-
-def image(page, dpi):
-    """The PBM image of a page of the model."""
-    _, width, height = reference.SIZES[page.size]
-    width, height = width * dpi // 300, height * dpi // 300
-    in_row = (width + 7) // 8
-    white = bytes(in_row)
-    rows = [page.rows[y].to_bytes(in_row, "little").translate(REVERSED) if y in page.rows else white for y in range(height)]
-    return b"P4\n%d %d\n" % (width, height) + b"".join(rows)
-
-
-def modelled(job, dpi):
-    """The pages of a job by the model, or the line of its refusal."""
-    try:
-        return reference.pages_of(job, dpi), None
-    except reference.Refused as refused:
-        return None, b"pclmin: refused: %s\n" % str(refused).encode()
+            names = plain.names(job)
+            self.outcomes["accepted"] += 1
+            self.names.update(set(names))
+            self.pairs.update(set(zip(names, names[1:])))
 
 
 class Comparison:
     """The programs that are compared, and where the jobs come from."""
 
     def __init__(self, asked):
-        self.pclmin, self.plain = Program(asked.pclmin), Plain(asked.plain)
-        self.seed, self.folder, self.has_model = asked.seed, asked.folder, asked.model
+        self.pclmin, self.plain = programs.product(asked.pclmin, asked.folder), programs.Plain(asked.plain)
+        self.seed, self.folder, self.count, self.has_model = asked.seed, asked.folder, asked.count, asked.model
+        self.compare = self.compare_triples if asked.triples else self.compare_job
+        self.reached = Reached()
+        self.place = os.open(place_path(asked, os.getpid()), os.O_WRONLY | os.O_CREAT, 0o666)
 
-    def compare(self, number):
-        """What became of a job: a kind of refusal or `accepted`, and what differs, if anything does."""
+    def compared(self, numbers):
+        """What differs in the jobs of some numbers, and what they reached."""
+        self.reached, faults = Reached(), []
+        for number in numbers:
+            os.pwrite(self.place, b"%-20d" % number, 0)
+            faults += self.compare(number)
+        return faults, self.reached
+
+    def keep(self, number, *contents):
+        for content, kind in zip(contents, ("pcl", "out", "cert")):
+            with open(os.path.join(self.folder, "%d-%d.%s" % (self.seed, number, kind)), "wb") as out:
+                out.write(content)
+
+    # Jobs
+
+    def compare_job(self, number):
         draw = random.Random("%d %d" % (self.seed, number))
-        job, dpi = job_of(draw), draw.choice([300] * 5 + [600])
+        job = long_job(draw) if draw.random() < LONG_JOBS and not self.has_model else job_of(draw)
+        dpi = draw.choice([300] * 5 + [600])
         at = ["--dpi", str(dpi)]
-        first, pages = self.plain.run(["pbm", "--page", "1"] + at, job)
-        is_refused = first[2].startswith(b"pclmin: refused: ")
-        kind = first[2].split()[2].decode() if is_refused else "accepted"
-        if is_refused:
+        first, pages = self.plain.asked(["pbm", "--page", "1"] + at, job)
+        self.reached.add_job(self.plain, job, first)
+        if first[2].startswith(b"pclmin: refused: "):
             words = draw.choice([["min"], ["pbm", "--page", "1"]]) + at
             came = self.pclmin.run(words, job)
             fault = None if came == first else "%s: pclmin %s, plain %s" % (words[0], told(came), told(first))
         else:
-            fault = self.page_fault(job, at, pages, draw) or self.written_fault(number, job, at)
+            fault = self.page_fault(job, at, first, pages, draw) or self.written_fault(number, job, dpi, pages)
         if self.has_model:
             fault = fault or self.model_fault(number, job, dpi, pages, first, draw)
-        if fault:
-            with open(os.path.join(self.folder, "%d-%d.pcl" % (self.seed, number)), "wb") as out:
-                out.write(job)
-            fault = "job %d at %d: %s" % (number, dpi, fault)
-        return kind, fault
+        if not fault:
+            return []
+        self.keep(number, job)
+        return ["job %d at %d: %s" % (number, dpi, fault)]
 
-    def page_fault(self, job, at, pages, draw):
+    def page_fault(self, job, at, first, pages, draw):
+        """What differs in a page; of the first one the plain program's answer is there."""
         asked = {draw.randint(1, pages) if pages else 1}
         if draw.random() < 0.25:
             asked.add(min(pages + 1, MOST_PAGES))
         for page in asked:
             words = ["pbm", "--page", str(page)] + at
-            came, wanted = self.pclmin.run(words, job), self.plain.run(words, job)[0]
+            came, wanted = self.pclmin.run(words, job), first if page == 1 else self.plain.run(words, job)
             if came != wanted:
                 return "page %d: pclmin %s, plain %s" % (page, told(came), told(wanted))
         return None
 
-    def written_fault(self, number, job, at):
+    def written_fault(self, number, job, dpi, pages):
         if number % 20 == 0:
-            came, wanted = self.pclmin.run(["min"] + at, job), self.plain.run(["min"] + at, job)[0]
+            words = ["min", "--dpi", str(dpi)]
+            came, wanted = self.pclmin.run(words, job), self.plain.run(words, job)
             if came != wanted:
                 return "min: pclmin %s, plain %s" % (told(came), told(wanted))
+            if self.pclmin.pages(job, dpi) != pages:
+                return "pclmin has %d pages, plain %d" % (self.pclmin.pages(job, dpi), pages)
         if number % 200 == 0:
             for form in ("1", "2"):
-                names = [os.path.join(self.folder, "%d-%s" % (os.getpid(), name)) for name in ("in", "out", "cert")]
-                written = self.pclmin.run(["min", "--cert", names[2], "--format", form] + at, job)[1]
-                for name, content in zip(names, (job, written)):
-                    with open(name, "wb") as out:
-                        out.write(content)
-                came = self.pclmin.run(["check"] + at + names, b"")
-                if came != (0, b"proved\n", b""):
-                    return "check of format %s: %s" % (form, told(came))
-                for name in names:
-                    os.remove(name)
+                came, certificate = self.pclmin.certified(job, form, dpi)
+                fault = self.certified_fault(Triple(job, came[1], certificate, dpi), form)
+                if fault:
+                    return fault
         return None
 
     def model_fault(self, number, job, dpi, count, first, draw):
@@ -400,11 +180,149 @@ class Comparison:
                 return "the written job has other pages by the model"
         return None
 
+    # Triples
+
+    def compare_triples(self, number):
+        draw = random.Random("%d %d triple" % (self.seed, number))
+        right, form = self.proved_triple(draw)
+        faults = []
+        for place in range(min(TRIPLES_OF_A_JOB, self.count - number * TRIPLES_OF_A_JOB)):
+            if place == 0:
+                triple, fault = right, self.certified_fault(right, form)
+            else:
+                triple = changed(draw, right, lambda: self.other_triple(draw, right, form))
+                fault = self.check_fault(triple, right)
+            if fault:
+                self.keep(number * TRIPLES_OF_A_JOB + place, triple.job, triple.output, triple.certificate)
+                faults.append("triple %d at %d: %s" % (number * TRIPLES_OF_A_JOB + place, triple.dpi, fault))
+        return faults
+
+    def proved_triple(self, draw):
+        """A job that is accepted, what it is written as, and the certificate of a format."""
+        while True:
+            dpi, form = draw.choice([300] * 5 + [600]), draw.choice(["1", "2", "2"])
+            job = b"\f".join(draw.choice([right_job(draw), picture(draw, dpi)]) for _ in range(draw.choice([1, 1, 1, 2, 3])))
+            came, certificate = self.pclmin.certified(job, form, dpi)
+            if came[0] == 0 and (len(certificate) < LONG_CERTIFICATE or draw.random() < 0.02):
+                return Triple(job, came[1], certificate, dpi), form
+
+    def other_triple(self, draw, triple, form):
+        """Another one, or that of the same job in the other format."""
+        if draw.random() < 0.6:
+            return self.proved_triple(draw)[0]
+        came, certificate = self.pclmin.certified(triple.job, "1" if form == "2" else "2", triple.dpi)
+        return Triple(triple.job, came[1], certificate, triple.dpi)
+
+    def certified_fault(self, triple, form):
+        """What is wrong with a triple that pclmin made."""
+        if triple.output != self.plain.run(["min", "--dpi", str(triple.dpi)], triple.job)[1]:
+            return "min with a certificate of format %s isn't the plain program's" % form
+        if triple.certificate != self.plain.certificate(triple.job, form, triple.dpi):
+            return "the certificate of format %s isn't the plain program's" % form
+        return self.check_fault(triple, triple)
+
+    def check_fault(self, triple, right):
+        """What differs in the answers of `check`, or what they can't be beside a triple that pclmin made."""
+        came = self.pclmin.check(triple.job, triple.output, triple.certificate, triple.dpi)
+        wanted = self.plain.check(triple.job, triple.output, triple.certificate, triple.dpi)
+        verdict = verdict_of(wanted)
+        if verdict == "proved" and triple is not right:
+            verdict += " with another output" if triple.output != right.output else " with another certificate"
+        self.reached.verdicts[verdict] += 1
+        if came != wanted:
+            return "check: pclmin %s, plain %s" % (told(came), told(wanted))
+        if triple is right and came != PROVED:
+            return "what pclmin writes: %s" % told(came)
+        is_same_job = (triple.job, triple.dpi) == (right.job, right.dpi)
+        if is_same_job and came == PROVED and len(triple.output) != len(right.output):
+            return "an output of %d bytes is proved, and pclmin writes %d" % (len(triple.output), len(right.output))
+        return None
+
+
+def verdict_of(came):
+    """A verdict, without the numbers of pages, rows and places."""
+    if came[2].startswith(b"pclmin: refused: "):
+        return "refused"
+    return re.sub("not proved: |page [0-9]+: | row [0-9]+| place [0-9]+", "", came[1].decode(errors="replace").strip())
+
 
 def told(came):
     """A program's answer, in short."""
     status, written, said = came
-    return "status %d, %d bytes, %s" % (status, len(written), said.decode(errors="replace").strip() or "no line")
+    what = "%d bytes" % len(written) if len(written) > 99 else repr(written)
+    return "status %d, %s, %s" % (status, what, said.decode(errors="replace").strip() or "no line")
+
+
+def image(page, dpi):
+    """The PBM image of a page of the model."""
+    _, width, height = reference.SIZES[page.size]
+    width, height = width * dpi // 300, height * dpi // 300
+    in_row = (width + 7) // 8
+    white = bytes(in_row)
+    rows = [page.rows[y].to_bytes(in_row, "little").translate(REVERSED) if y in page.rows else white for y in range(height)]
+    return b"P4\n%d %d\n" % (width, height) + b"".join(rows)
+
+
+def modelled(job, dpi):
+    """The pages of a job by the model, or the line of its refusal."""
+    try:
+        return reference.pages_of(job, dpi), None
+    except reference.Refused as refused:
+        return None, b"pclmin: refused: %s\n" % str(refused).encode()
+
+
+# What was reached
+
+
+def tables_reached(path):
+    """What the tables of jobs reach, by the plain program."""
+    plain, reached = programs.Plain(path), Reached()
+    for table in glob.glob(TABLES):
+        if os.path.basename(table) not in ("certificates.txt", "commands.txt"):
+            with open(table, encoding="latin-1") as source:
+                for case in reference.cases_of(source.read().split("\n")):
+                    job = case.job()
+                    reached.add_job(plain, job, plain.run(["pbm", "--page", "1", "--dpi", str(case.dpi)], job))
+    return reached
+
+
+def counts(counter):
+    return ", ".join("%s %d" % pair for pair in counter.most_common())
+
+
+def missing(wanted, counter):
+    """How much of all that there is was reached, and some of what wasn't."""
+    left = [name for name in wanted if name not in counter]
+    some = ", ".join(left[:MOST_NAMED]) + (" and %d more" % (len(left) - MOST_NAMED) if len(left) > MOST_NAMED else "")
+    return "%d of %d%s" % (len(wanted) - len(left), len(wanted), ", missing " + some if left else "")
+
+
+def beside(counter, tables):
+    """How much was reached, and how much of it by the tables too."""
+    both = len(counter.keys() & tables.keys())
+    return "%d, %d of them not in the tables, which have %d more" % (len(counter), len(counter) - both, len(tables) - both)
+
+
+def tell_reached(asked, reached):
+    if reached.outcomes:
+        print("outcomes of jobs: %s" % counts(reached.outcomes))
+        print("kinds of refusal: %s" % missing(KINDS, reached.outcomes))
+        print("commands in accepted jobs: %s" % missing(NAMES, reached.names))
+        tables = tables_reached(asked.plain)
+        print("commands one after the other there: %s" % beside(reached.pairs, tables.pairs))
+        print("commands with a kind of refusal: %s" % beside(reached.refusals, tables.refusals))
+    if reached.verdicts:
+        print("verdicts: %s" % counts(reached.verdicts))
+    if asked.triples:
+        print("verdicts on triples: %s" % missing(VERDICTS, reached.verdicts))
+
+
+# The workers
+
+
+def place_path(asked, worker):
+    """The file that has the number of the job at which a worker is."""
+    return os.path.join(asked.folder, "%d-at-%s" % (asked.seed, worker))
 
 
 def begin(asked):
@@ -413,8 +331,30 @@ def begin(asked):
     comparison = Comparison(asked)
 
 
-def compare(number):
-    return comparison.compare(number)
+def compare(numbers):
+    return comparison.compared(numbers)
+
+
+def compare_all(asked, reached):
+    """Prints what differs; how much does."""
+    differing = 0
+    count = -(-asked.count // TRIPLES_OF_A_JOB) if asked.triples else asked.count
+    chunks = [range(first, min(first + CHUNK, count)) for first in range(0, count, CHUNK)]
+    with concurrent.futures.ProcessPoolExecutor(asked.workers, initializer=begin, initargs=[asked]) as workers:
+        try:
+            for faults, more in workers.map(compare, chunks):
+                reached.add(more)
+                differing += len(faults)
+                for fault in faults:
+                    print(fault, flush=True)
+        except concurrent.futures.process.BrokenProcessPool:
+            differing += 1
+            print("a worker ended; they were at the %s %s" % (
+                "jobs of triples" if asked.triples else "jobs",
+                " ".join(open(path).read().strip() for path in glob.glob(place_path(asked, "*")))))
+    for path in glob.glob(place_path(asked, "*")):
+        os.remove(path)
+    return differing
 
 
 def main():
@@ -423,19 +363,18 @@ def main():
     parser.add_argument("plain")
     parser.add_argument("count", type=int)
     parser.add_argument("seed", type=int)
-    parser.add_argument("--model", action="store_true")
+    way = parser.add_mutually_exclusive_group()
+    way.add_argument("--triples", action="store_true")
+    way.add_argument("--model", action="store_true")
     parser.add_argument("--workers", type=int, default=1)
     parser.add_argument("--folder", default="build/fuzz")
     asked = parser.parse_args()
     os.makedirs(asked.folder, exist_ok=True)
-    kinds, differing = collections.Counter(), 0
-    with multiprocessing.Pool(asked.workers, begin, [asked]) as pool:
-        for kind, fault in pool.imap(compare, range(asked.count), chunksize=50):
-            kinds[kind] += 1
-            if fault:
-                differing += 1
-                print(fault, flush=True)
-    print("seed %d: %d jobs, %d differ; %s" % (asked.seed, asked.count, differing, dict(kinds.most_common())))
+    reached, started = Reached(), time.monotonic()
+    differing = compare_all(asked, reached)
+    what = "triples" if asked.triples else "jobs"
+    print("seed %d: %d %s in %d seconds, %d differ" % (asked.seed, asked.count, what, time.monotonic() - started, differing))
+    tell_reached(asked, reached)
     sys.exit(differing > 0)
 
 

@@ -1,0 +1,294 @@
+"""Random print jobs of every part of docs/LANGUAGE.md, with values at and near their bounds.
+
+Each is drawn from a `random.Random`: `job_of` gives a job of any kind, `right_job` one that is mostly accepted, and `long_job` one that
+performs as many commands as a job may, or one more.
+"""
+
+ESC = b"\x1b"
+MOST_COMMANDS = 100_000_000
+# The number of a page size, and its width and height in dots at 300 per inch.
+SIZES = [(1, 2025, 3150), (2, 2400, 3300), (3, 2400, 4200), (26, 2338, 3507)]
+
+# What stands behind ESC, by the part of the language; %s is a value.
+FORMS = {
+    "settings": [b"&l%sA", b"&l%sX", b"&l%sC", b"&l%sD", b"&l%sE", b"&l%sF", b"&l%sL", b"&u%sD", b"&k%sH", b"&k%sG", b"&a%sL", b"9"],
+    "moves": [b"*p%sX", b"*p%sY", b"&a%sH", b"&a%sV", b"&a%sC", b"&a%sR", b"=", b"&f%sS"],
+    "rasters": [b"*t%sR", b"*r%sT", b"*r%sS", b"*r%sA", b"*b%sM", b"*b%sY", b"*rB", b"*rC", b"*r%sF"],
+    "rectangles": [b"*c%sA", b"*c%sB", b"*c%sH", b"*c%sV", b"*c%sP", b"*c0P"],
+    "fonts": [b"*c%sD", b"*c%sE", b"*c%sF", b"(%sX", b")%sX"],
+    "macros": [b"&f%sY"] * 6 + [b"&f2X", b"&f3X"] * 2 + [b"&f%sX"] * 4 + [b"&f0X", b"&f1X"],
+    "ends": [b"E", b"%%-12345X", b"&l%sH", b"&a%sG"],
+    "others": [b"&l%sO", b"&l%sU", b"&l%sZ", b"&a%sP", b"*v%sN", b"*v%sT", b"%%%sA", b"&l%sS", b"&l%sG", b"&l%sM", b"&l%sP", b"&a%sM",
+               b"&s%sC", b"&d%s@", b"*v%sO", b"*c%sG"],
+    "attributes": [side + b"s%s" + bytes([letter]) for side in (b"(", b")") for letter in b"PHVSBT"],
+    "symbols": [side + b"%s" + bytes([letter]) for side in (b"(", b")") for letter in range(64, 95) if letter != ord("X")],
+    "unknown": [b"e", b"Y", b"z", b"&q%sQ", b"*q%sX", b"*b%sL", b"*r%sU", b"%%%sX", b"%%a%sX", b"&f%sZ", b"(s%sX", b"!a%sA", b"*%sE"],
+}
+# The parts whose commands are also put together into one sequence, and what such sequences begin with.
+COMBINED = ["settings", "moves", "rasters", "rectangles", "fonts", "macros"]
+PREFIXES = [b"*p", b"&a", b"&l", b"&f", b"*r", b"*b", b"*c"]
+
+# What a value mostly is. Where many stand for one, the others are refused.
+ONLY_ZERO = ["0"] * 20 + ["1"]
+VALUES = {
+    b"&l%sA": ["1", "2", "3", "26"] * 8 + ["5"], b"&l%sX": ["1", "2", "3", "99"] * 8 + ["100", "0"], b"&l%sL": ["0", "1"] * 8 + ["2"],
+    b"&l%sD": ["6", "8", "1", "48"] * 8 + ["5", "0"], b"&u%sD": ["300", "600", "96", "7200", "1200", "225"] * 6 + ["97", "0"],
+    b"&k%sG": ["0", "1", "2", "3"] * 8 + ["4"], b"&f%sS": ["0", "1"] * 10 + ["2"],
+    b"*t%sR": ["75", "100", "150", "300"] * 6 + ["200", "600"], b"*b%sM": ["0", "1", "2", "3"] * 12 + ["4", "9"],
+    b"*b%sY": ["0", "1", "2", "30"], b"*r%sA": ["0", "1"] * 20 + ["2", "3"], b"*r%sF": ["0", "3"] * 8 + ["1"],
+    b"*r%sT": ["0", "1", "5", "40"], b"*r%sS": ["0", "1", "4", "9", "2400", "40"],
+    b"*c%sP": ["0", "1"] * 20 + ["2", "5"], b"*c%sF": ["0", "1", "2", "3", "4", "5"] * 8 + ["6"],
+    b"*c%sD": ["0", "1", "2"] * 8 + ["32767", "32768"], b"*c%sE": ["32", "65", "66", "200"] * 8 + ["255", "256"],
+    b"(%sX": ["0", "1", "2"], b")%sX": ["0", "1", "2"], b"&f%sY": ["0", "1", "2", "3"] * 8 + ["32767", "32768"],
+    b"&f%sX": ["2", "3", "2", "3", "6", "7", "8", "9", "10"] * 6 + ["0", "1", "4", "11", "-0.5"],
+    b"&l%sO": ONLY_ZERO, b"&l%sU": ONLY_ZERO, b"&l%sZ": ONLY_ZERO, b"&a%sP": ONLY_ZERO, b"*v%sN": ONLY_ZERO, b"*v%sT": ONLY_ZERO,
+}
+LINES = [b"@PJL SET X=1\r\n", b"@PJL\n", b"@PJL COMMENT \x1bE\n", b"@PJL ENTER LANGUAGE = PCL\r\n", b"@PJL enter language=pcl\n",
+         b"@PJLENTER\tLANGUAGE=PCL"]
+WRONG_LINES = [b"@PJL ENTER LANGUAGE=PCLXL\n", b"@PJL ENTER LANGUAGE=\n", b"@pjl x\n", b" @PJL\n"]
+PARTS = (["settings"] * 3 + ["moves"] * 4 + ["rasters"] * 3 + ["rows"] * 4 + ["rectangles"] * 3 + ["fonts"] * 2
+         + ["header", "character"] * 2 + ["text"] * 2 + ["transparent"] + ["codes"] * 2 + ["body"] * 3 + ["macros"] * 3
+         + ["parameters"] * 2 + ["ends", "others", "attributes", "symbols", "chain", "chain", "kept", "stack"] + ["show"] * 4)
+BODY_PARTS = ["settings", "moves", "rasters", "rectangles", "rows", "codes", "fonts", "macros", "runs", "runs", "text", "transparent",
+              "parameters", "character", "others", "show", "show"]
+# What shows where the cursor and the settings are.
+SHOWS = [ESC + b"*cP", ESC + b"*c3a2b0P", ESC + b"*r1A" + ESC + b"*b2W\xff\x81", ESC + b"*b1W\x80", b"\n" + ESC + b"*c2a2b0P",
+         b"\t" + ESC + b"*c1a1b0P", ESC + b"*c1P"]
+
+
+def number(draw):
+    """A value, small or at a bound, with any sign and decimals."""
+    size = draw.choice([1, 3, 10, 100, 720, 2400, 3300, 7200, 32767, 65535])
+    text = str(draw.randint(0, size)) if draw.random() < 0.9 else draw.choice(["0", "", "32767", "007", "1", "2"])
+    if draw.random() < 0.005:
+        text = draw.choice(["32768", "65535", "65536"])
+    if draw.random() < 0.1:
+        text += "." + draw.choice(["5", "25", "0416", "99999", ""])
+    return draw.choice(["", "", "", "+", "-"]) + text
+
+
+def value(draw, form):
+    return (draw.choice(VALUES[form]) if form in VALUES and draw.random() < 0.97 else number(draw)).encode()
+
+
+def data(draw, most):
+    """Bytes as row data have them: runs, counts and bits."""
+    count = draw.randint(0, most)
+    if draw.random() < 0.5:
+        return draw.randbytes(count)
+    return bytes(draw.choices([0, 1, 2, 31, 32, 127, 128, 129, 254, 255, 0x80, 0x81], k=count))
+
+
+def header(draw):
+    size = draw.choice([64] * 20 + [65, 63])
+    head = bytearray(size)
+    head[:2] = draw.choice([64] * 30 + [size, 63, 70]).to_bytes(2, "big")
+    head[3], head[13] = draw.choice([0, 1, 2] * 10 + [3]), draw.choice([0, 1] * 15 + [2])
+    head[16:18] = draw.choice([0, 8, 50, 120, 400, 65535]).to_bytes(2, "big")
+    return bytes(head)
+
+
+def character(draw):
+    width, height = draw.randint(0, 19), draw.randint(0, 9)
+    fields = [draw.randint(-20, 20), draw.randint(-20, 20), width, height, draw.choice([-9, 0, 12, 80, 400])]
+    bits = draw.randbytes((width + 7) // 8 * height)
+    head = bytes([4, 0, 14, 1, 0, draw.choice([0, 0, 7])]) + b"".join(field.to_bytes(2, "big", signed=True) for field in fields)
+    if draw.random() < 0.01:
+        head = head[:draw.randint(0, 16)]
+    return head + bits[:len(bits) - (draw.random() < 0.01)]
+
+
+def with_data(prefix, letter, content):
+    return ESC + prefix + str(len(content)).encode() + letter + content
+
+
+def spelled(draw, form):
+    """A command of a form."""
+    command = ESC + (form % value(draw, form) if b"%s" in form else form.replace(b"%%", b"%"))
+    if form != b"%%-12345X" or draw.random() < 0.5:
+        return command
+    lines = [draw.choice(LINES if draw.random() < 0.98 else WRONG_LINES) for _ in range(draw.randint(0, 3))]
+    return command + b"".join(lines)
+
+
+def parameters(draw):
+    """Some parameters of one sequence."""
+    prefix = draw.choice(PREFIXES)
+    forms = [form for part in COMBINED for form in FORMS[part] if form[:2] == prefix]
+    chosen = [draw.choice(forms) for _ in range(draw.randint(2, 4))]
+    said = [form[2:] % value(draw, form) if b"%s" in form else form[2:] for form in chosen]
+    return ESC + prefix + b"".join(said[:-1]).lower() + said[-1]
+
+
+def codes(draw, has_font):
+    """The codes of a run of text, and of control codes in it."""
+    common = [32, 65, 66, 200, 33, 9, 10, 13] if has_font else [32, 1, 9, 10, 13]
+    if draw.random() < 0.02:
+        common = common + [65]
+    return bytes(draw.choices(common, k=draw.randint(1, 8)))
+
+
+def body(draw, has_font):
+    """The definition of a macro, mostly without what definitions refuse."""
+    parts = b"".join(part_of(draw, draw.choice(BODY_PARTS), has_font) for _ in range(draw.randint(0, 5)))
+    if draw.random() < 0.95:
+        parts = parts.replace(b"&f0X", b"&f2X").replace(b"&f1X", b"&f3X")
+    begin = draw.choice([b"&f%dy0X", b"&f%dY\x1b&fX", b"&f%dy0x2X"])
+    return ESC + begin % draw.randint(0, 3) + parts + ESC + draw.choice([b"&f1X"] * 20 + [b"&f1x2X", b"&f1x3X", b"E"])
+
+
+def parts_of(draw, most, has_font):
+    """What stands in a macro and is seldom refused."""
+    kinds = ["moves", "moves", "rasters", "rows", "show", "show", "rectangles", "settings"]
+    return b"".join(part_of(draw, draw.choice(kinds), has_font) for _ in range(draw.randint(0, most)))
+
+
+def macro_of(number, content):
+    return ESC + b"&f%dy0X" % number + content + ESC + b"&f1X"
+
+
+def chain(draw, has_font):
+    """Macros each of which runs the next one, and the first is run."""
+    macros = []
+    last = draw.choice([1, 2, 2, 2, 2, 3])
+    for number in range(last + 1):
+        runs = ESC + b"&f%dy%dX" % (number + 1, draw.randint(2, 3)) if number < last else b""
+        macros.append(macro_of(number, parts_of(draw, 2, has_font) + runs + parts_of(draw, 2, has_font)))
+    draw.shuffle(macros)
+    return b"".join(macros) + parts_of(draw, 2, has_font) + ESC + b"&f0y%dX" % draw.randint(2, 3) + draw.choice(SHOWS)
+
+
+def kept(draw, has_font):
+    """Macros that are temporary or permanent, deleted or not, and then run."""
+    definitions = b"".join(macro_of(number, parts_of(draw, 1, has_font) + draw.choice(SHOWS)) + draw.choice([b"", ESC + b"&f10X"])
+                           for number in range(2))
+    ends = [ESC + b"E", ESC + b"%-12345X", ESC + b"&f7X", ESC + b"&f8X", ESC + b"&f6X", ESC + b"&f9X" + ESC + b"E"]
+    return definitions + draw.choice(ends) + b"".join(ESC + b"&f%dy%dX" % (number, draw.randint(2, 3)) for number in range(2))
+
+
+def stack(draw):
+    """Positions that are pushed and popped."""
+    pushes = b"".join(ESC + b"*p+%dx+%dY" % (draw.randint(0, 90), draw.randint(0, 90)) + ESC + b"&f0S"
+                      for _ in range(draw.choice([1, 3, 19, 20, 21])))
+    size = ESC + b"&l%dA" % draw.choice([1, 2, 3, 26]) if draw.random() < 0.5 else b""
+    return pushes + size + (ESC + b"&f1S" + draw.choice(SHOWS)) * draw.choice([1, 3, 20, 22])
+
+
+def part_of(draw, part, has_font):
+    """One command, or some that belong together."""
+    if part == "rows":
+        rows = [data(draw, draw.choice([2, 5, 40, 300])) for _ in range(draw.randint(1, 4))]
+        return b"".join(with_data(b"*b", b"W", row) for row in rows)
+    if part == "text":
+        return codes(draw, has_font)
+    if part == "transparent":
+        return with_data(b"&p", b"X", codes(draw, has_font))
+    if part == "codes":
+        return bytes([draw.choice([7, 0, 9, 10, 11, 12, 13, 14, 15, 26] * 12 + [8])])
+    if part == "header":
+        return with_data(b")s", b"W", header(draw))
+    if part == "character":
+        return with_data(b"(s", b"W", character(draw))
+    if part == "body":
+        return body(draw, has_font)
+    if part == "show":
+        return draw.choice(SHOWS)
+    if part == "chain":
+        return chain(draw, has_font)
+    if part == "kept":
+        return kept(draw, has_font)
+    if part == "stack":
+        return stack(draw)
+    if part == "runs":
+        return ESC + b"&f%dy%dX" % (draw.randint(0, 3), draw.randint(2, 3))
+    if part == "parameters":
+        return parameters(draw)
+    return spelled(draw, draw.choice(FORMS[part]))
+
+
+def picture_row(draw, above, length):
+    """A row of so many bytes: runs and bytes about as long as an element can be, or the row above it but for some bytes."""
+    if above and draw.random() < 0.5:
+        row = bytearray(above)
+        for _ in range(draw.choice([0, 1, 1, 2, 3])):
+            at = draw.choice([draw.randrange(length), min(draw.choice([0, 29, 30, 31, 32, 285, 286, 287, 541, 542]), length - 1)])
+            count = draw.choice([1, 2, 7, 8, 9, 17])
+            row[at:at + count] = draw.randbytes(count)
+        return bytes(row[:length])
+    row = b""
+    while len(row) < length and draw.random() < 0.85:
+        count = draw.choice([1, 2, 3, 8, 9, 30, 31, 127, 128, 129, 255, 256, 257, draw.randint(1, length)])
+        row += draw.choice([bytes([draw.choice([0, 255, 129])]) * count, bytes(count), draw.randbytes(count)])
+    return row[:length].ljust(length, b"\0") if draw.random() < 0.5 else row[:length]
+
+
+def picture(draw, dpi):
+    """A page of rows at its own resolution, at heights about which the digits of a skip change."""
+    number, width, _ = draw.choice(SIZES)
+    length = (width * dpi // 300 + 7) // 8
+    rows, row = [], b""
+    for _ in range(draw.choice([1, 2, 4, 8])):
+        skipped = draw.choice([0, 0, 0, 1, 2, 8, 9, 10, 11, 98, 99, 100, 998, 999, 1000])
+        rows.append(ESC + b"*b%dY" % skipped if skipped else b"")
+        row = picture_row(draw, row.ljust(length, b"\0") if row and not skipped else b"", length)
+        rows += [with_data(b"*b", b"W", row)] * draw.choice([1, 1, 1, 2, 3, 20])
+    return ESC + b"&l%da0e%dX" % (number, draw.choice([1, 1, 2, 9, 10, 99])) + ESC + b"*p0x0Y" + ESC + b"*t%dR" % dpi + b"".join(rows)
+
+
+FONT = (ESC + b"*c0D" + with_data(b")s", b"W", bytes([0, 64, 0, 2]) + bytes(13) + b"\x30" + bytes(46))
+        + ESC + b"*c65E" + with_data(b"(s", b"W", bytes([4, 0, 14, 1, 0, 0, 0, 1, 0, 2, 0, 9, 0, 3, 0, 40]) + bytes([0x81, 0x80] * 3))
+        + ESC + b"(0X")
+
+
+def right_job(draw):
+    """A job that is mostly accepted."""
+    begin = draw.choice([b"", ESC + b"E", ESC + b"&l0E", ESC + b"&l0E" + ESC + b"*p0x0Y" + ESC + b"*t300R"])
+    has_font = draw.random() < 0.5
+    parts = [part_of(draw, draw.choice(PARTS), has_font) for _ in range(draw.randint(1, draw.choice([4, 12, 30])))]
+    if draw.random() < 0.03:
+        parts.insert(draw.randint(0, len(parts)), spelled(draw, draw.choice(FORMS["unknown"])))
+    if draw.random() < 0.004:
+        parts.insert(draw.randint(0, len(parts)), b"\f" * draw.choice([254, 255, 256, 257]))
+    if draw.random() < 0.04:
+        parts.insert(draw.randint(0, len(parts)), picture(draw, 300) + ESC + b"*rC")
+    if draw.random() < 0.6:
+        parts.append(draw.choice(SHOWS))
+    return begin + (FONT if has_font else b"") + b"".join(parts)
+
+
+def mutated(draw, job):
+    job = bytearray(job)
+    for _ in range(draw.randint(1, 4)):
+        way = draw.randint(0, 3)
+        at = draw.randint(0, len(job))
+        if way == 0 and at < len(job):
+            job[at] = draw.choice([draw.randint(0, 255), 27, 48 + draw.randint(0, 9), 65 + draw.randint(0, 25)])
+        elif way == 1:
+            del job[at:at + draw.randint(1, 5)]
+        elif way == 2:
+            job[at:at] = bytes([draw.randint(0, 255)])
+        else:
+            del job[at:]
+    return bytes(job)
+
+
+def job_of(draw):
+    job = right_job(draw)
+    if draw.random() < 0.25:
+        job = mutated(draw, job if draw.random() < 0.7 else job + right_job(draw))
+    return job
+
+
+def long_job(draw):
+    """Macros that run each other, by which a job performs as many commands as it may, or one more."""
+    cheap = [ESC + b"9", ESC + b"&k0G", ESC + b"*p1X", ESC + b"&l0L", b"\x0f"]
+    commands, runs = draw.randint(900, 2000), draw.randint(900, 2000)
+    inner = b"".join(draw.choice(cheap) for _ in range(commands))
+    outer = ESC + b"&f0y" + b"2x" * (runs - 1) + b"2X"
+    # The definitions count three each, the IDs below three together, and what runs a macro counts beside what it runs.
+    in_outer = 2 + runs * (1 + commands)
+    left = MOST_COMMANDS + draw.randint(0, 1) - 6 - 3
+    times = left // in_outer
+    more, singles = divmod(left - times * in_outer, 1 + commands)
+    last = ESC + b"&f1y" + b"2x" * times + b"0y" + b"2x" * more + b"0Y" + (ESC + b"9") * singles
+    return macro_of(0, inner) + macro_of(1, outer) + last
