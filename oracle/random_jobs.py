@@ -284,11 +284,12 @@ def long_job(draw):
     cheap = [ESC + b"9", ESC + b"&k0G", ESC + b"*p1X", ESC + b"&l0L", b"\x0f"]
     commands, runs = draw.randint(900, 2000), draw.randint(900, 2000)
     inner = b"".join(draw.choice(cheap) for _ in range(commands))
-    outer = ESC + b"&f0y" + b"2x" * (runs - 1) + b"2X"
+    outer = ESC + b"&f0y" + draw.choice([b"2x", b"3x"]) * (runs - 1) + b"2X"
     # The definitions count three each, the IDs below three together, and what runs a macro counts beside what it runs.
     in_outer = 2 + runs * (1 + commands)
     left = MOST_COMMANDS + draw.randint(0, 1) - 6 - 3
     times = left // in_outer
     more, singles = divmod(left - times * in_outer, 1 + commands)
-    last = ESC + b"&f1y" + b"2x" * times + b"0y" + b"2x" * more + b"0Y" + (ESC + b"9") * singles
+    # A call puts back the ID, which the outer macro sets.
+    last = ESC + b"&f1y" + b"3x" * times + b"0y" + b"2x" * more + b"0Y" + (ESC + b"9") * singles
     return macro_of(0, inner) + macro_of(1, outer) + last

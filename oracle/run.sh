@@ -1,5 +1,5 @@
 #!/usr/bin/env bash
-# A short run of the other programs (README.md): tables by reference.py and least.py, and random jobs by all.
+# A short run of the other programs (README.md): tables by reference.py and least.py, and random jobs and triples by all.
 # PCLMIN names another build of pclmin. Needs rustc and Python 3.
 set -euo pipefail
 cd "$(dirname "$0")/.."
@@ -16,3 +16,4 @@ for table in crates/job_cases/data/*.txt; do
 done
 python3 oracle/fuzz.py "$PCLMIN" build/oracle/plain 1800 1 --workers 2 --folder build/oracle
 python3 oracle/fuzz.py "$PCLMIN" build/oracle/plain 200 2 --model --workers 2 --folder build/oracle
+python3 oracle/fuzz.py "$PCLMIN" build/oracle/plain 200 3 --triples --workers 2 --folder build/oracle

@@ -6,6 +6,7 @@ of a parameter, pages in another order. Others cut, join or spoil bytes.
 """
 
 import re
+import struct
 
 from random_jobs import SIZES
 
@@ -83,15 +84,18 @@ def put(content, place, new, old_length=None):
     return content[:place] + new + content[place + (len(new) if old_length is None else old_length):]
 
 
-def number(value, size):
-    """A number in so many bytes, or the nearest that they can have."""
-    return min(max(value, 0), 256 ** size - 1).to_bytes(size, "big")
-
-
 def near(draw, old, size):
     """A number of so many bytes beside another one, or anywhere."""
     most = 256 ** size - 1
-    return number(draw.choice([old + 1] * 4 + [old - 1] * 3 + [old + 2, old - 2, old + 255, 0, 0, 1, most, draw.randint(0, most)]), size)
+    new = draw.choice([old + 1] * 4 + [old - 1] * 3 + [old + 2, old - 2, old + 255, 0, 0, 1, most, draw.randint(0, most)])
+    return min(max(new, 0), most).to_bytes(size, "big")
+
+
+def moved(content, first, last, form, by):
+    """Numbers of a form of struct that are greater by so much, or less, and not beyond what they can have."""
+    most = 256 ** struct.calcsize(form) - 1
+    numbers = struct.unpack(">%d%s" % ((last - first) // struct.calcsize(form), form), content[first:last])
+    return put(content, first, struct.pack(">%d%s" % (len(numbers), form), *[min(max(number + by, 0), most) for number in numbers]))
 
 
 # Changes of the certificate: each takes the triple and its pages, one of which is drawn.
@@ -126,16 +130,13 @@ def lower_nodes(draw, triple, page):
     row = drawn_row(draw, triple, page)
     first = page.nodes + 32 * row + 4 * draw.randint(0, 7)
     last = draw.choice([first + 4, page.nodes + 32 * row + 32, page.lists])
-    less = draw.choice([1, 1, 2, 1000, 1 << 32])
-    numbers = [number(number_at(triple.certificate, at, 4) - less, 4) for at in range(first, last, 4)]
-    triple.certificate = put(triple.certificate, first, b"".join(numbers))
+    triple.certificate = moved(triple.certificate, first, last, "I", -draw.choice([1, 1, 2, 1000, 1 << 32]))
 
 
 def raise_nodes(draw, triple, page):
     """All numbers up to a row are greater by one, which no single edge but the last shows."""
     last = page.nodes + 32 * drawn_row(draw, triple, page)
-    numbers = [number(number_at(triple.certificate, at, 4) + 1, 4) for at in range(page.nodes, last, 4)]
-    triple.certificate = put(triple.certificate, page.nodes, b"".join(numbers))
+    triple.certificate = moved(triple.certificate, page.nodes, last, "I", 1)
 
 
 def change_place(draw, triple, page):
@@ -143,9 +144,7 @@ def change_place(draw, triple, page):
     if page.full:
         at, count = draw.choice(page.full)
         if draw.random() < 0.2:
-            more = draw.choice([-1, 1])
-            numbers = [number(number_at(triple.certificate, place, 2) + more, 2) for place in range(at + 2, at + 2 + 2 * count, 2)]
-            triple.certificate = put(triple.certificate, at + 2, b"".join(numbers))
+            triple.certificate = moved(triple.certificate, at + 2, at + 2 + 2 * count, "H", draw.choice([-1, 1]))
         else:
             place = at + 2 + 2 * draw.choice([0, draw.randrange(count), count - 1, max(count - draw.choice(LEFT), 0)])
             triple.certificate = put(triple.certificate, place, near(draw, number_at(triple.certificate, place, 2), 2))
@@ -185,7 +184,7 @@ def change_length(draw, triple, page):
 def change_rows(draw, triple, page):
     """The rows of another page size, mostly with as many numbers, or of none."""
     scale = triple.dpi // 300
-    rows = draw.choice([height * scale for height in HEIGHTS] * 4 + [page.rows + 1, 0, 65535, page.rows * 3 - page.rows * scale])
+    rows = draw.choice([height * scale for height in HEIGHTS] * 4 + [page.rows + 1, 0, 65535, page.rows * (3 - scale) // scale])
     content = triple.certificate
     nodes, lists = content[page.nodes:page.lists], content[page.lists:page.end]
     if draw.random() < 0.9:
@@ -322,6 +321,56 @@ def respell(draw, triple, page):
         set_text(draw, triple, page, start + b"".join(map(b"".join, parameters)) + end)
 
 
+def bytes_made(method, data):
+    """How many bytes of a row whole data go over."""
+    made = at = 0
+    while at < len(data):
+        first, at = data[at], at + 1
+        if method == b"0":
+            made += 1
+        elif method == b"1" or method == b"2" and first > 128:
+            made, at = made + (first + 1 if method == b"1" else 257 - first), at + 1
+        elif method == b"2":
+            made, at = made + (first + 1) % 129, at + (first + 1) % 129
+        else:
+            made, last = made + first % 32, 255 if first % 32 == 31 else 0
+            while last == 255:
+                last, at = data[at], at + 1
+                made += last
+            made, at = made + (first >> 5) + 1, at + (first >> 5) + 1
+    return made
+
+
+def data_further(method, count, byte):
+    """Data that go so many bytes further, over white ones or those of the row above, and end with a byte."""
+    white = count - 1
+    if method == b"0":
+        return bytes(white) + bytes([byte])
+    if method == b"3":
+        more = white - 31
+        return bytes([min(white, 31)] + ([255] * (more // 255) + [more % 255] if more >= 0 else []) + [byte])
+    most = 256 if method == b"1" else 128
+    runs = [most] * (white // most) + ([white % most] if white % most else [])
+    return b"".join(bytes([run - 1 if method == b"1" or run == 1 else 257 - run, 0]) for run in runs) + bytes([0, byte])
+
+
+def reach_edge(draw, triple, page):
+    """The data of a row go on to its last byte, or one further."""
+    start, parameters, end = parameters_of(text_of(triple, page))
+    method, sent = b"0", []
+    for parameter in parameters:
+        method = (parameter[1].lstrip(b"0") or b"0") if parameter[2] in b"mM" else method
+        if parameter[2] == b"W":
+            sent.append((parameter, method))
+    if sent:
+        parameter, method = draw.choice(sent)
+        count = page.row_bytes - bytes_made(method, parameter[3]) + draw.choice([0, 0, 0, 1])
+        if count:
+            parameter[3] += data_further(method, count, draw.choice([0, 1 << draw.randrange(8), 1 << draw.randrange(8), 255]))
+            parameter[1] = b"%d" % len(parameter[3])
+            set_text(draw, triple, page, start + b"".join(map(b"".join, parameters)) + end)
+
+
 def last_rows(draw, triple, page):
     """The rest of the page, or a row more, is skipped or sent."""
     start, parameters, end = parameters_of(text_of(triple, page))
@@ -360,12 +409,8 @@ def other_data(draw, parameters, place, method):
     if parameters[place][2] == b"W":
         data = parameters[place][3]
         ways = [longer_data(draw, method, data)] * 3 + [data[:-1], data + b"\0", data + bytes([draw.randrange(256)] * 2), data * 2]
-        row_bytes = draw.choice(list(ROW_BYTES.values()))
-        if method == b"0":
-            ways += [data.ljust(row_bytes - 1, b"\0") + bytes([1 << draw.randrange(8)]), data.ljust(row_bytes, b"\0") + b"\0"]
-        else:
-            ways += [data + more for more in {b"1": [b"\xff\0", b"\xff\0" * 3], b"2": [b"\x81\0" * 5, b"\x80", b"\x80\x80", b"\x81"],
-                                              b"3": [b"\x1f", b"\x1f\xff", b"\x3f\xff\xff\0\0\0", b"\0"]}[method]]
+        ways += [data + more for more in {b"0": [b"\0\0"], b"1": [b"\xff\0", b"\xff\0" * 3], b"2": [b"\x81\0" * 5, b"\x80\x80", b"\x81"],
+                                          b"3": [b"\x1f", b"\x1f\xff", b"\x3f\xff\xff\0\0\0", b"\0"]}[method]]
         parameters[place][3] = draw.choice(ways)
         parameters[place][1] = b"%d" % len(parameters[place][3]) if parameters[place][3] else draw.choice([b"", b"0"])
 
@@ -454,7 +499,7 @@ def spoil_text(draw, triple, page):
 OF_NODES = [change_node] * 8 + [lower_nodes] * 4 + [raise_nodes]
 OF_PLACES = [change_place] * 6 + [change_list] * 3 + [fill_list] * 2 + [empty_lists]
 OF_FIELDS = [change_length] * 2 + [change_rows] * 3 + [change_page_count] * 2 + [change_magic, spoil_certificate, spoil_certificate]
-OF_TEXTS = [change_start] * 2 + [respell] * 8 + [repack] * 3 + [last_rows] * 2 + [change_order, move_border, spoil_output, spoil_text, spoil_text]
+OF_TEXTS = [respell] * 8 + [repack] * 3 + [change_start, last_rows, reach_edge, spoil_text] * 2 + [change_order, move_border, spoil_output]
 GROUPS = [OF_NODES, OF_PLACES, OF_PLACES, OF_FIELDS, OF_TEXTS, OF_TEXTS]
 # What leaves a certificate of as many pages and lists, so that it can be changed again.
 KEEPING = [change_node, lower_nodes, raise_nodes, change_place, fill_list, empty_lists]
