@@ -48,7 +48,8 @@ LINES = [b"@PJL SET X=1\r\n", b"@PJL\n", b"@PJL COMMENT \x1bE\n", b"@PJL ENTER L
 WRONG_LINES = [b"@PJL ENTER LANGUAGE=PCLXL\n", b"@PJL ENTER LANGUAGE=\n", b"@pjl x\n", b" @PJL\n"]
 PARTS = (["settings"] * 3 + ["moves"] * 4 + ["rasters"] * 3 + ["rows"] * 4 + ["rectangles"] * 3 + ["fonts"] * 2
          + ["header", "character"] * 2 + ["text"] * 2 + ["transparent"] + ["codes"] * 2 + ["body"] * 3 + ["macros"] * 3
-         + ["parameters"] * 2 + ["ends", "others", "attributes", "symbols", "chain", "chain", "kept", "stack"] + ["show"] * 4)
+         + ["parameters"] * 2 + ["ends", "others", "attributes", "symbols", "chain", "chain", "kept", "stack", "steps", "mark"]
+         + ["show"] * 4)
 BODY_PARTS = ["settings", "moves", "rasters", "rectangles", "rows", "codes", "fonts", "macros", "runs", "runs", "text", "transparent",
               "parameters", "character", "others", "show", "show"]
 # What shows where the cursor and the settings are.
@@ -166,8 +167,26 @@ def kept(draw, has_font):
     return definitions + draw.choice(ends) + b"".join(ESC + b"&f%dy%dX" % (number, draw.randint(2, 3)) for number in range(2))
 
 
+def far_stack(draw):
+    """A position that is pushed on a large page, popped on a smaller one, where it is held, and moved back from."""
+    begin = ESC + b"&l3A" + ESC + b"*p%dx%dY" % (draw.randint(1900, 2500), draw.randint(2800, 4300)) + ESC + b"&f0S"
+    size = ESC + b"&l%dA" % draw.choice([1, 1, 2, 26])
+    return begin + size + ESC + b"&f1S" + ESC + b"*p-%dx-%dY" % (draw.randint(0, 500), draw.randint(0, 1200)) + draw.choice(SHOWS)
+
+
+def steps(draw):
+    """A step so small and made so often that what is rounded adds up to dots."""
+    part = b"%d.%d" % (draw.randint(0, 1), draw.randint(1, 99))
+    unit = draw.choice([ESC + b"&l%sC" % part, ESC + b"&k%sH" % part, ESC + b"&u%dD" % draw.choice([96, 144, 225, 1440, 7200])])
+    step = draw.choice([ESC + b"=", b"\n", b" ", ESC + b"*p+%sX" % part, ESC + b"*p+%sY" % part, ESC + b"&a+%sC" % part,
+                        ESC + b"&a+%sR" % part, ESC + b"&a+%sH" % part, ESC + b"&a+%sV" % part])
+    return unit + step * draw.choice([7, 24, 25, 50]) + draw.choice(SHOWS)
+
+
 def stack(draw):
     """Positions that are pushed and popped."""
+    if draw.random() < 0.4:
+        return far_stack(draw)
     pushes = b"".join(ESC + b"*p+%dx+%dY" % (draw.randint(0, 90), draw.randint(0, 90)) + ESC + b"&f0S"
                       for _ in range(draw.choice([1, 3, 19, 20, 21])))
     size = ESC + b"&l%dA" % draw.choice([1, 2, 3, 26]) if draw.random() < 0.5 else b""
@@ -199,6 +218,10 @@ def part_of(draw, part, has_font):
         return kept(draw, has_font)
     if part == "stack":
         return stack(draw)
+    if part == "steps":
+        return steps(draw)
+    if part == "mark":
+        return mark(draw)
     if part == "runs":
         return ESC + b"&f%dy%dX" % (draw.randint(0, 3), draw.randint(2, 3))
     if part == "parameters":
@@ -238,6 +261,16 @@ def picture(draw, dpi):
 FONT = (ESC + b"*c0D" + with_data(b")s", b"W", bytes([0, 64, 0, 2]) + bytes(13) + b"\x30" + bytes(46))
         + ESC + b"*c65E" + with_data(b"(s", b"W", bytes([4, 0, 14, 1, 0, 0, 0, 1, 0, 2, 0, 9, 0, 3, 0, 40]) + bytes([0x81, 0x80] * 3))
         + ESC + b"(0X")
+
+
+def mark(draw):
+    """What may be all that marks a page, and an end that ejects only a marked one."""
+    width, height = draw.choice([(0, 0), (0, 3), (9, 0), (1, 1)])
+    empty = bytes([4, 0, 14, 1, 0, 0, 0, 1, 0, 2, 0, width, 0, height, 0, 40]) + bytes((width + 7) // 8 * height)
+    ways = [FONT + ESC + b"*c66E" + with_data(b"(s", b"W", empty) + draw.choice([b"B", b"C", b" "]), ESC + b"*b0W", ESC + b"*c0a0b0P",
+            ESC + b"*p32767x32767Y" + draw.choice(SHOWS), ESC + b"*r1A" + ESC + b"*b3Y" + ESC + b"*rB"]
+    ends = [ESC + b"E", ESC + b"%-12345X", ESC + b"&l1H", ESC + b"&a1G", ESC + b"&l2A"]
+    return draw.choice(ends) + draw.choice(ways) + draw.choice(ends)
 
 
 def right_job(draw):
