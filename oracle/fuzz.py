@@ -1,7 +1,7 @@
 #!/usr/bin/env python3
 """Compares pclmin with the plain program (plain/), and with the second model (reference.py), on random and mutated jobs, and on triples.
 
-    python3 oracle/fuzz.py PCLMIN PLAIN COUNT SEED [--triples | --model] [--workers N] [--folder FOLDER]
+    python3 oracle/fuzz.py PCLMIN PLAIN COUNT SEED [--triples | --model] [--workers N] [--seconds N] [--folder FOLDER]
 
 PCLMIN is the program, which is started for each question, or the library, as build/libpclmin.so (`lib/build.sh shared`), which is called
 in this script's own processes and answers far more of them.
@@ -22,7 +22,8 @@ that was written again has to have the same pages by it. The model takes most of
 
 A job on which the two differ is kept in FOLDER (build/fuzz) as SEED-NUMBER.pcl, and the output and the certificate of a triple beside it
 as .out and .cert, with a line on standard output, and the status is then 1. The number of workers is 1 if it isn't given; what is made
-doesn't depend on it. At the end it is told what was reached, beside what the tables of crates/job_cases/data reach.
+doesn't depend on it. With --seconds no more are begun after so long. At the end it is told what was reached, beside what the tables of
+crates/job_cases/data reach.
 """
 
 import argparse
@@ -49,8 +50,8 @@ LONG_JOBS = 1 / 100_000
 TRIPLES_OF_A_JOB = 8
 # Jobs whose certificates are longer are seldom taken for triples.
 LONG_CERTIFICATE = 700_000
-# How many jobs a worker is given at once.
-CHUNK = 100
+# How many jobs or triples a worker is given at once, whose questions go to the plain program together.
+CHUNK = 40
 # How many names of what is missing are printed.
 MOST_NAMED = 20
 
@@ -76,21 +77,25 @@ class Reached:
         for mine, others in zip(vars(self).values(), vars(other).values()):
             mine.update(others)
 
-    def add_job(self, plain, job, answer):
+    def add_job(self, answer, named):
         """Adds what became of a job: the kind of its refusal and the command, or the commands of one that is accepted."""
         line = answer[2].decode().split()
         if line[1:2] == ["refused:"]:
             self.outcomes[line[2]] += 1
             self.refusals[line[2], line[5]] += 1
         else:
-            names = plain.names(job)
+            names = named[1].decode().split("\n")[:-1]
             self.outcomes["accepted"] += 1
             self.names.update(set(names))
             self.pairs.update(set(zip(names, names[1:])))
 
 
 class Comparison:
-    """The programs that are compared, and where the jobs come from."""
+    """The programs that are compared, and where the jobs come from.
+
+    What compares a job or some triples is a coroutine: it gives lists of questions for the plain program, is sent the answers, and ends
+    with what differs. So those of many jobs are asked at once, and neither program waits for the other at each.
+    """
 
     def __init__(self, asked):
         self.pclmin, self.plain = programs.product(asked.pclmin, asked.folder), programs.Plain(asked.plain)
@@ -102,9 +107,19 @@ class Comparison:
     def compared(self, numbers):
         """What differs in the jobs of some numbers, and what they reached."""
         self.reached, faults = Reached(), []
-        for number in numbers:
-            os.pwrite(self.place, b"%-20d" % number, 0)
-            faults += self.compare(number)
+        waiting = [(number, self.compare(number), None) for number in numbers]
+        while waiting:
+            asking, questions = [], []
+            for number, comparison, answers in waiting:
+                os.pwrite(self.place, b"%-20d" % number, 0)
+                try:
+                    more = comparison.send(answers)
+                    asking.append((number, comparison, len(questions), len(questions) + len(more)))
+                    questions += more
+                except StopIteration as ended:
+                    faults += ended.value
+            answers = self.plain.answers(questions)
+            waiting = [(number, comparison, answers[first:last]) for number, comparison, first, last in asking]
         return faults, self.reached
 
     def keep(self, number, *contents):
@@ -119,14 +134,14 @@ class Comparison:
         job = long_job(draw) if draw.random() < LONG_JOBS and not self.has_model else job_of(draw)
         dpi = draw.choice([300] * 5 + [600])
         at = ["--dpi", str(dpi)]
-        first, pages = self.plain.asked(["pbm", "--page", "1"] + at, job)
-        self.reached.add_job(self.plain, job, first)
+        (first, pages), (named, _) = yield [(["pbm", "--page", "1"] + at, job), (["names"], job)]
+        self.reached.add_job(first, named)
         if first[2].startswith(b"pclmin: refused: "):
             words = draw.choice([["min"], ["pbm", "--page", "1"]]) + at
             came = self.pclmin.run(words, job)
             fault = None if came == first else "%s: pclmin %s, plain %s" % (words[0], told(came), told(first))
         else:
-            fault = self.page_fault(job, at, first, pages, draw) or self.written_fault(number, job, dpi, pages)
+            fault = yield from self.accepted_fault(number, job, dpi, first, pages, draw)
         if self.has_model:
             fault = fault or self.model_fault(number, job, dpi, pages, first, draw)
         if not fault:
@@ -134,30 +149,27 @@ class Comparison:
         self.keep(number, job)
         return ["job %d at %d: %s" % (number, dpi, fault)]
 
-    def page_fault(self, job, at, first, pages, draw):
-        """What differs in a page; of the first one the plain program's answer is there."""
-        asked = {draw.randint(1, pages) if pages else 1}
+    def accepted_fault(self, number, job, dpi, first, pages, draw):
+        """What differs in pages or what is written; of the first page the plain program's answer is there."""
+        at = ["--dpi", str(dpi)]
+        wanted = {draw.randint(1, pages) if pages else 1}
         if draw.random() < 0.25:
-            asked.add(min(pages + 1, MOST_PAGES))
-        for page in asked:
-            words = ["pbm", "--page", str(page)] + at
-            came, wanted = self.pclmin.run(words, job), first if page == 1 else self.plain.run(words, job)
-            if came != wanted:
-                return "page %d: pclmin %s, plain %s" % (page, told(came), told(wanted))
-        return None
-
-    def written_fault(self, number, job, dpi, pages):
-        if number % 20 == 0:
-            words = ["min", "--dpi", str(dpi)]
-            came, wanted = self.pclmin.run(words, job), self.plain.run(words, job)
-            if came != wanted:
-                return "min: pclmin %s, plain %s" % (told(came), told(wanted))
-            if self.pclmin.pages(job, dpi) != pages:
-                return "pclmin has %d pages, plain %d" % (self.pclmin.pages(job, dpi), pages)
+            wanted.add(min(pages + 1, MOST_PAGES))
+        asked = [["pbm", "--page", str(page)] + at for page in sorted(wanted - {1})] + ([["min"] + at] if number % 20 == 0 else [])
+        answers = yield [(words, job) for words in asked]
+        known = ([(["pbm", "--page", "1"] + at, first)] if 1 in wanted else []) + [
+            (words, answer) for words, (answer, _) in zip(asked, answers)]
+        for words, answer in known:
+            came = self.pclmin.run(words, job)
+            if came != answer:
+                return "%s: pclmin %s, plain %s" % (" ".join(words), told(came), told(answer))
+        if number % 20 == 0 and self.pclmin.pages(job, dpi) != pages:
+            return "pclmin has %d pages, plain %d" % (self.pclmin.pages(job, dpi), pages)
         if number % 200 == 0:
             for form in ("1", "2"):
                 came, certificate = self.pclmin.certified(job, form, dpi)
-                fault = self.certified_fault(Triple(job, came[1], certificate, dpi), form)
+                triple = Triple(job, came[1], certificate, dpi)
+                fault = self.made_fault(triple, form, (yield made_questions(triple, form)))
                 if fault:
                     return fault
         return None
@@ -185,16 +197,17 @@ class Comparison:
     def compare_triples(self, number):
         draw = random.Random("%d %d triple" % (self.seed, number))
         right, form = self.proved_triple(draw)
+        count = min(TRIPLES_OF_A_JOB, self.count - number * TRIPLES_OF_A_JOB)
+        others = [changed(draw, right, lambda: self.other_triple(draw, right, form)) for _ in range(count - 1)]
+        made = made_questions(right, form)
+        answers = yield made + [check_question(triple) for triple in others]
+        found = [self.made_fault(right, form, answers[:len(made)])]
+        found += [self.check_fault(triple, right, answer) for triple, (answer, _) in zip(others, answers[len(made):])]
         faults = []
-        for place in range(min(TRIPLES_OF_A_JOB, self.count - number * TRIPLES_OF_A_JOB)):
-            if place == 0:
-                triple, fault = right, self.certified_fault(right, form)
-            else:
-                triple = changed(draw, right, lambda: self.other_triple(draw, right, form))
-                fault = self.check_fault(triple, right)
+        for place, (triple, fault) in enumerate(zip([right] + others, found), number * TRIPLES_OF_A_JOB):
             if fault:
-                self.keep(number * TRIPLES_OF_A_JOB + place, triple.job, triple.output, triple.certificate)
-                faults.append("triple %d at %d: %s" % (number * TRIPLES_OF_A_JOB + place, triple.dpi, fault))
+                self.keep(place, triple.job, triple.output, triple.certificate)
+                faults.append("triple %d at %d: %s" % (place, triple.dpi, fault))
         return faults
 
     def proved_triple(self, draw):
@@ -213,18 +226,18 @@ class Comparison:
         came, certificate = self.pclmin.certified(triple.job, "1" if form == "2" else "2", triple.dpi)
         return Triple(triple.job, came[1], certificate, triple.dpi)
 
-    def certified_fault(self, triple, form):
-        """What is wrong with a triple that pclmin made."""
-        if triple.output != self.plain.run(["min", "--dpi", str(triple.dpi)], triple.job)[1]:
+    def made_fault(self, triple, form, answers):
+        """What is wrong with a triple that pclmin made, by the answers to the questions about it."""
+        (written, _), (certificate, _), (checked, _) = answers
+        if triple.output != written[1]:
             return "min with a certificate of format %s isn't the plain program's" % form
-        if triple.certificate != self.plain.certificate(triple.job, form, triple.dpi):
+        if triple.certificate != certificate[1]:
             return "the certificate of format %s isn't the plain program's" % form
-        return self.check_fault(triple, triple)
+        return self.check_fault(triple, triple, checked)
 
-    def check_fault(self, triple, right):
+    def check_fault(self, triple, right, wanted):
         """What differs in the answers of `check`, or what they can't be beside a triple that pclmin made."""
         came = self.pclmin.check(triple.job, triple.output, triple.certificate, triple.dpi)
-        wanted = self.plain.check(triple.job, triple.output, triple.certificate, triple.dpi)
         verdict = verdict_of(wanted)
         if verdict == "proved" and triple is not right:
             verdict += " with another output" if triple.output != right.output else " with another certificate"
@@ -237,6 +250,16 @@ class Comparison:
         if is_same_job and came == PROVED and len(triple.output) != len(right.output):
             return "an output of %d bytes is proved, and pclmin writes %d" % (len(triple.output), len(right.output))
         return None
+
+
+def check_question(triple):
+    return ["check", "--dpi", str(triple.dpi)], triple.job, triple.output, triple.certificate
+
+
+def made_questions(triple, form):
+    """What the plain program is asked of a triple that pclmin made."""
+    at = ["--dpi", str(triple.dpi)]
+    return [(["min"] + at, triple.job), (["cert", "--format", form] + at, triple.job), check_question(triple)]
 
 
 def verdict_of(came):
@@ -276,13 +299,16 @@ def modelled(job, dpi):
 
 def tables_reached(path):
     """What the tables of jobs reach, by the plain program."""
-    plain, reached = programs.Plain(path), Reached()
+    plain, reached, questions = programs.Plain(path), Reached(), []
     for table in glob.glob(TABLES):
         if os.path.basename(table) not in ("certificates.txt", "commands.txt"):
             with open(table, encoding="latin-1") as source:
                 for case in reference.cases_of(source.read().split("\n")):
-                    job = case.job()
-                    reached.add_job(plain, job, plain.run(["pbm", "--page", "1", "--dpi", str(case.dpi)], job))
+                    questions += [(["pbm", "--page", "1", "--dpi", str(case.dpi)], case.job()), (["names"], case.job())]
+    for first in range(0, len(questions), CHUNK):
+        answers = [answer for answer, _ in plain.answers(questions[first:first + CHUNK])]
+        for answer, named in zip(answers[::2], answers[1::2]):
+            reached.add_job(answer, named)
     return reached
 
 
@@ -336,14 +362,25 @@ def compare(numbers):
 
 
 def compare_all(asked, reached):
-    """Prints what differs; how much does."""
-    differing = 0
-    count = -(-asked.count // TRIPLES_OF_A_JOB) if asked.triples else asked.count
-    chunks = [range(first, min(first + CHUNK, count)) for first in range(0, count, CHUNK)]
+    """Prints what differs; how many were compared, and how many of them differ."""
+    size, chunk = (TRIPLES_OF_A_JOB, CHUNK // TRIPLES_OF_A_JOB) if asked.triples else (1, CHUNK)
+    count = -(-asked.count // size)
+    chunks = iter([range(first, min(first + chunk, count)) for first in range(0, count, chunk)])
+    until = time.monotonic() + asked.seconds if asked.seconds else float("inf")
+    done, differing, begun = 0, 0, collections.deque()
     with concurrent.futures.ProcessPoolExecutor(asked.workers, initializer=begin, initargs=[asked]) as workers:
         try:
-            for faults, more in workers.map(compare, chunks):
+            while True:
+                numbers = next(chunks, None) if len(begun) < 2 * asked.workers and time.monotonic() < until else None
+                if numbers:
+                    begun.append((numbers, workers.submit(compare, numbers)))
+                    continue
+                if not begun:
+                    break
+                numbers, comparing = begun.popleft()
+                faults, more = comparing.result()
                 reached.add(more)
+                done += min(len(numbers) * size, asked.count - numbers[0] * size)
                 differing += len(faults)
                 for fault in faults:
                     print(fault, flush=True)
@@ -354,7 +391,7 @@ def compare_all(asked, reached):
                 " ".join(open(path).read().strip() for path in glob.glob(place_path(asked, "*")))))
     for path in glob.glob(place_path(asked, "*")):
         os.remove(path)
-    return differing
+    return done, differing
 
 
 def main():
@@ -367,13 +404,14 @@ def main():
     way.add_argument("--triples", action="store_true")
     way.add_argument("--model", action="store_true")
     parser.add_argument("--workers", type=int, default=1)
+    parser.add_argument("--seconds", type=int)
     parser.add_argument("--folder", default="build/fuzz")
     asked = parser.parse_args()
     os.makedirs(asked.folder, exist_ok=True)
     reached, started = Reached(), time.monotonic()
-    differing = compare_all(asked, reached)
+    done, differing = compare_all(asked, reached)
     what = "triples" if asked.triples else "jobs"
-    print("seed %d: %d %s in %d seconds, %d differ" % (asked.seed, asked.count, what, time.monotonic() - started, differing))
+    print("seed %d: %d %s in %d seconds, %d differ" % (asked.seed, done, what, time.monotonic() - started, differing))
     tell_reached(asked, reached)
     sys.exit(differing > 0)
 

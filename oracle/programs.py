@@ -8,6 +8,7 @@ import json
 import os
 import subprocess
 import sys
+import threading
 
 PIPE_BYTES = 1 << 20
 
@@ -106,33 +107,31 @@ class Library:
 
 
 class Plain:
-    """The plain program, which answers all questions in one run."""
+    """The plain program, which answers all questions in one run. A question is the words of a command line, and what they are about."""
 
     def __init__(self, path):
         self.child = subprocess.Popen([path, "jobs"], stdin=subprocess.PIPE, stdout=subprocess.PIPE)
         for pipe in (self.child.stdin, self.child.stdout):
             fcntl.fcntl(pipe, fcntl.F_SETPIPE_SZ, PIPE_BYTES)
 
-    def asked(self, words, *inputs):
-        """The answer to words and what they are about, and how many pages the job has by `pbm` and `min`."""
-        line = " ".join(words + [str(len(content)) for content in inputs])
-        self.child.stdin.write(b"".join([line.encode(), b"\n", *inputs]))
+    def answers(self, questions):
+        """The answer to each question, and how many pages the job has by `pbm` and `min`. All are sent before one is waited for."""
+        lines = []
+        for words, *inputs in questions:
+            lines += [" ".join(words + [str(len(content)) for content in inputs]).encode(), b"\n", *inputs]
+        sending = threading.Thread(target=self.send, args=[b"".join(lines)])
+        sending.start()
+        came = [self.answer() for _ in questions]
+        sending.join()
+        return came
+
+    def send(self, content):
+        self.child.stdin.write(content)
         self.child.stdin.flush()
-        status, pages, written, said = map(int, self.child.stdout.readline().split())
-        return (status, self.child.stdout.read(written), self.child.stdout.read(said)), pages
 
-    def run(self, words, job):
-        return self.asked(words, job)[0]
-
-    def certificate(self, job, form, dpi):
-        return self.run(["cert", "--format", form, "--dpi", str(dpi)], job)[1]
-
-    def check(self, job, output, certificate, dpi):
-        return self.asked(["check", "--dpi", str(dpi)], job, output, certificate)[0]
-
-    def names(self, job):
-        """The names of the commands that are read in a job."""
-        return self.run(["names"], job)[1].decode().split("\n")[:-1]
+    def answer(self):
+        status, pages, written, zeros, said = map(int, self.child.stdout.readline().split())
+        return (status, self.child.stdout.read(written) + bytes(zeros), self.child.stdout.read(said)), pages
 
 
 def product(path, folder):

@@ -15,8 +15,9 @@
 //!
 //! `jobs` answers one request after the other. A request is a line of the words of a command line, as above, and the
 //! number of the job's bytes, with the job behind it; of `check` it has the numbers of bytes of all three in place of their names.
-//! Its answer is a line of the status, the number of the job's pages for `pbm` and `min`, and the numbers of bytes for standard
-//! output and for standard error, with both behind it.
+//! Its answer is a line of the status, the number of the job's pages for `pbm` and `min`, the numbers of bytes for standard
+//! output, of zeros that are left out at their end, and of bytes for standard error, with both behind it. Requests may be sent
+//! before earlier ones are answered.
 
 mod bitmap;
 mod certificates;
@@ -239,7 +240,9 @@ fn answer(order: Order, inputs: &[Vec<u8>], answers: &mut impl Write) -> io::Res
         Ok(()) => (0, String::new()),
         Err(fault) => (fault.status(), fault.to_string()),
     };
-    writeln!(answers, "{status} {pages} {} {}", out.len(), said.len())?;
+    let zeros = out.iter().rev().take_while(|byte| **byte == 0).count();
+    out.truncate(out.len() - zeros);
+    writeln!(answers, "{status} {pages} {} {zeros} {}", out.len(), said.len())?;
     answers.write_all(&out)?;
     answers.write_all(said.as_bytes())?;
     answers.flush()
