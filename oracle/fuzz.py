@@ -45,8 +45,8 @@ from triples import Triple, changed
 TABLES = os.path.join(os.path.dirname(os.path.abspath(__file__)), "..", "crates", "job_cases", "data", "*.txt")
 REVERSED = bytes(int(format(byte, "08b")[::-1], 2) for byte in range(256))
 MOST_PAGES = 256
-# How seldom a job performs as many commands as it may, which takes each program some seconds.
-LONG_JOBS = 1 / 100_000
+# How often a job performs as many commands as it may, which takes each program some seconds.
+LONG_JOBS = 1 / 20_000
 TRIPLES_OF_A_JOB = 8
 # Jobs whose certificates are longer are seldom taken for triples.
 LONG_CERTIFICATE = 700_000
