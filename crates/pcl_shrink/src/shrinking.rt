@@ -17,7 +17,7 @@ use pcl_tool::written_jobs_ask_for_nothing;
 use std::alloc::{AllocError, Global};
 
 /// The smallest job that is found with the pages of a job, dot for dot, and which asks the printer for what that asks for. It is
-/// never longer than the job, nor than the least raster job of its pages with what is asked for. A refusal is the job's.
+/// never longer than the job, nor than the least raster job of its pages where nothing is asked for. A refusal is the job's.
 pub fn shrink(alloc: Global, job: &[u8], dpi: Dpi) -> Result<Shrunk, JobFault>
     ensures { IsShrunk dpi job.now result }
 {
