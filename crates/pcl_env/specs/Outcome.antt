@@ -38,21 +38,21 @@ abbrev pub stays_if : Bool → Settings → Outcome
 stays_if test s = if test then stays s else None
 
 -- of the whole part, which isn't below 0
-abbrev pub counted : Value → (ℕ → Outcome) → Outcome
-counted v f = if is_below_zero v then None else f (whole_of v)
+abbrev pub by_count : Value → (ℕ → Outcome) → Outcome
+by_count v f = if is_below_zero v then None else f (whole_of v)
 
 abbrev pub is_one_of : List ℕ → ℕ → Bool
 is_one_of numbers n = list_any (λ m. m == n) numbers
 
 -- these settings, where the whole part is from 0 on, up to a bound, or one of some numbers
 abbrev pub from_zero : Value → Settings → Outcome
-from_zero v s = counted v (λ n. stays s)
+from_zero v s = by_count v (λ n. stays s)
 
 abbrev pub up_to : ℕ → Value → Settings → Outcome
-up_to most v s = counted v (λ n. stays_if (nat_le n most) s)
+up_to most v s = by_count v (λ n. stays_if (nat_le n most) s)
 
 abbrev pub one_of : List ℕ → Value → Settings → Outcome
-one_of numbers v s = counted v (λ n. stays_if (is_one_of numbers n) s)
+one_of numbers v s = by_count v (λ n. stays_if (is_one_of numbers n) s)
 
 -- ---- lines and columns
 
@@ -178,7 +178,8 @@ units_of_measure =
     96 ∷ 100 ∷ 120 ∷ 144 ∷ 150 ∷ 160 ∷ 180 ∷ 200 ∷ 225 ∷ 240 ∷ 288 ∷ 300 ∷ 360
     ∷ 400 ∷ 450 ∷ 480 ∷ 600 ∷ 720 ∷ 800 ∷ 900 ∷ 1200 ∷ 1440 ∷ 1800 ∷ 2400 ∷ 3600 ∷ 7200 ∷ []
 
--- a command with this value, on a page that is marked or not
+-- a command with this value, on a page that is marked or not; what numbers of controls and of rectangles mean is said where they
+-- are drawn or act on macros, and so is which of them are taken
 unfoldable pub outcome : Dpi → Operation → Value → Bool → Settings → Outcome
 outcome dpi Reset v m s = Some (defaults, page.EjectMarked)
 outcome dpi UniversalExit v m s = if is_minus v.sign && whole_of v == 12345 then Some (defaults, page.EjectMarked) else None
@@ -189,12 +190,12 @@ outcome dpi LineFeed v m s = feed s.vmi (before_feed s)
 outcome dpi FormFeed v m s = Some (before_feed s, page.Eject)
 outcome dpi CarriageReturn v m s = if s.return_feeds then feed s.vmi (return_carriage s) else stays (return_carriage s)
 outcome dpi (Shift side) v m s = stays (record s { in_use = side })
-outcome dpi PageSize v m s = counted v (λ n. set_size (size_with_code n) s)
-outcome dpi Copies v m s = counted v (λ n. stays_if (nat_le 1 n && nat_le n copies_limit) (record s { copies = n }))
+outcome dpi PageSize v m s = by_count v (λ n. set_size (size_with_code n) s)
+outcome dpi Copies v m s = by_count v (λ n. stays_if (nat_le 1 n && nat_le n copies_limit) (record s { copies = n }))
 outcome dpi VerticalMotionIndex v m s = from_zero v (record s { vmi = scaled_by 150 v })
 outcome dpi LineSpacing v m s = one_of line_spacings v (record s { vmi = inch / whole_of v })
 outcome dpi TopMargin v m s = from_zero v (set_top (whole_of v * s.vmi) m s)
-outcome dpi TextLength v m s = counted v (λ n. stays_if (nat_le 1 n) (set_bottom (s.top + n * s.vmi) s))
+outcome dpi TextLength v m s = by_count v (λ n. stays_if (nat_le 1 n) (set_bottom (s.top + n * s.vmi) s))
 outcome dpi PerforationSkip v m s = up_to 1 v (record s { skips = whole_of v == 1 })
 outcome dpi OnlyZero v m s = stays_if (whole_of v == 0) s
 outcome dpi (Ask what) v m s = Some (record s { asked = asked_with what (signed_whole v) s.asked }, effect_of_asking what)
@@ -206,12 +207,12 @@ outcome dpi LeftMargin v m s = from_zero v (set_left (whole_of v * s.hmi) s)
 outcome dpi (Move axis unit) v m s = stays (move_along axis unit v s)
 outcome dpi CursorStack v m s = up_to 1 v (if whole_of v == 0 then push s else pop s)
 outcome dpi MacroId v m s = up_to id_limit v (record s { macro_id = whole_of v })
-outcome dpi ControlMacros v m s = one_of (0 ∷ 1 ∷ 2 ∷ 3 ∷ 6 ∷ 7 ∷ 8 ∷ 9 ∷ 10 ∷ []) v s
+outcome dpi ControlMacros v m s = stays s
 outcome dpi (RectangleSize axis unit) v m s = from_zero v (set_rectangle axis (scaled_by (unit_of axis unit s) v) s)
-outcome dpi FillRectangle v m s = one_of (0 ∷ 1 ∷ 5 ∷ []) v s
+outcome dpi FillRectangle v m s = stays s
 outcome dpi FontId v m s = up_to id_limit v (record s { font_id = whole_of v })
 outcome dpi CharacterCode v m s = up_to 255 v (record s { character_code = whole_of v })
-outcome dpi ControlFonts v m s = up_to 5 v s
+outcome dpi ControlFonts v m s = stays s
 outcome dpi DownloadFont v m s = from_zero v s
 outcome dpi DownloadCharacter v m s = from_zero v s
 outcome dpi (SelectFont side) v m s = from_zero v s
@@ -223,7 +224,7 @@ outcome dpi RasterPresentation v m s = one_of (0 ∷ 3 ∷ []) v s
 outcome dpi StartRaster v m s = up_to 1 v s
 outcome dpi EndRaster v m s = stays s
 outcome dpi EndRasterResetMethod v m s = stays (record s { method = Plain })
-outcome dpi RasterMethod v m s = counted v (λ n. set_method (method_with_code n) s)
+outcome dpi RasterMethod v m s = by_count v (λ n. set_method (method_with_code n) s)
 outcome dpi RasterOffset v m s = from_zero v s
 outcome dpi RasterRow v m s = from_zero v s
 outcome dpi NoEffect v m s = stays s

@@ -7,7 +7,7 @@ use Rattle.pcl_escape.specs.Letter.{prefix_bytes}
 use Rattle.pcl_escape.specs.Field.{field_bytes}
 use Rattle.pcl_escape.specs.Exit.{joined}
 use Rattle.pcl_escape.specs.Said.{Said}
-use Rattle.pcl_escape.specs.inner.Scan.{Reads, start_at, parameter_at, commands_said, with_front, after, outcome, outcome_of}
+use Rattle.pcl_escape.specs.inner.Scan.{Reads, start_at, parameter_at, commands_said, with_front, and_then, outcome, outcome_of}
 use Rattle.pcl_escape.specs.Pieces.{Parameter, Piece, silent, control, text, two_character, combined, exit, IsPrefix, IsPiece, ArePieces, IsMiddle, IsEnd, IsReading, parameter_bytes, spelling, command_of, parameter_commands, first_place, commands_from, commands_of}
 use Rattle.pcl_escape.specs.Faults.{Fails, unknown_control, lone_escape, no_sequence, unknown_two, no_group, bad_group, in_parameter, in_line, IsUngrouped, FailsParameter, place_behind, IsFault}
 use Rattle.pcl_escape.proofs.Steps.{Inside, is_middle, is_end, is_wrong, middle_reads, end_reads, parameter_shorter, parameter_long, parameter_joined, middle_again, end_again, fault_again}
@@ -18,7 +18,7 @@ use Rattle.pcl_escape.proofs.Runs.{Last, no_more, first_fault, sequence_bytes, p
 
 -- two ways to go on that agree on what the step read
 after_same : (read : Result Reads Refusal) (f g : Reads → Result (List Said) Refusal)
-    → ((reads : Reads) → read ≡ Ok reads → f reads ≡ g reads) → after read f ≡ after read g
+    → ((reads : Reads) → read ≡ Ok reads → f reads ≡ g reads) → and_then read f ≡ and_then read g
 after_same (Ok reads) f g h = ap (with_front (commands_said reads.said)) (h reads refl)
 after_same (Err fault) f g h = refl
 
@@ -44,7 +44,7 @@ enough (suc n) (suc m) (Some prefix) at bytes h k =
 
 -- the steps from a parameter on, whose command has the place at; its bytes begin at the place begin
 abbrev steps_in : ℕ → Prefix → ℕ → ℕ → List ℕ → Result (List Said) Refusal
-steps_in n prefix at begin bytes = after (parameter_at prefix at bytes)
+steps_in n prefix at begin bytes = and_then (parameter_at prefix at bytes)
     (λ reads. outcome n reads.inside (begin + (length bytes - length reads.rest)) reads.rest)
 
 -- whatever the number of steps, if it is enough
@@ -63,7 +63,7 @@ end_on {n} {prefix} at begin {end} {sent} behind is h gives =
     let fits : length behind < n = omega arith in
     let bytes = (parameter_bytes end ++ sent) ++ behind in
     let step = ap (parameter_at prefix at) (append_assoc (parameter_bytes end) sent behind) ∙ end_again is in
-    ap (λ (r : Result Reads Refusal). after r (λ reads. outcome n reads.inside (begin + (length bytes - length reads.rest)) reads.rest))
+    ap (λ (r : Result Reads Refusal). and_then r (λ reads. outcome n reads.inside (begin + (length bytes - length reads.rest)) reads.rest))
     step
     ∙ ap (λ (k : ℕ). with_front (command_of prefix at end sent ∷ []) (outcome n None k behind))
     (place_of begin (parameter_bytes end ++ sent) behind)
@@ -77,7 +77,7 @@ middle_on : (n : ℕ) {prefix : Prefix} (at begin : ℕ) {parameter : Parameter}
 unfolding outcome
 middle_on n {prefix} at begin {parameter} rest is =
     let bytes = parameter_bytes parameter ++ rest in
-    ap (λ (r : Result Reads Refusal). after r (λ reads. outcome (suc n) reads.inside
+    ap (λ (r : Result Reads Refusal). and_then r (λ reads. outcome (suc n) reads.inside
     (begin + (length bytes - length reads.rest)) reads.rest)) (middle_again is)
     ∙ ap (λ (k : ℕ). with_front (command_of prefix at parameter [] ∷ []) (outcome (suc n) (Some prefix) k rest))
     (place_of begin (parameter_bytes parameter) rest)
@@ -137,7 +137,7 @@ broken_again : (middle : List Parameter) (n : ℕ) {prefix : Prefix} (at begin :
     → length (flat_map parameter_bytes middle ++ bytes) ≤ n → steps_in n prefix at begin (flat_map parameter_bytes middle ++ bytes)
     ≡ Err refusal
 broken_again [] n at begin {bytes} each f h =
-    ap (λ (r : Result Reads Refusal). after r (λ reads. outcome n reads.inside (begin + (length bytes - length reads.rest)) reads.rest))
+    ap (λ (r : Result Reads Refusal). and_then r (λ reads. outcome n reads.inside (begin + (length bytes - length reads.rest)) reads.rest))
     (fault_again f)
 broken_again (parameter ∷ middle) zero at begin {bytes} each f h = absurd (too_long_front parameter middle bytes h)
 broken_again (parameter ∷ middle) (suc n) {prefix} at begin {bytes} {refusal} each f h =
@@ -159,7 +159,7 @@ first_on : (n : ℕ) (prefix : Prefix) (at : ℕ) (bytes : List ℕ) (read : Res
 unfolding outcome
 first_on n prefix at bytes read is apart inside e =
     let all = 27 ∷ (prefix_bytes prefix ++ bytes) in
-    ap (λ (r : Result Reads Refusal). after r (λ reads. outcome n reads.inside (at + (length all - length reads.rest)) reads.rest))
+    ap (λ (r : Result Reads Refusal). and_then r (λ reads. outcome n reads.inside (at + (length all - length reads.rest)) reads.rest))
     (inside_again is apart inside e ∙ sym e)
     ∙ after_same (parameter_at prefix at bytes) (λ reads. outcome n reads.inside (at + (length all - length reads.rest)) reads.rest)
     (λ reads. outcome n reads.inside (first_place at prefix + (length bytes - length reads.rest)) reads.rest)
@@ -220,7 +220,7 @@ broken_on n {prefix} at (parameter ∷ middle) {bytes} is apart each f =
 
 -- the steps from a byte on: one step, and the steps after it
 start_on : (n at : ℕ) (bytes : List ℕ) → 0 < length bytes
-    → outcome (suc n) None at bytes ≡ after (start_at at bytes)
+    → outcome (suc n) None at bytes ≡ and_then (start_at at bytes)
     (λ reads. outcome n reads.inside (at + (length bytes - length reads.rest)) reads.rest)
 unfolding outcome
 start_on n at [] h = absurd (omega arith)
@@ -236,7 +236,7 @@ piece_on piece {n} at {rest} {said} long e h gives =
     let some : 0 < length (spelling piece ++ rest) = omega arith in
     let fits : length rest < n = omega arith in
     start_on n at (spelling piece ++ rest) some
-    ∙ ap (λ (r : Result Reads Refusal). after r (λ reads. outcome n reads.inside
+    ∙ ap (λ (r : Result Reads Refusal). and_then r (λ reads. outcome n reads.inside
     (at + (length (spelling piece ++ rest) - length reads.rest)) reads.rest)) e
     ∙ ap (λ (k : ℕ). with_front (commands_said said) (outcome n None k rest)) (place_of at (spelling piece) rest)
     ∙ ap (with_front (commands_said said)) (gives n fits)
@@ -275,7 +275,7 @@ at_once : (n at byte : ℕ) (rest : List ℕ) {refusal : Refusal} → start_at a
     → outcome (suc n) None at (byte ∷ rest) ≡ Err refusal
 unfolding outcome
 at_once n at byte rest e =
-    ap (λ (r : Result Reads Refusal). after r (λ reads. outcome n reads.inside
+    ap (λ (r : Result Reads Refusal). and_then r (λ reads. outcome n reads.inside
     (at + (length (byte ∷ rest) - length reads.rest)) reads.rest)) e
 
 -- the fault at a place outside sequences is found

@@ -3,7 +3,7 @@ use Rattle.std.proofs.Common.{◌≡◌, ℕ, suc, ◌+◌, ◌-◌, ◌<◌, �
 use Rattle.pcl_base.specs.declared.refusal.Refusal.{Refusal}
 use Rattle.pcl_escape.specs.declared.step.Prefix.{Prefix}
 use Rattle.pcl_escape.specs.Said.{Said}
-use Rattle.pcl_escape.specs.inner.Scan.{Reads, step_at, commands_said, with_front, after, outcome}
+use Rattle.pcl_escape.specs.inner.Scan.{Reads, step_at, commands_said, with_front, and_then, outcome}
 use Rattle.pcl_escape.proofs.Steps.{parameter_shorter}
 use Rattle.pcl_escape.proofs.Starts.{start_step}
 use Rattle.pcl_escape.proofs.Runs.{with_fronts, start_shorter}
@@ -36,7 +36,7 @@ step_shorter (Some prefix) at bytes goes e = parameter_shorter prefix at bytes e
 
 -- the first step, and then the others
 first_step : (n : ℕ) (inside : Option Prefix) (at : ℕ) (bytes : List ℕ) → GoesOn inside bytes
-    → outcome (suc n) inside at bytes ≡ after (step_at inside at bytes)
+    → outcome (suc n) inside at bytes ≡ and_then (step_at inside at bytes)
     (λ reads. outcome n reads.inside (at + (length bytes - length reads.rest)) reads.rest)
 unfolding outcome
 first_step n None at [] goes = absurd goes
@@ -60,7 +60,7 @@ one_more front total inside rest reads h goes e =
     let next : outcome (suc (length rest)) inside (total - length rest) rest ≡ with_front (commands_said reads.said)
     (outcome (length rest) reads.inside (total - length reads.rest) reads.rest) =
     first_step (length rest) inside (total - length rest) rest goes
-    ∙ ap (λ (r : Result Reads Refusal). after r (λ reads. outcome (length rest) reads.inside
+    ∙ ap (λ (r : Result Reads Refusal). and_then r (λ reads. outcome (length rest) reads.inside
     ((total - length rest) + (length rest - length reads.rest)) reads.rest)) e
     ∙ ap (λ (k : ℕ). with_front (commands_said reads.said) (outcome (length rest) reads.inside k reads.rest)) place in
     ap (with_front (front ++ commands_said reads.said)) steps
@@ -72,7 +72,7 @@ pub stops_at : (front : List Said) (total : ℕ) (inside : Option Prefix) (rest 
     → step_at inside (total - length rest) rest ≡ Err fault → so_far front total inside rest ≡ Err fault
 stops_at front total inside rest goes e =
     ap (with_front front) (first_step (length rest) inside (total - length rest) rest goes
-    ∙ ap (λ (r : Result Reads Refusal). after r (λ reads. outcome (length rest) reads.inside
+    ∙ ap (λ (r : Result Reads Refusal). and_then r (λ reads. outcome (length rest) reads.inside
     ((total - length rest) + (length rest - length reads.rest)) reads.rest)) e)
 
 -- no bytes outside sequences give no commands

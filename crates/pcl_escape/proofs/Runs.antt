@@ -10,7 +10,7 @@ use Rattle.pcl_escape.specs.declared.command.Command.{Command}
 use Rattle.pcl_escape.specs.declared.step.Prefix.{Prefix}
 use Rattle.pcl_escape.specs.Letter.{goes_on, prefix_bytes}
 use Rattle.pcl_escape.specs.Said.{Said, views}
-use Rattle.pcl_escape.specs.inner.Scan.{Reads, with_front, after, outcome, outcome_of, Yields}
+use Rattle.pcl_escape.specs.inner.Scan.{Reads, with_front, and_then, outcome, outcome_of, Yields}
 use Rattle.pcl_escape.specs.Pieces.{Parameter, Piece, combined, IsPrefix, IsPiece, ArePieces, IsMiddle, IsEnd, parameter_bytes, spelling, command_of, parameter_commands, first_place, commands_from, commands_of, IsReading}
 use Rattle.pcl_escape.specs.Faults.{Fails, IsFault, IsFaultOf, IsUngrouped, in_parameter, FailsParameter, place_behind}
 use Rattle.pcl_escape.proofs.Fields.{and_parts}
@@ -194,7 +194,7 @@ start_shorter (wrong f) e = absurd cc
 rest_after : {prefix : Prefix} {at begin : ℕ} {bytes : List ℕ} {read : Result Reads Refusal} {go_on : Reads → Result (List Said) Refusal}
     → Inside prefix at bytes read
     → ((reads : Reads) → read ≡ Ok reads → IsRead reads.inside (begin + (length bytes - length reads.rest)) reads.rest (go_on reads))
-    → Rest prefix at begin bytes (after read go_on)
+    → Rest prefix at begin bytes (and_then read go_on)
 rest_after {prefix} {at} {begin} {go_on} (is_middle parameter rest is) next =
     let reads : Reads = record { said = Some (command_of prefix at parameter []); rest = rest; inside = Some prefix } in
     let more : Rest prefix (begin + length (parameter_bytes parameter)) (begin + length (parameter_bytes parameter)) rest (go_on reads) =
@@ -226,7 +226,7 @@ moved inside n m bytes read e is = subst (λ (k : ℕ). IsRead inside k bytes re
 reading_after : {at : ℕ} {bytes : List ℕ} {read : Result Reads Refusal} {go_on : Reads → Result (List Said) Refusal}
     → Outside at bytes read
     → ((reads : Reads) → read ≡ Ok reads → IsRead reads.inside (at + (length bytes - length reads.rest)) reads.rest (go_on reads))
-    → Reading at bytes (after read go_on)
+    → Reading at bytes (and_then read go_on)
 reading_after {at} {go_on} (whole_piece piece rest said is long gives) next =
     let reads : Reads = record { said = said; rest = rest; inside = None } in
     subst (λ (front : List Said). Reading at (spelling piece ++ rest) (with_front front (go_on reads))) gives

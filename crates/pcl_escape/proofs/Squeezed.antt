@@ -8,27 +8,27 @@ use Rattle.std.proofs.lemmas.List.{map-append}
 use Rattle.std.proofs.lemmas.List.Elements.{filter-append}
 use Rattle.std.proofs.lemmas.Bool.Decides.{nat_tests}
 use Rattle.pcl_base.proofs.Lists.{full_front, longer_front}
-use Rattle.pcl_escape.specs.Exit.{is_blank, squeezed, names_language, names_pcl}
+use Rattle.pcl_escape.specs.Exit.{is_white_space, squeezed, names_language, names_pcl}
 
 -- a byte after the line says what it says alone
 squeezed_more : (line : List ℕ) (byte : ℕ) → squeezed (line ++ byte ∷ []) ≡ squeezed line ++ squeezed (byte ∷ [])
 squeezed_more line byte =
-    ap (map to_ascii_uppercase) (filter-append (λ (byte : ℕ). not (is_blank byte)) line (byte ∷ []))
-    ∙ map-append to_ascii_uppercase (filter (λ (byte : ℕ). not (is_blank byte)) line)
-    (filter (λ (byte : ℕ). not (is_blank byte)) (byte ∷ []))
+    ap (map to_ascii_uppercase) (filter-append (λ (byte : ℕ). not (is_white_space byte)) line (byte ∷ []))
+    ∙ map-append to_ascii_uppercase (filter (λ (byte : ℕ). not (is_white_space byte)) line)
+    (filter (λ (byte : ℕ). not (is_white_space byte)) (byte ∷ []))
 
 -- ---- one byte more of the line
 
-pub blank_step : {front : List ℕ} (line : List ℕ) (byte : ℕ) → front ≡ take 22 (squeezed line) → true ≡ is_blank byte
+pub blank_step : {front : List ℕ} (line : List ℕ) (byte : ℕ) → front ≡ take 22 (squeezed line) → true ≡ is_white_space byte
     → front ≡ take 22 (squeezed (line ++ byte ∷ []))
 blank_step line byte so_far e = so_far ∙ ap (take 22) (sym (squeezed_more line byte ∙ rw (sym e) (append-nil (squeezed line))))
 
 -- a byte that says something, in upper case
-squeezed_other : (line : List ℕ) (byte : ℕ) → false ≡ is_blank byte
+squeezed_other : (line : List ℕ) (byte : ℕ) → false ≡ is_white_space byte
     → squeezed (line ++ byte ∷ []) ≡ squeezed line ++ to_ascii_uppercase byte ∷ []
 squeezed_other line byte e = squeezed_more line byte ∙ rw (sym e) refl
 
-pub full_step : {front : List ℕ} (line : List ℕ) (byte : ℕ) → front ≡ take 22 (squeezed line) → false ≡ is_blank byte
+pub full_step : {front : List ℕ} (line : List ℕ) (byte : ℕ) → front ≡ take 22 (squeezed line) → false ≡ is_white_space byte
     → true ≡ (length front == 22)
     → front ≡ take 22 (squeezed (line ++ byte ∷ []))
 full_step {front} line byte so_far e full =
@@ -39,7 +39,7 @@ full_step {front} line byte so_far e full =
 has_room : {n m : ℕ} → false ≡ (n == m) → n ≤ m → n < m
 has_room e h = grind (arith, nat_tests)
 
-pub push_step : {front : List ℕ} (line : List ℕ) (byte : ℕ) → front ≡ take 22 (squeezed line) → false ≡ is_blank byte
+pub push_step : {front : List ℕ} (line : List ℕ) (byte : ℕ) → front ≡ take 22 (squeezed line) → false ≡ is_white_space byte
     → false ≡ (length front == 22)
     → length front ≤ 22 → front ++ to_ascii_uppercase byte ∷ [] ≡ take 22 (squeezed (line ++ byte ∷ []))
 push_step line byte so_far e other within =

@@ -5,12 +5,12 @@ use Rattle.std.specs.Char.{to_ascii_uppercase}
 use Rattle.std.specs.Str.{bytes_eq}
 
 -- blanks, tabs, CR and LF say nothing in a line
-abbrev pub is_blank : ℕ → Bool
-is_blank byte = byte == 32 || byte == 9 || byte == 13 || byte == 10
+abbrev pub is_white_space : ℕ → Bool
+is_white_space byte = byte == 32 || byte == 9 || byte == 13 || byte == 10
 
 -- a line without what says nothing, in upper case
 abbrev pub squeezed : List ℕ → List ℕ
-squeezed line = map to_ascii_uppercase (filter (λ byte. not (is_blank byte)) line)
+squeezed line = map to_ascii_uppercase (filter (λ byte. not (is_white_space byte)) line)
 
 -- the bytes begin with a line of the job language
 abbrev pub is_job_line : List ℕ → Bool

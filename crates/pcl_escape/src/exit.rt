@@ -1,7 +1,7 @@
 //! The lines of the printer's job language after a universal exit.
 
 ghost use Rattle.std.specs.Prelude.{◌≡◌, ◌≤◌, ◌+◌, length, take};
-ghost use Rattle.pcl_escape.specs.Exit.{is_blank, squeezed};
+ghost use Rattle.pcl_escape.specs.Exit.{is_white_space, squeezed};
 ghost use Rattle.pcl_escape.specs.inner.Lines.{GivesRest, line_len, lines_at};
 
 use arrayvec::ArrayVec;
@@ -59,7 +59,7 @@ fn squeezed_front(line: &[u8]) -> ArrayVec<u8, FRONT>
 {
     let mut front = ArrayVec::new();
     for byte in line {
-        if !is_blank(*byte) && !front.is_full() {
+        if !is_white_space(*byte) && !front.is_full() {
             front.push(byte.to_ascii_uppercase());
         }
     }
@@ -67,8 +67,8 @@ fn squeezed_front(line: &[u8]) -> ArrayVec<u8, FRONT>
 }
 
 /// Whether the byte says nothing in a line.
-fn is_blank(byte: u8) -> bool
-    ensures { result ≡ is_blank byte }
+fn is_white_space(byte: u8) -> bool
+    ensures { result ≡ is_white_space byte }
 {
     matches!(byte, b' ' | b'\t' | b'\r' | b'\n')
 }

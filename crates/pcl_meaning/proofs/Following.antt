@@ -47,6 +47,8 @@ drawn_same dpi other at name value bytes s = refl
 refusal_same : (operation : Operation) (at : ℕ) (name : Name) (value : Value) (bytes : List ℕ) (s : Situation)
     → draw_refusal operation (record { at = at; name = name; value = value; bytes = bytes }) s
     ≡ draw_refusal operation (record { at = 0; name = Empty; value = value; bytes = bytes }) s
+refusal_same ControlFonts at name value bytes s = refl
+refusal_same FillRectangle at name value bytes s = refl
 refusal_same DownloadFont at name value bytes s = refl
 refusal_same DownloadCharacter at name value bytes s = refl
 refusal_same PrintText at name value bytes s = refl

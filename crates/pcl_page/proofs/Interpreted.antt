@@ -11,14 +11,13 @@ use Rattle.pcl_base.specs.declared.fault.JobFault.TheVariants as job
 use Rattle.pcl_base.specs.declared.kind.Kind.{Kind}
 use Rattle.pcl_base.specs.declared.kind.Kind.TheVariants.{MacroOpen}
 use Rattle.pcl_base.specs.declared.operation.Operation.{Operation}
-use Rattle.pcl_base.specs.declared.operation.Operation.TheVariants.{Reset, UniversalExit, ControlMacros}
+use Rattle.pcl_base.specs.declared.operation.Operation.TheVariants.{ControlMacros}
 use Rattle.pcl_base.specs.declared.value.Value.{Value}
 use Rattle.pcl_base.specs.Operation.{operation_of}
-use Rattle.pcl_base.specs.Value.{is_below_zero}
 use Rattle.pcl_env.specs.declared.effect.Effect.{Effect}
 use Rattle.pcl_env.specs.declared.effect.Effect.TheVariants.{Stay}
 use Rattle.pcl_env.specs.Settings.{Settings, kept}
-use Rattle.pcl_env.specs.Outcome.{Outcome, outcome, stays}
+use Rattle.pcl_env.specs.Outcome.{Outcome, outcome}
 use Rattle.pcl_escape.specs.Said.{Said}
 use Rattle.pcl_macros.specs.declared.table.MacroControl.{MacroControl}
 use Rattle.pcl_macros.specs.declared.table.MacroControl.TheVariants.{Temporary}
@@ -37,7 +36,7 @@ use Rattle.pcl_page.specs.Delivering.{Hands}
 use Rattle.pcl_page.specs.inner.Reflecting.{IsIn, HandsMore, IsTried, EndDone}
 use Rattle.pcl_page.specs.inner.Unfolding.{IsAt, Enters, IsStepped, IsActed, IsEntered, InterpreterEnds}
 use Rattle.pcl_page.proofs.Keeping.{then_from, is_counted}
-use Rattle.pcl_page.proofs.Steps.{prepared_pages, stays_pages, no_more}
+use Rattle.pcl_page.proofs.Steps.{prepared_pages, only_stays, stays_pages, no_more}
 use Rattle.pcl_page.proofs.Unfolded.{managed_acts}
 
 -- nothing runs
@@ -52,17 +51,10 @@ counting_is : (dpi : Dpi) (place : ℕ) (command : Said) (s : Situation) {o : Re
 counting_is dpi place command s e = ap (λ (o : Result Situation Kind). o |> managed place (operation_of command.name) command.value) e
 
 -- a macro control lets the page stay
-control_stay : (below taken : Bool) (s : Settings) {done : Settings × Effect} → cond below None (cond taken (stays s) None) ≡ Some done
-    → done.1 ≡ Stay
-control_stay true taken s e = absurd cc
-control_stay false true s {done} e =
-    let same : ◌≡◌ {A = Settings × Effect} (s, Stay) done = cc in ap (λ (d : Settings × Effect). d.1) (sym same)
-control_stay false false s e = absurd cc
-
 control_outcome : (dpi : Dpi) (value : Value) (m : Bool) (s : Settings) {done : Settings × Effect}
     → outcome dpi ControlMacros value m s ≡ Some done → done.1 ≡ Stay
 unfolding outcome
-control_outcome dpi value m s e = control_stay (is_below_zero value) _ s e
+control_outcome dpi value m s e = only_stays s e
 
 control_turned : (dpi : Dpi) (value : Value) (o : Outcome) (s : Situation) {later : Situation}
     → outcome dpi ControlMacros value (is_marked s) s.settings ≡ o → turned_by o s ≡ Ok later → later.pages ≡ s.pages

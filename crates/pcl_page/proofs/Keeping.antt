@@ -8,15 +8,17 @@ use Rattle.pcl_base.specs.declared.operation.Operation.{Operation}
 use Rattle.pcl_base.specs.declared.operation.Operation.TheVariants.{Reset, UniversalExit, FillRectangle, ControlFonts, DownloadFont, DownloadCharacter, SelectFont, PrintText, StartRaster, RasterOffset, RasterRow}
 use Rattle.pcl_base.specs.Limits.{command_limit}
 use Rattle.pcl_base.specs.Operation.{operation_of}
+use Rattle.pcl_bitmap.specs.declared.ink.Ink.{Ink}
+use Rattle.pcl_fonts.specs.declared.fonts.FontControl.{FontControl}
 use Rattle.pcl_fonts.specs.Fields.{Character}
 use Rattle.pcl_escape.specs.Said.{Said}
 use Rattle.pcl_env.specs.declared.effect.Effect.{Effect}
 use Rattle.pcl_env.specs.declared.effect.Effect.TheVariants.{EjectMarked}
 use Rattle.pcl_env.specs.Settings.{Settings, defaults, font_in_use}
 use Rattle.pcl_env.specs.Outcome.{Outcome, outcome}
-use Rattle.pcl_page.specs.Text.{is_proportional, prints}
+use Rattle.pcl_page.specs.Text.{control_of, is_proportional, prints}
 use Rattle.pcl_page.specs.Raster.{ends_raster}
-use Rattle.pcl_page.specs.Situation.{Sheet, Situation, with_font, with_character, font_now, code_printed, codes_printed, draw_refusal, unless_refused, ◌|>◌, end_raster, is_marked, ejects, sheet_of, turned, turned_by, drawn, drawn_on, taken, counted, counted_in_limit, prepared, is_ignored, after, after_named, page_refusal, within_page_limit, tried, at_end}
+use Rattle.pcl_page.specs.Situation.{Sheet, Situation, ink_of, filled_with, fonts_controlled, with_font, with_character, font_now, code_printed, codes_printed, draw_refusal, unless_refused, ◌|>◌, end_raster, is_marked, ejects, sheet_of, turned, turned_by, drawn, drawn_on, taken, counted, counted_in_limit, prepared, is_ignored, after, after_named, page_refusal, within_page_limit, tried, at_end}
 use Rattle.pcl_page.proofs.Turns.{prepared_page}
 
 -- neither pages nor counts, nor what is there of macros, change where something is drawn
@@ -33,6 +35,14 @@ font_keeps (byte ∷ bytes) = record { pages = refl; performed = refl; macros = 
 character_keeps : (bytes : List ℕ) {s : Situation} → KeepsCounts s (with_character bytes s)
 character_keeps [] = record { pages = refl; performed = refl; macros = refl; begun = refl }
 character_keeps (byte ∷ bytes) = record { pages = refl; performed = refl; macros = refl; begun = refl }
+
+controlled_keeps : (what : Option FontControl) {s : Situation} → KeepsCounts s (fonts_controlled what s)
+controlled_keeps None = record { pages = refl; performed = refl; macros = refl; begun = refl }
+controlled_keeps (Some what) = record { pages = refl; performed = refl; macros = refl; begun = refl }
+
+filled_keeps : (dpi : Dpi) (ink : Option Ink) {s : Situation} → KeepsCounts s (filled_with dpi ink s)
+filled_keeps dpi None = record { pages = refl; performed = refl; macros = refl; begun = refl }
+filled_keeps dpi (Some ink) = record { pages = refl; performed = refl; macros = refl; begun = refl }
 
 code_keeps : (dpi : Dpi) (proportional : Bool) (c : Option Character) (code : ℕ) {s : Situation}
     → KeepsCounts s (code_printed dpi proportional c code s)
@@ -55,13 +65,13 @@ codes_keep dpi proportional characters (code ∷ codes) =
 pub drawn_keeps : (dpi : Dpi) (operation : Operation) (command : Said) {s : Situation} → KeepsCounts s (drawn dpi operation command s)
 drawn_keeps dpi Reset command = record { pages = refl; performed = refl; macros = refl; begun = refl }
 drawn_keeps dpi UniversalExit command = record { pages = refl; performed = refl; macros = refl; begun = refl }
-drawn_keeps dpi ControlFonts command = record { pages = refl; performed = refl; macros = refl; begun = refl }
+drawn_keeps dpi ControlFonts command = controlled_keeps (control_of command.value)
 drawn_keeps dpi DownloadFont command = font_keeps command.bytes
 drawn_keeps dpi DownloadCharacter command = character_keeps command.bytes
 drawn_keeps dpi (SelectFont side) command = record { pages = refl; performed = refl; macros = refl; begun = refl }
 drawn_keeps dpi PrintText command {s} =
     codes_keep dpi (is_proportional (font_now s)) (prints s.fonts (font_in_use s.settings)) command.bytes
-drawn_keeps dpi FillRectangle command = record { pages = refl; performed = refl; macros = refl; begun = refl }
+drawn_keeps dpi FillRectangle command = filled_keeps dpi (ink_of command.value)
 drawn_keeps dpi StartRaster command = record { pages = refl; performed = refl; macros = refl; begun = refl }
 drawn_keeps dpi RasterOffset command = record { pages = refl; performed = refl; macros = refl; begun = refl }
 drawn_keeps dpi RasterRow command = record { pages = refl; performed = refl; macros = refl; begun = refl }

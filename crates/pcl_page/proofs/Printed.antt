@@ -1,11 +1,16 @@
 -- What is drawn, text and fonts: the performer follows the situation.
-use Rattle.std.proofs.Common.{◌≡◌, ℕ, suc, ◌+◌, ◌-◌, Bool, true, false, cond, List, [], ◌∷◌, Option, Some, None, ℤ, pos, negsuc, refl, sym, ap, subst, ◌∙◌}
+use Rattle.std.proofs.Common.{◌≡◌, ℕ, suc, ◌+◌, ◌-◌, ◌<◌, Bool, true, false, cond, List, [], ◌∷◌, Option, Some, None, ℤ, pos, negsuc, refl, sym, ap, subst, ◌∙◌}
 use Rattle.std.specs.Prelude.{◌==◌}
 use Rattle.pcl_base.specs.declared.dpi.Dpi.{Dpi}
 use Rattle.pcl_base.specs.declared.operation.Side.{Side}
 use Rattle.pcl_base.specs.declared.operation.Side.TheVariants.{Primary, Secondary}
 use Rattle.pcl_base.specs.declared.kind.Kind.TheVariants.{NoFont}
-use Rattle.pcl_base.specs.declared.value.Value.{Value}
+use Rattle.pcl_base.specs.declared.size.Size.{Size}
+use Rattle.pcl_base.specs.Size.{page_width, page_height}
+use Rattle.pcl_bitmap.specs.declared.ink.Ink.{Ink}
+use Rattle.pcl_bitmap.specs.declared.ink.Ink.TheVariants.{Black}
+use Rattle.pcl_bitmap.specs.Bitmap.{Picture, dot}
+use Rattle.pcl_bitmap.specs.Dots.{is_black_ink}
 use Rattle.pcl_escape.specs.Said.{Said}
 use Rattle.pcl_fonts.specs.Fields.{Font, Character}
 use Rattle.pcl_fonts.specs.declared.header.FontInfo.{FontInfo}
@@ -14,11 +19,13 @@ use Rattle.pcl_fonts.specs.Table.{info_of}
 use Rattle.pcl_fonts.proofs.Histories.{holds_after}
 use Rattle.pcl_env.specs.Settings.{Settings, put_x, advance, font_of, font_in_use}
 use Rattle.pcl_page.specs.declared.performer.Performer.{Performer}
+use Rattle.pcl_page.specs.declared.text.Printed.{Printed}
 use Rattle.pcl_page.specs.Asks.{asks_of}
-use Rattle.pcl_page.specs.Text.{prints, character_mark, is_blank, is_proportional, text_refusal, behind_character, behind_blank}
+use Rattle.pcl_page.specs.Marks.{Mark, dot_at}
+use Rattle.pcl_page.specs.Text.{prints, character_mark, are_spaces, is_proportional, text_refusal, behind_character, behind_blank}
 use Rattle.pcl_page.specs.Raster.{Raster, row_sent, with_row, row_mark}
-use Rattle.pcl_page.specs.Situation.{Situation, with_event, with_row_in, raster_for_row, rectangle_mark, code_printed, codes_printed}
-use Rattle.pcl_page.specs.inner.Reflecting.{IsIn, IsDrawn, IsSent, HasEvent, HasSettings}
+use Rattle.pcl_page.specs.Situation.{Situation, with_event, with_row_in, raster_for_row, rectangle_mark, filled_with, code_printed, codes_printed}
+use Rattle.pcl_page.specs.inner.Reflecting.{character_at, IsIn, IsDrawn, IsInked, IsAtCursor, IsLastInked, IsSent, HasEvent, HasSettings}
 use Rattle.pcl_page.proofs.Turns.{painted_same, holds_same, drawn_in}
 
 pub event_in : {dpi : Dpi} {event : FontEvent} {s : Situation} {old new : Performer} → IsIn dpi s old → HasEvent event old new
@@ -49,11 +56,11 @@ settings_in {settings} i h = record {
 
 -- ---- rectangles and rows
 
-pub rectangle_in : {dpi : Dpi} {s : Situation} {old new : Performer} (value : Value) → IsIn dpi s old
-    → IsDrawn (rectangle_mark dpi value old.environment) old new → new.raster ≡ old.raster
-    → IsIn dpi (record s { marks = rectangle_mark dpi value s.settings ∷ s.marks }) new
-rectangle_in {dpi} {s} {new} value i d r =
-    subst (λ (t : Settings). IsIn dpi (record s { marks = rectangle_mark dpi value t ∷ s.marks }) new) i.settings
+pub rectangle_in : {dpi : Dpi} {s : Situation} {old new : Performer} (ink : Ink) → IsIn dpi s old
+    → IsDrawn (rectangle_mark dpi ink old.environment) old new → new.raster ≡ old.raster
+    → IsIn dpi (filled_with dpi (Some ink) s) new
+rectangle_in {dpi} {s} {new} ink i d r =
+    subst (λ (t : Settings). IsIn dpi (record s { marks = rectangle_mark dpi ink t ∷ s.marks }) new) i.settings
     (drawn_in i d (r ∙ i.raster))
 
 -- the row that goes to a raster, by what is set and the raster
@@ -74,14 +81,21 @@ row_in {dpi} {s} {old} {new} command i m =
 
 -- ---- one code
 
-pub character_printed : {dpi : Dpi} {s : Situation} {old middle new : Performer} (proportional : Bool) (c : Character) (code : ℕ)
-    → IsIn dpi s old → IsDrawn (character_mark dpi c old.environment) old middle → middle.raster ≡ old.raster
-    → HasSettings (behind_character proportional c middle.environment) middle new
+-- a character is drawn at the cursor
+cursor_drawn : {dpi : Dpi} {here : Printed} {old new : Performer} (c : Character) → IsAtCursor dpi here old.environment
+    → IsDrawn (character_at dpi c here.x here.y) old new → IsDrawn (character_mark dpi c old.environment) old new
+cursor_drawn {dpi} {here} {old} {new} c at d =
+    subst (λ (y : ℕ). IsDrawn (character_at dpi c (dot_at dpi old.environment.cursor.x) y) old new) at.y
+    (subst (λ (x : ℕ). IsDrawn (character_at dpi c x here.y) old new) at.x d)
+
+pub character_printed : {dpi : Dpi} {here : Printed} {s : Situation} {old middle new : Performer} (proportional : Bool) (c : Character)
+    (code : ℕ) → IsIn dpi s old → IsAtCursor dpi here old.environment → IsDrawn (character_at dpi c here.x here.y) old middle
+    → middle.raster ≡ old.raster → HasSettings (behind_character proportional c middle.environment) middle new
     → IsIn dpi (code_printed dpi proportional (Some c) code s) new
-character_printed {dpi} {s} {middle} {new} proportional c code i d r h =
+character_printed {dpi} {s} {middle} {new} proportional c code i at d r h =
     let inked : IsIn dpi (record s { marks = character_mark dpi c s.settings ∷ s.marks }) middle =
     subst (λ (t : Settings). IsIn dpi (record s { marks = character_mark dpi c t ∷ s.marks }) middle) i.settings
-    (drawn_in i d (r ∙ i.raster)) in
+    (drawn_in i (cursor_drawn c at d) (r ∙ i.raster)) in
     settings_in inked
     (subst (λ (t : Settings). HasSettings (behind_character proportional c t) middle new) inked.settings h)
 
@@ -89,6 +103,55 @@ pub blank_printed : {dpi : Dpi} {s : Situation} {old new : Performer} (proportio
     → HasSettings (behind_blank code old.environment) old new → IsIn dpi (code_printed dpi proportional None code s) new
 blank_printed {old} {new} proportional code i h =
     settings_in i (subst (λ (t : Settings). HasSettings (behind_blank code t) old new) i.settings h)
+
+-- ---- what is inked already
+
+-- what was drawn in black is inked
+pub inked_by : {mark : Mark} {old new : Performer} → mark.ink ≡ Black → IsDrawn mark old new → IsInked mark new
+inked_by {mark} {old} {new} black d = record {
+  marked = d.marked;
+  black = λ x y wide high covers.
+      d.dots x y
+      (subst (λ (z : Dpi). x < page_width old.page.bitmap.size z) d.resolution
+      (subst (λ (z : Size). x < page_width z new.page.bitmap.dpi) d.size wide))
+      (subst (λ (z : Dpi). y < page_height old.page.bitmap.size z) d.resolution
+      (subst (λ (z : Size). y < page_height z new.page.bitmap.dpi) d.size high))
+      ∙ ap (λ (b : Bool). cond b (is_black_ink mark.ink) (dot old.page.bitmap x y)) covers ∙ ap is_black_ink black;
+}
+
+black_again : (covers is_black : Bool) → (covers ≡ true → is_black ≡ true) → is_black ≡ cond covers true is_black
+black_again true is_black black = black refl
+black_again false is_black black = refl
+
+-- to draw once more what is inked changes nothing
+pub drawn_again : {mark : Mark} {performer : Performer} → mark.ink ≡ Black → IsInked mark performer → IsDrawn mark performer performer
+drawn_again {mark} {performer} black i =
+    let bitmap = performer.page.bitmap in record {
+      settings = refl;
+      marked = i.marked;
+      ejected = refl;
+      fonts = refl;
+      performed = refl;
+      asks = refl;
+      size = refl;
+      resolution = refl;
+      dots = λ x y wide high.
+          black_again (mark.covers x y) (dot bitmap x y) (i.black x y wide high)
+          ∙ ap (λ (k : Ink). cond (mark.covers x y) (is_black_ink k) (dot bitmap x y)) (sym black);
+    }
+
+pub inked_still : {mark : Mark} {settings : Settings} {old new : Performer} → IsInked mark old → HasSettings settings old new
+    → IsInked mark new
+inked_still {mark} i h = record {
+  marked = h.marked ∙ i.marked;
+  black = subst (λ (b : Picture). (x y : ℕ) → x < page_width b.size b.dpi → y < page_height b.size b.dpi → mark.covers x y ≡ true
+      → dot b x y ≡ true) (sym h.bitmap) i.black;
+}
+
+pub last_still : (dpi : Dpi) (characters : ℕ → Option Character) (last : Option Printed) {settings : Settings} {old new : Performer}
+    → IsLastInked dpi characters last old → HasSettings settings old new → IsLastInked dpi characters last new
+last_still dpi characters None i h = i
+last_still dpi characters (Some last) i h = λ c is. inked_still (i c is) h
 
 -- ---- all codes
 
@@ -123,6 +186,24 @@ pub record IsPrintedTo (dpi : Dpi) (proportional : Bool) (s : Situation) (codes 
   pub in_use : font_in_use now.settings ≡ font_in_use s.settings
   pub left : codes_printed dpi proportional (prints s.fonts (font_in_use s.settings)) rest now
       ≡ codes_printed dpi proportional (prints s.fonts (font_in_use s.settings)) codes s
+
+-- the character that is printed once more where it was the last is inked
+pub inked_last : {dpi : Dpi} {proportional : Bool} {s : Situation} {codes rest : List ℕ} {performer : Performer} {c : Character}
+    (last : Option Printed) (here : Printed) (p : IsPrintedTo dpi proportional s codes rest performer)
+    → IsLastInked dpi (prints s.fonts (font_in_use s.settings)) last performer → last ≡ Some here
+    → Some c ≡ prints s.fonts (font_in_use s.settings) here.code → IsInked (character_at dpi c here.x here.y) performer
+inked_last {dpi} {s} {performer} {c} last here p i same e =
+    let now : IsLastInked dpi (prints s.fonts (font_in_use s.settings)) (Some here) performer =
+    subst (λ (o : Option Printed). IsLastInked dpi (prints s.fonts (font_in_use s.settings)) o performer) same i in
+    now c (sym e)
+
+-- what was inked is the one character of its code
+pub last_now : (dpi : Dpi) {performer : Performer} {c : Character} (characters : ℕ → Option Character) (here : Printed)
+    → Some c ≡ characters here.code → IsInked (character_at dpi c here.x here.y) performer
+    → IsLastInked dpi characters (Some here) performer
+last_now dpi {performer} {c} characters here e i = λ other is.
+    let same : c ≡ other = let both : Some c ≡ Some other = e ∙ is in cc in
+    subst (λ (d : Character). IsInked (character_at dpi d here.x here.y) performer) same i
 
 -- the character of a code is that of the beginning
 pub same_character : {dpi : Dpi} {proportional : Bool} {s : Situation} {codes rest : List ℕ} {performer : Performer}
@@ -165,12 +246,12 @@ no_font : (font : Option Font) → None ≡ info_of font → font ≡ None
 no_font None e = refl
 no_font (Some font) e = absurd cc
 
-pub text_refused : (codes : List ℕ) (font : Option Font) → None ≡ info_of font → is_blank codes ≡ false
+pub text_refused : (codes : List ℕ) (font : Option Font) → None ≡ info_of font → are_spaces codes ≡ false
     → text_refusal codes font ≡ Some NoFont
 text_refused codes font e blank =
     ap (text_refusal codes) (no_font font e) ∙ ap (λ (b : Bool). cond b None (Some NoFont)) blank
 
-pub text_blank : (codes : List ℕ) (font : Option Font) → None ≡ info_of font → is_blank codes ≡ true → text_refusal codes font ≡ None
+pub text_blank : (codes : List ℕ) (font : Option Font) → None ≡ info_of font → are_spaces codes ≡ true → text_refusal codes font ≡ None
 text_blank codes font e blank =
     ap (text_refusal codes) (no_font font e) ∙ ap (λ (b : Bool). cond b None (Some NoFont)) blank
 

@@ -21,7 +21,7 @@ use Rattle.pcl_page.specs.declared.performer.Performer.{Performer}
 use Rattle.pcl_page.specs.declared.interpreter.Interpreter.{Interpreter}
 use Rattle.pcl_page.specs.declared.interpreter.Running.{Running}
 use Rattle.pcl_page.specs.Situation.{Situation}
-use Rattle.pcl_page.specs.Macros.{Run, after_command, run_from, run_of, left}
+use Rattle.pcl_page.specs.Macros.{Run, after_command, run_from, run_of, macro_ended}
 use Rattle.pcl_page.specs.Performing.{Performance, done, stopped, then_on, in_order, step, commands_left, runs}
 use Rattle.pcl_page.specs.inner.Reflecting.{IsIn, HandsMore}
 use Rattle.pcl_page.specs.inner.Unfolding.{IsAt, run_in, entered, Enters, rest_of, resumed, begun_among, left_in, work_left, GoesOn, IsStepped}
@@ -122,10 +122,10 @@ rest_next : (levels : ℕ) (dpi : Dpi) (commands : List Command) (newest : Runni
 rest_next levels dpi commands newest {command} s within got lt =
     let all = views commands in
     let one = step dpi (runs levels dpi all) in
-    ap (λ (cs : List Said). then_on (in_order one newest.next cs s) (λ later. done (left dpi newest.saved later)))
+    ap (λ (cs : List Said). then_on (in_order one newest.next cs s) (λ later. done (macro_ended dpi newest.saved later)))
     (left_next commands newest within got lt)
     ∙ then_assoc (one newest.next (view command) s)
-    (in_order one (newest.next + 1) (commands_left all (run_in (advanced newest)))) (λ later. done (left dpi newest.saved later))
+    (in_order one (newest.next + 1) (commands_left all (run_in (advanced newest)))) (λ later. done (macro_ended dpi newest.saved later))
 
 pub next_of_macro : (dpi : Dpi) (commands : List Command) (older : List Running) (newest : Running) {command : Command} (s : Situation)
     → length older < 3 → newest.next < length commands → command ≡ get_or commands newest.next command → newest.next < newest.end
@@ -160,13 +160,13 @@ none_left commands newest e = elim e [
 
 pub end_of_macro : (dpi : Dpi) (commands : List Command) (older : List Running) (newest : Running) (s : Situation)
     → length older < 3 → ((length commands ≤ newest.next) ⊎ (newest.end ≤ newest.next))
-    → resumed macro_limit dpi (views commands) older (left dpi newest.saved s)
+    → resumed macro_limit dpi (views commands) older (macro_ended dpi newest.saved s)
     ≡ resumed macro_limit dpi (views commands) (older ++ newest ∷ []) s
 end_of_macro dpi commands older newest s few e =
     let all = views commands in
     sym (pushed dpi all older newest s few
     ∙ ap (λ (cs : List Said). then_on (then_on (in_order (step dpi (runs (2 - length older) dpi all)) newest.next cs s)
-    (λ later. done (left dpi newest.saved later))) (resumed macro_limit dpi all older)) (none_left commands newest e))
+    (λ later. done (macro_ended dpi newest.saved later))) (resumed macro_limit dpi all older)) (none_left commands newest e))
 
 -- the same interpreter but for the macros that run
 pub at_running : {dpi : Dpi} {s : Situation} {old new : Interpreter} → new.performer ≡ old.performer → new.macros ≡ old.macros
@@ -178,7 +178,7 @@ at_running {dpi} {s} p m at = record {
 }
 
 -- the end of a macro leaves the pages
-pub left_pages : (dpi : Dpi) (saved : Option Settings) (s : Situation) → (left dpi saved s).pages ≡ s.pages
+pub left_pages : (dpi : Dpi) (saved : Option Settings) (s : Situation) → (macro_ended dpi saved s).pages ≡ s.pages
 left_pages dpi None s = refl
 left_pages dpi (Some settings) s = refl
 
@@ -258,12 +258,12 @@ command_goes takes dpi commands older pushed_on newest command s result last sin
 pub end_goes : {S : Type 0} (takes : S → Page → S → Type 0) (dpi : Dpi) (commands : List Command) (old last : Interpreter)
     (newest : Running) (s : Situation) (sink : S)
     → length old.running.items < 3 → ((length commands ≤ newest.next) ⊎ (newest.end ≤ newest.next))
-    → IsAt dpi (left dpi newest.saved s) last → last.running ≡ old.running
+    → IsAt dpi (macro_ended dpi newest.saved s) last → last.running ≡ old.running
     → GoesOn takes dpi (views commands) (resumed macro_limit dpi (views commands) (old.running.items ++ newest ∷ []) s) s
     (Ok tt) last sink sink
 end_goes takes dpi commands old last newest s sink few e at run =
     let all = views commands in
-    let then = left dpi newest.saved s in (
+    let then = macro_ended dpi newest.saved s in (
       then,
       at,
       no_pages takes dpi s then sink sink (left_pages dpi newest.saved s) refl,

@@ -17,7 +17,7 @@ use Rattle.pcl_base.specs.Method.{method_with_code}
 use Rattle.pcl_base.specs.Value.{whole_of, is_minus, is_below_zero, scaled_by}
 use Rattle.pcl_env.specs.declared.effect.Effect.TheVariants.{Stay, Eject, EjectMarked}
 use Rattle.pcl_env.specs.Settings.{Position, Settings, put_x, put_y}
-use Rattle.pcl_env.specs.Outcome.{Outcome, stays, stays_if, counted, from_zero, up_to, one_of, set_top, set_bottom, set_left, before_feed, return_carriage, feed_limit, feed, move_along, push, pop, popped, set_size, set_rectangle, set_method, unit_of, none_if_zero, is_one_of, line_spacings, units_of_measure, resolutions, outcome}
+use Rattle.pcl_env.specs.Outcome.{Outcome, stays, stays_if, by_count, from_zero, up_to, one_of, set_top, set_bottom, set_left, before_feed, return_carriage, feed_limit, feed, move_along, push, pop, popped, set_size, set_rectangle, set_method, unit_of, is_one_of, line_spacings, units_of_measure, resolutions, outcome}
 
 -- where the page stays, the size does
 abbrev Keeps : Settings → Outcome → Type 0
@@ -43,22 +43,22 @@ marked_keeps = record { same = λ stay. absurd cc }
 stay_keeps : (s t : Settings) → t.size ≡ s.size → KeepsSize s (stays t)
 stay_keeps s t e = record { same = λ stay. e }
 
-counted_keeps : (value : Value) (s : Settings) (f : ℕ → Outcome) → ((n : ℕ) → KeepsSize s (f n)) → KeepsSize s (counted value f)
-counted_keeps value s f k = if_keeps (is_below_zero value) (none_keeps) (k (whole_of value))
+by_count_keeps : (value : Value) (s : Settings) (f : ℕ → Outcome) → ((n : ℕ) → KeepsSize s (f n)) → KeepsSize s (by_count value f)
+by_count_keeps value s f k = if_keeps (is_below_zero value) (none_keeps) (k (whole_of value))
 
 stays_if_keeps : (test : Bool) (s t : Settings) → t.size ≡ s.size → KeepsSize s (stays_if test t)
 stays_if_keeps test s t e = if_keeps test (stay_keeps s t e) (none_keeps)
 
 from_zero_keeps : (value : Value) (s t : Settings) → t.size ≡ s.size → KeepsSize s (from_zero value t)
-from_zero_keeps value s t e = counted_keeps value s (λ n. stays t) (λ n. stay_keeps s t e)
+from_zero_keeps value s t e = by_count_keeps value s (λ n. stays t) (λ n. stay_keeps s t e)
 
 up_to_keeps : (most : ℕ) (value : Value) (s t : Settings) → t.size ≡ s.size → KeepsSize s (up_to most value t)
 up_to_keeps most value s t e =
-    counted_keeps value s (λ n. stays_if (nat_le n most) t) (λ n. stays_if_keeps (nat_le n most) s t e)
+    by_count_keeps value s (λ n. stays_if (nat_le n most) t) (λ n. stays_if_keeps (nat_le n most) s t e)
 
 one_of_keeps : (numbers : List ℕ) (value : Value) (s t : Settings) → t.size ≡ s.size → KeepsSize s (one_of numbers value t)
 one_of_keeps numbers value s t e =
-    counted_keeps value s (λ n. stays_if (is_one_of numbers n) t) (λ n. stays_if_keeps (is_one_of numbers n) s t e)
+    by_count_keeps value s (λ n. stays_if (is_one_of numbers n) t) (λ n. stays_if_keeps (is_one_of numbers n) s t e)
 
 feed_keeps : (by : ℕ) {s : Settings} (t : Settings) → t.size ≡ s.size → KeepsSize s (feed by t)
 feed_keeps by {s} t e =
@@ -114,14 +114,14 @@ keeps dpi FormFeed v m s = eject_keeps
 keeps dpi CarriageReturn v m s =
     if_keeps s.return_feeds (feed_keeps s.vmi (return_carriage s) refl) (stay_keeps s (return_carriage s) refl)
 keeps dpi (Shift side) v m s = stay_keeps s _ refl
-keeps dpi PageSize v m s = counted_keeps v s (λ n. set_size (size_with_code n) s) (λ n. size_keeps (size_with_code n))
+keeps dpi PageSize v m s = by_count_keeps v s (λ n. set_size (size_with_code n) s) (λ n. size_keeps (size_with_code n))
 keeps dpi Copies v m s =
-    counted_keeps v s (λ n. stays_if (nat_le 1 n && nat_le n copies_limit) (record s { copies = n })) (λ n. stays_if_keeps _ s _ refl)
+    by_count_keeps v s (λ n. stays_if (nat_le 1 n && nat_le n copies_limit) (record s { copies = n })) (λ n. stays_if_keeps _ s _ refl)
 keeps dpi VerticalMotionIndex v m s = from_zero_keeps v s _ refl
 keeps dpi LineSpacing v m s = one_of_keeps line_spacings v s _ refl
 keeps dpi TopMargin v m s = from_zero_keeps v s (set_top (whole_of v * s.vmi) m s) (top_size (whole_of v * s.vmi) m s)
 keeps dpi TextLength v m s =
-    counted_keeps v s (λ n. stays_if (nat_le 1 n) (set_bottom (s.top + n * s.vmi) s))
+    by_count_keeps v s (λ n. stays_if (nat_le 1 n) (set_bottom (s.top + n * s.vmi) s))
     (λ n. stays_if_keeps (nat_le 1 n) s (set_bottom (s.top + n * s.vmi) s) (bottom_size (s.top + n * s.vmi) s))
 keeps dpi PerforationSkip v m s = up_to_keeps 1 v s _ refl
 keeps dpi OnlyZero v m s = stays_if_keeps (whole_of v == 0) s s refl
@@ -139,14 +139,14 @@ keeps dpi CursorStack v m s =
     up_to_keeps 1 v s (if whole_of v == 0 then push s else pop s)
     (if_size (whole_of v == 0) (push s) (pop s) (push_size s) (pop_size s.stack s))
 keeps dpi MacroId v m s = up_to_keeps id_limit v s _ refl
-keeps dpi ControlMacros v m s = one_of_keeps (0 ∷ 1 ∷ 2 ∷ 3 ∷ 6 ∷ 7 ∷ 8 ∷ 9 ∷ 10 ∷ []) v s s refl
+keeps dpi ControlMacros v m s = stay_keeps s _ refl
 keeps dpi (RectangleSize axis unit) v m s =
     from_zero_keeps v s (set_rectangle axis (scaled_by (unit_of axis unit s) v) s)
     (rectangle_size axis (scaled_by (unit_of axis unit s) v) s)
-keeps dpi FillRectangle v m s = one_of_keeps (0 ∷ 1 ∷ 5 ∷ []) v s s refl
+keeps dpi FillRectangle v m s = stay_keeps s _ refl
 keeps dpi FontId v m s = up_to_keeps id_limit v s _ refl
 keeps dpi CharacterCode v m s = up_to_keeps 255 v s _ refl
-keeps dpi ControlFonts v m s = up_to_keeps 5 v s s refl
+keeps dpi ControlFonts v m s = stay_keeps s _ refl
 keeps dpi DownloadFont v m s = from_zero_keeps v s s refl
 keeps dpi DownloadCharacter v m s = from_zero_keeps v s s refl
 keeps dpi (SelectFont side) v m s = from_zero_keeps v s s refl
@@ -158,7 +158,7 @@ keeps dpi RasterPresentation v m s = one_of_keeps (0 ∷ 3 ∷ []) v s s refl
 keeps dpi StartRaster v m s = up_to_keeps 1 v s s refl
 keeps dpi EndRaster v m s = stay_keeps s _ refl
 keeps dpi EndRasterResetMethod v m s = stay_keeps s _ refl
-keeps dpi RasterMethod v m s = counted_keeps v s (λ n. set_method (method_with_code n) s) (λ n. method_keeps (method_with_code n))
+keeps dpi RasterMethod v m s = by_count_keeps v s (λ n. set_method (method_with_code n) s) (λ n. method_keeps (method_with_code n))
 keeps dpi RasterOffset v m s = from_zero_keeps v s s refl
 keeps dpi RasterRow v m s = from_zero_keeps v s s refl
 keeps dpi NoEffect v m s = stay_keeps s _ refl

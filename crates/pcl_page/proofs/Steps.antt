@@ -8,7 +8,7 @@ use Rattle.pcl_base.specs.declared.fault.CallFault.TheVariants.{Refused, Memory}
 use Rattle.pcl_base.specs.declared.kind.Kind.{Kind}
 use Rattle.pcl_base.specs.declared.kind.Kind.TheVariants.{TooManyCommands, TooManyPages}
 use Rattle.pcl_base.specs.declared.operation.Operation.{Operation}
-use Rattle.pcl_base.specs.declared.operation.Operation.TheVariants.{DownloadFont, DownloadCharacter, PrintText}
+use Rattle.pcl_base.specs.declared.operation.Operation.TheVariants.{FillRectangle, ControlFonts, DownloadFont, DownloadCharacter, PrintText}
 use Rattle.pcl_base.specs.Limits.{command_limit, page_limit}
 use Rattle.pcl_base.specs.Operation.{operation_of}
 use Rattle.pcl_base.specs.Value.{is_below_zero}
@@ -107,15 +107,20 @@ tried_at {dpi} {operation} {command} {s} a is =
 
 -- ---- commands that are refused where they draw
 
+pub only_stays : (s : Settings) {done : Settings × Effect} → stays s ≡ Some done → done.1 ≡ Stay
+only_stays s {done} e = let same : ◌≡◌ {A = Settings × Effect} (s, Stay) done = cc in ap (λ (d : Settings × Effect). d.1) (sym same)
+
 taken_stays : (below : Bool) (s : Settings) {done : Settings × Effect} → cond below None (stays s) ≡ Some done → done.1 ≡ Stay
 taken_stays true s e = absurd cc
-taken_stays false s {done} e = let same : ◌≡◌ {A = Settings × Effect} (s, Stay) done = cc in ap (λ (d : Settings × Effect). d.1) (sym same)
+taken_stays false s e = only_stays s e
 
 -- they let the page stay
 refused_stays : (dpi : Dpi) (operation : Operation) (command : Said) (m : Bool) (settings : Settings) {done : Settings × Effect}
     (s : Situation) {kind : Kind}
     → draw_refusal operation command s ≡ Some kind → outcome dpi operation command.value m settings ≡ Some done → done.1 ≡ Stay
 unfolding outcome
+refused_stays dpi ControlFonts command m settings s e o = only_stays settings o
+refused_stays dpi FillRectangle command m settings s e o = only_stays settings o
 refused_stays dpi DownloadFont command m settings s e o = taken_stays (is_below_zero command.value) settings o
 refused_stays dpi DownloadCharacter command m settings s e o = taken_stays (is_below_zero command.value) settings o
 refused_stays dpi PrintText command m settings s e o = taken_stays (is_below_zero command.value) settings o

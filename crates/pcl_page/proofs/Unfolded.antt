@@ -16,11 +16,11 @@ use Rattle.pcl_macros.specs.History.{defined}
 use Rattle.pcl_macros.specs.Table.{Begun}
 use Rattle.pcl_page.specs.declared.interpreter.Running.{Running}
 use Rattle.pcl_page.specs.declared.macros.Action.{Action}
-use Rattle.pcl_page.specs.declared.macros.Action.TheVariants.{Begin, End, Control}
+use Rattle.pcl_page.specs.declared.macros.Action.TheVariants.{Begin, End, Execute, Call, Control}
 use Rattle.pcl_page.specs.declared.macros.Keeping.{Keeping}
 use Rattle.pcl_page.specs.declared.macros.Keeping.TheVariants.{Kept, Ends, Refused}
 use Rattle.pcl_page.specs.Situation.{Situation, tried}
-use Rattle.pcl_page.specs.Macros.{Run, action_of, keeping_of, definition_ended, acted, managed, counting, defining, after_command, run_of, left}
+use Rattle.pcl_page.specs.Macros.{Run, action_of, keeping_of, definition_ended, acted, managed, counting, defining, after_command, run_of, macro_ended}
 use Rattle.pcl_page.specs.Performing.{Performance, done, stopped, unless, then_on, in_order, concluded, and_run, step, commands_left, runs}
 use Rattle.pcl_page.specs.inner.Unfolding.{run_in, entered, HasLevel, rest_of, resumed, begun_among}
 use Rattle.pcl_page.proofs.Keeping.{then_from, is_counted}
@@ -157,10 +157,12 @@ same_acts : {s now later : Situation} → ActsOnMacros s now → ◌≡◌ {A = 
 same_acts {s} {now} {later} a e = let same : now ≡ later = cc in subst (λ (z : Situation). ActsOnMacros s z) same a
 
 acted_acts : (place : ℕ) (action : Option Action) {s later : Situation} → acted place action s ≡ Ok later → ActsOnMacros s later
+acted_acts place None e = absurd cc
 acted_acts place (Some Begin) e = same_acts (record { pages = refl; performed = refl }) e
 acted_acts place (Some End) {s} e = ended_acts place s.begun e
 acted_acts place (Some (Control what)) e = same_acts (record { pages = refl; performed = refl }) e
-acted_acts place other e = same_acts (record { pages = refl; performed = refl }) e
+acted_acts place (Some Execute) e = same_acts (record { pages = refl; performed = refl }) e
+acted_acts place (Some Call) e = same_acts (record { pages = refl; performed = refl }) e
 
 pub managed_acts : (place : ℕ) (operation : Option Operation) (value : Value) {s later : Situation}
     → managed place operation value s ≡ Ok later → ActsOnMacros s later
@@ -244,14 +246,14 @@ order_grows dpi f place (command ∷ commands) g = λ s.
     then_grows (step dpi f place command s) s (in_order (step dpi f) (place + 1) commands) (step_grows dpi f place (g command) s)
     (order_grows dpi f (place + 1) commands g)
 
-left_grows : (dpi : Dpi) (saved : Option Settings) → Grows (λ later. done (left dpi saved later))
+left_grows : (dpi : Dpi) (saved : Option Settings) → Grows (λ later. done (macro_ended dpi saved later))
 left_grows dpi None = stays_there
 left_grows dpi (Some settings) = stays_there
 
 runs_grow : (levels : ℕ) (dpi : Dpi) (all : List Said) (command : Said) (run : Run) → Grows (runs levels dpi all command run)
 runs_grow zero dpi all command run = stays_there
 runs_grow (suc levels) dpi all command run = λ s.
-    then_grows (in_order (step dpi (runs levels dpi all)) run.next (commands_left all run) s) s (λ later. done (left dpi run.saved later))
+    then_grows (in_order (step dpi (runs levels dpi all)) run.next (commands_left all run) s) s (λ later. done (macro_ended dpi run.saved later))
     (order_grows dpi (runs levels dpi all) run.next (commands_left all run) (runs_grow levels dpi all) s) (left_grows dpi run.saved)
 
 pub all_grow : (dpi : Dpi) (all : List Said) (place : ℕ) (commands : List Said)
@@ -265,7 +267,7 @@ resumed_grow (suc levels) dpi all (running ∷ newer) = λ s.
     then_grows (resumed levels dpi all newer s) s (rest_of levels dpi all (run_in running)) (resumed_grow levels dpi all newer s)
     (λ t.
     then_grows (in_order (step dpi (runs levels dpi all)) running.next (commands_left all (run_in running)) t) t
-    (λ later. done (left dpi running.saved later))
+    (λ later. done (macro_ended dpi running.saved later))
     (order_grows dpi (runs levels dpi all) running.next (commands_left all (run_in running)) (runs_grow levels dpi all) t)
     (left_grows dpi running.saved))
 

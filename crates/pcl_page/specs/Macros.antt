@@ -1,9 +1,9 @@
 -- Macros: what an open definition does with a command, what a macro control does, and which macro it runs.
 use Rattle.std.specs.Prelude.{ℕ, ◌+◌, ◌==◌, is_some, if◌then◌else◌, ◌∷◌, Option, Some, None, Result, Ok, Err}
-use Rattle.std.specs.Option.{option_map}
+use Rattle.std.specs.Option.{option_map, option_and_then}
 use Rattle.pcl_base.specs.declared.dpi.Dpi.{Dpi}
 use Rattle.pcl_base.specs.declared.kind.Kind.{Kind}
-use Rattle.pcl_base.specs.declared.kind.Kind.TheVariants.{MacroOpen, MacroControl as OutOfPlace}
+use Rattle.pcl_base.specs.declared.kind.Kind.TheVariants.{UnsupportedValue, MacroOpen, MacroControl as OutOfPlace}
 use Rattle.pcl_base.specs.declared.operation.Operation.{Operation}
 use Rattle.pcl_base.specs.declared.operation.Operation.TheVariants.{Reset, UniversalExit, ControlMacros}
 use Rattle.pcl_base.specs.declared.value.Value.{Value}
@@ -21,8 +21,8 @@ use Rattle.pcl_page.specs.declared.macros.Keeping.TheVariants.{Kept, Ends, Refus
 use Rattle.pcl_page.specs.Situation.{Situation, end_raster, ◌|>◌, tried}
 
 -- what a macro control does, by its number
-abbrev pub action_with : ℕ → Option Action
-action_with n =
+abbrev pub action_of : Value → Option Action
+action_of value = option_and_then (λ n.
     if n == 0 then Some Begin
     else (if n == 1 then Some End
     else (if n == 2 then Some Execute
@@ -31,15 +31,7 @@ action_with n =
     else (if n == 7 then Some (Control Temporary)
     else (if n == 8 then Some (Control One)
     else (if n == 9 then Some (Control MakeTemporary)
-    else (if n == 10 then Some (Control MakePermanent) else None))))))))
-
--- no control has a number below 0
-abbrev pub action_by : Option ℕ → Option Action
-action_by None = None
-action_by (Some n) = action_with n
-
-abbrev pub action_of : Value → Option Action
-action_of value = action_by (count_of value)
+    else (if n == 10 then Some (Control MakePermanent) else None))))))))) (count_of value)
 
 -- ---- in a definition
 
@@ -71,12 +63,14 @@ abbrev pub definition_ended : ℕ → Option Begun → Situation → Result Situ
 definition_ended place None s = Err OutOfPlace
 definition_ended place (Some d) s = Ok (record s { macros = defined d.id d.from place ∷ s.macros; begun = None })
 
--- running a macro is what follows the command
+-- a number that says nothing is a value that isn't taken; running a macro is what follows the command
 abbrev pub acted : ℕ → Option Action → Situation → Result Situation Kind
+acted place None s = Err UnsupportedValue
 acted place (Some Begin) s = Ok (definition_begun place s)
 acted place (Some End) s = definition_ended place s.begun s
 acted place (Some (Control what)) s = Ok (with_macro_event (control what s.settings.macro_id) s)
-acted place other s = Ok s
+acted place (Some Execute) s = Ok s
+acted place (Some Call) s = Ok s
 
 -- what the command at a place does to macros and definitions; a reset deletes the temporary macros
 abbrev pub managed : ℕ → Option Operation → Value → Situation → Result Situation Kind
@@ -134,6 +128,6 @@ abbrev pub run_of : Said → Situation → Situation → Option Run
 run_of command s later = if is_some s.begun then None else run_from (operation_of command.name) command.value later
 
 -- a call's end ends the raster, and all is set as before the call but the page size, the cursor and its stack
-abbrev pub left : Dpi → Option Settings → Situation → Situation
-left dpi None s = s
-left dpi (Some saved) s = record (end_raster dpi s) { settings = restored saved (end_raster dpi s).settings }
+abbrev pub macro_ended : Dpi → Option Settings → Situation → Situation
+macro_ended dpi None s = s
+macro_ended dpi (Some saved) s = record (end_raster dpi s) { settings = restored saved (end_raster dpi s).settings }

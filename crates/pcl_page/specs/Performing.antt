@@ -14,7 +14,7 @@ use Rattle.pcl_bitmap.specs.declared.page.Page.{Page}
 use Rattle.pcl_page.specs.Asks.{Asks}
 use Rattle.pcl_page.specs.Marks.{is_black}
 use Rattle.pcl_page.specs.Situation.{Sheet, Situation, at_begin, at_end, page_refusal}
-use Rattle.pcl_page.specs.Macros.{Run, after_command, run_of, left}
+use Rattle.pcl_page.specs.Macros.{Run, after_command, run_of, macro_ended}
 
 -- ---- pages handed over
 
@@ -77,7 +77,7 @@ commands_left all run = take (run.end - run.next) (drop run.next all)
 abbrev pub runs : ℕ → Dpi → List Said → Said → Run → Situation → Performance
 runs zero dpi all command run s = stopped MacroDepth command s
 runs (suc levels) dpi all command run s =
-    then_on (in_order (step dpi (runs levels dpi all)) run.next (commands_left all run) s) (λ later. done (left dpi run.saved later))
+    then_on (in_order (step dpi (runs levels dpi all)) run.next (commands_left all run) s) (λ later. done (macro_ended dpi run.saved later))
 
 -- ---- whole jobs
 

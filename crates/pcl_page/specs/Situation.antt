@@ -1,5 +1,6 @@
 -- Where a job stands, and what a command outside of macros makes of that.
-use Rattle.std.specs.Prelude.{ℕ, ◌+◌, ◌*◌, ◌==◌, ◌&&◌, is_some, Bool, true, false, nat_le, if◌then◌else◌, length, List, [], ◌∷◌, ◌++◌, Option, Some, None, Result, Ok, Err}
+use Rattle.std.specs.Prelude.{ℕ, ◌+◌, ◌*◌, ◌==◌, ◌&&◌, ◌||◌, is_some, Bool, true, false, nat_le, if◌then◌else◌, length, List, [], ◌∷◌, ◌++◌, Option, Some, None, Result, Ok, Err}
+use Rattle.std.specs.Option.{option_and_then}
 use Rattle.pcl_base.specs.declared.dpi.Dpi.{Dpi}
 use Rattle.pcl_base.specs.declared.kind.Kind.{Kind}
 use Rattle.pcl_base.specs.declared.kind.Kind.TheVariants.{UnsupportedCommand, UnsupportedValue, TooManyCommands, TooManyPages}
@@ -10,7 +11,7 @@ use Rattle.pcl_base.specs.declared.value.Value.{Value}
 use Rattle.pcl_base.specs.Dpi.{units_per_dot}
 use Rattle.pcl_base.specs.Limits.{command_limit, page_limit}
 use Rattle.pcl_base.specs.Operation.{operation_of}
-use Rattle.pcl_base.specs.Value.{whole_of}
+use Rattle.pcl_base.specs.Value.{whole_of, count_of}
 use Rattle.pcl_bitmap.specs.declared.ink.Ink.{Ink}
 use Rattle.pcl_bitmap.specs.declared.ink.Ink.TheVariants.{Black, White}
 use Rattle.pcl_bitmap.specs.Dots.{rectangle_dot}
@@ -19,6 +20,7 @@ use Rattle.pcl_env.specs.declared.effect.Effect.{Effect}
 use Rattle.pcl_env.specs.declared.effect.Effect.TheVariants.{Stay, Eject, EjectMarked}
 use Rattle.pcl_env.specs.Settings.{Position, Settings, defaults, put, to_first_line, font_in_use}
 use Rattle.pcl_env.specs.Outcome.{Outcome, outcome}
+use Rattle.pcl_fonts.specs.declared.fonts.FontControl.{FontControl}
 use Rattle.pcl_fonts.specs.declared.fonts.FontControl.TheVariants.{Temporary}
 use Rattle.pcl_fonts.specs.Fields.{Font, Character}
 use Rattle.pcl_fonts.specs.History.{FontEvent, header, character, control, font_after}
@@ -26,7 +28,7 @@ use Rattle.pcl_macros.specs.History.{MacroEvent}
 use Rattle.pcl_macros.specs.Table.{Begun}
 use Rattle.pcl_page.specs.Asks.{Asks, no_asks, with_page, with_exit}
 use Rattle.pcl_page.specs.Marks.{Mark, are_marked, dot_at, dots_of}
-use Rattle.pcl_page.specs.Text.{selected_font, control_with, select_by_id, header_refusal, character_refusal, text_refusal, prints, character_mark, is_proportional, behind_character, behind_blank}
+use Rattle.pcl_page.specs.Text.{selected_font, control_of, select_by_id, header_refusal, character_refusal, text_refusal, prints, character_mark, is_proportional, behind_character, behind_blank}
 use Rattle.pcl_page.specs.Raster.{Raster, raster_from, skipped, row_sent, with_row, row_mark, is_ignored_in_raster, ends_raster}
 
 -- a page as the job means it, where `Page` of the code is one that was painted
@@ -103,14 +105,20 @@ turned settings effect s = if ejects effect (is_marked s) then turned_page setti
 
 -- ---- marks and rasters
 
-abbrev pub rectangle_ink : Value → Ink
-rectangle_ink value = if whole_of value == 1 then White else Black
+-- what a rectangle is filled with, by the number of its command
+abbrev pub ink_of : Value → Option Ink
+ink_of value =
+    option_and_then (λ n. if n == 0 || n == 5 then Some Black else (if n == 1 then Some White else None)) (count_of value)
 
-abbrev pub rectangle_mark : Dpi → Value → Settings → Mark
-rectangle_mark dpi value s = record {
+abbrev pub rectangle_mark : Dpi → Ink → Settings → Mark
+rectangle_mark dpi ink s = record {
   covers = rectangle_dot (dot_at dpi s.cursor.x) (dot_at dpi s.cursor.y) (dots_of dpi s.rectangle_width) (dots_of dpi s.rectangle_height);
-  ink = rectangle_ink value;
+  ink = ink;
 }
+
+abbrev pub filled_with : Dpi → Option Ink → Situation → Situation
+filled_with dpi None s = s
+filled_with dpi (Some ink) s = record s { marks = rectangle_mark dpi ink s.settings ∷ s.marks }
 
 -- the raster that a row goes to: a row outside a raster starts one at the page's left edge
 abbrev pub raster_for_row : Dpi → Option Raster → Settings → Raster
@@ -141,8 +149,9 @@ abbrev pub with_character : List ℕ → Situation → Situation
 with_character [] s = s
 with_character (byte ∷ bytes) s = with_event (character s.settings.font_id s.settings.character_code (byte ∷ bytes)) s
 
-abbrev pub fonts_controlled : ℕ → Situation → Situation
-fonts_controlled number s = with_event (control (control_with number) s.settings.font_id s.settings.character_code) s
+abbrev pub fonts_controlled : Option FontControl → Situation → Situation
+fonts_controlled None s = s
+fonts_controlled (Some what) s = with_event (control what s.settings.font_id s.settings.character_code) s
 
 -- a reset deletes the temporary fonts
 abbrev pub without_temporary : Situation → Situation
@@ -180,20 +189,26 @@ exited lines s = record s { asks = with_exit (record { pages = length s.pages; l
 abbrev pub drawn : Dpi → Operation → Said → Situation → Situation
 drawn dpi Reset command s = without_temporary s
 drawn dpi UniversalExit command s = without_temporary (exited command.bytes s)
-drawn dpi ControlFonts command s = fonts_controlled (whole_of command.value) s
+drawn dpi ControlFonts command s = fonts_controlled (control_of command.value) s
 drawn dpi DownloadFont command s = with_font command.bytes s
 drawn dpi DownloadCharacter command s = with_character command.bytes s
 drawn dpi (SelectFont side) command s = record s { settings = select_by_id side (whole_of command.value) s.fonts s.settings }
 drawn dpi PrintText command s = text_printed dpi command.bytes s
-drawn dpi FillRectangle command s = record s { marks = rectangle_mark dpi command.value s.settings ∷ s.marks }
+drawn dpi FillRectangle command s = filled_with dpi (ink_of command.value) s
 drawn dpi StartRaster command s =
     record s { raster = Some (raster_from dpi (if whole_of command.value == 0 then 0 else dot_at dpi s.settings.cursor.x) s.settings) }
 drawn dpi RasterOffset command s = record s { raster = skipped_in (whole_of command.value) s.raster }
 drawn dpi RasterRow command s = with_row_in dpi command (raster_for_row dpi s.raster s.settings) s
 drawn dpi other command s = s
 
--- why a command isn't drawn whose value is taken
+-- a number that says nothing is a value that isn't taken
+abbrev pub refused_unless : Bool → Option Kind
+refused_unless says = if says then None else Some UnsupportedValue
+
+-- why a command isn't drawn that sets what it sets
 abbrev pub draw_refusal : Operation → Said → Situation → Option Kind
+draw_refusal ControlFonts command s = refused_unless (is_some (control_of command.value))
+draw_refusal FillRectangle command s = refused_unless (is_some (ink_of command.value))
 draw_refusal DownloadFont command s = header_refusal command.bytes
 draw_refusal DownloadCharacter command s = character_refusal command.bytes (font_after s.fonts s.settings.font_id)
 draw_refusal PrintText command s = text_refusal command.bytes (font_now s)

@@ -1,11 +1,14 @@
 -- Text: which characters its codes print, where they lie on the page, and how far the cursor goes.
 use Rattle.std.specs.Prelude.{ℕ, pos, ◌+ℤ◌, ◌-ℤ◌, ◌*ℤ◌, ◌==◌, nat_le, Bool, false, if◌then◌else◌, List, [], ◌∷◌, Option, Some, None}
 use Rattle.std.specs.List.{list_all}
+use Rattle.std.specs.Option.{option_and_then}
 use Rattle.pcl_base.specs.declared.dpi.Dpi.{Dpi}
 use Rattle.pcl_base.specs.declared.kind.Kind.{Kind}
 use Rattle.pcl_base.specs.declared.kind.Kind.TheVariants.{FontHeader, CharacterData, NoFont}
 use Rattle.pcl_base.specs.declared.operation.Side.{Side}
+use Rattle.pcl_base.specs.declared.value.Value.{Value}
 use Rattle.pcl_base.specs.Dpi.{fineness}
+use Rattle.pcl_base.specs.Value.{count_of}
 use Rattle.pcl_bitmap.specs.declared.ink.Ink.TheVariants.{Black}
 use Rattle.pcl_bitmap.specs.Dots.{pattern_dot}
 use Rattle.pcl_fonts.specs.declared.fonts.FontControl.{FontControl}
@@ -22,14 +25,15 @@ abbrev pub selected_font : List FontEvent → Option ℕ → Option Font
 selected_font events None = None
 selected_font events (Some id) = font_after events id
 
--- what a font control does by its number, 0 to 5
-abbrev pub control_with : ℕ → FontControl
-control_with number =
-    if number == 0 then fonts.All
-    else (if number == 1 then fonts.Temporary
-    else (if number == 2 then fonts.One
-    else (if number == 3 then fonts.Character
-    else (if number == 4 then fonts.MakeTemporary else fonts.MakePermanent))))
+-- what a font control does, by its number
+abbrev pub control_of : Value → Option FontControl
+control_of value = option_and_then (λ n.
+    if n == 0 then Some fonts.All
+    else (if n == 1 then Some fonts.Temporary
+    else (if n == 2 then Some fonts.One
+    else (if n == 3 then Some fonts.Character
+    else (if n == 4 then Some fonts.MakeTemporary
+    else (if n == 5 then Some fonts.MakePermanent else None)))))) (count_of value)
 
 -- a selection of a font that isn't there does nothing
 abbrev pub select_there : Side → ℕ → Option Font → Settings → Settings
@@ -54,12 +58,12 @@ character_refusal (byte ∷ bytes) None = None
 character_refusal (byte ∷ bytes) (Some font) = if is_character (byte ∷ bytes) then None else Some CharacterData
 
 -- codes of spaces and below, which ask for no font
-abbrev pub is_blank : List ℕ → Bool
-is_blank codes = list_all (λ code. nat_le code 32) codes
+abbrev pub are_spaces : List ℕ → Bool
+are_spaces codes = list_all (λ code. nat_le code 32) codes
 
 -- without a font a code above 32 is refused
 abbrev pub text_refusal : List ℕ → Option Font → Option Kind
-text_refusal codes None = if is_blank codes then None else Some NoFont
+text_refusal codes None = if are_spaces codes then None else Some NoFont
 text_refusal codes (Some font) = None
 
 -- ---- codes

@@ -2,17 +2,18 @@
 
 ghost use Rattle.std.specs.Prelude.{◌≡◌};
 ghost use Rattle.pcl_base.specs.Value.{whole_of};
-ghost use Rattle.pcl_page.specs.Text.{control_with};
+ghost use Rattle.pcl_page.specs.Text.{control_of};
 
 use crate::performer::Performer;
-use pcl_base::{CallFault, Side, Value};
+use pcl_base::{CallFault, Kind, Side, Value};
 use pcl_fonts::FontControl;
 
 impl<'a> Performer<'a> {
+    ghost use Rattle.std.specs.Prelude.{is_some};
     ghost use Rattle.pcl_base.specs.declared.dpi.Dpi.{Dpi};
     ghost use Rattle.pcl_fonts.specs.History.{control, font_after};
     ghost use Rattle.pcl_page.specs.Text.{select_by_id, header_refusal, character_refusal};
-    ghost use Rattle.pcl_page.specs.Situation.{Situation, with_font, with_character, fonts_controlled, without_temporary};
+    ghost use Rattle.pcl_page.specs.Situation.{Situation, with_font, with_character, fonts_controlled, refused_unless};
     ghost use Rattle.pcl_page.specs.inner.Reflecting.{IsIn, HasEvent, HasSettings, Draws};
 
     /// Takes the header of a font for the ID that is meant. Without data nothing happens.
@@ -39,14 +40,17 @@ impl<'a> Performer<'a> {
             .character(self.environment.font_id(), code, bytes)
     }
 
-    /// Does what a font control says to the font and the character that are meant.
-    pub fn control_fonts(&mut self, value: Value)
+    /// Does what a font control says to the font and the character that are meant. A number that says nothing is refused.
+    pub fn control_fonts(&mut self, value: Value) -> Result<(), CallFault>
         ensures { (dpi : Dpi) (s : Situation) → IsIn dpi s self.old
-            → HasEvent (control (control_with (whole_of value)) s.settings.font_id s.settings.character_code) self.old self.new }
+            → Draws dpi (refused_unless (is_some (control_of value))) (fonts_controlled (control_of value) s) result self.new }
     {
+        let Some(what) = control_of(value) else {
+            return Err(CallFault::Refused(Kind::UnsupportedValue));
+        };
         let code = self.environment.character_code();
-        self.fonts
-            .control(self.environment.font_id(), code, control_with(value));
+        self.fonts.control(self.environment.font_id(), code, what);
+        Ok(())
     }
 
     /// Deletes the temporary fonts, as a reset does.
@@ -70,16 +74,17 @@ impl<'a> Performer<'a> {
     }
 }
 
-/// What a font control does, by its value of 0 to 5.
-fn control_with(value: Value) -> FontControl
-    ensures { result ≡ control_with (whole_of value) }
+/// What a font control does (`ESC*c#F`), by its value.
+fn control_of(value: Value) -> Option<FontControl>
+    ensures { result ≡ control_of value }
 {
-    match value.whole().unsigned_abs() {
+    Some(match value.count()? {
         0 => FontControl::All,
         1 => FontControl::Temporary,
         2 => FontControl::One,
         3 => FontControl::Character,
         4 => FontControl::MakeTemporary,
-        _ => FontControl::MakePermanent,
-    }
+        5 => FontControl::MakePermanent,
+        _ => return None,
+    })
 }

@@ -45,7 +45,7 @@ impl<'a> Interpreter<'a> {
     ghost use Rattle.pcl_page.specs.Performing.{performance};
     ghost use Rattle.pcl_page.specs.Delivering.{HandsOver};
     ghost use Rattle.pcl_page.specs.Situation.{Situation, at_begin};
-    ghost use Rattle.pcl_page.specs.Macros.{action_of, keeping_of, acted, managed, counting, after_command, run_by, run_from, run_of, run_with, left};
+    ghost use Rattle.pcl_page.specs.Macros.{action_of, keeping_of, acted, managed, counting, after_command, run_by, run_from, run_of, run_with, macro_ended};
     ghost use Rattle.pcl_page.specs.inner.Reflecting.{EndDone};
     ghost use Rattle.pcl_page.specs.inner.Unfolding.{IsAt, IsSomewhere, resumed, begun_among, work_left, GoesOn, IsStepped, IsActed, IsEntered, InterpreterEnds, IsAsking};
 
@@ -134,7 +134,7 @@ impl<'a> Interpreter<'a> {
 
     /// Does what the end of a macro does: a call's ends the raster and puts back what was set.
     fn leave(&mut self, saved: Option<Saved>, dpi: Dpi)
-        ensures situation { (s : Situation) → IsAt dpi s self.old → IsAt dpi (left dpi saved s) self.new }
+        ensures situation { (s : Situation) → IsAt dpi s self.old → IsAt dpi (macro_ended dpi saved s) self.new }
         ensures rest { (self.new.running ≡ self.old.running) × (self.new.performer.performed ≡ self.old.performer.performed) }
     {
         if let Some(saved) = saved {
@@ -224,9 +224,10 @@ impl<'a> Interpreter<'a> {
                 .macros
                 .control(0, MacroControl::Temporary),
             Operation::ControlMacros => {
-                if let Some(action) = action_of(value) {
-                    return self.act(action, place);
-                }
+                return match action_of(value) {
+                    Some(action) => self.act(action, place),
+                    None => Err(CallFault::Refused(Kind::UnsupportedValue)),
+                };
             }
             _ => {}
         }

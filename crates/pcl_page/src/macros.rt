@@ -39,19 +39,7 @@ pub enum Keeping {
 pub fn action_of(value: Value) -> Option<Action>
     ensures { result ≡ action_of value }
 {
-    let Some(number) = value.count() else {
-        return None;
-    };
-    action_with(number)
-}
-
-ghost use Rattle.pcl_page.specs.Macros.{action_with};
-
-/// What the macro control of a number does.
-fn action_with(number: u32) -> Option<Action>
-    ensures { result ≡ action_with number }
-{
-    Some(match number {
+    Some(match value.count()? {
         0 => Action::Begin,
         1 => Action::End,
         2 => Action::Execute,

@@ -51,8 +51,8 @@ impl<'a> Performer<'a> {
     ghost use Rattle.pcl_base.specs.declared.dpi.Dpi.{Dpi};
     ghost use Rattle.pcl_escape.specs.Said.{Said, view};
     ghost use Rattle.pcl_env.specs.Outcome.{outcome};
-    ghost use Rattle.pcl_page.specs.Situation.{Situation, at_begin, is_marked, drawn, draw_refusal, rectangle_mark, skipped_in, exited, without_temporary};
-    ghost use Rattle.pcl_page.specs.Macros.{left};
+    ghost use Rattle.pcl_page.specs.Situation.{Situation, at_begin, is_marked, drawn, draw_refusal, refused_unless, ink_of, filled_with, rectangle_mark, skipped_in, exited, without_temporary};
+    ghost use Rattle.pcl_page.specs.Macros.{macro_ended};
     ghost use Rattle.pcl_bitmap.specs.declared.page.Page.{Page};
     ghost use Rattle.pcl_page.specs.inner.Reflecting.{IsIn, IsPrepared, HasRaster, Takes, IsFollowed, IsEjected, IsDrawn, Draws, IsSent, IsTurned, IsTried, EndDone};
 
@@ -129,7 +129,7 @@ impl<'a> Performer<'a> {
 
     /// Does what the end of a macro call does: it ends a raster, and puts back what was set before the call.
     pub fn end_call(&mut self, saved: Saved, dpi: Dpi)
-        ensures situation { (s : Situation) → IsIn dpi s self.old → IsIn dpi (left dpi (Some saved) s) self.new }
+        ensures situation { (s : Situation) → IsIn dpi s self.old → IsIn dpi (macro_ended dpi (Some saved) s) self.new }
         ensures counts { self.new.performed ≡ self.old.performed }
     {
         self.prepare(Operation::EndRaster, dpi);
@@ -220,12 +220,12 @@ impl<'a> Performer<'a> {
         match operation {
             Operation::Reset => self.delete_temporary_fonts(),
             Operation::UniversalExit => self.leave(command.bytes)?,
-            Operation::ControlFonts => self.control_fonts(command.value),
+            Operation::ControlFonts => return self.control_fonts(command.value),
             Operation::DownloadFont => return self.download_font(command.bytes),
             Operation::DownloadCharacter => return self.download_character(command.bytes),
             Operation::SelectFont(side) => self.select_font(side, command.value),
             Operation::PrintText => return self.print_text(command.bytes, dpi),
-            Operation::FillRectangle => self.fill_rectangle(command.value, dpi),
+            Operation::FillRectangle => return self.fill_rectangle(command.value, dpi),
             Operation::StartRaster => self.start_raster(command.value, dpi)?,
             Operation::RasterOffset => self.skip_rows(command.value),
             Operation::RasterRow => self.send_row(command.bytes, dpi)?,
@@ -244,15 +244,26 @@ impl<'a> Performer<'a> {
         Ok(())
     }
 
-    /// Fills the rectangle whose upper left corner is the cursor's dot.
-    fn fill_rectangle(&mut self, value: Value, dpi: Dpi)
-        ensures drawn { IsDrawn (rectangle_mark dpi value self.old.environment) self.old self.new }
+    /// Fills a rectangle. A number that names no ink is refused.
+    fn fill_rectangle(&mut self, value: Value, dpi: Dpi) -> Result<(), CallFault>
+        ensures { (s : Situation) → IsIn dpi s self.old
+            → Draws dpi (refused_unless (is_some (ink_of value))) (filled_with dpi (ink_of value) s) result self.new }
+    {
+        let Some(ink) = ink_of(value) else {
+            return Err(CallFault::Refused(Kind::UnsupportedValue));
+        };
+        self.ink_rectangle(ink, dpi);
+        Ok(())
+    }
+
+    /// Inks the rectangle whose upper left corner is the cursor's dot.
+    fn ink_rectangle(&mut self, ink: Ink, dpi: Dpi)
+        ensures drawn { IsDrawn (rectangle_mark dpi ink self.old.environment) self.old self.new }
         ensures raster { self.new.raster ≡ self.old.raster }
     {
         let unit = u64::from(dpi.unit());
         let width = self.environment.rectangle_width().div_ceil(unit);
         let height = self.environment.rectangle_height().div_ceil(unit);
-        let ink = rectangle_ink(value);
         let x = self.environment.x() / dpi.unit();
         let y = self.environment.y() / dpi.unit();
         self.page.bitmap.fill(x, y, width, height, ink);
@@ -314,7 +325,7 @@ impl<'a> Performer<'a> {
 }
 
 ghost use Rattle.std.specs.Prelude.{◌≡◌};
-ghost use Rattle.pcl_page.specs.Situation.{ejects, rectangle_ink};
+ghost use Rattle.pcl_page.specs.Situation.{ejects, ink_of};
 
 /// Whether a page is ejected that is marked or not.
 fn ejects(effect: Effect, is_marked: bool) -> bool
@@ -327,12 +338,13 @@ fn ejects(effect: Effect, is_marked: bool) -> bool
     }
 }
 
-/// The ink of a rectangle: white where the value is 1.
-fn rectangle_ink(value: Value) -> Ink
-    ensures { result ≡ rectangle_ink value }
+/// What a rectangle is filled with (`ESC*c#P`), by the value of its command.
+fn ink_of(value: Value) -> Option<Ink>
+    ensures { result ≡ ink_of value }
 {
-    match value.whole().unsigned_abs() {
-        1 => Ink::White,
-        _ => Ink::Black,
+    match value.count()? {
+        0 | 5 => Some(Ink::Black),
+        1 => Some(Ink::White),
+        _ => None,
     }
 }

@@ -12,14 +12,22 @@ const SPACE: u8 = b' ';
 /// Units of 1/7200 inch in a quarter of a dot at 300 dots per inch.
 const QUARTER_DOT: i64 = 6;
 
+/// A character on the page: its code, and the cursor's dot when it was printed.
+#[derive(Clone, Copy, Debug, PartialEq, Eq)]
+pub struct Printed {
+    pub code: u8,
+    pub x: u32,
+    pub y: u32,
+}
+
 impl<'a> Performer<'a> {
-    ghost use Rattle.std.specs.Prelude.{ℕ, Some};
+    ghost use Rattle.std.specs.Prelude.{ℕ, Some, IsTrue};
     ghost use Rattle.std.specs.Option.{option_map};
     ghost use Rattle.pcl_env.specs.Settings.{font_in_use};
     ghost use Rattle.pcl_fonts.specs.Table.{character_in, info_of};
-    ghost use Rattle.pcl_page.specs.Text.{prints, character_mark, text_refusal, is_proportional, behind_character, behind_blank};
+    ghost use Rattle.pcl_page.specs.Text.{prints, text_refusal, is_proportional, behind_character, behind_blank};
     ghost use Rattle.pcl_page.specs.Situation.{Situation, font_now, text_printed, code_printed, codes_printed};
-    ghost use Rattle.pcl_page.specs.inner.Reflecting.{IsIn, IsDrawn, HasSettings, Draws};
+    ghost use Rattle.pcl_page.specs.inner.Reflecting.{character_at, IsIn, IsDrawn, IsInked, IsAtCursor, HasSettings, Draws};
 
     /// Prints the codes in the font that is selected and in use. Without one a code above that of a space is refused.
     pub fn print_text(&mut self, codes: &[u8], dpi: Dpi) -> Result<(), CallFault>
@@ -28,7 +36,7 @@ impl<'a> Performer<'a> {
     {
         match self.font_in_use() {
             Some(font) => self.print_codes(codes, font.proportional, dpi),
-            None if is_blank(codes) => self.print_codes(codes, false, dpi),
+            None if are_spaces(codes) => self.print_codes(codes, false, dpi),
             None => return Err(CallFault::Refused(Kind::NoFont)),
         }
         Ok(())
@@ -44,16 +52,33 @@ impl<'a> Performer<'a> {
         }
     }
 
-    /// Prints one code after the other.
+    /// Prints one code after the other. A character that is printed once more at its dot is inked there already.
     fn print_codes(&mut self, codes: &[u8], proportional: bool, dpi: Dpi)
         ensures { (s : Situation) → IsIn dpi s self.old
             → IsIn dpi (codes_printed dpi proportional (prints s.fonts (font_in_use s.settings)) codes.now s) self.new }
     {
+        let mut last = None;
         for code in codes {
             match self.glyph(*code) {
-                Some(glyph) => self.print_glyph(&glyph, proportional, dpi),
+                Some(glyph) => {
+                    let here = self.at_cursor(*code, dpi);
+                    self.print_glyph(&glyph, here, last == Some(here), proportional, dpi);
+                    last = Some(here);
+                }
                 None => self.pass_blank(*code),
             }
+        }
+    }
+
+    /// A code at the cursor's dot.
+    fn at_cursor(&self, code: u8, dpi: Dpi) -> Printed
+        ensures code { result.code ≡ code }
+        ensures here { IsAtCursor dpi result self.now.environment }
+    {
+        Printed {
+            code,
+            x: self.environment.x() / dpi.unit(),
+            y: self.environment.y() / dpi.unit(),
         }
     }
 
@@ -68,22 +93,36 @@ impl<'a> Performer<'a> {
         }
     }
 
-    /// Prints a character at the cursor, and moves on.
-    fn print_glyph(&mut self, glyph: &Glyph<'a>, proportional: bool, dpi: Dpi)
-        ensures { (s : Situation) (code : ℕ) → IsIn dpi s self.old
+    /// Prints a character at the cursor, whose dot is given, and moves on. Whether it is inked there is given, too.
+    fn print_glyph(
+        &mut self,
+        glyph: &Glyph<'a>,
+        here: Printed,
+        is_inked: bool,
+        proportional: bool,
+        dpi: Dpi,
+    )
+        requires { IsAtCursor dpi here self.old.environment }
+        ensures printed { (s : Situation) (code : ℕ) → IsIn dpi s self.old
+            → (IsTrue is_inked → IsInked (character_at dpi (character_in glyph.now) here.x here.y) self.old)
             → IsIn dpi (code_printed dpi proportional (Some (character_in glyph.now)) code s) self.new }
+        ensures inked { (IsTrue is_inked → IsInked (character_at dpi (character_in glyph.now) here.x here.y) self.old)
+            → IsInked (character_at dpi (character_in glyph.now) here.x here.y) self.new }
     {
-        self.ink_glyph(glyph, dpi);
+        if !is_inked {
+            self.ink_glyph(glyph, here, dpi);
+        }
         self.pass_glyph(glyph, proportional);
     }
 
-    /// Inks a character at the cursor's dot.
-    fn ink_glyph(&mut self, glyph: &Glyph<'a>, dpi: Dpi)
-        ensures drawn { IsDrawn (character_mark dpi (character_in glyph.now) self.old.environment) self.old self.new }
+    /// Inks a character at the dot where it is printed.
+    fn ink_glyph(&mut self, glyph: &Glyph<'a>, here: Printed, dpi: Dpi)
+        requires { IsAtCursor dpi here self.old.environment }
+        ensures drawn { IsDrawn (character_at dpi (character_in glyph.now) here.x here.y) self.old self.new }
         ensures raster { self.new.raster ≡ self.old.raster }
     {
-        let x = right_of(self.environment.x() / dpi.unit(), glyph.left, dpi);
-        let y = above(self.environment.y() / dpi.unit(), glyph.top, dpi);
+        let x = right_of(here.x, glyph.left, dpi);
+        let y = above(here.y, glyph.top, dpi);
         let scale = fineness(dpi);
         self.page
             .bitmap
@@ -115,7 +154,7 @@ impl<'a> Performer<'a> {
 }
 
 ghost use Rattle.pcl_base.specs.Dpi.{fineness};
-ghost use Rattle.pcl_page.specs.Text.{is_blank};
+ghost use Rattle.pcl_page.specs.Text.{are_spaces};
 
 /// How many dots wide and high a bit of a pattern is, which is one at 300 dots per inch.
 fn fineness(dpi: Dpi) -> u32
@@ -156,8 +195,8 @@ fn spread(bits: i16, dpi: Dpi) -> i32
 }
 
 /// Whether no code is above that of a space.
-fn is_blank(codes: &[u8]) -> bool
-    ensures { result ≡ is_blank codes.now }
+fn are_spaces(codes: &[u8]) -> bool
+    ensures { result ≡ are_spaces codes.now }
 {
     codes.iter().all(|code| *code <= SPACE)
 }

@@ -15,19 +15,21 @@ use Rattle.pcl_env.specs.declared.effect.Effect.TheVariants.{EjectMarked}
 use Rattle.pcl_env.specs.Settings.{Settings, defaults, font_in_use}
 use Rattle.pcl_env.specs.Outcome.{Outcome, outcome}
 use Rattle.pcl_escape.specs.Said.{Said}
+use Rattle.pcl_bitmap.specs.declared.ink.Ink.{Ink}
+use Rattle.pcl_fonts.specs.declared.fonts.FontControl.{FontControl}
 use Rattle.pcl_fonts.specs.Fields.{Character}
 use Rattle.pcl_macros.specs.Table.{Begun}
 use Rattle.pcl_page.specs.declared.macros.Action.{Action}
-use Rattle.pcl_page.specs.declared.macros.Action.TheVariants.{Begin, End, Control}
+use Rattle.pcl_page.specs.declared.macros.Action.TheVariants.{Begin, End, Execute, Call, Control}
 use Rattle.pcl_page.specs.declared.macros.Keeping.{Keeping}
 use Rattle.pcl_page.specs.declared.macros.Keeping.TheVariants.{Kept, Ends, Refused}
 use Rattle.pcl_page.specs.Asks.{Asks}
 use Rattle.pcl_page.specs.Jobs.{HasPages, HasAsks, performance_of}
-use Rattle.pcl_page.specs.Macros.{Run, action_of, keeping_of, definition_ended, acted, managed, counting, defining, after_command, run_of, left}
+use Rattle.pcl_page.specs.Macros.{Run, action_of, keeping_of, definition_ended, acted, managed, counting, defining, after_command, run_of, macro_ended}
 use Rattle.pcl_page.specs.Performing.{Performance, done, unless, then_on, in_order, concluded, and_run, step, commands_left, runs, after_all, end_refusal, ended, after_end, performance, pages_of}
 use Rattle.pcl_page.specs.Raster.{ends_raster}
-use Rattle.pcl_page.specs.Situation.{Sheet, Situation, at_begin, with_font, with_character, font_now, code_printed, codes_printed, drawn, draw_refusal, unless_refused, ◌|>◌, end_raster, is_marked, ejects, sheet_of, turned_page, turned, turned_by, drawn_on, taken, counted, counted_in_limit, prepared, is_ignored, after, after_named, page_refusal, within_page_limit, tried}
-use Rattle.pcl_page.specs.Text.{is_proportional, prints}
+use Rattle.pcl_page.specs.Situation.{Sheet, Situation, at_begin, ink_of, filled_with, fonts_controlled, with_font, with_character, font_now, code_printed, codes_printed, drawn, draw_refusal, unless_refused, ◌|>◌, end_raster, is_marked, ejects, sheet_of, turned_page, turned, turned_by, drawn_on, taken, counted, counted_in_limit, prepared, is_ignored, after, after_named, page_refusal, within_page_limit, tried}
+use Rattle.pcl_page.specs.Text.{control_of, is_proportional, prints}
 
 -- as many pages were ejected as what they were asked with is known
 abbrev pub Each : Situation → Type 0
@@ -68,16 +70,24 @@ drawn_character : (bytes : List ℕ) (s : Situation) → Each s → Each (with_c
 drawn_character [] s e = e
 drawn_character (byte ∷ bytes) s e = e
 
+controlled_each : (what : Option FontControl) (s : Situation) → Each s → Each (fonts_controlled what s)
+controlled_each None s e = e
+controlled_each (Some what) s e = e
+
+filled_each : (dpi : Dpi) (ink : Option Ink) (s : Situation) → Each s → Each (filled_with dpi ink s)
+filled_each dpi None s e = e
+filled_each dpi (Some ink) s e = e
+
 drawn_each : (dpi : Dpi) (operation : Operation) (command : Said) (s : Situation) → Each s → Each (drawn dpi operation command s)
 drawn_each dpi Reset command s e = e
 drawn_each dpi UniversalExit command s e = e
-drawn_each dpi ControlFonts command s e = e
+drawn_each dpi ControlFonts command s e = controlled_each (control_of command.value) s e
 drawn_each dpi DownloadFont command s e = drawn_font command.bytes s e
 drawn_each dpi DownloadCharacter command s e = drawn_character command.bytes s e
 drawn_each dpi (SelectFont side) command s e = e
 drawn_each dpi PrintText command s e =
     drawn_codes dpi (is_proportional (font_now s)) (prints s.fonts (font_in_use s.settings)) command.bytes s e
-drawn_each dpi FillRectangle command s e = e
+drawn_each dpi FillRectangle command s e = filled_each dpi (ink_of command.value) s e
 drawn_each dpi StartRaster command s e = e
 drawn_each dpi RasterOffset command s e = e
 drawn_each dpi RasterRow command s e = e
@@ -143,10 +153,12 @@ ended_each place None s e = tt
 ended_each place (Some d) s e = e
 
 acted_each : (place : ℕ) (action : Option Action) (s : Situation) → Each s → EachOf (acted place action s)
+acted_each place None s e = tt
 acted_each place (Some Begin) s e = e
 acted_each place (Some End) s e = ended_each place s.begun s e
 acted_each place (Some (Control what)) s e = e
-acted_each place other s e = e
+acted_each place (Some Execute) s e = e
+acted_each place (Some Call) s e = e
 
 managed_each : (place : ℕ) (operation : Option Operation) (value : Value) (s : Situation) → Each s
     → EachOf (managed place operation value s)
@@ -207,7 +219,7 @@ order_each f g place [] = λ s e. e
 order_each f g place (command ∷ commands) = λ s e.
     then_each (f place command s) (in_order f (place + 1) commands) (g place command s e) (order_each f g (place + 1) commands)
 
-left_each : (dpi : Dpi) (saved : Option Settings) (s : Situation) → Each s → Each (left dpi saved s)
+left_each : (dpi : Dpi) (saved : Option Settings) (s : Situation) → Each s → Each (macro_ended dpi saved s)
 left_each dpi None s e = e
 left_each dpi (Some saved) s e = e
 
@@ -215,7 +227,7 @@ runs_each : (levels : ℕ) (dpi : Dpi) (all : List Said) (command : Said) (run :
 runs_each zero dpi all command run = λ s e. e
 runs_each (suc levels) dpi all command run = λ s e.
     let steps = step dpi (runs levels dpi all) in
-    then_each (in_order steps run.next (commands_left all run) s) (λ later. done (left dpi run.saved later))
+    then_each (in_order steps run.next (commands_left all run) s) (λ later. done (macro_ended dpi run.saved later))
     (order_each steps (λ place c. step_each dpi (runs levels dpi all) place c (runs_each levels dpi all)) run.next (commands_left all run) s
     e) (λ later each. left_each dpi run.saved later each)
 

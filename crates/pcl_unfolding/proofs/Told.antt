@@ -1,5 +1,5 @@
 -- Performing and unfolding say the same.
-use Rattle.std.proofs.Common.{◌≡◌, ℕ, ◌+◌, ◌-◌, zero, suc, Bool, true, false, List, [], ◌∷◌, ◌++◌, length, Option, Some, None, Result, Ok, Err, refl, sym, ap, subst, ◌∙◌, arith, if◌then◌else◌}
+use Rattle.std.proofs.Common.{◌≡◌, ℕ, ◌+◌, ◌-◌, zero, suc, Bool, true, false, List, [], ◌∷◌, length, Option, Some, None, Result, Ok, Err, refl, sym, ap, subst, ◌∙◌, if◌then◌else◌}
 use Rattle.std.specs.Prelude.{is_some, ◌&&◌}
 use Rattle.std.specs.Option.{option_map}
 use Rattle.pcl_base.specs.declared.dpi.Dpi.{Dpi}
@@ -18,9 +18,9 @@ use Rattle.pcl_page.specs.declared.macros.Action.TheVariants.{Begin, End, Execut
 use Rattle.pcl_page.specs.declared.macros.Keeping.{Keeping}
 use Rattle.pcl_page.specs.declared.macros.Keeping.TheVariants.{Kept, Ends, Refused}
 use Rattle.pcl_page.specs.Situation.{Situation}
-use Rattle.pcl_page.specs.Macros.{Run, run_with, run_by, run_from, run_of, left, macro_now, keeping_of, counting, defining, after_command}
+use Rattle.pcl_page.specs.Macros.{Run, run_with, run_by, run_from, macro_ended, keeping_of, counting, defining, after_command}
 use Rattle.pcl_page.specs.Performing.{Performance, done, then_on, unless as unless_performed, in_order, concluded, and_run, step, runs, after_end}
-use Rattle.pcl_unfolding.specs.FlatList.{Item, performed, enter, leave, return, situations, now, ago, or_as_before, Unfolding, goes_on, unless, in_turn, keeps, control_in, body_run, end_of, commands_in, Bodies, with_body, with_command, add, ended_by, unfolded, flat_list, performed_by, PerformingIsUnfolding}
+use Rattle.pcl_unfolding.specs.FlatList.{Item, performed, enter, situations, now, ago, or_as_before, Unfolding, goes_on, unless, in_turn, keeps, control_in, body_run, commands_in, Bodies, with_body, with_command, add, ended_by, unfolded, performed_by, PerformingIsUnfolding}
 use Rattle.pcl_unfolding.proofs.Added.{GoesOn, body_within, looked_back}
 
 -- ---- one after the other
@@ -137,7 +137,7 @@ step_told dpi run bodies told place command items =
 
 -- the end of a macro finds the situation at its start
 end_told : (dpi : Dpi) (control : Option Action) (items inner : List Item) → GoesOn (enter ∷ items) inner
-    → done (left dpi (saved_by control (now dpi items)) (now dpi inner)) ≡ performed_by dpi (ended_by control (enter ∷ items) inner)
+    → done (macro_ended dpi (saved_by control (now dpi items)) (now dpi inner)) ≡ performed_by dpi (ended_by control (enter ∷ items) inner)
 end_told dpi None items inner goes = refl
 end_told dpi (Some Begin) items inner goes = refl
 end_told dpi (Some End) items inner goes = refl
@@ -148,13 +148,13 @@ end_told dpi (Some Call) items inner goes =
     let back : ago (length inner - length begun) (situations dpi inner) ≡ now dpi items =
     subst (λ (list : List Item). ago (length list - length begun) (situations dpi list) ≡ now dpi items) (sym goes.1)
     (looked_back dpi goes.0 begun) in
-    ap (λ (s : Situation). done (left dpi (Some (kept s.settings)) (now dpi inner))) (sym back)
+    ap (λ (s : Situation). done (macro_ended dpi (Some (kept s.settings)) (now dpi inner))) (sym back)
 
 runs_told : (levels : ℕ) (dpi : Dpi) (all : List Said) → AreTold dpi (runs levels dpi all) (unfolded levels dpi all)
 runs_told zero dpi all command control body items = refl
 runs_told (suc levels) dpi all command control body items =
     let inner = in_turn (add dpi (unfolded levels dpi all)) body.from (commands_in all body) (enter ∷ items) in
-    let ends = λ (later : Situation). done (left dpi (saved_by control (now dpi items)) later) in
+    let ends = λ (later : Situation). done (macro_ended dpi (saved_by control (now dpi items)) later) in
     ap (λ (p : Performance). then_on p ends)
     (turn_told dpi (step dpi (runs levels dpi all)) (add dpi (unfolded levels dpi all))
     (λ place one list. step_told dpi (runs levels dpi all) (unfolded levels dpi all) (runs_told levels dpi all) place one list) body.from

@@ -48,12 +48,9 @@ impl Env {
             Operation::Move(axis, unit) => self.move_cursor(axis, unit, value),
             Operation::CursorStack => self.cursor_stack(value),
             Operation::MacroId => self.set_macro_id(value),
-            Operation::ControlMacros => stay_if(matches!(value.count(), Some(0..=3 | 6..=10))),
             Operation::RectangleSize(axis, unit) => self.set_rectangle_size(axis, unit, value),
-            Operation::FillRectangle => stay_if(matches!(value.count(), Some(0 | 1 | 5))),
             Operation::FontId => self.set_font_id(value),
             Operation::CharacterCode => self.set_character_code(value),
-            Operation::ControlFonts => stay_if(matches!(value.count(), Some(0..=5))),
             Operation::DownloadFont
             | Operation::DownloadCharacter
             | Operation::SelectFont(_)
@@ -65,7 +62,11 @@ impl Env {
             Operation::RasterHeight => self.set_raster_height(value),
             Operation::RasterPresentation => stay_if(matches!(value.count(), Some(0 | 3))),
             Operation::StartRaster => stay_if(matches!(value.count(), Some(0 | 1))),
-            Operation::EndRaster | Operation::NoEffect => Ok(Effect::Stay),
+            Operation::ControlMacros
+            | Operation::ControlFonts
+            | Operation::FillRectangle
+            | Operation::EndRaster
+            | Operation::NoEffect => Ok(Effect::Stay),
             Operation::EndRasterResetMethod => self.reset_raster_method(),
             Operation::RasterMethod => self.set_raster_method(value),
         }

@@ -159,19 +159,19 @@ with_front front (Ok commands) = Ok (front ++ commands)
 with_front front (Err fault) = Err fault
 
 -- a step, and the rest of the reading unless it found a fault
-abbrev pub after : Result Reads Refusal → (Reads → Result (List Said) Refusal) → Result (List Said) Refusal
-after (Ok reads) go_on = with_front (commands_said reads.said) (go_on reads)
-after (Err fault) go_on = Err fault
+abbrev pub and_then : Result Reads Refusal → (Reads → Result (List Said) Refusal) → Result (List Said) Refusal
+and_then (Ok reads) go_on = with_front (commands_said reads.said) (go_on reads)
+and_then (Err fault) go_on = Err fault
 
 -- what the reading of the bytes gives, in at most so many steps; the bytes begin at a place
 unfoldable pub outcome : ℕ → Option Prefix → ℕ → List ℕ → Result (List Said) Refusal
 outcome zero inside at bytes = Ok []
 outcome (suc steps) None at [] = Ok []
 outcome (suc steps) None at (byte ∷ bytes) =
-    after (step_at None at (byte ∷ bytes))
+    and_then (step_at None at (byte ∷ bytes))
     (λ reads. outcome steps reads.inside (at + (length (byte ∷ bytes) - length reads.rest)) reads.rest)
 outcome (suc steps) (Some prefix) at bytes =
-    after (step_at (Some prefix) at bytes) (λ reads. outcome steps reads.inside (at + (length bytes - length reads.rest)) reads.rest)
+    and_then (step_at (Some prefix) at bytes) (λ reads. outcome steps reads.inside (at + (length bytes - length reads.rest)) reads.rest)
 
 -- each step but the last takes a byte
 abbrev pub outcome_of : List ℕ → Result (List Said) Refusal

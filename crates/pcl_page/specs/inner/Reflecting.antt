@@ -1,5 +1,5 @@
 -- The performer and the situation that it is in.
-use Rattle.std.specs.Prelude.{◌≡◌, ℕ, ◌+◌, ◌<◌, true, false, if◌then◌else◌, List, ◌++◌, length, ◌⊎◌, Option, Some, None, Result, Ok, Err}
+use Rattle.std.specs.Prelude.{◌≡◌, ℕ, pos, ◌+ℤ◌, ◌-ℤ◌, ◌*ℤ◌, ◌+◌, ◌^◌, ◌<◌, true, false, if◌then◌else◌, List, ◌++◌, length, ◌⊎◌, Option, Some, None, Result, Ok, Err}
 use Rattle.pcl_base.specs.declared.dpi.Dpi.{Dpi}
 use Rattle.pcl_base.specs.declared.fault.JobFault.{JobFault}
 use Rattle.pcl_base.specs.declared.fault.JobFault.TheVariants as job
@@ -11,20 +11,24 @@ use Rattle.pcl_base.specs.declared.name.Name.TheVariants.{Empty}
 use Rattle.pcl_base.specs.declared.operation.Operation.{Operation}
 use Rattle.pcl_base.specs.declared.size.Size.{Size}
 use Rattle.pcl_base.specs.Operation.{operation_of}
+use Rattle.pcl_base.specs.Dpi.{fineness}
 use Rattle.pcl_base.specs.Refusal.{refusal}
 use Rattle.pcl_base.specs.Size.{page_width, page_height}
 use Rattle.pcl_bitmap.specs.Bitmap.{Picture, dot}
 use Rattle.pcl_escape.specs.Said.{Said}
 use Rattle.pcl_env.specs.Settings.{Settings, to_first_line}
+use Rattle.pcl_fonts.specs.Fields.{Character}
 use Rattle.pcl_fonts.specs.History.{FontEvent}
 use Rattle.pcl_fonts.specs.Table.{Holds, Follows}
 use Rattle.pcl_env.specs.Outcome.{Outcome}
 use Rattle.pcl_bitmap.specs.declared.page.Page.{Page}
 use Rattle.pcl_page.specs.declared.performer.Performer.{Performer}
-use Rattle.pcl_bitmap.specs.Dots.{is_black_ink}
+use Rattle.pcl_page.specs.declared.text.Printed.{Printed}
+use Rattle.pcl_bitmap.specs.declared.ink.Ink.TheVariants.{Black}
+use Rattle.pcl_bitmap.specs.Dots.{is_black_ink, pattern_dot}
 use Rattle.pcl_env.specs.declared.asked.Asked.{Asked}
 use Rattle.pcl_page.specs.Asks.{with_page, asks_of}
-use Rattle.pcl_page.specs.Marks.{Mark, is_black}
+use Rattle.pcl_page.specs.Marks.{Mark, is_black, dot_at}
 use Rattle.pcl_page.specs.Raster.{Raster, row_sent, with_row, row_mark, ends_raster}
 use Rattle.pcl_page.specs.Situation.{Sheet, Situation, raster_for_row, settings_below, is_marked, turned, at_end, page_refusal, tried}
 use Rattle.pcl_page.specs.Delivering.{Hands}
@@ -122,6 +126,33 @@ pub record IsDrawn (mark : Mark) (old new : Performer) : Type 0 where
   pub resolution : new.page.bitmap.dpi ≡ old.page.bitmap.dpi
   pub dots : (x y : ℕ) → x < page_width old.page.bitmap.size old.page.bitmap.dpi → y < page_height old.page.bitmap.size old.page.bitmap.dpi
       → dot new.page.bitmap x y ≡ (if mark.covers x y then is_black_ink mark.ink else dot old.page.bitmap x y)
+
+-- a mark's dots are black, and the page is marked
+pub record IsInked (mark : Mark) (performer : Performer) : Type 0 where
+  pub marked : performer.is_marked ≡ true
+  pub black : (x y : ℕ) → x < page_width performer.page.bitmap.size performer.page.bitmap.dpi
+      → y < page_height performer.page.bitmap.size performer.page.bitmap.dpi → mark.covers x y ≡ true
+      → dot performer.page.bitmap x y ≡ true
+
+-- the dots of a character, with the cursor at a dot
+abbrev pub character_at : Dpi → Character → ℕ → ℕ → Mark
+character_at dpi c x y = record {
+  covers = pattern_dot (pos x +ℤ c.left *ℤ pos (fineness dpi)) (pos y -ℤ c.top *ℤ pos (fineness dpi)) (fineness dpi)
+      c.width c.height c.rows;
+  ink = Black;
+}
+
+-- a character is printed where the cursor is
+pub record IsAtCursor (dpi : Dpi) (here : Printed) (s : Settings) : Type 0 where
+  pub x : here.x ≡ dot_at dpi s.cursor.x
+  pub y : here.y ≡ dot_at dpi s.cursor.y
+  pub near : (here.x < 2 ^ 30) × (here.y < 2 ^ 30)
+
+-- the character that was printed last is inked, if one was
+abbrev pub IsLastInked : Dpi → (ℕ → Option Character) → Option Printed → Performer → Type 0
+IsLastInked dpi characters None performer = Unit {0}
+IsLastInked dpi characters (Some last) performer =
+    (c : Character) → characters last.code ≡ Some c → IsInked (character_at dpi c last.x last.y) performer
 
 -- something became of fonts, and all else is as before
 pub record HasEvent (event : FontEvent) (old new : Performer) : Type 0 where

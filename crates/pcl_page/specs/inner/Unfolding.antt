@@ -18,7 +18,7 @@ use Rattle.pcl_page.specs.declared.interpreter.Interpreter.{Interpreter}
 use Rattle.pcl_page.specs.declared.interpreter.Running.{Running}
 use Rattle.pcl_page.specs.Asks.{asks_of}
 use Rattle.pcl_page.specs.Situation.{Sheet, Situation, at_end}
-use Rattle.pcl_page.specs.Macros.{Run, left}
+use Rattle.pcl_page.specs.Macros.{Run, macro_ended}
 use Rattle.pcl_page.specs.Performing.{Performance, done, then_on, in_order, step, commands_left, runs, end_refusal, asks_among}
 use Rattle.pcl_page.specs.Delivering.{Hands}
 use Rattle.pcl_page.specs.inner.Reflecting.{IsIn, HandsMore}
@@ -53,7 +53,7 @@ Enters run old new = (new ≡ old ++ entered run) × HasLevel run old
 -- what a macro that runs has left, with so many levels below it
 abbrev pub rest_of : ℕ → Dpi → List Said → Run → Situation → Performance
 rest_of levels dpi all run s =
-    then_on (in_order (step dpi (runs levels dpi all)) run.next (commands_left all run) s) (λ later. done (left dpi run.saved later))
+    then_on (in_order (step dpi (runs levels dpi all)) run.next (commands_left all run) s) (λ later. done (macro_ended dpi run.saved later))
 
 -- what macros that run have left, the newest last, which goes first
 abbrev pub resumed : ℕ → Dpi → List Said → List Running → Situation → Performance

@@ -3,7 +3,7 @@ use Rattle.std.proofs.lemmas.Grind.{take_at_read}
 use Rattle.pcl_escape.specs.Exit.{squeezed}
 use Rattle.pcl_escape.proofs.Squeezed.{blank_step, full_step, push_step}
 use Rattle.pcl_escape.proofs.exit.squeezed_front.Goals as goal
-use Rattle.pcl_escape.proofs.exit.squeezed_front.Goals.{then-not-is_blank+then-not-is_full, else-not-is_blank, else-not-is_blank-via-then-not-is_blank+else-not-is_full, else-not-is_blank-via-else-not-is_blank}
+use Rattle.pcl_escape.proofs.exit.squeezed_front.Goals.{then-not-is_white_space+then-not-is_full, else-not-is_white_space, else-not-is_white_space-via-then-not-is_white_space+else-not-is_full, else-not-is_white_space-via-else-not-is_white_space}
 
 pub loop-byte-preserved : goal.loop-byte-preserved
 loop-byte-preserved c =
@@ -13,16 +13,16 @@ loop-byte-preserved c =
     let below : i < length line = c.loop-byte-test.true in
     let one_more = (take_at_read line i 0 below).1 in
     let so_far = c.loop-byte.invariant in
-    let step : c.if-not-is_blank.front.items ≡ take 22 (squeezed (take i line ++ byte ∷ [])) = elim c.if-not-is_blank.branch [
-      | then-not-is_blank+then-not-is_full w ↦ ap (λ front. front.items) w.front-is ∙ w.push.ensures.items
+    let step : c.if-not-is_white_space.front.items ≡ take 22 (squeezed (take i line ++ byte ∷ [])) = elim c.if-not-is_white_space.branch [
+      | then-not-is_white_space+then-not-is_full w ↦ ap (λ front. front.items) w.front-is ∙ w.push.ensures.items
           ∙ ap (λ b. c.loop-byte.front.items ++ b ∷ []) w.to_ascii_uppercase.ensures.value
-          ∙ push_step (take i line) byte so_far w.if-not-is_blank.ensures w.if-not-is_full.ensures.value
+          ∙ push_step (take i line) byte so_far w.if-not-is_white_space.ensures w.if-not-is_full.ensures.value
           w.is_full.ensures.fits
-      | else-not-is_blank w ↦ elim w.else-not-is_blank.branch [
-        | else-not-is_blank-via-then-not-is_blank+else-not-is_full w' ↦ ap (λ front. front.items) w.front-is
-            ∙ full_step (take i line) byte so_far w'.if-not-is_blank.ensures w'.if-not-is_full.ensures.value
-        | else-not-is_blank-via-else-not-is_blank w' ↦ ap (λ front. front.items) w.front-is
-            ∙ blank_step (take i line) byte so_far w'.if-not-is_blank.ensures
+      | else-not-is_white_space w ↦ elim w.else-not-is_white_space.branch [
+        | else-not-is_white_space-via-then-not-is_white_space+else-not-is_full w' ↦ ap (λ front. front.items) w.front-is
+            ∙ full_step (take i line) byte so_far w'.if-not-is_white_space.ensures w'.if-not-is_full.ensures.value
+        | else-not-is_white_space-via-else-not-is_white_space w' ↦ ap (λ front. front.items) w.front-is
+            ∙ blank_step (take i line) byte so_far w'.if-not-is_white_space.ensures
       ]
     ] in
     step ∙ ap (λ (bs : List ℕ). take 22 (squeezed bs)) (sym one_more)

@@ -1,6 +1,6 @@
 use Rattle.std.proofs.Common.{rules, refl}
 use Rattle.pcl_escape.specs.Said.{view}
-use Rattle.pcl_page.proofs.Printed.{event_in, settings_in, rectangle_in, row_in}
+use Rattle.pcl_page.proofs.Printed.{event_in, settings_in, row_in}
 use Rattle.pcl_page.proofs.performer.Performer.draw.Goals as goal
 
 pub returns-in-DownloadFont : goal.returns-in-DownloadFont
@@ -13,7 +13,7 @@ pub returns-in-PrintText : goal.returns-in-PrintText
 returns-in-PrintText c = λ s i. rw c.in-PrintText.is (c.print_text.ensures s i)
 
 pub returns-in-ControlFonts : goal.returns-in-ControlFonts
-returns-in-ControlFonts c = λ s i. rw c.in-ControlFonts.is (refl, event_in i (c.control_fonts.ensures c.args.dpi s i))
+returns-in-ControlFonts c = λ s i. rw c.in-ControlFonts.is (c.control_fonts.ensures c.args.dpi s i)
 
 pub returns-in-Reset : goal.returns-in-Reset
 returns-in-Reset c = λ s i. rw c.in-Reset.is (refl, event_in i c.delete_temporary_fonts.ensures)
@@ -25,8 +25,7 @@ pub returns-in-SelectFont : goal.returns-in-SelectFont
 returns-in-SelectFont c = λ s i. rw c.in-SelectFont.is (refl, settings_in i (c.select_font.ensures c.args.dpi s i))
 
 pub returns-in-FillRectangle : goal.returns-in-FillRectangle
-returns-in-FillRectangle c = λ s i. rw c.in-FillRectangle.is
-    (refl, rectangle_in c.args.command.now.value i c.fill_rectangle.ensures.drawn c.fill_rectangle.ensures.raster)
+returns-in-FillRectangle c = λ s i. rw c.in-FillRectangle.is (c.fill_rectangle.ensures s i)
 
 pub returns-in_ok-send_row-in-RasterRow : goal.returns-in_ok-send_row-in-RasterRow
 returns-in_ok-send_row-in-RasterRow c = λ s i. rw c.in-RasterRow.is

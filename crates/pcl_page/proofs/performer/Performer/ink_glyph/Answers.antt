@@ -1,35 +1,28 @@
-use Rattle.std.proofs.Common.{rules, FitsSigned, to_z, of_z, ◌≡◌, ◌∙◌, ◌+ℤ◌, ◌-ℤ◌, ◌*ℤ◌, pos, ◌/◌, ◌||◌, ℤ, ℕ, refl, ap}
+use Rattle.std.proofs.Common.{rules, FitsSigned, to_z, of_z, ◌≡◌, ◌∙◌, ◌+ℤ◌, ◌-ℤ◌, ◌*ℤ◌, pos, ◌||◌, ℤ, ℕ, refl, ap}
 use Rattle.std.proofs.lemmas.Int.{to_z-of_z}
 use Rattle.std.specs.Int.{w16, w32}
 use Rattle.pcl_base.specs.Dpi.{fineness}
 use Rattle.pcl_bitmap.specs.Bitmap.{dot}
 use Rattle.pcl_bitmap.specs.Dots.{pattern_dot}
-use Rattle.pcl_page.specs.Marks.{dot_at}
 use Rattle.pcl_page.proofs.Painted.{or_is}
 use Rattle.pcl_page.proofs.performer.Performer.ink_glyph.Goals as goal
 
 pub returns-clause-drawn : goal.returns-clause-drawn
 returns-clause-drawn c =
     let dpi = c.args.dpi in
-    let s = c.args.self.now.environment in
+    let here = c.args.here in
     let g = c.args.glyph.now in
     let old = c.args.self.now.page.bitmap in
-    let column : c.x.result / c.unit.result ≡ dot_at dpi s.cursor.x =
-    ap (λ (n : ℕ). n / c.unit.result) c.x.ensures.value ∙ ap (λ (n : ℕ). s.cursor.x / n) c.unit.ensures in
-    let row : c.y.result / c.unit-2.result ≡ dot_at dpi s.cursor.y =
-    ap (λ (n : ℕ). n / c.unit-2.result) c.y.ensures.value ∙ ap (λ (n : ℕ). s.cursor.y / n) c.unit-2.ensures in
     let fits_left : FitsSigned w16 g.left = search rules in
     let fits_top : FitsSigned w16 g.top = search rules in
     let fits_x : FitsSigned w32 c.right_of-x.result = search rules in
     let fits_y : FitsSigned w32 c.above-y.result = search rules in
-    let left : to_z w32 (of_z w32 c.right_of-x.result) ≡ pos (dot_at dpi s.cursor.x) +ℤ g.left *ℤ pos (fineness dpi) =
+    let left : to_z w32 (of_z w32 c.right_of-x.result) ≡ pos here.x +ℤ g.left *ℤ pos (fineness dpi) =
     to_z-of_z w32 c.right_of-x.result fits_x ∙ c.right_of-x.ensures
-    ∙ ap (λ (z : ℤ). pos (c.x.result / c.unit.result) +ℤ z *ℤ pos (fineness dpi)) (to_z-of_z w16 g.left fits_left)
-    ∙ ap (λ (n : ℕ). pos n +ℤ g.left *ℤ pos (fineness dpi)) column in
-    let top : to_z w32 (of_z w32 c.above-y.result) ≡ pos (dot_at dpi s.cursor.y) -ℤ g.top *ℤ pos (fineness dpi) =
+    ∙ ap (λ (z : ℤ). pos here.x +ℤ z *ℤ pos (fineness dpi)) (to_z-of_z w16 g.left fits_left) in
+    let top : to_z w32 (of_z w32 c.above-y.result) ≡ pos here.y -ℤ g.top *ℤ pos (fineness dpi) =
     to_z-of_z w32 c.above-y.result fits_y ∙ c.above-y.ensures
-    ∙ ap (λ (z : ℤ). pos (c.y.result / c.unit-2.result) -ℤ z *ℤ pos (fineness dpi)) (to_z-of_z w16 g.top fits_top)
-    ∙ ap (λ (n : ℕ). pos n -ℤ g.top *ℤ pos (fineness dpi)) row in
+    ∙ ap (λ (z : ℤ). pos here.y -ℤ z *ℤ pos (fineness dpi)) (to_z-of_z w16 g.top fits_top) in
     record {
       settings = refl;
       marked = refl;
@@ -43,11 +36,11 @@ returns-clause-drawn c =
           c.blit.ensures.dots x y wide high
           ∙ ap (λ (z : ℤ). pattern_dot z (to_z w32 (of_z w32 c.above-y.result)) c.fineness-scale.result g.width g.height
           g.rows.now x y || dot old x y) left
-          ∙ ap (λ (z : ℤ). pattern_dot (pos (dot_at dpi s.cursor.x) +ℤ g.left *ℤ pos (fineness dpi)) z c.fineness-scale.result g.width
+          ∙ ap (λ (z : ℤ). pattern_dot (pos here.x +ℤ g.left *ℤ pos (fineness dpi)) z c.fineness-scale.result g.width
           g.height g.rows.now x y || dot old x y) top
-          ∙ ap (λ (n : ℕ). pattern_dot (pos (dot_at dpi s.cursor.x) +ℤ g.left *ℤ pos (fineness dpi))
-          (pos (dot_at dpi s.cursor.y) -ℤ g.top *ℤ pos (fineness dpi)) n g.width g.height g.rows.now x y || dot old x y)
+          ∙ ap (λ (n : ℕ). pattern_dot (pos here.x +ℤ g.left *ℤ pos (fineness dpi))
+          (pos here.y -ℤ g.top *ℤ pos (fineness dpi)) n g.width g.height g.rows.now x y || dot old x y)
           c.fineness-scale.ensures.value
-          ∙ or_is (pattern_dot (pos (dot_at dpi s.cursor.x) +ℤ g.left *ℤ pos (fineness dpi))
-          (pos (dot_at dpi s.cursor.y) -ℤ g.top *ℤ pos (fineness dpi)) (fineness dpi) g.width g.height g.rows.now x y) (dot old x y);
+          ∙ or_is (pattern_dot (pos here.x +ℤ g.left *ℤ pos (fineness dpi))
+          (pos here.y -ℤ g.top *ℤ pos (fineness dpi)) (fineness dpi) g.width g.height g.rows.now x y) (dot old x y);
     }

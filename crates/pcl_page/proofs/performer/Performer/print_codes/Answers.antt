@@ -1,7 +1,11 @@
-use Rattle.std.proofs.Common.{◌≡◌, ◌<◌, ◌∷◌, ◌+◌, ◌∙◌, List, ℕ, Some, None, length, drop, get_or, refl, sym, ap, subst, add-one, drop-cons}
+use Rattle.std.proofs.Common.{◌≡◌, ◌<◌, ◌∷◌, ◌+◌, ◌∙◌, List, ℕ, Some, None, length, drop, get_or, refl, sym, ap, subst, rules, add-one, drop-cons}
 use Rattle.std.specs.Option.{option_map}
+use Rattle.std.specs.Prelude.{IsTrue}
 use Rattle.pcl_fonts.specs.Table.{character_in}
-use Rattle.pcl_page.proofs.Printed.{IsPrintedTo, code_done, blank_printed}
+use Rattle.pcl_env.specs.Settings.{font_in_use}
+use Rattle.pcl_page.specs.Text.{prints}
+use Rattle.pcl_page.specs.inner.Reflecting.{character_at, IsInked}
+use Rattle.pcl_page.proofs.Printed.{IsPrintedTo, same_character, code_done, blank_printed, inked_last, last_now, last_still}
 use Rattle.pcl_page.proofs.performer.Performer.print_codes.Goals as goal
 use Rattle.pcl_page.proofs.performer.Performer.print_codes.Goals.{in-Some, in-None}
 
@@ -12,17 +16,28 @@ next_is codes {i} default lt = rw (add-one, drop-cons codes i default lt) refl
 pub loop-code-preserved : goal.loop-code-preserved
 loop-code-preserved c = λ s i.
     let code = get_or c.args.codes.now c.loop-code.code-index 0 in
+    let characters = prints s.fonts (font_in_use s.settings) in
     let next = next_is c.args.codes.now 0 c.loop-code-test.true in
-    let p = subst (λ (rest : List ℕ). IsPrintedTo c.args.dpi c.args.proportional s c.args.codes.now rest c.loop-code.self) next
-    (c.loop-code.invariant s i) in
+    let so_far = c.loop-code.invariant s i in
+    let p = subst (λ (rest : List ℕ). IsPrintedTo c.args.dpi c.args.proportional s c.args.codes.now rest c.loop-code.self) next so_far.0 in
     let found = c.glyph.ensures c.args.dpi p.now p.is_in in
     elim c.match-glyph.branch [
       | in-Some w ↦
-          rw w.self-is
-          (code_done code (Some (character_in w.in-Some.glyph)) p (sym (ap (option_map character_in) w.in-Some.is) ∙ found)
-          (w.print_glyph.ensures p.now code p.is_in))
+          let here = w.at_cursor-here.result in
+          let printed = character_in w.in-Some.glyph in
+          let is = sym (ap (option_map character_in) w.in-Some.is) ∙ found in
+          let its : Some printed ≡ characters here.code =
+          same_character p code (Some printed) is ∙ ap characters (sym w.at_cursor-here.ensures.code) in
+          let inked : IsTrue w.eq.result → IsInked (character_at c.args.dpi printed here.x here.y) c.loop-code.self =
+          λ same. inked_last c.loop-code.last here p so_far.1 (search rules) its in
+          rw (w.self-is, w.last-is) (
+            code_done code (Some printed) p is (w.print_glyph.ensures.printed p.now code p.is_in inked),
+            last_now c.args.dpi characters here its (w.print_glyph.ensures.inked inked),
+          )
       | in-None w ↦
-          rw w.self-is
-          (code_done code None p (sym (ap (option_map character_in) w.in-None.is) ∙ found)
-          (blank_printed c.args.proportional code p.is_in w.pass_blank.ensures))
+          rw (w.self-is, w.last-is) (
+            code_done code None p (sym (ap (option_map character_in) w.in-None.is) ∙ found)
+                (blank_printed c.args.proportional code p.is_in w.pass_blank.ensures),
+            last_still c.args.dpi characters c.loop-code.last so_far.1 w.pass_blank.ensures,
+          )
     ]

@@ -1,10 +1,9 @@
 use Rattle.std.proofs.Common.{◌≡◌, ◌∙◌, ◌/◌, ℕ, cond, refl, ap}
 use Rattle.std.specs.Int.{div_ceil}
-use Rattle.pcl_bitmap.specs.declared.ink.Ink.{Ink}
 use Rattle.pcl_bitmap.specs.Bitmap.{dot}
 use Rattle.pcl_bitmap.specs.Dots.{rectangle_dot, is_black_ink}
 use Rattle.pcl_page.specs.Marks.{dot_at, dots_of}
-use Rattle.pcl_page.proofs.performer.Performer.fill_rectangle.Goals as goal
+use Rattle.pcl_page.proofs.performer.Performer.ink_rectangle.Goals as goal
 
 pub returns-clause-drawn : goal.returns-clause-drawn
 returns-clause-drawn c =
@@ -33,14 +32,11 @@ returns-clause-drawn c =
       dots = λ x y wide high.
           c.fill.ensures.dots x y wide high
           ∙ ap (λ (n : ℕ). cond (rectangle_dot n (c.y.result / c.unit-3.result) c.div_ceil-width.result c.div_ceil-height.result x y)
-          (is_black_ink c.rectangle_ink-ink.result) (dot old x y)) left
+          (is_black_ink c.args.ink) (dot old x y)) left
           ∙ ap (λ (n : ℕ). cond (rectangle_dot (dot_at dpi s.cursor.x) n c.div_ceil-width.result c.div_ceil-height.result x y)
-          (is_black_ink c.rectangle_ink-ink.result) (dot old x y)) top
+          (is_black_ink c.args.ink) (dot old x y)) top
           ∙ ap (λ (n : ℕ). cond (rectangle_dot (dot_at dpi s.cursor.x) (dot_at dpi s.cursor.y) n c.div_ceil-height.result x y)
-          (is_black_ink c.rectangle_ink-ink.result) (dot old x y)) width
+          (is_black_ink c.args.ink) (dot old x y)) width
           ∙ ap (λ (n : ℕ). cond (rectangle_dot (dot_at dpi s.cursor.x) (dot_at dpi s.cursor.y) (dots_of dpi s.rectangle_width) n x y)
-          (is_black_ink c.rectangle_ink-ink.result) (dot old x y)) height
-          ∙ ap (λ (i : Ink). cond
-          (rectangle_dot (dot_at dpi s.cursor.x) (dot_at dpi s.cursor.y) (dots_of dpi s.rectangle_width) (dots_of dpi s.rectangle_height)
-          x y) (is_black_ink i) (dot old x y)) c.rectangle_ink-ink.ensures;
+          (is_black_ink c.args.ink) (dot old x y)) height;
     }

@@ -1,7 +1,7 @@
 use Rattle.std.proofs.Common.{nat_le, rules, tests}
 use Rattle.std.proofs.lemmas.Iterator.{YieldsList-from_slice}
 use Rattle.std.proofs.lemmas.Iterator.Search.{all_from_yields_List}
-use Rattle.pcl_page.proofs.text.is_blank.Goals as goal
+use Rattle.pcl_page.proofs.text.are_spaces.Goals as goal
 
 pub returns : goal.returns
 returns c =
