@@ -1,17 +1,17 @@
 -- A table that is filled one row upwards.
-use Rattle.std.proofs.Common.{◌≡◌, ℕ, zero, suc, ◌+◌, ◌-◌, ◌<◌, ◌≤◌, Bool, true, false, List, [], ◌∷◌, length, take, drop, refl, sym, ap, subst, ◌∙◌, inl, inr, arith, add-one}
+use Rattle.std.proofs.Common.{◌≡◌, ℕ, zero, suc, ◌+◌, ◌-◌, ◌<◌, ◌≤◌, Bool, true, false, List, [], ◌∷◌, length, drop, refl, sym, ap, subst, ◌∙◌, inl, inr, arith}
 use Rattle.std.proofs.lemmas.Bool.{cases_lt}
-use Rattle.std.proofs.lemmas.List.{drop_more, length-drop, get_or-drop, take_all}
+use Rattle.std.proofs.lemmas.List.{drop_more}
 use Rattle.pcl_base.specs.declared.method.Method.{Method}
 use Rattle.pcl_base.specs.declared.method.Method.TheVariants.{Plain, Runs, Packed, Delta}
 use Rattle.pcl_coders.specs.Coding.{IsLeastLength}
 use Rattle.pcl_output.specs.declared.table.RowNumbers.{RowNumbers}
-use Rattle.pcl_output.specs.Tokens.{IsWhite, AreWhite}
+use Rattle.pcl_output.specs.Tokens.{AreWhite}
 use Rattle.pcl_output.specs.declared.node.Node.{Node}
 use Rattle.pcl_output.specs.Nodes.{row_at, row_above}
 use Rattle.pcl_output.specs.Table.{number_in, node_number, end_numbers, rest}
 use Rattle.pcl_plan.specs.inner.Filling.{skipping, IsReadable, IsLeastStart, IsDirect, AreRowNumbers, IsRowRight, AreRightFrom}
-use Rattle.pcl_output.specs.inner.WhiteRows.{AreSkippable, IsWhiteRun}
+use Rattle.pcl_output.specs.inner.WhiteRows.{IsWhiteRun}
 use Rattle.pcl_output.proofs.Walking.{node}
 use Rattle.pcl_output.proofs.WhiteRows.{white_front, white_below, skippable_within, ink_left}
 use Rattle.pcl_plan.proofs.RightRows.{row_stays, white_row_right}

@@ -5,7 +5,6 @@ use Rattle.std.proofs.lemmas.List.{drop_more}
 use Rattle.pcl_base.specs.declared.method.Method.{Method}
 use Rattle.pcl_base.specs.Method.{method_code}
 use Rattle.pcl_rows.specs.Rows.{IsRowData}
-use Rattle.pcl_coders.specs.Coding.{IsLeastLength}
 use Rattle.pcl_coders.proofs.Lengths.{length_small}
 use Rattle.pcl_base.specs.Walks.{IsAttained}
 use Rattle.pcl_output.specs.declared.table.RowNumbers.{RowNumbers}
@@ -16,7 +15,7 @@ use Rattle.pcl_output.specs.Spelling.{least_spelling, digit_count, switching, ro
 use Rattle.pcl_output.specs.Table.{number_in, outside, inside, rest, IsSwitched}
 use Rattle.pcl_plan.specs.inner.Filling.{skipping, IsDirect, IsRowRight}
 use Rattle.pcl_output.specs.inner.WhiteRows.{AreSkippable}
-use Rattle.pcl_output.proofs.DigitCounts.{count_le, count_grows, spelled_long, least_spelled, length-least_spelling}
+use Rattle.pcl_output.proofs.DigitCounts.{count_grows, spelled_long}
 use Rattle.pcl_output.proofs.Walking.{node}
 use Rattle.pcl_output.proofs.TokenCosts.{cost_opening, cost_method, cost_skip, cost_send, method_small, rest_below, best_end, spelled_cost, row_cost_small}
 use Rattle.pcl_plan.proofs.RightRows.{at_row}

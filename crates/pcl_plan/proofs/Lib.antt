@@ -3,6 +3,7 @@ pub mod InkedRows
 pub mod Skips
 pub mod Filled
 pub mod Reading
+pub mod DataLengths
 pub mod ReadSteps
 pub mod Planned
 pub mod LeastWalks

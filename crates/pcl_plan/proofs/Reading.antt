@@ -10,7 +10,7 @@ use Rattle.pcl_coders.specs.Coding.{IsLeastLength}
 use Rattle.pcl_base.specs.Walks.{Walk, total, IsFeasible, IsLeastCost}
 use Rattle.pcl_base.proofs.Walks.{feasible_bounds, attained_is_least}
 use Rattle.pcl_output.specs.declared.table.RowNumbers.{RowNumbers}
-use Rattle.pcl_output.specs.Tokens.{Token, opening, method, skip, send, IsSpelled, AreWhite}
+use Rattle.pcl_output.specs.Tokens.{Token, opening, method, skip, send, AreWhite}
 use Rattle.pcl_output.specs.declared.node.Node.{Node}
 use Rattle.pcl_output.specs.Nodes.{row_at, row_above, Leads, Ends, cost}
 use Rattle.pcl_output.specs.Spelling.{least_spelling, switching, row_cost}
@@ -20,7 +20,6 @@ use Rattle.pcl_output.specs.inner.WhiteRows.{AreSkippable, IsWhiteRun}
 use Rattle.pcl_output.proofs.DigitCounts.{count_grows, spelled_long}
 use Rattle.pcl_output.proofs.Walking.{node}
 use Rattle.pcl_output.proofs.TokenCosts.{cost_opening, cost_method, cost_skip, cost_send, cost_some, method_small, rest_below, best_end, spelled_cost}
-use Rattle.pcl_coders.proofs.Lengths.{length_small}
 use Rattle.pcl_plan.proofs.Filled.{readable}
 use Rattle.pcl_output.proofs.WhiteRows.{white_front, white_to_end}
 use Rattle.pcl_output.proofs.Tables.{number_past}
@@ -84,17 +83,15 @@ skip_bound {width} {rows} {table} row current {count} is can =
     (node (row + count) current (not best.0)) (refl, s.0, can.0, can.1, can.2, refl) in
     omega (arith, l, s.1, cost_skip (least_spelling count) count best.0, best.1)
 
-pub send_bound : {width : ℕ} {rows : List (List ℕ)} {table : List RowNumbers} {row : ℕ} {current : Method} {bytes : ℕ}
-    → IsRightTable width rows table → row < length rows
-    → IsLeastLength current (row_above width rows row) (row_at rows row) bytes
-    → inside (node_number table) row current ≤ row_cost bytes + outside (node_number table) (row + 1) current
-send_bound {width} {rows} {table} {row} {current} {bytes} is lt length_is =
-    let whole = length_is.attained in
-    let s = spelled_cost bytes (length_small length_is) in
-    let spelled : IsSpelled (least_spelling bytes) (length whole.0) = subst (IsSpelled (least_spelling bytes)) (sym whole.2) s.0 in
-    let l = step width rows table is (node row current true) (send (least_spelling bytes) whole.0) (node (row + 1) current false)
-    (refl, spelled, lt, whole.1, refl) in
-    omega (arith, l, s.1, whole.2, cost_send (least_spelling bytes) whole.0)
+send_bound : {width : ℕ} {rows : List (List ℕ)} {table : List RowNumbers} {row : ℕ} {current : Method}
+    → IsRightTable width rows table → row < length rows → (bytes : List ℕ)
+    → IsRowData current (row_above width rows row) (row_at rows row) bytes
+    → inside (node_number table) row current ≤ row_cost (length bytes) + outside (node_number table) (row + 1) current
+send_bound {width} {rows} {table} {row} {current} is lt bytes has =
+    let s = spelled_cost (length bytes) (omega (arith, has.fits)) in
+    let l = step width rows table is (node row current true) (send (least_spelling (length bytes)) bytes) (node (row + 1) current false)
+    (refl, s.0, lt, has, refl) in
+    omega (arith, l, s.1, cost_send (least_spelling (length bytes)) bytes)
 
 -- a parameter with which the least begins
 pub data Beginning (width : ℕ) (rows : List (List ℕ)) (table : List RowNumbers) (row : ℕ) (current : Method) : Type 0 where
@@ -153,26 +150,36 @@ begins width rows table row current is within =
     let w = (is.right.right row (omega arith) within).attained (node row current true) refl in
     begins_with is w.0 w.1 w.2
 
--- where no row and no skip begins the least, a switch does
-pub switch_begins : {width : ℕ} {rows : List (List ℕ)} {table : List RowNumbers} {row : ℕ} {current : Method} {bytes : ℕ}
+-- data of fewer bytes costs less
+shorter_data : (short long : List ℕ) → length long ≤ 65535 → length short < length long
+    → row_cost (length short) < row_cost (length long)
+shorter_data short long small less = omega (arith, count_grows (length short) (length long) (omega arith) (omega arith))
+
+-- where no skip and no switch begins the least, the row does, by least data
+pub row_begins : {width : ℕ} {rows : List (List ℕ)} {table : List RowNumbers} {row : ℕ} {current : Method}
     → IsRightTable width rows table → row ≤ length rows
     → ((count : ℕ) → AreSkippable rows row count → inside (node_number table) row current < skipping (node_number table) row current count)
-    → IsLeastLength current (row_above width rows row) (row_at rows row) bytes
-    → (row_cost bytes + outside (node_number table) (row + 1) current ≡ inside (node_number table) row current → ⊥)
-    → (next : Method) × (inside (node_number table) row current ≡ switching next + rest (node_number table) row next)
-switch_begins {width} {rows} {table} {row} {current} {bytes} is within no_skip length_is no_row =
+    → ((next : Method) → inside (node_number table) row current ≡ switching next + rest (node_number table) row next → ⊥)
+    → (bytes : ℕ) × (row < length rows) × IsLeastLength current (row_above width rows row) (row_at rows row) bytes
+    × (inside (node_number table) row current ≡ row_cost bytes + outside (node_number table) (row + 1) current)
+row_begins {width} {rows} {table} {row} {current} is within no_skip no_switch =
     elim (begins width rows table row current is within) [
-      | by_switch next e ↦ (next, e)
+      | by_switch next e ↦ absurd (no_switch next e)
       | by_skip count can e ↦ absurd (let more = no_skip count can in omega (arith, more, e))
-      | by_row whole lt has below ↦
-          absurd (no_row (let short = length_is.shortest whole has in
-          omega (
-            arith,
-            below,
-            short,
-            count_grows bytes (length whole) short (omega (arith, has.fits)),
-            send_bound is lt length_is,
-          )))
+      | by_row whole lt has below ↦ (
+        length whole,
+        lt,
+        record {
+          attained = (whole, has, refl);
+          shortest = λ other also.
+              elim (cases_lt (length other) (length whole)) [
+                | inl less ↦
+                    absurd (omega (arith, below, shorter_data other whole has.fits less, send_bound is lt other also))
+                | inr same ↦ same
+              ];
+        },
+        omega (arith, below, send_bound is lt whole has),
+      )
     ]
 
 -- ---- outside a sequence

@@ -8,7 +8,7 @@ ghost use Rattle.pcl_coders.specs.Coding.{IsLeastLength};
 ghost use Rattle.pcl_output.specs.Nodes.{row_at, row_above, row_after};
 ghost use Rattle.pcl_output.specs.Table.{node_number};
 ghost use Rattle.pcl_plan.specs.inner.Rows.{rows_of};
-ghost use Rattle.pcl_output.specs.Spelling.{switching};
+ghost use Rattle.pcl_output.specs.Spelling.{switching, row_cost};
 ghost use Rattle.pcl_output.specs.Table.{outside, rest};
 ghost use Rattle.pcl_plan.specs.inner.Filling.{skipping, IsReadable, AreRightFrom};
 ghost use Rattle.pcl_plan.specs.inner.Reading.{AreLeastSteps, IsBestStep, IsNextNode};
@@ -52,7 +52,8 @@ pub fn append_steps<L: LeastLengths>(
 }
 
 /// A step with which the least begins that comes inside a sequence, where the rest isn't white: of several the
-/// longest skip, then the row, then the switch to the method of the lowest number.
+/// longest skip, then the row, then the switch to the method of the lowest number. Where neither a skip nor a switch
+/// begins it, the row does, and what it costs tells its length: a coder is asked only where a switch begins it.
 fn best_step<L: LeastLengths>(
     lengths: &L,
     rows: &Rows<'_>,
@@ -70,11 +71,16 @@ fn best_step<L: LeastLengths>(
     if let Some(count) = beginning_skip(table, row, method, run, least) {
         return Step::Skip(count as u16);
     }
+    let sent = table.number(row + 1, method, false);
+    let Some(next) = beginning_switch(table, row, least) else {
+        return Step::Row(data_len(least - sent) as u16);
+    };
     let bytes = least_length(lengths, rows, row, method);
-    if row_cost(bytes) + table.number(row + 1, method, false) == least {
-        return Step::Row(bytes as u16);
+    if row_cost(bytes) + sent == least {
+        Step::Row(bytes as u16)
+    } else {
+        Step::Switch(next)
     }
-    Step::Switch(lowest_switch(table, row, least))
 }
 
 /// The longest skip of some of `run` rows with which the least begins, if there is one.
@@ -105,23 +111,25 @@ fn least_length<L: LeastLengths>(lengths: &L, rows: &Rows<'_>, row: u32, method:
     lengths.least(method, rows.row(row), rows.row_above(row, &zeros))
 }
 
-/// The method of the lowest number with a switch to which the least begins.
-fn lowest_switch(table: &Table, row: u32, least: u32) -> Method
+/// The method of the lowest number with a switch to which the least begins, if there is one.
+fn beginning_switch(table: &Table, row: u32, least: u32) -> Option<Method>
     requires within { row < length table.now }
     requires small { (method : RowMethod) → rest (node_number table.now) row method < 2 ^ 30 }
-    requires some { (next : RowMethod) × (least ≡ switching next + rest (node_number table.now) row next) }
-    ensures attained { least ≡ switching result + rest (node_number table.now) row result }
-    ensures lowest { (next : RowMethod) → method_code next < method_code result
-        → least ≢ switching next + rest (node_number table.now) row next }
+    ensures attained { IfSome result (λ next. least ≡ switching next + rest (node_number table.now) row next) }
+    ensures lowest { IfSome result (λ first. (next : RowMethod) → method_code next < method_code first
+        → least ≢ switching next + rest (node_number table.now) row next) }
+    ensures none { IfNone result ((next : RowMethod) → least ≢ switching next + rest (node_number table.now) row next) }
 {
     if switch_number(table, row, Method::Plain) == least {
-        Method::Plain
+        Some(Method::Plain)
     } else if switch_number(table, row, Method::Runs) == least {
-        Method::Runs
+        Some(Method::Runs)
     } else if switch_number(table, row, Method::Packed) == least {
-        Method::Packed
+        Some(Method::Packed)
+    } else if switch_number(table, row, Method::Delta) == least {
+        Some(Method::Delta)
     } else {
-        Method::Delta
+        None
     }
 }
 
@@ -132,4 +140,18 @@ fn switch_number(table: &Table, row: u32, next: Method) -> u32
     ensures { result ≡ switching next + rest (node_number table.now) row next }
 {
     digits(next.code()) + 1 + table.rest(row, next)
+}
+
+/// How many bytes of data a row has that costs so much: no two lengths cost the same.
+fn data_len(cost: u32) -> u32
+    ensures { (bytes : ℕ) → bytes ≤ data_limit → cost ≡ row_cost bytes → result ≡ bytes }
+{
+    match cost {
+        0..=1 => 0,
+        2..=11 => cost - 2,
+        12..=102 => cost - 3,
+        103..=1003 => cost - 4,
+        1004..=10004 => cost - 5,
+        _ => cost - 6,
+    }
 }

@@ -1,10 +1,10 @@
 -- A table while it is filled, from the last row upwards.
-use Rattle.std.specs.Prelude.{◌≡◌, ℕ, ◌+◌, ◌-◌, ◌*◌, ◌<◌, ◌≤◌, ◌⊎◌, List, length, take, drop}
+use Rattle.std.specs.Prelude.{◌≡◌, ℕ, ◌+◌, ◌-◌, ◌*◌, ◌<◌, ◌≤◌, ◌⊎◌, List, length}
 use Rattle.pcl_base.specs.declared.method.Method.{Method}
 use Rattle.pcl_coders.specs.Coding.{IsLeastLength}
 use Rattle.pcl_base.specs.Walks.{IsAttained}
 use Rattle.pcl_output.specs.Tokens.{Token, IsWhite}
-use Rattle.pcl_output.specs.inner.WhiteRows.{AreSkippable, IsWhiteRun}
+use Rattle.pcl_output.specs.inner.WhiteRows.{AreSkippable}
 use Rattle.pcl_output.specs.declared.node.Node.{Node}
 use Rattle.pcl_output.specs.Nodes.{row_at, row_above, Leads, Ends, cost}
 use Rattle.pcl_output.specs.Spelling.{setting_cost, row_cost}

@@ -1,5 +1,5 @@
-use Rattle.pcl_base.specs.declared.method.Method.TheVariants.{Plain, Runs, Packed}
-use Rattle.pcl_plan.proofs.steps.lowest_switch.Goals as goal
+use Rattle.pcl_base.specs.declared.method.Method.TheVariants.{Plain, Runs, Packed, Delta}
+use Rattle.pcl_plan.proofs.steps.beginning_switch.Goals as goal
 
 pub switch_number-requires-clause-small : goal.switch_number-requires-clause-small
 switch_number-requires-clause-small c = c.requires.small Plain
@@ -9,3 +9,6 @@ switch_number-requires-else-switch_number-least-clause-small c = c.requires.smal
 
 pub switch_number-requires-else-switch_number-least-2-clause-small : goal.switch_number-requires-else-switch_number-least-2-clause-small
 switch_number-requires-else-switch_number-least-2-clause-small c = c.requires.small Packed
+
+pub switch_number-requires-else-switch_number-least-3-clause-small : goal.switch_number-requires-else-switch_number-least-3-clause-small
+switch_number-requires-else-switch_number-least-3-clause-small c = c.requires.small Delta
