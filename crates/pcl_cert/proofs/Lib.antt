@@ -7,6 +7,7 @@ pub mod Spelled
 pub mod ListsSpelled
 pub mod PagesSpelled
 pub mod Written
+pub mod Counted
 pub mod KeptLists
 pub mod FixedParts
 pub mod RowPlaces

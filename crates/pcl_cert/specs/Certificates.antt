@@ -1,5 +1,5 @@
 -- Certificates: what pages they speak of, and the bytes that they are (docs/CERTIFICATE.md).
-use Rattle.std.specs.Prelude.{◌≡◌, ℕ, ◌+◌, ◌-◌, ◌*◌, ◌^◌, ◌<◌, ◌≤◌, false, List, [], ◌++◌, length, map, Option, None, Some}
+use Rattle.std.specs.Prelude.{◌≡◌, ℕ, ◌+◌, ◌-◌, ◌*◌, ◌^◌, ◌<◌, ◌≤◌, false, List, [], ◌∷◌, ◌++◌, length, map, Option, None, Some}
 use Rattle.std.specs.Int.{w16, w32, to_be_bytes}
 use Rattle.std.specs.List.{flat_map, AllByRecursion}
 use Rattle.pcl_base.specs.declared.dpi.Dpi.{Dpi}
@@ -86,3 +86,8 @@ proof_in Two proof = proof
 
 abbrev pub proofs_in : Format → List PageProof → List PageProof
 proofs_in format proofs = map (proof_in format) proofs
+
+-- the certificate of some pages becomes that of these and one more
+abbrev pub HasProofMore : Format → PageProof → List ℕ → List ℕ → Type 0
+HasProofMore format proof old new = (proofs : List PageProof) → length proofs + 1 < 2 ^ 32 → old ≡ certificate_bytes format proofs
+    → new ≡ certificate_bytes format (proofs ++ proof ∷ [])

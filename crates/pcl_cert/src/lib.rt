@@ -23,4 +23,4 @@ pub use page_proof::PageProof;
 pub use page_tables::row_tables;
 pub use reading_certificates::read_certificate;
 pub use tables::RowTables;
-pub use writing_certificates::write_certificate;
+pub use writing_certificates::{add_proof, write_certificate};

@@ -1,9 +1,10 @@
 //! Writing certificates.
 
-ghost use Rattle.std.specs.Prelude.{◌≡◌, ◌++◌, length, take, OnOk, OnErr};
+ghost use Rattle.std.specs.Prelude.{◌≡◌, ℕ, ◌+◌, ◌^◌, ◌<◌, ◌≤◌, List, ◌++◌, length, take, OnOk, OnErr};
+ghost use Rattle.std.specs.Int.{w32, to_be_bytes};
 ghost use Rattle.pcl_base.specs.declared.dpi.Dpi.{Dpi};
 ghost use Rattle.pcl_output.specs.declared.table.RowNumbers.{RowNumbers as Numbers};
-ghost use Rattle.pcl_cert.specs.Certificates.{FitsFormat, FitFormat, proof_in, proofs_in, proof_bytes, certificate_bytes, table_bytes, row_bytes, pair_bytes, lists_bytes};
+ghost use Rattle.pcl_cert.specs.Certificates.{FitsFormat, FitFormat, HasProofMore, proof_in, proofs_in, proof_bytes, certificate_bytes, table_bytes, row_bytes, pair_bytes, lists_bytes};
 
 use crate::format::Format;
 use crate::page_proof::PageProof;
@@ -27,6 +28,40 @@ pub fn write_certificate(
         out.truncate(before);
     }
     written
+}
+
+/// Adds a page to a certificate of a format: the certificate of some pages becomes that of these and this one. So a page's tables
+/// need not stay until all pages are known. Where memory runs out the certificate stays as it was.
+pub fn add_proof(
+    proof: &PageProof<'_>,
+    format: Format,
+    certificate: &mut Vec<u8>,
+) -> Result<(), AllocError>
+    requires fits { (dpi : Dpi) × FitsFormat dpi format (proof_in format proof.now) }
+    requires counted { 12 ≤ length certificate.old.items }
+    ensures ok { OnOk result (HasProofMore format (proof_in format proof.now) certificate.old.items certificate.new.items) }
+    ensures err { OnErr result (certificate.new.items ≡ certificate.old.items) }
+    ensures counted { 12 ≤ length certificate.new.items }
+{
+    let before = certificate.len();
+    let added = append_proof(proof, format, certificate);
+    match added {
+        Ok(()) => count_page(certificate),
+        Err(_) => certificate.truncate(before),
+    }
+    added
+}
+
+/// Makes the count of pages one more, in the four bytes after the eight that tell the format.
+fn count_page(certificate: &mut [u8])
+    requires { 12 ≤ length certificate.old }
+    ensures counted { (front rest : List ℕ) (pages : ℕ) → length front ≡ 8 → pages + 1 < 2 ^ 32
+        → certificate.old ≡ front ++ to_be_bytes w32 pages ++ rest → certificate.new ≡ front ++ to_be_bytes w32 (pages + 1) ++ rest }
+    ensures len { length certificate.new ≡ length certificate.old }
+{
+    let count = &mut certificate[8..12];
+    let pages = u32::from_be_bytes([count[0], count[1], count[2], count[3]]);
+    count.copy_from_slice(&pages.saturating_add(1).to_be_bytes());
 }
 
 /// Appends a certificate, or a prefix of it where memory runs out.

@@ -1,7 +1,7 @@
 -- The page texts that a sink gathers with what proves them.
-use Rattle.std.proofs.Common.{◌≡◌, ℕ, List, [], ◌∷◌, ◌++◌, Option, Some, None, length, refl, sym, ap, subst, ◌∙◌, append_assoc, arith}
+use Rattle.std.proofs.Common.{◌≡◌, ℕ, ◌+◌, ◌^◌, ◌<◌, List, [], ◌∷◌, ◌++◌, Option, Some, None, length, refl, sym, ap, subst, ◌∙◌, append_assoc, arith}
 use Rattle.std.specs.List.{AllByRecursion}
-use Rattle.std.proofs.lemmas.List.{append-nil}
+use Rattle.std.proofs.lemmas.List.{append-nil, length-append}
 use Rattle.pcl_base.specs.declared.dpi.Dpi.{Dpi}
 use Rattle.pcl_bitmap.specs.declared.page.Page.{Page}
 use Rattle.pcl_page.specs.Situation.{Sheet}
@@ -16,10 +16,9 @@ use Rattle.pcl_writer.specs.Appending.{IsWrittenPage}
 use Rattle.pcl_cert.specs.declared.format.Format.{Format}
 use Rattle.pcl_cert.specs.declared.format.Format.TheVariants.{One, Two}
 use Rattle.pcl_cert.specs.declared.page_proof.PageProof.{PageProof}
-use Rattle.pcl_cert.specs.Certificates.{FitFormat, AreProofs, IsProof, certificate_bytes, proof_in, proofs_in}
+use Rattle.pcl_cert.specs.Certificates.{AreProofs, IsProof, certificate_bytes, proof_in}
 use Rattle.pcl_cert.specs.Checking.{HasLeastLists, AreLeastOf, IsVerdict}
 use Rattle.pcl_cert.specs.declared.check.Verdict.TheVariants.{Proved}
-use Rattle.pcl_cert.proofs.Written.{can_be_written as proofs_fit}
 use Rattle.pcl_cert.proofs.TablesProved.{table_proved, table_certified}
 use Rattle.pcl_meaning.specs.JobTexts.{PrintEach}
 use Rattle.pcl_meaning.proofs.Jobs.{job_fits}
@@ -54,6 +53,11 @@ plan_proves format page text plan proof planned written has long same =
           (least_lists page format proof.places has));
     }
 
+-- what a certificate says in its format is said whole
+pub proof_said : {dpi : Dpi} (format : Format) {proof : PageProof} → IsProof dpi format proof → proof_in format proof ≡ proof
+proof_said One {proof} is = ap (λ (places : Option (List (List ℕ))). record proof { places = places }) (sym is.fits.lists)
+proof_said Two is = refl
+
 -- ---- all pages
 
 -- page texts of all sheets, and what proves them
@@ -62,7 +66,8 @@ pub record Gathered (dpi : Dpi) (sheets : List Sheet) (old new : SoFar) : Type 0
   pub bytes : new.bytes ≡ old.bytes ++ texts
   pub print : PrintEach IsWrittenPage dpi sheets texts
   pub proofs : List PageProof
-  pub behind : new.proofs ≡ old.proofs ++ proofs
+  pub behind : (before : List PageProof) → length before + length proofs < 2 ^ 32
+      → old.certificate ≡ certificate_bytes old.format before → new.certificate ≡ certificate_bytes old.format (before ++ proofs)
   pub can_be_said : AllByRecursion (IsProof dpi old.format) proofs
   pub proved : AreProved dpi sheets texts proofs
 
@@ -72,7 +77,7 @@ gathered [] {old} h = record {
   bytes = ap (λ (s : SoFar). s.bytes) h ∙ sym (append-nil old.bytes);
   print = refl;
   proofs = [];
-  behind = ap (λ (s : SoFar). s.proofs) h ∙ sym (append-nil old.proofs);
+  behind = λ before few is. ap (λ (s : SoFar). s.certificate) h ∙ is ∙ ap (certificate_bytes old.format) (sym (append-nil before));
   can_be_said = tt;
   proved = (refl, refl);
 }
@@ -84,8 +89,11 @@ gathered {dpi} (sheet ∷ sheets) {old} h =
       bytes = rest.bytes ∙ ap (λ (b : List ℕ). b ++ rest.texts) t.bytes ∙ append_assoc old.bytes t.text rest.texts;
       print = (t.text, rest.texts, (h.0, h.2, t.written), refl, rest.print);
       proofs = t.proof ∷ rest.proofs;
-      behind = rest.behind ∙ ap (λ (ps : List PageProof). ps ++ rest.proofs) t.proofs
-          ∙ append_assoc old.proofs (t.proof ∷ []) rest.proofs;
+      behind = λ before few is.
+          let one = t.certificate before (omega arith) is ∙ ap (λ (f : Format). certificate_bytes f (before ++ t.proof ∷ [])) (sym t.format) in
+          rest.behind (before ++ t.proof ∷ []) (omega (arith, length-append before (t.proof ∷ []))) one
+          ∙ ap (λ (f : Format). certificate_bytes f ((before ++ t.proof ∷ []) ++ rest.proofs)) t.format
+          ∙ ap (certificate_bytes old.format) (append_assoc before (t.proof ∷ []) rest.proofs);
       can_be_said = (
         subst (λ (d : Dpi). IsProof d old.format t.proof) h.2.resolution t.proves.can_be_said,
         subst (λ (f : Format). AllByRecursion (IsProof dpi f) rest.proofs) t.format rest.can_be_said,
@@ -102,27 +110,7 @@ gathered {dpi} (sheet ∷ sheets) {old} h =
       );
     }
 
--- what a certificate says in its format is said whole
-proof_said : {dpi : Dpi} (format : Format) {proof : PageProof} → IsProof dpi format proof → proof_in format proof ≡ proof
-proof_said One {proof} is = ap (λ (places : Option (List (List ℕ))). record proof { places = places }) (sym is.fits.lists)
-proof_said Two is = refl
-
-proofs_said : (dpi : Dpi) (format : Format) (proofs : List PageProof) → AllByRecursion (IsProof dpi format) proofs
-    → proofs_in format proofs ≡ proofs
-proofs_said dpi format [] are = refl
-proofs_said dpi format (proof ∷ proofs) are =
-    ap (λ (p : PageProof). p ∷ proofs_in format proofs) (proof_said format are.0)
-    ∙ ap (λ (ps : List PageProof). proof ∷ ps) (proofs_said dpi format proofs are.1)
-
 -- ---- a whole job
-
--- all that is said of a job's pages
-all_said : (dpi : Dpi) (pages : List Sheet) (old new : SoFar) → old.proofs ≡ [] → (h : Hands TakesProved dpi pages old new)
-    → proofs_in old.format new.proofs ≡ (gathered pages h).proofs
-all_said dpi pages old new none h =
-    let g = gathered pages h in
-    ap (proofs_in old.format) (g.behind ∙ ap (λ (ps : List PageProof). ps ++ g.proofs) none)
-    ∙ proofs_said dpi old.format g.proofs g.can_be_said
 
 are_proofs : {dpi : Dpi} {job : List ℕ} {pages : List Sheet} (old new : SoFar) → HasPages dpi job pages
     → (h : Hands TakesProved dpi pages old new) → AreProofs dpi old.format (gathered pages h).proofs
@@ -130,30 +118,20 @@ are_proofs {dpi} {job} {pages} old new meaning h =
     let g = gathered pages h in
     (omega (arith, g.proved.0, job_fits meaning), g.can_be_said)
 
-pub can_be_written : {dpi : Dpi} {format : Format} {job : List ℕ} {pages : List Sheet} (old new : SoFar) → HasPages dpi job pages
-    → old.format ≡ format → old.proofs ≡ [] → Hands TakesProved dpi pages old new → FitFormat dpi format (proofs_in format new.proofs)
-can_be_written {dpi} {format} {job} {pages} old new meaning same none h =
-    let g = gathered pages h in
-    let proofs_are : new.proofs ≡ g.proofs = g.behind ∙ ap (λ (ps : List PageProof). ps ++ g.proofs) none in
-    subst (λ (f : Format). FitFormat dpi f (proofs_in f new.proofs)) same
-    (subst (λ (ps : List PageProof). FitFormat dpi old.format (proofs_in old.format ps)) (sym proofs_are)
-    (proofs_fit dpi old.format g.proofs (are_proofs old new meaning h)))
-
 pub certified_job : {dpi : Dpi} {format : Format} {job output certificate : List ℕ} {pages : List Sheet} {old : SoFar} (new : SoFar)
-    → HasPages dpi job pages → old.format ≡ format → old.bytes ≡ frame_bytes → old.proofs ≡ [] → Hands TakesProved dpi pages old new
-    → output ≡ new.bytes ++ frame_bytes → certificate ≡ certificate_bytes format (proofs_in format new.proofs)
+    → HasPages dpi job pages → old.format ≡ format → old.bytes ≡ frame_bytes → old.certificate ≡ certificate_bytes format []
+    → Hands TakesProved dpi pages old new → output ≡ new.bytes ++ frame_bytes → certificate ≡ new.certificate
     → IsCertifiedJobOf dpi format job output certificate
 unfolding job_of_texts
-certified_job {dpi} {format} {job} {output} {pages} {old} new meaning same opened none h closed spelled =
+certified_job {dpi} {format} {job} {output} {pages} {old} new meaning same opened none h closed whole =
     let g = gathered pages h in
+    let are = are_proofs old new meaning h in
     record {
       written = job_of_texts dpi job old.bytes new.bytes output g.texts pages meaning opened g.print g.bytes closed;
       certified = record {
         proofs = g.proofs;
-        can_be_said = subst (λ (f : Format). AreProofs dpi f g.proofs) same (are_proofs old new meaning h);
-        spelled = spelled
-            ∙ ap (λ (f : Format). certificate_bytes f (proofs_in f new.proofs)) (sym same)
-            ∙ ap (certificate_bytes old.format) (all_said dpi pages old new none h)
+        can_be_said = subst (λ (f : Format). AreProofs dpi f g.proofs) same are;
+        spelled = whole ∙ g.behind [] (omega (arith, are.0)) (none ∙ ap (λ (f : Format). certificate_bytes f []) (sym same))
             ∙ ap (λ (f : Format). certificate_bytes f g.proofs) same;
         proved = g.proved;
       };

@@ -3,27 +3,29 @@
 ghost use Rattle.std.specs.Prelude.{IfOk};
 ghost use Rattle.pcl_cert.specs.Checking.{HasLeastLists};
 
-use pcl_cert::{Format, PageProof, RowTables, row_tables};
+use pcl_cert::{Format, PageProof, RowTables, add_proof, row_tables};
 use pcl_page::{Page, PageSink};
 use pcl_plan::plan;
 use pcl_writer::write_page;
 use std::alloc::{AllocError, Global};
 use std::marker::Model;
 
-/// The bytes of a job so far, and what the certificate says of its pages.
+/// The bytes of a job so far, and the certificate of its pages so far. Nothing else stays of a page's tables.
 #[derive(Drop)]
 pub struct CertifiedJob {
     pub format: Format,
     pub bytes: Vec<u8>,
-    pub proofs: Vec<PageProof<'static>>,
+    pub certificate: Vec<u8>,
 }
 
 impl Model for CertifiedJob {
-    ghost use Rattle.pcl_tool.specs.inner.Certifying.{SoFar, so_far};
+    ghost use Rattle.pcl_tool.specs.inner.Certifying.{SoFar, so_far, HasCount};
 
     ghost Value = { SoFar };
 
     ghost view = { so_far };
+
+    ghost invariant = { HasCount };
 }
 
 impl PageSink for CertifiedJob {
@@ -42,11 +44,11 @@ impl PageSink for CertifiedJob {
             table: least.into_table(),
             places,
         };
-        match self.proofs.push(proof) {
+        match add_proof(&proof, self.format, &mut self.certificate) {
             Ok(()) => Ok(()),
             Err(failed) => {
                 self.bytes.truncate(before);
-                Err(failed.into())
+                Err(failed)
             }
         }
     }

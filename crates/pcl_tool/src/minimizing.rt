@@ -46,18 +46,18 @@ pub fn minimize_watched<P: Watcher>(
 {
     let mut bytes = Vec::new(alloc);
     write_frame(&mut bytes)?;
+    let mut certificate = Vec::new(alloc);
+    write_certificate(&[], format, &mut certificate)?;
     let begun = CertifiedJob {
         format,
         bytes,
-        proofs: Vec::new(alloc),
+        certificate,
     };
     let mut certified = perform_watched(alloc, job, dpi, begun, watcher)?;
     write_frame(&mut certified.bytes)?;
-    let mut certificate = Vec::new(alloc);
-    write_certificate(&certified.proofs, format, &mut certificate)?;
     Ok(Output {
         job: certified.bytes,
-        certificate,
+        certificate: certified.certificate,
     })
 }
 

@@ -1,22 +1,14 @@
-use Rattle.std.proofs.Common.{◌∙◌, List, ℕ, ◌++◌, refl, ap, subst, sym}
+use Rattle.std.proofs.Common.{◌∙◌, List, [], ℕ, ◌++◌, refl, ap, arith}
 use Rattle.std.proofs.lemmas.Result.{err_from_is_err_and}
 use Rattle.pcl_output.specs.Tokens.{frame_bytes}
-use Rattle.pcl_cert.specs.declared.page_proof.PageProof.{PageProof}
-use Rattle.pcl_cert.specs.Certificates.{FitFormat, certificate_bytes, proofs_in}
+use Rattle.pcl_cert.specs.Certificates.{certificate_bytes}
 use Rattle.pcl_tool.specs.inner.Certifying.{SoFar, TakesProved}
 use Rattle.pcl_tool.proofs.Texts.{not_taken}
-use Rattle.pcl_tool.proofs.Proved.{can_be_written, certified_job}
+use Rattle.pcl_tool.proofs.Proved.{certified_job}
 use Rattle.pcl_tool.proofs.minimizing.minimize_watched.Goals as goal
 
 pub write_certificate-requires : goal.write_certificate-requires
-write_certificate-requires g c =
-    let h = c.in_ok-certified.ensures in (
-      c.args.dpi,
-      subst (λ (proofs : List PageProof). FitFormat c.args.dpi c.args.format (proofs_in c.args.format proofs))
-          (sym (ap (λ (s : SoFar). s.proofs) c.certified.view_is) ∙ sym c.deref.ensures.value)
-          (can_be_written _ _ h.1 refl c.new.ensures.items
-          h.2),
-    )
+write_certificate-requires g c = (c.args.dpi, (omega arith, tt))
 
 pub returns : goal.returns
 returns g c =
@@ -24,12 +16,11 @@ returns g c =
     let f = c.in_ok-write_frame.ensures in
     let n = c.in_ok-write_frame-2.ensures in
     certified_job _ h.1 refl
-    (f ∙ ap (λ (b : List ℕ). b ++ frame_bytes) c.new-bytes.ensures.items) c.new.ensures.items h.2
-    (n ∙ ap (λ (s : SoFar). s.bytes ++ frame_bytes) c.certified.view_is)
+    (f ∙ ap (λ (b : List ℕ). b ++ frame_bytes) c.new-bytes.ensures.items)
     (c.in_ok-write_certificate.ensures.ok
-    ∙ ap (λ (b : List ℕ). b ++ certificate_bytes c.args.format (proofs_in c.args.format c.deref.result.now)) c.new-certificate.ensures.items
-    ∙ ap (λ (proofs : List PageProof). certificate_bytes c.args.format (proofs_in c.args.format proofs))
-    (c.deref.ensures.value ∙ ap (λ (s : SoFar). s.proofs) c.certified.view_is))
+    ∙ ap (λ (b : List ℕ). b ++ certificate_bytes c.args.format []) c.new-certificate.ensures.items)
+    h.2
+    (n ∙ ap (λ (s : SoFar). s.bytes ++ frame_bytes) c.certified.view_is) (ap (λ (s : SoFar). s.certificate) c.certified.view_is)
 
 pub returns-in_err-write_frame : goal.returns-in_err-write_frame
 returns-in_err-write_frame g c =
@@ -39,7 +30,7 @@ returns-in_err-write_frame g c =
 pub returns-in_err-certified : goal.returns-in_err-certified
 returns-in_err-certified g c =
     let p = err_from_is_err_and c.from_residual-in_err-certified.result c.from_residual-in_err-certified.ensures.1 in
-    let begun : SoFar = record { format = c.args.format; bytes = c.write_frame.new.out.items; proofs = c.new.result.items } in
+    let begun : SoFar = record { format = c.args.format; bytes = c.write_frame.new.out.items; certificate = c.write_certificate.new.out.items } in
     rw (p.1, p.2) (not_taken TakesProved c.args.dpi c.args.job.now begun c.in_err-certified.field-0.0 c.in_err-certified.ensures)
 
 pub returns-in_err-write_frame-2 : goal.returns-in_err-write_frame-2

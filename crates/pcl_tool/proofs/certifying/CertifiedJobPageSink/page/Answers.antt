@@ -1,8 +1,9 @@
-use Rattle.std.proofs.Common.{◌≡◌, ◌-◌, length, refl, ap, subst, arith}
+use Rattle.std.proofs.Common.{◌≡◌, ◌-◌, length, refl, sym, ap, subst, arith}
 use Rattle.std.proofs.lemmas.List.{length-append}
 use Rattle.pcl_cert.specs.declared.page_proof.PageProof.{PageProof}
+use Rattle.pcl_cert.specs.Certificates.{FitsFormat, HasProofMore}
 use Rattle.pcl_tool.specs.inner.Certifying.{SoFar, TakesProved}
-use Rattle.pcl_tool.proofs.Proved.{plan_proves}
+use Rattle.pcl_tool.proofs.Proved.{plan_proves, proof_said}
 use Rattle.pcl_tool.proofs.certifying.CertifiedJobPageSink.page.Goals as goal
 
 pub overflow_cast-proof : goal.overflow_cast-proof
@@ -12,6 +13,22 @@ overflow_cast-proof c =
     (record { text_len = length a.0; table = c.in_ok-least.least.table; places = c.in_ok-places.places }) c.in_ok-least.ensures a.2
     c.in_ok-places.ensures refl refl in
     omega (arith, p.can_be_said.text_len, ap length a.1, length-append c.self.inside.bytes.items a.0, c.len.ensures, c.len-before.ensures)
+
+pub add_proof-requires-clause-fits : goal.add_proof-requires-clause-fits
+add_proof-requires-clause-fits c =
+    let a = c.in_ok-write_page.ensures.ok in
+    let long : c.len.result - c.len-before.result ≡ length a.0 =
+    omega (arith, ap length a.1, length-append c.self.inside.bytes.items a.0, c.len.ensures, c.len-before.ensures) in
+    let proof : PageProof = record {
+      text_len = c.len.result - c.len-before.result;
+      table = c.into_table.result;
+      places = c.in_ok-places.places;
+    } in
+    let is = plan_proves c.self.inside.format c.args.page.now a.0 c.in_ok-least.least proof c.in_ok-least.ensures a.2 c.in_ok-places.ensures
+    long c.into_table.ensures in (
+      c.args.page.now.dpi,
+      subst (FitsFormat c.args.page.now.dpi c.self.inside.format) (sym (proof_said c.self.inside.format is.can_be_said)) is.can_be_said.fits,
+    )
 
 pub returns-in-Ok-clause-taken : goal.returns-in-Ok-clause-taken
 returns-in-Ok-clause-taken c =
@@ -26,16 +43,19 @@ returns-in-Ok-clause-taken c =
     let new : SoFar = record {
       format = c.self.inside.format;
       bytes = c.write_page.new.out.items;
-      proofs = c.push.new.self.items;
+      certificate = c.add_proof.new.certificate.items;
     } in
+    let is = plan_proves c.self.inside.format c.args.page.now a.0 c.in_ok-least.least proof c.in_ok-least.ensures a.2 c.in_ok-places.ensures
+    long c.into_table.ensures in
     subst (λ (old : SoFar). TakesProved old c.args.page.now new) c.self.view_is
     (record {
       text = a.0;
       bytes = a.1;
       written = a.2;
       proof = proof;
-      proofs = c.in-Ok.ensures.items;
-      proves = plan_proves c.self.inside.format c.args.page.now a.0 c.in_ok-least.least proof c.in_ok-least.ensures a.2
-          c.in_ok-places.ensures long c.into_table.ensures;
+      certificate = subst
+          (λ (said : PageProof). HasProofMore c.self.inside.format said c.self.inside.certificate.items c.add_proof.new.certificate.items)
+          (proof_said c.self.inside.format is.can_be_said) c.in-Ok.ensures.ok;
+      proves = is;
       format = refl;
     })
