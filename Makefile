@@ -16,14 +16,11 @@ demo:
 	@echo "$$(wc -c < examples/picture.pcl), by a program that isn't proved yet: see make build"
 	@if command -v pnmtopng > /dev/null; then pnmtopng -quiet build/demo.pbm > build/demo.png && echo "build/demo.png is the same"; fi
 
-# How many libraries `make build` proves side by side: one for each processor, and for every 6 GB of free memory.
-LANES ?= $(shell awk -v most="$$(nproc)" '/^MemAvailable/ { n = int($$2 / 6000000) } END { print(n < 1 ? 1 : n > most ? most : n) }' /proc/meminfo)
-
-# Proves the libraries that the program stands on side by side, then proves and builds the program, and previews the sample job into
-# build/sample.pbm.
+# Proves the libraries that the program stands on side by side (LANES=2 keeps to two processors), then proves and builds the program,
+# and previews the sample job into build/sample.pbm.
 build:
 	mkdir -p build
-	$(MAKE) --no-print-directory -f lanes.mk -j $(LANES) pcl_process
+	./lanes.py pcl_process
 	cd crates/pclmin && rt run -- --version < /dev/null
 	$(PROGRAM) pbm --page 1 < examples/picture.pcl > build/sample.pbm
 	@echo "build/sample.pbm is page 1 of examples/picture.pcl"
