@@ -24,19 +24,32 @@ pub fn letter_job(
 {
     let lettering = find_lettering(alloc, job, dpi)?;
     if lettering.is_empty() {
-        return Ok(None);
+        Ok(None)
+    } else {
+        write_pages(alloc, job, dpi, asks, texts, &lettering)
     }
-    let written = write_pages(alloc, job, dpi, asks, texts, &lettering)?;
-    Ok(Some(written))
 }
 
 /// The letters of a job.
 fn find_lettering(alloc: Global, job: &[u8], dpi: Dpi) -> Result<Lettering, JobFault>
     ensures { IsOutcome dpi job.now result }
 {
-    let mut collection = Collection::new(alloc, dpi);
-    perform(alloc, job, dpi, &mut collection)?;
+    let collection = after_pages(alloc, job, dpi, Collection::new(alloc, dpi))?;
     Ok(Lettering::new(alloc, collection)?)
+}
+
+/// A sink after the pages of a job.
+fn after_pages<S: PageSink + Drop>(
+    alloc: Global,
+    job: &[u8],
+    dpi: Dpi,
+    sink: S,
+) -> Result<S, JobFault>
+    ensures { IsOutcome dpi job.now result }
+{
+    let mut sink = sink;
+    perform(alloc, job, dpi, &mut sink)?;
+    Ok(sink)
 }
 
 /// The job with these letters.
@@ -47,12 +60,12 @@ fn write_pages(
     asks: &Asks<'_>,
     texts: &[Text],
     lettering: &Lettering,
-) -> Result<Vec<u8>, JobFault>
+) -> Result<Option<Vec<u8>>, JobFault>
     ensures { IsOutcome dpi job.now result }
 {
-    let mut writer = LetterWriter::new(alloc, asks, texts, lettering)?;
-    perform(alloc, job, dpi, &mut writer)?;
-    Ok(writer.finish()?)
+    let writer = LetterWriter::new(alloc, asks, texts, lettering)?;
+    let writer = after_pages(alloc, job, dpi, writer)?;
+    Ok(Some(writer.finish()?))
 }
 
 /// Writes the pages that come. A reset deletes fonts and macros: so the pages up to the next one are written in two ways, after the

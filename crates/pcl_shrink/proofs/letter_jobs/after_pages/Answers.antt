@@ -1,6 +1,6 @@
 use Rattle.pcl_page.proofs.Jobs.{accepted_pages, has_pages}
-use Rattle.pcl_shrink.proofs.letter_jobs.find_lettering.Goals as goal
+use Rattle.pcl_shrink.proofs.letter_jobs.after_pages.Goals as goal
 
 pub returns : goal.returns
-returns c =
+returns g c =
     let h = c.in_ok-perform.ensures in (accepted_pages h, has_pages h)
