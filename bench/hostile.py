@@ -5,6 +5,7 @@
 
 glyph.pcl       the largest character, printed 2,000 times at one place by a run of text, from the page's left edge on
 shifted.pcl     the same one dot further right, so that it begins within a byte
+turns.pcl       as shifted.pcl, with two such characters in turn
 controls.pcl    a row of 65,535 controls 128 in method 2, sent 10,000 times by macros
 elements.pcl    a row of 32,767 elements of method 3, far more than it has bytes, in the same way
 rectangles.pcl  100,000 black rectangles of the whole page
@@ -28,20 +29,28 @@ TOP_LEFT = b"\x1b&l0E\x1b*p0x0Y"
 PAGE = b"\x0c"
 
 
-def printed(dot):
+def character(code):
     rows = bytes((7 * i * i + 3 * i) % 256 for i in range(255 * 256))
     size = (2040).to_bytes(2, "big") + (256).to_bytes(2, "big")
     data = bytes([4, 0, 14, 1, 0, 0, 0, 0, 0, 0]) + size + bytes(2) + rows
-    character = b"\x1b*c65E\x1b(s%dW" % len(data) + data
-    return FONT + character + b"\x1b(0X" + TOP_LEFT + b"\x1b*p%dX" % dot + 2000 * b"A"
+    return b"\x1b*c%dE\x1b(s%dW" % (code, len(data)) + data
+
+
+def printed(dot, codes):
+    characters = b"".join(character(code) for code in sorted(set(codes)))
+    return FONT + characters + b"\x1b(0X" + TOP_LEFT + b"\x1b*p%dX" % dot + codes
 
 
 def glyph():
-    return printed(0)
+    return printed(0, 2000 * b"A")
 
 
 def shifted():
-    return printed(1)
+    return printed(1, 2000 * b"A")
+
+
+def turns():
+    return printed(1, 1000 * b"AB")
 
 
 def sent_by_macros(row):
@@ -77,7 +86,7 @@ def fonts():
     return one + kept + b"\x1b*c" + 29_999 * b"1f" + b"1F" + PAGE
 
 
-JOBS = [glyph, shifted, controls, elements, rectangles, rows, macros, fonts]
+JOBS = [glyph, shifted, turns, controls, elements, rectangles, rows, macros, fonts]
 
 
 def preview(program, path, dpi):
