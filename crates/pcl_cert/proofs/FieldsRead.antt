@@ -6,7 +6,7 @@ use Rattle.std.proofs.lemmas.List.{take_at, drop_at, take-append-drop, length-ap
 use Rattle.std.proofs.lemmas.Nat.{be_bytes_2, be_bytes_4, from_be_bytes-to_be_bytes_2, from_be_bytes-to_be_bytes_4}
 use Rattle.pcl_cert.specs.declared.fault.CertFault.{CertFault}
 use Rattle.pcl_cert.specs.declared.fault.CertFault.TheVariants.{Short}
-use Rattle.pcl_cert.specs.ReadingCertificates.{◌>>=◌, number_at}
+use Rattle.pcl_cert.specs.ReadingCertificates.{◌>>=◌, uint_at}
 
 -- ---- bytes
 
@@ -81,7 +81,7 @@ front_spelled {w} is bytes are long =
     is.spelled (take (byte_len w) bytes) (omega (arith, length-take (byte_len w) bytes)) (front_bytes (byte_len w) bytes are)
 
 pub number_found : {w : Width} {limit : ℕ} → IsNumberWidth w limit → {bytes : List ℕ} {n : ℕ} {rest : List ℕ} → AreBytes bytes
-    → number_at w bytes ≡ Ok (n, rest) → Splits bytes (to_be_bytes w n) rest × (n < limit)
+    → uint_at w bytes ≡ Ok (n, rest) → Splits bytes (to_be_bytes w n) rest × (n < limit)
 number_found {w} {limit} is {bytes} {n} {rest} are e =
     let front : List ℕ = take (byte_len w) bytes in
     let read : ℕ × List ℕ = (from_be_bytes w front, drop (byte_len w) bytes) in
@@ -98,7 +98,7 @@ number_found {w} {limit} is {bytes} {n} {rest} are e =
     )
 
 pub number_again : {w : Width} {limit : ℕ} → IsNumberWidth w limit → (n : ℕ) (rest : List ℕ) → n < limit
-    → number_at w (to_be_bytes w n ++ rest) ≡ Ok (n, rest)
+    → uint_at w (to_be_bytes w n ++ rest) ≡ Ok (n, rest)
 number_again {w} is n rest lt =
     let text : List ℕ = to_be_bytes w n in
     let long : ltb (length (text ++ rest)) (byte_len w) ≡ false = le-ltb _ _ (omega (arith, length-append text rest, is.len n)) in

@@ -10,7 +10,7 @@ use Rattle.std.specs.Prelude.{nat_lt, if◌then◌else◌}
 use Rattle.pcl_cert.specs.declared.fault.CertFault.{CertFault}
 use Rattle.pcl_cert.specs.declared.fault.CertFault.TheVariants.{BadMagic, Short, Extra, Rows, Places, Memory}
 use Rattle.pcl_cert.specs.CertificateFields.{ends_in_zero}
-use Rattle.pcl_cert.specs.ReadingCertificates.{Fails, behind, number_at, list_at, lists_at}
+use Rattle.pcl_cert.specs.ReadingCertificates.{Fails, behind, uint_at, list_at, lists_at}
 use Rattle.pcl_cert.proofs.FieldsRead.{step_ok, passed, same_ok}
 use Rattle.pcl_cert.proofs.Numbers.{numbers_of_front}
 use Rattle.pcl_cert.proofs.Loops.{Stands, begins, goes_on}
@@ -49,7 +49,7 @@ behind_either true numbers rest = refl
 behind_either false numbers rest = refl
 
 -- what is found where the count is good and the numbers are there
-pub list_checked : {most : ℕ} (bytes : List ℕ) {count : ℕ} {rest : List ℕ} → number_at w16 bytes ≡ Ok (count, rest)
+pub list_checked : {most : ℕ} (bytes : List ℕ) {count : ℕ} {rest : List ℕ} → uint_at w16 bytes ≡ Ok (count, rest)
     → count ≤ most → 2 * count ≤ length rest
     → behind (list_at most bytes)
     ≡ (if ends_in_zero (numbers_from count (take (2 * count) rest)) then Err Places else Ok (drop (2 * count) rest))
@@ -94,7 +94,7 @@ pub list_found : {most : ℕ} {bytes numbers rest : List ℕ} → list_at most b
     → IsFound most bytes numbers rest
 unfolding list_at
 list_found {most} {bytes} e =
-    let first = step_ok (number_at w16 bytes) e in
+    let first = step_ok (uint_at w16 bytes) e in
     let count = first.0 in
     let read = passed (nat_lt (length bytes) 2) Short first.1 in
     let count_is = same_ok read.1 in

@@ -2,10 +2,10 @@
 use Rattle.std.proofs.Common.{ℕ, refl}
 use Rattle.pcl_base.specs.declared.dpi.Dpi.{Dpi}
 use Rattle.pcl_cert.specs.declared.format.Format.{Format}
-use Rattle.pcl_cert.specs.ReadingCertificates.{row_at, table_at, list_at, lists_at, proof_at, proofs_at}
+use Rattle.pcl_cert.specs.ReadingCertificates.{row_numbers_at, table_at, list_at, lists_at, proof_at, proofs_at}
 use Rattle.pcl_cert.proofs.Loops.{IsMany}
 
-pub tables_are_many : IsMany row_at table_at
+pub tables_are_many : IsMany row_numbers_at table_at
 unfolding table_at
 tables_are_many = record { none = λ bytes. refl; more = λ n bytes. refl }
 

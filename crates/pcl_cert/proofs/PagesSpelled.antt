@@ -21,7 +21,7 @@ use Rattle.pcl_cert.specs.declared.format.Format.TheVariants.{One, Two}
 use Rattle.pcl_cert.specs.declared.page_proof.PageProof.{PageProof}
 use Rattle.pcl_cert.specs.Certificates.{pair_bytes, row_bytes, table_bytes, lists_bytes, rows_in, proof_bytes, certificate_bytes, AreSmall, HasLists, IsProof, AreProofs}
 use Rattle.pcl_cert.specs.CertificateFields.{magic, size_with_height}
-use Rattle.pcl_cert.specs.ReadingCertificates.{Gives, contents_of, number_at, format_at, sized, pair_at, row_at, table_at, places_at, proof_at, proofs_at, certificate_at}
+use Rattle.pcl_cert.specs.ReadingCertificates.{Gives, contents_of, uint_at, format_at, sized, pair_at, row_numbers_at, table_at, places_at, proof_at, proofs_at, certificate_at}
 use Rattle.pcl_cert.proofs.FieldsRead.{AreBytes, rest_bytes, Splits, splits_both, step_ok, same_ok, two_bytes, four_bytes}
 use Rattle.pcl_cert.proofs.PagesRead.{tables_are_many, proofs_are_many}
 use Rattle.pcl_cert.proofs.Spelled.{Spells, number_spells, many_spell}
@@ -35,15 +35,15 @@ both_bytes p = pair_bytes p.0 p.1
 abbrev AreBoth : ℕ × ℕ → Type 0
 AreBoth p = (p.0 < 2 ^ 32) × (p.1 < 2 ^ 32)
 
-four : Spells (number_at w32) (to_be_bytes w32) (λ n. n < 2 ^ 32)
+four : Spells (uint_at w32) (to_be_bytes w32) (λ n. n < 2 ^ 32)
 four = number_spells four_bytes
 
 pairs_spell : Spells pair_at both_bytes AreBoth
 unfolding pair_at
 pairs_spell = record {
   found = λ bytes x are e.
-      let a = step_ok (number_at w32 bytes) e in
-      let b = step_ok (number_at w32 a.0.1) a.2 in
+      let a = step_ok (uint_at w32 bytes) e in
+      let b = step_ok (uint_at w32 a.0.1) a.2 in
       let outside = four.found bytes a.0 are a.1 in
       let inside = four.found a.0.1 b.0 outside.0.rest_are b.1 in
       subst (λ (y : (ℕ × ℕ) × List ℕ). Splits bytes (both_bytes y.0) y.1 × AreBoth y.0) (same_ok b.2)
@@ -54,8 +54,8 @@ pairs_spell = record {
       ap pair_at joined ∙ rw (four.again p.0 (to_be_bytes w32 p.1 ++ rest) fits.0, four.again p.1 rest fits.1) refl;
 }
 
-row_spells : Spells row_at row_bytes AreSmall
-unfolding row_at
+row_spells : Spells row_numbers_at row_bytes AreSmall
+unfolding row_numbers_at
 row_spells = record {
   found = λ bytes x are e.
       let plain = step_ok (pair_at bytes) e in
@@ -85,7 +85,7 @@ row_spells = record {
       append_assoc (both_bytes plain) (both_bytes runs ++ (both_bytes packed ++ both_bytes delta)) rest
       ∙ ap (λ (t : List ℕ). both_bytes plain ++ t) (append_assoc (both_bytes runs) (both_bytes packed ++ both_bytes delta) rest
       ∙ ap (λ (t : List ℕ). both_bytes runs ++ t) (append_assoc (both_bytes packed) (both_bytes delta) rest)) in
-      ap row_at joined ∙ rw (
+      ap row_numbers_at joined ∙ rw (
         pairs_spell.again plain (both_bytes runs ++ (both_bytes packed ++ last)) (fits.0, fits.1),
         pairs_spell.again runs (both_bytes packed ++ last) (fits.2, fits.3),
         pairs_spell.again packed last (fits.4, fits.5),
@@ -98,7 +98,7 @@ table_spells n = many_spell n tables_are_many row_spells
 
 -- ---- pages
 
-two : Spells (number_at w16) (to_be_bytes w16) (λ n. n < 2 ^ 16)
+two : Spells (uint_at w16) (to_be_bytes w16) (λ n. n < 2 ^ 16)
 two = number_spells two_bytes
 
 -- a size is found by its height, and has it
@@ -149,8 +149,8 @@ proof_spells : {dpi : Dpi} {format : Format} → Spells (proof_at dpi format) pr
 unfolding proof_at
 proof_spells {dpi} {format} = record {
   found = λ bytes x are e.
-      let text_len = step_ok (number_at w32 bytes) e in
-      let rows = step_ok (number_at w16 text_len.0.1) text_len.2 in
+      let text_len = step_ok (uint_at w32 bytes) e in
+      let rows = step_ok (uint_at w16 text_len.0.1) text_len.2 in
       let size = step_ok (sized (size_with_height dpi rows.0.0)) rows.2 in
       let table = step_ok (table_at (rows.0.0 + 1) rows.0.1) size.2 in
       let places = step_ok (places_at format rows.0.0 (page_row_bytes size.0 dpi) table.0.1) table.2 in
@@ -233,7 +233,7 @@ pub certificate_found : (dpi : Dpi) {bytes : List ℕ} {x : Format × List PageP
 unfolding certificate_at
 certificate_found dpi {bytes} are e =
     let format = step_ok (format_at bytes) e in
-    let count = step_ok (number_at w32 format.0.1) format.2 in
+    let count = step_ok (uint_at w32 format.0.1) format.2 in
     let proofs = step_ok (proofs_at count.0.0 dpi format.0.0 count.0.1) count.2 in
     let a = format_found are format.1 in
     let b = four.found format.0.1 count.0 a.rest_are count.1 in

@@ -13,7 +13,7 @@ use Rattle.pcl_output.specs.Nodes.{row_at, row_above}
 use Rattle.pcl_output.proofs.TokenCosts.{method_small}
 use Rattle.pcl_cert.specs.RowTables.{list_of}
 use Rattle.pcl_check.specs.Places.{IsGoodPlace, IsFirstPlace, FindsPlace}
-use Rattle.pcl_cert.specs.Checking.{IsGoodIn, Tables, IsFirstBadIn}
+use Rattle.pcl_cert.specs.Checking.{IsGoodInTables, Tables, IsFirstBadIn}
 use Rattle.pcl_cert.specs.inner.FirstBad.{FindsBadBelow, FindsBadIn, IsFirstBadInRow}
 use Rattle.pcl_cert.specs.PageTables.{table_of}
 
@@ -34,7 +34,7 @@ pub record IsRowOfTables (page : Page) (lists : List (List ℕ)) (row : ℕ) (me
 
 pub good_in : {page : Page} {lists : List (List ℕ)} {row : ℕ} {method : Method} {seed bytes numbers : List ℕ} {place : ℕ}
     → IsRowOfTables page lists row method seed bytes numbers → IsGoodPlace method seed bytes numbers place
-    → IsGoodIn page lists row method place
+    → IsGoodInTables page lists row method place
 good_in {page} {row} {method} {bytes} {numbers} {place} is good =
     let width = page_row_bytes page.size page.dpi in
     let rows = bitmap_rows page.bitmap in
@@ -43,7 +43,7 @@ good_in {page} {row} {method} {bytes} {numbers} {place} is good =
     (subst (λ (z : List ℕ). IsGoodPlace method z bytes numbers place) is.seed_is good))
 
 pub good_of : {page : Page} {lists : List (List ℕ)} {row : ℕ} {method : Method} {seed bytes numbers : List ℕ} {place : ℕ}
-    → IsRowOfTables page lists row method seed bytes numbers → IsGoodIn page lists row method place
+    → IsRowOfTables page lists row method seed bytes numbers → IsGoodInTables page lists row method place
     → IsGoodPlace method seed bytes numbers place
 good_of {page} {row} {method} {bytes} {numbers} {place} is good =
     let width = page_row_bytes page.size page.dpi in
@@ -54,14 +54,14 @@ good_of {page} {row} {method} {bytes} {numbers} {place} is good =
 
 pub none_bad : {page : Page} {lists : List (List ℕ)} {row : ℕ} {method : Method} {seed bytes numbers : List ℕ}
     → IsRowOfTables page lists row method seed bytes numbers → IsRowTable method seed bytes numbers
-    → FindsPlace (IsGoodIn page lists row method) (page_row_bytes page.size page.dpi) None
+    → FindsPlace (IsGoodInTables page lists row method) (page_row_bytes page.size page.dpi) None
 none_bad is table = λ place le.
     good_in is (good_places table)
 
 pub some_bad : {page : Page} {lists : List (List ℕ)} {row : ℕ} {method : Method} {seed bytes numbers : List ℕ} {place : ℕ}
     → IsRowOfTables page lists row method seed bytes numbers
     → IsFirstPlace (IsGoodPlace method seed bytes numbers) (length bytes) place
-    → FindsPlace (IsGoodIn page lists row method) (page_row_bytes page.size page.dpi) (Some place)
+    → FindsPlace (IsGoodInTables page lists row method) (page_row_bytes page.size page.dpi) (Some place)
 some_bad {page} {lists} {row} {method} {seed} {bytes} {numbers} {place} is bad = record {
   within = subst (λ (n : ℕ). place ≤ n) is.width bad.within;
   is_bad = λ good. bad.is_bad (good_of is good);
@@ -71,16 +71,16 @@ some_bad {page} {lists} {row} {method} {seed} {bytes} {numbers} {place} is bad =
 -- ---- the methods of a row
 
 pub none_below : (page : Page) (lists : List (List ℕ)) (row : ℕ) (method : Method) → FindsBadBelow page lists row (method_code method) None
-    → FindsPlace (IsGoodIn page lists row method) (page_row_bytes page.size page.dpi) None
+    → FindsPlace (IsGoodInTables page lists row method) (page_row_bytes page.size page.dpi) None
     → FindsBadBelow page lists row (method_code method + 1) None
 none_below page lists row method before none = λ other place below le. elim (split_or below) [
   | inl lt ↦ before other place lt le
-  | inr e ↦ subst (λ (m : Method). IsGoodIn page lists row m place) (same_method (sym e)) (none place le)
+  | inr e ↦ subst (λ (m : Method). IsGoodInTables page lists row m place) (same_method (sym e)) (none place le)
 ]
 
 pub some_below : (page : Page) (lists : List (List ℕ)) (row : ℕ) (method : Method) (place : ℕ)
     → FindsBadBelow page lists row (method_code method) None
-    → FindsPlace (IsGoodIn page lists row method) (page_row_bytes page.size page.dpi) (Some place)
+    → FindsPlace (IsGoodInTables page lists row method) (page_row_bytes page.size page.dpi) (Some place)
     → IsFirstBadInRow page lists row record { row = row; method = method; place = place }
 some_below page lists row method place before some = record {
   row_is = refl;
@@ -88,23 +88,23 @@ some_below page lists row method place before some = record {
   is_bad = some.is_bad;
   first = λ other earlier le h. elim h [
     | inl lt ↦ before other earlier lt le
-    | inr same ↦ subst (λ (m : Method). IsGoodIn page lists row m earlier) (sym same.0) (some.first earlier same.1)
+    | inr same ↦ subst (λ (m : Method). IsGoodInTables page lists row m earlier) (sym same.0) (some.first earlier same.1)
   ];
 }
 
 -- ---- the rows of a page
 
 pub no_row_bad : (page : Page) (lists : List (List ℕ)) {row : ℕ}
-    → ((r : ℕ) (m : Method) (p : ℕ) → r < row → p ≤ page_row_bytes page.size page.dpi → IsGoodIn page lists r m p)
+    → ((r : ℕ) (m : Method) (p : ℕ) → r < row → p ≤ page_row_bytes page.size page.dpi → IsGoodInTables page lists r m p)
     → FindsBadBelow page lists row 4 None → (r : ℕ) (m : Method) (p : ℕ) → r < row + 1 → p ≤ page_row_bytes page.size page.dpi
-    → IsGoodIn page lists r m p
+    → IsGoodInTables page lists r m p
 no_row_bad page lists above here r m p lt le = elim (split_or lt) [
   | inl below ↦ above r m p below le
-  | inr e ↦ subst (λ (z : ℕ). IsGoodIn page lists z m p) (sym e) (here m p (method_small m) le)
+  | inr e ↦ subst (λ (z : ℕ). IsGoodInTables page lists z m p) (sym e) (here m p (method_small m) le)
 ]
 
 pub row_bad : {page : Page} {lists : List (List ℕ)} {row : ℕ} {bad : BadPlace} → row < page_height page.size page.dpi
-    → ((r : ℕ) (m : Method) (p : ℕ) → r < row → p ≤ page_row_bytes page.size page.dpi → IsGoodIn page lists r m p)
+    → ((r : ℕ) (m : Method) (p : ℕ) → r < row → p ≤ page_row_bytes page.size page.dpi → IsGoodInTables page lists r m p)
     → IsFirstBadInRow page lists row bad → IsFirstBadIn page lists bad
 row_bad {page} {lists} lt above here = record {
   row_within = omega (arith, here.row_is);
@@ -112,20 +112,20 @@ row_bad {page} {lists} lt above here = record {
   is_bad = here.is_bad;
   first = λ r m p le h. elim h [
     | inl before ↦ above r m p (omega (arith, before, here.row_is)) le
-    | inr same ↦ subst (λ (z : ℕ). IsGoodIn page lists z m p) (sym (same.0 ∙ here.row_is)) (here.first m p le same.1)
+    | inr same ↦ subst (λ (z : ℕ). IsGoodInTables page lists z m p) (sym (same.0 ∙ here.row_is)) (here.first m p le same.1)
   ];
 }
 
 pub rows_on : (page : Page) (lists : List (List ℕ)) (row : ℕ) (found : Option BadPlace)
-    → ((r : ℕ) (m : Method) (p : ℕ) → r < row → p ≤ page_row_bytes page.size page.dpi → IsGoodIn page lists r m p)
+    → ((r : ℕ) (m : Method) (p : ℕ) → r < row → p ≤ page_row_bytes page.size page.dpi → IsGoodInTables page lists r m p)
     → FindsBadBelow page lists row 4 found → is_some found ≡ false → (r : ℕ) (m : Method) (p : ℕ) → r < row + 1
-    → p ≤ page_row_bytes page.size page.dpi → IsGoodIn page lists r m p
+    → p ≤ page_row_bytes page.size page.dpi → IsGoodInTables page lists r m p
 rows_on page lists row None above here none = no_row_bad page lists above here
 rows_on page lists row (Some bad) above here none = absurd cc
 
 pub rows_end : (page : Page) {tables : Tables} {lists : List (List ℕ)} {row : ℕ} (found : Option BadPlace) → tables ≡ Some lists
     → row < page_height page.size page.dpi
-    → ((r : ℕ) (m : Method) (p : ℕ) → r < row → p ≤ page_row_bytes page.size page.dpi → IsGoodIn page lists r m p)
+    → ((r : ℕ) (m : Method) (p : ℕ) → r < row → p ≤ page_row_bytes page.size page.dpi → IsGoodInTables page lists r m p)
     → FindsBadBelow page lists row 4 found → is_some found ≡ true → FindsBadIn page tables found
 rows_end page None e lt above here some = absurd cc
 rows_end page (Some bad) e lt above here some =

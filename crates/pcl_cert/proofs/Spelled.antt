@@ -3,7 +3,7 @@ use Rattle.std.proofs.Common.{◌≡◌, ℕ, zero, suc, ◌<◌, List, [], ◌�
 use Rattle.std.specs.Int.{Width, to_be_bytes}
 use Rattle.std.specs.List.{flat_map, AllByRecursion}
 use Rattle.std.proofs.lemmas.List.Concat.{flat_map-cons}
-use Rattle.pcl_cert.specs.ReadingCertificates.{number_at}
+use Rattle.pcl_cert.specs.ReadingCertificates.{uint_at}
 use Rattle.pcl_cert.proofs.FieldsRead.{AreBytes, Splits, splits_both, step_ok, same_ok, IsNumberWidth, number_found, number_again}
 use Rattle.pcl_cert.proofs.Loops.{Reader, IsMany}
 
@@ -11,7 +11,7 @@ pub record Spells {X : Type 0} (one : Reader X) (text : X → List ℕ) (Fits : 
   pub found : (bytes : List ℕ) (x : X × List ℕ) → AreBytes bytes → one bytes ≡ Ok x → Splits bytes (text x.0) x.1 × Fits x.0
   pub again : (x : X) (rest : List ℕ) → Fits x → one (text x ++ rest) ≡ Ok (x, rest)
 
-pub number_spells : {w : Width} {limit : ℕ} → IsNumberWidth w limit → Spells (number_at w) (to_be_bytes w) (λ n. n < limit)
+pub number_spells : {w : Width} {limit : ℕ} → IsNumberWidth w limit → Spells (uint_at w) (to_be_bytes w) (λ n. n < limit)
 number_spells is = record {
   found = λ bytes x are e. number_found is are e;
   again = λ n rest lt. number_again is n rest lt;

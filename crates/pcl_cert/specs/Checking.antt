@@ -45,8 +45,8 @@ HasLeastLists page Two (Some lists) = AreLeastTablesOf page lists
 -- ---- row tables
 
 -- the number of a place of a row is good
-abbrev pub IsGoodIn : Page → List (List ℕ) → ℕ → Method → ℕ → Type 0
-IsGoodIn page lists row method place =
+abbrev pub IsGoodInTables : Page → List (List ℕ) → ℕ → Method → ℕ → Type 0
+IsGoodInTables page lists row method place =
     let width = page_row_bytes page.size page.dpi in
     let rows = bitmap_rows page.bitmap in
     IsGoodPlace method (row_above width rows row) (row_at rows row) (table_of (width + 1) (list_of lists row method)) place
@@ -60,14 +60,14 @@ IsBefore row method place bad = (row < bad.row)
 pub record IsFirstBadIn (page : Page) (lists : List (List ℕ)) (bad : BadPlace) : Type 0 where
   pub row_within : bad.row < page_height page.size page.dpi
   pub place_within : bad.place ≤ page_row_bytes page.size page.dpi
-  pub is_bad : IsGoodIn page lists bad.row bad.method bad.place → ⊥
+  pub is_bad : IsGoodInTables page lists bad.row bad.method bad.place → ⊥
   pub first : (row : ℕ) (method : Method) (place : ℕ) → place ≤ page_row_bytes page.size page.dpi → IsBefore row method place bad
-      → IsGoodIn page lists row method place
+      → IsGoodInTables page lists row method place
 
 -- all numbers are good
 abbrev pub AreGoodIn : Page → List (List ℕ) → Type 0
 AreGoodIn page lists = (row : ℕ) (method : Method) (place : ℕ) → row < page_height page.size page.dpi
-    → place ≤ page_row_bytes page.size page.dpi → IsGoodIn page lists row method place
+    → place ≤ page_row_bytes page.size page.dpi → IsGoodInTables page lists row method place
 
 abbrev pub ArePlacesGood : Page → Tables → Type 0
 ArePlacesGood page None = Unit {0}

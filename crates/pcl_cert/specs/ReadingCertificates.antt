@@ -40,8 +40,8 @@ behind read = read >>= λ x. Ok x.1
 -- ---- fields: a value, and the bytes after it
 
 -- a number of some bytes
-abbrev pub number_at : Width → List ℕ → Result (ℕ × List ℕ) CertFault
-number_at w bytes =
+abbrev pub uint_at : Width → List ℕ → Result (ℕ × List ℕ) CertFault
+uint_at w bytes =
     if nat_lt (length bytes) (byte_len w) then Err Short
     else Ok (from_be_bytes w (take (byte_len w) bytes), drop (byte_len w) bytes)
 
@@ -60,12 +60,12 @@ sized (Some size) = Ok size
 
 unfoldable pub pair_at : List ℕ → Result ((ℕ × ℕ) × List ℕ) CertFault
 pair_at bytes = do
-  outside ← number_at w32 bytes
-  inside ← number_at w32 outside.1
+  outside ← uint_at w32 bytes
+  inside ← uint_at w32 outside.1
   Ok ((outside.0, inside.0), inside.1)
 
-unfoldable pub row_at : List ℕ → Result (RowNumbers × List ℕ) CertFault
-row_at bytes = do
+unfoldable pub row_numbers_at : List ℕ → Result (RowNumbers × List ℕ) CertFault
+row_numbers_at bytes = do
   plain ← pair_at bytes
   runs ← pair_at plain.1
   packed ← pair_at runs.1
@@ -82,7 +82,7 @@ row_at bytes = do
 unfoldable pub table_at : ℕ → List ℕ → Result (List RowNumbers × List ℕ) CertFault
 table_at zero bytes = Ok ([], bytes)
 table_at (suc n) bytes = do
-  first ← row_at bytes
+  first ← row_numbers_at bytes
   others ← table_at n first.1
   Ok (first.0 ∷ others.0, others.1)
 
@@ -97,7 +97,7 @@ list_behind most count =
     else Ok (numbers_from count.0 count.1, drop (2 * count.0) count.1)))
 
 unfoldable pub list_at : ℕ → List ℕ → Result (List ℕ × List ℕ) CertFault
-list_at most bytes = number_at w16 bytes >>= list_behind most
+list_at most bytes = uint_at w16 bytes >>= list_behind most
 
 unfoldable pub lists_at : ℕ → ℕ → List ℕ → Result (List (List ℕ) × List ℕ) CertFault
 lists_at zero most bytes = Ok ([], bytes)
@@ -116,8 +116,8 @@ places_at Two rows most bytes = do
 
 unfoldable pub proof_at : Dpi → Format → List ℕ → Result (PageProof × List ℕ) CertFault
 proof_at dpi format bytes = do
-  text_len ← number_at w32 bytes
-  rows ← number_at w16 text_len.1
+  text_len ← uint_at w32 bytes
+  rows ← uint_at w16 text_len.1
   size ← sized (size_with_height dpi rows.0)
   table ← table_at (rows.0 + 1) rows.1
   places ← places_at format rows.0 (page_row_bytes size dpi) table.1
@@ -134,6 +134,6 @@ proofs_at (suc n) dpi format bytes = do
 unfoldable pub certificate_at : Dpi → List ℕ → Result (Format × List PageProof) CertFault
 certificate_at dpi bytes = do
   format ← format_at bytes
-  count ← number_at w32 format.1
+  count ← uint_at w32 format.1
   proofs ← proofs_at count.0 dpi format.0 count.1
   if length proofs.1 == 0 then Ok (format.0, proofs.0) else Err Extra

@@ -2,7 +2,7 @@
 
 ghost use Rattle.std.specs.Prelude.{◌≡◌};
 ghost use Rattle.std.specs.Int.{w16, w32};
-ghost use Rattle.pcl_cert.specs.ReadingCertificates.{Gives, number_at, format_at, pair_at, row_at};
+ghost use Rattle.pcl_cert.specs.ReadingCertificates.{Gives, uint_at, format_at, pair_at, row_numbers_at};
 
 use crate::fault::CertFault;
 use crate::format::Format;
@@ -10,7 +10,7 @@ use pcl_output::{ByMethod, RowNumbers};
 
 /// A number of two bytes.
 pub fn word_at(bytes: &[u8]) -> Result<(u16, &[u8]), CertFault>
-    ensures { Gives (λ x. (x.0, x.1.now)) result (number_at w16 bytes.now) }
+    ensures { Gives (λ x. (x.0, x.1.now)) result (uint_at w16 bytes.now) }
 {
     if bytes.len() < 2 {
         return Err(CertFault::Short);
@@ -20,8 +20,8 @@ pub fn word_at(bytes: &[u8]) -> Result<(u16, &[u8]), CertFault>
 }
 
 /// A number of four bytes.
-pub fn number_at(bytes: &[u8]) -> Result<(u32, &[u8]), CertFault>
-    ensures { Gives (λ x. (x.0, x.1.now)) result (number_at w32 bytes.now) }
+pub fn uint_at(bytes: &[u8]) -> Result<(u32, &[u8]), CertFault>
+    ensures { Gives (λ x. (x.0, x.1.now)) result (uint_at w32 bytes.now) }
 {
     if bytes.len() < 4 {
         return Err(CertFault::Short);
@@ -45,9 +45,9 @@ pub fn format_at(bytes: &[u8]) -> Result<(Format, &[u8]), CertFault>
 }
 
 /// The numbers after some rows.
-#[tactic(auto, unfolding(crate::specs::ReadingCertificates::row_at))]
-pub fn row_at(bytes: &[u8]) -> Result<(RowNumbers, &[u8]), CertFault>
-    ensures { Gives (λ x. (x.0, x.1.now)) result (row_at bytes.now) }
+#[tactic(auto, unfolding(crate::specs::ReadingCertificates::row_numbers_at))]
+pub fn row_numbers_at(bytes: &[u8]) -> Result<(RowNumbers, &[u8]), CertFault>
+    ensures { Gives (λ x. (x.0, x.1.now)) result (row_numbers_at bytes.now) }
 {
     let (plain, rest) = pair_at(bytes)?;
     let (runs, rest) = pair_at(rest)?;
@@ -75,7 +75,7 @@ pub fn row_at(bytes: &[u8]) -> Result<(RowNumbers, &[u8]), CertFault>
 fn pair_at(bytes: &[u8]) -> Result<((u32, u32), &[u8]), CertFault>
     ensures { Gives (λ x. (x.0, x.1.now)) result (pair_at bytes.now) }
 {
-    let (outside, rest) = number_at(bytes)?;
-    let (inside, rest) = number_at(rest)?;
+    let (outside, rest) = uint_at(bytes)?;
+    let (inside, rest) = uint_at(rest)?;
     Ok(((outside, inside), rest))
 }

@@ -10,7 +10,7 @@ ghost use Rattle.pcl_cert.specs.RowTables.{numbers_from};
 ghost use Rattle.pcl_cert.specs.ReadingCertificates.{Gives, contents_of, sized, table_at, list_at, lists_at, places_at, proof_at, proofs_at, certificate_at, behind};
 
 use crate::fault::CertFault;
-use crate::fields::{format_at, number_at, row_at, word_at};
+use crate::fields::{format_at, uint_at, row_numbers_at, word_at};
 use crate::format::Format;
 use crate::page_proof::PageProof;
 use crate::tables::{Bytes, RowTables, word};
@@ -46,7 +46,7 @@ fn read_all(
     ensures { Gives contents_of result (certificate_at dpi bytes.now) }
 {
     let (format, rest) = format_at(bytes)?;
-    let (count, rest) = number_at(rest)?;
+    let (count, rest) = uint_at(rest)?;
     let (proofs, rest) = proofs_at(alloc, count, dpi, format, rest)?;
     if !rest.is_empty() {
         return Err(CertFault::Extra);
@@ -84,7 +84,7 @@ fn proof_at(
 ) -> Result<(PageProof<'_>, &[u8]), CertFault>
     ensures { Gives (λ x. (x.0, x.1.now)) result (proof_at dpi format bytes.now) }
 {
-    let (text_len, rest) = number_at(bytes)?;
+    let (text_len, rest) = uint_at(bytes)?;
     let (rows, rest) = word_at(rest)?;
     let size = size_with_height(u32::from(rows), dpi)?;
     let (table, rest) = table_at(alloc, size.height(dpi), rest)?;
@@ -123,7 +123,7 @@ fn table_at(alloc: Global, rows: u32, bytes: &[u8]) -> Result<(Table, &[u8]), Ce
     let mut numbers = Vec::new(alloc);
     let mut rest = bytes;
     for _ in 0..rows + 1 {
-        let (row, after) = row_at(rest)?;
+        let (row, after) = row_numbers_at(rest)?;
         numbers.push(row)?;
         rest = after;
     }

@@ -5,7 +5,7 @@ ghost use Rattle.pcl_base.specs.Size.{page_height, page_row_bytes};
 ghost use Rattle.pcl_base.specs.Method.{method_code};
 ghost use Rattle.pcl_cert.specs.RowTables.{list_of};
 ghost use Rattle.pcl_check.specs.Places.{FindsPlace};
-ghost use Rattle.pcl_cert.specs.Checking.{IsGoodIn};
+ghost use Rattle.pcl_cert.specs.Checking.{IsGoodInTables};
 ghost use Rattle.pcl_cert.specs.inner.FirstBad.{AreTablesOf, FindsBadBelow, FindsBadIn};
 
 use crate::tables::RowTables;
@@ -76,7 +76,7 @@ fn or_in_table(
 fn first_bad_in_table(page: &Page, tables: &RowTables<'_>, row: u32, method: Method) -> Option<u32>
     requires row { row < page_height page.now.size page.now.dpi }
     requires tables { length tables.now ≡ 4 * page_height page.now.size page.now.dpi }
-    ensures { FindsPlace (IsGoodIn page.now tables.now row method) (page_row_bytes page.now.size page.now.dpi) result }
+    ensures { FindsPlace (IsGoodInTables page.now tables.now row method) (page_row_bytes page.now.size page.now.dpi) result }
 {
     let bytes = page.bitmap.row(row);
     if tables.is_empty(row, method) {

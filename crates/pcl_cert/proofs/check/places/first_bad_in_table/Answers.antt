@@ -12,7 +12,7 @@ use Rattle.pcl_output.proofs.RowsFrom.{row_of_bytes}
 use Rattle.pcl_base.proofs.PageBounds.{row_small}
 use Rattle.pcl_cert.specs.RowTables.{list_of}
 use Rattle.pcl_check.specs.Places.{FindsPlace}
-use Rattle.pcl_cert.specs.Checking.{IsGoodIn}
+use Rattle.pcl_cert.specs.Checking.{IsGoodInTables}
 use Rattle.pcl_cert.specs.PageTables.{table_of}
 use Rattle.pcl_cert.proofs.RowPlaces.{IsRowOfTables, none_bad, some_bad}
 use Rattle.pcl_cert.proofs.check.places.first_bad_in_table.Goals as goal
@@ -50,7 +50,7 @@ returns-in_err-place c =
     c.copy_table.ensures
     (length-take-le _ _ (let small = row_small page.bitmap.size page.bitmap.dpi in
     omega (arith, c.row-bytes.ensures.len, small, length-replicate {A = ℕ} 601 0))) in
-    subst (FindsPlace (IsGoodIn page c.args.tables.now c.args.row c.args.method) (page_row_bytes page.size page.dpi))
+    subst (FindsPlace (IsGoodInTables page c.args.tables.now c.args.row c.args.method) (page_row_bytes page.size page.dpi))
     (sym c.from_residual.ensures)
     (none_bad is c.in_err-place.ensures)
 
