@@ -6,13 +6,13 @@ use Rattle.pcl_base.specs.declared.dpi.Dpi.TheVariants.{Dpi300, Dpi600}
 use Rattle.pcl_base.specs.declared.method.Method.{Method}
 use Rattle.pcl_base.specs.declared.method.Method.TheVariants.{Plain}
 use Rattle.pcl_base.specs.declared.operation.Asking.{Asking}
-use Rattle.pcl_base.specs.declared.operation.Asking.TheVariants.{Sides, OutputBin, MediaType, PaperSource, SheetSide}
+use Rattle.pcl_base.specs.declared.operation.Asking.TheVariants.{PaperSource, SheetSide}
 use Rattle.pcl_base.specs.declared.operation.Axis.{Axis}
 use Rattle.pcl_base.specs.declared.operation.Axis.TheVariants.{Horizontal, Vertical}
 use Rattle.pcl_base.specs.declared.operation.Unit.{Unit as Measure}
 use Rattle.pcl_base.specs.declared.operation.Unit.TheVariants.{PclUnit, Decipoint, Column}
 use Rattle.pcl_base.specs.declared.operation.Operation.{Operation}
-use Rattle.pcl_base.specs.declared.operation.Operation.TheVariants.{Reset, UniversalExit, ClearMargins, HalfLineFeed, HorizontalTab, LineFeed, FormFeed, CarriageReturn, Shift, PageSize, Copies, VerticalMotionIndex, LineSpacing, TopMargin, TextLength, PerforationSkip, OnlyZero, Ask, UnitOfMeasure, HorizontalMotionIndex, LineTermination, LeftMargin, Move, CursorStack, MacroId, ControlMacros, RectangleSize, FillRectangle, FontId, CharacterCode, ControlFonts, DownloadFont, DownloadCharacter, SelectFont, PrintText, RasterResolution, RasterWidth, RasterHeight, RasterPresentation, StartRaster, EndRaster, EndRasterResetMethod, RasterMethod, RasterOffset, RasterRow, NoEffect}
+use Rattle.pcl_base.specs.declared.operation.Operation.TheVariants.{Reset, UniversalExit, ClearMargins, HalfLineFeed, HorizontalTab, LineFeed, FormFeed, CarriageReturn, Shift, PageSize, Copies, VerticalMotionIndex, LineSpacing, TopMargin, TextLength, PerforationSkip, OnlyZero, Ask, UnitOfMeasure, HorizontalMotionIndex, LineTermination, LeftMargin, Move, CursorStack, MacroId, RectangleSize, FontId, CharacterCode, DownloadFont, DownloadCharacter, SelectFont, PrintText, RasterResolution, RasterWidth, RasterHeight, RasterPresentation, StartRaster, EndRasterResetMethod, RasterMethod, RasterOffset, RasterRow}
 use Rattle.pcl_base.specs.declared.size.Size.{Size}
 use Rattle.pcl_base.specs.declared.value.Sign.{Sign}
 use Rattle.pcl_base.specs.declared.value.Sign.TheVariants.{Absent, Plus, Minus}
@@ -161,11 +161,9 @@ set_method (Some method) s = stays (record s { method = method })
 
 -- another paper source and another side of the sheet are for the next page
 abbrev pub effect_of_asking : Asking → Effect
-effect_of_asking Sides = page.Stay
-effect_of_asking OutputBin = page.Stay
-effect_of_asking MediaType = page.Stay
 effect_of_asking PaperSource = page.EjectMarked
 effect_of_asking SheetSide = page.EjectMarked
+effect_of_asking other = page.Stay
 
 -- ---- each command
 
@@ -178,8 +176,8 @@ units_of_measure =
     96 ∷ 100 ∷ 120 ∷ 144 ∷ 150 ∷ 160 ∷ 180 ∷ 200 ∷ 225 ∷ 240 ∷ 288 ∷ 300 ∷ 360
     ∷ 400 ∷ 450 ∷ 480 ∷ 600 ∷ 720 ∷ 800 ∷ 900 ∷ 1200 ∷ 1440 ∷ 1800 ∷ 2400 ∷ 3600 ∷ 7200 ∷ []
 
--- a command with this value, on a page that is marked or not; what numbers of controls and of rectangles mean is said where they
--- are drawn or act on macros, and so is which of them are taken
+-- a command with this value, on a page that is marked or not; all others set nothing, and those whose numbers say what is drawn or
+-- done to fonts and macros are refused there
 unfoldable pub outcome : Dpi → Operation → Value → Bool → Settings → Outcome
 outcome dpi Reset v m s = Some (defaults, page.EjectMarked)
 outcome dpi UniversalExit v m s = if is_minus v.sign && whole_of v == 12345 then Some (defaults, page.EjectMarked) else None
@@ -207,12 +205,9 @@ outcome dpi LeftMargin v m s = from_zero v (set_left (whole_of v * s.hmi) s)
 outcome dpi (Move axis unit) v m s = stays (move_along axis unit v s)
 outcome dpi CursorStack v m s = up_to 1 v (if whole_of v == 0 then push s else pop s)
 outcome dpi MacroId v m s = up_to id_limit v (record s { macro_id = whole_of v })
-outcome dpi ControlMacros v m s = stays s
 outcome dpi (RectangleSize axis unit) v m s = from_zero v (set_rectangle axis (scaled_by (unit_of axis unit s) v) s)
-outcome dpi FillRectangle v m s = stays s
 outcome dpi FontId v m s = up_to id_limit v (record s { font_id = whole_of v })
 outcome dpi CharacterCode v m s = up_to 255 v (record s { character_code = whole_of v })
-outcome dpi ControlFonts v m s = stays s
 outcome dpi DownloadFont v m s = from_zero v s
 outcome dpi DownloadCharacter v m s = from_zero v s
 outcome dpi (SelectFont side) v m s = from_zero v s
@@ -222,12 +217,11 @@ outcome dpi RasterWidth v m s = from_zero v (record s { raster_width = none_if_z
 outcome dpi RasterHeight v m s = from_zero v (record s { raster_height = none_if_zero (whole_of v) })
 outcome dpi RasterPresentation v m s = one_of (0 ∷ 3 ∷ []) v s
 outcome dpi StartRaster v m s = up_to 1 v s
-outcome dpi EndRaster v m s = stays s
 outcome dpi EndRasterResetMethod v m s = stays (record s { method = Plain })
 outcome dpi RasterMethod v m s = by_count v (λ n. set_method (method_with_code n) s)
 outcome dpi RasterOffset v m s = from_zero v s
 outcome dpi RasterRow v m s = from_zero v s
-outcome dpi NoEffect v m s = stays s
+outcome dpi other v m s = stays s
 
 -- ---- what a call answers
 

@@ -3,12 +3,12 @@ use Rattle.std.specs.Prelude.{◌==◌, ◌&&◌, ◌*◌, ◌/◌, if◌then◌
 use Rattle.std.proofs.Common.{◌≡◌, ℕ, ◌+◌, Bool, true, false, cond, List, [], ◌∷◌, Option, Some, None, refl, subst}
 use Rattle.pcl_base.specs.declared.dpi.Dpi.{Dpi}
 use Rattle.pcl_base.specs.declared.method.Method.{Method}
-use Rattle.pcl_base.specs.declared.operation.Asking.TheVariants.{Sides, OutputBin, MediaType, PaperSource, SheetSide}
+use Rattle.pcl_base.specs.declared.operation.Asking.TheVariants.{PaperSource, SheetSide}
 use Rattle.pcl_base.specs.declared.operation.Axis.{Axis}
 use Rattle.pcl_base.specs.declared.operation.Axis.TheVariants.{Horizontal, Vertical}
 use Rattle.pcl_base.specs.declared.operation.Unit.{Unit as Measure}
 use Rattle.pcl_base.specs.declared.operation.Operation.{Operation}
-use Rattle.pcl_base.specs.declared.operation.Operation.TheVariants.{Reset, UniversalExit, ClearMargins, HalfLineFeed, HorizontalTab, LineFeed, FormFeed, CarriageReturn, Shift, PageSize, Copies, VerticalMotionIndex, LineSpacing, TopMargin, TextLength, PerforationSkip, OnlyZero, Ask, UnitOfMeasure, HorizontalMotionIndex, LineTermination, LeftMargin, Move, CursorStack, MacroId, ControlMacros, RectangleSize, FillRectangle, FontId, CharacterCode, ControlFonts, DownloadFont, DownloadCharacter, SelectFont, PrintText, RasterResolution, RasterWidth, RasterHeight, RasterPresentation, StartRaster, EndRaster, EndRasterResetMethod, RasterMethod, RasterOffset, RasterRow, NoEffect}
+use Rattle.pcl_base.specs.declared.operation.Operation.TheVariants.{Reset, UniversalExit, ClearMargins, HalfLineFeed, HorizontalTab, LineFeed, FormFeed, CarriageReturn, Shift, PageSize, Copies, VerticalMotionIndex, LineSpacing, TopMargin, TextLength, PerforationSkip, OnlyZero, Ask, UnitOfMeasure, HorizontalMotionIndex, LineTermination, LeftMargin, Move, CursorStack, MacroId, RectangleSize, FontId, CharacterCode, DownloadFont, DownloadCharacter, SelectFont, PrintText, RasterResolution, RasterWidth, RasterHeight, RasterPresentation, StartRaster, EndRasterResetMethod, RasterMethod, RasterOffset, RasterRow}
 use Rattle.pcl_base.specs.declared.size.Size.{Size}
 use Rattle.pcl_base.specs.declared.value.Value.{Value}
 use Rattle.pcl_base.specs.Limits.{copies_limit, id_limit, stack_limit}
@@ -125,11 +125,9 @@ keeps dpi TextLength v m s =
     (λ n. stays_if_keeps (nat_le 1 n) s (set_bottom (s.top + n * s.vmi) s) (bottom_size (s.top + n * s.vmi) s))
 keeps dpi PerforationSkip v m s = up_to_keeps 1 v s _ refl
 keeps dpi OnlyZero v m s = stays_if_keeps (whole_of v == 0) s s refl
-keeps dpi (Ask Sides) v m s = stay_keeps s _ refl
-keeps dpi (Ask OutputBin) v m s = stay_keeps s _ refl
-keeps dpi (Ask MediaType) v m s = stay_keeps s _ refl
 keeps dpi (Ask PaperSource) v m s = marked_keeps
 keeps dpi (Ask SheetSide) v m s = marked_keeps
+keeps dpi (Ask other) v m s = stay_keeps s _ refl
 keeps dpi UnitOfMeasure v m s = one_of_keeps units_of_measure v s _ refl
 keeps dpi HorizontalMotionIndex v m s = from_zero_keeps v s _ refl
 keeps dpi LineTermination v m s = up_to_keeps 3 v s _ refl
@@ -139,14 +137,11 @@ keeps dpi CursorStack v m s =
     up_to_keeps 1 v s (if whole_of v == 0 then push s else pop s)
     (if_size (whole_of v == 0) (push s) (pop s) (push_size s) (pop_size s.stack s))
 keeps dpi MacroId v m s = up_to_keeps id_limit v s _ refl
-keeps dpi ControlMacros v m s = stay_keeps s _ refl
 keeps dpi (RectangleSize axis unit) v m s =
     from_zero_keeps v s (set_rectangle axis (scaled_by (unit_of axis unit s) v) s)
     (rectangle_size axis (scaled_by (unit_of axis unit s) v) s)
-keeps dpi FillRectangle v m s = stay_keeps s _ refl
 keeps dpi FontId v m s = up_to_keeps id_limit v s _ refl
 keeps dpi CharacterCode v m s = up_to_keeps 255 v s _ refl
-keeps dpi ControlFonts v m s = stay_keeps s _ refl
 keeps dpi DownloadFont v m s = from_zero_keeps v s s refl
 keeps dpi DownloadCharacter v m s = from_zero_keeps v s s refl
 keeps dpi (SelectFont side) v m s = from_zero_keeps v s s refl
@@ -156,12 +151,11 @@ keeps dpi RasterWidth v m s = from_zero_keeps v s _ refl
 keeps dpi RasterHeight v m s = from_zero_keeps v s _ refl
 keeps dpi RasterPresentation v m s = one_of_keeps (0 ∷ 3 ∷ []) v s s refl
 keeps dpi StartRaster v m s = up_to_keeps 1 v s s refl
-keeps dpi EndRaster v m s = stay_keeps s _ refl
 keeps dpi EndRasterResetMethod v m s = stay_keeps s _ refl
 keeps dpi RasterMethod v m s = by_count_keeps v s (λ n. set_method (method_with_code n) s) (λ n. method_keeps (method_with_code n))
 keeps dpi RasterOffset v m s = from_zero_keeps v s s refl
 keeps dpi RasterRow v m s = from_zero_keeps v s s refl
-keeps dpi NoEffect v m s = stay_keeps s _ refl
+keeps dpi other v m s = stay_keeps s _ refl
 
 pub size_kept : (dpi : Dpi) (operation : Operation) (value : Value) (marked : Bool) (s : Settings) {settings : Settings}
     → outcome dpi operation value marked s ≡ Some (settings, Stay)

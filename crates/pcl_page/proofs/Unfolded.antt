@@ -16,7 +16,7 @@ use Rattle.pcl_macros.specs.History.{defined}
 use Rattle.pcl_macros.specs.Table.{Begun}
 use Rattle.pcl_page.specs.declared.interpreter.Running.{Running}
 use Rattle.pcl_page.specs.declared.macros.Action.{Action}
-use Rattle.pcl_page.specs.declared.macros.Action.TheVariants.{Begin, End, Execute, Call, Control}
+use Rattle.pcl_page.specs.declared.macros.Action.TheVariants.{Begin, End, Control}
 use Rattle.pcl_page.specs.declared.macros.Keeping.{Keeping}
 use Rattle.pcl_page.specs.declared.macros.Keeping.TheVariants.{Kept, Ends, Refused}
 use Rattle.pcl_page.specs.Situation.{Situation, tried}
@@ -161,8 +161,7 @@ acted_acts place None e = absurd cc
 acted_acts place (Some Begin) e = same_acts (record { pages = refl; performed = refl }) e
 acted_acts place (Some End) {s} e = ended_acts place s.begun e
 acted_acts place (Some (Control what)) e = same_acts (record { pages = refl; performed = refl }) e
-acted_acts place (Some Execute) e = same_acts (record { pages = refl; performed = refl }) e
-acted_acts place (Some Call) e = same_acts (record { pages = refl; performed = refl }) e
+acted_acts place other e = same_acts (record { pages = refl; performed = refl }) e
 
 pub managed_acts : (place : ℕ) (operation : Option Operation) (value : Value) {s later : Situation}
     → managed place operation value s ≡ Ok later → ActsOnMacros s later

@@ -69,8 +69,7 @@ acted place None s = Err UnsupportedValue
 acted place (Some Begin) s = Ok (definition_begun place s)
 acted place (Some End) s = definition_ended place s.begun s
 acted place (Some (Control what)) s = Ok (with_macro_event (control what s.settings.macro_id) s)
-acted place (Some Execute) s = Ok s
-acted place (Some Call) s = Ok s
+acted place other s = Ok s
 
 -- what the command at a place does to macros and definitions; a reset deletes the temporary macros
 abbrev pub managed : ℕ → Option Operation → Value → Situation → Result Situation Kind

@@ -201,14 +201,10 @@ drawn dpi RasterOffset command s = record s { raster = skipped_in (whole_of comm
 drawn dpi RasterRow command s = with_row_in dpi command (raster_for_row dpi s.raster s.settings) s
 drawn dpi other command s = s
 
--- a number that says nothing is a value that isn't taken
-abbrev pub refused_unless : Bool → Option Kind
-refused_unless says = if says then None else Some UnsupportedValue
-
--- why a command isn't drawn that sets what it sets
+-- why a command isn't drawn that sets what it sets: a number that says nothing is a value that isn't taken
 abbrev pub draw_refusal : Operation → Said → Situation → Option Kind
-draw_refusal ControlFonts command s = refused_unless (is_some (control_of command.value))
-draw_refusal FillRectangle command s = refused_unless (is_some (ink_of command.value))
+draw_refusal ControlFonts command s = if is_some (control_of command.value) then None else Some UnsupportedValue
+draw_refusal FillRectangle command s = if is_some (ink_of command.value) then None else Some UnsupportedValue
 draw_refusal DownloadFont command s = header_refusal command.bytes
 draw_refusal DownloadCharacter command s = character_refusal command.bytes (font_after s.fonts s.settings.font_id)
 draw_refusal PrintText command s = text_refusal command.bytes (font_now s)

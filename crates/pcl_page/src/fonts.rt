@@ -9,11 +9,12 @@ use pcl_base::{CallFault, Kind, Side, Value};
 use pcl_fonts::FontControl;
 
 impl<'a> Performer<'a> {
-    ghost use Rattle.std.specs.Prelude.{is_some};
+    ghost use Rattle.std.specs.Prelude.{is_some, if◌then◌else◌, Some, None};
+    ghost use Rattle.pcl_base.specs.declared.kind.Kind.TheVariants.{UnsupportedValue};
     ghost use Rattle.pcl_base.specs.declared.dpi.Dpi.{Dpi};
     ghost use Rattle.pcl_fonts.specs.History.{control, font_after};
     ghost use Rattle.pcl_page.specs.Text.{select_by_id, header_refusal, character_refusal};
-    ghost use Rattle.pcl_page.specs.Situation.{Situation, with_font, with_character, fonts_controlled, refused_unless};
+    ghost use Rattle.pcl_page.specs.Situation.{Situation, with_font, with_character, fonts_controlled};
     ghost use Rattle.pcl_page.specs.inner.Reflecting.{IsIn, HasEvent, HasSettings, Draws};
 
     /// Takes the header of a font for the ID that is meant. Without data nothing happens.
@@ -43,7 +44,7 @@ impl<'a> Performer<'a> {
     /// Does what a font control says to the font and the character that are meant. A number that says nothing is refused.
     pub fn control_fonts(&mut self, value: Value) -> Result<(), CallFault>
         ensures { (dpi : Dpi) (s : Situation) → IsIn dpi s self.old
-            → Draws dpi (refused_unless (is_some (control_of value))) (fonts_controlled (control_of value) s) result self.new }
+            → Draws dpi (if is_some (control_of value) then None else Some UnsupportedValue) (fonts_controlled (control_of value) s) result self.new }
     {
         let Some(what) = control_of(value) else {
             return Err(CallFault::Refused(Kind::UnsupportedValue));

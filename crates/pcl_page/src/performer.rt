@@ -45,13 +45,14 @@ pub struct Performer<'a> {
 
 impl<'a> Performer<'a> {
     ghost use Rattle.std.specs.Prelude.{◌≡◌, ◌<◌, ◌==◌, ◌&&◌, is_some, ◌≤◌, ◌+◌, ◌*◌, ◌^◌, if◌then◌else◌, Some, IfOk, OnOk, OnErr};
+    ghost use Rattle.pcl_base.specs.declared.kind.Kind.TheVariants.{UnsupportedValue};
     ghost use Rattle.pcl_base.specs.Value.{whole_of};
     ghost use Rattle.pcl_page.specs.Marks.{dot_at};
     ghost use Rattle.pcl_page.specs.Raster.{raster_from, rows_in, is_ignored_in_raster};
     ghost use Rattle.pcl_base.specs.declared.dpi.Dpi.{Dpi};
     ghost use Rattle.pcl_escape.specs.Said.{Said, view};
     ghost use Rattle.pcl_env.specs.Outcome.{outcome};
-    ghost use Rattle.pcl_page.specs.Situation.{Situation, at_begin, is_marked, drawn, draw_refusal, refused_unless, ink_of, filled_with, rectangle_mark, skipped_in, exited, without_temporary};
+    ghost use Rattle.pcl_page.specs.Situation.{Situation, at_begin, is_marked, drawn, draw_refusal, ink_of, filled_with, rectangle_mark, skipped_in, exited, without_temporary};
     ghost use Rattle.pcl_page.specs.Macros.{macro_ended};
     ghost use Rattle.pcl_bitmap.specs.declared.page.Page.{Page};
     ghost use Rattle.pcl_page.specs.inner.Reflecting.{IsIn, IsPrepared, HasRaster, Takes, IsFollowed, IsEjected, IsDrawn, Draws, IsSent, IsTurned, IsTried, EndDone};
@@ -247,7 +248,7 @@ impl<'a> Performer<'a> {
     /// Fills a rectangle. A number that names no ink is refused.
     fn fill_rectangle(&mut self, value: Value, dpi: Dpi) -> Result<(), CallFault>
         ensures { (s : Situation) → IsIn dpi s self.old
-            → Draws dpi (refused_unless (is_some (ink_of value))) (filled_with dpi (ink_of value) s) result self.new }
+            → Draws dpi (if is_some (ink_of value) then None else Some UnsupportedValue) (filled_with dpi (ink_of value) s) result self.new }
     {
         let Some(ink) = ink_of(value) else {
             return Err(CallFault::Refused(Kind::UnsupportedValue));

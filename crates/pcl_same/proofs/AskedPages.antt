@@ -20,7 +20,7 @@ use Rattle.pcl_fonts.specs.declared.fonts.FontControl.{FontControl}
 use Rattle.pcl_fonts.specs.Fields.{Character}
 use Rattle.pcl_macros.specs.Table.{Begun}
 use Rattle.pcl_page.specs.declared.macros.Action.{Action}
-use Rattle.pcl_page.specs.declared.macros.Action.TheVariants.{Begin, End, Execute, Call, Control}
+use Rattle.pcl_page.specs.declared.macros.Action.TheVariants.{Begin, End, Control}
 use Rattle.pcl_page.specs.declared.macros.Keeping.{Keeping}
 use Rattle.pcl_page.specs.declared.macros.Keeping.TheVariants.{Kept, Ends, Refused}
 use Rattle.pcl_page.specs.Asks.{Asks}
@@ -157,8 +157,7 @@ acted_each place None s e = tt
 acted_each place (Some Begin) s e = e
 acted_each place (Some End) s e = ended_each place s.begun s e
 acted_each place (Some (Control what)) s e = e
-acted_each place (Some Execute) s e = e
-acted_each place (Some Call) s e = e
+acted_each place other s e = e
 
 managed_each : (place : ℕ) (operation : Option Operation) (value : Value) (s : Situation) → Each s
     → EachOf (managed place operation value s)
