@@ -12,6 +12,8 @@ rectangles.pcl  100,000 black rectangles of the whole page
 rows.pcl        the same with a raster row of one dot between every two of 20,000
 macros.pcl      32,767 permanent macros, and then the temporary ones are deleted 200,000 times
 fonts.pcl       the same with fonts, 30,000 times
+noise.pcl       256 Letter pages of random dots, 210 rows that a macro sends fifteen times on each: a certificate of the second format
+                has some 2 GB
 
 Without programs it only makes the jobs. PCLMIN is the program of this repository and PLAIN that of oracle/plain: each previews page
 1 of each job at 300 and at 600 dots per inch, and both have to write the same bytes. A time is that of one run, in seconds.
@@ -86,7 +88,20 @@ def fonts():
     return one + kept + b"\x1b*c" + 29_999 * b"1f" + b"1F" + PAGE
 
 
-JOBS = [glyph, shifted, turns, controls, elements, rectangles, rows, macros, fonts]
+def noise():
+    state, rows = 1, b""
+    for _ in range(210):
+        row = bytearray()
+        for _ in range(300):
+            state = (1_664_525 * state + 1_013_904_223) % 2**32
+            row.append(state >> 24)
+        rows += b"\x1b*b300W" + row
+    begin = b"\x1b*p0x0Y\x1b*t300R\x1b*r0F\x1b*r1A\x1b&f1y"
+    page = b"\x1b&f2y0X" + begin + 14 * b"2x" + b"2X" + b"\x1b*rC\x0c\x1b&f1X"
+    return b"\x1b&l0E\x1b&f1y0X" + rows + b"\x1b&f1X" + page + b"\x1b&f2y" + 255 * b"3x" + b"3X"
+
+
+JOBS = [glyph, shifted, turns, controls, elements, rectangles, rows, macros, fonts, noise]
 
 
 def preview(program, path, dpi):
