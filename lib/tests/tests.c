@@ -147,6 +147,17 @@ static void try_pointers(void) {
     TEST(pclmin_page_count(JOB, (size_t)INT_MAX + 1, 300, &answer) == PCLMIN_TOO_LONG);
     TEST(strcmp(answer.line, "pclmin: input too long\n") == 0);
     pclmin_free(&answer);
+    TEST(pclmin_same(JOB, LENGTH, JOB, (size_t)INT_MAX + 1, 300, &answer) == PCLMIN_TOO_LONG);
+    pclmin_free(&answer);
+    TEST(pclmin_check(JOB, LENGTH, JOB, LENGTH, JOB, (size_t)INT_MAX + 1, 0, &answer) == PCLMIN_TOO_LONG);
+    pclmin_free(&answer);
+    /* A wrong number is answered whatever the job is. */
+    TEST(pclmin_page_count(JOB, (size_t)INT_MAX + 1, 301, &answer) == PCLMIN_WRONG_ARGUMENT);
+    pclmin_free(&answer);
+    TEST(pclmin_min(JOB, (size_t)INT_MAX + 1, 300, 3, &answer) == PCLMIN_WRONG_ARGUMENT);
+    pclmin_free(&answer);
+    TEST(pclmin_preview(JOB, (size_t)INT_MAX + 1, 300, 2, 1, &answer) == PCLMIN_WRONG_ARGUMENT);
+    pclmin_free(&answer);
     pclmin_free(NULL);
 }
 

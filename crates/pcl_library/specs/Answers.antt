@@ -30,7 +30,7 @@ use Rattle.pcl_command.specs.declared.comparisons.CompareFault.TheVariants as co
 use Rattle.pcl_command.specs.Messages.{line_of}
 use Rattle.pcl_command.specs.Verdicts.{verdict_line_of}
 use Rattle.pcl_command.specs.ComparisonLines.{comparison_line_of, compare_line_of}
-use Rattle.pcl_library.specs.Arguments.{IsSeen, AreSeen, IsChoiceFor, IsFormatFor}
+use Rattle.pcl_library.specs.Arguments.{IsSeen, AreSeen, IsChoiceFor, IsFormatFor, IsPerformed}
 use Rattle.pcl_library.specs.Failures.{outcome_of, job_number}
 use Rattle.pcl_library.specs.declared.answer.Answer.{Answer}
 use Rattle.pcl_library.specs.declared.failure.Failure.{Failure}
@@ -72,8 +72,9 @@ Tells other page answer = answer.outcome ≡ outcome_of other
 
 -- ---- calls on one job
 
--- what an answer tells at a resolution: of a call that is done this holds, and a refusal is the job's
+-- what an answer tells at a resolution: of a call that is done this holds, a refusal is the job's, and no argument is wrong
 pub record AnswersAt (dpi : Dpi) (job : List ℕ) (Done : Answer → Type 0) (answer : Answer) : Type 0 where
+  pub performed : IsPerformed answer.outcome
   pub done : answer.outcome ≡ 0 → (answer.resolution ≡ dots_per_inch dpi) × Done answer
   pub refused : answer.outcome ≡ 1 → (refusal : Refusal) × IsRefusal dpi job refusal × TellsRefusal refusal answer
 
@@ -83,19 +84,26 @@ pub record Answers (number : ℕ) (job : List ℕ) (Done : Dpi → Answer → Ty
   pub refused : answer.outcome ≡ 1
       → (dpi : Dpi) × IsSeen number job dpi × ((refusal : Refusal) × IsRefusal dpi job refusal × TellsRefusal refusal answer)
 
--- the images of the pages from one number to another, one after the other
+-- the images of these pages, one after the other
+abbrev pub HasChosenImages : List ℕ → PageChoice → Dpi → Answer → Type 0
+HasChosenImages job choice dpi answer = AreImagesOf dpi job choice answer.made.now
+
+-- the same of the pages from one number to another
 abbrev pub HasImages : List ℕ → (first last : ℕ) → Dpi → Answer → Type 0
-HasImages job first last dpi answer =
-    (choice : PageChoice) × IsChoiceFor first last choice × AreImagesOf dpi job choice answer.made.now
+HasImages job first last dpi answer = (choice : PageChoice) × IsChoiceFor first last choice × HasChosenImages job choice dpi answer
 
--- one of these pages is missing in an accepted job, as the program says
-abbrev pub LacksPagesAt : Dpi → List ℕ → (first last : ℕ) → Answer → Type 0
-LacksPagesAt dpi job first last answer =
-    ((choice : PageChoice) × IsChoiceFor first last choice × LacksPage dpi job choice)
-    × IsLine (line_of run.NoSuchPage last) answer.line.now
+-- one of these pages, of which this is the last, is missing in an accepted job, as the program says
+abbrev pub LacksChosenAt : Dpi → List ℕ → PageChoice → ℕ → Answer → Type 0
+LacksChosenAt dpi job choice last answer = LacksPage dpi job choice × IsLine (line_of run.NoSuchPage last) answer.line.now
 
+-- the same at the resolution at which the job is seen by a number
+abbrev pub LacksChosen : ℕ → List ℕ → PageChoice → ℕ → Answer → Type 0
+LacksChosen number job choice last answer = (dpi : Dpi) × IsSeen number job dpi × LacksChosenAt dpi job choice last answer
+
+-- the same of the pages from one number to another
 abbrev pub LacksPages : ℕ → List ℕ → (first last : ℕ) → Answer → Type 0
-LacksPages number job first last answer = (dpi : Dpi) × IsSeen number job dpi × LacksPagesAt dpi job first last answer
+LacksPages number job first last answer =
+    (choice : PageChoice) × IsChoiceFor first last choice × LacksChosen number job choice last answer
 
 -- a least raster job of the job's pages, and its certificate where one of a format is asked for
 abbrev pub HasLeastJob : List ℕ → Option Format → Dpi → Answer → Type 0
@@ -146,6 +154,7 @@ TellsOneRefused dpi first second answer =
 
 -- what an answer tells at a resolution
 pub record ComparesAt (dpi : Dpi) (first second : List ℕ) (answer : Answer) : Type 0 where
+  pub performed : IsPerformed answer.outcome
   pub done : answer.outcome ≡ 0 → (answer.resolution ≡ dots_per_inch dpi) × HasComparison first second dpi answer
   pub refused : answer.outcome ≡ 1 → TellsOneRefused dpi first second answer
 

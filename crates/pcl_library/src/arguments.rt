@@ -1,7 +1,8 @@
 //! Arguments that come as numbers, and jobs that are too long.
 
-ghost use Rattle.std.specs.Prelude.{◌≡◌, IfOk, IfErr, IfSome};
-ghost use Rattle.pcl_library.specs.Arguments.{resolution_number, IsSeen, AreSeen, IsChoiceFor, IsFormatFor};
+ghost use Rattle.std.specs.Prelude.{◌⊎◌, IfOk, IfErr};
+ghost use Rattle.pcl_library.specs.Arguments.{IsSeen, AreSeen, IsNoResolution, IsTooLong, FailsBy, outcome_in};
+ghost use Rattle.pcl_library.specs.Arguments.{IsWithinLimit, IsResolutionOf, IsChoiceOf, IsFormatOf};
 ghost use Rattle.pcl_library.specs.Failures.{IsUnperformed};
 
 use crate::failure::{Argument, Failure};
@@ -16,9 +17,10 @@ use std::alloc::Global;
 pub fn seen_at(alloc: Global, job: &[u8], resolution: u32) -> Result<Dpi, Failure>
     ensures seen { IfOk result (IsSeen resolution job.now) }
     ensures unperformed { IfErr result IsUnperformed }
+    ensures arguments { FailsBy (IsNoResolution resolution) (IsTooLong job.now) (outcome_in result) }
 {
-    within_limit(job)?;
     let asked = resolution_numbered(resolution)?;
+    within_limit(job)?;
     Ok(resolve(alloc, asked, job)?)
 }
 
@@ -31,16 +33,17 @@ pub fn both_seen_at(
 ) -> Result<Dpi, Failure>
     ensures seen { IfOk result (AreSeen resolution first.now second.now) }
     ensures unperformed { IfErr result IsUnperformed }
+    ensures arguments { FailsBy (IsNoResolution resolution) (IsTooLong first.now ⊎ IsTooLong second.now) (outcome_in result) }
 {
+    let asked = resolution_numbered(resolution)?;
     within_limit(first)?;
     within_limit(second)?;
-    let asked = resolution_numbered(resolution)?;
     Ok(resolve_both(alloc, asked, first, second)?)
 }
 
 /// Fails where there are more bytes than the program reads as one input.
 pub fn within_limit(bytes: &[u8]) -> Result<(), Failure>
-    ensures { IfErr result IsUnperformed }
+    ensures { IsWithinLimit bytes.now result }
 {
     if bytes.len() > INPUT_LIMIT {
         Err(Failure::Run(Fault::TooLong))
@@ -50,9 +53,8 @@ pub fn within_limit(bytes: &[u8]) -> Result<(), Failure>
 }
 
 /// The resolution that a number asks for.
-fn resolution_numbered(number: u32) -> Result<Resolution, Failure>
-    ensures named { IfOk result (λ asked. resolution_number asked ≡ number) }
-    ensures unperformed { IfErr result IsUnperformed }
+pub fn resolution_numbered(number: u32) -> Result<Resolution, Failure>
+    ensures { IsResolutionOf number result }
 {
     match number {
         0 => Ok(Resolution::FirstAccepted),
@@ -64,8 +66,7 @@ fn resolution_numbered(number: u32) -> Result<Resolution, Failure>
 
 /// The pages from one number to another, counted from 1, or all of them by 0 and 0.
 pub fn pages_between(first: u32, last: u32) -> Result<PageChoice, Failure>
-    ensures chosen { IfOk result (IsChoiceFor first last) }
-    ensures unperformed { IfErr result IsUnperformed }
+    ensures { IsChoiceOf first last result }
 {
     if first == 0 && last == 0 {
         return Ok(PageChoice::All);
@@ -81,8 +82,7 @@ pub fn pages_between(first: u32, last: u32) -> Result<PageChoice, Failure>
 
 /// The format of certificates that a number asks for; none by 0.
 pub fn format_numbered(number: u32) -> Result<Option<Format>, Failure>
-    ensures named { IfOk result (IsFormatFor number) }
-    ensures unperformed { IfErr result IsUnperformed }
+    ensures { IsFormatOf number result }
 {
     match number {
         0 => Ok(None),

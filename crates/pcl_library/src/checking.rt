@@ -1,15 +1,15 @@
 //! A written job checked beside its input, by a certificate from anybody.
 
-ghost use Rattle.std.specs.Prelude.{IfOk, IfErr};
-ghost use Rattle.pcl_library.specs.Arguments.{IsSeen};
+ghost use Rattle.std.specs.Prelude.{◌⊎◌, IfOk, IfErr};
+ghost use Rattle.pcl_library.specs.Arguments.{IsSeen, IsNoResolution, IsTooLong, FailsBy, outcome_in};
 ghost use Rattle.pcl_library.specs.Failures.{IsUnperformed};
 ghost use Rattle.pcl_library.specs.Answers.{Answers, AnswersAt, HasVerdict};
 
 use crate::answer::Answer;
-use crate::arguments::{seen_at, within_limit};
+use crate::arguments::{resolution_numbered, within_limit};
 use crate::failure::Failure;
 use pcl_base::Dpi;
-use pcl_command::verdict_line;
+use pcl_command::{resolve, verdict_line};
 use pcl_tool::{JobVerdict, check_job};
 use std::alloc::Global;
 
@@ -24,7 +24,11 @@ pub extern "C" fn pcl_library_check(
     resolution: u32,
     answer: &mut Answer,
 )
-    ensures { Answers resolution input.now (HasVerdict input.now output.now certificate.now) answer.new }
+    ensures told { Answers resolution input.now (HasVerdict input.now output.now certificate.now) answer.new }
+    ensures arguments { FailsBy
+        (IsNoResolution resolution)
+        (IsTooLong input.now ⊎ IsTooLong output.now ⊎ IsTooLong certificate.now)
+        answer.new.outcome }
 {
     *answer = match checked_at(alloc, input, output, certificate, resolution) {
         Ok(dpi) => check_answer(alloc, input, output, certificate, dpi),
@@ -42,10 +46,16 @@ fn checked_at(
 ) -> Result<Dpi, Failure>
     ensures seen { IfOk result (IsSeen resolution input.now) }
     ensures unperformed { IfErr result IsUnperformed }
+    ensures arguments { FailsBy
+        (IsNoResolution resolution)
+        (IsTooLong input.now ⊎ IsTooLong output.now ⊎ IsTooLong certificate.now)
+        (outcome_in result) }
 {
+    let asked = resolution_numbered(resolution)?;
+    within_limit(input)?;
     within_limit(output)?;
     within_limit(certificate)?;
-    seen_at(alloc, input, resolution)
+    Ok(resolve(alloc, asked, input)?)
 }
 
 /// What the checker answers.

@@ -1,5 +1,7 @@
 //! Two jobs compared.
 
+ghost use Rattle.std.specs.Prelude.{◌⊎◌};
+ghost use Rattle.pcl_library.specs.Arguments.{IsNoResolution, IsTooLong, FailsBy};
 ghost use Rattle.pcl_library.specs.Answers.{Compares, ComparesAt};
 
 use crate::answer::Answer;
@@ -18,7 +20,8 @@ pub extern "C" fn pcl_library_same(
     resolution: u32,
     answer: &mut Answer,
 )
-    ensures { Compares resolution first.now second.now answer.new }
+    ensures told { Compares resolution first.now second.now answer.new }
+    ensures arguments { FailsBy (IsNoResolution resolution) (IsTooLong first.now ⊎ IsTooLong second.now) answer.new.outcome }
 {
     *answer = match both_seen_at(alloc, first, second, resolution) {
         Ok(dpi) => same_answer(alloc, first, second, dpi),

@@ -1,5 +1,6 @@
 //! What there is to say of a job.
 
+ghost use Rattle.pcl_library.specs.Arguments.{IsNoResolution, IsTooLong, FailsBy};
 ghost use Rattle.pcl_library.specs.Answers.{Answers, AnswersAt, HasPageCount, IsOfAccepted, HasExplanation};
 
 use crate::answer::Answer;
@@ -19,7 +20,8 @@ pub extern "C" fn pcl_library_page_count(
     resolution: u32,
     answer: &mut Answer,
 )
-    ensures { Answers resolution job.now (HasPageCount job.now) answer.new }
+    ensures told { Answers resolution job.now (HasPageCount job.now) answer.new }
+    ensures arguments { FailsBy (IsNoResolution resolution) (IsTooLong job.now) answer.new.outcome }
 {
     *answer = match seen_at(alloc, job, resolution) {
         Ok(dpi) => page_count_answer(alloc, job, dpi),
@@ -40,7 +42,8 @@ fn page_count_answer(alloc: Global, job: &[u8], dpi: Dpi) -> Answer
 /// `pclmin_pages`: what the pages are, as the command `pages --json` writes it.
 #[unsafe(no_mangle)]
 pub extern "C" fn pcl_library_pages(alloc: Global, job: &[u8], resolution: u32, answer: &mut Answer)
-    ensures { Answers resolution job.now (IsOfAccepted job.now) answer.new }
+    ensures told { Answers resolution job.now (IsOfAccepted job.now) answer.new }
+    ensures arguments { FailsBy (IsNoResolution resolution) (IsTooLong job.now) answer.new.outcome }
 {
     *answer = match seen_at(alloc, job, resolution) {
         Ok(dpi) => pages_answer(alloc, job, dpi),
@@ -66,7 +69,8 @@ pub extern "C" fn pcl_library_explain(
     resolution: u32,
     answer: &mut Answer,
 )
-    ensures { Answers resolution job.now (HasExplanation job.now) answer.new }
+    ensures told { Answers resolution job.now (HasExplanation job.now) answer.new }
+    ensures arguments { FailsBy (IsNoResolution resolution) (IsTooLong job.now) answer.new.outcome }
 {
     *answer = match seen_at(alloc, job, resolution) {
         Ok(dpi) => explain_answer(alloc, job, dpi),

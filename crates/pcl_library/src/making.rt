@@ -1,6 +1,7 @@
 //! Jobs written again.
 
-ghost use Rattle.std.specs.Prelude.{Some, None};
+ghost use Rattle.std.specs.Prelude.{◌⊎◌, Some, None};
+ghost use Rattle.pcl_library.specs.Arguments.{IsNoResolution, IsNoFormat, IsTooLong, FailsBy};
 ghost use Rattle.pcl_library.specs.Answers.{Answers, AnswersAt, HasLeastJob, HasWrittenJob, HasSmallerJob};
 
 use crate::answer::Answer;
@@ -21,22 +22,33 @@ pub extern "C" fn pcl_library_min(
     format: u32,
     answer: &mut Answer,
 )
-    ensures { Answers resolution job.now (HasWrittenJob job.now format) answer.new }
+    ensures told { Answers resolution job.now (HasWrittenJob job.now format) answer.new }
+    ensures arguments { FailsBy (IsNoResolution resolution ⊎ IsNoFormat format) (IsTooLong job.now) answer.new.outcome }
 {
-    *answer = match seen_at(alloc, job, resolution) {
-        Ok(dpi) => min_answer(alloc, job, format, dpi),
+    *answer = match format_numbered(format) {
+        Ok(format) => min_answer(alloc, job, resolution, format),
         Err(failure) => Answer::of_failure(alloc, &failure, 0),
     };
 }
 
-/// A least raster job, with the certificate that a number asks for.
-fn min_answer(alloc: Global, job: &[u8], format: u32, dpi: Dpi) -> Answer
-    ensures { AnswersAt dpi job.now (HasWrittenJob job.now format dpi) result }
+/// A least raster job, with a certificate where a format is given.
+fn min_answer(alloc: Global, job: &[u8], resolution: u32, format: Option<Format>) -> Answer
+    ensures told { Answers resolution job.now (HasLeastJob job.now format) result }
+    ensures arguments { FailsBy (IsNoResolution resolution) (IsTooLong job.now) result.outcome }
 {
-    match format_numbered(format) {
-        Ok(None) => least_answer(alloc, job, dpi),
-        Ok(Some(format)) => certified_answer(alloc, job, format, dpi),
+    match seen_at(alloc, job, resolution) {
+        Ok(dpi) => written_answer(alloc, job, format, dpi),
         Err(failure) => Answer::of_failure(alloc, &failure, 0),
+    }
+}
+
+/// The same at a resolution.
+fn written_answer(alloc: Global, job: &[u8], format: Option<Format>, dpi: Dpi) -> Answer
+    ensures { AnswersAt dpi job.now (HasLeastJob job.now format dpi) result }
+{
+    match format {
+        Some(format) => certified_answer(alloc, job, format, dpi),
+        None => least_answer(alloc, job, dpi),
     }
 }
 
@@ -68,7 +80,8 @@ pub extern "C" fn pcl_library_shrink(
     resolution: u32,
     answer: &mut Answer,
 )
-    ensures { Answers resolution job.now (HasSmallerJob job.now) answer.new }
+    ensures told { Answers resolution job.now (HasSmallerJob job.now) answer.new }
+    ensures arguments { FailsBy (IsNoResolution resolution) (IsTooLong job.now) answer.new.outcome }
 {
     *answer = match seen_at(alloc, job, resolution) {
         Ok(dpi) => shrink_answer(alloc, job, dpi),

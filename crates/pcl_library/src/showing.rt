@@ -1,10 +1,9 @@
 //! Images of pages.
 
-ghost use Rattle.std.specs.Prelude.{◌≡◌};
-ghost use Rattle.pcl_tool.specs.PageImages.{ArePageImages, AreImagesOf, LacksPage};
-ghost use Rattle.pcl_tool.specs.declared.fault.Fault.TheVariants.{NoSuchPage};
-ghost use Rattle.pcl_command.specs.Messages.{line_of};
-ghost use Rattle.pcl_library.specs.Answers.{Answers, AnswersAt, HasImages, IsLine, LacksPages, LacksPagesAt};
+ghost use Rattle.std.specs.Prelude.{◌≡◌, ◌⊎◌};
+ghost use Rattle.pcl_tool.specs.PageImages.{ArePageImages};
+ghost use Rattle.pcl_library.specs.Arguments.{IsNoResolution, AreNoPages, IsTooLong, FailsBy};
+ghost use Rattle.pcl_library.specs.Answers.{Answers, AnswersAt, HasImages, HasChosenImages, LacksPages, LacksChosen, LacksChosenAt};
 
 use crate::answer::Answer;
 use crate::arguments::{pages_between, seen_at};
@@ -25,28 +24,36 @@ pub extern "C" fn pcl_library_preview(
 )
     ensures told { Answers resolution job.now (HasImages job.now first last) answer.new }
     ensures missing { answer.new.outcome ≡ 2 → LacksPages resolution job.now first last answer.new }
+    ensures arguments { FailsBy (IsNoResolution resolution ⊎ AreNoPages first last) (IsTooLong job.now) answer.new.outcome }
 {
-    *answer = match seen_at(alloc, job, resolution) {
-        Ok(dpi) => preview_answer(alloc, job, first, last, dpi),
+    *answer = match pages_between(first, last) {
+        Ok(choice) => preview_answer(alloc, job, resolution, choice, last),
         Err(failure) => Answer::of_failure(alloc, &failure, 0),
     };
 }
 
-/// The images of the pages from one number to another.
-fn preview_answer(alloc: Global, job: &[u8], first: u32, last: u32, dpi: Dpi) -> Answer
-    ensures told { AnswersAt dpi job.now (HasImages job.now first last dpi) result }
-    ensures missing { result.outcome ≡ 2 → LacksPagesAt dpi job.now first last result }
+/// The images of the pages that are asked for, of which this is the last, if they are asked for by their numbers.
+fn preview_answer(
+    alloc: Global,
+    job: &[u8],
+    resolution: u32,
+    choice: PageChoice,
+    last: u32,
+) -> Answer
+    ensures told { Answers resolution job.now (HasChosenImages job.now choice) result }
+    ensures missing { result.outcome ≡ 2 → LacksChosen resolution job.now choice last result }
+    ensures arguments { FailsBy (IsNoResolution resolution) (IsTooLong job.now) result.outcome }
 {
-    match pages_between(first, last) {
-        Ok(choice) => chosen_answer(alloc, job, choice, last, dpi),
+    match seen_at(alloc, job, resolution) {
+        Ok(dpi) => chosen_answer(alloc, job, choice, last, dpi),
         Err(failure) => Answer::of_failure(alloc, &failure, 0),
     }
 }
 
-/// The images of the pages that are asked for, of which this is the last, if they are asked for by their numbers.
+/// The same at a resolution.
 fn chosen_answer(alloc: Global, job: &[u8], choice: PageChoice, last: u32, dpi: Dpi) -> Answer
-    ensures told { AnswersAt dpi job.now (λ answer. AreImagesOf dpi job.now choice answer.made.now) result }
-    ensures missing { result.outcome ≡ 2 → LacksPage dpi job.now choice × IsLine (line_of NoSuchPage last) result.line.now }
+    ensures told { AnswersAt dpi job.now (HasChosenImages job.now choice dpi) result }
+    ensures missing { result.outcome ≡ 2 → LacksChosenAt dpi job.now choice last result }
 {
     match images(alloc, job, choice, dpi) {
         Ok(images) => Answer::of_bytes(images, dpi),
