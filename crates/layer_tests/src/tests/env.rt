@@ -236,7 +236,7 @@ const STEPS: [Step; 133] = [
     ),
     (Ask(Asking::Sides), Absent, 10_000, Some((STAY, 0, 4500))),
     (FillRectangle, Absent, 50_000, Some((STAY, 0, 4500))),
-    (FillRectangle, Absent, 20_000, Some((REFUSED, 0, 4500))),
+    (FillRectangle, Absent, 20_000, Some((STAY, 0, 4500))),
     (RasterPresentation, Absent, 30_000, Some((STAY, 0, 4500))),
     (RasterPresentation, Absent, 10_000, Some((REFUSED, 0, 4500))),
     (StartRaster, Absent, 10_000, Some((STAY, 0, 4500))),
@@ -306,7 +306,7 @@ fn askings(rt: HostRuntime) {
 }
 
 // The greatest number that each command takes, and the next one.
-const GREATEST_NUMBERS: [(Operation, u32, u32); 12] = [
+const GREATEST_NUMBERS: [(Operation, u32, u32); 11] = [
     (Copies, 99, 100),
     (LineSpacing, 48, 49),
     (PerforationSkip, 1, 2),
@@ -314,7 +314,6 @@ const GREATEST_NUMBERS: [(Operation, u32, u32); 12] = [
     (LineTermination, 3, 4),
     (CursorStack, 1, 2),
     (MacroId, 32_767, 32_768),
-    (ControlMacros, 10, 11),
     (FontId, 32_767, 32_768),
     (CharacterCode, 255, 256),
     (RasterResolution, 300, 600),
