@@ -10,7 +10,7 @@ ghost use Rattle.pcl_cert.specs.RowTables.{numbers_from};
 ghost use Rattle.pcl_cert.specs.ReadingCertificates.{Gives, contents_of, sized, table_at, list_at, lists_at, places_at, proof_at, proofs_at, certificate_at, behind};
 
 use crate::fault::CertFault;
-use crate::fields::{format_at, uint_at, row_numbers_at, word_at};
+use crate::fields::{format_at, row_numbers_at, uint_at, word_at};
 use crate::format::Format;
 use crate::page_proof::PageProof;
 use crate::tables::{Bytes, RowTables, word};

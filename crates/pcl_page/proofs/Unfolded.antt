@@ -252,7 +252,8 @@ left_grows dpi (Some settings) = stays_there
 runs_grow : (levels : ℕ) (dpi : Dpi) (all : List Said) (command : Said) (run : Run) → Grows (runs levels dpi all command run)
 runs_grow zero dpi all command run = stays_there
 runs_grow (suc levels) dpi all command run = λ s.
-    then_grows (in_order (step dpi (runs levels dpi all)) run.next (commands_left all run) s) s (λ later. done (macro_ended dpi run.saved later))
+    then_grows (in_order (step dpi (runs levels dpi all)) run.next (commands_left all run) s) s
+    (λ later. done (macro_ended dpi run.saved later))
     (order_grows dpi (runs levels dpi all) run.next (commands_left all run) (runs_grow levels dpi all) s) (left_grows dpi run.saved)
 
 pub all_grow : (dpi : Dpi) (all : List Said) (place : ℕ) (commands : List Said)

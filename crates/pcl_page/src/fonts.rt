@@ -44,7 +44,8 @@ impl<'a> Performer<'a> {
     /// Does what a font control says to the font and the character that are meant. A number that says nothing is refused.
     pub fn control_fonts(&mut self, value: Value) -> Result<(), CallFault>
         ensures { (dpi : Dpi) (s : Situation) → IsIn dpi s self.old
-            → Draws dpi (if is_some (control_of value) then None else Some UnsupportedValue) (fonts_controlled (control_of value) s) result self.new }
+            → Draws dpi (if is_some (control_of value) then None else Some UnsupportedValue) (fonts_controlled (control_of value) s)
+            result self.new }
     {
         let Some(what) = control_of(value) else {
             return Err(CallFault::Refused(Kind::UnsupportedValue));

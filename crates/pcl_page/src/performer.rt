@@ -248,7 +248,8 @@ impl<'a> Performer<'a> {
     /// Fills a rectangle. A number that names no ink is refused.
     fn fill_rectangle(&mut self, value: Value, dpi: Dpi) -> Result<(), CallFault>
         ensures { (s : Situation) → IsIn dpi s self.old
-            → Draws dpi (if is_some (ink_of value) then None else Some UnsupportedValue) (filled_with dpi (ink_of value) s) result self.new }
+            → Draws dpi (if is_some (ink_of value) then None else Some UnsupportedValue) (filled_with dpi (ink_of value) s)
+            result self.new }
     {
         let Some(ink) = ink_of(value) else {
             return Err(CallFault::Refused(Kind::UnsupportedValue));

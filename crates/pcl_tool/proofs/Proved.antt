@@ -90,7 +90,8 @@ gathered {dpi} (sheet ∷ sheets) {old} h =
       print = (t.text, rest.texts, (h.0, h.2, t.written), refl, rest.print);
       proofs = t.proof ∷ rest.proofs;
       behind = λ before few is.
-          let one = t.certificate before (omega arith) is ∙ ap (λ (f : Format). certificate_bytes f (before ++ t.proof ∷ [])) (sym t.format) in
+          let one = t.certificate before (omega arith) is
+          ∙ ap (λ (f : Format). certificate_bytes f (before ++ t.proof ∷ [])) (sym t.format) in
           rest.behind (before ++ t.proof ∷ []) (omega (arith, length-append before (t.proof ∷ []))) one
           ∙ ap (λ (f : Format). certificate_bytes f ((before ++ t.proof ∷ []) ++ rest.proofs)) t.format
           ∙ ap (certificate_bytes old.format) (append_assoc before (t.proof ∷ []) rest.proofs);

@@ -21,7 +21,8 @@ pub record IsFirstBadInRow (page : Page) (lists : List (List ℕ)) (row : ℕ) (
   pub place_within : bad.place ≤ page_row_bytes page.size page.dpi
   pub is_bad : IsGoodInTables page lists bad.row bad.method bad.place → ⊥
   pub first : (method : Method) (place : ℕ) → place ≤ page_row_bytes page.size page.dpi
-      → (method_code method < method_code bad.method) ⊎ ((method ≡ bad.method) × (place < bad.place)) → IsGoodInTables page lists row method place
+      → (method_code method < method_code bad.method) ⊎ ((method ≡ bad.method) × (place < bad.place))
+      → IsGoodInTables page lists row method place
 
 -- the first bad place of a row in the methods whose codes are below one, or none
 abbrev pub FindsBadBelow : Page → List (List ℕ) → ℕ → ℕ → Option BadPlace → Type 0

@@ -30,7 +30,11 @@ returns-in_err-write_frame g c =
 pub returns-in_err-certified : goal.returns-in_err-certified
 returns-in_err-certified g c =
     let p = err_from_is_err_and c.from_residual-in_err-certified.result c.from_residual-in_err-certified.ensures.1 in
-    let begun : SoFar = record { format = c.args.format; bytes = c.write_frame.new.out.items; certificate = c.write_certificate.new.out.items } in
+    let begun : SoFar = record {
+      format = c.args.format;
+      bytes = c.write_frame.new.out.items;
+      certificate = c.write_certificate.new.out.items;
+    } in
     rw (p.1, p.2) (not_taken TakesProved c.args.dpi c.args.job.now begun c.in_err-certified.field-0.0 c.in_err-certified.ensures)
 
 pub returns-in_err-write_frame-2 : goal.returns-in_err-write_frame-2

@@ -27,7 +27,8 @@ add_proof-requires-clause-fits c =
     let is = plan_proves c.self.inside.format c.args.page.now a.0 c.in_ok-least.least proof c.in_ok-least.ensures a.2 c.in_ok-places.ensures
     long c.into_table.ensures in (
       c.args.page.now.dpi,
-      subst (FitsFormat c.args.page.now.dpi c.self.inside.format) (sym (proof_said c.self.inside.format is.can_be_said)) is.can_be_said.fits,
+      subst (FitsFormat c.args.page.now.dpi c.self.inside.format) (sym (proof_said c.self.inside.format is.can_be_said))
+          is.can_be_said.fits,
     )
 
 pub returns-in-Ok-clause-taken : goal.returns-in-Ok-clause-taken
