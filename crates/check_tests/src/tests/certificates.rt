@@ -2,7 +2,7 @@ use super::assert_gives;
 use pcl_base::{Dpi, Method, Size};
 use pcl_bitmap::{Bitmap, Ink, Page};
 use pcl_cert::{
-    CertFault, Format, PageProof, Verdict, check_page, read_certificate, row_tables,
+    CertFault, Format, PageProof, Verdict, add_proof, check_page, read_certificate, row_tables,
     write_certificate,
 };
 use std::alloc::{AllocError, Global};
@@ -169,5 +169,22 @@ fn written_again(rt: HostRuntime) -> Result<(), AllocError> {
     let mut again = Vec::new(rt.alloc());
     write_certificate(&proofs, format, &mut again)?;
     assert_gives(&rt, &"again", &again.as_slice(), &bytes.as_slice());
+    Ok(())
+}
+
+// A page that is added to a certificate of none.
+#[test]
+fn page_added(rt: HostRuntime) -> Result<(), AllocError> {
+    let bytes = dot_certificate(rt.alloc(), Format::Two)?;
+    let Ok((format, proofs)) = read_certificate(rt.alloc(), &bytes, Dpi::Dpi300) else {
+        rt.abort();
+    };
+    let Some(proof) = proofs.first() else {
+        rt.abort();
+    };
+    let mut grown = Vec::new(rt.alloc());
+    write_certificate(&[], format, &mut grown)?;
+    add_proof(proof, format, &mut grown)?;
+    assert_gives(&rt, &"grown", &grown.as_slice(), &bytes.as_slice());
     Ok(())
 }
