@@ -13,9 +13,6 @@ const MACRO_BYTES: usize = 50;
 /// The bytes around the data of a row, `ESC*b#W`.
 const ROW_BYTES: usize = 5;
 
-/// About as many bytes a row of a shape has beside its data in the raster of a page, since other shapes share the row.
-const SHARED_ROW_BYTES: usize = 4;
-
 /// How letters are printed.
 #[derive(Clone, Copy, Debug, PartialEq, Eq)]
 pub enum Form {
@@ -42,11 +39,11 @@ impl Form {
         }
     }
 
-    /// About how many bytes each letter takes: one for the code and one for the way to it, or a number and two letters.
-    pub fn letter_bytes(self) -> usize {
+    /// About how many bytes each letter takes: one for the code and two for the way to it, or those that run a macro.
+    fn letter_bytes(self) -> usize {
         match self {
-            Form::Characters => 2,
-            Form::Macros => 6,
+            Form::Characters => 3,
+            Form::Macros => 5,
         }
     }
 
@@ -63,16 +60,10 @@ impl Form {
         }
     }
 
-    /// About how many bytes the dots of a pattern take in the raster of a page, each time that they stand in it.
-    pub fn raster_bytes(self, pattern: &Pattern) -> usize {
-        let changes = pattern.changes();
-        let row_bytes = match self {
-            Form::Characters => 1,
-            Form::Macros => SHARED_ROW_BYTES,
-        };
-        changes
-            .rows
-            .saturating_mul(row_bytes)
-            .saturating_add(changes.bytes)
+    /// About how many bytes so many letters of a pattern take, with what prints it.
+    pub fn bytes_of_letters(self, pattern: &Pattern, count: usize) -> usize {
+        count
+            .saturating_mul(self.letter_bytes())
+            .saturating_add(self.definition_bytes(pattern))
     }
 }

@@ -4,6 +4,7 @@ use crate::collecting::Collection;
 use crate::definitions::append_definitions;
 use crate::fonts::append_fonts;
 use crate::forms::Form;
+use crate::joining::join_shapes;
 use crate::layout::{Layout, lay_out};
 use crate::macro_layout::{MacroLayout, lay_out_macros};
 use crate::macro_writing::MacroWriter;
@@ -21,6 +22,8 @@ pub enum Lettering {
 impl Lettering {
     /// The letters of pages that were collected.
     pub fn new(alloc: Global, collection: Collection) -> Result<Lettering, AllocError> {
+        let mut collection = collection;
+        join_shapes(alloc, &mut collection)?;
         match collection.form {
             Form::Characters => Ok(Lettering::Characters(lay_out(alloc, collection)?)),
             Form::Macros => Ok(Lettering::Macros(lay_out_macros(alloc, collection)?)),

@@ -1,6 +1,7 @@
 //! The shapes that are printed as letters.
 
 use crate::collecting::{Collection, Item};
+use crate::frequency::find_frequency;
 use crate::patterns::Pattern;
 use indexmap::{IndexMap, IndexSet};
 use std::alloc::{AllocError, Global};
@@ -78,15 +79,14 @@ impl Letters {
 pub fn find_letters(alloc: Global, collection: &Collection) -> Result<Letters, AllocError> {
     let stands = count_stands(alloc, &collection.items)?;
     let tops = usual_tops(alloc, collection, &stands)?;
-    let are_frequent = find_frequent(alloc, collection)?;
+    let frequency = find_frequency(alloc, collection)?;
     let mut glyphs = IndexSet::new(alloc);
     let mut letters = Vec::new(alloc);
     for item in collection.items.iter() {
         let glyph = glyph_of(collection, item, &stands, &tops);
         let baseline = item.top.saturating_add(glyph.top);
         let height = collection.heights.get(item.page).copied().unwrap_or(0);
-        let is_frequent = are_frequent.get(item.pattern).copied().unwrap_or(false);
-        if is_frequent && baseline <= height {
+        if frequency.is_letter(item.pattern) && baseline <= height {
             let (glyph, _) = glyphs.insert_full(glyph)?;
             letters.push(letter_of(item, baseline, glyph))?;
         }
@@ -133,25 +133,6 @@ fn glyph_of(
         pattern: item.pattern,
         top: tops.get(item.pattern).copied().unwrap_or(0),
     }
-}
-
-/// For each pattern, whether it takes fewer bytes as letters for all its shapes than they take in rasters.
-fn find_frequent(alloc: Global, collection: &Collection) -> Result<Vec<bool>, AllocError> {
-    let mut uses = vec![in alloc; 0usize; collection.patterns.len()]?;
-    for item in collection.items.iter() {
-        if let Some(count) = uses.get_mut(item.pattern) {
-            *count = count.saturating_add(1);
-        }
-    }
-    let form = collection.form;
-    let mut are_frequent = Vec::new(alloc);
-    for (pattern, uses) in collection.patterns.iter().zip(uses.iter()) {
-        let saved = form
-            .raster_bytes(pattern)
-            .saturating_sub(form.letter_bytes());
-        are_frequent.push(uses.saturating_mul(saved) > form.definition_bytes(pattern))?;
-    }
-    Ok(are_frequent)
 }
 
 /// How often shapes of a pattern stand in a way.

@@ -148,7 +148,7 @@ fn pair_of(step: Step, count: u32, next: Option<(&Step, &u32)>) -> Pair {
 }
 
 /// The quotient, rounded down, or 0 where the divisor isn't above 0.
-fn quotient(dividend: i64, divisor: i64) -> i64 {
+pub fn quotient(dividend: i64, divisor: i64) -> i64 {
     if divisor > 0 {
         dividend.div_euclid(divisor)
     } else {
@@ -212,9 +212,9 @@ impl Fit {
     }
 }
 
-/// The number of a glyph.
-fn number_of(numbers: &[i64], glyph: usize) -> i64 {
-    numbers.get(glyph).copied().unwrap_or(0)
+/// The number in a place.
+pub fn number_of(numbers: &[i64], place: usize) -> i64 {
+    numbers.get(place).copied().unwrap_or(0)
 }
 
 /// What a pair says of a glyph. Their order is that of glyphs, and of values.
@@ -269,9 +269,9 @@ fn means(alloc: Global, pairs: &[Pair], fit: &Fit, side: Side) -> Result<Vec<i64
     Ok(found)
 }
 
-/// Adds to the number of a glyph.
-fn add(numbers: &mut [i64], glyph: usize, more: i64) {
-    if let Some(number) = numbers.get_mut(glyph) {
+/// Adds to the number in a place.
+pub fn add(numbers: &mut [i64], place: usize, more: i64) {
+    if let Some(number) = numbers.get_mut(place) {
         *number = number.saturating_add(more);
     }
 }

@@ -4,6 +4,7 @@ ghost use Rattle.std.specs.Prelude.{◌≤◌};
 
 use crate::runs::Run;
 use crate::shapes::{Extent, Shapes};
+use crate::stamping::{Ink, stamp};
 use std::alloc::{AllocError, Global};
 
 /// The largest width and height of a shape that may become a glyph, in dots at 300 per inch.
@@ -44,6 +45,27 @@ impl Pattern {
         })
     }
 
+    /// A white pattern of these sides, in dots. Where one of them is longer than a shape's may be, it has no rows.
+    pub fn white(
+        alloc: Global,
+        width: u32,
+        height: u32,
+        scale: u32,
+    ) -> Result<Pattern, AllocError> {
+        let extent = Extent {
+            left: 0,
+            top: 0,
+            right: width,
+            bottom: height,
+        };
+        Pattern::blank(
+            alloc,
+            extent,
+            SIDE_LIMIT.saturating_mul(scale),
+            PAGE_BYTES_LIMIT,
+        )
+    }
+
     /// How many bytes a row has: one at least.
     pub fn row_bytes(&self) -> usize
         ensures { 1 ≤ result }
@@ -67,6 +89,12 @@ impl Pattern {
         }
     }
 
+    /// Makes the dots of another pattern black, whose left upper dot is so far right and down in this one.
+    pub fn blacken_with(&mut self, other: &Pattern, right: u32, down: u32) {
+        let row_bytes = self.row_bytes();
+        stamp(&mut self.rows, row_bytes, right, down, other, Ink::Black);
+    }
+
     /// The rows and bytes that aren't those of the row above.
     pub fn changes(&self) -> Changes {
         let mut changes = Changes { rows: 0, bytes: 0 };
@@ -76,6 +104,13 @@ impl Pattern {
             above = row;
         }
         changes
+    }
+
+    /// The rows and bytes that aren't those of the row above, with the white row below.
+    pub fn changes_in_raster(&self) -> Changes {
+        let start = self.rows.len().saturating_sub(self.row_bytes());
+        let last = self.rows.get(start..).unwrap_or(&[]);
+        self.changes().with(changed_bytes(&[], last))
     }
 }
 

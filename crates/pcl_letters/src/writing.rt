@@ -1,12 +1,13 @@
 //! Pages written as rasters and text.
 
-ghost use Rattle.std.specs.Prelude.{◌≡◌, ◌<◌};
+ghost use Rattle.std.specs.Prelude.{◌≡◌};
 ghost use Rattle.pcl_bitmap.specs.Bitmap.{IsPicture};
 
 use crate::layout::Layout;
 use crate::letters::{Letter, Letters};
 use crate::patterns::Pattern;
 use crate::pen::{Pen, append_text};
+use crate::stamping::{Ink, stamp};
 use indexmap::IndexSet;
 use pcl_bitmap::{Bitmap, Page};
 use pcl_plan::plan;
@@ -112,7 +113,7 @@ fn page_without(
     for letter in letters {
         if let Some(pattern) = found.pattern_of(patterns, letter.glyph) {
             let top = letter.baseline.saturating_sub(found.top_of(letter.glyph));
-            erase(&mut bytes, row_bytes, letter.x, top, pattern);
+            stamp(&mut bytes, row_bytes, letter.x, top, pattern, Ink::White);
         }
     }
     let mut bitmap = Bitmap::new(alloc, page.size, page.dpi)?;
@@ -137,34 +138,5 @@ fn paint(bytes: &[u8], row_bytes: usize, bitmap: &mut Bitmap)
         let bits = u32::try_from(row.len()).map_or(0, |bytes| bytes.saturating_mul(8));
         bitmap.paint_row(0, y, 1, page_width.min(bits), row);
         y = y.saturating_add(1);
-    }
-}
-
-/// Makes the dots of a pattern white, whose left upper dot is `(x, top)`.
-fn erase(bytes: &mut [u8], row_bytes: usize, x: u32, top: u32, pattern: &Pattern) {
-    let mut start = (top as usize).saturating_mul(row_bytes);
-    for row in pattern.rows.chunks(pattern.row_bytes()) {
-        erase_row(bytes, start.saturating_add(x as usize / 8), x % 8, row);
-        start = start.saturating_add(row_bytes);
-    }
-}
-
-/// Makes the dots of a row of a pattern white, from a bit of the byte in this place on.
-fn erase_row(bytes: &mut [u8], place: usize, bit: u32, row: &[u8])
-    requires { bit < 8 }
-{
-    let mut place = place;
-    for dots in row {
-        let [left, right] = (u16::from(*dots) << (8 - bit)).to_be_bytes();
-        clear(bytes, place, left);
-        place = place.saturating_add(1);
-        clear(bytes, place, right);
-    }
-}
-
-/// Clears these bits of the byte in a place.
-fn clear(bytes: &mut [u8], place: usize, bits: u8) {
-    if let Some(byte) = bytes.get_mut(place) {
-        *byte &= !bits;
     }
 }

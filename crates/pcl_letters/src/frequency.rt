@@ -1,0 +1,201 @@
+//! Which patterns take fewer bytes as letters than in the rasters of their pages.
+//!
+//! What shapes take in a row depends on what else is in it: they share the bytes around its data, and many small ones share each byte of
+//! these. So each row is taken to cost what its data take, and each shape its part of that. A row from which letters went costs those
+//! that are left more, which is why patterns are looked at in rounds.
+
+use crate::collecting::{Collection, Item};
+use crate::metrics::{add, number_of, quotient};
+use crate::patterns::Pattern;
+use crate::rows::Row;
+use std::alloc::{AllocError, Global};
+
+/// Parts of a byte.
+const FINE: i64 = 256;
+
+/// The bytes around the data of a row, `ESC*b#W`.
+const ROW_BYTES: i64 = 5;
+
+/// How often all patterns are looked at.
+const ROUNDS: u32 = 4;
+
+/// What the shapes of each pattern take.
+#[derive(Drop)]
+pub struct Frequency {
+    /// For each pattern, whether all its shapes take fewer bytes as letters than in rasters.
+    are_letters: Vec<bool>,
+    /// For each pattern, about how many bytes its shapes take in rasters, in fine parts, unless they are letters.
+    costs: Vec<i64>,
+}
+
+impl Frequency {
+    /// Whether the shapes of a pattern are letters. Those of a pattern that came later are.
+    pub fn is_letter(&self, pattern: usize) -> bool {
+        self.are_letters.get(pattern).copied().unwrap_or(true)
+    }
+
+    /// About how many bytes so many of all shapes of a pattern take in rasters, which are no letters.
+    pub fn raster_bytes(&self, pattern: usize, count: usize, all: usize) -> usize {
+        let count = i64::try_from(count).unwrap_or(0);
+        let all = i64::try_from(all).unwrap_or(0);
+        let cost = number_of(&self.costs, pattern).saturating_mul(count);
+        usize::try_from(quotient(cost, all.saturating_mul(FINE))).unwrap_or(0)
+    }
+}
+
+/// What the shapes of each pattern take.
+pub fn find_frequency(alloc: Global, collection: &Collection) -> Result<Frequency, AllocError> {
+    let uses = count_uses(alloc, collection)?;
+    let weights = find_weights(alloc, collection)?;
+    let mut frequency = Frequency {
+        are_letters: vec![in alloc; false; uses.len()]?,
+        costs: vec![in alloc; 0i64; uses.len()]?,
+    };
+    for _ in 0..ROUNDS {
+        let changes = weight_changes(alloc, collection, &weights, &frequency)?;
+        let sums = sum_parts(alloc, &collection.rows, &changes)?;
+        frequency.costs = raster_costs(alloc, collection, &weights, &frequency, &sums)?;
+        frequency.are_letters = find_cheaper(alloc, collection, &uses, &frequency)?;
+    }
+    Ok(frequency)
+}
+
+/// How many shapes each pattern has.
+pub fn count_uses(alloc: Global, collection: &Collection) -> Result<Vec<usize>, AllocError> {
+    let mut uses = vec![in alloc; 0usize; collection.patterns.len()]?;
+    for item in collection.items.iter() {
+        if let Some(count) = uses.get_mut(item.pattern) {
+            *count = count.saturating_add(1);
+        }
+    }
+    Ok(uses)
+}
+
+/// For each pattern, about how many bytes it takes in each of its rows by itself, in fine parts.
+fn find_weights(alloc: Global, collection: &Collection) -> Result<Vec<i64>, AllocError> {
+    let mut weights = Vec::new(alloc);
+    for pattern in collection.patterns.iter() {
+        weights.push(weight_of(pattern))?;
+    }
+    Ok(weights)
+}
+
+/// About how many bytes a pattern takes in each of its rows by itself, in fine parts: those that differ from the row above and one more,
+/// in each row that isn't the one above, where a white row follows below.
+fn weight_of(pattern: &Pattern) -> i64 {
+    let changes = pattern.changes_in_raster();
+    let bytes = changes.rows.saturating_add(changes.bytes);
+    let bytes = i64::try_from(bytes).unwrap_or(0);
+    quotient(bytes.saturating_mul(FINE), i64::from(row_count(pattern)))
+}
+
+/// How many rows a pattern is in: its own, and the one below them, which has dots no longer.
+fn row_count(pattern: &Pattern) -> u32 {
+    pattern.height.saturating_add(1)
+}
+
+/// The rows that a shape is in, of the rows of all pages in turn.
+#[derive(Clone, Copy)]
+struct Span {
+    start: usize,
+    /// The row past the last one.
+    end: usize,
+}
+
+impl Span {
+    /// The rows that a shape is in.
+    fn of(collection: &Collection, item: &Item) -> Span {
+        let first = collection.starts.get(item.page).copied().unwrap_or(0);
+        let start = first.saturating_add(item.top as usize);
+        let count = collection
+            .patterns
+            .get_index(item.pattern)
+            .map_or(0, |pattern| row_count(pattern));
+        Span {
+            start,
+            end: start.saturating_add(count as usize),
+        }
+    }
+}
+
+/// By how much the weights of the shapes that are in rasters are more in a row together than in the row before it.
+fn weight_changes(
+    alloc: Global,
+    collection: &Collection,
+    weights: &[i64],
+    frequency: &Frequency,
+) -> Result<Vec<i64>, AllocError> {
+    let mut changes = vec![in alloc; 0i64; collection.rows.len().saturating_add(1)]?;
+    for item in collection.items.iter() {
+        if !frequency.is_letter(item.pattern) {
+            let weight = number_of(weights, item.pattern);
+            let span = Span::of(collection, item);
+            add(&mut changes, span.start, weight);
+            add(&mut changes, span.end, 0i64.saturating_sub(weight));
+        }
+    }
+    Ok(changes)
+}
+
+/// What a byte of weight costs in all rows before each one together, in fine parts.
+fn sum_parts(alloc: Global, rows: &[Row], changes: &[i64]) -> Result<Vec<i64>, AllocError> {
+    let mut sums = Vec::new(alloc);
+    let mut weight: i64 = 0;
+    let mut sum: i64 = 0;
+    for (row, change) in rows.iter().zip(changes.iter()) {
+        sums.push(sum)?;
+        weight = weight.saturating_add(*change);
+        sum = sum.saturating_add(part_of(row, weight));
+    }
+    sums.push(sum)?;
+    Ok(sums)
+}
+
+/// What a byte of weight costs in a row, in fine parts, where the shapes that may be letters have so much weight in it, which is in fine
+/// parts too.
+fn part_of(row: &Row, weight: i64) -> i64 {
+    let others = i64::try_from(row.others).unwrap_or(0);
+    let bytes = i64::try_from(row.bytes).unwrap_or(0);
+    let weight = weight.saturating_add(others.saturating_mul(FINE));
+    let data = weight.min(bytes.saturating_mul(FINE));
+    let cost = data.saturating_add(ROW_BYTES.saturating_mul(FINE));
+    quotient(cost.saturating_mul(FINE), weight)
+}
+
+/// For each pattern, about how many bytes its shapes take in rasters, in fine parts.
+fn raster_costs(
+    alloc: Global,
+    collection: &Collection,
+    weights: &[i64],
+    frequency: &Frequency,
+    sums: &[i64],
+) -> Result<Vec<i64>, AllocError> {
+    let mut costs = vec![in alloc; 0i64; weights.len()]?;
+    for item in collection.items.iter() {
+        if !frequency.is_letter(item.pattern) {
+            let span = Span::of(collection, item);
+            let parts = number_of(sums, span.end).saturating_sub(number_of(sums, span.start));
+            let cost = parts.saturating_mul(number_of(weights, item.pattern));
+            add(&mut costs, item.pattern, quotient(cost, FINE));
+        }
+    }
+    Ok(costs)
+}
+
+/// For each pattern, whether its shapes are letters already, or take fewer bytes so.
+fn find_cheaper(
+    alloc: Global,
+    collection: &Collection,
+    uses: &[usize],
+    frequency: &Frequency,
+) -> Result<Vec<bool>, AllocError> {
+    let mut are_letters = Vec::new(alloc);
+    for (place, pattern) in collection.patterns.iter().enumerate() {
+        let count = uses.get(place).copied().unwrap_or(0);
+        let bytes = collection.form.bytes_of_letters(pattern, count);
+        let bytes = i64::try_from(bytes).unwrap_or(i64::MAX);
+        let is_cheaper = bytes.saturating_mul(FINE) < number_of(&frequency.costs, place);
+        are_letters.push(is_cheaper || frequency.is_letter(place))?;
+    }
+    Ok(are_letters)
+}

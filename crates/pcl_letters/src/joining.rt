@@ -1,0 +1,278 @@
+//! Shapes that stand above each other on a line, as the dot and the stem of an i do, joined to one where that takes fewer bytes.
+
+use crate::collecting::{Collection, Item};
+use crate::forms::Form;
+use crate::frequency::{Frequency, count_uses, find_frequency};
+use crate::patterns::Pattern;
+use indexmap::{IndexMap, IndexSet};
+use std::alloc::{AllocError, Global};
+
+/// How often shapes are joined two by two, in rounds: one of the last round has up to eight parts.
+const ROUNDS: u32 = 3;
+
+/// About how many bytes a letter takes that is joined to another: its code, and a part of the way to it; in macros less than the five
+/// that run one, since phrases join letters too.
+const CODE_BYTES: usize = 2;
+
+/// How many kinds of pairs are counted in a round, at most.
+const PAIR_LIMIT: usize = 65_536;
+
+/// Two patterns in turn on a line that have columns in common, and how they stand. The first one begins further left.
+#[derive(Clone, Copy, Debug, PartialEq, Eq, Hash)]
+struct Pair {
+    /// The number of the first pattern.
+    first: usize,
+    second: usize,
+    /// How far right of the first pattern's left edge that of the second lies, in dots.
+    right: u32,
+    /// How far below the topmost row of both that of the first lies, in dots.
+    first_down: u32,
+    second_down: u32,
+}
+
+/// What the patterns of a job take before some are joined.
+#[derive(Clone, Copy)]
+struct Apart<'a> {
+    frequency: &'a Frequency,
+    /// How many shapes each pattern has.
+    uses: &'a [usize],
+}
+
+/// Joins shapes that stand above each other on a line, where that takes fewer bytes.
+pub fn join_shapes(alloc: Global, collection: &mut Collection) -> Result<(), AllocError> {
+    let frequency = find_frequency(alloc, collection)?;
+    for _ in 0..ROUNDS {
+        collection.items.sort()?;
+        let pairs = find_pairs(alloc, collection, &frequency)?;
+        join(alloc, collection, &pairs)?;
+    }
+    Ok(())
+}
+
+/// The pairs that take fewer bytes as one, and how often each is joined.
+fn find_pairs(
+    alloc: Global,
+    collection: &Collection,
+    frequency: &Frequency,
+) -> Result<IndexMap<Pair, usize>, AllocError> {
+    let uses = count_uses(alloc, collection)?;
+    let apart = Apart {
+        frequency,
+        uses: &uses,
+    };
+    let pairs = count_pairs(alloc, collection)?;
+    let pairs = shorter_pairs(alloc, collection, apart, &pairs)?;
+    // A pair may overlap another that is more frequent: what counts is how often it would be joined.
+    let pairs = count_joined(alloc, collection, &pairs)?;
+    shorter_pairs(alloc, collection, apart, &pairs)
+}
+
+/// How often each pair is there.
+fn count_pairs(
+    alloc: Global,
+    collection: &Collection,
+) -> Result<IndexMap<Pair, usize>, AllocError> {
+    let mut counts = IndexMap::new(alloc);
+    for place in 0..collection.items.len() {
+        if let Some(pair) = two_at(collection, place) {
+            if counts.len() < PAIR_LIMIT || counts.contains_key(&pair) {
+                let count = counts.entry(pair)?.or_insert(0usize);
+                *count = count.saturating_add(1);
+            }
+        }
+    }
+    Ok(counts)
+}
+
+/// The pair of two shapes, the first of which begins no further right: none where they stand on two lines, or beside each other.
+fn pair_of(patterns: &IndexSet<Pattern>, first: &Item, second: &Item) -> Option<Pair> {
+    let width = patterns.get_index(first.pattern)?.width;
+    let right = second.x.checked_sub(first.x)?;
+    let is_on_line = first.page == second.page && first.baseline == second.baseline;
+    (is_on_line && right < width).then_some(Pair {
+        first: first.pattern,
+        second: second.pattern,
+        right,
+        first_down: first.top.saturating_sub(second.top),
+        second_down: second.top.saturating_sub(first.top),
+    })
+}
+
+/// Those of some pairs that take fewer bytes as one, where they are joined so often.
+fn shorter_pairs(
+    alloc: Global,
+    collection: &Collection,
+    apart: Apart<'_>,
+    counts: &IndexMap<Pair, usize>,
+) -> Result<IndexMap<Pair, usize>, AllocError> {
+    let mut kept = IndexMap::new(alloc);
+    for (pair, count) in counts.iter() {
+        if apart.is_longer(alloc, collection, *pair, *count)? {
+            kept.insert(*pair, *count)?;
+        }
+    }
+    Ok(kept)
+}
+
+impl<'a> Apart<'a> {
+    /// Whether a pair takes more bytes apart than it does where it is joined so often.
+    fn is_longer(
+        self,
+        alloc: Global,
+        collection: &Collection,
+        pair: Pair,
+        count: usize,
+    ) -> Result<bool, AllocError> {
+        let Some(joined) = draw_pair(alloc, collection, pair)? else {
+            return Ok(false);
+        };
+        let bytes = self.joined_bytes(collection.form, pair, &joined, count);
+        Ok(bytes < self.freed_by_pair(collection, pair, count))
+    }
+
+    /// About how many bytes a pair takes that is joined so often to this pattern.
+    fn joined_bytes(self, form: Form, pair: Pair, joined: &Pattern, count: usize) -> usize {
+        let is_letter = self.frequency.is_letter(pair.first)
+            || self.frequency.is_letter(pair.second);
+        if is_letter {
+            count
+                .saturating_mul(CODE_BYTES)
+                .saturating_add(form.definition_bytes(joined))
+        } else {
+            form.bytes_of_letters(joined, count)
+        }
+    }
+
+    /// About how many bytes fewer the patterns of a pair take where it is joined so often.
+    fn freed_by_pair(self, collection: &Collection, pair: Pair, count: usize) -> usize {
+        if pair.first == pair.second {
+            return self.freed(collection, pair.first, count.saturating_mul(2));
+        }
+        self.freed(collection, pair.first, count)
+            .saturating_add(self.freed(collection, pair.second, count))
+    }
+
+    /// About how many bytes fewer a pattern takes without so many of its shapes: what prints it isn't sent where none is left.
+    fn freed(self, collection: &Collection, pattern: usize, count: usize) -> usize {
+        let all = self.uses.get(pattern).copied().unwrap_or(0);
+        if !self.frequency.is_letter(pattern) {
+            return self.frequency.raster_bytes(pattern, count, all);
+        }
+        let definition = match collection.patterns.get_index(pattern) {
+            Some(pattern) if all <= count => collection.form.definition_bytes(pattern),
+            _ => 0,
+        };
+        definition.saturating_add(count.saturating_mul(CODE_BYTES))
+    }
+}
+
+/// The dots of a pair: none where a pattern would be too large.
+fn draw_pair(
+    alloc: Global,
+    collection: &Collection,
+    pair: Pair,
+) -> Result<Option<Pattern>, AllocError> {
+    let patterns = &collection.patterns;
+    let (Some(first), Some(second)) = (
+        patterns.get_index(pair.first),
+        patterns.get_index(pair.second),
+    ) else {
+        return Ok(None);
+    };
+    let width = first.width.max(second.width.saturating_add(pair.right));
+    let upper = first.height.saturating_add(pair.first_down);
+    let height = upper.max(second.height.saturating_add(pair.second_down));
+    let scale = collection.form.scale();
+    let mut joined = Pattern::white(alloc, width, height, scale)?;
+    joined.blacken_with(first, 0, pair.first_down);
+    joined.blacken_with(second, pair.right, pair.second_down);
+    Ok((!joined.rows.is_empty()).then_some(joined))
+}
+
+/// How often each of these pairs would be joined.
+fn count_joined(
+    alloc: Global,
+    collection: &Collection,
+    pairs: &IndexMap<Pair, usize>,
+) -> Result<IndexMap<Pair, usize>, AllocError> {
+    let mut counts = IndexMap::new(alloc);
+    let mut is_joined = false;
+    for place in 0..collection.items.len() {
+        if is_joined {
+            is_joined = false;
+        } else if let Some(pair) = pair_at(collection, place, pairs) {
+            let count = counts.entry(pair)?.or_insert(0usize);
+            *count = count.saturating_add(1);
+            is_joined = true;
+        }
+    }
+    Ok(counts)
+}
+
+/// The pair at a place, if it is to be joined: one of these, and no less frequent than the next one, which overlaps it.
+fn pair_at(collection: &Collection, place: usize, pairs: &IndexMap<Pair, usize>) -> Option<Pair> {
+    let pair = two_at(collection, place)?;
+    let count = *pairs.get(&pair)?;
+    let next = match two_at(collection, place.saturating_add(1)) {
+        Some(next) => pairs.get(&next).copied().unwrap_or(0),
+        None => 0,
+    };
+    (count >= next).then_some(pair)
+}
+
+/// The pair of the two shapes from a place on.
+fn two_at(collection: &Collection, place: usize) -> Option<Pair> {
+    let first = collection.items.get(place)?;
+    let second = collection.items.get(place.saturating_add(1))?;
+    pair_of(&collection.patterns, first, second)
+}
+
+/// Joins these pairs.
+fn join(
+    alloc: Global,
+    collection: &mut Collection,
+    pairs: &IndexMap<Pair, usize>,
+) -> Result<(), AllocError> {
+    let mut numbers = IndexMap::new(alloc);
+    for pair in pairs.keys() {
+        if let Some(pattern) = draw_pair(alloc, collection, *pair)? {
+            let (number, _) = collection.patterns.insert_full(pattern)?;
+            numbers.insert(*pair, number)?;
+        }
+    }
+    collection.items = joined_items(alloc, collection, pairs, &numbers)?;
+    Ok(())
+}
+
+/// The shapes where these pairs are joined to patterns of these numbers.
+fn joined_items(
+    alloc: Global,
+    collection: &Collection,
+    pairs: &IndexMap<Pair, usize>,
+    numbers: &IndexMap<Pair, usize>,
+) -> Result<Vec<Item>, AllocError> {
+    let mut items = Vec::new(alloc);
+    let mut is_joined = false;
+    for (place, item) in collection.items.iter().enumerate() {
+        if is_joined {
+            is_joined = false;
+        } else if let Some(pair) = pair_at(collection, place, pairs) {
+            items.push(joined_item(item, pair, numbers))?;
+            is_joined = true;
+        } else {
+            items.push(*item)?;
+        }
+    }
+    Ok(items)
+}
+
+/// The shape that a pair becomes, whose first shape this is.
+fn joined_item(first: &Item, pair: Pair, numbers: &IndexMap<Pair, usize>) -> Item {
+    Item {
+        page: first.page,
+        baseline: first.baseline,
+        x: first.x,
+        top: first.top.saturating_sub(pair.first_down),
+        pattern: numbers.get(&pair).copied().unwrap_or(first.pattern),
+    }
+}
