@@ -6,10 +6,6 @@ use crate::patterns::Pattern;
 use indexmap::{IndexMap, IndexSet};
 use std::alloc::{AllocError, Global};
 
-/// A glyph that stands elsewhere on its line than is usual for its pattern is one of its own where it saves so many bytes each
-/// time: those of a cursor move to a line of its own.
-const LINE_START_BYTES: usize = 8;
-
 /// A pattern, and where it stands on a line.
 #[derive(Clone, Copy, Debug, PartialEq, Eq, Hash)]
 pub struct Glyph {
@@ -77,17 +73,17 @@ impl Letters {
 
 /// The letters of a job: the shapes of patterns that are so frequent that they take fewer bytes so.
 pub fn find_letters(alloc: Global, collection: &Collection) -> Result<Letters, AllocError> {
-    let stands = count_stands(alloc, &collection.items)?;
-    let tops = usual_tops(alloc, collection, &stands)?;
+    let tops = usual_tops(alloc, collection)?;
     let frequency = find_frequency(alloc, collection)?;
     let mut glyphs = IndexSet::new(alloc);
     let mut letters = Vec::new(alloc);
     for item in collection.items.iter() {
-        let glyph = glyph_of(collection, item, &stands, &tops);
-        let baseline = item.top.saturating_add(glyph.top);
+        let pattern = item.pattern;
+        let top = tops.get(pattern).copied().unwrap_or(0);
+        let baseline = item.top.saturating_add(top);
         let height = collection.heights.get(item.page).copied().unwrap_or(0);
-        if frequency.is_letter(item.pattern) && baseline <= height {
-            let (glyph, _) = glyphs.insert_full(glyph)?;
+        if frequency.is_letter(pattern) && baseline <= height {
+            let (glyph, _) = glyphs.insert_full(Glyph { pattern, top })?;
             letters.push(letter_of(item, baseline, glyph))?;
         }
     }
@@ -113,28 +109,6 @@ fn stand_of(item: &Item) -> Glyph {
     }
 }
 
-/// The glyph that a shape becomes: as it seems to stand, where that is frequent, or else as its pattern mostly does.
-fn glyph_of(
-    collection: &Collection,
-    item: &Item,
-    stands: &IndexMap<Glyph, usize>,
-    tops: &[u32],
-) -> Glyph {
-    let stand = stand_of(item);
-    let count = stands.get(&stand).copied().unwrap_or(0);
-    let bytes = match collection.patterns.get_index(item.pattern) {
-        Some(pattern) => collection.form.definition_bytes(pattern),
-        None => usize::MAX,
-    };
-    if count.saturating_mul(LINE_START_BYTES) > bytes {
-        return stand;
-    }
-    Glyph {
-        pattern: item.pattern,
-        top: tops.get(item.pattern).copied().unwrap_or(0),
-    }
-}
-
 /// How often shapes of a pattern stand in a way.
 #[derive(Clone, Copy)]
 struct Usual {
@@ -143,11 +117,8 @@ struct Usual {
 }
 
 /// For each pattern, how far its topmost row mostly lies above the row on which it seems to stand.
-fn usual_tops(
-    alloc: Global,
-    collection: &Collection,
-    stands: &IndexMap<Glyph, usize>,
-) -> Result<Vec<u32>, AllocError> {
+fn usual_tops(alloc: Global, collection: &Collection) -> Result<Vec<u32>, AllocError> {
+    let stands = count_stands(alloc, &collection.items)?;
     let nothing = Usual { top: 0, count: 0 };
     let mut usual = vec![in alloc; nothing; collection.patterns.len()]?;
     for (stand, count) in stands.iter() {

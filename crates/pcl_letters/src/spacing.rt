@@ -10,11 +10,11 @@ use std::alloc::{AllocError, Global};
 const USUAL_PART: u32 = 20;
 
 /// How many gaps are made by blanks, at most.
-const BLANK_LIMIT: usize = 20;
+const BLANK_LIMIT: usize = 30;
 
 /// A gap that is as frequent as this is made by a blank: a blank takes some 31 bytes in each font, and a cursor move
 /// five bytes more than a blank.
-const BLANK_USES: u32 = 12;
+const BLANK_USES: u32 = 8;
 
 /// A glyph with an advance.
 #[derive(Clone, Copy, Debug, PartialEq, Eq, Hash)]
