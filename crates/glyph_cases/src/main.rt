@@ -36,8 +36,8 @@ struct Case {
     leading: u32,
     /// So many dots each letter stands further right, in turn.
     shifts: &'static [u32],
-    /// Whether a dot stands above each letter.
-    dotted: bool,
+    /// A dot stands above each of so many letters, from the first on; none for 0.
+    dots: u32,
 }
 
 /// A line of letters in the middle of a page, which the cases change.
@@ -56,7 +56,7 @@ const LINE: Case = Case {
     step: 24,
     leading: 40,
     shifts: &[0],
-    dotted: false,
+    dots: 0,
 };
 
 /// The same at 600 dots per inch, at odd places.
@@ -69,7 +69,7 @@ const FINE_LINE: Case = Case {
     ..LINE
 };
 
-const CASES: [Case; 39] = [
+const CASES: [Case; 41] = [
     LINE,
     Case {
         name: "one letter",
@@ -83,9 +83,18 @@ const CASES: [Case; 39] = [
     },
     Case {
         name: "a dot above each letter",
-        dotted: true,
+        dots: 1,
         ..LINE
     },
+    // A letter and the dot above it are one character of 17 rows, the other letters one of nine: 2 for the reset, 79 for the font, 45
+    // and 37 for its characters, 37 for the white raster, 8 for the selection, six lines of 11 and 40, a form feed, and the reset.
+    Case {
+        name: "a dot above each second letter",
+        lines: 6,
+        dots: 2,
+        ..LINE
+    },
+    // Four letters are one character, of nine rows of four bytes: 64 after the font's 79, for ten codes.
     Case {
         name: "boxes that overlap",
         first: 0,
@@ -98,6 +107,8 @@ const CASES: [Case; 39] = [
         step: 4,
         ..LINE
     },
+    // The least distance is 16, and of the rests 9, 10, 11, 7, 7, 6, 14, 15 and 1 only the seven is there eight times: it is a space,
+    // and the other 27 are moves, of six bytes up to 9 and of seven above.
     Case {
         name: "gaps in turn",
         shifts: &[0, 1, 3, 6, 5, 4, 2, 8, 0, 7],
@@ -199,9 +210,19 @@ const CASES: [Case; 39] = [
     },
     Case {
         name: "a dot above each letter, at 600",
-        dotted: true,
+        dots: 1,
         ..FINE_LINE
     },
+    // A letter and the dot above it are one macro of 126 bytes, the other letters one of 105. The two in turn are a phrase of 23, four
+    // of these one of 31, and eight one of 47, so a line is 11 for its start and 15 for three macros: six lines after 37 for the white
+    // raster and 5 for the method, between 9 for the reset and the unit, and 3 for the form feed and the reset.
+    Case {
+        name: "a dot above each second letter, at 600",
+        lines: 6,
+        dots: 2,
+        ..FINE_LINE
+    },
+    // Four letters are one macro here too, which is run ten times.
     Case {
         name: "boxes that overlap, at 600",
         first: 0,
@@ -372,7 +393,7 @@ fn append_line(case: &Case, line: u32, job: &mut Vec<u8>) -> Result<(), AllocErr
     for place in 0..case.letters {
         let shift = shift_of(case, place);
         let kind = case.first.saturating_add(number % case.kinds.max(1));
-        if case.dotted {
+        if is_dotted(case, place) {
             append_dot(x.saturating_add(shift), y.saturating_sub(8), job)?;
         }
         append_letter(kind, case.rows, x.saturating_add(shift), y, job)?;
@@ -380,6 +401,11 @@ fn append_line(case: &Case, line: u32, job: &mut Vec<u8>) -> Result<(), AllocErr
         x = x.saturating_add(case.step);
     }
     Ok(())
+}
+
+/// Whether a dot stands above a letter of a line.
+fn is_dotted(case: &Case, place: u32) -> bool {
+    place.checked_rem(case.dots) == Some(0)
 }
 
 /// How many dots a letter of a line stands further right.
