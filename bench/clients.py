@@ -74,11 +74,16 @@ def mixed():
 DOCUMENTS = {"text": text(), "form": form(), "grey": shades(72, 162, 468) + ["showpage"], "mixed": mixed(),
              "pages": text(1) + text(2) + text(3)}
 
-def make_documents(folder):
-    """Writes what the commands of the jobs read, each in a folder of its own within this one."""
+def write_documents(folder):
+    """Writes the documents as PostScript."""
     for name, lines in DOCUMENTS.items():
         with open(os.path.join(folder, name + ".ps"), "w") as out:
             out.write("\n".join(["%!PS", "<< /PageSize [612 792] >> setpagedevice"] + lines) + "\n")
+
+
+def make_documents(folder):
+    """Writes what the commands of the jobs read, each in a folder of its own within this one."""
+    write_documents(folder)
     with open(os.path.join(folder, "drawing"), "w") as out:
         out.write("IN;SP1;PU400,400;PD4000,400,4000,3000,400,3000,400,400;PU1000,1000;PD3000,2500;PU2000,1700;CI600;PU;SP0;\n")
     document = os.path.join(os.path.dirname(os.path.realpath(__file__)), "document.tex")

@@ -1,0 +1,140 @@
+#!/usr/bin/env python3
+"""Tells how many bytes documents take as they are sent, as the least raster and as `shrink` writes them, and in what time and memory.
+
+    bench/documents.py PROGRAM [WORD..]
+
+PROGRAM is a built pclmin. It prints the rows of the table of bench/README.md, "Smaller jobs". Each result is compared with the job by
+`same`, what `shrink` writes by `same --asked`; the status is 1 if one isn't the same, or if `shrink` writes more than the job or the
+least raster has. With WORDs only documents are made whose names have all of these. Times are the processor's, the least of RUNS.
+
+The manual is that of bash, as groff sets it for Letter paper; dvilj prints docs/LANGUAGE.md in groff's fonts for TeX, and the two
+pages of document.tex. Other documents are those of clients.py. Needs the manual page of bash, groff, ghostscript, texlive-binaries,
+texlive-base, gzip and xz.
+"""
+
+import collections
+import os
+import subprocess
+import sys
+import tempfile
+
+sys.dont_write_bytecode = True
+import clients
+
+RUNS = 3
+DEVICES = {300: "ljet2p", 600: "fs600"}
+MANUAL = "zcat -f \"$(man -w bash)\" | groff -man "
+PREPARED = (
+    MANUAL + "-Tps -P-pletter > manual.ps",
+    MANUAL + "-Tdvi > manual.dvi",
+    "for dpi in 300 600; do dvips -q -t letter -D $dpi -o manual-$dpi.ps manual.dvi; done",
+    "{ printf '.ps 11\\n.vs 13\\n'; tr -cd 'A-Za-z0-9 .,;:\\n-' < ROOT/docs/LANGUAGE.md; echo; } | groff -Tdvi > text.dvi",
+    "tex -interaction=batchmode ROOT/bench/document.tex",
+    "for name in text document; do dvilj -q -e$name.pcl $name.dvi; done",
+)
+
+# The command writes the job to standard output.
+Document = collections.namedtuple("Document", "name dpi command")
+Run = collections.namedtuple("Run", "seconds memory")
+
+
+# ---- the documents
+
+def painted(dpi, document, options=""):
+    return clients.painted(DEVICES[dpi], dpi, document, "-sPAPERSIZE=letter " + options)
+
+
+def pages(count):
+    """That many pages of the manual, from the second one on where it has them: the first has its head."""
+    first = 2 if count < 87 else 1
+    return "-dFirstPage=%d -dLastPage=%d" % (first, first + count - 1)
+
+
+def documents():
+    for dpi in DEVICES:
+        for count in (1, 5, 20, 87):
+            yield Document("manual, %d pages" % count if count > 1 else "manual, 1 page", dpi, painted(dpi, "manual", pages(count)))
+        for count in (1, 20):
+            name = "manual in TeX's fonts, " + ("%d pages" % count if count > 1 else "1 page")
+            yield Document(name, dpi, painted(dpi, "manual-%d" % dpi, pages(count)))
+        for name, title in (("form", "form with rules"), ("grey", "grey picture"), ("mixed", "mixed page")):
+            yield Document(title, dpi, painted(dpi, name))
+        for name, title in (("text", "text by dvilj"), ("document", "TeX by dvilj")):
+            yield Document(title, dpi, "cat ../%s.pcl" % name)
+
+
+def prepare(folder):
+    """Writes what the commands read, which run in a folder within this one."""
+    clients.write_documents(folder)
+    root = os.path.dirname(os.path.dirname(os.path.realpath(__file__)))
+    for command in PREPARED:
+        # dvilj ends with status 1 where it leaves a special out, as those of groff for colors: so statuses aren't looked at.
+        subprocess.run(["bash", "-c", command.replace("ROOT", root)], cwd=folder, stdout=subprocess.DEVNULL, stderr=subprocess.DEVNULL)
+
+
+# ---- one document
+
+def run(command):
+    """Runs a command, and gives the processor's time and the memory that it takes."""
+    process = subprocess.Popen(command)
+    _, status, usage = os.wait4(process.pid, 0)
+    if status != 0:
+        raise ValueError("%s ends with status %d" % (command[1], os.waitstatus_to_exitcode(status)))
+    return Run(usage.ru_utime + usage.ru_stime, usage.ru_maxrss)
+
+
+def packed(name):
+    """How many bytes a file has, and how many by gzip -9 and xz -9."""
+    with open(name, "rb") as data:
+        content = data.read()
+    sizes = [len(subprocess.run([tool, "-9"], input=content, stdout=subprocess.PIPE, check=True).stdout) for tool in ("gzip", "xz")]
+    return [len(content)] + sizes
+
+
+def fault_of(program, dpi, job, outs):
+    """What doesn't hold, if anything."""
+    for how, out in outs.items():
+        asked = ["--asked"] if how == "shrink" else []
+        if subprocess.run([program, "same", *asked, "--dpi", str(dpi), job, out], stdout=subprocess.PIPE).stdout != b"same\n":
+            return "%s: not the same" % how
+    if os.path.getsize(outs["shrink"]) > min(os.path.getsize(job), os.path.getsize(outs["min"])):
+        return "shrink: longer than the job or its least raster"
+    return None
+
+
+def measured(program, folder, document):
+    """The cells of the row of a document, and what doesn't hold, if anything."""
+    os.makedirs(own := os.path.join(folder, "own"), exist_ok=True)
+    job, least, smaller = (os.path.join(own, name) for name in ("job.pcl", "least.pcl", "smaller.pcl"))
+    with open(job, "wb") as out:
+        subprocess.run(["bash", "-c", document.command], cwd=own, stdout=out, stderr=subprocess.DEVNULL, check=True)
+    outs = {"min": least, "shrink": smaller}
+    best = {}
+    for how, out in outs.items():
+        runs = [run([program, how, "--dpi", str(document.dpi), "-o", out, job]) for _ in range(RUNS)]
+        best[how] = Run(min(each.seconds for each in runs), min(each.memory for each in runs))
+    sizes = packed(job) + packed(least) + [os.path.getsize(smaller)]
+    times = ["%.1f" % (getattr(best["shrink"], what) / max(getattr(best["min"], what), 1e-3)) for what in Run._fields]
+    part = "%.1f %%" % (100 * sizes[-1] / sizes[3])
+    return [document.name, str(document.dpi)] + sizes + [part] + times, fault_of(program, document.dpi, job, outs)
+
+
+def main(program, *words):
+    program, faults = os.path.realpath(program), []
+    clients.row(["Document", "dpi", "As sent", "`gzip`", "`xz`", "`min`", "`gzip`", "`xz`", "`shrink`", "Of `min`", "Time", "Memory"])
+    clients.row(["---"] + ["---:"] * 11)
+    with tempfile.TemporaryDirectory() as folder:
+        prepare(folder)
+        for document in documents():
+            if set(words) <= set(("%s %d" % (document.name, document.dpi)).replace(",", "").split()):
+                cells, fault = measured(program, folder, document)
+                clients.row(cells)
+                faults += ["%s at %d: %s" % (document.name, document.dpi, fault)] if fault else []
+    print("\n".join(faults))
+    return 1 if faults else 0
+
+
+if __name__ == "__main__":
+    if len(sys.argv) < 2:
+        sys.exit(__doc__)
+    sys.exit(main(*sys.argv[1:]))
