@@ -6,7 +6,8 @@ work waits for:
 
 rt has one command at a time work in a crate and those below it. So each library is built in a tree of its own under build/lanes,
 whose files are links to these and to what is built of the crates below, and its out/ is then moved here. What rt says is kept in
-build/lanes/NAME.log. A check takes the processors that no other crate waits for, four at most. LANES bounds how many are taken.
+build/lanes/NAME.log. The crate that most work waits for is given all processors, and goes before the others where they are too few; each
+other is given its share of those that are idle. LANES bounds how many are taken.
 """
 
 import os
@@ -60,7 +61,7 @@ def free_memory():
 class Build:
     """A library that is being built."""
 
-    def __init__(self, name, all_crates, jobs):
+    def __init__(self, name, all_crates, jobs, is_first):
         self.name, self.jobs, self.began = name, jobs, time.monotonic()
         self.tree = LANES / name
         self.log = LANES / f"{name}.log"
@@ -78,7 +79,8 @@ class Build:
         if self.out.exists():
             shutil.move(self.out, place / name / "out")
         with open(self.log, "wb") as log:
-            self.process = subprocess.Popen(["rt", "lib", "--jobs", str(jobs)], cwd=place / name, stdin=subprocess.DEVNULL,
+            command = ["rt", "lib", "--jobs", str(jobs)]
+            self.process = subprocess.Popen(command if is_first else ["nice", *command], cwd=place / name, stdin=subprocess.DEVNULL,
                                             stdout=log, stderr=subprocess.STDOUT, start_new_session=True)
 
     def give_back(self):
@@ -123,9 +125,9 @@ def chains(wanted, all_crates):
     return longest
 
 
-def next_jobs(idle, ready):
-    """How many processors a crate is given: its share of those that are idle, as far as memory goes."""
-    return max(1, min(4, idle // ready, 1 + (free_memory() - FIRST_JOB) // FURTHER_JOB))
+def within_memory(jobs):
+    """As many of so many jobs as memory allows, but one at least."""
+    return max(1, min(jobs, 1 + (free_memory() - FIRST_JOB) // FURTHER_JOB))
 
 
 def build(names, processors):
@@ -140,11 +142,14 @@ def build(names, processors):
     try:
         while left or running:
             ready = [it for it in left if done.issuperset(all_crates[it][1])]
+            most = max(chain[it] for it in [*left, *(it.name for it in running)])
             for at, name in enumerate(ready):
+                is_first = chain[name] == most
                 idle = processors - sum(it.jobs for it in running)
-                if idle > 0 and (not running or free_memory() > FIRST_JOB):
+                jobs = processors if is_first else idle // (len(ready) - at)
+                if (is_first or idle > 0) and (not running or free_memory() > FIRST_JOB):
                     left.remove(name)
-                    running.append(Build(name, all_crates, next_jobs(idle, len(ready) - at)))
+                    running.append(Build(name, all_crates, within_memory(max(1, jobs)), is_first))
             time.sleep(0.2)
             for it in [it for it in running if it.process.poll() is not None]:
                 running.remove(it)
