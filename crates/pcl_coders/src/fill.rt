@@ -5,11 +5,10 @@ ghost use Rattle.pcl_base.specs.declared.method.Method.TheVariants as methods;
 ghost use Rattle.pcl_rows.specs.Rows.{base};
 ghost use Rattle.pcl_coders.specs.Coding.{IsCodable};
 ghost use Rattle.pcl_coders.specs.inner.Choosing.{IsLeastLen};
-ghost use Rattle.pcl_coders.specs.inner.Filling.{AreRightFrom, IsFirstEnd, IsBegun, white_like};
+ghost use Rattle.pcl_coders.specs.inner.Filling.{AreRightFrom, IsFirstEnd, IsBegun, IsLiteralEnd, HasLiteralEnd, white_like};
 
 use crate::choice::{command_bytes, least_behind};
-use crate::window::Window;
-use pcl_base::{Method, ROW_LIMIT};
+use pcl_base::Method;
 use pcl_bitmap::{first_difference, trimmed_len};
 
 /// Fills in the least number of bytes of each place of a row, and of its end, where no more data is needed
@@ -89,27 +88,36 @@ fn fill_runs(row: &[u8], end: usize, out: &mut [u16])
     }
 }
 
-/// Method 2: the longest repeat is always as good as a shorter one, and the best literal is the one of the
-/// least number in a window.
+/// Method 2: the longest repeat is always as good as a shorter one, and where the best literal ends is known from
+/// place to place.
 fn fill_packed(row: &[u8], end: usize, out: &mut [u16])
     requires { IsBegun (white_like row.now) row.now out.old end }
     ensures { AreRightFrom methods.Packed (white_like row.now) row.now out.new 0 }
 {
-    let mut numbers = [0; ROW_LIMIT];
-    let mut places = [0; ROW_LIMIT];
-    let mut window = Window::new(&mut numbers, &mut places);
     let mut run_end = end;
+    let mut best = end;
     for place in (0..end).rev() {
-        window.put((place + 1) as u32 + u32::from(out[place + 1]));
-        if place + 128 < end {
-            window.take();
-        }
         if place + 1 < end && row[place] != row[place + 1] {
             run_end = place + 1;
         }
-        let literal = window.least() - place as u32 + 1;
-        let repeat = repeat_number(out, place, run_end);
-        out[place] = (literal as u16).min(repeat);
+        best = literal_end(out, place, best);
+        let literal = (best - place) as u16 + 1 + out[best];
+        out[place] = literal.min(repeat_number(out, place, run_end));
+    }
+}
+
+/// Where the best literal of a place ends, given where that of the next place does. A literal to that end is at most
+/// one byte dearer than the best from here: so it is the best, or the one of a single byte is.
+fn literal_end(out: &[u16], place: usize, best: usize) -> usize
+    requires next { place + 1 < length out.now }
+    requires within { best < length out.now }
+    ensures { (end : ℕ) → place < end → HasLiteralEnd out.now end (place + 1) best → IsLiteralEnd out.now end place result }
+{
+    let next = place + 1;
+    if best <= place + 128 && best + usize::from(out[best]) < next + usize::from(out[next]) {
+        best
+    } else {
+        next
     }
 }
 

@@ -43,6 +43,21 @@ pub record IsBegun (old row table : List ℕ) (end : ℕ) : Type 0 where
 abbrev pub white_like : List ℕ → List ℕ
 white_like row = replicate (length row) 0
 
+-- where the best literal of a place ends: of the ends whose place and number are least together, the first
+pub record IsLiteralEnd (table : List ℕ) (end place best : ℕ) : Type 0 where
+  pub above : place < best
+  pub within : best ≤ end
+  pub near : best ≤ place + 128
+  pub least : (to : ℕ) → best ≤ to → to ≤ end → to ≤ place + 128 → best + slice_index table best ≤ to + slice_index table to
+  pub first : (to : ℕ) → place < to → to < best → best + slice_index table best < to + slice_index table to
+
+-- the same of a place or of the end, and that no number from there on is above what a literal gives
+pub record HasLiteralEnd (table : List ℕ) (end place best : ℕ) : Type 0 where
+  pub literals : (from to : ℕ) → place ≤ from → from < to → to ≤ end → to ≤ from + 128
+      → slice_index table from ≤ 1 + (to - from) + slice_index table to
+  pub last : place ≡ end → best ≡ end
+  pub some : place < end → IsLiteralEnd table end place best
+
 -- now is before with the bytes of a walk that costs the number of the first place
 pub record AppendsWalk (method : Method) (old row table before now : List ℕ) : Type 0 where
   pub steps : List Element
