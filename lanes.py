@@ -6,8 +6,8 @@ work waits for:
 
 rt has one command at a time work in a crate and those below it. So each library is built in a tree of its own under build/lanes,
 whose files are links to these and to what is built of the crates below, and its out/ is then moved here. What rt says is kept in
-build/lanes/NAME.log. The crate that most work waits for is given all processors, and goes before the others where they are too few; each
-other is given its share of those that are idle. LANES bounds how many are taken.
+build/lanes/NAME.log. The crate that most work waits for is given all processors, and the others share what it leaves of them. LANES
+bounds how many are taken.
 """
 
 import os
@@ -62,7 +62,7 @@ class Build:
     """A library that is being built."""
 
     def __init__(self, name, all_crates, jobs, is_first):
-        self.name, self.jobs, self.began = name, jobs, time.monotonic()
+        self.name, self.jobs, self.is_first, self.began = name, jobs, is_first, time.monotonic()
         self.tree = LANES / name
         self.log = LANES / f"{name}.log"
         self.out = ROOT / "crates" / name / "out"
@@ -142,10 +142,9 @@ def build(names, processors):
     try:
         while left or running:
             ready = [it for it in left if done.issuperset(all_crates[it][1])]
-            most = max(chain[it] for it in [*left, *(it.name for it in running)])
             for at, name in enumerate(ready):
-                is_first = chain[name] == most
-                idle = processors - sum(it.jobs for it in running)
+                is_first = all(chain[name] >= chain[it.name] for it in running)
+                idle = processors - sum(it.jobs for it in running if not it.is_first)
                 jobs = processors if is_first else idle // (len(ready) - at)
                 if (is_first or idle > 0) and (not running or free_memory() > FIRST_JOB):
                     left.remove(name)
