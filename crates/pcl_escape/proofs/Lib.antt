@@ -10,4 +10,5 @@ pub mod Starts
 pub mod Runs
 pub mod Again
 pub mod Loop
+pub mod Places
 pub mod Examples

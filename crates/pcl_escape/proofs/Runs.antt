@@ -1,15 +1,12 @@
 -- All steps: what the reading of the bytes gives says what the bytes are.
 use Rattle.std.proofs.Common.{◌≡◌, ℕ, zero, suc, ◌+◌, ◌-◌, ◌<◌, true, is_some, List, [], ◌∷◌, ◌++◌, length, Option, Some, None, Result, Ok, Err, refl, sym, ap, subst, subst₂, ◌∙◌, append_assoc, append-nil, length-append, zero-add, arith}
 use Rattle.std.specs.List.{flat_map, AllByRecursion}
-use Rattle.std.specs.Prelude.{IfOk, IfErr}
-use Rattle.std.specs.Global.{Vec}
 use Rattle.pcl_base.specs.declared.fault.JobFault.{JobFault}
 use Rattle.pcl_base.specs.declared.fault.JobFault.TheVariants.{Refused, Memory}
 use Rattle.pcl_base.specs.declared.refusal.Refusal.{Refusal}
-use Rattle.pcl_escape.specs.declared.command.Command.{Command}
 use Rattle.pcl_escape.specs.declared.step.Prefix.{Prefix}
 use Rattle.pcl_escape.specs.Letter.{goes_on, prefix_bytes}
-use Rattle.pcl_escape.specs.Said.{Said, views}
+use Rattle.pcl_escape.specs.Said.{Said}
 use Rattle.pcl_escape.specs.inner.Scan.{Reads, with_front, and_then, outcome, outcome_of, Yields}
 use Rattle.pcl_escape.specs.Pieces.{Parameter, Piece, combined, IsPrefix, IsPiece, ArePieces, IsMiddle, IsEnd, parameter_bytes, spelling, command_of, parameter_commands, first_place, commands_from, commands_of, IsReading}
 use Rattle.pcl_escape.specs.Faults.{Fails, IsFault, IsFaultOf, IsUngrouped, in_parameter, FailsParameter, place_behind}
@@ -306,15 +303,8 @@ reading_of {job} e = all_read (is_read (suc (length job)) None 0 job (omega arit
 pub fault_of : (job : List ℕ) (fault : Refusal) → outcome_of job ≡ Err fault → IsFault job fault
 fault_of job fault e = broken_off (is_read (suc (length job)) None 0 job (omega arith)) e
 
--- what a function that yields the outcome returned
-pub reading_of_scan : (job : List ℕ) (result : Result (Vec Command) JobFault) → Yields result (outcome_of job)
-    → IfOk result (λ commands. IsReading job (views commands.items))
-reading_of_scan job (Ok commands) y = reading_of y
-reading_of_scan job (Err fault) y = tt
-
--- the same for a fault
-pub fault_of_scan : (job : List ℕ) (result : Result (Vec Command) JobFault) → Yields result (outcome_of job)
-    → IfErr result (λ fault. IsFaultOf job fault)
-fault_of_scan job (Ok commands) y = tt
-fault_of_scan job (Err (Refused fault)) y = fault_of job fault y
-fault_of_scan job (Err Memory) y = tt
+-- what yields a fault finds the first one
+pub fault_of_scan : (job : List ℕ) (fault : JobFault) (commands : List Said) → Yields (Err fault) commands (outcome_of job)
+    → IsFaultOf job fault
+fault_of_scan job (Refused fault) commands y = fault_of job fault y
+fault_of_scan job Memory commands y = tt

@@ -113,7 +113,7 @@ abbrev exit_with : ℕ → Spelled → List ℕ → Said
 exit_with at field bytes = record (exit_command at field []) { bytes = bytes }
 
 -- what stands before the rest
-before_rest_is : (front rest : List ℕ) → before_rest (front ++ rest) rest ≡ front
+pub before_rest_is : (front rest : List ℕ) → before_rest (front ++ rest) rest ≡ front
 before_rest_is front rest =
     let own : length (front ++ rest) - length rest ≡ length front = let e = length-append front rest in omega arith in
     ap (λ (n : ℕ). take n (front ++ rest)) own ∙ take_at front rest (length front) refl

@@ -63,7 +63,7 @@ middle_letter true grouped on p q = absurd cc
 middle_letter false grouped on p q = p
 
 -- a letter is one of the two
-any_letter : (last grouped on : Bool) → (last || (grouped && on)) ≡ true → (last || on) ≡ true
+pub any_letter : (last grouped on : Bool) → (last || (grouped && on)) ≡ true → (last || on) ≡ true
 any_letter true grouped on p = refl
 any_letter false true on p = p
 any_letter false false on p = absurd cc

@@ -3,6 +3,7 @@ pub mod Letter
 pub mod Checks
 pub mod Exit
 pub mod Said
+pub mod Items
 pub mod Pieces
 pub mod Faults
 pub mod inner

@@ -1,14 +1,16 @@
 //! Whole jobs.
 
-ghost use Rattle.std.specs.Prelude.{◌≡◌, ◌++◌, List, ℕ, IfOk, IfErr, OnOk};
+ghost use Rattle.std.specs.Prelude.{◌≡◌, ◌++◌, [], List, ℕ, IfSome, IfOk, IfErr, OnOk};
 ghost use Rattle.pcl_base.specs.declared.refusal.Refusal.{Refusal};
 ghost use Rattle.pcl_escape.specs.Said.{Said, views};
 ghost use Rattle.pcl_escape.specs.Pieces.{IsReading};
 ghost use Rattle.pcl_escape.specs.Faults.{IsFault, IsFaultOf};
-ghost use Rattle.pcl_escape.specs.inner.Scan.{Yields, outcome_of, commands_said, said_of};
+ghost use Rattle.pcl_escape.specs.inner.Scan.{IsPlaced, Yields, outcome_of, commands_said, said_of};
 
-use crate::Command;
+use crate::item::Item;
 use crate::step::read_step;
+use crate::store::CommandStore;
+use crate::{Command, Commands};
 use pcl_base::JobFault;
 use std::alloc::{AllocError, Global};
 
@@ -20,7 +22,24 @@ pub fn read_job<'a>(alloc: Global, job: &'a [u8]) -> Result<Vec<Command<'a>>, Jo
     // A refusal is the first fault of the job.
     ensures fault { IfErr result (λ fault. IsFaultOf job.now fault) }
 {
-    scan(alloc, job)
+    let mut commands: Vec<Command<'a>> = Vec::new(alloc);
+    match scan(job, &mut commands) {
+        Ok(()) => Ok(commands),
+        Err(fault) => Err(fault),
+    }
+}
+
+/// The commands of a job as [`read_job`] gives them, in half of the memory: each is made anew where it is asked for. A job of
+/// 4,294,967,296 bytes or more, whose places need more than 32 bits, is out of memory.
+pub fn read_commands<'a>(alloc: Global, job: &'a [u8]) -> Result<Commands<'a>, JobFault>
+    ensures reading { IfOk result (λ commands. IsReading job.now commands) }
+    ensures fault { IfErr result (λ fault. IsFaultOf job.now fault) }
+{
+    let mut items: Vec<Item> = Vec::new(alloc);
+    match scan(job, &mut items) {
+        Ok(()) => Ok(Commands::new(job, items)),
+        Err(fault) => Err(fault),
+    }
 }
 
 /// A job has one reading at most, and one first fault at most, and never both. So with memory enough
@@ -31,11 +50,11 @@ pub fn one_outcome()
     ensures apart { (job : List ℕ) (commands : List Said) (fault : Refusal) → IsReading job commands → IsFault job fault → ⊥ }
 {}
 
-/// The commands of a job, or its first fault, step by step.
-fn scan<'a>(alloc: Global, job: &'a [u8]) -> Result<Vec<Command<'a>>, JobFault>
-    ensures { Yields result (outcome_of job.now) }
+/// Appends the commands of a job to an empty store, step by step, up to its first fault.
+fn scan<'a, S: CommandStore<'a>>(job: &'a [u8], store: &mut S) -> Result<(), JobFault>
+    requires { S.kept job.now store.old ≡ [] }
+    ensures { Yields result (S.kept job.now store.new) (outcome_of job.now) }
 {
-    let mut commands = Vec::new(alloc);
     let mut rest = job;
     let mut inside = None;
     while !rest.is_empty() || inside.is_some() {
@@ -44,22 +63,25 @@ fn scan<'a>(alloc: Global, job: &'a [u8]) -> Result<Vec<Command<'a>>, JobFault>
             Ok(step) => step,
             Err(refusal) => return Err(JobFault::Refused(refusal)),
         };
-        append(&mut commands, step.command)?;
+        append(store, step.command, job, step.rest.len())?;
         rest = step.rest;
         inside = step.inside;
     }
-    Ok(commands)
+    Ok(())
 }
 
-/// Appends the command of a step, if it gave one.
-fn append<'a>(
-    commands: &mut Vec<Command<'a>>,
+/// Appends the command of a step, if it gave one, after which so many bytes are left.
+fn append<'a, S: CommandStore<'a>>(
+    store: &mut S,
     command: Option<Command<'a>>,
+    job: &'a [u8],
+    left: usize,
 ) -> Result<(), AllocError>
-    ensures { OnOk result (views commands.new.items ≡ views commands.old.items ++ commands_said (said_of command.entry)) }
+    requires { IfSome (said_of command) (IsPlaced job.now left) }
+    ensures { OnOk result (S.kept job.now store.new ≡ S.kept job.now store.old ++ commands_said (said_of command.entry)) }
 {
     match command {
         None => Ok(()),
-        Some(command) => Ok(commands.push(command)?),
+        Some(command) => store.append(command, job, left),
     }
 }

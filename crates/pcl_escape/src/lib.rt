@@ -4,8 +4,12 @@
 mod command;
 mod exit;
 mod field;
+mod item;
 mod job;
+mod list;
 mod step;
+mod store;
 
 pub use command::Command;
-pub use job::{one_outcome, read_job};
+pub use job::{one_outcome, read_commands, read_job};
+pub use list::{CommandList, Commands};

@@ -1,6 +1,6 @@
 use super::assert_gives;
 use pcl_base::{Name, Sign, Value};
-use pcl_escape::{Command, one_outcome, read_job};
+use pcl_escape::{Command, CommandList, one_outcome, read_commands, read_job};
 use std::alloc::Global;
 use std::process::Abort;
 use std::test::Fail;
@@ -43,13 +43,27 @@ fn assert_commands(
     expected: &[Parts],
 ) -> Result<(), Fail> {
     let commands = read_job(alloc, job)?;
+    let list = read_commands(alloc, job)?;
     assert_gives(rt, &job, &commands.len(), &expected.len());
-    for (command, (wanted, bytes)) in commands.iter().zip(expected) {
-        let Value { sign, parts } = command.value;
-        assert_gives(rt, &job, &(command.at, command.name, sign, parts), wanted);
-        assert_gives(rt, &job, &command.bytes, bytes);
+    for (place, (command, wanted)) in commands.iter().zip(expected).enumerate() {
+        assert_command(rt, job, Some(*command), wanted);
+        assert_command(rt, job, list.command_at(place), wanted);
     }
+    let past_end = list.command_at(expected.len());
+    assert_gives(rt, &job, &past_end.is_none(), &true);
     Ok(())
+}
+
+fn assert_command(
+    rt: &impl Abort,
+    job: &[u8],
+    command: Option<Command<'_>>,
+    (wanted, bytes): &Parts,
+) {
+    let command = command.expect(rt, "a command");
+    let Value { sign, parts } = command.value;
+    assert_gives(rt, &job, &(command.at, command.name, sign, parts), wanted);
+    assert_gives(rt, &job, &command.bytes, bytes);
 }
 
 const TEXTS: &[u8] = b" A\x00\x7f\xff\x0cB\x1b&p3X\x1bE\x0cC\x1b)s1W\x00\x1b(s0W";

@@ -1,5 +1,5 @@
 -- Reading from left to right, as a function: one step after the other, each by the checks in their order.
-use Rattle.std.specs.Prelude.{◌≡◌, ℕ, zero, suc, ◌+◌, ◌-◌, Bool, false, ◌==◌, if◌then◌else◌, List, [], ◌∷◌, ◌++◌, length, take, drop, Option, Some, None, Result, Ok, Err}
+use Rattle.std.specs.Prelude.{◌≡◌, ℕ, zero, suc, ◌+◌, ◌-◌, ◌≤◌, Bool, false, ◌==◌, if◌then◌else◌, List, [], ◌∷◌, ◌++◌, length, take, drop, Option, Some, None, Result, Ok, Err}
 use Rattle.pcl_base.specs.declared.kind.Kind.{Kind}
 use Rattle.pcl_base.specs.declared.kind.Kind.TheVariants.{Truncated, BadSequence, UnsupportedCommand, NotPcl}
 use Rattle.pcl_base.specs.declared.refusal.Refusal.{Refusal}
@@ -9,6 +9,7 @@ use Rattle.pcl_base.specs.declared.name.Name.{Name}
 use Rattle.pcl_base.specs.declared.name.Name.TheVariants.{Empty, One}
 use Rattle.pcl_base.specs.declared.operation.Operation.{Operation}
 use Rattle.pcl_base.specs.declared.value.Value.{Value}
+use Rattle.pcl_base.specs.Name.{name_bytes}
 use Rattle.pcl_base.specs.Operation.{operation_of}
 use Rattle.pcl_base.specs.Refusal.{refusal}
 use Rattle.pcl_base.specs.Value.{zero_value}
@@ -21,8 +22,8 @@ use Rattle.pcl_escape.specs.Field.{Spelled, field_value}
 use Rattle.pcl_escape.specs.inner.Fields.{field_at}
 use Rattle.pcl_escape.specs.Checks.{parameter_checks, exit_name, is_exit}
 use Rattle.pcl_escape.specs.inner.Lines.{lines_at}
-use Rattle.std.specs.Global.{Vec}
-use Rattle.pcl_escape.specs.Said.{Said, view, views}
+use Rattle.pcl_escape.specs.Items.{name_with, bytes_in}
+use Rattle.pcl_escape.specs.Said.{Said, view}
 
 -- what a step reads: a command or none, the bytes after it, and the sequence that goes on there
 pub record Reads : Type 0 where
@@ -177,8 +178,16 @@ outcome (suc steps) (Some prefix) at bytes =
 abbrev pub outcome_of : List ℕ → Result (List Said) Refusal
 outcome_of job = outcome (suc (length job)) None 0 job
 
--- what a function returned is the outcome, unless memory ran out
-abbrev pub Yields : Result (Vec Command) JobFault → Result (List Said) Refusal → Type 0
-Yields (Ok commands) read = read ≡ Ok (views commands.items)
-Yields (Err (Refused fault)) read = read ≡ Err fault
-Yields (Err Memory) read = Unit {0}
+-- what a function returned is the outcome, with the commands that it gave, unless memory ran out
+abbrev pub Yields : Result (Unit {0}) JobFault → List Said → Result (List Said) Refusal → Type 0
+Yields (Ok unit) commands read = read ≡ Ok commands
+Yields (Err (Refused fault)) commands read = read ≡ Err fault
+Yields (Err Memory) commands read = Unit {0}
+
+-- ---- places of the data
+
+-- the data of a command stand in the job right before so many bytes that are left, and its name is told by its bytes
+pub record IsPlaced (job : List ℕ) (left : ℕ) (said : Said) : Type 0 where
+  pub within : left + length said.bytes ≤ length job
+  pub bytes : bytes_in job (length job - left - length said.bytes) (length said.bytes) ≡ said.bytes
+  pub name : name_with (name_bytes said.name) ≡ said.name

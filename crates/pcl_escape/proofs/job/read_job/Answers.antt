@@ -1,8 +1,8 @@
-use Rattle.pcl_escape.proofs.Runs.{reading_of_scan, fault_of_scan}
+use Rattle.pcl_escape.proofs.Runs.{reading_of, fault_of_scan}
 use Rattle.pcl_escape.proofs.job.read_job.Goals as goal
 
-pub returns-clause-reading : goal.returns-clause-reading
-returns-clause-reading c = reading_of_scan c.args.job.now c.scan.result c.scan.ensures
+pub returns-in-Ok-clause-reading : goal.returns-in-Ok-clause-reading
+returns-in-Ok-clause-reading c = reading_of c.in-Ok.ensures
 
 pub returns-clause-fault : goal.returns-clause-fault
-returns-clause-fault c = fault_of_scan c.args.job.now c.scan.result c.scan.ensures
+returns-clause-fault c = fault_of_scan c.args.job.now c.in-Err.fault _ c.in-Err.ensures

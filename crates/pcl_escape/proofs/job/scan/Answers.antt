@@ -1,47 +1,57 @@
-use Rattle.std.proofs.Common.{◌-◌, length, arith, sym, ap, ◌∙◌}
-use Rattle.pcl_escape.specs.Said.{views}
+use Rattle.std.proofs.Common.{◌-◌, length, arith, refl, sym, ap, ◌∙◌}
 use Rattle.pcl_escape.specs.inner.Scan.{step_view}
 use Rattle.pcl_escape.proofs.Loop.{GoesOn, goes_on_bytes, goes_on_inside, step_shorter, so_far, one_more, stops_at, is_done, place_fits}
+use Rattle.pcl_escape.proofs.Places.{step_placed}
+use Rattle.pcl_escape.proofs.job.scan.Given.{Over}
 use Rattle.pcl_escape.proofs.job.scan.Goals as goal
 use Rattle.pcl_escape.proofs.job.scan.Goals.{After-read_step, then-not-is_empty, else-not-is_empty+then-is_some}
 
 -- what the loop's test says
-more_to_read : (c : After-read_step) → GoesOn c.loop-inside.inside c.loop-inside.rest.now
-more_to_read c = elim c.if-not-is_empty.branch [
+more_to_read : (g : Over) (c : After-read_step g) → GoesOn c.loop-inside.inside c.loop-inside.rest.now
+more_to_read g c = elim c.if-not-is_empty.branch [
   | then-not-is_empty w ↦ goes_on_bytes _ _ w.if-not-is_empty.ensures
   | else-not-is_empty+then-is_some w ↦ goes_on_inside _ _
       w.if-is_some.ensures
 ]
 
 pub returns-in-Err : goal.returns-in-Err
-returns-in-Err c =
-    let goes = more_to_read (goal.at.returns-in-Err c).After-read_step in
-    sym c.loop-inside.invariant.same ∙ stops_at (views c.loop-inside.commands.items)
+returns-in-Err g c =
+    let goes = more_to_read g (goal.at.returns-in-Err g c).After-read_step in
+    sym c.loop-inside.invariant.same ∙ stops_at (g.S.CommandStore.kept c.args.job.now c.loop-inside.store)
     (length c.args.job.now) c.loop-inside.inside c.loop-inside.rest.now goes c.in-Err.ensures
 
 pub loop-inside-smaller : goal.loop-inside-smaller
-loop-inside-smaller c =
-    let goes = more_to_read (goal.at.loop-inside-smaller c).After-read_step in
+loop-inside-smaller g c =
+    let goes = more_to_read g (goal.at.loop-inside-smaller g c).After-read_step in
     step_shorter c.loop-inside.inside (length c.args.job.now - length c.loop-inside.rest.now) c.loop-inside.rest.now goes c.in-Ok.ensures
 
+pub append-requires : goal.append-requires
+append-requires g c = λ _. (
+  (refl, tt),
+  (step_placed c.loop-inside.inside (length c.args.job.now - length c.loop-inside.rest.now) (step_view c.in-Ok.step)
+      c.loop-inside.invariant.is_end c.in-Ok.ensures).0,
+)
+
 pub loop-inside-preserved : goal.loop-inside-preserved
-loop-inside-preserved c =
-    let goes = more_to_read (goal.at.loop-inside-preserved c).After-read_step in
+loop-inside-preserved g c =
+    let goes = more_to_read g (goal.at.loop-inside-preserved g c).After-read_step in
     let total = length c.args.job.now in
-    let shorter = step_shorter c.loop-inside.inside (total - length c.loop-inside.rest.now) c.loop-inside.rest.now goes c.in-Ok.ensures in
+    let at = total - length c.loop-inside.rest.now in
+    let shorter = step_shorter c.loop-inside.inside at c.loop-inside.rest.now goes c.in-Ok.ensures in
     let within = c.loop-inside.invariant.within in
     record {
       within = omega arith;
       same = ap (λ front. so_far front total c.in-Ok.step.inside c.in-Ok.step.rest.now) c.in_ok-append.ensures
-          ∙ one_more (views c.loop-inside.commands.items) total c.loop-inside.inside c.loop-inside.rest.now
+          ∙ one_more (g.S.CommandStore.kept c.args.job.now c.loop-inside.store) total c.loop-inside.inside c.loop-inside.rest.now
           (step_view c.in-Ok.step) within goes c.in-Ok.ensures
           ∙ c.loop-inside.invariant.same;
+      is_end = (step_placed c.loop-inside.inside at (step_view c.in-Ok.step) c.loop-inside.invariant.is_end c.in-Ok.ensures).1;
     }
 
 pub returns : goal.returns
-returns c = sym c.loop-inside.invariant.same ∙ is_done (views c.loop-inside.commands.items)
+returns g c = sym c.loop-inside.invariant.same ∙ is_done (g.S.CommandStore.kept c.args.job.now c.loop-inside.store)
     (length c.args.job.now) c.loop-inside.inside c.loop-inside.rest.now c.if-not-is_empty.ensures c.if-is_some.ensures
 
 pub read_step-requires : goal.read_step-requires
-read_step-requires c =
+read_step-requires g c =
     place_fits (length c.args.job.now) (length c.loop-inside.rest.now) c.loop-inside.invariant.within (omega arith)

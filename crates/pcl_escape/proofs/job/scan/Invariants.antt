@@ -1,15 +1,16 @@
 use Rattle.std.proofs.Common.{◌≡◌, ◌≤◌, length}
-use Rattle.pcl_escape.specs.Said.{views}
 use Rattle.pcl_escape.specs.inner.Scan.{outcome_of}
 use Rattle.pcl_escape.proofs.Loop.{so_far}
+use Rattle.pcl_escape.proofs.Places.{IsEndOf}
 use Rattle.pcl_escape.proofs.job.scan.Given as goal
 
 abbrev pub invariant-loop-inside : goal.invariant-loop-inside
-invariant-loop-inside l = record {
+invariant-loop-inside g l = record {
   within : length l.rest ≤ length l.job;
-  same : so_far (views l.commands.items)
+  same : so_far (g.S.CommandStore.kept l.job l.store)
       (length l.job) l.inside l.rest ≡ outcome_of l.job;
+  is_end : IsEndOf l.job l.rest;
 }
 
 abbrev pub decreases-loop-inside : goal.decreases-loop-inside
-decreases-loop-inside l = length l.rest
+decreases-loop-inside g l = length l.rest

@@ -1,0 +1,219 @@
+-- The data of a command stand in the job right before what is left after its step.
+use Rattle.std.proofs.Common.{◌≡◌, ℕ, suc, ◌+◌, ◌-◌, ◌≤◌, Bool, true, false, ◌==◌, ◌||◌, is_some, if◌then◌else◌, List, [], ◌∷◌, ◌++◌, length, take, take_at, drop, drop_at, Option, Some, None, Result, Ok, Err, refl, sym, ap, subst, ◌∙◌, append_assoc, length-append, arith}
+use Rattle.std.proofs.lemmas.Bool.Decides.{nat_tests}
+use Rattle.std.proofs.lemmas.List.{take-append-drop}
+use Rattle.std.specs.Prelude.{IfSome}
+use Rattle.pcl_base.specs.declared.kind.Kind.{Kind}
+use Rattle.pcl_base.specs.declared.kind.Kind.TheVariants.{BadSequence}
+use Rattle.pcl_base.specs.declared.name.Name.{Name}
+use Rattle.pcl_base.specs.declared.name.Name.TheVariants.{One}
+use Rattle.pcl_base.specs.declared.operation.Operation.{Operation}
+use Rattle.pcl_base.specs.declared.refusal.Refusal.{Refusal}
+use Rattle.pcl_base.specs.declared.value.Value.{Value}
+use Rattle.pcl_base.specs.Name.{name_bytes}
+use Rattle.pcl_base.specs.Operation.{operation_of}
+use Rattle.pcl_base.proofs.Fronts.{front_split}
+use Rattle.pcl_escape.specs.declared.step.Prefix.{Prefix}
+use Rattle.pcl_escape.specs.Letter.{is_silent, is_control, is_text, is_two_character, is_parameterized, is_ungrouped, is_group, is_last, goes_on, is_letter, name_with_letter, prefix_name, parameter_name}
+use Rattle.pcl_escape.specs.Field.{Spelled, field_bytes, field_value}
+use Rattle.pcl_escape.specs.Checks.{parameter_checks}
+use Rattle.pcl_escape.specs.Exit.{joined}
+use Rattle.pcl_escape.specs.Items.{name_with, bytes_in}
+use Rattle.pcl_escape.specs.Said.{Said}
+use Rattle.pcl_escape.specs.inner.Fields.{field_at}
+use Rattle.pcl_escape.specs.inner.Scan.{Reads, refuse, named_by, named_at, text_at, checked_at, letter_at, parameter_at, leaves, skipped_by, with_lines, ungrouped_at, prefix_at, sequence_at, start_at, step_at, IsPlaced}
+use Rattle.pcl_escape.proofs.Fields.{field_split}
+use Rattle.pcl_escape.proofs.Lines.{Lines, skipped, foreign, lines_split}
+use Rattle.pcl_escape.proofs.Starts.{before_rest_is}
+use Rattle.pcl_escape.proofs.Steps.{any_letter}
+
+-- the data of a command, if there is one
+abbrev pub data_of : Option Said → List ℕ
+data_of None = []
+data_of (Some said) = said.bytes
+
+-- the name is told by its bytes
+abbrev pub IsTold : Name → Type 0
+IsTold name = name_with (name_bytes name) ≡ name
+
+-- what a step reads stands at the end of a front of its bytes
+pub record StandsIn (bytes : List ℕ) (reads : Reads) : Type 0 where
+  pub front : List ℕ
+  pub joined : bytes ≡ front ++ (data_of reads.said ++ reads.rest)
+  pub told : IfSome reads.said (λ said. IsTold said.name)
+
+-- the same where a step finds no fault
+abbrev pub Stands : List ℕ → Result Reads Refusal → Type 0
+Stands bytes (Ok reads) = StandsIn bytes reads
+Stands bytes (Err fault) = Unit {0}
+
+-- with more bytes before them
+further : (more bytes : List ℕ) (read : Result Reads Refusal) → Stands bytes read → Stands (more ++ bytes) read
+further more bytes (Ok reads) s = record {
+  front = more ++ s.front;
+  joined = ap (λ (bs : List ℕ). more ++ bs) s.joined ∙ sym (append_assoc more s.front (data_of reads.said ++ reads.rest));
+  told = s.told;
+}
+further more bytes (Err fault) s = tt
+
+-- whichever way a test goes
+either : (bytes : List ℕ) (test : Bool) (one other : Result Reads Refusal) → Stands bytes one → Stands bytes other
+    → Stands bytes (if test then one else other)
+either bytes true one other s t = s
+either bytes false one other s t = t
+
+-- ---- commands without a value
+
+named_stands : (at code : ℕ) (rest : List ℕ) (operation : Option Operation) → Stands (code ∷ rest) (named_by operation at code rest)
+named_stands at code rest None = tt
+named_stands at code rest (Some operation) = record { front = code ∷ []; joined = refl; told = refl }
+
+code_stands : (at code : ℕ) (rest : List ℕ) → Stands (code ∷ rest) (named_at at code rest)
+unfolding named_at
+code_stands at code rest = named_stands at code rest (operation_of (One code))
+
+text_stands : (at : ℕ) (bytes : List ℕ) → Stands bytes (text_at at bytes)
+unfolding text_at
+text_stands at bytes = record { front = []; joined = (front_split is_text bytes).joined; told = refl }
+
+-- ---- parameters
+
+-- the letter of a name is no zero
+letter_told : (parameterized : ℕ) (group : Option ℕ) (letter : ℕ) → (letter == 0) ≡ false
+    → IsTold (name_with_letter parameterized group letter)
+letter_told parameterized None letter n = rw n refl
+letter_told parameterized (Some group) letter n = rw n refl
+
+upper_case : (letter : ℕ) (on : Bool) → goes_on letter ≡ on → (is_last letter || on) ≡ true
+    → ((if on then letter - 32 else letter) == 0) ≡ false
+upper_case letter true g l = grind (arith, nat_tests)
+upper_case letter false g l = grind (arith, nat_tests)
+
+parameter_told : (prefix : Prefix) (letter : ℕ) → is_letter prefix letter ≡ true → IsTold (parameter_name prefix letter)
+parameter_told prefix letter l =
+    letter_told prefix.parameterized prefix.group (if goes_on letter then letter - 32 else letter)
+    (upper_case letter (goes_on letter) refl (any_letter (is_last letter) (is_some prefix.group) (goes_on letter) l))
+
+checked_stands : (prefix : Prefix) (at letter : ℕ) (value : Value) (bytes : List ℕ) (checks : Result ℕ Kind)
+    → IsTold (parameter_name prefix letter) → Stands (letter ∷ bytes) (checked_at prefix at letter value bytes checks)
+checked_stands prefix at letter value bytes (Ok len) t =
+    record { front = letter ∷ []; joined = ap (λ (bs : List ℕ). letter ∷ bs) (sym (take-append-drop len bytes)); told = t }
+checked_stands prefix at letter value bytes (Err kind) t = tt
+
+letter_by : (prefix : Prefix) (at letter : ℕ) (value : Value) (bytes : List ℕ) (checks : Result ℕ Kind) (is : Bool)
+    → is_letter prefix letter ≡ is
+    → Stands (letter ∷ bytes) (if is then checked_at prefix at letter value bytes checks else refuse BadSequence at (prefix_name prefix))
+letter_by prefix at letter value bytes checks true l = checked_stands prefix at letter value bytes checks (parameter_told prefix letter l)
+letter_by prefix at letter value bytes checks false l = tt
+
+letter_stands : (prefix : Prefix) (at : ℕ) (field : Spelled) (bytes : List ℕ) → Stands bytes (letter_at prefix at field bytes)
+letter_stands prefix at field [] = tt
+letter_stands prefix at field (letter ∷ bytes) =
+    letter_by prefix at letter (field_value field) bytes
+    (parameter_checks (parameter_name prefix letter) letter (field_value field) (length bytes)) (is_letter prefix letter) refl
+
+parameter_stands : (prefix : Prefix) (at : ℕ) (bytes : List ℕ) → Stands bytes (parameter_at prefix at bytes)
+unfolding parameter_at
+parameter_stands prefix at bytes =
+    let field = field_at bytes in
+    subst (λ (bs : List ℕ). Stands bs (letter_at prefix at field.0 field.1)) (sym (field_split {bytes = bytes}).joined)
+    (further (field_bytes field.0) field.1 (letter_at prefix at field.0 field.1) (letter_stands prefix at field.0 field.1))
+
+-- ---- universal exits
+
+-- the lines are the data
+skipped_stands : {place : ℕ} {bytes after : List ℕ} {read : Result (List ℕ) ℕ} (front : List ℕ) (said : Option Said)
+    → bytes ≡ front ++ after → IfSome said (λ said. IsTold said.name) → Lines place after read → Stands bytes (skipped_by after said read)
+skipped_stands front None e t (skipped lines rest each) =
+    record { front = front ++ joined lines; joined = e ∙ sym (append_assoc front (joined lines) rest); told = tt }
+skipped_stands front (Some said) e t (skipped lines rest each) = record {
+  front = front;
+  joined = e ∙ ap (λ (bs : List ℕ). front ++ (bs ++ rest)) (sym (before_rest_is (joined lines) rest));
+  told = t;
+}
+skipped_stands front said e t (foreign lines line rest each ends l p) = tt
+
+lines_stand : (begin len : ℕ) (bytes : List ℕ) (read : Result Reads Refusal) → Stands bytes read
+    → Stands bytes (with_lines begin len read)
+lines_stand begin len bytes (Ok reads) s =
+    either bytes (leaves reads.said) _ _
+    (skipped_stands (s.front ++ data_of reads.said) reads.said
+    (s.joined ∙ sym (append_assoc s.front (data_of reads.said) reads.rest)) s.told
+    (lines_split (suc (length reads.rest)) (omega arith)))
+    s
+lines_stand begin len bytes (Err fault) s = tt
+
+ungrouped_stands : (at parameterized : ℕ) (bytes : List ℕ) → Stands bytes (ungrouped_at at parameterized bytes)
+unfolding ungrouped_at
+ungrouped_stands at parameterized bytes =
+    let prefix : Prefix = record { parameterized = parameterized; group = None } in
+    lines_stand (at + 2) (length bytes) bytes (parameter_at prefix at bytes) (parameter_stands prefix at bytes)
+
+-- ---- all steps
+
+prefix_stands : (at parameterized : ℕ) (bytes : List ℕ) → Stands bytes (prefix_at at parameterized bytes)
+unfolding prefix_at
+prefix_stands at parameterized [] = tt
+prefix_stands at parameterized (group ∷ bytes) =
+    let prefix : Prefix = record { parameterized = parameterized; group = Some group } in
+    either (group ∷ bytes) (is_group group) _ _ (further (group ∷ []) bytes (parameter_at prefix at bytes) (parameter_stands prefix at bytes))
+    (either (group ∷ bytes) (is_ungrouped parameterized) _ _ (ungrouped_stands at parameterized (group ∷ bytes)) tt)
+
+sequence_stands : (at : ℕ) (bytes : List ℕ) → Stands bytes (sequence_at at bytes)
+unfolding sequence_at
+sequence_stands at [] = tt
+sequence_stands at (byte ∷ bytes) =
+    either (byte ∷ bytes) (is_two_character byte) _ _ (code_stands at byte bytes)
+    (either (byte ∷ bytes) (is_parameterized byte) _ _ (further (byte ∷ []) bytes (prefix_at at byte bytes) (prefix_stands at byte bytes)) tt)
+
+start_stands : (at : ℕ) (bytes : List ℕ) → Stands bytes (start_at at bytes)
+unfolding start_at
+start_stands at [] = record { front = []; joined = refl; told = tt }
+start_stands at (byte ∷ bytes) =
+    either (byte ∷ bytes) (is_silent byte) _ _ (record { front = byte ∷ []; joined = refl; told = tt })
+    (either (byte ∷ bytes) (byte == 27) _ _ (further (byte ∷ []) bytes (sequence_at at bytes) (sequence_stands at bytes))
+    (either (byte ∷ bytes) (is_control byte) _ _ (code_stands at byte bytes) (text_stands at (byte ∷ bytes))))
+
+step_stands : (inside : Option Prefix) (at : ℕ) (bytes : List ℕ) → Stands bytes (step_at inside at bytes)
+step_stands None at bytes = start_stands at bytes
+step_stands (Some prefix) at bytes = parameter_stands prefix at bytes
+
+-- ---- in the job
+
+-- the bytes are an end of the job
+pub record IsEndOf (job bytes : List ℕ) : Type 0 where
+  pub read : List ℕ
+  pub joined : job ≡ read ++ bytes
+
+-- where the data of a command stand, if there is one
+place_of_data : {job : List ℕ} (before rest : List ℕ) (said : Option Said) → job ≡ before ++ (data_of said ++ rest)
+    → IfSome said (λ said. IsTold said.name) → IfSome said (IsPlaced job (length rest))
+place_of_data before rest None e t = tt
+place_of_data {job} before rest (Some said) e t =
+    let sent = said.bytes in
+    let whole : length job ≡ length before + (length sent + length rest) =
+    ap (λ (bs : List ℕ). length bs) e ∙ length-append before (sent ++ rest)
+    ∙ ap (λ (n : ℕ). length before + n) (length-append sent rest) in
+    let place : length job - length rest - length sent ≡ length before = omega (arith, whole) in
+    record {
+      within = omega (arith, whole);
+      bytes = ap (λ (bs : List ℕ). bytes_in bs (length job - length rest - length sent) (length sent)) e
+          ∙ ap (λ (n : ℕ). bytes_in (before ++ (sent ++ rest)) n (length sent)) place
+          ∙ ap (λ (bs : List ℕ). take (length sent) bs) (drop_at before (sent ++ rest) (length before) refl)
+          ∙ take_at sent rest (length sent) refl;
+      name = t;
+    }
+
+-- what a step reads of an end of the job, and what is left
+pub step_placed : {job bytes : List ℕ} (inside : Option Prefix) (at : ℕ) (reads : Reads) → IsEndOf job bytes
+    → step_at inside at bytes ≡ Ok reads → IfSome reads.said (IsPlaced job (length reads.rest)) × IsEndOf job reads.rest
+step_placed {job} {bytes} inside at reads is e =
+    let s : StandsIn bytes reads = subst (λ (read : Result Reads Refusal). Stands bytes read) e (step_stands inside at bytes) in
+    let whole : job ≡ (is.read ++ s.front) ++ (data_of reads.said ++ reads.rest) =
+    is.joined ∙ ap (λ (bs : List ℕ). is.read ++ bs) s.joined ∙ sym (append_assoc is.read s.front (data_of reads.said ++ reads.rest)) in (
+      place_of_data (is.read ++ s.front) reads.rest reads.said whole s.told,
+      record {
+        read = (is.read ++ s.front) ++ data_of reads.said;
+        joined = whole ∙ sym (append_assoc (is.read ++ s.front) (data_of reads.said) reads.rest);
+      },
+    )
