@@ -1,7 +1,6 @@
 -- How far commands and macros bring a performance, and how much work they leave.
-use Rattle.std.proofs.Common.{◌≡◌, ℕ, zero, suc, ◌+◌, ◌-◌, ◌*◌, ◌<◌, ◌≤◌, Bool, cond, List, [], ◌∷◌, ◌++◌, length, take, drop, get_or, drop-cons, Option, Some, None, Result, Ok, Err, refl, sym, ap, subst, ◌∙◌, length-append, suc-mul, arith, inl, inr}
-use Rattle.std.specs.Prelude.{◌⊎◌}
-use Rattle.std.proofs.Math.ListN.{drop_of_length-le}
+use Rattle.std.proofs.Common.{◌≡◌, ℕ, zero, suc, ◌+◌, ◌-◌, ◌*◌, ◌<◌, ◌≤◌, Bool, cond, List, [], ◌∷◌, ◌++◌, length, take, drop, Option, Some, None, Result, Ok, Err, refl, sym, ap, subst, ◌∙◌, length-append, suc-mul, arith, inl, inr}
+use Rattle.std.specs.Prelude.{◌⊎◌, slice_get}
 use Rattle.arrayvec.specs.ArrayVec.{ArrayVec}
 use Rattle.pcl_base.specs.declared.dpi.Dpi.{Dpi}
 use Rattle.pcl_base.specs.declared.fault.CallFault.TheVariants as call
@@ -14,8 +13,7 @@ use Rattle.pcl_base.specs.Operation.{operation_of}
 use Rattle.pcl_base.specs.Refusal.{refusal}
 use Rattle.pcl_env.specs.Settings.{Settings}
 use Rattle.pcl_macros.specs.Table.{MacroTable, Holds}
-use Rattle.pcl_escape.specs.declared.command.Command.{Command}
-use Rattle.pcl_escape.specs.Said.{Said, view, views}
+use Rattle.pcl_escape.specs.Said.{Said}
 use Rattle.pcl_bitmap.specs.declared.page.Page.{Page}
 use Rattle.pcl_page.specs.declared.performer.Performer.{Performer}
 use Rattle.pcl_page.specs.declared.interpreter.Interpreter.{Interpreter}
@@ -79,20 +77,16 @@ stepped_short takes dpi all place command s old new sink later t =
 
 -- ---- the next command of a macro
 
-drop_views : (i : ℕ) (commands : List Command) → drop i (views commands) ≡ views (drop i commands)
-drop_views zero commands = refl
-drop_views (suc i) [] = refl
-drop_views (suc i) (first ∷ commands) = drop_views i commands
+pub got_there : (all : List Said) (i : ℕ) {command : Said} → slice_get all i ≡ Some command → drop i all ≡ command ∷ drop (suc i) all
+got_there [] i got = absurd cc
+got_there (first ∷ all) zero got = let same : first ≡ _ = cc in ap (λ (c : Said). c ∷ all) same
+got_there (first ∷ all) (suc i) got = got_there all i got
 
-got_there : (commands : List Command) {i : ℕ} {command : Command} → i < length commands → command ≡ get_or commands i command
-    → drop i (views commands) ≡ view command ∷ drop (suc i) (views commands)
-got_there commands {i} {command} lt same =
-    drop_views i commands ∙ ap views (drop-cons commands i command lt)
-    ∙ ap (λ (c : Command). view c ∷ views (drop (suc i) commands)) (sym same)
-    ∙ ap (λ (rest : List Said). view command ∷ rest) (sym (drop_views (suc i) commands))
-
-past_end : (commands : List Command) {i : ℕ} → length commands ≤ i → drop i (views commands) ≡ []
-past_end commands {i} le = drop_views i commands ∙ ap views (drop_of_length-le commands le)
+pub past_end : (all : List Said) (i : ℕ) → slice_get all i ≡ None → drop i all ≡ []
+past_end [] zero past = refl
+past_end [] (suc i) past = refl
+past_end (first ∷ all) zero past = absurd cc
+past_end (first ∷ all) (suc i) past = past_end all i past
 
 taken_next : (n place end : ℕ) {command : Said} (rest : List Said) → end - place ≡ suc n → end - (place + 1) ≡ n
     → take (end - place) (command ∷ rest) ≡ command ∷ take (end - (place + 1)) rest
@@ -103,70 +97,65 @@ taken_next n place end {command} rest e f =
 abbrev pub advanced : Running → Running
 advanced newest = record { next = newest.next + 1; end = newest.end; saved = newest.saved }
 
-left_next : (commands : List Command) (newest : Running) {command : Command}
-    → newest.next < length commands → command ≡ get_or commands newest.next command
+left_next : (all : List Said) (newest : Running) {command : Said} → slice_get all newest.next ≡ Some command
     → newest.next < newest.end
-    → commands_left (views commands) (run_in newest) ≡ view command ∷ commands_left (views commands) (run_in (advanced newest))
-left_next commands newest {command} within got lt =
+    → commands_left all (run_in newest) ≡ command ∷ commands_left all (run_in (advanced newest))
+left_next all newest {command} got lt =
     let plus : suc newest.next ≡ newest.next + 1 = omega arith in
-    ap (λ (rest : List Said). take (newest.end - newest.next) rest) (got_there commands within got)
-    ∙ ap (λ (n : ℕ). take (newest.end - newest.next) (view command ∷ drop n (views commands))) plus
-    ∙ taken_next (newest.end - (newest.next + 1)) newest.next newest.end (drop (newest.next + 1) (views commands))
-    (omega arith) refl
+    ap (λ (rest : List Said). take (newest.end - newest.next) rest) (got_there all newest.next got)
+    ∙ ap (λ (n : ℕ). take (newest.end - newest.next) (command ∷ drop n all)) plus
+    ∙ taken_next (newest.end - (newest.next + 1)) newest.next newest.end (drop (newest.next + 1) all) (omega arith) refl
 
-rest_next : (levels : ℕ) (dpi : Dpi) (commands : List Command) (newest : Running) {command : Command} (s : Situation)
-    → newest.next < length commands → command ≡ get_or commands newest.next command → newest.next < newest.end
-    → rest_of levels dpi (views commands) (run_in newest) s
-    ≡ then_on (step dpi (runs levels dpi (views commands)) newest.next (view command) s)
-    (rest_of levels dpi (views commands) (run_in (advanced newest)))
-rest_next levels dpi commands newest {command} s within got lt =
-    let all = views commands in
+rest_next : (levels : ℕ) (dpi : Dpi) (all : List Said) (newest : Running) {command : Said} (s : Situation)
+    → slice_get all newest.next ≡ Some command → newest.next < newest.end
+    → rest_of levels dpi all (run_in newest) s
+    ≡ then_on (step dpi (runs levels dpi all) newest.next command s) (rest_of levels dpi all (run_in (advanced newest)))
+rest_next levels dpi all newest {command} s got lt =
     let one = step dpi (runs levels dpi all) in
     ap (λ (cs : List Said). then_on (in_order one newest.next cs s) (λ later. done (macro_ended dpi newest.saved later)))
-    (left_next commands newest within got lt)
-    ∙ then_assoc (one newest.next (view command) s)
+    (left_next all newest got lt)
+    ∙ then_assoc (one newest.next command s)
     (in_order one (newest.next + 1) (commands_left all (run_in (advanced newest)))) (λ later. done (macro_ended dpi newest.saved later))
 
-pub next_of_macro : (dpi : Dpi) (commands : List Command) (older : List Running) (newest : Running) {command : Command} (s : Situation)
-    → length older < 3 → newest.next < length commands → command ≡ get_or commands newest.next command → newest.next < newest.end
-    → begun_among dpi (views commands) newest.next (view command) (older ++ advanced newest ∷ []) s
-    ≡ resumed macro_limit dpi (views commands) (older ++ newest ∷ []) s
-next_of_macro dpi commands older newest {command} s few within got lt =
-    let all = views commands in
+pub next_of_macro : (dpi : Dpi) (all : List Said) (older : List Running) (newest : Running) {command : Said} (s : Situation)
+    → length older < 3 → slice_get all newest.next ≡ Some command → newest.next < newest.end
+    → begun_among dpi all newest.next command (older ++ advanced newest ∷ []) s ≡ resumed macro_limit dpi all (older ++ newest ∷ []) s
+next_of_macro dpi all older newest {command} s few got lt =
     let k = 2 - length older in
-    let one = step dpi (runs k dpi all) newest.next (view command) s in
+    let one = step dpi (runs k dpi all) newest.next command s in
     let levels : macro_limit - length (older ++ advanced newest ∷ []) ≡ k = omega (arith, length-append older (advanced newest ∷ [])) in
-    ap (λ (n : ℕ). then_on (step dpi (runs n dpi all) newest.next (view command) s)
+    ap (λ (n : ℕ). then_on (step dpi (runs n dpi all) newest.next command s)
     (resumed macro_limit dpi all (older ++ advanced newest ∷ []))) levels
     ∙ then_same one
     (λ t. pushed dpi all older (advanced newest) t few)
     ∙ sym (pushed dpi all older newest s few
-    ∙ ap (λ (p : Performance). then_on p (resumed macro_limit dpi all older)) (rest_next k dpi commands newest s within got lt)
+    ∙ ap (λ (p : Performance). then_on p (resumed macro_limit dpi all older)) (rest_next k dpi all newest s got lt)
     ∙ then_assoc one (rest_of k dpi all (run_in (advanced newest))) (resumed macro_limit dpi all older))
 
+-- a macro has no command left
+abbrev pub HasEnded : List Said → Running → Type 0
+HasEnded all newest = (slice_get all newest.next ≡ None) ⊎ (newest.end ≤ newest.next)
+
 -- the end of a macro
-none_left : (commands : List Command) (newest : Running)
-    → ((length commands ≤ newest.next) ⊎ (newest.end ≤ newest.next)) → commands_left (views commands) (run_in newest) ≡ []
-none_left commands newest e = elim e [
-  | inl past ↦ ap (λ (rest : List Said). take (newest.end - newest.next) rest) (past_end commands past)
+none_left : (all : List Said) (newest : Running) → HasEnded all newest → commands_left all (run_in newest) ≡ []
+none_left all newest e = elim e [
+  | inl past ↦ ap (λ (rest : List Said). take (newest.end - newest.next) rest) (past_end all newest.next past)
       ∙ take_none (newest.end - newest.next)
   | inr le ↦ let zero_left : newest.end - newest.next ≡ 0 = omega arith in
-      ap (λ (n : ℕ). take n (drop newest.next (views commands))) zero_left
+      ap (λ (n : ℕ). take n (drop newest.next all)) zero_left
 ]
   where
     take_none : (n : ℕ) → take {A = Said} n [] ≡ []
     take_none zero = refl
     take_none (suc n) = refl
 
-pub end_of_macro : (dpi : Dpi) (commands : List Command) (older : List Running) (newest : Running) (s : Situation)
-    → length older < 3 → ((length commands ≤ newest.next) ⊎ (newest.end ≤ newest.next))
-    → resumed macro_limit dpi (views commands) older (macro_ended dpi newest.saved s)
-    ≡ resumed macro_limit dpi (views commands) (older ++ newest ∷ []) s
-end_of_macro dpi commands older newest s few e =
-    let all = views commands in
+pub end_of_macro : (dpi : Dpi) (all : List Said) (older : List Running) (newest : Running) (s : Situation)
+    → length older < 3 → HasEnded all newest
+    → resumed macro_limit dpi all older (macro_ended dpi newest.saved s) ≡ resumed macro_limit dpi all (older ++ newest ∷ []) s
+end_of_macro dpi all older newest s few e =
     sym (pushed dpi all older newest s few
     ∙ ap (λ (cs : List Said). then_on (then_on (in_order (step dpi (runs (2 - length older) dpi all)) newest.next cs s)
-    (λ later. done (macro_ended dpi newest.saved later))) (resumed macro_limit dpi all older)) (none_left commands newest e))
+    (λ later. done (macro_ended dpi newest.saved later))) (resumed macro_limit dpi all older)) (none_left all newest e))
 
 -- the same interpreter but for the macros that run
 pub at_running : {dpi : Dpi} {s : Situation} {old new : Interpreter} → new.performer ≡ old.performer → new.macros ≡ old.macros
@@ -241,34 +230,30 @@ ended_less count performed older newest = omega (arith, left_append count older 
 -- ---- a macro that runs
 
 -- the next command of the newest macro, on the way to what all have left
-pub command_goes : {S : Type 0} (takes : S → Page → S → Type 0) (dpi : Dpi) (commands : List Command) (older pushed_on : List Running)
-    (newest : Running) (command : Command) (s : Situation) (result : Result (Unit {0}) JobFault) (last : Interpreter) (sink later : S)
-    → length older < 3 → newest.next < length commands → command ≡ get_or commands newest.next command → newest.next < newest.end
+pub command_goes : {S : Type 0} (takes : S → Page → S → Type 0) (dpi : Dpi) (all : List Said) (older pushed_on : List Running)
+    (newest : Running) (command : Said) (s : Situation) (result : Result (Unit {0}) JobFault) (last : Interpreter) (sink later : S)
+    → length older < 3 → slice_get all newest.next ≡ Some command → newest.next < newest.end
     → pushed_on ≡ older ++ advanced newest ∷ []
-    → GoesOn takes dpi (views commands) (begun_among dpi (views commands) newest.next (view command) pushed_on s) s result last sink later
-    → GoesOn takes dpi (views commands) (resumed macro_limit dpi (views commands) (older ++ newest ∷ []) s) s result last sink later
-command_goes takes dpi commands older pushed_on newest command s result last sink later few within got lt push g =
-    let all = views commands in
-    goes_to takes dpi all (begun_among dpi all newest.next (view command) pushed_on s)
+    → GoesOn takes dpi all (begun_among dpi all newest.next command pushed_on s) s result last sink later
+    → GoesOn takes dpi all (resumed macro_limit dpi all (older ++ newest ∷ []) s) s result last sink later
+command_goes takes dpi all older pushed_on newest command s result last sink later few got lt push g =
+    goes_to takes dpi all (begun_among dpi all newest.next command pushed_on s)
     (resumed macro_limit dpi all (older ++ newest ∷ []) s) s result last sink later
-    (ap (λ (rs : List Running). begun_among dpi all newest.next (view command) rs s) push
-    ∙ next_of_macro dpi commands older newest s few within got lt) g
+    (ap (λ (rs : List Running). begun_among dpi all newest.next command rs s) push
+    ∙ next_of_macro dpi all older newest s few got lt) g
 
 -- the end of the newest macro
-pub end_goes : {S : Type 0} (takes : S → Page → S → Type 0) (dpi : Dpi) (commands : List Command) (old last : Interpreter)
-    (newest : Running) (s : Situation) (sink : S)
-    → length old.running.items < 3 → ((length commands ≤ newest.next) ⊎ (newest.end ≤ newest.next))
+pub end_goes : {S : Type 0} (takes : S → Page → S → Type 0) (dpi : Dpi) (all : List Said) (old last : Interpreter)
+    (newest : Running) (s : Situation) (sink : S) → length old.running.items < 3 → HasEnded all newest
     → IsAt dpi (macro_ended dpi newest.saved s) last → last.running ≡ old.running
-    → GoesOn takes dpi (views commands) (resumed macro_limit dpi (views commands) (old.running.items ++ newest ∷ []) s) s
-    (Ok tt) last sink sink
-end_goes takes dpi commands old last newest s sink few e at run =
-    let all = views commands in
+    → GoesOn takes dpi all (resumed macro_limit dpi all (old.running.items ++ newest ∷ []) s) s (Ok tt) last sink sink
+end_goes takes dpi all old last newest s sink few e at run =
     let then = macro_ended dpi newest.saved s in (
       then,
       at,
       no_pages takes dpi s then sink sink (left_pages dpi newest.saved s) refl,
       ap (λ (r : ArrayVec Running). resumed macro_limit dpi all r.items then) run
-          ∙ end_of_macro dpi commands old.running.items newest s few e,
+          ∙ end_of_macro dpi all old.running.items newest s few e,
     )
 
 -- ---- all macros that run

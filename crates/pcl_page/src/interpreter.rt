@@ -8,7 +8,7 @@ use crate::performer::Performer;
 use arrayvec::ArrayVec;
 use pcl_base::{CallFault, Dpi, JobFault, Kind, MACRO_LIMIT, Name, Operation, Refusal, Value};
 use pcl_env::Saved;
-use pcl_escape::Command;
+use pcl_escape::{Command, CommandList};
 use pcl_macros::{MacroControl, Macros};
 use std::alloc::{AllocError, Global};
 
@@ -40,7 +40,7 @@ impl<'a> Interpreter<'a> {
     ghost use Rattle.pcl_base.specs.declared.dpi.Dpi.{Dpi};
     ghost use Rattle.pcl_base.specs.Limits.{macro_limit};
     ghost use Rattle.pcl_base.specs.Operation.{operation_of};
-    ghost use Rattle.pcl_escape.specs.Said.{Said, view, views};
+    ghost use Rattle.pcl_escape.specs.Said.{Said, view};
     ghost use Rattle.pcl_macros.specs.Table.{is_begun, macro_at};
     ghost use Rattle.pcl_page.specs.Performing.{performance};
     ghost use Rattle.pcl_page.specs.Delivering.{HandsOver};
@@ -61,36 +61,38 @@ impl<'a> Interpreter<'a> {
     }
 
     /// Performs the commands of a job of `end` bytes from its start to its end.
-    pub fn perform_all<S: PageSink>(
+    pub fn perform_all<L: CommandList<'a>, S: PageSink>(
         &mut self,
-        commands: &[Command<'a>],
+        commands: &L,
         end: usize,
         dpi: Dpi,
         sink: &mut S,
     ) -> Result<(), JobFault>
         requires begin { IsAt dpi at_begin self.old }
         requires idle { self.old.running.items ≡ [] }
-        ensures { HandsOver S.takes dpi (performance dpi end (views commands.now)) result sink.old sink.new
-            × IsAsking (performance dpi end (views commands.now)) result self.new.performer }
+        ensures { HandsOver S.takes dpi (performance dpi end (L.commands commands.now)) result sink.old sink.new
+            × IsAsking (performance dpi end (L.commands commands.now)) result self.new.performer }
     {
-        for (place, command) in commands.iter().enumerate() {
-            self.perform_at(command, place, dpi, sink)?;
+        let mut place = 0;
+        while let Some(command) = commands.command_at(place) {
+            self.perform_at(&command, place, dpi, sink)?;
             self.run_macros(commands, dpi, sink)?;
+            place += 1;
         }
         self.finish(end, sink)
     }
 
     /// Performs what the macros that run have left.
-    fn run_macros<S: PageSink>(
+    fn run_macros<L: CommandList<'a>, S: PageSink>(
         &mut self,
-        commands: &[Command<'a>],
+        commands: &L,
         dpi: Dpi,
         sink: &mut S,
     ) -> Result<(), JobFault>
         requires somewhere { IsSomewhere dpi self.old }
         requires few { length self.old.running.items ≤ macro_limit }
-        ensures done { (s : Situation) → IsAt dpi s self.old → GoesOn S.takes dpi (views commands.now)
-            (resumed macro_limit dpi (views commands.now) self.old.running.items s) s result self.new sink.old sink.new }
+        ensures done { (s : Situation) → IsAt dpi s self.old → GoesOn S.takes dpi (L.commands commands.now)
+            (resumed macro_limit dpi (L.commands commands.now) self.old.running.items s) s result self.new sink.old sink.new }
         ensures idle { OnOk result (self.new.running.items ≡ []) }
     {
         while let Some(macro_run) = self.running.pop() {
@@ -100,30 +102,30 @@ impl<'a> Interpreter<'a> {
     }
 
     /// Performs the next command of a macro that runs, or does what its end does.
-    fn go_on<S: PageSink>(
+    fn go_on<L: CommandList<'a>, S: PageSink>(
         &mut self,
         newest: Running,
-        commands: &[Command<'a>],
+        commands: &L,
         dpi: Dpi,
         sink: &mut S,
     ) -> Result<(), JobFault>
         requires level { length self.old.running.items < macro_limit }
         requires somewhere { IsSomewhere dpi self.old }
-        ensures done { (s : Situation) → IsAt dpi s self.old → GoesOn S.takes dpi (views commands.now)
-            (resumed macro_limit dpi (views commands.now) (self.old.running.items ++ newest ∷ []) s) s result self.new sink.old sink.new }
+        ensures done { (s : Situation) → IsAt dpi s self.old → GoesOn S.takes dpi (L.commands commands.now)
+            (resumed macro_limit dpi (L.commands commands.now) (self.old.running.items ++ newest ∷ []) s) s result self.new sink.old sink.new }
         ensures few { OnOk result (length self.new.running.items ≤ macro_limit) }
-        ensures less { OnOk result (work_left (length commands.now) self.new.performer.performed self.new.running.items
-            < work_left (length commands.now) self.old.performer.performed (self.old.running.items ++ newest ∷ [])) }
+        ensures less { OnOk result (work_left (length (L.commands commands.now)) self.new.performer.performed self.new.running.items
+            < work_left (length (L.commands commands.now)) self.old.performer.performed (self.old.running.items ++ newest ∷ [])) }
     {
         let place = newest.next;
-        match commands.get(place) {
+        match commands.command_at(place) {
             Some(command) if place < newest.end => {
                 self.running.push(Running {
                     next: place + 1,
                     end: newest.end,
                     saved: newest.saved,
                 });
-                self.perform_at(command, place, dpi, sink)
+                self.perform_at(&command, place, dpi, sink)
             }
             _ => {
                 self.leave(newest.saved, dpi);

@@ -15,7 +15,7 @@ use crate::asks::Asks;
 use crate::interpreter::Interpreter;
 use crate::{Page, PageSink};
 use pcl_base::{Dpi, JobFault};
-use pcl_escape::{Command, one_outcome, read_job};
+use pcl_escape::{Command, CommandList, one_outcome, read_commands};
 use std::alloc::{AllocError, Global};
 use std::marker::Model;
 
@@ -46,7 +46,20 @@ pub fn run_asked<'a, S: PageSink>(
 ) -> Result<Asks<'a>, JobFault>
     ensures { HandsOverAsked S.takes dpi (performance dpi end (views commands.now)) result sink.old sink.new }
 {
-    let mut interpreter = Interpreter::new(alloc, dpi)?;
+    run_list(alloc, &commands, end, dpi, sink)
+}
+
+/// The same for any list of commands.
+fn run_list<'a, L: CommandList<'a>, S: PageSink>(
+    alloc: Global,
+    commands: &L,
+    end: usize,
+    dpi: Dpi,
+    sink: &mut S,
+) -> Result<Asks<'a>, JobFault>
+    ensures { HandsOverAsked S.takes dpi (performance dpi end (L.commands commands.now)) result sink.old sink.new }
+{
+    let mut interpreter: Interpreter<'a> = Interpreter::new(alloc, dpi)?;
     interpreter.perform_all(commands, end, dpi, sink)?;
     let performer = interpreter.performer;
     Ok(performer.asks)
@@ -76,8 +89,8 @@ pub fn perform_asked<'a, S: PageSink>(
 ) -> Result<Asks<'a>, JobFault>
     ensures { DeliversAsked S.takes dpi job.now result sink.old sink.new }
 {
-    let commands = read_job(alloc, job)?;
-    run_asked(alloc, &commands, job.len(), dpi, sink)
+    let commands = read_commands(alloc, job)?;
+    run_list(alloc, &commands, job.len(), dpi, sink)
 }
 
 /// The pages of a job, in order.

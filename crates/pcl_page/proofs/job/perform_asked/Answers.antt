@@ -1,9 +1,5 @@
-use Rattle.std.proofs.Common.{List, refl, subst}
+use Rattle.std.proofs.Common.{refl}
 use Rattle.std.proofs.lemmas.Result.{err_from_is_err_and}
-use Rattle.pcl_escape.specs.declared.command.Command.{Command}
-use Rattle.pcl_escape.specs.Said.{views}
-use Rattle.pcl_page.specs.Delivering.{HandsOverAsked}
-use Rattle.pcl_page.specs.Jobs.{performance_of}
 use Rattle.pcl_page.proofs.Jobs.{delivered_asked, undelivered}
 use Rattle.pcl_page.proofs.job.perform_asked.Goals as goal
 
@@ -15,8 +11,5 @@ returns-in_err-commands g c =
 
 pub returns : goal.returns
 returns g c =
-    delivered_asked g.S.PageSink.takes c.args.dpi c.args.job.now (views c.in_ok-commands.commands.items) c.run_asked.result c.args.sink.now
-    c.run_asked.new.sink c.in_ok-commands.ensures.reading
-    (subst (λ (cs : List Command). HandsOverAsked g.S.PageSink.takes c.args.dpi (performance_of c.args.dpi c.args.job.now (views cs))
-    c.run_asked.result
-    c.args.sink.now c.run_asked.new.sink) c.deref.ensures.value c.run_asked.ensures)
+    delivered_asked g.S.PageSink.takes c.args.dpi c.args.job.now c.in_ok-commands.commands c.run_list.result c.args.sink.now
+    c.run_list.new.sink c.in_ok-commands.ensures.reading c.run_list.ensures

@@ -1,80 +1,86 @@
-use Rattle.std.proofs.Common.{◌≡◌, ◌<◌, ◌∷◌, ◌+◌, [], List, ℕ, length, drop, get_or, refl, ap, subst, add-one, drop-cons}
-use Rattle.std.proofs.Math.ListN.{drop_of_length-le}
+use Rattle.std.proofs.Common.{◌≡◌, ◌∷◌, ◌+◌, suc, [], List, ℕ, Some, drop, refl, sym, ap, subst, ◌∙◌, arith}
+use Rattle.std.specs.Prelude.{slice_get}
+use Rattle.std.proofs.lemmas.Option.{slice_get_within}
 use Rattle.std.proofs.lemmas.Result.{err_from_is_err_and}
-use Rattle.pcl_escape.specs.declared.command.Command.{Command}
-use Rattle.pcl_escape.specs.Said.{Said, view, views}
+use Rattle.pcl_escape.specs.Said.{Said}
 use Rattle.pcl_page.specs.Performing.{performance}
 use Rattle.pcl_page.proofs.Jobs.{IsReached, rest_of_job, command_stopped, has_begun, macros_stopped, macros_reached, end_reached}
+use Rattle.pcl_page.proofs.Progress.{got_there, past_end}
 use Rattle.pcl_page.proofs.interpreter.Interpreter.perform_all.Goals as goal
 
 -- the next command and those after it
-next_is : (commands : List Command) {i : ℕ} (default : Command) → i < length commands
-    → views (drop i commands) ≡ view (get_or commands i default) ∷ views (drop (i + 1) commands)
-next_is commands {i} default lt =
-    let parts : drop i commands ≡ get_or commands i default ∷ drop (i + 1) commands = rw (add-one, drop-cons commands i default lt) refl in
-    ap views parts
+next_is : (all : List Said) (i : ℕ) {command : Said} → Some command ≡ slice_get all i → drop i all ≡ command ∷ drop (i + 1) all
+next_is all i {command} got =
+    let plus : suc i ≡ i + 1 = omega arith in
+    got_there all i (sym got) ∙ ap (λ (n : ℕ). command ∷ drop n all) plus
 
-pub loop-place-preserved : goal.loop-place-preserved
-loop-place-preserved g c =
-    let all = views c.args.commands.now in
+pub loop-command-preserved : goal.loop-command-preserved
+loop-command-preserved g c =
+    let all = g.L.CommandList.commands c.args.commands.now in
     let whole = performance c.args.dpi c.args.end all in
-    let next = next_is c.args.commands.now _ c.loop-place-test.true in
+    let next = next_is all c.loop-command.place c.in-Some.ensures.command in
     let r = subst (λ (rest : List Said). IsReached g.S.PageSink.takes c.args.dpi whole
-    (rest_of_job c.args.dpi c.args.end all c.loop-place.place rest) c.loop-place.self c.args.sink.now c.loop-place.sink) next
-    c.loop-place.invariant in
-    let b = has_begun g.S.PageSink.takes c.args.dpi c.args.end all whole c.loop-place.place c.loop-place.self
-    c.perform_at.new.self c.args.sink.now c.loop-place.sink c.perform_at.new.sink r
+    (rest_of_job c.args.dpi c.args.end all c.loop-command.place rest) c.loop-command.self c.args.sink.now c.loop-command.sink) next
+    c.loop-command.invariant in
+    let b = has_begun g.S.PageSink.takes c.args.dpi c.args.end all whole c.loop-command.place c.loop-command.self
+    c.perform_at.new.self c.args.sink.now c.loop-command.sink c.perform_at.new.sink r
     (c.in_ok-perform_at.ensures.done all r.situation r.is_at) in
-    macros_reached g.S.PageSink.takes c.args.dpi c.args.end all whole c.loop-place.place _ c.perform_at.new.self c.run_macros.new.self
-    c.args.sink.now c.loop-place.sink c.perform_at.new.sink c.run_macros.new.sink b (λ s at. c.in_ok-run_macros.ensures.done s at)
+    macros_reached g.S.PageSink.takes c.args.dpi c.args.end all whole c.loop-command.place _ c.perform_at.new.self c.run_macros.new.self
+    c.args.sink.now c.loop-command.sink c.perform_at.new.sink c.run_macros.new.sink b (λ s at. c.in_ok-run_macros.ensures.done s at)
     c.in_ok-run_macros.ensures.idle
 
 pub returns-in_err-perform_at : goal.returns-in_err-perform_at
 returns-in_err-perform_at g c =
-    let all = views c.args.commands.now in
+    let all = g.L.CommandList.commands c.args.commands.now in
     let whole = performance c.args.dpi c.args.end all in
-    let next = next_is c.args.commands.now _ c.loop-place-test.true in
+    let next = next_is all c.loop-command.place c.in-Some.ensures.command in
     let r = subst (λ (rest : List Said). IsReached g.S.PageSink.takes c.args.dpi whole
-    (rest_of_job c.args.dpi c.args.end all c.loop-place.place rest) c.loop-place.self c.args.sink.now c.loop-place.sink) next
-    c.loop-place.invariant in
+    (rest_of_job c.args.dpi c.args.end all c.loop-command.place rest) c.loop-command.self c.args.sink.now c.loop-command.sink) next
+    c.loop-command.invariant in
     let p = err_from_is_err_and c.from_residual.result c.from_residual.ensures.1 in
     rw (p.1, p.2) (
-      command_stopped g.S.PageSink.takes c.args.dpi c.args.end all whole c.loop-place.place _ _ c.loop-place.self
-          c.perform_at.new.self c.args.sink.now c.loop-place.sink c.perform_at.new.sink _ r
+      command_stopped g.S.PageSink.takes c.args.dpi c.args.end all whole c.loop-command.place _ _ c.loop-command.self
+          c.perform_at.new.self c.args.sink.now c.loop-command.sink c.perform_at.new.sink _ r
           (c.in_err-perform_at.ensures.done all r.situation r.is_at),
       tt,
     )
 
-pub run_macros-requires-clause-somewhere : goal.run_macros-requires-clause-somewhere
-run_macros-requires-clause-somewhere g c =
-    let on = c.in_ok-perform_at.ensures.done [] c.loop-place.invariant.situation c.loop-place.invariant.is_at in (on.0, on.1)
+pub run_macros-requires : goal.run_macros-requires
+run_macros-requires g c =
+    let on = c.in_ok-perform_at.ensures.done [] c.loop-command.invariant.situation c.loop-command.invariant.is_at in
+    λ _. ((refl, tt), ((on.0, on.1), c.in_ok-perform_at.ensures.few))
 
 pub returns-in_err-run_macros : goal.returns-in_err-run_macros
 returns-in_err-run_macros g c =
-    let all = views c.args.commands.now in
+    let all = g.L.CommandList.commands c.args.commands.now in
     let whole = performance c.args.dpi c.args.end all in
-    let next = next_is c.args.commands.now _ c.loop-place-test.true in
+    let next = next_is all c.loop-command.place c.in-Some.ensures.command in
     let r = subst (λ (rest : List Said). IsReached g.S.PageSink.takes c.args.dpi whole
-    (rest_of_job c.args.dpi c.args.end all c.loop-place.place rest) c.loop-place.self c.args.sink.now c.loop-place.sink) next
-    c.loop-place.invariant in
-    let b = has_begun g.S.PageSink.takes c.args.dpi c.args.end all whole c.loop-place.place c.loop-place.self
-    c.perform_at.new.self c.args.sink.now c.loop-place.sink c.perform_at.new.sink r
+    (rest_of_job c.args.dpi c.args.end all c.loop-command.place rest) c.loop-command.self c.args.sink.now c.loop-command.sink) next
+    c.loop-command.invariant in
+    let b = has_begun g.S.PageSink.takes c.args.dpi c.args.end all whole c.loop-command.place c.loop-command.self
+    c.perform_at.new.self c.args.sink.now c.loop-command.sink c.perform_at.new.sink r
     (c.in_ok-perform_at.ensures.done all r.situation r.is_at) in
     let p = err_from_is_err_and c.from_residual-in_err-run_macros.result c.from_residual-in_err-run_macros.ensures.1 in
     rw (p.1, p.2) (
-      macros_stopped g.S.PageSink.takes c.args.dpi c.args.end all whole c.loop-place.place _ _ c.perform_at.new.self c.run_macros.new.self
-          c.args.sink.now c.loop-place.sink c.perform_at.new.sink c.run_macros.new.sink _ b (λ s at. c.in_err-run_macros.ensures.done s at),
+      macros_stopped g.S.PageSink.takes c.args.dpi c.args.end all whole c.loop-command.place _ _ c.perform_at.new.self c.run_macros.new.self
+          c.args.sink.now c.loop-command.sink c.perform_at.new.sink c.run_macros.new.sink _ b (λ s at. c.in_err-run_macros.ensures.done s at),
       tt,
     )
 
 pub returns : goal.returns
 returns g c =
-    let all = views c.args.commands.now in
+    let all = g.L.CommandList.commands c.args.commands.now in
     let whole = performance c.args.dpi c.args.end all in
-    let done : drop c.loop-place.place c.args.commands.now ≡ [] = drop_of_length-le c.args.commands.now c.loop-place-test.false in
-    end_reached g.S.PageSink.takes c.args.dpi c.args.end all whole c.loop-place.place c.loop-place.self c.finish.new.self.performer
-    c.args.sink.now c.loop-place.sink c.finish.new.sink c.finish.result
-    (subst (λ (rest : List Command). IsReached g.S.PageSink.takes c.args.dpi whole
-    (rest_of_job c.args.dpi c.args.end all c.loop-place.place (views rest)) c.loop-place.self c.args.sink.now c.loop-place.sink) done
-    c.loop-place.invariant)
+    let done : drop c.loop-command.place all ≡ [] = past_end all c.loop-command.place (sym c.in_default.ensures.command) in
+    end_reached g.S.PageSink.takes c.args.dpi c.args.end all whole c.loop-command.place c.loop-command.self c.finish.new.self.performer
+    c.args.sink.now c.loop-command.sink c.finish.new.sink c.finish.result
+    (subst (λ (rest : List Said). IsReached g.S.PageSink.takes c.args.dpi whole
+    (rest_of_job c.args.dpi c.args.end all c.loop-command.place rest) c.loop-command.self c.args.sink.now c.loop-command.sink) done
+    c.loop-command.invariant)
     (λ dpi s at. c.finish.ensures dpi s at)
+
+pub loop-command-smaller : goal.loop-command-smaller
+loop-command-smaller g c =
+    let within = slice_get_within (g.L.CommandList.commands c.args.commands.now) c.loop-command.place _ (sym c.in-Some.ensures.command) in
+    omega (arith, within)

@@ -1,6 +1,5 @@
 use Rattle.std.proofs.Common.{◌≤◌, length}
 use Rattle.pcl_base.specs.Limits.{macro_limit}
-use Rattle.pcl_escape.specs.Said.{views}
 use Rattle.pcl_page.specs.Situation.{Situation}
 use Rattle.pcl_page.specs.inner.Unfolding.{IsAt, resumed, work_left}
 use Rattle.pcl_page.proofs.Progress.{GoesBack}
@@ -10,9 +9,9 @@ use Rattle.pcl_page.proofs.interpreter.Interpreter.run_macros.Given as goal
 abbrev pub invariant-loop-macro_run : goal.invariant-loop-macro_run
 invariant-loop-macro_run g l =
     ((s : Situation) → IsAt l.dpi s l.fn.self
-    → GoesBack g.S.PageSink.takes l.dpi (views l.commands) (resumed macro_limit l.dpi (views l.commands) l.fn.self.running.items s) s l.self
-    l.fn.sink l.sink)
+    → GoesBack g.S.PageSink.takes l.dpi (g.L.CommandList.commands l.commands)
+    (resumed macro_limit l.dpi (g.L.CommandList.commands l.commands) l.fn.self.running.items s) s l.self l.fn.sink l.sink)
     × (length l.self.running.items ≤ macro_limit)
 
 abbrev pub decreases-loop-macro_run : goal.decreases-loop-macro_run
-decreases-loop-macro_run g l = work_left (length l.commands) l.self.performer.performed l.self.running.items
+decreases-loop-macro_run g l = work_left (length (g.L.CommandList.commands l.commands)) l.self.performer.performed l.self.running.items
