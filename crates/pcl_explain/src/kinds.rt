@@ -1,6 +1,6 @@
 //! What kinds of refusal mean.
 
-ghost use Rattle.std.specs.Prelude.{◌≡◌, ◌≢◌, IfOk, IfSome};
+ghost use Rattle.std.specs.Prelude.{◌≡◌, ◌≢◌, IfOk, MatchOption};
 ghost use Rattle.pcl_base.specs.Kind.{kind_name};
 ghost use Rattle.pcl_explain.specs.Findings.{ExplainsKind};
 
@@ -28,7 +28,7 @@ const KINDS: [Kind; 14] = [
 
 /// The kind of a name, as messages print it.
 pub fn kind_named(name: &str) -> Option<Kind>
-    ensures { IfSome result (λ kind. kind_name kind ≡ name.now) }
+    ensures { MatchOption result ((kind : Kind) → kind_name kind ≢ name.now) (λ kind. kind_name kind ≡ name.now) }
 {
     for kind in KINDS {
         if kind.name() == name {
