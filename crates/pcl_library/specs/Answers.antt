@@ -1,5 +1,5 @@
 -- What an answer tells.
-use Rattle.std.specs.Prelude.{◌≡◌, ◌⊎◌, ◌↔◌, ℕ, false, List, [], ◌∷◌, ◌++◌, length, IsTrue}
+use Rattle.std.specs.Prelude.{◌≡◌, ◌≢◌, ◌⊎◌, ◌↔◌, ℕ, false, List, [], ◌∷◌, ◌++◌, length, IsTrue}
 use Rattle.std.specs.Prelude.{Option, Some, None, Result, Ok, Err}
 use Rattle.std.specs.declared.alloc.AllocError.{AllocError}
 use Rattle.std.specs.Global.{Vec}
@@ -72,14 +72,17 @@ Tells other page answer = answer.outcome ≡ outcome_of other
 
 -- ---- calls on one job
 
--- what an answer tells at a resolution: of a call that is done this holds, a refusal is the job's, and no argument is wrong
+-- what an answer tells at a resolution: of a call that is done this holds, a refusal is the job's, and no argument is wrong; no page is
+-- missing, since none is asked for
 pub record AnswersAt (dpi : Dpi) (job : List ℕ) (Done : Answer → Type 0) (answer : Answer) : Type 0 where
   pub performed : IsPerformed answer.outcome
+  pub no_page : answer.outcome ≢ 2
   pub done : answer.outcome ≡ 0 → (answer.resolution ≡ dots_per_inch dpi) × Done answer
   pub refused : answer.outcome ≡ 1 → (refusal : Refusal) × IsRefusal dpi job refusal × TellsRefusal refusal answer
 
 -- the same at the resolution at which the job is seen by a number
 pub record Answers (number : ℕ) (job : List ℕ) (Done : Dpi → Answer → Type 0) (answer : Answer) : Type 0 where
+  pub no_page : answer.outcome ≢ 2
   pub done : answer.outcome ≡ 0 → (dpi : Dpi) × IsSeen number job dpi × (answer.resolution ≡ dots_per_inch dpi) × Done dpi answer
   pub refused : answer.outcome ≡ 1
       → (dpi : Dpi) × IsSeen number job dpi × ((refusal : Refusal) × IsRefusal dpi job refusal × TellsRefusal refusal answer)
@@ -104,6 +107,20 @@ LacksChosen number job choice last answer = (dpi : Dpi) × IsSeen number job dpi
 abbrev pub LacksPages : ℕ → List ℕ → (first last : ℕ) → Answer → Type 0
 LacksPages number job first last answer =
     (choice : PageChoice) × IsChoiceFor first last choice × LacksChosen number job choice last answer
+
+-- what an answer tells of pages that are asked for, at a resolution: their images, a refusal of the job, or that one is missing
+pub record ShowsAt (dpi : Dpi) (job : List ℕ) (choice : PageChoice) (last : ℕ) (answer : Answer) : Type 0 where
+  pub performed : IsPerformed answer.outcome
+  pub done : answer.outcome ≡ 0 → (answer.resolution ≡ dots_per_inch dpi) × HasChosenImages job choice dpi answer
+  pub refused : answer.outcome ≡ 1 → (refusal : Refusal) × IsRefusal dpi job refusal × TellsRefusal refusal answer
+  pub missing : answer.outcome ≡ 2 → LacksChosenAt dpi job choice last answer
+
+-- the same at the resolution at which the job is seen by a number, where these images and these missing pages are asked for
+pub record Shows (number : ℕ) (job : List ℕ) (Done : Dpi → Answer → Type 0) (Missing : Answer → Type 0) (answer : Answer) : Type 0 where
+  pub done : answer.outcome ≡ 0 → (dpi : Dpi) × IsSeen number job dpi × (answer.resolution ≡ dots_per_inch dpi) × Done dpi answer
+  pub refused : answer.outcome ≡ 1
+      → (dpi : Dpi) × IsSeen number job dpi × ((refusal : Refusal) × IsRefusal dpi job refusal × TellsRefusal refusal answer)
+  pub missing : answer.outcome ≡ 2 → Missing answer
 
 -- a least raster job of the job's pages, and its certificate where one of a format is asked for
 abbrev pub HasLeastJob : List ℕ → Option Format → Dpi → Answer → Type 0
@@ -155,11 +172,13 @@ TellsOneRefused dpi first second answer =
 -- what an answer tells at a resolution
 pub record ComparesAt (dpi : Dpi) (first second : List ℕ) (answer : Answer) : Type 0 where
   pub performed : IsPerformed answer.outcome
+  pub no_page : answer.outcome ≢ 2
   pub done : answer.outcome ≡ 0 → (answer.resolution ≡ dots_per_inch dpi) × HasComparison first second dpi answer
   pub refused : answer.outcome ≡ 1 → TellsOneRefused dpi first second answer
 
 -- the same at the resolution at which the jobs are seen by a number
 pub record Compares (number : ℕ) (first second : List ℕ) (answer : Answer) : Type 0 where
+  pub no_page : answer.outcome ≢ 2
   pub done : answer.outcome ≡ 0
       → (dpi : Dpi) × AreSeen number first second dpi × (answer.resolution ≡ dots_per_inch dpi) × HasComparison first second dpi answer
   pub refused : answer.outcome ≡ 1 → (dpi : Dpi) × AreSeen number first second dpi × TellsOneRefused dpi first second answer

@@ -1,9 +1,9 @@
 //! Images of pages.
 
-ghost use Rattle.std.specs.Prelude.{◌≡◌, ◌⊎◌};
+ghost use Rattle.std.specs.Prelude.{◌⊎◌};
 ghost use Rattle.pcl_tool.specs.PageImages.{ArePageImages};
 ghost use Rattle.pcl_library.specs.Arguments.{IsNoResolution, AreNoPages, IsTooLong, FailsBy};
-ghost use Rattle.pcl_library.specs.Answers.{Answers, AnswersAt, HasImages, HasChosenImages, LacksPages, LacksChosen, LacksChosenAt};
+ghost use Rattle.pcl_library.specs.Answers.{Shows, ShowsAt, HasImages, HasChosenImages, LacksPages, LacksChosen};
 
 use crate::answer::Answer;
 use crate::arguments::{pages_between, seen_at};
@@ -22,8 +22,7 @@ pub extern "C" fn pcl_library_preview(
     last: u32,
     answer: &mut Answer,
 )
-    ensures told { Answers resolution job.now (HasImages job.now first last) answer.new }
-    ensures missing { answer.new.outcome ≡ 2 → LacksPages resolution job.now first last answer.new }
+    ensures told { Shows resolution job.now (HasImages job.now first last) (LacksPages resolution job.now first last) answer.new }
     ensures arguments { FailsBy (IsNoResolution resolution ⊎ AreNoPages first last) (IsTooLong job.now) answer.new.outcome }
 {
     *answer = match pages_between(first, last) {
@@ -40,8 +39,7 @@ fn preview_answer(
     choice: PageChoice,
     last: u32,
 ) -> Answer
-    ensures told { Answers resolution job.now (HasChosenImages job.now choice) result }
-    ensures missing { result.outcome ≡ 2 → LacksChosen resolution job.now choice last result }
+    ensures told { Shows resolution job.now (HasChosenImages job.now choice) (LacksChosen resolution job.now choice last) result }
     ensures arguments { FailsBy (IsNoResolution resolution) (IsTooLong job.now) result.outcome }
 {
     match seen_at(alloc, job, resolution) {
@@ -52,8 +50,7 @@ fn preview_answer(
 
 /// The same at a resolution.
 fn chosen_answer(alloc: Global, job: &[u8], choice: PageChoice, last: u32, dpi: Dpi) -> Answer
-    ensures told { AnswersAt dpi job.now (HasChosenImages job.now choice dpi) result }
-    ensures missing { result.outcome ≡ 2 → LacksChosenAt dpi job.now choice last result }
+    ensures { ShowsAt dpi job.now choice last result }
 {
     match images(alloc, job, choice, dpi) {
         Ok(images) => Answer::of_bytes(images, dpi),
