@@ -1,11 +1,12 @@
 //! The shapes of all pages of a job.
 
 use crate::baselines::{count_bottoms, guess_baseline};
+use crate::drawing::{Drawings, draw_shapes};
 use crate::forms::Form;
-use crate::patterns::{Pattern, draw_patterns};
-use crate::rows::{Row, count_others, find_rows};
-use crate::runs::{PageRuns, find_runs};
-use crate::shapes::{Extent, Shapes, find_shapes};
+use crate::numbers::number_of_place;
+use crate::patterns::Pattern;
+use crate::rows::{Row, append_rows};
+use crate::shapes::{Extent, find_shapes};
 use indexmap::IndexSet;
 use pcl_base::Dpi;
 use pcl_bitmap::{Page, PageSink};
@@ -19,7 +20,7 @@ const ITEM_LIMIT: usize = 4_000_000;
 #[derive(Clone, Copy, PartialEq, Eq, PartialOrd, Ord)]
 pub struct Item {
     /// The number of its page, from 0.
-    pub page: usize,
+    pub page: u32,
     /// The row on which it seems to stand.
     pub baseline: u32,
     /// The dot of its left edge.
@@ -27,7 +28,7 @@ pub struct Item {
     /// Its topmost row.
     pub top: u32,
     /// The number of its pattern.
-    pub pattern: usize,
+    pub pattern: u32,
 }
 
 /// The shapes of the pages that came, in order. Shapes that are too large aren't kept.
@@ -69,44 +70,68 @@ impl Collection {
         }
     }
 
-    /// Collects the shapes of a page.
+    /// The patterns alone.
+    pub fn into_patterns(self) -> IndexSet<Pattern> {
+        self.patterns
+    }
+
+    /// The height of a page, in dots.
+    pub fn height_of(&self, page: u32) -> u32 {
+        self.heights.get(page as usize).copied().unwrap_or(0)
+    }
+
+    /// Collects the shapes of a page, and what its rows take.
     fn collect(&mut self, page: &Page) -> Result<(), AllocError> {
         let alloc = *self.items.allocator();
-        let number = self.heights.len();
         let scale = self.form.scale();
-        let runs = find_runs(alloc, &page.bitmap)?;
-        let shapes = find_shapes(alloc, &runs)?;
-        let patterns = draw_patterns(alloc, &runs.runs, &shapes, scale)?;
-        self.collect_rows(page, &runs, &shapes, &patterns)?;
+        let shapes = find_shapes(alloc, &page.bitmap)?;
+        let start = self.rows.len();
+        append_rows(&page.bitmap, &mut self.rows)?;
+        let start = start.min(self.rows.len());
+        let rows = &mut self.rows[start..];
+        let drawings = draw_shapes(alloc, &page.bitmap, &shapes, scale, rows)?;
         let height = page.size.height(page.dpi);
         let bottoms = count_bottoms(alloc, height, &shapes.extents, scale)?;
-        for (extent, pattern) in shapes.extents.iter().zip(patterns) {
-            if !pattern.rows.is_empty() {
-                let baseline = guess_baseline(*extent, &bottoms, scale);
-                let (pattern, _) = self.patterns.insert_full(pattern)?;
-                self.items
-                    .push(item_of(number, pattern, *extent, baseline))?;
+        self.collect_shapes(&shapes.extents, &drawings, &bottoms)
+    }
+
+    /// Collects the shapes of a page that have these boxes and drawings. So many shapes end above each of its rows.
+    fn collect_shapes(
+        &mut self,
+        extents: &[Extent],
+        drawings: &Drawings,
+        bottoms: &[u32],
+    ) -> Result<(), AllocError> {
+        let page = number_of_place(self.heights.len());
+        let scale = self.form.scale();
+        let start = self.items.len();
+        for (place, extent) in extents.iter().enumerate() {
+            let rows = drawings.rows_of(place);
+            if !rows.is_empty() {
+                let pattern = self.number_of_pattern(*extent, rows)?;
+                let baseline = guess_baseline(*extent, bottoms, scale);
+                self.items.push(item_of(page, pattern, *extent, baseline))?;
             }
         }
+        let start = start.min(self.items.len());
+        self.items[start..].sort_unstable();
         Ok(())
     }
 
-    /// Collects what the rows of a page take.
-    fn collect_rows(
-        &mut self,
-        page: &Page,
-        runs: &PageRuns,
-        shapes: &Shapes,
-        patterns: &[Pattern],
-    ) -> Result<(), AllocError> {
-        let mut rows = find_rows(*self.items.allocator(), &page.bitmap)?;
-        count_others(&runs.runs, &shapes.numbers, patterns, &mut rows);
-        self.rows.extend_from_slice(&rows)
+    /// The number of the pattern of a shape with this box and these rows.
+    fn number_of_pattern(&mut self, extent: Extent, rows: &[u8]) -> Result<u32, AllocError> {
+        let pattern = Pattern {
+            width: extent.width(),
+            height: extent.height(),
+            rows: Vec::from_slice(*self.items.allocator(), rows)?,
+        };
+        let (number, _) = self.patterns.insert_full(pattern)?;
+        Ok(number_of_place(number))
     }
 }
 
 /// The shape with this box.
-fn item_of(page: usize, pattern: usize, extent: Extent, baseline: u32) -> Item {
+fn item_of(page: u32, pattern: u32, extent: Extent, baseline: u32) -> Item {
     Item {
         page,
         pattern,

@@ -39,7 +39,7 @@ fn append_content(
     match mark {
         Mark::Glyph(glyph) => append_glyph(alloc, layout, glyph, out),
         Mark::Gap(gap) => append_move(gap, out),
-        Mark::Phrase(number) => match layout.text.phrases.get(number) {
+        Mark::Phrase(number) => match layout.text.phrases.get(number as usize) {
             Some(phrase) => append_marks(&layout.macros, &phrase.marks, out),
             None => Ok(()),
         },
@@ -50,7 +50,7 @@ fn append_content(
 fn append_glyph(
     alloc: Global,
     layout: &MacroLayout,
-    glyph: usize,
+    glyph: u32,
     out: &mut Vec<u8>,
 ) -> Result<(), AllocError> {
     let Some(pattern) = layout.letters.pattern_of(&layout.patterns, glyph) else {
@@ -66,7 +66,7 @@ fn append_glyph(
 }
 
 /// Appends the way from the cursor to the left upper corner of a glyph.
-fn append_way(layout: &MacroLayout, glyph: usize, out: &mut Vec<u8>) -> Result<(), AllocError> {
+fn append_way(layout: &MacroLayout, glyph: u32, out: &mut Vec<u8>) -> Result<(), AllocError> {
     let right = layout.metrics.bearing(glyph);
     out.extend_from_slice(b"\x1b*p")?;
     if right != 0 {

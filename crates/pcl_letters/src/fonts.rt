@@ -143,7 +143,7 @@ impl Cell {
     }
 
     /// The box with one character more.
-    fn with(self, pattern: &Pattern, letters: &Letters, glyph: usize) -> Cell {
+    fn with(self, pattern: &Pattern, letters: &Letters, glyph: u32) -> Cell {
         let top = letters.top_of(glyph);
         let below = self.height.saturating_sub(self.baseline);
         let baseline = self.baseline.max(top);

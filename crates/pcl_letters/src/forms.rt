@@ -47,6 +47,14 @@ impl Form {
         }
     }
 
+    /// No fewer bytes than these take what prints a pattern, once for the job.
+    pub fn least_definition_bytes(self) -> usize {
+        match self {
+            Form::Characters => CHARACTER_BYTES,
+            Form::Macros => MACRO_BYTES,
+        }
+    }
+
     /// How many bytes what prints a pattern takes, once for the job.
     pub fn definition_bytes(self, pattern: &Pattern) -> usize {
         match self {

@@ -5,7 +5,9 @@
 //! that are left more, which is why patterns are looked at in rounds.
 
 use crate::collecting::{Collection, Item};
+use crate::forms::Form;
 use crate::metrics::{add, number_of, quotient};
+use crate::numbers::number_of_place;
 use crate::patterns::Pattern;
 use crate::rows::Row;
 use std::alloc::{AllocError, Global};
@@ -30,15 +32,18 @@ pub struct Frequency {
 
 impl Frequency {
     /// Whether the shapes of a pattern are letters. Those of a pattern that came later are.
-    pub fn is_letter(&self, pattern: usize) -> bool {
-        self.are_letters.get(pattern).copied().unwrap_or(true)
+    pub fn is_letter(&self, pattern: u32) -> bool {
+        self.are_letters
+            .get(pattern as usize)
+            .copied()
+            .unwrap_or(true)
     }
 
     /// About how many bytes so many of all shapes of a pattern take in rasters, which are no letters.
-    pub fn raster_bytes(&self, pattern: usize, count: usize, all: usize) -> usize {
+    pub fn raster_bytes(&self, pattern: u32, count: usize, all: usize) -> usize {
         let count = i64::try_from(count).unwrap_or(0);
         let all = i64::try_from(all).unwrap_or(0);
-        let cost = number_of(&self.costs, pattern).saturating_mul(count);
+        let cost = number_of(&self.costs, pattern as usize).saturating_mul(count);
         usize::try_from(quotient(cost, all.saturating_mul(FINE))).unwrap_or(0)
     }
 }
@@ -64,7 +69,7 @@ pub fn find_frequency(alloc: Global, collection: &Collection) -> Result<Frequenc
 pub fn count_uses(alloc: Global, collection: &Collection) -> Result<Vec<usize>, AllocError> {
     let mut uses = vec![in alloc; 0usize; collection.patterns.len()]?;
     for item in collection.items.iter() {
-        if let Some(count) = uses.get_mut(item.pattern) {
+        if let Some(count) = uses.get_mut(item.pattern as usize) {
             *count = count.saturating_add(1);
         }
     }
@@ -105,11 +110,12 @@ struct Span {
 impl Span {
     /// The rows that a shape is in.
     fn of(collection: &Collection, item: &Item) -> Span {
-        let first = collection.starts.get(item.page).copied().unwrap_or(0);
+        let page = item.page as usize;
+        let first = collection.starts.get(page).copied().unwrap_or(0);
         let start = first.saturating_add(item.top as usize);
         let count = collection
             .patterns
-            .get_index(item.pattern)
+            .get_index(item.pattern as usize)
             .map_or(0, |pattern| row_count(pattern));
         Span {
             start,
@@ -128,7 +134,7 @@ fn weight_changes(
     let mut changes = vec![in alloc; 0i64; collection.rows.len().saturating_add(1)]?;
     for item in collection.items.iter() {
         if !frequency.is_letter(item.pattern) {
-            let weight = number_of(weights, item.pattern);
+            let weight = number_of(weights, item.pattern as usize);
             let span = Span::of(collection, item);
             add(&mut changes, span.start, weight);
             add(&mut changes, span.end, 0i64.saturating_sub(weight));
@@ -154,8 +160,8 @@ fn sum_parts(alloc: Global, rows: &[Row], changes: &[i64]) -> Result<Vec<i64>, A
 /// What a byte of weight costs in a row, in fine parts, where the shapes that may be letters have so much weight in it, which is in fine
 /// parts too.
 fn part_of(row: &Row, weight: i64) -> i64 {
-    let others = i64::try_from(row.others).unwrap_or(0);
-    let bytes = i64::try_from(row.bytes).unwrap_or(0);
+    let others = i64::from(row.others);
+    let bytes = i64::from(row.bytes);
     let weight = weight.saturating_add(others.saturating_mul(FINE));
     let data = weight.min(bytes.saturating_mul(FINE));
     let cost = data.saturating_add(ROW_BYTES.saturating_mul(FINE));
@@ -175,8 +181,9 @@ fn raster_costs(
         if !frequency.is_letter(item.pattern) {
             let span = Span::of(collection, item);
             let parts = number_of(sums, span.end).saturating_sub(number_of(sums, span.start));
-            let cost = parts.saturating_mul(number_of(weights, item.pattern));
-            add(&mut costs, item.pattern, quotient(cost, FINE));
+            let pattern = item.pattern as usize;
+            let cost = parts.saturating_mul(number_of(weights, pattern));
+            add(&mut costs, pattern, quotient(cost, FINE));
         }
     }
     Ok(costs)
@@ -192,10 +199,22 @@ fn find_cheaper(
     let mut are_letters = Vec::new(alloc);
     for (place, pattern) in collection.patterns.iter().enumerate() {
         let count = uses.get(place).copied().unwrap_or(0);
-        let bytes = collection.form.bytes_of_letters(pattern, count);
-        let bytes = i64::try_from(bytes).unwrap_or(i64::MAX);
-        let is_cheaper = bytes.saturating_mul(FINE) < number_of(&frequency.costs, place);
-        are_letters.push(is_cheaper || frequency.is_letter(place))?;
+        let cost = number_of(&frequency.costs, place);
+        let is_letter = frequency.is_letter(number_of_place(place));
+        are_letters.push(is_letter || is_cheaper(collection.form, pattern, count, cost))?;
     }
     Ok(are_letters)
+}
+
+/// Whether so many shapes of a pattern, which take so many bytes in rasters, in fine parts, take fewer as letters.
+fn is_cheaper(form: Form, pattern: &Pattern, count: usize, cost: i64) -> bool {
+    cost > in_fine_parts(form.least_definition_bytes())
+        && cost > in_fine_parts(form.bytes_of_letters(pattern, count))
+}
+
+/// So many bytes in fine parts.
+fn in_fine_parts(bytes: usize) -> i64 {
+    i64::try_from(bytes)
+        .unwrap_or(i64::MAX)
+        .saturating_mul(FINE)
 }

@@ -3,6 +3,7 @@
 use crate::collecting::{Collection, Item};
 use crate::forms::Form;
 use crate::frequency::{Frequency, count_uses, find_frequency};
+use crate::numbers::number_of_place;
 use crate::patterns::Pattern;
 use indexmap::{IndexMap, IndexSet};
 use std::alloc::{AllocError, Global};
@@ -21,8 +22,8 @@ const PAIR_LIMIT: usize = 65_536;
 #[derive(Clone, Copy, Debug, PartialEq, Eq, Hash)]
 struct Pair {
     /// The number of the first pattern.
-    first: usize,
-    second: usize,
+    first: u32,
+    second: u32,
     /// How far right of the first pattern's left edge that of the second lies, in dots.
     right: u32,
     /// How far below the topmost row of both that of the first lies, in dots.
@@ -44,6 +45,10 @@ pub fn join_shapes(alloc: Global, collection: &mut Collection) -> Result<(), All
     for _ in 0..ROUNDS {
         collection.items.sort()?;
         let pairs = find_pairs(alloc, collection, &frequency)?;
+        if pairs.is_empty() {
+            // No round after this one finds any either.
+            break;
+        }
         join(alloc, collection, &pairs)?;
     }
     Ok(())
@@ -86,10 +91,12 @@ fn count_pairs(
 
 /// The pair of two shapes, the first of which begins no further right: none where they stand on two lines, or beside each other.
 fn pair_of(patterns: &IndexSet<Pattern>, first: &Item, second: &Item) -> Option<Pair> {
-    let width = patterns.get_index(first.pattern)?.width;
+    if first.page != second.page || first.baseline != second.baseline {
+        return None;
+    }
     let right = second.x.checked_sub(first.x)?;
-    let is_on_line = first.page == second.page && first.baseline == second.baseline;
-    (is_on_line && right < width).then_some(Pair {
+    let width = patterns.get_index(first.pattern as usize)?.width;
+    (right < width).then_some(Pair {
         first: first.pattern,
         second: second.pattern,
         right,
@@ -123,11 +130,15 @@ impl<'a> Apart<'a> {
         pair: Pair,
         count: usize,
     ) -> Result<bool, AllocError> {
-        let Some(joined) = draw_pair(alloc, collection, pair)? else {
+        let form = collection.form;
+        let freed = self.freed_by_pair(collection, pair, count);
+        if freed <= form.least_definition_bytes() {
             return Ok(false);
-        };
-        let bytes = self.joined_bytes(collection.form, pair, &joined, count);
-        Ok(bytes < self.freed_by_pair(collection, pair, count))
+        }
+        match draw_pair(alloc, collection, pair)? {
+            Some(joined) => Ok(self.joined_bytes(form, pair, &joined, count) < freed),
+            None => Ok(false),
+        }
     }
 
     /// About how many bytes a pair takes that is joined so often to this pattern.
@@ -153,12 +164,12 @@ impl<'a> Apart<'a> {
     }
 
     /// About how many bytes fewer a pattern takes without so many of its shapes: what prints it isn't sent where none is left.
-    fn freed(self, collection: &Collection, pattern: usize, count: usize) -> usize {
-        let all = self.uses.get(pattern).copied().unwrap_or(0);
+    fn freed(self, collection: &Collection, pattern: u32, count: usize) -> usize {
+        let all = self.uses.get(pattern as usize).copied().unwrap_or(0);
         if !self.frequency.is_letter(pattern) {
             return self.frequency.raster_bytes(pattern, count, all);
         }
-        let definition = match collection.patterns.get_index(pattern) {
+        let definition = match collection.patterns.get_index(pattern as usize) {
             Some(pattern) if all <= count => collection.form.definition_bytes(pattern),
             _ => 0,
         };
@@ -174,8 +185,8 @@ fn draw_pair(
 ) -> Result<Option<Pattern>, AllocError> {
     let patterns = &collection.patterns;
     let (Some(first), Some(second)) = (
-        patterns.get_index(pair.first),
-        patterns.get_index(pair.second),
+        patterns.get_index(pair.first as usize),
+        patterns.get_index(pair.second as usize),
     ) else {
         return Ok(None);
     };
@@ -237,37 +248,42 @@ fn join(
     for pair in pairs.keys() {
         if let Some(pattern) = draw_pair(alloc, collection, *pair)? {
             let (number, _) = collection.patterns.insert_full(pattern)?;
-            numbers.insert(*pair, number)?;
+            numbers.insert(*pair, number_of_place(number))?;
         }
     }
-    collection.items = joined_items(alloc, collection, pairs, &numbers)?;
+    join_items(collection, pairs, &numbers);
     Ok(())
 }
 
-/// The shapes where these pairs are joined to patterns of these numbers.
-fn joined_items(
-    alloc: Global,
-    collection: &Collection,
+/// Joins these pairs of shapes to patterns of these numbers. What is left moves to the front, behind what was looked at.
+fn join_items(
+    collection: &mut Collection,
     pairs: &IndexMap<Pair, usize>,
-    numbers: &IndexMap<Pair, usize>,
-) -> Result<Vec<Item>, AllocError> {
-    let mut items = Vec::new(alloc);
+    numbers: &IndexMap<Pair, u32>,
+) {
+    let mut count: usize = 0;
     let mut is_joined = false;
-    for (place, item) in collection.items.iter().enumerate() {
+    for place in 0..collection.items.len() {
+        let pair = pair_at(collection, place, pairs);
         if is_joined {
             is_joined = false;
-        } else if let Some(pair) = pair_at(collection, place, pairs) {
-            items.push(joined_item(item, pair, numbers))?;
-            is_joined = true;
-        } else {
-            items.push(*item)?;
+        } else if let Some(item) = collection.items.get(place).copied() {
+            let item = joined_item(item, pair, numbers);
+            if let Some(free) = collection.items.get_mut(count) {
+                *free = item;
+            }
+            count = count.saturating_add(1);
+            is_joined = pair.is_some();
         }
     }
-    Ok(items)
+    collection.items.truncate(count);
 }
 
-/// The shape that a pair becomes, whose first shape this is.
-fn joined_item(first: &Item, pair: Pair, numbers: &IndexMap<Pair, usize>) -> Item {
+/// The shape that a pair becomes, whose first shape this is; the shape itself where there is none.
+fn joined_item(first: Item, pair: Option<Pair>, numbers: &IndexMap<Pair, u32>) -> Item {
+    let Some(pair) = pair else {
+        return first;
+    };
     Item {
         page: first.page,
         baseline: first.baseline,

@@ -23,7 +23,7 @@ impl Layout {
     }
 
     /// The pattern of a glyph.
-    pub fn pattern_of(&self, glyph: usize) -> Option<&Pattern> {
+    pub fn pattern_of(&self, glyph: u32) -> Option<&Pattern> {
         self.letters.pattern_of(&self.patterns, glyph)
     }
 
@@ -35,7 +35,7 @@ impl Layout {
 
     /// The character that prints a glyph where the next letter stands so far right of it, and its advance: one that
     /// advances so far, or else the usual one. None where that isn't sent.
-    pub fn character(&self, glyph: usize, gap: Option<u32>) -> Option<(Code, u32)> {
+    pub fn character(&self, glyph: u32, gap: Option<u32>) -> Option<(Code, u32)> {
         let usual = self.spacing.usual_character(glyph);
         let usual_code = self.code(usual)?;
         if let Some(advance) = gap {
@@ -52,7 +52,7 @@ pub fn lay_out(alloc: Global, collection: Collection) -> Result<Layout, AllocErr
     let found = find_letters(alloc, &collection)?;
     let spacing = Spacing::new(alloc, &collection.patterns, &found)?;
     let mut layout = Layout {
-        patterns: collection.patterns,
+        patterns: collection.into_patterns(),
         letters: found,
         spacing,
     };

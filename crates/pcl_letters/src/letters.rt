@@ -2,6 +2,7 @@
 
 use crate::collecting::{Collection, Item};
 use crate::frequency::find_frequency;
+use crate::numbers::number_of_place;
 use crate::patterns::Pattern;
 use indexmap::{IndexMap, IndexSet};
 use std::alloc::{AllocError, Global};
@@ -10,7 +11,7 @@ use std::alloc::{AllocError, Global};
 #[derive(Clone, Copy, Debug, PartialEq, Eq, Hash)]
 pub struct Glyph {
     /// The number of the pattern.
-    pub pattern: usize,
+    pub pattern: u32,
     /// How far its topmost row lies above the baseline, in dots.
     pub top: u32,
 }
@@ -19,13 +20,13 @@ pub struct Glyph {
 #[derive(Clone, Copy, Debug, PartialEq, Eq, PartialOrd, Ord)]
 pub struct Letter {
     /// The number of the page, from 0.
-    pub page: usize,
+    pub page: u32,
     /// The dot row of the cursor.
     pub baseline: u32,
     /// The dot of the cursor, and of the left edge.
     pub x: u32,
     /// The number of its glyph.
-    pub glyph: usize,
+    pub glyph: u32,
 }
 
 impl Letter {
@@ -50,12 +51,14 @@ pub struct Letters {
 
 impl Letters {
     /// How far the topmost row of a glyph lies above the baseline.
-    pub fn top_of(&self, glyph: usize) -> u32 {
-        self.glyphs.get_index(glyph).map_or(0, |glyph| glyph.top)
+    pub fn top_of(&self, glyph: u32) -> u32 {
+        self.glyphs
+            .get_index(glyph as usize)
+            .map_or(0, |glyph| glyph.top)
     }
 
     /// The letters of a page, of those from this place on, which are of this page and later ones.
-    pub fn of_page(&self, page: usize, from: usize) -> &[Letter] {
+    pub fn of_page(&self, page: u32, from: usize) -> &[Letter] {
         let letters = self.letters.get(from..).unwrap_or(&[]);
         let count = letters.partition_point(|letter| letter.page <= page);
         letters.get(..count).unwrap_or(&[])
@@ -65,9 +68,10 @@ impl Letters {
     pub fn pattern_of<'a>(
         &self,
         patterns: &'a IndexSet<Pattern>,
-        glyph: usize,
+        glyph: u32,
     ) -> Option<&'a Pattern> {
-        patterns.get_index(self.glyphs.get_index(glyph)?.pattern)
+        let glyph = self.glyphs.get_index(glyph as usize)?;
+        patterns.get_index(glyph.pattern as usize)
     }
 }
 
@@ -79,20 +83,20 @@ pub fn find_letters(alloc: Global, collection: &Collection) -> Result<Letters, A
     let mut letters = Vec::new(alloc);
     for item in collection.items.iter() {
         let pattern = item.pattern;
-        let top = tops.get(pattern).copied().unwrap_or(0);
+        let top = tops.get(pattern as usize).copied().unwrap_or(0);
         let baseline = item.top.saturating_add(top);
-        let height = collection.heights.get(item.page).copied().unwrap_or(0);
+        let height = collection.height_of(item.page);
         if frequency.is_letter(pattern) && baseline <= height {
             let (glyph, _) = glyphs.insert_full(Glyph { pattern, top })?;
-            letters.push(letter_of(item, baseline, glyph))?;
+            letters.push(letter_of(item, baseline, number_of_place(glyph)))?;
         }
     }
-    letters.sort()?;
+    letters.sort_unstable();
     Ok(Letters { glyphs, letters })
 }
 
 /// The letter that a shape becomes.
-fn letter_of(item: &Item, baseline: u32, glyph: usize) -> Letter {
+fn letter_of(item: &Item, baseline: u32, glyph: u32) -> Letter {
     Letter {
         page: item.page,
         baseline,
@@ -113,7 +117,7 @@ fn stand_of(item: &Item) -> Glyph {
 #[derive(Clone, Copy)]
 struct Usual {
     top: u32,
-    count: usize,
+    count: u32,
 }
 
 /// For each pattern, how far its topmost row mostly lies above the row on which it seems to stand.
@@ -122,7 +126,7 @@ fn usual_tops(alloc: Global, collection: &Collection) -> Result<Vec<u32>, AllocE
     let nothing = Usual { top: 0, count: 0 };
     let mut usual = vec![in alloc; nothing; collection.patterns.len()]?;
     for (stand, count) in stands.iter() {
-        if let Some(best) = usual.get_mut(stand.pattern) {
+        if let Some(best) = usual.get_mut(stand.pattern as usize) {
             if *count > best.count {
                 *best = Usual {
                     top: stand.top,
@@ -135,10 +139,10 @@ fn usual_tops(alloc: Global, collection: &Collection) -> Result<Vec<u32>, AllocE
 }
 
 /// How often shapes of each pattern seem to stand so.
-fn count_stands(alloc: Global, items: &[Item]) -> Result<IndexMap<Glyph, usize>, AllocError> {
+fn count_stands(alloc: Global, items: &[Item]) -> Result<IndexMap<Glyph, u32>, AllocError> {
     let mut counts = IndexMap::new(alloc);
     for item in items {
-        let count = counts.entry(stand_of(item))?.or_insert(0usize);
+        let count = counts.entry(stand_of(item))?.or_insert(0u32);
         *count = count.saturating_add(1);
     }
     Ok(counts)

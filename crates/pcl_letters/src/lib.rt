@@ -9,6 +9,8 @@ mod baselines;
 mod codes;
 mod collecting;
 mod definitions;
+mod drawing;
+mod edges;
 mod fonts;
 mod forms;
 mod frequency;
@@ -30,7 +32,9 @@ mod runs;
 mod shapes;
 mod spacing;
 mod stamping;
+mod words;
 mod writing;
 
 pub use collecting::Collection;
+pub use edges::append_edges;
 pub use lettering::{Lettering, PageWriter};

@@ -11,7 +11,7 @@ use indexmap::IndexSet;
 use std::alloc::{AllocError, Global};
 
 /// How many glyphs have macros, at most: there are twice as many IDs.
-const GLYPH_LIMIT: usize = 16_384;
+const GLYPH_LIMIT: u32 = 16_384;
 
 /// What of a job is printed by macros.
 #[derive(Drop)]
@@ -27,14 +27,14 @@ pub struct MacroLayout {
 pub fn lay_out_macros(alloc: Global, collection: Collection) -> Result<MacroLayout, AllocError> {
     let mut letters = find_letters(alloc, &collection)?;
     letters.letters.retain(|letter| letter.glyph < GLYPH_LIMIT);
-    let widths = &collection.widths;
     let found = &letters.letters;
-    let metrics = find_metrics(alloc, widths, found, letters.glyphs.len())?;
-    let script = find_script(alloc, widths, found, &metrics)?;
+    let metrics = find_metrics(alloc, &collection.widths, found, letters.glyphs.len())?;
+    let script = find_script(alloc, &collection.widths, found, &metrics)?;
+    let patterns = collection.into_patterns();
     let text = find_phrases(alloc, script)?;
     let macros = Macros::new(alloc, &text)?;
     Ok(MacroLayout {
-        patterns: collection.patterns,
+        patterns,
         letters,
         metrics,
         text,

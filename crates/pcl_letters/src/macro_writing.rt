@@ -17,7 +17,7 @@ const END_RASTER: &[u8] = b"\x1b*rC";
 pub struct MacroWriter<'a> {
     layout: &'a MacroLayout,
     /// How many pages came.
-    page: usize,
+    page: u32,
     /// How many letters, lines and marks these have.
     letters: usize,
     lines: usize,

@@ -1,7 +1,7 @@
 //! The numbers of macros, and running them.
 
 use crate::marks::Mark;
-use crate::numbers::{append_labelled, append_signed};
+use crate::numbers::{append_labelled, append_signed, number_of_place};
 use crate::phrases::Text;
 use indexmap::IndexMap;
 use std::alloc::{AllocError, Global};
@@ -26,7 +26,7 @@ impl Macros {
         count_marks(&text.script.marks, &mut uses)?;
         // A phrase has only marks that come before it.
         for (number, phrase) in text.phrases.iter().enumerate().rev() {
-            if uses.contains_key(&Mark::Phrase(number)) {
+            if uses.contains_key(&Mark::Phrase(number_of_place(number))) {
                 count_marks(&phrase.marks, &mut uses)?;
             }
         }

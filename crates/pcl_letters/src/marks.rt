@@ -8,18 +8,18 @@ use std::alloc::{AllocError, Global};
 #[derive(Clone, Copy, Debug, PartialEq, Eq, Hash)]
 pub enum Mark {
     /// The glyph of this number. Then the cursor advances.
-    Glyph(usize),
+    Glyph(u32),
     /// Nothing: the cursor moves so many dots to the right, or to the left below 0.
     Gap(i32),
     /// The marks of the phrase of this number.
-    Phrase(usize),
+    Phrase(u32),
 }
 
 /// A line of letters.
 #[derive(Clone, Copy, Debug)]
 pub struct Line {
     /// The number of its page, from 0.
-    pub page: usize,
+    pub page: u32,
     /// The dot row of the cursor.
     pub row: u32,
     /// The dot of the cursor at its start.
@@ -50,7 +50,7 @@ impl Script {
     }
 
     /// The lines of a page, of those from this place on, which are of this page and later ones.
-    pub fn of_page(&self, page: usize, from: usize) -> &[Line] {
+    pub fn of_page(&self, page: u32, from: usize) -> &[Line] {
         let lines = self.lines.get(from..).unwrap_or(&[]);
         let count = lines.partition_point(|line| line.page <= page);
         lines.get(..count).unwrap_or(&[])
@@ -94,7 +94,7 @@ impl Script {
 /// Where the cursor is.
 #[derive(Clone, Copy)]
 struct Cursor {
-    page: usize,
+    page: u32,
     row: u32,
     x: i32,
 }
@@ -116,7 +116,7 @@ pub fn find_script(
     let mut script = Script::new(alloc);
     let mut cursor: Option<Cursor> = None;
     for letter in letters {
-        let width = widths.get(letter.page).copied().unwrap_or(0);
+        let width = widths.get(letter.page as usize).copied().unwrap_or(0);
         let place = place_of(letter, metrics);
         script.append_letter(letter, place, cursor)?;
         cursor = Some(after(letter, metrics, place, width));

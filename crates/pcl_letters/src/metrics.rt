@@ -27,13 +27,13 @@ pub struct Metrics {
 
 impl Metrics {
     /// How far the cursor moves after a glyph, in dots.
-    pub fn advance(&self, glyph: usize) -> i32 {
-        self.advances.get(glyph).copied().unwrap_or(0)
+    pub fn advance(&self, glyph: u32) -> i32 {
+        self.advances.get(glyph as usize).copied().unwrap_or(0)
     }
 
     /// How far right of the cursor the left edge of a glyph stands, in dots.
-    pub fn bearing(&self, glyph: usize) -> i32 {
-        self.bearings.get(glyph).copied().unwrap_or(0)
+    pub fn bearing(&self, glyph: u32) -> i32 {
+        self.bearings.get(glyph as usize).copied().unwrap_or(0)
     }
 }
 
@@ -67,8 +67,8 @@ pub fn find_metrics(
 /// Two letters in turn, and how far apart they stand.
 #[derive(Clone, Copy, PartialEq, Eq, PartialOrd, Ord, Hash)]
 struct Step {
-    left: usize,
-    right: usize,
+    left: u32,
+    right: u32,
     /// In dots.
     distance: u32,
 }
@@ -76,8 +76,8 @@ struct Step {
 /// Two glyphs, and how far apart they mostly stand in turn.
 #[derive(Clone, Copy)]
 struct Pair {
-    left: usize,
-    right: usize,
+    left: u32,
+    right: u32,
     /// In fine parts of a dot.
     distance: i64,
     /// How often they stand so.
@@ -191,8 +191,8 @@ impl Fit {
     /// What a pair says of the glyph on a side.
     fn sample(&self, pair: &Pair, side: Side) -> Sample {
         let (glyph, other) = match side {
-            Side::Left => (pair.left, number_of(&self.places, pair.right)),
-            Side::Right => (pair.right, number_of(&self.distances, pair.left)),
+            Side::Left => (pair.left, number_of(&self.places, pair.right as usize)),
+            Side::Right => (pair.right, number_of(&self.distances, pair.left as usize)),
         };
         Sample {
             glyph,
@@ -220,7 +220,7 @@ pub fn number_of(numbers: &[i64], place: usize) -> i64 {
 /// What a pair says of a glyph. Their order is that of glyphs, and of values.
 #[derive(Clone, Copy, PartialEq, Eq, PartialOrd, Ord)]
 struct Sample {
-    glyph: usize,
+    glyph: u32,
     value: i64,
     count: u32,
 }
@@ -233,16 +233,16 @@ fn medians(alloc: Global, pairs: &[Pair], fit: &Fit, side: Side) -> Result<Vec<i
     for pair in pairs {
         let sample = fit.sample(pair, side);
         samples.push(sample)?;
-        add(&mut left, sample.glyph, i64::from(sample.count));
+        add(&mut left, sample.glyph as usize, i64::from(sample.count));
     }
-    samples.sort()?;
+    samples.sort_unstable();
     // Each sample takes its count twice from that of its glyph: the median is the first that brings it to 0.
     for sample in samples.iter() {
-        let before = number_of(&left, sample.glyph);
+        let before = number_of(&left, sample.glyph as usize);
         let after = before.saturating_sub(i64::from(sample.count).saturating_mul(2));
-        set(&mut left, sample.glyph, after);
+        set(&mut left, sample.glyph as usize, after);
         if before > 0 && after <= 0 {
-            set(&mut found, sample.glyph, sample.value);
+            set(&mut found, sample.glyph as usize, sample.value);
         }
     }
     Ok(found)
@@ -255,11 +255,17 @@ fn means(alloc: Global, pairs: &[Pair], fit: &Fit, side: Side) -> Result<Vec<i64
     let mut counts = vec![in alloc; 0i64; old.len()]?;
     for pair in pairs {
         let sample = fit.sample(pair, side);
-        let change = sample.value.saturating_sub(number_of(old, sample.glyph));
+        let change = sample
+            .value
+            .saturating_sub(number_of(old, sample.glyph as usize));
         if -FINE <= change && change <= FINE {
             let count = i64::from(sample.count);
-            add(&mut sums, sample.glyph, change.saturating_mul(count));
-            add(&mut counts, sample.glyph, count);
+            add(
+                &mut sums,
+                sample.glyph as usize,
+                change.saturating_mul(count),
+            );
+            add(&mut counts, sample.glyph as usize, count);
         }
     }
     let mut found = Vec::new(alloc);
@@ -302,7 +308,7 @@ fn whole_shift(pairs: &[Pair], fit: &Fit) -> i64 {
 fn distance_to_whole(pairs: &[Pair], fit: &Fit, shift: i64) -> i64 {
     let mut sum: i64 = 0;
     for pair in pairs {
-        let moved = number_of(&fit.places, pair.right).saturating_sub(shift);
+        let moved = number_of(&fit.places, pair.right as usize).saturating_sub(shift);
         let part = moved.rem_euclid(FINE);
         let off = part.min(FINE.saturating_sub(part));
         sum = sum.saturating_add(off.saturating_mul(i64::from(pair.count)));
@@ -336,10 +342,10 @@ fn find_room(
     };
     let mut rooms = vec![in alloc; all; glyphs]?;
     for letter in letters {
-        let width = widths.get(letter.page).copied().unwrap_or(0);
+        let width = widths.get(letter.page as usize).copied().unwrap_or(0);
         let width = i32::try_from(width).unwrap_or(0);
         let x = i32::try_from(letter.x).unwrap_or(0);
-        if let Some(room) = rooms.get_mut(letter.glyph) {
+        if let Some(room) = rooms.get_mut(letter.glyph as usize) {
             room.most = room.most.min(x);
             room.least = room.least.max(x.saturating_add(1).saturating_sub(width));
         }

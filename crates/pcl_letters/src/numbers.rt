@@ -27,3 +27,8 @@ pub fn append_signed(number: i32, out: &mut Vec<u8>) -> Result<(), AllocError> {
     let sign = if number < 0 { b"-" } else { b"+" };
     append_labelled(sign, number.unsigned_abs(), out)
 }
+
+/// The number of a place, from 0. There are fewer than 4,294,967,295 of what is numbered.
+pub fn number_of_place(place: usize) -> u32 {
+    u32::try_from(place).unwrap_or(u32::MAX)
+}

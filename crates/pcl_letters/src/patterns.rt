@@ -2,16 +2,11 @@
 
 ghost use Rattle.std.specs.Prelude.{◌≤◌};
 
-use crate::runs::Run;
-use crate::shapes::{Extent, Shapes};
-use crate::stamping::{Ink, stamp};
+use crate::stamping::{Ink, Place, stamp};
 use std::alloc::{AllocError, Global};
 
 /// The largest width and height of a shape that may become a glyph, in dots at 300 per inch.
 const SIDE_LIMIT: u32 = 400;
-
-/// How many bytes the patterns of one page may have together.
-const PAGE_BYTES_LIMIT: usize = 16_777_216;
 
 /// The dots of a shape.
 #[derive(Debug, PartialEq, Eq, Hash, Drop)]
@@ -24,27 +19,15 @@ pub struct Pattern {
     pub rows: Vec<u8>,
 }
 
-impl Pattern {
-    /// A white pattern for a shape with this box. Where a side would be longer than `limit`, or the pattern have more bytes than
-    /// there is room for, it has no rows.
-    fn blank(
-        alloc: Global,
-        extent: Extent,
-        limit: u32,
-        room: usize,
-    ) -> Result<Pattern, AllocError> {
-        let width = extent.width();
-        let height = extent.height();
-        let size = (width as usize).div_ceil(8).saturating_mul(height as usize);
-        let is_held = width <= limit && height <= limit && size <= room;
-        let count = if is_held { size } else { 0 };
-        Ok(Pattern {
-            width,
-            height,
-            rows: vec![in alloc; 0; count]?,
-        })
-    }
+/// Some rows of a pattern.
+#[derive(Clone, Copy)]
+pub struct PatternRows<'a> {
+    /// How many bytes a row has.
+    pub row_bytes: usize,
+    pub bytes: &'a [u8],
+}
 
+impl Pattern {
     /// A white pattern of these sides, in dots. Where one of them is longer than a shape's may be, it has no rows.
     pub fn white(
         alloc: Global,
@@ -52,18 +35,11 @@ impl Pattern {
         height: u32,
         scale: u32,
     ) -> Result<Pattern, AllocError> {
-        let extent = Extent {
-            left: 0,
-            top: 0,
-            right: width,
-            bottom: height,
-        };
-        Pattern::blank(
-            alloc,
-            extent,
-            SIDE_LIMIT.saturating_mul(scale),
-            PAGE_BYTES_LIMIT,
-        )
+        Ok(Pattern {
+            width,
+            height,
+            rows: vec![in alloc; 0; rows_len(width, height, scale)]?,
+        })
     }
 
     /// How many bytes a row has: one at least.
@@ -73,26 +49,27 @@ impl Pattern {
         (self.width as usize).div_ceil(8).max(1)
     }
 
-    /// Makes the dots of a run black, in the pattern of the shape with this box.
-    fn blacken(&mut self, extent: Extent, run: Run) {
-        if self.rows.is_empty() {
-            return;
-        }
-        let row = run.y.saturating_sub(extent.top) as usize;
-        let start = row.saturating_mul(self.row_bytes());
-        for x in run.start..run.end {
-            let x = x.saturating_sub(extent.left);
-            let place = start.saturating_add(x as usize / 8);
-            if let Some(byte) = self.rows.get_mut(place) {
-                *byte |= 0x80 >> (x % 8);
-            }
+    /// Its rows but so many of the uppermost ones.
+    pub fn rows_from(&self, first: u32) -> PatternRows<'_> {
+        let row_bytes = self.row_bytes();
+        let start = (first as usize).saturating_mul(row_bytes);
+        PatternRows {
+            row_bytes,
+            bytes: self.rows.get(start..).unwrap_or(&[]),
         }
     }
 
     /// Makes the dots of another pattern black, whose left upper dot is so far right and down in this one.
     pub fn blacken_with(&mut self, other: &Pattern, right: u32, down: u32) {
         let row_bytes = self.row_bytes();
-        stamp(&mut self.rows, row_bytes, right, down, other, Ink::Black);
+        let place = Place { x: right, y: down };
+        stamp(
+            &mut self.rows,
+            row_bytes,
+            place,
+            other.rows_from(0),
+            Ink::Black,
+        );
     }
 
     /// The rows and bytes that aren't those of the row above.
@@ -147,38 +124,13 @@ fn changed_bytes(above: &[u8], row: &[u8]) -> usize {
     changed
 }
 
-/// The pattern of each shape of a page, without rows where the shape is too large. `scale` dots are one at 300 dots per inch.
-pub fn draw_patterns(
-    alloc: Global,
-    runs: &[Run],
-    shapes: &Shapes,
-    scale: u32,
-) -> Result<Vec<Pattern>, AllocError> {
+/// How many bytes the rows of a pattern of these sides have, in dots: none where one of them is longer than a shape's may be. `scale` dots
+/// are one at 300 dots per inch.
+pub fn rows_len(width: u32, height: u32, scale: u32) -> usize {
     let limit = SIDE_LIMIT.saturating_mul(scale);
-    let mut patterns = blank_patterns(alloc, &shapes.extents, limit)?;
-    for (run, number) in runs.iter().zip(shapes.numbers.iter()) {
-        if let (Some(pattern), Some(extent)) = (
-            patterns.get_mut(*number),
-            shapes.extents.get(*number),
-        ) {
-            pattern.blacken(*extent, *run);
-        }
+    if width <= limit && height <= limit {
+        (width as usize).div_ceil(8).saturating_mul(height as usize)
+    } else {
+        0
     }
-    Ok(patterns)
-}
-
-/// White patterns for shapes with these boxes.
-fn blank_patterns(
-    alloc: Global,
-    extents: &[Extent],
-    limit: u32,
-) -> Result<Vec<Pattern>, AllocError> {
-    let mut patterns = Vec::new(alloc);
-    let mut room = PAGE_BYTES_LIMIT;
-    for extent in extents {
-        let pattern = Pattern::blank(alloc, *extent, limit, room)?;
-        room = room.saturating_sub(pattern.rows.len());
-        patterns.push(pattern)?;
-    }
-    Ok(patterns)
 }

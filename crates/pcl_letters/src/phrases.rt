@@ -1,6 +1,7 @@
 //! Phrases: marks that often stand in turn, and that one macro prints.
 
 use crate::marks::{Line, Mark, Script};
+use crate::numbers::number_of_place;
 use indexmap::{IndexMap, IndexSet};
 use std::alloc::{AllocError, Global};
 
@@ -95,7 +96,7 @@ impl Text {
         match mark {
             Mark::Phrase(number) => self
                 .phrases
-                .get(number)
+                .get(number as usize)
                 .map_or(DEPTH_LIMIT, |phrase| phrase.depth),
             Mark::Glyph(_) | Mark::Gap(_) => 1,
         }
@@ -104,7 +105,7 @@ impl Text {
     /// Appends a mark as a part of a phrase: itself, or what it prints where it is a phrase that none may run.
     fn append_parts(&self, mark: Mark, marks: &mut Vec<Mark>) -> Result<(), AllocError> {
         if let Mark::Phrase(number) = mark {
-            if let Some(phrase) = self.phrases.get(number) {
+            if let Some(phrase) = self.phrases.get(number as usize) {
                 if phrase.depth >= DEPTH_LIMIT {
                     return marks.extend_from_slice(&phrase.marks);
                 }
@@ -117,7 +118,7 @@ impl Text {
     /// The mark of the phrase of a pair.
     fn phrase_of(&self, pair: Pair) -> Mark {
         match self.pairs.get_index_of(&pair) {
-            Some(number) => Mark::Phrase(number),
+            Some(number) => Mark::Phrase(number_of_place(number)),
             None => pair.first,
         }
     }

@@ -1,7 +1,7 @@
 //! What the rows of pages take in rasters.
 
-use crate::patterns::Pattern;
-use crate::runs::Run;
+use crate::words::{first_bytes, inked_bytes, padded_word};
+use pcl_base::ROW_LIMIT;
 use pcl_bitmap::Bitmap;
 use std::alloc::{AllocError, Global};
 
@@ -9,64 +9,98 @@ use std::alloc::{AllocError, Global};
 #[derive(Clone, Copy, Debug)]
 pub struct Row {
     /// About how many bytes its data take, with all shapes in it.
-    pub bytes: usize,
+    pub bytes: u16,
     /// How many runs of it are of shapes that are too large for letters.
-    pub others: usize,
+    pub others: u16,
 }
 
-/// The rows of a page, and the white one below them.
-pub fn find_rows(alloc: Global, bitmap: &Bitmap) -> Result<Vec<Row>, AllocError> {
-    let mut rows = Vec::new(alloc);
+impl Row {
+    /// A row whose data take so many bytes.
+    fn of(bytes: u32) -> Row {
+        Row {
+            bytes: u16::try_from(bytes).unwrap_or(u16::MAX),
+            others: 0,
+        }
+    }
+}
+
+/// Appends the rows of a page, and the white one below them.
+pub fn append_rows(bitmap: &Bitmap, rows: &mut Vec<Row>) -> Result<(), AllocError> {
     let mut above: &[u8] = &[];
     for y in 0..bitmap.size().height(bitmap.dpi()) {
         let row = bitmap.row(y);
-        rows.push(Row {
-            bytes: delta_bytes(above, row).min(count_stretches(row)),
-            others: 0,
-        })?;
+        rows.push(Row::of(data_bytes(above, row)))?;
         above = row;
     }
-    rows.push(Row {
-        bytes: 0,
-        others: 0,
-    })?;
-    Ok(rows)
+    rows.push(Row::of(0))?;
+    Ok(())
+}
+
+/// About how many bytes the data of a row take. The row above is empty above the topmost one.
+fn data_bytes(above: &[u8], row: &[u8]) -> u32 {
+    let white = [0; ROW_LIMIT];
+    let above = if above.is_empty() {
+        white.get(..row.len()).unwrap_or(&[])
+    } else {
+        above
+    };
+    let delta = delta_bytes(above, row);
+    if delta == 0 {
+        0
+    } else {
+        delta.min(count_stretches(row))
+    }
 }
 
 /// About how many bytes the data of a row take by method 3: those that aren't the ones above, and one for each stretch of them.
-fn delta_bytes(above: &[u8], row: &[u8]) -> usize {
-    let mut count: usize = 0;
-    let mut is_open = false;
-    for (place, byte) in row.iter().enumerate() {
-        let is_changed = *byte != above.get(place).copied().unwrap_or(0);
-        if is_changed {
-            count = count.saturating_add(if is_open { 1 } else { 2 });
-        }
-        is_open = is_changed;
+fn delta_bytes(above: &[u8], row: &[u8]) -> u32 {
+    let (uppers, upper_rest) = above.as_chunks::<8>();
+    let (words, rest) = row.as_chunks::<8>();
+    let mut delta = DeltaBytes { count: 0, last: 0 };
+    for (upper, word) in uppers.iter().zip(words.iter()) {
+        delta.add(u64::from_be_bytes(*upper) ^ u64::from_be_bytes(*word));
     }
-    count
+    delta.add(padded_word(upper_rest) ^ padded_word(rest));
+    delta.count
+}
+
+/// The bytes that differ, and one for each stretch of them.
+#[derive(Clone, Copy)]
+struct DeltaBytes {
+    count: u32,
+    /// The highest bit of each byte that differs of the last eight.
+    last: u64,
+}
+
+impl DeltaBytes {
+    /// Counts eight bytes more, whose bits are set where they differ.
+    fn add(&mut self, differing: u64) {
+        let changed = inked_bytes(differing);
+        let starts = changed & !(changed >> 8 | self.last << 56);
+        self.count = self
+            .count
+            .saturating_add(changed.count_ones())
+            .saturating_add(starts.count_ones());
+        self.last = changed;
+    }
 }
 
 /// How many stretches of equal bytes a row has: about as many bytes its data take by method 2.
-fn count_stretches(row: &[u8]) -> usize {
-    let mut count: usize = 0;
-    let mut last = None;
-    for byte in row {
-        if last != Some(*byte) {
-            count = count.saturating_add(1);
-            last = Some(*byte);
-        }
+fn count_stretches(row: &[u8]) -> u32 {
+    let (words, rest) = row.as_chunks::<8>();
+    // The byte left of the row is white: so a stretch of white bytes at its start isn't counted below.
+    let mut count = u32::from(row.first() == Some(&0));
+    let mut last: u64 = 0;
+    for bytes in words {
+        let word = u64::from_be_bytes(*bytes);
+        count = count.saturating_add(stretch_starts(word, last).count_ones());
+        last = word;
     }
-    count
+    let starts = stretch_starts(padded_word(rest), last) & first_bytes(rest.len());
+    count.saturating_add(starts.count_ones())
 }
 
-/// Counts the runs that are of too large shapes in the rows of a page. `numbers` are those of the shapes of the runs.
-pub fn count_others(runs: &[Run], numbers: &[usize], patterns: &[Pattern], rows: &mut [Row]) {
-    for (run, number) in runs.iter().zip(numbers.iter()) {
-        if let (Some(pattern), Some(row)) = (patterns.get(*number), rows.get_mut(run.y as usize)) {
-            if pattern.rows.is_empty() {
-                row.others = row.others.saturating_add(1);
-            }
-        }
-    }
+/// The highest bit of each of eight bytes that isn't the byte left of it. `last` are the eight bytes left of them.
+fn stretch_starts(word: u64, last: u64) -> u64 {
+    inked_bytes(word ^ (word >> 8 | last << 56))
 }

@@ -1,86 +1,126 @@
-//! Runs of black dots in the rows of a page.
+//! Runs of black dots in the rows of a page, and which of them hang together.
 
+use crate::edges::append_edges;
 use pcl_bitmap::Bitmap;
 use std::alloc::{AllocError, Global};
+use std::mem::swap;
 
 /// After so many runs no further ones are looked for on a page.
 const RUN_LIMIT: usize = 1_000_000;
 
-/// A run of black dots in row `y`, from the dot `start` up to the one before `end`.
+/// A run of black dots of a row, from the dot `start` up to the one before `end`. No page has 65,535 dots in a row.
 #[derive(Clone, Copy)]
 pub struct Run {
-    pub y: u32,
-    pub start: u32,
-    pub end: u32,
+    pub start: u16,
+    pub end: u16,
+    /// The label of the first run that it touches of the row above; a label of its own where there is none.
+    pub label: u32,
 }
 
-impl Run {
-    /// Whether a run of the row below has a dot beside, below or diagonally below one of this run.
-    pub fn touches(&self, below: &Run) -> bool {
-        self.start <= below.end && below.start <= self.end
-    }
+/// Two labels whose runs hang together.
+#[derive(Clone, Copy)]
+pub struct Link {
+    pub one: u32,
+    pub other: u32,
 }
 
-/// The runs of a page, row by row from the topmost one, each from left to right.
+/// Goes over the rows of a page from the topmost one on. Labels are numbered in the order of their first runs, and each walk over a page
+/// gives its runs the same.
 #[derive(Drop)]
-pub struct PageRuns {
+pub struct RowWalk {
+    /// The runs of the row, from left to right.
     pub runs: Vec<Run>,
-    /// For each row, how many runs there are up to its end.
-    pub ends: Vec<usize>,
+    /// The labels that hang together by this row and the one above.
+    pub links: Vec<Link>,
+    /// The runs of the row above.
+    above: Vec<Run>,
+    edges: Vec<u16>,
+    /// How many runs there were.
+    count: usize,
+    /// How many labels there were.
+    labels: u32,
 }
 
-/// The runs of a page.
-pub fn find_runs(alloc: Global, bitmap: &Bitmap) -> Result<PageRuns, AllocError> {
-    let mut runs = Vec::new(alloc);
-    let mut ends = Vec::new(alloc);
-    for y in 0..bitmap.size().height(bitmap.dpi()) {
-        if runs.len() < RUN_LIMIT {
-            append_runs(y, bitmap.row(y), &mut runs)?;
+impl RowWalk {
+    /// Above the topmost row.
+    pub fn new(alloc: Global) -> RowWalk {
+        RowWalk {
+            runs: Vec::new(alloc),
+            links: Vec::new(alloc),
+            above: Vec::new(alloc),
+            edges: Vec::new(alloc),
+            count: 0,
+            labels: 0,
         }
-        ends.push(runs.len())?;
     }
-    Ok(PageRuns { runs, ends })
-}
 
-/// Appends the runs of a row.
-fn append_runs(y: u32, row: &[u8], runs: &mut Vec<Run>) -> Result<(), AllocError> {
-    let mut open = None;
-    let mut x: u32 = 0;
-    for byte in row {
-        open = append_runs_of_byte(y, x, *byte, open, runs)?;
-        x = x.saturating_add(8);
+    /// Goes on to row `y` of a page, the next one.
+    pub fn step(&mut self, bitmap: &Bitmap, y: u32) -> Result<(), AllocError> {
+        swap(&mut self.above, &mut self.runs);
+        self.runs.clear();
+        self.links.clear();
+        self.edges.clear();
+        if self.count < RUN_LIMIT && y < bitmap.size().height(bitmap.dpi()) && !bitmap.is_blank(y) {
+            append_edges(bitmap.row(y), &mut self.edges)?;
+            self.label_runs()?;
+        }
+        self.count = self.count.saturating_add(self.runs.len());
+        Ok(())
     }
-    if let Some(start) = open {
-        runs.push(Run { y, start, end: x })?;
-    }
-    Ok(())
-}
 
-/// Appends the runs that end in the eight dots from `x` on. `open` is where a run starts that reaches up to `x`, and the
-/// result the same for the place after the eight dots.
-fn append_runs_of_byte(
-    y: u32,
-    x: u32,
-    byte: u8,
-    open: Option<u32>,
-    runs: &mut Vec<Run>,
-) -> Result<Option<u32>, AllocError> {
-    if (byte == 0 && open.is_none()) || (byte == 255 && open.is_some()) {
-        return Ok(open);
-    }
-    let mut open = open;
-    let mut x = x;
-    for bit in 0..8u32 {
-        let is_black = byte & (0x80 >> bit) != 0;
-        match open {
-            None if is_black => open = Some(x),
-            Some(start) if !is_black => {
-                runs.push(Run { y, start, end: x })?;
-                open = None;
+    /// Labels the runs of the row that has these edges.
+    fn label_runs(&mut self) -> Result<(), AllocError> {
+        let mut first: usize = 0;
+        for ends in self.edges.chunks(2) {
+            if let [start, end] = *ends {
+                first = first_ending_at(&self.above, first, start);
+                let label = match linked_label(&self.above, first, end, &mut self.links)? {
+                    Some(label) => label,
+                    None => {
+                        self.labels = self.labels.saturating_add(1);
+                        self.labels.saturating_sub(1)
+                    }
+                };
+                self.runs.push(Run { start, end, label })?;
             }
-            _ => {}
         }
-        x = x.saturating_add(1);
+        Ok(())
     }
-    Ok(open)
+}
+
+/// The place of the first run of the row above, from a place on, that doesn't end left of the dot diagonally above this one.
+fn first_ending_at(above: &[Run], first: usize, start: u16) -> usize {
+    let runs = above.get(first..).unwrap_or(&[]);
+    match runs.iter().position(|run| run.end >= start) {
+        Some(count) => first.saturating_add(count),
+        None => above.len(),
+    }
+}
+
+/// The label of the first run of the row above, from a place on, which a run touches that ends here, beside or diagonally: none where it
+/// touches none. Links that with the labels of others that it touches.
+fn linked_label(
+    above: &[Run],
+    first: usize,
+    end: u16,
+    links: &mut Vec<Link>,
+) -> Result<Option<u32>, AllocError> {
+    let mut label = None;
+    for run in above.get(first..).unwrap_or(&[]) {
+        if run.start > end {
+            break;
+        }
+        match label {
+            None => label = Some(run.label),
+            Some(one) => {
+                if one != run.label {
+                    links.push(Link {
+                        one,
+                        other: run.label,
+                    })?;
+                }
+            }
+        }
+    }
+    Ok(label)
 }

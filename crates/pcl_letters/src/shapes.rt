@@ -1,6 +1,8 @@
 //! Shapes of a page: black dots that hang together, each the neighbour of another in one of eight directions.
 
-use crate::runs::{PageRuns, Run};
+use crate::numbers::number_of_place;
+use crate::runs::{Link, RowWalk, Run};
+use pcl_bitmap::Bitmap;
 use std::alloc::{AllocError, Global};
 
 /// The smallest box around a shape, in dots: `right` and `bottom` lie past it.
@@ -13,23 +15,23 @@ pub struct Extent {
 }
 
 impl Extent {
-    /// The box of one run.
-    fn of(run: Run) -> Extent {
+    /// The box of one run of row `y`.
+    fn of(y: u32, run: Run) -> Extent {
         Extent {
-            left: run.start,
-            top: run.y,
-            right: run.end,
-            bottom: run.y.saturating_add(1),
+            left: u32::from(run.start),
+            top: y,
+            right: u32::from(run.end),
+            bottom: y.saturating_add(1),
         }
     }
 
-    /// The box with one run more.
-    fn with(self, run: Run) -> Extent {
+    /// The smallest box around both.
+    fn with(self, other: Extent) -> Extent {
         Extent {
-            left: self.left.min(run.start),
-            top: self.top.min(run.y),
-            right: self.right.max(run.end),
-            bottom: self.bottom.max(run.y.saturating_add(1)),
+            left: self.left.min(other.left),
+            top: self.top.min(other.top),
+            right: self.right.max(other.right),
+            bottom: self.bottom.max(other.bottom),
         }
     }
 
@@ -47,99 +49,128 @@ impl Extent {
 pub struct Shapes {
     /// The box of each shape.
     pub extents: Vec<Extent>,
-    /// For each run, the number of its shape.
-    pub numbers: Vec<usize>,
+    /// For each label of runs, the number of its shape.
+    numbers: Vec<u32>,
 }
 
-/// The shapes that the runs of a page make. A run that touches one of the row above is of its shape.
-pub fn find_shapes(alloc: Global, page: &PageRuns) -> Result<Shapes, AllocError> {
-    let mut parents = Vec::new(alloc);
-    for place in 0..page.runs.len() {
-        parents.push(place)?;
-    }
-    join_rows(page, &mut parents);
-    number_shapes(alloc, &page.runs, &mut parents)
-}
-
-/// Joins all runs that touch. Each run has a parent of its shape, which is itself or an earlier one.
-fn join_rows(page: &PageRuns, parents: &mut [usize]) {
-    let mut above = 0;
-    let mut start = 0;
-    for end in page.ends.iter() {
-        join_row(&page.runs, above, start, *end, parents);
-        above = start;
-        start = *end;
+impl Shapes {
+    /// The number of the shape of a run.
+    pub fn number_of(&self, run: Run) -> usize {
+        parent_of(&self.numbers, run.label) as usize
     }
 }
 
-/// Joins the runs of a row, from `start` up to the one before `end`, with those of the row above, from `above` on.
-fn join_row(runs: &[Run], above: usize, start: usize, end: usize, parents: &mut [usize]) {
-    let mut upper = above;
-    let mut lower = start;
-    for _ in above..end {
-        if upper >= start || lower >= end {
-            return;
+/// The shapes of a page. A run that touches one of the row above is of its shape.
+pub fn find_shapes(alloc: Global, bitmap: &Bitmap) -> Result<Shapes, AllocError> {
+    let mut walk = RowWalk::new(alloc);
+    let mut labels = Labels {
+        parents: Vec::new(alloc),
+        extents: Vec::new(alloc),
+    };
+    for y in 0..bitmap.size().height(bitmap.dpi()) {
+        walk.step(bitmap, y)?;
+        labels.add_row(y, &walk.runs, &walk.links)?;
+    }
+    Ok(labels.into_shapes())
+}
+
+/// The labels of runs so far.
+#[derive(Drop)]
+struct Labels {
+    /// Each label has a parent of its shape, which is itself or an earlier one.
+    parents: Vec<u32>,
+    /// The box of the runs of each label.
+    extents: Vec<Extent>,
+}
+
+impl Labels {
+    /// Adds the runs of row `y`, and the links that come with it.
+    fn add_row(&mut self, y: u32, runs: &[Run], links: &[Link]) -> Result<(), AllocError> {
+        for run in runs {
+            match self.extents.get_mut(run.label as usize) {
+                Some(extent) => *extent = extent.with(Extent::of(y, *run)),
+                None => {
+                    self.parents.push(run.label)?;
+                    self.extents.push(Extent::of(y, *run))?;
+                }
+            }
         }
-        let (Some(one), Some(other)) = (runs.get(upper), runs.get(lower)) else {
-            return;
-        };
-        if one.touches(other) {
-            join(parents, upper, lower);
+        for link in links {
+            join(&mut self.parents, link.one, link.other);
         }
-        if one.end < other.end {
-            upper = upper.saturating_add(1);
-        } else {
-            lower = lower.saturating_add(1);
+        Ok(())
+    }
+
+    /// Numbers the shapes. Their boxes move to the front, and numbers take the place of parents, label by label.
+    fn into_shapes(self) -> Shapes {
+        let mut numbers = self.parents;
+        let mut extents = self.extents;
+        let mut count: usize = 0;
+        for label in 0..number_of_place(numbers.len()) {
+            let parent = parent_of(&numbers, label);
+            if parent == label {
+                set_parent(&mut numbers, label, number_of_place(count));
+                move_extent(&mut extents, label as usize, count);
+                count = count.saturating_add(1);
+            } else {
+                let number = parent_of(&numbers, parent);
+                set_parent(&mut numbers, label, number);
+                add_extent(&mut extents, label as usize, number as usize);
+            }
+        }
+        extents.truncate(count);
+        Shapes { extents, numbers }
+    }
+}
+
+/// Moves a box from one place to another.
+fn move_extent(extents: &mut [Extent], from: usize, to: usize) {
+    if let Some(extent) = extents.get(from).copied() {
+        if let Some(place) = extents.get_mut(to) {
+            *place = extent;
         }
     }
 }
 
-/// Joins the shapes of two runs.
-fn join(parents: &mut [usize], one: usize, other: usize) {
+/// Adds the box in one place to that in another.
+fn add_extent(extents: &mut [Extent], from: usize, to: usize) {
+    if let Some(extent) = extents.get(from).copied() {
+        if let Some(place) = extents.get_mut(to) {
+            *place = place.with(extent);
+        }
+    }
+}
+
+/// Joins the shapes of two labels.
+fn join(parents: &mut [u32], one: u32, other: u32) {
     let one = root(parents, one);
     let other = root(parents, other);
     set_parent(parents, one.max(other), one.min(other));
 }
 
-/// The first run of the shape of a run. The way there is halved for later calls.
-fn root(parents: &mut [usize], run: usize) -> usize {
-    let mut run = run;
+/// The first label of the shape of a label. The way there is halved for later calls.
+fn root(parents: &mut [u32], label: u32) -> u32 {
+    let mut label = label;
     for _ in 0..parents.len() {
-        let parent = parent_of(parents, run);
-        if parent == run {
-            return run;
+        let parent = parent_of(parents, label);
+        if parent == label {
+            return label;
         }
         let grandparent = parent_of(parents, parent);
-        set_parent(parents, run, grandparent);
-        run = grandparent;
+        set_parent(parents, label, grandparent);
+        label = grandparent;
     }
-    run
+    label
 }
 
-/// The parent of a run.
-fn parent_of(parents: &[usize], run: usize) -> usize {
-    parents.get(run).copied().unwrap_or(run)
+/// The parent of a label.
+fn parent_of(parents: &[u32], label: u32) -> u32 {
+    parents.get(label as usize).copied().unwrap_or(label)
 }
 
-/// Sets the parent of a run.
-fn set_parent(parents: &mut [usize], run: usize, parent: usize) {
-    if let Some(place) = parents.get_mut(run) {
+/// Sets the parent of a label.
+fn set_parent(parents: &mut [u32], label: u32, parent: u32) {
+    if let Some(place) = parents.get_mut(label as usize) {
         *place = parent;
     }
-}
-
-/// Numbers the shapes, and measures them.
-fn number_shapes(alloc: Global, runs: &[Run], parents: &mut [usize]) -> Result<Shapes, AllocError> {
-    let mut extents: Vec<Extent> = Vec::new(alloc);
-    let mut numbers: Vec<usize> = Vec::new(alloc);
-    for (place, run) in runs.iter().enumerate() {
-        let first = root(parents, place);
-        let number = numbers.get(first).copied().unwrap_or(extents.len());
-        match extents.get_mut(number) {
-            Some(extent) => *extent = extent.with(*run),
-            None => extents.push(Extent::of(*run))?,
-        }
-        numbers.push(number)?;
-    }
-    Ok(Shapes { extents, numbers })
 }

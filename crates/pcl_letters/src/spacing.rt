@@ -2,6 +2,7 @@
 
 use crate::forms::Form;
 use crate::letters::{Letter, Letters};
+use crate::numbers::number_of_place;
 use crate::patterns::Pattern;
 use indexmap::{IndexMap, IndexSet};
 use std::alloc::{AllocError, Global};
@@ -20,7 +21,7 @@ const BLANK_USES: u32 = 8;
 #[derive(Clone, Copy, Debug, PartialEq, Eq, Hash)]
 pub struct Character {
     /// The number of the glyph.
-    pub glyph: usize,
+    pub glyph: u32,
     /// How far the cursor moves, in dots.
     pub advance: u32,
 }
@@ -56,10 +57,10 @@ impl Spacing {
     }
 
     /// The usual character of a glyph.
-    pub fn usual_character(&self, glyph: usize) -> Character {
+    pub fn usual_character(&self, glyph: u32) -> Character {
         Character {
             glyph,
-            advance: self.usual.get(glyph).copied().unwrap_or(0),
+            advance: self.usual.get(glyph as usize).copied().unwrap_or(0),
         }
     }
 }
@@ -81,7 +82,7 @@ fn count_gaps(alloc: Global, letters: &[Letter]) -> Result<IndexMap<Character, u
 fn count_uses(alloc: Global, letters: &[Letter], glyphs: usize) -> Result<Vec<u32>, AllocError> {
     let mut uses = vec![in alloc; 0u32; glyphs]?;
     for letter in letters {
-        if let Some(count) = uses.get_mut(letter.glyph) {
+        if let Some(count) = uses.get_mut(letter.glyph as usize) {
             *count = count.saturating_add(1);
         }
     }
@@ -98,9 +99,9 @@ fn usual_advances(
 ) -> Result<Vec<u32>, AllocError> {
     let mut usual = vec![in alloc; u32::MAX; uses.len()]?;
     for (gap, count) in gaps.iter() {
-        let uses = uses.get(gap.glyph).copied().unwrap_or(0);
+        let uses = uses.get(gap.glyph as usize).copied().unwrap_or(0);
         if count.saturating_mul(USUAL_PART) >= uses {
-            if let Some(advance) = usual.get_mut(gap.glyph) {
+            if let Some(advance) = usual.get_mut(gap.glyph as usize) {
                 *advance = (*advance).min(gap.advance);
             }
         }
@@ -108,7 +109,7 @@ fn usual_advances(
     for (advance, glyph) in usual.iter_mut().zip(found.glyphs.iter()) {
         if *advance == u32::MAX {
             *advance = patterns
-                .get_index(glyph.pattern)
+                .get_index(glyph.pattern as usize)
                 .map_or(0, |pattern| pattern.width);
         }
     }
@@ -127,12 +128,13 @@ fn find_characters(
     let mut characters = IndexMap::new(alloc);
     for (glyph, (uses, advance)) in uses.iter().zip(usual.iter()).enumerate() {
         if *uses > 0 {
+            let glyph = number_of_place(glyph);
             let advance = *advance;
             characters.insert(Character { glyph, advance }, *uses)?;
         }
     }
     for (gap, count) in gaps.iter() {
-        let is_usual = usual.get(gap.glyph).copied() == Some(gap.advance);
+        let is_usual = usual.get(gap.glyph as usize).copied() == Some(gap.advance);
         if !is_usual && pays(patterns, found, *gap, *count) {
             characters.insert(*gap, *count)?;
         }
@@ -158,7 +160,7 @@ fn find_blanks(
 ) -> Result<IndexMap<u32, u32>, AllocError> {
     let mut blanks = IndexMap::new(alloc);
     for (gap, count) in gaps.iter() {
-        let advance = usual.get(gap.glyph).copied().unwrap_or(0);
+        let advance = usual.get(gap.glyph as usize).copied().unwrap_or(0);
         if gap.advance > advance && !characters.contains_key(gap) {
             let total = blanks
                 .entry(gap.advance.saturating_sub(advance))?

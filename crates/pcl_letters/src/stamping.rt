@@ -2,7 +2,7 @@
 
 ghost use Rattle.std.specs.Prelude.{◌<◌};
 
-use crate::patterns::Pattern;
+use crate::patterns::PatternRows;
 
 /// What the dots of a pattern become.
 #[derive(Clone, Copy, Debug, PartialEq, Eq)]
@@ -11,11 +11,19 @@ pub enum Ink {
     White,
 }
 
-/// Inks the dots of a pattern in rows of so many bytes, whose left upper dot is `(x, top)`.
-pub fn stamp(bytes: &mut [u8], row_bytes: usize, x: u32, top: u32, pattern: &Pattern, ink: Ink) {
-    let mut start = (top as usize).saturating_mul(row_bytes);
-    for row in pattern.rows.chunks(pattern.row_bytes()) {
-        stamp_row(bytes, start.saturating_add(x as usize / 8), x % 8, row, ink);
+/// A dot, so far right and down.
+#[derive(Clone, Copy, Debug)]
+pub struct Place {
+    pub x: u32,
+    pub y: u32,
+}
+
+/// Inks the dots of rows of a pattern in rows of so many bytes, whose left upper dot is in this place.
+pub fn stamp(bytes: &mut [u8], row_bytes: usize, place: Place, rows: PatternRows<'_>, ink: Ink) {
+    let mut start = (place.y as usize).saturating_mul(row_bytes);
+    for row in rows.bytes.chunks(rows.row_bytes.max(1)) {
+        let first = start.saturating_add(place.x as usize / 8);
+        stamp_row(bytes, first, place.x % 8, row, ink);
         start = start.saturating_add(row_bytes);
     }
 }

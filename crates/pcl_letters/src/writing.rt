@@ -7,12 +7,15 @@ use crate::layout::Layout;
 use crate::letters::{Letter, Letters};
 use crate::patterns::Pattern;
 use crate::pen::{Pen, append_text};
-use crate::stamping::{Ink, stamp};
+use crate::stamping::{Ink, Place, stamp};
 use indexmap::IndexSet;
 use pcl_bitmap::{Bitmap, Page};
 use pcl_plan::plan;
 use pcl_writer::write_page;
 use std::alloc::{AllocError, Global};
+
+/// So many rows of a page are without their letters at a time.
+const BAND_ROWS: u32 = 512;
 
 /// The form feed that ends a page.
 pub const FORM_FEED: u8 = 12;
@@ -22,7 +25,7 @@ pub const FORM_FEED: u8 = 12;
 pub struct CharacterWriter<'a> {
     layout: &'a Layout,
     /// How many pages came.
-    page: usize,
+    page: u32,
     /// How many letters these have.
     letters: usize,
     pen: Pen,
@@ -108,16 +111,8 @@ fn page_without(
     letters: &[Letter],
     page: &Page,
 ) -> Result<Page, AllocError> {
-    let row_bytes = page.size.row_bytes(page.dpi);
-    let mut bytes = Vec::from_slice(alloc, page.bitmap.bytes())?;
-    for letter in letters {
-        if let Some(pattern) = found.pattern_of(patterns, letter.glyph) {
-            let top = letter.baseline.saturating_sub(found.top_of(letter.glyph));
-            stamp(&mut bytes, row_bytes, letter.x, top, pattern, Ink::White);
-        }
-    }
     let mut bitmap = Bitmap::new(alloc, page.size, page.dpi)?;
-    paint(&bytes, row_bytes, &mut bitmap);
+    paint_without(alloc, patterns, found, letters, &page.bitmap, &mut bitmap)?;
     Ok(Page {
         size: page.size,
         copies: page.copies,
@@ -126,14 +121,66 @@ fn page_without(
     })
 }
 
-/// Paints rows of so many bytes.
-fn paint(bytes: &[u8], row_bytes: usize, bitmap: &mut Bitmap)
+/// Paints a page without the dots of some letters, a band of rows at a time.
+fn paint_without(
+    alloc: Global,
+    patterns: &IndexSet<Pattern>,
+    found: &Letters,
+    letters: &[Letter],
+    whole: &Bitmap,
+    bitmap: &mut Bitmap,
+) -> Result<(), AllocError>
+    ensures size { bitmap.new.size ≡ bitmap.old.size }
+    ensures dpi { bitmap.new.dpi ≡ bitmap.old.dpi }
+    ensures picture { IsPicture bitmap.new }
+{
+    let row_bytes = bitmap.size().row_bytes(bitmap.dpi());
+    let band_bytes = row_bytes.saturating_mul(BAND_ROWS as usize).max(1);
+    let mut bytes = Vec::new(alloc);
+    let mut top: u32 = 0;
+    for band in whole.bytes().chunks(band_bytes) {
+        bytes.clear();
+        bytes.extend_from_slice(band)?;
+        whiten(&mut bytes, row_bytes, top, patterns, found, letters);
+        paint(&bytes, row_bytes, top, bitmap);
+        top = top.saturating_add(BAND_ROWS);
+    }
+    Ok(())
+}
+
+/// Makes the dots of some letters white in a band of a page, rows of so many bytes from row `top` on.
+fn whiten(
+    bytes: &mut [u8],
+    row_bytes: usize,
+    top: u32,
+    patterns: &IndexSet<Pattern>,
+    found: &Letters,
+    letters: &[Letter],
+) {
+    let end = top.saturating_add(BAND_ROWS);
+    for letter in letters {
+        let first = letter.baseline.saturating_sub(found.top_of(letter.glyph));
+        if first < end {
+            if let Some(pattern) = found.pattern_of(patterns, letter.glyph) {
+                let rows = pattern.rows_from(top.saturating_sub(first));
+                let place = Place {
+                    x: letter.x,
+                    y: first.saturating_sub(top),
+                };
+                stamp(bytes, row_bytes, place, rows, Ink::White);
+            }
+        }
+    }
+}
+
+/// Paints rows of so many bytes from row `top` on.
+fn paint(bytes: &[u8], row_bytes: usize, top: u32, bitmap: &mut Bitmap)
     ensures size { bitmap.new.size ≡ bitmap.old.size }
     ensures dpi { bitmap.new.dpi ≡ bitmap.old.dpi }
     ensures picture { IsPicture bitmap.new }
 {
     let page_width = bitmap.size().width(bitmap.dpi());
-    let mut y: u64 = 0;
+    let mut y = u64::from(top);
     for row in bytes.chunks(row_bytes.max(1)) {
         let bits = u32::try_from(row.len()).map_or(0, |bytes| bytes.saturating_mul(8));
         bitmap.paint_row(0, y, 1, page_width.min(bits), row);
