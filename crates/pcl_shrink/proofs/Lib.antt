@@ -4,3 +4,4 @@ mod Shorter
 mod Looked
 mod Asked
 mod Listed
+mod Refusing

@@ -41,17 +41,15 @@ takes_proposal one one_asks proposal looked short = record {
   takes = λ same. omega arith;
 }
 
--- three looks, of which the first is at the least page texts with what is asked around them
+-- three looks, of which the last is at the least page texts with what is asked around them
 pub smaller_job : OnePages → OneAsks → AskNothing → {dpi : Dpi} {job second third last : List ℕ} {kept : KeptJob} (asked : Vec ℕ)
     {coarse letters : Option (Vec ℕ)} (texts : List (List ℕ)) {pages : List Sheet} → IsKept dpi job kept
     → HasPages dpi job pages → AreLeastTexts dpi pages texts → asked.items ≡ asked_job (asks_of kept.asks) texts
-    → IsShorter dpi job job (Some asked) second → IsShorter dpi job second coarse third → IsShorter dpi job third letters last
+    → IsShorter dpi job job letters second → IsShorter dpi job second coarse third → IsShorter dpi job third (Some asked) last
     → IsSmallerJob dpi job last
 smaller_job one one_asks ask_nothing {dpi} {job} {second} {third} {last} {kept} asked texts {pages} k meaning least spelled one_look
     two_looks three_looks =
     let s = three_looks.keeps (two_looks.keeps (one_look.keeps (input_best k))) in
-    let two = two_looks.no_longer in
-    let three = three_looks.no_longer in
     let asks_are : asks_of kept.asks ≡ s.asks = one_asks dpi job (asks_of kept.asks) s.asks k.asked s.asked in
     let is : asked.items ≡ asked_job s.asks texts = spelled ∙ ap (λ (a : Asks). asked_job a texts) asks_are in
     let each = subst (λ (ps : List Sheet). AreLeastTexts dpi ps texts) (one dpi job pages s.pages meaning s.meaning) least in
@@ -72,11 +70,11 @@ smaller_job one one_asks ask_nothing {dpi} {job} {second} {third} {last} {kept} 
       within_raster = λ nothing.
           let raster_here : asked.items ≡ raster = is ∙ ap (λ (a : Asks). asked_job a texts) nothing ∙ job_of_nothing s.pages texts in
           let same = same_as_raster ask_nothing w s.asks s.asked (nothing ∙ ap nothing_for pages_are) in
-          let taken = one_look.takes (subst (λ (bytes : List ℕ). IsAskedComparison dpi job bytes Same) (sym raster_here) same) in
-          subst (λ (bytes : List ℕ). length last ≤ length bytes) raster_here (omega (arith, taken, two, three));
+          let taken = three_looks.takes (subst (λ (bytes : List ℕ). IsAskedComparison dpi job bytes Same) (sym raster_here) same) in
+          subst (λ (bytes : List ℕ). length last ≤ length bytes) raster_here (omega (arith, taken));
       texts = texts;
       least = each;
       within_asked = λ same.
-          let taken = one_look.takes (subst (λ (bytes : List ℕ). IsAskedComparison dpi job bytes Same) (sym is) same) in
-          subst (λ (bytes : List ℕ). length last ≤ length bytes) is (omega (arith, taken, two, three));
+          let taken = three_looks.takes (subst (λ (bytes : List ℕ). IsAskedComparison dpi job bytes Same) (sym is) same) in
+          subst (λ (bytes : List ℕ). length last ≤ length bytes) is (omega (arith, taken));
     }

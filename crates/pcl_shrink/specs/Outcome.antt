@@ -12,3 +12,9 @@ abbrev pub IsOutcome : {T : Type 0} → Dpi → List ℕ → Result T JobFault �
 IsOutcome {T} dpi job (Ok value) = (pages : List Sheet) × HasPages dpi job pages
 IsOutcome {T} dpi job (Err (Refused refusal)) = IsRefusal dpi job refusal
 IsOutcome {T} dpi job (Err Memory) = Unit {0}
+
+-- whatever comes of a job, a refusal is its own
+abbrev pub RefusesWith : {T : Type 0} → Dpi → List ℕ → Result T JobFault → Type 0
+RefusesWith {T} dpi job (Ok value) = Unit {0}
+RefusesWith {T} dpi job (Err (Refused refusal)) = IsRefusal dpi job refusal
+RefusesWith {T} dpi job (Err Memory) = Unit {0}

@@ -29,8 +29,8 @@ least_of texts = map (λ (text : Text). text.least.items) texts
 abbrev pub TakesText : List (List ℕ) → Page → List (List ℕ) → Type 0
 TakesText old page new = (text : List ℕ) × (new ≡ old ++ text ∷ []) × IsWrittenPage page text
 
--- the job is accepted, and these are its pages' texts
-abbrev pub HasTexts : Dpi → List ℕ → Result (Vec Text) JobFault → Type 0
-HasTexts dpi job (Ok texts) = (pages : List Sheet) × HasPages dpi job pages × AreLeastTexts dpi pages (least_of texts.items)
-HasTexts dpi job (Err (Refused refusal)) = IsRefusal dpi job refusal
-HasTexts dpi job (Err Memory) = Unit {0}
+-- the job is accepted, and these are its pages' texts, whatever comes beside them
+abbrev pub HasTexts : {T : Type 0} → Dpi → List ℕ → Result (Vec Text × T) JobFault → Type 0
+HasTexts {T} dpi job (Ok found) = (pages : List Sheet) × HasPages dpi job pages × AreLeastTexts dpi pages (least_of found.0.items)
+HasTexts {T} dpi job (Err (Refused refusal)) = IsRefusal dpi job refusal
+HasTexts {T} dpi job (Err Memory) = Unit {0}

@@ -5,37 +5,27 @@ ghost use Rattle.pcl_shrink.specs.Outcome.{IsOutcome};
 use crate::asking::{append_end, append_page_start};
 use crate::rasters::Text;
 use pcl_base::{Dpi, JobFault};
-use pcl_letters::{Collection, Lettering, PageWriter};
+use pcl_letters::{Lettering, PageWriter};
 use pcl_page::{Asks, Page, PageSink, perform};
 use std::alloc::{AllocError, Global};
 use std::marker::Model;
 
-/// A proposal of a smaller job with the same pages, which asks for what a job asks for, with letters as soft fonts or as macros
-/// (docs/GLYPHS.md), and with these texts for the pages and stretches of pages where that takes fewer bytes: none where no shape is a
-/// letter. Nothing is promised of it but that the input is accepted. A refusal is the job's.
+/// A proposal of a smaller job with the same pages, which asks for what a job asks for, with these letters as soft fonts or as macros
+/// (docs/GLYPHS.md), and with these texts for the pages and stretches of pages where that takes fewer bytes: none where that is so
+/// everywhere. Nothing is promised of it but that the input is accepted. A refusal is the job's.
 pub fn letter_job(
     alloc: Global,
     job: &[u8],
     dpi: Dpi,
     asks: &Asks<'_>,
     texts: &[Text],
+    lettering: &Lettering,
 ) -> Result<Option<Vec<u8>>, JobFault>
     ensures { IsOutcome dpi job.now result }
 {
-    let lettering = find_lettering(alloc, job, dpi)?;
-    if lettering.is_empty() {
-        Ok(None)
-    } else {
-        write_pages(alloc, job, dpi, asks, texts, &lettering)
-    }
-}
-
-/// The letters of a job.
-fn find_lettering(alloc: Global, job: &[u8], dpi: Dpi) -> Result<Lettering, JobFault>
-    ensures { IsOutcome dpi job.now result }
-{
-    let collection = after_pages(alloc, job, dpi, Collection::new(alloc, dpi))?;
-    Ok(Lettering::new(alloc, collection)?)
+    let writer = LetterWriter::new(alloc, asks, texts, lettering)?;
+    let writer = after_pages(alloc, job, dpi, writer)?;
+    Ok(writer.finish()?)
 }
 
 /// A sink after the pages of a job.
@@ -52,24 +42,8 @@ fn after_pages<S: PageSink + Drop>(
     Ok(sink)
 }
 
-/// The job with these letters.
-fn write_pages(
-    alloc: Global,
-    job: &[u8],
-    dpi: Dpi,
-    asks: &Asks<'_>,
-    texts: &[Text],
-    lettering: &Lettering,
-) -> Result<Option<Vec<u8>>, JobFault>
-    ensures { IsOutcome dpi job.now result }
-{
-    let writer = LetterWriter::new(alloc, asks, texts, lettering)?;
-    let writer = after_pages(alloc, job, dpi, writer)?;
-    Ok(Some(writer.finish()?))
-}
-
-/// Writes the pages that come. A reset deletes fonts and macros: so the pages up to the next one are written in two ways, after the
-/// letters and without any, and the shorter of the two is kept.
+/// Writes the pages that come. A reset deletes fonts and macros: so the pages up to the next one are a stretch, which is written after
+/// the letters, and without any where that takes fewer bytes.
 #[derive(Drop)]
 struct LetterWriter<'a, 'b> {
     /// What the job asks for.
@@ -81,11 +55,15 @@ struct LetterWriter<'a, 'b> {
     writer: PageWriter<'b>,
     /// How many pages came.
     pages: usize,
-    /// The pages since the last reset after the letters.
-    lettered: Vec<u8>,
-    /// And without them.
-    plain: Vec<u8>,
-    /// All up to the last reset.
+    /// How many of them came before the stretch.
+    first: usize,
+    /// How many bytes the stretch takes without letters.
+    plain: usize,
+    /// Where the stretch begins in what is written.
+    place: usize,
+    /// Whether a stretch before it has letters.
+    has_letters: bool,
+    /// What is written, with the stretch after the letters.
     out: Vec<u8>,
 }
 
@@ -105,8 +83,10 @@ impl<'a, 'b> LetterWriter<'a, 'b> {
             start,
             writer: PageWriter::new(lettering),
             pages: 0,
-            lettered: Vec::new(alloc),
-            plain: Vec::new(alloc),
+            first: 0,
+            plain: 0,
+            place: 0,
+            has_letters: false,
             out: Vec::new(alloc),
         })
     }
@@ -119,33 +99,48 @@ impl<'a, 'b> LetterWriter<'a, 'b> {
             self.end_stretch()?;
             self.writer.restart();
         }
-        self.plain.extend_from_slice(&start)?;
-        self.lettered.extend_from_slice(&start)?;
+        self.plain = self.plain.saturating_add(start.len());
+        self.out.extend_from_slice(&start)?;
         if is_reset {
-            self.lettered.extend_from_slice(&self.start)?;
+            self.out.extend_from_slice(&self.start)?;
         }
         Ok(())
     }
 
-    /// Keeps the shorter of the two ways in which the pages since the last reset are written.
+    /// Ends the stretch, which stays as it is written where that is shorter than without letters.
     fn end_stretch(&mut self) -> Result<(), AllocError> {
-        if self.lettered.len() < self.plain.len() {
-            self.out.extend_from_slice(&self.lettered)?;
+        if self.out.len().saturating_sub(self.place) < self.plain {
+            self.has_letters = true;
         } else {
-            self.out.extend_from_slice(&self.plain)?;
+            self.out.truncate(self.place);
+            self.append_plain()?;
         }
-        self.lettered.clear();
-        self.plain.clear();
+        self.first = self.pages;
+        self.plain = 0;
+        self.place = self.out.len();
         Ok(())
     }
 
-    /// The job with the pages that came.
-    fn finish(self) -> Result<Vec<u8>, AllocError> {
+    /// Appends the pages of the stretch without letters.
+    fn append_plain(&mut self) -> Result<(), AllocError> {
+        for (number, text) in self.texts.iter().enumerate() {
+            if self.first <= number && number < self.pages {
+                append_page_start(self.asks, number, &mut self.out)?;
+                self.out.extend_from_slice(text.shortest())?;
+            }
+        }
+        Ok(())
+    }
+
+    /// The job with the pages that came: none where no stretch has letters.
+    fn finish(self) -> Result<Option<Vec<u8>>, AllocError> {
         let mut writer = self;
         writer.end_stretch()?;
-        let mut out = writer.out;
-        append_end(writer.asks, writer.pages, &mut out)?;
-        Ok(out)
+        if !writer.has_letters {
+            return Ok(None);
+        }
+        append_end(writer.asks, writer.pages, &mut writer.out)?;
+        Ok(Some(writer.out))
     }
 }
 
@@ -165,8 +160,8 @@ impl<'a, 'b> PageSink for LetterWriter<'a, 'b> {
         };
         self.begin_page()?;
         let plain = text.shortest();
-        self.plain.extend_from_slice(plain)?;
-        self.writer.append_page(page, plain, &mut self.lettered)?;
+        self.plain = self.plain.saturating_add(plain.len());
+        self.writer.append_page(page, plain, &mut self.out)?;
         self.pages = self.pages.saturating_add(1);
         Ok(())
     }

@@ -9,6 +9,7 @@ mod candidate;
 mod laws;
 mod letter_jobs;
 mod looking;
+mod proposals;
 mod raster_jobs;
 mod rasters;
 mod shrinking;

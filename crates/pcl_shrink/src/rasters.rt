@@ -3,7 +3,7 @@
 ghost use Rattle.std.specs.Prelude.{IfOk};
 ghost use Rattle.pcl_writer.specs.Appending.{IsWrittenPage};
 
-use crate::squares::coarse_page;
+use crate::squares::{coarse_page, common_side};
 use itoa::Buffer;
 use pcl_base::Dpi;
 use pcl_page::Page;
@@ -45,10 +45,12 @@ fn shortest_coarse(
     page: &Page,
     limit: usize,
 ) -> Result<Option<Vec<u8>>, AllocError> {
+    let common = common_side(alloc, &page.bitmap)?;
     let mut limit = limit;
     let mut shortest = None;
     for side in sides(page.dpi) {
-        if let Some(coarse) = coarse_page(alloc, page, *side)? {
+        if common.checked_rem(*side) == Some(0) {
+            let coarse = coarse_page(alloc, page, *side)?;
             let text = coarse_text(alloc, &coarse, *side)?;
             if text.len() < limit {
                 limit = text.len();

@@ -5,26 +5,74 @@ ghost use Rattle.pcl_bitmap.specs.Bitmap.{IsPicture};
 
 use pcl_base::ROW_LIMIT;
 use pcl_bitmap::Bitmap;
+use pcl_letters::append_edges;
 use pcl_page::Page;
 use std::alloc::{AllocError, Global};
 
-/// A page with a dot for each square of so many dots of this one, in its upper left corner: none where a square has white dots and
-/// black ones. Squares are cut by the right and the lower edge.
-pub fn coarse_page(alloc: Global, page: &Page, side: u32) -> Result<Option<Page>, AllocError> {
-    let mut bitmap = Bitmap::new(alloc, page.size, page.dpi)?;
-    if !paint_squares(&page.bitmap, side, &mut bitmap) {
-        return Ok(None);
+/// The number that all sides divide of squares of one ink each, from the upper left corner on, of which a page consists: 0 where it is
+/// of one ink. Squares are cut by the right and the lower edge.
+pub fn common_side(alloc: Global, bitmap: &Bitmap) -> Result<u32, AllocError> {
+    let width = bitmap.size().width(bitmap.dpi());
+    let mut edges = Vec::new(alloc);
+    let mut above: &[u8] = &[];
+    let mut side = 0;
+    for y in 0..bitmap.size().height(bitmap.dpi()) {
+        let row = bitmap.row(y);
+        if row != above {
+            edges.clear();
+            append_edges(row, &mut edges)?;
+            side = common_side_of_row(greatest_divisor(side, y), &edges, width);
+        }
+        if side == 1 {
+            break;
+        }
+        above = row;
     }
-    Ok(Some(Page {
+    Ok(side)
+}
+
+/// The number that all sides divide of squares where so long ones are possible, with a row of these edges more.
+fn common_side_of_row(side: u32, edges: &[u16], width: u32) -> u32 {
+    let mut side = side;
+    for edge in edges {
+        let edge = u32::from(*edge);
+        if edge < width {
+            side = greatest_divisor(side, edge);
+        }
+    }
+    side
+}
+
+/// The greatest common divisor of two numbers, where 0 is divided by each.
+fn greatest_divisor(one: u32, other: u32) -> u32 {
+    let mut one = one;
+    let mut other = other;
+    for _ in 0..64u32 {
+        if other == 0 {
+            return one;
+        }
+        let rest = one % other;
+        one = other;
+        other = rest;
+    }
+    1
+}
+
+/// A page with a dot for each square of so many dots of this one, in its upper left corner. Squares are cut by the right and the lower
+/// edge.
+pub fn coarse_page(alloc: Global, page: &Page, side: u32) -> Result<Page, AllocError> {
+    let mut bitmap = Bitmap::new(alloc, page.size, page.dpi)?;
+    paint_squares(&page.bitmap, side, &mut bitmap);
+    Ok(Page {
         size: page.size,
         copies: page.copies,
         dpi: page.dpi,
         bitmap,
-    }))
+    })
 }
 
-/// Paints a dot for each square, and says whether all squares are of one ink.
-fn paint_squares(fine: &Bitmap, side: u32, coarse: &mut Bitmap) -> bool
+/// Paints a dot for each square, which has the ink of its upper left dot.
+fn paint_squares(fine: &Bitmap, side: u32, coarse: &mut Bitmap)
     requires { IsPicture coarse.old }
     ensures size { coarse.new.size ≡ coarse.old.size }
     ensures dpi { coarse.new.dpi ≡ coarse.old.dpi }
@@ -34,54 +82,35 @@ fn paint_squares(fine: &Bitmap, side: u32, coarse: &mut Bitmap) -> bool
     let width = fine.size().width(fine.dpi());
     let mut dots = [0; ROW_LIMIT];
     for y in 0..fine.size().height(fine.dpi()) {
-        let row = fine.row(y);
-        if y % side != 0 {
-            if row != fine.row(y.saturating_sub(1)) {
-                return false;
-            }
-        } else if coarsen(row, width, side, &mut dots) {
+        if y % side == 0 && !fine.is_blank(y) {
+            coarsen(fine.row(y), side, &mut dots);
             coarse.paint_row(0, u64::from(y / side), 1, width, &dots);
-        } else {
-            return false;
         }
     }
-    true
 }
 
-/// Writes a bit for each so many dots of a row, and says whether all of these are of one ink.
-fn coarsen(row: &[u8], width: u32, side: u32, dots: &mut [u8]) -> bool
+/// Writes a bit for each so many dots of a row, as far as it goes.
+fn coarsen(row: &[u8], side: u32, dots: &mut [u8])
     ensures { length dots.new ≡ length dots.old }
 {
     let mut start: u32 = 0;
     for byte in dots {
-        match coarse_byte(row, width, side, start) {
-            Some(bits) => *byte = bits,
-            None => return false,
+        if start as usize / 8 >= row.len() {
+            return;
         }
+        *byte = coarse_byte(row, side, start);
         start = start.saturating_add(side.saturating_mul(8));
     }
-    true
 }
 
-/// The bits for eight times so many dots, from this one on: none where these aren't of one ink.
-fn coarse_byte(row: &[u8], width: u32, side: u32, start: u32) -> Option<u8> {
+/// The bits for eight times so many dots, from this one on.
+fn coarse_byte(row: &[u8], side: u32, start: u32) -> u8 {
     let mut bits: u8 = 0;
     for number in 0..8u32 {
         let dot = start.saturating_add(side.saturating_mul(number));
-        bits = (bits << 1) | u8::from(ink(row, width, side, dot)?);
+        bits = (bits << 1) | u8::from(is_black(row, dot));
     }
-    Some(bits)
-}
-
-/// Whether so many dots are black, from this one on: none where some are and some aren't.
-fn ink(row: &[u8], width: u32, side: u32, start: u32) -> Option<bool> {
-    let first = is_black(row, start);
-    for x in start..start.saturating_add(side).min(width) {
-        if is_black(row, x) != first {
-            return None;
-        }
-    }
-    Some(first)
+    bits
 }
 
 /// Whether a dot of a row is black. Dots past the row are white.
