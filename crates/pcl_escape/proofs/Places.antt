@@ -1,5 +1,5 @@
 -- The data of a command stand in the job right before what is left after its step.
-use Rattle.std.proofs.Common.{◌≡◌, ℕ, suc, ◌+◌, ◌-◌, ◌≤◌, Bool, true, false, ◌==◌, ◌||◌, is_some, if◌then◌else◌, List, [], ◌∷◌, ◌++◌, length, take, take_at, drop, drop_at, Option, Some, None, Result, Ok, Err, refl, sym, ap, subst, ◌∙◌, append_assoc, length-append, arith}
+use Rattle.std.proofs.Common.{◌≡◌, ℕ, suc, ◌+◌, ◌-◌, Bool, true, false, ◌==◌, ◌||◌, is_some, if◌then◌else◌, List, [], ◌∷◌, ◌++◌, length, take, take_at, drop_at, Option, Some, None, Result, Ok, Err, refl, sym, ap, subst, ◌∙◌, append_assoc, length-append, arith}
 use Rattle.std.proofs.lemmas.Bool.Decides.{nat_tests}
 use Rattle.std.proofs.lemmas.List.{take-append-drop}
 use Rattle.std.specs.Prelude.{IfSome}
@@ -156,7 +156,8 @@ unfolding prefix_at
 prefix_stands at parameterized [] = tt
 prefix_stands at parameterized (group ∷ bytes) =
     let prefix : Prefix = record { parameterized = parameterized; group = Some group } in
-    either (group ∷ bytes) (is_group group) _ _ (further (group ∷ []) bytes (parameter_at prefix at bytes) (parameter_stands prefix at bytes))
+    either (group ∷ bytes) (is_group group) _ _
+    (further (group ∷ []) bytes (parameter_at prefix at bytes) (parameter_stands prefix at bytes))
     (either (group ∷ bytes) (is_ungrouped parameterized) _ _ (ungrouped_stands at parameterized (group ∷ bytes)) tt)
 
 sequence_stands : (at : ℕ) (bytes : List ℕ) → Stands bytes (sequence_at at bytes)
@@ -164,7 +165,8 @@ unfolding sequence_at
 sequence_stands at [] = tt
 sequence_stands at (byte ∷ bytes) =
     either (byte ∷ bytes) (is_two_character byte) _ _ (code_stands at byte bytes)
-    (either (byte ∷ bytes) (is_parameterized byte) _ _ (further (byte ∷ []) bytes (prefix_at at byte bytes) (prefix_stands at byte bytes)) tt)
+    (either (byte ∷ bytes) (is_parameterized byte) _ _
+    (further (byte ∷ []) bytes (prefix_at at byte bytes) (prefix_stands at byte bytes)) tt)
 
 start_stands : (at : ℕ) (bytes : List ℕ) → Stands bytes (start_at at bytes)
 unfolding start_at

@@ -6,7 +6,7 @@ use std::marker::Model;
 
 /// A list of commands, each of which is read by its place.
 pub trait CommandList<'a> {
-    ghost use Rattle.std.specs.Prelude.{◌≡◌, ◌<◌, ◌^◌, List, ℕ, IfSome, slice_get};
+    ghost use Rattle.std.specs.Prelude.{◌≡◌, ◌<◌, ◌^◌, List, IfSome, slice_get};
     ghost use Rattle.std.specs.Option.{option_map};
     ghost use Rattle.pcl_escape.specs.Said.{Said, view};
 

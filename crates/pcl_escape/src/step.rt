@@ -43,6 +43,8 @@ pub struct Progress<'a> {
 
 /// Reads what stands at the front of the bytes, inside a combined sequence or outside. `at` is the
 /// place of the front.
+// Inlined, as `read_parameter`, in each loop that reads.
+#[inline(always)]
 pub fn read_step<'a>(
     inside: Option<Prefix>,
     at: usize,

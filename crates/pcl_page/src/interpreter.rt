@@ -112,7 +112,8 @@ impl<'a> Interpreter<'a> {
         requires level { length self.old.running.items < macro_limit }
         requires somewhere { IsSomewhere dpi self.old }
         ensures done { (s : Situation) → IsAt dpi s self.old → GoesOn S.takes dpi (L.commands commands.now)
-            (resumed macro_limit dpi (L.commands commands.now) (self.old.running.items ++ newest ∷ []) s) s result self.new sink.old sink.new }
+            (resumed macro_limit dpi (L.commands commands.now) (self.old.running.items ++ newest ∷ []) s)
+            s result self.new sink.old sink.new }
         ensures few { OnOk result (length self.new.running.items ≤ macro_limit) }
         ensures less { OnOk result (work_left (length (L.commands commands.now)) self.new.performer.performed self.new.running.items
             < work_left (length (L.commands commands.now)) self.old.performer.performed (self.old.running.items ++ newest ∷ [])) }

@@ -64,7 +64,8 @@ returns-in_err-run_macros g c =
     let p = err_from_is_err_and c.from_residual-in_err-run_macros.result c.from_residual-in_err-run_macros.ensures.1 in
     rw (p.1, p.2) (
       macros_stopped g.S.PageSink.takes c.args.dpi c.args.end all whole c.loop-command.place _ _ c.perform_at.new.self c.run_macros.new.self
-          c.args.sink.now c.loop-command.sink c.perform_at.new.sink c.run_macros.new.sink _ b (λ s at. c.in_err-run_macros.ensures.done s at),
+          c.args.sink.now c.loop-command.sink c.perform_at.new.sink c.run_macros.new.sink _ b
+          (λ s at. c.in_err-run_macros.ensures.done s at),
       tt,
     )
 
