@@ -5,11 +5,12 @@
 
 PROGRAM is a built pclmin. It prints the rows of the table of bench/README.md, "Smaller jobs". Each result is compared with the job by
 `same`, what `shrink` writes by `same --asked`; the status is 1 if one isn't the same, or if `shrink` writes more than the job or the
-least raster has. With WORDs only documents are made whose names have all of these. Times are the processor's, the least of RUNS.
+least raster has. With WORDs only documents are made whose names have all of these. Times are the processor's, the least of RUNS. The
+memory is the peak that GNU time tells of one more run: what wait4 tells of a child has in it what this script holds itself.
 
 The manual is that of bash, as groff sets it for Letter paper; dvilj prints docs/LANGUAGE.md in groff's fonts for TeX, and the two
 pages of document.tex. Other documents are those of clients.py. Needs the manual page of bash, groff, ghostscript, texlive-binaries,
-texlive-base, gzip and xz.
+texlive-base, gzip, xz and GNU time.
 """
 
 import collections
@@ -74,13 +75,23 @@ def prepare(folder):
 
 # ---- one document
 
-def run(command):
-    """Runs a command, and gives the processor's time and the memory that it takes."""
+def seconds(command):
+    """Runs a command, and gives the processor's time that it takes."""
     process = subprocess.Popen(command)
     _, status, usage = os.wait4(process.pid, 0)
     if status != 0:
         raise ValueError("%s ends with status %d" % (command[1], os.waitstatus_to_exitcode(status)))
-    return Run(usage.ru_utime + usage.ru_stime, usage.ru_maxrss)
+    return usage.ru_utime + usage.ru_stime
+
+
+def memory(command):
+    """The most memory that a command holds."""
+    told = subprocess.run(["/usr/bin/time", "-f", "%M", *command], stderr=subprocess.PIPE, check=True).stderr
+    return int(told.split()[-1])
+
+
+def run(command):
+    return Run(min(seconds(command) for _ in range(RUNS)), memory(command))
 
 
 def packed(name):
@@ -111,8 +122,7 @@ def measured(program, folder, document):
     outs = {"min": least, "shrink": smaller}
     best = {}
     for how, out in outs.items():
-        runs = [run([program, how, "--dpi", str(document.dpi), "-o", out, job]) for _ in range(RUNS)]
-        best[how] = Run(min(each.seconds for each in runs), min(each.memory for each in runs))
+        best[how] = run([program, how, "--dpi", str(document.dpi), "-o", out, job])
     sizes = packed(job) + packed(least) + [os.path.getsize(smaller)]
     times = ["%.1f" % (getattr(best["shrink"], what) / max(getattr(best["min"], what), 1e-3)) for what in Run._fields]
     part = "%.1f %%" % (100 * sizes[-1] / sizes[3])
