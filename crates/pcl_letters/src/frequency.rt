@@ -4,12 +4,7 @@
 //! these. So each row is taken to cost what its data take, and each shape its part of that. A row from which letters went costs those
 //! that are left more, which is why patterns are looked at in rounds.
 
-use crate::collecting::{Collection, Item};
-use crate::forms::Form;
-use crate::metrics::{add, number_of, quotient};
-use crate::numbers::number_of_place;
-use crate::patterns::Pattern;
-use crate::rows::Row;
+use pcl_shapes::{Collection, Form, Item, Pattern, Row, add, number_of, number_of_place, quotient};
 use std::alloc::{AllocError, Global};
 
 /// Parts of a byte.

@@ -1,11 +1,8 @@
 //! Shapes that stand above each other on a line, as the dot and the stem of an i do, joined to one where that takes fewer bytes.
 
-use crate::collecting::{Collection, Item};
-use crate::forms::Form;
 use crate::frequency::{Frequency, count_uses, find_frequency};
-use crate::numbers::number_of_place;
-use crate::patterns::Pattern;
 use indexmap::{IndexMap, IndexSet};
+use pcl_shapes::{Collection, Form, Item, Pattern, number_of_place};
 use std::alloc::{AllocError, Global};
 
 /// How often shapes are joined two by two, in rounds: one of the last round has up to eight parts.

@@ -5,7 +5,7 @@ ghost use Rattle.pcl_shrink.specs.Outcome.{IsOutcome};
 use crate::asking::{append_end, append_page_start};
 use crate::rasters::Text;
 use pcl_base::{Dpi, JobFault};
-use pcl_letters::{Lettering, PageWriter};
+use pcl_lettering::{Lettering, PageWriter};
 use pcl_page::{Asks, Page, PageSink, perform};
 use std::alloc::{AllocError, Global};
 use std::marker::Model;

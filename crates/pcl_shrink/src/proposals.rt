@@ -7,8 +7,9 @@ use crate::letter_jobs::letter_job;
 use crate::rasters::Text;
 use crate::texts::page_texts;
 use pcl_base::{Dpi, JobFault};
-use pcl_letters::{Collection, Lettering};
+use pcl_lettering::Lettering;
 use pcl_page::Asks;
+use pcl_shapes::Collection;
 use std::alloc::Global;
 
 /// The texts of the pages of a job as rasters, and a shorter job with letters, which asks for what the job asks for: none where letters

@@ -4,10 +4,10 @@ ghost use Rattle.std.specs.Prelude.{IfOk};
 ghost use Rattle.pcl_writer.specs.Appending.{IsWrittenPage};
 
 use crate::squares::{coarse_page, common_side};
-use itoa::Buffer;
 use pcl_base::Dpi;
 use pcl_page::Page;
 use pcl_plan::plan;
+use pcl_shapes::append_labelled;
 use pcl_writer::write_page;
 use std::alloc::{AllocError, Global};
 
@@ -85,11 +85,11 @@ fn coarse_text(alloc: Global, coarse: &Page, side: u32) -> Result<Vec<u8>, Alloc
     let side = side.max(1);
     let least = least_text(alloc, coarse)?;
     let mut text = Vec::new(alloc);
-    append_number(b"\x1b&l", u32::from(coarse.copies), &mut text)?;
-    append_number(b"x", coarse.size.code(), &mut text)?;
-    append_number(b"a0E\x1b*p0x0Y\x1b*t", coarse.dpi.dots() / side, &mut text)?;
+    append_labelled(b"\x1b&l", u32::from(coarse.copies), &mut text)?;
+    append_labelled(b"x", coarse.size.code(), &mut text)?;
+    append_labelled(b"a0E\x1b*p0x0Y\x1b*t", coarse.dpi.dots() / side, &mut text)?;
     let columns = coarse.size.width(coarse.dpi).div_ceil(side);
-    append_number(b"R\x1b*r", columns, &mut text)?;
+    append_labelled(b"R\x1b*r", columns, &mut text)?;
     text.extend_from_slice(b"s0A")?;
     text.extend_from_slice(rows_of_text(&least))?;
     Ok(text)
@@ -102,11 +102,4 @@ fn rows_of_text(text: &[u8]) -> &[u8] {
         None => 0,
     };
     &text[start..]
-}
-
-/// Appends a label and a number in decimal after it.
-fn append_number(label: &[u8], number: u32, out: &mut Vec<u8>) -> Result<(), AllocError> {
-    let mut digits = Buffer::new();
-    out.extend_from_slice(label)?;
-    out.extend_from_slice(digits.format(number).as_bytes())
 }

@@ -5,8 +5,8 @@ ghost use Rattle.pcl_bitmap.specs.Bitmap.{IsPicture};
 
 use pcl_base::ROW_LIMIT;
 use pcl_bitmap::Bitmap;
-use pcl_letters::append_edges;
 use pcl_page::Page;
+use pcl_shapes::append_edges;
 use std::alloc::{AllocError, Global};
 
 /// The number that all sides divide of squares of one ink each, from the upper left corner on, of which a page consists: 0 where it is

@@ -4,8 +4,8 @@ ghost use Rattle.pcl_shrink.specs.Texts.{HasTexts};
 
 use crate::rasters::{Text, page_text};
 use pcl_base::{Dpi, JobFault};
-use pcl_letters::Collection;
 use pcl_page::{Page, PageSink, perform};
+use pcl_shapes::Collection;
 use std::alloc::{AllocError, Global};
 use std::marker::Model;
 

@@ -1,7 +1,7 @@
 //! Lines of letters as what macros print.
 
-use crate::letters::Letter;
 use crate::metrics::Metrics;
+use pcl_shapes::Letter;
 use std::alloc::{AllocError, Global};
 
 /// What a macro prints.

@@ -1,10 +1,7 @@
 //! How far letters advance, and what makes the gaps that differ.
 
-use crate::forms::Form;
-use crate::letters::{Letter, Letters};
-use crate::numbers::number_of_place;
-use crate::patterns::Pattern;
 use indexmap::{IndexMap, IndexSet};
+use pcl_shapes::{Form, Letter, Letters, Pattern, number_of_place};
 use std::alloc::{AllocError, Global};
 
 /// The usual advance of a glyph is the least that at least one in so many of its letters has.

@@ -4,8 +4,8 @@
 //! letter to the next is fitted, in parts of a dot, as a number of the first and one of the second, and these are rounded then:
 //! so most letters follow from where the one before them stands, and the others are a dot off.
 
-use crate::letters::Letter;
 use indexmap::IndexMap;
+use pcl_shapes::{Letter, add, number_of, quotient};
 use std::alloc::{AllocError, Global};
 
 /// The parts of a dot in which distances are fitted.
@@ -147,15 +147,6 @@ fn pair_of(step: Step, count: u32, next: Option<(&Step, &u32)>) -> Pair {
     }
 }
 
-/// The quotient, rounded down, or 0 where the divisor isn't above 0.
-pub fn quotient(dividend: i64, divisor: i64) -> i64 {
-    if divisor > 0 {
-        dividend.div_euclid(divisor)
-    } else {
-        0
-    }
-}
-
 /// One of the two glyphs of a pair.
 #[derive(Clone, Copy, PartialEq, Eq)]
 enum Side {
@@ -210,11 +201,6 @@ impl Fit {
             *distance = distance.saturating_add(shift);
         }
     }
-}
-
-/// The number in a place.
-pub fn number_of(numbers: &[i64], place: usize) -> i64 {
-    numbers.get(place).copied().unwrap_or(0)
 }
 
 /// What a pair says of a glyph. Their order is that of glyphs, and of values.
@@ -273,13 +259,6 @@ fn means(alloc: Global, pairs: &[Pair], fit: &Fit, side: Side) -> Result<Vec<i64
         found.push(number.saturating_add(quotient(*sum, *count)))?;
     }
     Ok(found)
-}
-
-/// Adds to the number in a place.
-pub fn add(numbers: &mut [i64], place: usize, more: i64) {
-    if let Some(number) = numbers.get_mut(place) {
-        *number = number.saturating_add(more);
-    }
 }
 
 /// Sets the number of a glyph.

@@ -1,16 +1,12 @@
-//! Pages written as rasters and text.
+//! Rasters of what of a page isn't printed as text.
 
 ghost use Rattle.std.specs.Prelude.{◌≡◌};
 ghost use Rattle.pcl_bitmap.specs.Bitmap.{IsPicture};
 
-use crate::layout::Layout;
-use crate::letters::{Letter, Letters};
-use crate::patterns::Pattern;
-use crate::pen::{Pen, append_text};
-use crate::stamping::{Ink, Place, stamp};
 use indexmap::IndexSet;
 use pcl_bitmap::{Bitmap, Page};
 use pcl_plan::plan;
+use pcl_shapes::{Ink, Letter, Letters, Pattern, Place, stamp};
 use pcl_writer::write_page;
 use std::alloc::{AllocError, Global};
 
@@ -19,73 +15,6 @@ const BAND_ROWS: u32 = 512;
 
 /// The form feed that ends a page.
 pub const FORM_FEED: u8 = 12;
-
-/// Writes pages with letters as characters, one after the other.
-#[derive(Drop)]
-pub struct CharacterWriter<'a> {
-    layout: &'a Layout,
-    /// How many pages came.
-    page: u32,
-    /// How many letters these have.
-    letters: usize,
-    pen: Pen,
-}
-
-impl<'a> CharacterWriter<'a> {
-    /// At the first page.
-    pub fn new(layout: &'a Layout) -> CharacterWriter<'a> {
-        CharacterWriter {
-            layout,
-            page: 0,
-            letters: 0,
-            pen: Pen::new(),
-        }
-    }
-
-    /// Goes on after a reset: no font is selected.
-    pub fn restart(&mut self) {
-        self.pen = Pen::new();
-    }
-
-    /// Appends the next page, of which this is a text without letters: that text, or one with letters where it takes fewer bytes.
-    pub fn append_page(
-        &mut self,
-        page: &Page,
-        plain: &[u8],
-        out: &mut Vec<u8>,
-    ) -> Result<(), AllocError> {
-        let layout = self.layout;
-        let letters = layout.letters.of_page(self.page, self.letters);
-        self.page = self.page.saturating_add(1);
-        self.letters = self.letters.saturating_add(letters.len());
-        if letters.is_empty() {
-            return out.extend_from_slice(plain);
-        }
-        let mut text = Vec::new(*out.allocator());
-        let pen = append_lettered(layout, letters, page, self.pen, &mut text)?;
-        if text.len() >= plain.len() {
-            return out.extend_from_slice(plain);
-        }
-        self.pen = pen;
-        out.extend_from_slice(&text)
-    }
-}
-
-/// Appends a page: the raster of what isn't printed as text, and the text.
-fn append_lettered(
-    layout: &Layout,
-    letters: &[Letter],
-    page: &Page,
-    pen: Pen,
-    out: &mut Vec<u8>,
-) -> Result<Pen, AllocError> {
-    let alloc = *out.allocator();
-    append_raster(alloc, &layout.patterns, &layout.letters, letters, page, out)?;
-    let pen = pen.on_page(page.size.width(page.dpi));
-    let pen = append_text(layout, letters, pen, out)?;
-    out.push(FORM_FEED)?;
-    Ok(pen)
-}
 
 /// Appends a page text of what of a page isn't one of some letters, without its form feed.
 pub fn append_raster(

@@ -2,9 +2,7 @@
 
 use crate::codes::{blank_code, font_id};
 use crate::layout::Layout;
-use crate::letters::Letters;
-use crate::numbers::{append_labelled, append_word};
-use crate::patterns::Pattern;
+use pcl_shapes::{Letters, Pattern, append_labelled, append_word};
 use std::alloc::AllocError;
 
 /// The bytes of a font header.

@@ -1,15 +1,12 @@
 //! What of a job goes as letters, and how.
 
-use crate::collecting::Collection;
-use crate::definitions::append_definitions;
-use crate::fonts::append_fonts;
-use crate::forms::Form;
-use crate::joining::join_shapes;
-use crate::layout::{Layout, lay_out};
-use crate::macro_layout::{MacroLayout, lay_out_macros};
+use crate::character_writing::CharacterWriter;
 use crate::macro_writing::MacroWriter;
-use crate::writing::CharacterWriter;
 use pcl_bitmap::Page;
+use pcl_font_text::{Layout, append_fonts, lay_out};
+use pcl_letters::{find_letters, join_shapes};
+use pcl_macro_text::{MacroLayout, append_definitions, lay_out_macros};
+use pcl_shapes::{Collection, Form};
 use std::alloc::{AllocError, Global};
 
 /// The letters of a job: as characters of soft fonts, or as macros.
@@ -24,9 +21,16 @@ impl Lettering {
     pub fn new(alloc: Global, collection: Collection) -> Result<Lettering, AllocError> {
         let mut collection = collection;
         join_shapes(alloc, &mut collection)?;
+        let letters = find_letters(alloc, &collection)?;
         match collection.form {
-            Form::Characters => Ok(Lettering::Characters(lay_out(alloc, collection)?)),
-            Form::Macros => Ok(Lettering::Macros(lay_out_macros(alloc, collection)?)),
+            Form::Characters => {
+                let patterns = collection.into_patterns();
+                Ok(Lettering::Characters(lay_out(alloc, patterns, letters)?))
+            }
+            Form::Macros => {
+                let layout = lay_out_macros(alloc, collection, letters)?;
+                Ok(Lettering::Macros(layout))
+            }
         }
     }
 

@@ -1,12 +1,9 @@
 //! Pages written as rasters and macros that are run.
 
-use crate::letters::Letter;
-use crate::macro_layout::MacroLayout;
-use crate::macros::append_marks;
-use crate::marks::Line;
-use crate::numbers::{append_labelled, digit_count};
-use crate::writing::{FORM_FEED, append_raster};
+use crate::remains::{FORM_FEED, append_raster};
 use pcl_bitmap::Page;
+use pcl_macro_text::{Line, MacroLayout, append_lines};
+use pcl_shapes::Letter;
 use std::alloc::AllocError;
 
 /// Puts back method 0, by which the rows of a page text begin.
@@ -89,45 +86,4 @@ fn append_lettered(
     let end = append_lines(layout, lines, start, out)?;
     out.push(FORM_FEED)?;
     Ok(end)
-}
-
-/// Appends the lines of a page, whose marks begin at this place, and says where they end.
-fn append_lines(
-    layout: &MacroLayout,
-    lines: &[Line],
-    start: usize,
-    out: &mut Vec<u8>,
-) -> Result<usize, AllocError> {
-    if lines.is_empty() {
-        return Ok(start);
-    }
-    // The method of the rows that macros send.
-    out.extend_from_slice(b"\x1b*b3M")?;
-    let mut start = start;
-    let mut above = None;
-    for line in lines {
-        append_line_start(line, above, out)?;
-        append_marks(
-            &layout.macros,
-            layout.text.script.marks_of(line, start),
-            out,
-        )?;
-        start = line.end;
-        above = Some(line.row);
-    }
-    Ok(start)
-}
-
-/// Appends the move to the start of a line. It is counted from the line above where that takes fewer bytes.
-fn append_line_start(line: &Line, above: Option<u32>, out: &mut Vec<u8>) -> Result<(), AllocError> {
-    let below = above
-        .and_then(|above| line.row.checked_sub(above))
-        .unwrap_or(u32::MAX);
-    append_labelled(b"\x1b*p", line.start.unsigned_abs(), out)?;
-    if digit_count(below).saturating_add(1) < digit_count(line.row) {
-        append_labelled(b"x+", below, out)?;
-    } else {
-        append_labelled(b"x", line.row, out)?;
-    }
-    out.extend_from_slice(b"Y")
 }

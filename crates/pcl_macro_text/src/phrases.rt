@@ -1,8 +1,8 @@
 //! Phrases: marks that often stand in turn, and that one macro prints.
 
 use crate::marks::{Line, Mark, Script};
-use crate::numbers::number_of_place;
 use indexmap::{IndexMap, IndexSet};
+use pcl_shapes::number_of_place;
 use std::alloc::{AllocError, Global};
 
 /// How often two marks in turn are joined, in rounds: a phrase of the last one may have sixteen marks.

@@ -5,10 +5,9 @@ ghost use Rattle.std.specs.Prelude.{◌≤◌};
 use crate::macro_layout::MacroLayout;
 use crate::macros::{append_marks, append_move};
 use crate::marks::Mark;
-use crate::numbers::{append_labelled, append_signed};
-use crate::patterns::Pattern;
 use pcl_base::ROW_LIMIT;
 use pcl_coders::{Delta, RowCoder};
+use pcl_shapes::{Pattern, append_labelled, append_signed};
 use std::alloc::{AllocError, Global};
 
 /// Appends the unit in which macros move the cursor, a dot, and the definitions.

@@ -1,13 +1,11 @@
 //! What of a job is printed by macros.
 
-use crate::collecting::Collection;
-use crate::letters::{Letters, find_letters};
 use crate::macros::Macros;
 use crate::marks::find_script;
 use crate::metrics::{Metrics, find_metrics};
-use crate::patterns::Pattern;
 use crate::phrases::{Text, find_phrases};
 use indexmap::IndexSet;
+use pcl_shapes::{Collection, Letters, Pattern};
 use std::alloc::{AllocError, Global};
 
 /// How many glyphs have macros, at most: there are twice as many IDs.
@@ -23,9 +21,13 @@ pub struct MacroLayout {
     pub macros: Macros,
 }
 
-/// The layout of these shapes.
-pub fn lay_out_macros(alloc: Global, collection: Collection) -> Result<MacroLayout, AllocError> {
-    let mut letters = find_letters(alloc, &collection)?;
+/// The layout of these letters, which are shapes of this collection.
+pub fn lay_out_macros(
+    alloc: Global,
+    collection: Collection,
+    letters: Letters,
+) -> Result<MacroLayout, AllocError> {
+    let mut letters = letters;
     letters.letters.retain(|letter| letter.glyph < GLYPH_LIMIT);
     let found = &letters.letters;
     let metrics = find_metrics(alloc, &collection.widths, found, letters.glyphs.len())?;

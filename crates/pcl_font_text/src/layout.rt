@@ -1,11 +1,9 @@
 //! What of a job is printed by characters, and by which.
 
 use crate::codes::{Code, code_of_rank};
-use crate::collecting::Collection;
-use crate::letters::{Letter, Letters, find_letters};
-use crate::patterns::Pattern;
 use crate::spacing::{Character, Spacing};
 use indexmap::IndexSet;
+use pcl_shapes::{Letter, Letters, Pattern};
 use std::alloc::{AllocError, Global};
 
 /// What of a job is printed as text.
@@ -47,13 +45,16 @@ impl Layout {
     }
 }
 
-/// The layout of these shapes.
-pub fn lay_out(alloc: Global, collection: Collection) -> Result<Layout, AllocError> {
-    let found = find_letters(alloc, &collection)?;
-    let spacing = Spacing::new(alloc, &collection.patterns, &found)?;
+/// The layout of these letters.
+pub fn lay_out(
+    alloc: Global,
+    patterns: IndexSet<Pattern>,
+    letters: Letters,
+) -> Result<Layout, AllocError> {
+    let spacing = Spacing::new(alloc, &patterns, &letters)?;
     let mut layout = Layout {
-        patterns: collection.into_patterns(),
-        letters: found,
+        patterns,
+        letters,
         spacing,
     };
     layout.letters.letters = sent_letters(alloc, &layout)?;

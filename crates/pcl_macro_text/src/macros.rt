@@ -1,9 +1,9 @@
 //! The numbers of macros, and running them.
 
 use crate::marks::Mark;
-use crate::numbers::{append_labelled, append_signed, number_of_place};
 use crate::phrases::Text;
 use indexmap::IndexMap;
+use pcl_shapes::{append_labelled, append_signed, number_of_place};
 use std::alloc::{AllocError, Global};
 
 /// A gap that is there so often has a macro: it takes some 22 bytes, and a cursor move some five more than running it.

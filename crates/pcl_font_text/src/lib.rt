@@ -1,0 +1,12 @@
+//! Letters as characters of soft fonts (docs/GLYPHS.md): the fonts that a job brings along, and its text. Nothing is promised of either.
+#![tactic(auto)]
+
+mod codes;
+mod fonts;
+mod layout;
+mod pen;
+mod spacing;
+
+pub use fonts::append_fonts;
+pub use layout::{Layout, lay_out};
+pub use pen::{Pen, append_text};

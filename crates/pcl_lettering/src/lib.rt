@@ -1,0 +1,13 @@
+//! Pages written with letters: the shapes that pages print again and again, as soft fonts or as macros (docs/GLYPHS.md).
+//!
+//! A [`Lettering`] chooses which shapes of a collection are letters, and a [`PageWriter`] takes the pages of the collection again and
+//! writes each as a raster of what is left, and text, where that takes fewer bytes than another text of the page. Nothing is promised
+//! of what is chosen or written: whoever takes it compares it with the pages first.
+#![tactic(auto)]
+
+mod character_writing;
+mod lettering;
+mod macro_writing;
+mod remains;
+
+pub use lettering::{Lettering, PageWriter};

@@ -1,0 +1,16 @@
+//! Letters as macros that send rasters (docs/GLYPHS.md): the macros that a job brings along, and the lines that run them. Nothing is
+//! promised of either.
+#![tactic(auto)]
+
+mod definitions;
+mod lines;
+mod macro_layout;
+mod macros;
+mod marks;
+mod metrics;
+mod phrases;
+
+pub use definitions::append_definitions;
+pub use lines::append_lines;
+pub use macro_layout::{MacroLayout, lay_out_macros};
+pub use marks::Line;

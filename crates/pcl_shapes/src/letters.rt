@@ -1,0 +1,72 @@
+//! Shapes that are printed as letters.
+
+use crate::patterns::Pattern;
+use indexmap::IndexSet;
+
+/// A pattern, and where it stands on a line.
+#[derive(Clone, Copy, Debug, PartialEq, Eq, Hash)]
+pub struct Glyph {
+    /// The number of the pattern.
+    pub pattern: u32,
+    /// How far its topmost row lies above the baseline, in dots.
+    pub top: u32,
+}
+
+/// A shape that is printed as a letter. Their order is that of printing: by pages, by lines, and from left to right.
+#[derive(Clone, Copy, Debug, PartialEq, Eq, PartialOrd, Ord)]
+pub struct Letter {
+    /// The number of the page, from 0.
+    pub page: u32,
+    /// The dot row of the cursor.
+    pub baseline: u32,
+    /// The dot of the cursor, and of the left edge.
+    pub x: u32,
+    /// The number of its glyph.
+    pub glyph: u32,
+}
+
+impl Letter {
+    /// How far right of this letter the next one stands; none where it starts another line.
+    pub fn gap_to(&self, next: &Letter) -> Option<u32> {
+        if self.page == next.page && self.baseline == next.baseline {
+            next.x.checked_sub(self.x)
+        } else {
+            None
+        }
+    }
+}
+
+/// The letters of a job.
+#[derive(Drop)]
+pub struct Letters {
+    /// The glyphs, each once.
+    pub glyphs: IndexSet<Glyph>,
+    /// In the order of printing.
+    pub letters: Vec<Letter>,
+}
+
+impl Letters {
+    /// How far the topmost row of a glyph lies above the baseline.
+    pub fn top_of(&self, glyph: u32) -> u32 {
+        self.glyphs
+            .get_index(glyph as usize)
+            .map_or(0, |glyph| glyph.top)
+    }
+
+    /// The letters of a page, of those from this place on, which are of this page and later ones.
+    pub fn of_page(&self, page: u32, from: usize) -> &[Letter] {
+        let letters = self.letters.get(from..).unwrap_or(&[]);
+        let count = letters.partition_point(|letter| letter.page <= page);
+        letters.get(..count).unwrap_or(&[])
+    }
+
+    /// The pattern of a glyph.
+    pub fn pattern_of<'a>(
+        &self,
+        patterns: &'a IndexSet<Pattern>,
+        glyph: u32,
+    ) -> Option<&'a Pattern> {
+        let glyph = self.glyphs.get_index(glyph as usize)?;
+        patterns.get_index(glyph.pattern as usize)
+    }
+}
