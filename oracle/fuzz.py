@@ -301,7 +301,7 @@ def tables_reached(path):
     """What the tables of jobs reach, by the plain program."""
     plain, reached, questions = programs.Plain(path), Reached(), []
     for table in glob.glob(TABLES):
-        if os.path.basename(table) not in ("certificates.txt", "commands.txt"):
+        if os.path.basename(table) != "certificates.txt":
             with open(table, encoding="latin-1") as source:
                 for case in reference.cases_of(source.read().split("\n")):
                     questions += [(["pbm", "--page", "1", "--dpi", str(case.dpi)], case.job()), (["names"], case.job())]

@@ -5,8 +5,8 @@
     python3 oracle/reference.py --fill TABLE..     prints the tables with what is expected written into the cases
                                                   that say nothing of it
 
-The tables are those of crates/job_cases/data; src/notation.rt and src/table.rt there tell how they are
-written. What a job means is worked out here from docs/LANGUAGE.md, rule by rule, plain and slow, and shares no
+The tables are those of crates/job_cases/data; src/table.rt there and crates/case_tables/src/notation.rt tell how
+they are written. What a job means is worked out here from docs/LANGUAGE.md, rule by rule, plain and slow, and shares no
 line with the product; the bodies that are written are those of least.py. A case that fails is printed with what this program has in place of what is expected,
 and the status is then 1.
 """

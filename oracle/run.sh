@@ -10,7 +10,7 @@ mkdir -p build/oracle
 rustc -O -C codegen-units=1 --edition 2024 -o build/oracle/plain oracle/plain/main.rs
 for table in crates/job_cases/data/*.txt; do
     case $(basename "$table") in
-        certificates.txt | commands.txt) ;;
+        certificates.txt) ;;
         *) python3 oracle/reference.py "$table" ;;
     esac
 done

@@ -10,7 +10,7 @@ pub struct Case {
     pub name: String,
     /// The resolution of its pages.
     pub dpi: Dpi,
-    /// The job, in the notation of `notation`.
+    /// The job, in the notation of `case_tables`.
     pub notation: String,
     /// The refusal that is expected.
     pub refusal: Option<String>,

@@ -22,8 +22,7 @@
 //!
 //! A line of the first kind holds for all cases below it, up to the next such line; `job` begins anew.
 
-use crate::notation::{bracketed_bytes_of, bytes_of};
-use crate::table::{CasesOfLines, TableFault, number, resolution};
+use case_tables::{CasesOfLines, TableFault, bracketed_bytes_of, bytes_of, number, resolution};
 use pcl_base::Dpi;
 use pcl_cert::Format;
 use pcl_tool::{Fault, Output, check_job, minimize};

@@ -1,8 +1,8 @@
 //! Whether a case holds.
 
 use crate::case::{Case, Pages};
-use crate::notation::{NotationFault, bytes_of};
 use crate::shown::{show_job, show_pages};
+use case_tables::{NotationFault, bytes_of};
 use pcl_base::{JobFault, Refusal};
 use pcl_cert::Format;
 use pcl_page::{Page, PageSink, perform};

@@ -1,33 +1,28 @@
 //! Whole jobs and what becomes of them: a table of named cases in text files, which `table` tells how to write.
 //! Each case is performed, and its pages are compared dot for dot, or its refusal word for word; then the job
-//! is written again, and what was written has to have the same pages. Two more tables have certificates that are
-//! changed and what is answered of them, and command lines and what a run does for each (`certificates`, `commands`).
+//! is written again, and what was written has to have the same pages. One more table has certificates that are
+//! changed and what is answered of them (`certificates`).
 //!
 //! It prints how many cases hold; `stdout` has how many there are. A case that doesn't is printed with its job and
 //! with what came instead, and the status is then 1. The tables lie in the folder that its argument names, or
 //! where it runs: the gate runs it in `data/`, and beside `src/` it is `rt run -- data`. `oracle/reference.py`
-//! checks the tables of jobs without a line of this repository's code. The command lines find and make files in a
-//! folder in memory.
+//! checks the tables of jobs without a line of this repository's code.
 #![tactic(auto)]
 
 mod case;
 mod certificates;
 mod check;
-mod commands;
-mod folder;
-mod notation;
 mod shown;
 mod table;
 
 use case::Case;
+use case_tables::{RunFault, check_lines, read_text};
 use certificates::Certificates;
 use check::fault_of;
-use commands::Commands;
 use std::alloc::Global;
+use std::io;
 use std::rt::Files;
-use std::{fs, io};
-use table::{CasesOfLines, TableFault, cases_of};
-use thiserror::Error;
+use table::cases_of;
 
 /// The tables, each a file of `data/`.
 const TABLES: [&str; 20] = [
@@ -56,27 +51,6 @@ const TABLES: [&str; 20] = [
 /// The table of certificates that are changed.
 const CERTIFICATES: &str = "certificates.txt";
 
-/// The table of command lines.
-const COMMANDS: &str = "commands.txt";
-
-/// Why the program ends with a status other than 0.
-#[derive(Debug, Drop, Error)]
-enum RunFault {
-    #[error("{failed} of {count} cases fail")]
-    Fails {
-        failed: usize,
-        count: usize,
-    },
-    #[error("{name}, line {line}: {fault}")]
-    Table {
-        name: &'static str,
-        line: usize,
-        fault: TableFault,
-    },
-    #[error(transparent)]
-    Io(#[from] io::Error),
-}
-
 fn main(rt: HostRuntime) -> Result<(), RunFault> {
     let folder = std::env::args(&rt)?.nth(1);
     let folder = folder.as_ref().map_or(".", |folder| folder.as_str());
@@ -92,54 +66,14 @@ fn main(rt: HostRuntime) -> Result<(), RunFault> {
     }
     let changed = Certificates::new(rt.alloc());
     let (certificates, wrong) = check_lines(&rt, rt.alloc(), folder, CERTIFICATES, changed)?;
-    let words = Commands::new(rt.alloc());
-    let (commands, unlike) = check_lines(&rt, rt.alloc(), folder, COMMANDS, words)?;
-    let failed = failed.saturating_add(wrong).saturating_add(unlike);
+    let failed = failed.saturating_add(wrong);
     if failed > 0 {
-        let count = count.saturating_add(certificates).saturating_add(commands);
+        let count = count.saturating_add(certificates);
         return Err(RunFault::Fails { failed, count });
     }
     println!(rt; "{count} cases hold")?;
     println!(rt; "{certificates} certificates are answered so")?;
-    println!(rt; "{commands} command lines do so")?;
     Ok(())
-}
-
-/// How many cases a table of lines has, and how many of them don't hold: these are printed.
-fn check_lines<C: CasesOfLines + Drop>(
-    rt: &(impl Files + AllocGlobal + Print),
-    alloc: Global,
-    folder: &str,
-    name: &'static str,
-    mut cases: C,
-) -> Result<(usize, usize), RunFault> {
-    let text = read_text(rt, alloc, folder, name)?;
-    let mut line = 0usize;
-    let (mut count, mut wrong) = (0usize, 0usize);
-    for words in text.lines() {
-        line = line.saturating_add(1);
-        let taken = cases.take_line(alloc, words.trim());
-        let ended = taken.map_err(|fault| RunFault::Table { name, line, fault })?;
-        if let Some(came) = ended {
-            count = count.saturating_add(1);
-            if let Some(came) = came {
-                wrong = wrong.saturating_add(1);
-                println!(rt; "{name}: {}\n  {came}", cases.name())?;
-            }
-        }
-    }
-    Ok((count, wrong))
-}
-
-/// The text of a table of a folder.
-fn read_text(
-    rt: &(impl Files + AllocGlobal),
-    alloc: Global,
-    folder: &str,
-    name: &str,
-) -> Result<String, RunFault> {
-    let path = format!(in alloc; "{folder}/{name}").map_err(io::Error::from)?;
-    Ok(fs::read_to_string(rt, path.as_str())?)
 }
 
 /// The cases of a table of a folder.

@@ -1,6 +1,6 @@
 //! What came of a job, as a table would have it.
 
-use crate::notation::ESC;
+use case_tables::ESC;
 use pcl_base::{Dpi, Size};
 use pcl_page::{Page, read_pages};
 use std::alloc::{AllocError, Global};
@@ -68,7 +68,7 @@ fn show_row(text: &mut String, y: u32, row: &[u8]) -> Result<(), AllocError> {
     text.push_str("\n")
 }
 
-/// The first bytes of a job, in the notation of `notation`.
+/// The first bytes of a job, in the notation of `case_tables`.
 pub(crate) fn show_job(alloc: Global, job: &[u8]) -> Result<String, AllocError> {
     let mut text = String::new(alloc);
     for byte in job.iter().take(MOST_JOB_BYTES) {

@@ -21,62 +21,13 @@
 //! `written` stands at each page of a case or at none.
 
 use crate::case::{Case, Pages, Rows};
-use crate::notation::{NotationFault, bracketed_bytes_of, bytes_of};
 use crate::shown::name_of;
+use case_tables::{TableFault, bracketed_bytes_of, bytes_of, number, resolution};
 use pcl_base::{Dpi, Size};
-use std::alloc::{AllocError, AllocFailed, Global};
-use thiserror::Error;
+use std::alloc::{AllocError, Global};
 
 /// The most bytes of a row, which an A4 page has at 600 dots per inch, rounded up.
 const ROW_BYTES: usize = 600;
-
-/// What is wrong with a line of a table.
-#[derive(Clone, Copy, Debug, Error)]
-pub enum TableFault {
-    #[error("no case has begun")]
-    NoCase,
-    #[error("no page has begun")]
-    NoPage,
-    #[error("the line says nothing known")]
-    Unknown,
-    #[error("a number, a resolution or a size is wrong")]
-    Number,
-    #[error("a row is longer than a page is wide")]
-    Row,
-    #[error(transparent)]
-    Notation(NotationFault),
-}
-
-impl From<AllocError> for TableFault {
-    fn from(error: AllocError) -> Self {
-        TableFault::Notation(NotationFault::Memory(error))
-    }
-}
-
-impl<T: Drop> From<AllocFailed<T>> for TableFault {
-    fn from(error: AllocFailed<T>) -> Self {
-        TableFault::from(AllocError::from(error))
-    }
-}
-
-impl From<NotationFault> for TableFault {
-    fn from(fault: NotationFault) -> Self {
-        TableFault::Notation(fault)
-    }
-}
-
-/// Cases of a table that hold or don't, one line after the other.
-pub(crate) trait CasesOfLines {
-    /// The name of the last case.
-    fn name(&self) -> &str;
-
-    /// Takes a line. Where it ends a case, what came, if it isn't what is expected.
-    fn take_line(
-        &mut self,
-        alloc: Global,
-        line: &str,
-    ) -> Result<Option<Option<String>>, TableFault>;
-}
 
 /// The cases of a table, or its first line that is wrong.
 pub(crate) fn cases_of(alloc: Global, text: &str) -> Result<Vec<Case>, (usize, TableFault)> {
@@ -226,20 +177,8 @@ fn add_dots(row: &mut Vec<u8>, span: &str) -> Result<(), TableFault> {
     Ok(())
 }
 
-pub(crate) fn number(text: &str) -> Result<usize, TableFault> {
-    text.parse().map_err(|_| TableFault::Number)
-}
-
 fn row_number(text: &str) -> Result<u32, TableFault> {
     text.parse().map_err(|_| TableFault::Number)
-}
-
-pub(crate) fn resolution(text: &str) -> Result<Dpi, TableFault> {
-    match text {
-        "300" => Ok(Dpi::Dpi300),
-        "600" => Ok(Dpi::Dpi600),
-        _ => Err(TableFault::Number),
-    }
 }
 
 fn size(name: &str) -> Result<Size, TableFault> {

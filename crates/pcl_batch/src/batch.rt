@@ -2,34 +2,14 @@
 
 use crate::job::write_job;
 use crate::paths::file_name;
-use crate::report::{Entry, Form, header};
+use crate::report::{Entry, header};
 use indexmap::IndexSet;
 use itoa::Buffer;
-use pcl_command::{Ending, JobFiles, Reporter, Resolution, USAGE_STATUS, fault_line, status_of};
+use pcl_command::{Ending, JobFiles, Reporter, USAGE_STATUS, fault_line, status_of};
+use pcl_request::Batch;
 use pcl_tool::{Fault, write_all};
 use std::alloc::{AllocError, Global};
 use std::io::Write;
-
-/// How each job is written again.
-#[derive(Clone, Copy, Debug, PartialEq, Eq)]
-pub enum Rewriting {
-    /// As the smallest job that is found with the same dots.
-    Shrink,
-    /// As the least raster job, with a certificate of the first format in a file of its own.
-    Certify,
-}
-
-/// What is done with each job, and where it goes.
-#[derive(Clone, Copy)]
-pub struct Batch<'w> {
-    /// The folder that gets what is written: for the job `NAME` a file `NAME`, its digests `NAME.sha256`, and where it is asked for
-    /// its certificate `NAME.cert`. It has to be there.
-    pub folder: &'w str,
-    pub rewriting: Rewriting,
-    pub resolution: Resolution,
-    /// How the report is laid out.
-    pub form: Form,
-}
 
 /// How many jobs failed, and what is worst among their statuses.
 #[derive(Clone, Copy)]

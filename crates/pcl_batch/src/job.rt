@@ -1,16 +1,15 @@
 //! One job of a batch.
 
-use crate::batch::{Batch, Rewriting};
 use crate::paths::Paths;
 use crate::report::{Entry, Outcome};
 use crate::sums::{FileSum, sums_text};
 use pcl_base::Dpi;
 use pcl_cert::Format;
 use pcl_command::{
-    Ending, JobFiles, Reporter, Request, Resolution, Run, Source, Target, Task, carry_out,
-    fault_line, read_file, resolve, status_of, write_file,
+    Ending, JobFiles, Reporter, carry_out, fault_line, read_file, resolve, status_of, write_file,
 };
 use pcl_page::page_count;
+use pcl_request::{Batch, Request, Resolution, Rewriting, Run, Source, Target, Task};
 use pcl_tool::Fault;
 use std::alloc::{AllocError, Global};
 

@@ -3,9 +3,9 @@
 
 mod batch;
 mod job;
+mod names;
 mod paths;
 mod report;
 mod sums;
 
-pub use batch::{Batch, Rewriting, run_batch};
-pub use report::Form;
+pub use names::run_named;

@@ -1,18 +1,10 @@
 //! What a batch says of each job.
 
 use crate::sums::FileSum;
+use pcl_request::ReportForm;
 use serde::Serialize;
 use std::alloc::{AllocError, Global};
 use std::fmt::Display;
-
-/// How a report is laid out: a line for each job.
-#[derive(Clone, Copy, Debug, PartialEq, Eq)]
-pub enum Form {
-    /// Columns that tabs part, below a line of their names.
-    Table,
-    /// An object of JSON on each line.
-    Json,
-}
 
 /// What came of a job.
 #[derive(Clone, Copy, Debug, Serialize)]
@@ -71,13 +63,13 @@ impl<'w> Entry<'w> {
     }
 
     /// The line of a report, with its line feed.
-    pub fn line(&self, alloc: Global, form: Form) -> Result<Vec<u8>, AllocError> {
+    pub fn line(&self, alloc: Global, form: ReportForm) -> Result<Vec<u8>, AllocError> {
         match form {
-            Form::Table => {
+            ReportForm::Table => {
                 let row = self.row(alloc)?;
                 Vec::from_slice(alloc, row.as_bytes())
             }
-            Form::Json => {
+            ReportForm::Json => {
                 let mut line = match serde_json::to_vec(alloc, self) {
                     Ok(line) => line,
                     Err(_) => return Err(AllocError),
@@ -108,11 +100,11 @@ impl<'w> Entry<'w> {
 }
 
 /// What stands above all lines: the names of the columns, and nothing in JSON.
-pub fn header(form: Form) -> &'static str {
+pub fn header(form: ReportForm) -> &'static str {
     match form {
-        Form::Table =>
+        ReportForm::Table =>
             "file\toutcome\tstatus\tdpi\tpages\tbytes_in\tsha256_in\tbytes_out\tsha256_out\tsaid\n",
-        Form::Json => "",
+        ReportForm::Json => "",
     }
 }
 

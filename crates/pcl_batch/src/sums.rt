@@ -1,9 +1,9 @@
 //! The digests of a job as it came and as it is written.
 
-use crate::batch::{Batch, Rewriting};
 use crate::paths::file_name;
 use hex::encode;
 use pcl_base::Dpi;
+use pcl_request::{Batch, Rewriting};
 use serde::Serialize;
 use sha2::{Digest, Sha256};
 use std::alloc::{AllocError, Global};

@@ -17,9 +17,9 @@ use Rattle.pcl_tool.specs.ImageVerdicts.{IsImagesAnswer}
 use Rattle.pcl_tool.specs.Transfer.{AppendsFront, IsReadAll}
 use Rattle.pcl_tool.specs.Minimizing.{input_limit}
 use Rattle.pcl_command.specs.Files.{FileAct, Opened, Unopened}
-use Rattle.pcl_command.specs.declared.request.CheckedFiles.{CheckedFiles}
-use Rattle.pcl_command.specs.declared.request.Beside.{Beside}
-use Rattle.pcl_command.specs.declared.request.Beside.TheVariants.{Input, Images}
+use Rattle.pcl_request.specs.declared.request.CheckedFiles.{CheckedFiles}
+use Rattle.pcl_request.specs.declared.request.Beside.{Beside}
+use Rattle.pcl_request.specs.Requests.{performed}
 use Rattle.pcl_command.specs.Resolutions.{IsSeenAt}
 use Rattle.pcl_command.specs.Verdicts.{answer_line_of}
 
@@ -43,11 +43,6 @@ IsUnread acts files asked fault =
     ⊎ ((input : Vec ℕ) × IsFileRead acts files asked.input.now (Ok input) × IsFileRead acts files asked.output.now (Err fault))
     ⊎ ((input output : Vec ℕ) × IsFileRead acts files asked.input.now (Ok input) × IsFileRead acts files asked.output.now (Ok output)
     × IsFileRead acts files asked.certificate.now (Err fault))
-
--- the job that is performed: the input, or where images are given the output
-abbrev pub performed : Beside → (input output : List ℕ) → List ℕ
-performed Input input output = input
-performed Images input output = output
 
 -- an answer is right of an input, or of images of its pages, of an output and a certificate
 abbrev pub IsAnswerBeside : Beside → Dpi → (input output certificate : List ℕ) → CheckAnswer → Type 0

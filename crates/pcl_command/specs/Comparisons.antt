@@ -16,7 +16,7 @@ use Rattle.pcl_same.specs.Comparing.{IsComparison, IsCompared, IsAskedComparison
 use Rattle.pcl_command.specs.Files.{FileAct}
 use Rattle.pcl_command.specs.Resolutions.{AreSeenAt}
 use Rattle.pcl_command.specs.Checks.{IsFileRead}
-use Rattle.pcl_command.specs.declared.request.ComparedFiles.{ComparedFiles}
+use Rattle.pcl_request.specs.declared.request.ComparedFiles.{ComparedFiles}
 use Rattle.pcl_command.specs.declared.comparisons.CompareFault.{CompareFault}
 use Rattle.pcl_command.specs.declared.comparisons.CompareFault.TheVariants.{Refused, Failed}
 use Rattle.pcl_command.specs.ComparisonLines.{comparison_line_of}

@@ -1,16 +1,10 @@
 -- The resolution at which jobs are seen.
-use Rattle.std.specs.Prelude.{◌≡◌, ◌⊎◌, ℕ, List, Bool, true, false, codes}
+use Rattle.std.specs.Prelude.{◌≡◌, ◌⊎◌, ℕ, List, Bool, true, false}
 use Rattle.pcl_base.specs.declared.dpi.Dpi.{Dpi}
 use Rattle.pcl_base.specs.declared.dpi.Dpi.TheVariants.{Dpi300, Dpi600}
 use Rattle.pcl_page.specs.Accepting.{IsAccepted, IsRefused, IsFirstAccepted}
-use Rattle.pcl_command.specs.declared.request.Resolution.{Resolution}
-use Rattle.pcl_command.specs.declared.request.Resolution.TheVariants.{Given, FirstAccepted}
-
--- the words that name them
-abbrev pub IsWordFor : Resolution → List ℕ → Type 0
-IsWordFor (Given Dpi300) word = word ≡ codes "300"
-IsWordFor (Given Dpi600) word = word ≡ codes "600"
-IsWordFor FirstAccepted word = word ≡ codes "auto"
+use Rattle.pcl_request.specs.declared.request.Resolution.{Resolution}
+use Rattle.pcl_request.specs.declared.request.Resolution.TheVariants.{Given, FirstAccepted}
 
 -- a job is seen at this
 abbrev pub IsSeenAt : Resolution → List ℕ → Dpi → Type 0

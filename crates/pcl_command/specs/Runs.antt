@@ -1,5 +1,5 @@
 -- What a run of the program reads and writes, and how what is asked for ends.
-use Rattle.std.specs.Prelude.{◌≡◌, ℕ, ◌+◌, Bool, true, false, ◌&&◌, List, codes, length, ◌⊎◌, Option, Some, Result, Ok, Err}
+use Rattle.std.specs.Prelude.{◌≡◌, ℕ, ◌+◌, List, codes, length, ◌⊎◌, Option, Some, Result, Ok, Err}
 use Rattle.std.specs.Io.KnownBytes.{Consumes, Appends, Keeps}
 use Rattle.pcl_base.specs.declared.dpi.Dpi.{Dpi}
 use Rattle.pcl_base.specs.declared.kind.Kind.{Kind}
@@ -10,7 +10,7 @@ use Rattle.pcl_tool.specs.declared.fault.Fault.TheVariants.{Refused, Memory, Rea
 use Rattle.pcl_cert.specs.declared.format.Format.{Format}
 use Rattle.pcl_tool.specs.Minimizing.{IsFiltered, IsFilteredCert, IsRead, input_limit}
 use Rattle.pcl_tool.specs.declared.page_images.PageChoice.{PageChoice}
-use Rattle.pcl_tool.specs.PageImages.{last_page, IsPagesPreview}
+use Rattle.pcl_tool.specs.PageImages.{IsPagesPreview}
 use Rattle.pcl_tool.specs.Transfer.{GivesAtMost, AppendsFront, IsWritten}
 use Rattle.pcl_page.specs.Accepting.{IsAccepted, IsFirstAccepted}
 use Rattle.pcl_explain.specs.Findings.{Explains, ExplainsKind}
@@ -22,26 +22,22 @@ use Rattle.pcl_command.specs.Checks.{IsCheckRun, answer_status_for}
 use Rattle.pcl_command.specs.ComparisonLines.{compare_line_of, compare_status_for, comparison_status_for}
 use Rattle.pcl_command.specs.Comparisons.{IsCompareRun}
 use Rattle.pcl_command.specs.declared.comparisons.CompareFault.{CompareFault}
-use Rattle.pcl_command.specs.declared.request.Task.{Task}
-use Rattle.pcl_command.specs.declared.request.Task.TheVariants.{Minimize, Certify, Preview, Explain, ExplainKind, DescribePages, Shrink}
-use Rattle.pcl_command.specs.declared.request.Resolution.{Resolution}
-use Rattle.pcl_command.specs.declared.request.Resolution.TheVariants.{Given, FirstAccepted}
-use Rattle.pcl_command.specs.declared.request.Run.{Run}
-use Rattle.pcl_command.specs.declared.request.Source.{Source}
-use Rattle.pcl_command.specs.declared.request.Source.TheVariants as source
-use Rattle.pcl_command.specs.declared.request.Target.{Target}
-use Rattle.pcl_command.specs.declared.request.Target.TheVariants as target
-use Rattle.pcl_command.specs.declared.request.CheckedFiles.{CheckedFiles}
-use Rattle.pcl_command.specs.declared.request.ComparedFiles.{ComparedFiles}
-use Rattle.pcl_command.specs.declared.request.Request.{Request}
-use Rattle.pcl_command.specs.declared.request.Request.TheVariants as asked
+use Rattle.pcl_request.specs.Requests.{page_of}
+use Rattle.pcl_request.specs.declared.request.Task.{Task}
+use Rattle.pcl_request.specs.declared.request.Task.TheVariants.{Minimize, Certify, Preview, Explain, ExplainKind, DescribePages, Shrink}
+use Rattle.pcl_request.specs.declared.request.Resolution.{Resolution}
+use Rattle.pcl_request.specs.declared.request.Resolution.TheVariants.{Given, FirstAccepted}
+use Rattle.pcl_request.specs.declared.request.Run.{Run}
+use Rattle.pcl_request.specs.declared.request.Source.{Source}
+use Rattle.pcl_request.specs.declared.request.Source.TheVariants as source
+use Rattle.pcl_request.specs.declared.request.Target.{Target}
+use Rattle.pcl_request.specs.declared.request.Target.TheVariants as target
+use Rattle.pcl_request.specs.declared.request.CheckedFiles.{CheckedFiles}
+use Rattle.pcl_request.specs.declared.request.ComparedFiles.{ComparedFiles}
+use Rattle.pcl_request.specs.declared.request.Request.{Request}
+use Rattle.pcl_request.specs.declared.request.Request.TheVariants as asked
 use Rattle.pcl_command.specs.declared.running.Ending.{Ending}
 use Rattle.pcl_command.specs.declared.running.Ending.TheVariants.{Done, Checked, Compared, Failed, NoMemory}
-
--- the last page that is asked for by its number, 0 where none is
-abbrev pub page_of : Task → ℕ
-page_of (Preview choice) = last_page choice
-page_of other = 0
 
 -- what a reader gave and a writer holds where the job that it gives can't be read to its end, or memory runs out
 abbrev pub IsUnread : (given left old new : Option (List ℕ)) → Fault → Type 0
@@ -180,22 +176,6 @@ HasFailed said code NoMemory = Unit {0}
 HasFailed said code Done = ⊥
 HasFailed said code (Checked answer) = ⊥
 HasFailed said code (Compared comparison) = ⊥
-
--- a job or an image is made, and not a text
-abbrev pub makes_raw : Task → Bool
-makes_raw Explain = false
-makes_raw (ExplainKind kind) = false
-makes_raw (DescribePages layout) = false
-makes_raw other = true
-
-abbrev pub is_standard_output : Target → Bool
-is_standard_output target.StandardOutput = true
-is_standard_output (target.File name) = false
-
--- one is written to standard output
-abbrev pub writes_raw : Request → Bool
-writes_raw (asked.Run run) = makes_raw run.task && is_standard_output run.target
-writes_raw other = false
 
 -- what is said where a job or an image would be written to a terminal
 abbrev pub terminal_line : List ℕ

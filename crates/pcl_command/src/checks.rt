@@ -3,10 +3,10 @@
 ghost use Rattle.pcl_command.specs.Checks.{IsCheckRun, IsCheckedBeside, IsFileRead};
 
 use crate::files::JobFiles;
-use crate::request::{Beside, CheckedFiles};
 use crate::resolutions::resolve;
 use crate::verdicts::answer_line;
 use pcl_base::Dpi;
+use pcl_request::{Beside, CheckedFiles};
 use pcl_tool::{
     CheckAnswer, Fault, INPUT_LIMIT, Watcher, check_images, check_job_watched, read_all, write_all,
 };

@@ -8,7 +8,6 @@ mod difference_images;
 mod files;
 mod messages;
 mod reporting;
-mod request;
 mod resolutions;
 mod running;
 mod verdicts;
@@ -19,10 +18,6 @@ pub use comparisons::{CompareFault, compare_jobs};
 pub use files::{FileFault, JobFiles};
 pub use messages::{USAGE_STATUS, fault_line, status_of};
 pub use reporting::Reporter;
-pub use request::{
-    Beside, CheckedFiles, ComparedFiles, Request, Resolution, Run, Source, Target, Task,
-    resolution_named,
-};
 pub use resolutions::{resolve, resolve_both};
 pub use running::{Ending, carry_out, refuse_terminal, write_file};
 pub use verdicts::{answer_line, answer_status, verdict_line, verdict_status};

@@ -3,9 +3,9 @@
 ghost use Rattle.std.specs.Prelude.{IfOk};
 ghost use Rattle.pcl_command.specs.Resolutions.{AreSeenAt, IsFirstCommon, IsSeenAt, SayIfAccepted};
 
-use crate::request::Resolution;
 use pcl_base::Dpi;
 use pcl_page::{first_accepted, is_accepted};
+use pcl_request::Resolution;
 use std::alloc::{AllocError, Global};
 
 /// The resolution at which a job is seen.

@@ -14,13 +14,13 @@ use crate::comparisons::{CompareFault, compare};
 use crate::files::JobFiles;
 use crate::messages::{MEMORY_STATUS, USAGE_STATUS, fault_line, status_of};
 use crate::reporting::{Reporter, report_no_page, report_shrunk};
-use crate::request::{Request, Resolution, Run, Source, Target, Task};
 use crate::verdicts::answer_status;
 use pcl_base::{Dpi, Kind};
 use pcl_cert::Format;
 use pcl_explain::{explanation, kind_explanation};
 use pcl_page::first_accepted;
 use pcl_pages::{Layout, describe_pages};
+use pcl_request::{Request, Resolution, Run, Source, Target, Task};
 use pcl_same::AskedComparison;
 use pcl_shrink::shrink;
 use pcl_tool::{

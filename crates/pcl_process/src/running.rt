@@ -5,7 +5,7 @@ use crate::input::Input;
 use crate::progress::Voice;
 use clap::Error;
 use pcl_command::Ending;
-use pcl_words::{USAGE_STATUS, exit_status, run};
+use pcl_program::{USAGE_STATUS, exit_status, run};
 use std::alloc::AllocError;
 use std::env;
 use std::io::{self, ErrorKind, IsTerminal};

@@ -4,14 +4,13 @@ use crate::vocabulary::pclmin;
 use clap::error::ErrorKind;
 use clap::{ArgMatches, Error};
 use pcl_base::{Dpi, PAGE_LIMIT};
-use pcl_batch::{Batch, Form, Rewriting};
 use pcl_cert::Format;
-use pcl_command::{
-    Beside, CheckedFiles, ComparedFiles, Request, Resolution, Run, Source, Target, Task,
-    resolution_named,
-};
 use pcl_explain::kind_named;
 use pcl_pages::Layout;
+use pcl_request::{
+    Batch, Beside, CheckedFiles, ComparedFiles, ReportForm, Request, Resolution, Rewriting, Run,
+    Source, Target, Task, resolution_named,
+};
 use pcl_tool::PageChoice;
 use std::alloc::{AllocError, Global};
 use std::convert::AsStr;
@@ -71,9 +70,9 @@ fn batch_with<'w>(batch: &ArgMatches<'w>) -> Result<Batch<'w>, WrongWord<'w>> {
         },
         resolution: resolution_of(batch)?,
         form: if batch.get_flag("json") {
-            Form::Json
+            ReportForm::Json
         } else {
-            Form::Table
+            ReportForm::Table
         },
     })
 }

@@ -1,10 +1,7 @@
-//! The command line of `pclmin`: its words are read, and what they ask for is done over any files, reader and writer.
+//! The command line of `pclmin`: what its words ask for, and its help.
 #![tactic(auto)]
 
 mod arguments;
-mod names;
-mod running;
 mod vocabulary;
 
-pub use pcl_command::USAGE_STATUS;
-pub use running::{exit_status, run, run_request};
+pub use arguments::{AskedBatch, parse_batch, parse_request};

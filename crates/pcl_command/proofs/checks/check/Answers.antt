@@ -8,12 +8,13 @@ use Rattle.pcl_tool.specs.declared.fault.Fault.{Fault}
 use Rattle.pcl_tool.specs.declared.fault.Fault.TheVariants.{Refused, Memory, ReadFault, TooLong, WriteFault, NoSuchPage}
 use Rattle.pcl_tool.specs.declared.job_verdict.CheckAnswer.{CheckAnswer}
 use Rattle.pcl_tool.specs.Transfer.{AppendsFront, IsWritten}
-use Rattle.pcl_command.specs.declared.request.CheckedFiles.{CheckedFiles}
-use Rattle.pcl_command.specs.declared.request.Beside.{Beside}
+use Rattle.pcl_request.specs.declared.request.CheckedFiles.{CheckedFiles}
+use Rattle.pcl_request.specs.declared.request.Beside.{Beside}
 use Rattle.pcl_command.specs.Files.{FileAct}
 use Rattle.pcl_command.specs.Resolutions.{IsSeenAt}
 use Rattle.pcl_command.specs.Verdicts.{answer_line_of}
-use Rattle.pcl_command.specs.Checks.{AreRead, IsAnswer, IsCheckRun, IsCheckedBeside, IsFileRead, IsUnread, performed}
+use Rattle.pcl_command.specs.Checks.{AreRead, IsAnswer, IsCheckRun, IsCheckedBeside, IsFileRead, IsUnread}
+use Rattle.pcl_request.specs.Requests.{performed}
 use Rattle.pcl_command.proofs.FileReads.{read_fault}
 use Rattle.pcl_command.proofs.checks.check.Goals as goal
 

@@ -1,7 +1,8 @@
 //! The names of the jobs of a batch.
 
-use pcl_batch::{Batch, run_batch};
+use crate::batch::run_batch;
 use pcl_command::{Ending, JobFiles, Reporter, USAGE_STATUS, fault_line, status_of};
+use pcl_request::Batch;
 use pcl_tool::{Fault, INPUT_LIMIT, read_all};
 use std::alloc::{AllocError, Global};
 use std::io::{Read, Write};

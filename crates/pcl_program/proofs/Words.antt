@@ -1,7 +1,7 @@
 -- The word after the program's name, as a slice of words has it.
 use Rattle.std.specs.Prelude.{map}
 use Rattle.std.proofs.Common.{◌≡◌, arith, ℕ, ◌≤◌, length, get_or, List, [], ◌∷◌, Some, refl, ap, sym}
-use Rattle.pcl_words.specs.Runs.{command_word}
+use Rattle.pcl_program.specs.Runs.{command_word}
 
 pub second_word : {A : Type 0} (text : A → List ℕ) (words : List A) (word : A) → 2 ≤ length words → word ≡ get_or words 1 word
     → command_word (map text words) ≡ Some (text word)

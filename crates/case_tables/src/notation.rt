@@ -80,12 +80,12 @@ struct Reader<'a> {
 }
 
 /// The bytes that a notation stands for.
-pub(crate) fn bytes_of(alloc: Global, notation: &str) -> Result<Vec<u8>, NotationFault> {
+pub fn bytes_of(alloc: Global, notation: &str) -> Result<Vec<u8>, NotationFault> {
     read(alloc, notation, false)
 }
 
 /// The bytes of a notation that stands as if in brackets.
-pub(crate) fn bracketed_bytes_of(alloc: Global, notation: &str) -> Result<Vec<u8>, NotationFault> {
+pub fn bracketed_bytes_of(alloc: Global, notation: &str) -> Result<Vec<u8>, NotationFault> {
     read(alloc, notation, true)
 }
 

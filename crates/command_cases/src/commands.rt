@@ -3,7 +3,7 @@
 //! A table of them is lines of a word and what belongs to it; empty lines, and lines that begin with `#`, say nothing.
 //!
 //! ```text
-//! job ESC&l0E ESC*p0x0Y              what standard input gives in the cases below, in the notation that `notation` tells
+//! job ESC&l0E ESC*p0x0Y              what standard input gives in the cases below, in the notation of `case_tables`
 //! more ESC*c1a1b0P                   more of it
 //! reader fails                       it can't be read, up to the next job
 //! writer fails                       standard output can't be written, up to the line `writer holds`
@@ -21,12 +21,11 @@
 //! ```
 
 use crate::folder::{Folder, Held};
-use crate::notation::bytes_of;
-use crate::table::{CasesOfLines, TableFault, number};
+use case_tables::{CasesOfLines, TableFault, bytes_of, number};
 use clap::Error;
 use pcl_command::{Ending, Reporter};
+use pcl_program::{exit_status, run};
 use pcl_tool::Watcher;
-use pcl_words::{exit_status, run};
 use std::alloc::{AllocError, Global};
 use std::cell::Cell;
 use std::io::{self, ErrorKind, Read, Write};

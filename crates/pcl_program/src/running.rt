@@ -1,13 +1,14 @@
 //! A run by the words of a command line, and its status.
 
 ghost use Rattle.std.specs.Prelude.{◌⊎◌, ◌↔◌, map, IsTrue};
-ghost use Rattle.pcl_words.specs.Runs.{IsShown, HasRunAsked, HasRunWords, AskForBatch, IsExitStatus};
+ghost use Rattle.pcl_program.specs.Runs.{IsShown, HasRunAsked, HasRunWords, AskForBatch, IsExitStatus};
 
-use crate::arguments::{parse_batch, parse_request};
-use crate::names::run_named;
 use clap::Error;
 use clap::error::ErrorKind;
-use pcl_command::{Ending, JobFiles, Reporter, Request, USAGE_STATUS, carry_out, refuse_terminal};
+use pcl_batch::run_named;
+use pcl_command::{Ending, JobFiles, Reporter, USAGE_STATUS, carry_out, refuse_terminal};
+use pcl_request::Request;
+use pcl_words::{parse_batch, parse_request};
 use std::alloc::Global;
 use std::convert::AsStr;
 use std::io::{Read, Write};

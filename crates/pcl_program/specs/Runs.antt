@@ -3,11 +3,12 @@ use Rattle.std.specs.Prelude.{◌≡◌, ◌≢◌, ℕ, Bool, ◌&&◌, MatchBo
 use Rattle.clap.specs.Values.{kind_of}
 use Rattle.clap.specs.declared.error.Error.{Error}
 use Rattle.clap.specs.declared.error.kind.ErrorKind.TheVariants.{DisplayHelp, DisplayVersion, OutOfMemory}
-use Rattle.pcl_command.specs.declared.request.Request.{Request}
+use Rattle.pcl_request.specs.Requests.{writes_raw}
+use Rattle.pcl_request.specs.declared.request.Request.{Request}
 use Rattle.pcl_command.specs.declared.running.Ending.{Ending}
 use Rattle.pcl_command.specs.declared.running.Ending.TheVariants.{NoMemory}
 use Rattle.pcl_command.specs.Files.{FileAct}
-use Rattle.pcl_command.specs.Runs.{HasEnded, HasFailed, HasStayed, IsStatus, terminal_line, writes_raw}
+use Rattle.pcl_command.specs.Runs.{HasEnded, HasFailed, HasStayed, IsStatus, terminal_line}
 
 -- nothing was done, so that no job and no image reaches a terminal, and that is said
 abbrev pub SparesTerminal : {F : Type 0} → (files kept : F) → (given left old new : Option (List ℕ)) → Ending → Type 0

@@ -1,10 +1,8 @@
 //! What the program is asked for.
 
 ghost use Rattle.std.specs.Prelude.{◌≡◌, ◌&&◌, MatchOption};
-ghost use Rattle.pcl_command.specs.Checks.{performed};
-ghost use Rattle.pcl_command.specs.Resolutions.{IsWordFor};
-ghost use Rattle.pcl_command.specs.declared.request.Resolution.{Resolution};
-ghost use Rattle.pcl_command.specs.Runs.{is_standard_output, makes_raw, page_of, writes_raw};
+ghost use Rattle.pcl_request.specs.Requests.{IsWordFor, is_standard_output, makes_raw, page_of, performed, writes_raw};
+ghost use Rattle.pcl_request.specs.declared.request.Resolution.{Resolution};
 
 use pcl_base::{Dpi, Kind};
 use pcl_cert::Format;

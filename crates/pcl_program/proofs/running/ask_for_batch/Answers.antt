@@ -1,8 +1,8 @@
 use Rattle.std.proofs.Common.{◌≡◌, ◌∙◌, ap, sym, subst, IsTrue, Some, List, ℕ, map, rules}
 use Rattle.std.specs.Prelude.{codes, Option}
-use Rattle.pcl_words.specs.Runs.{command_word}
-use Rattle.pcl_words.proofs.Words.{second_word}
-use Rattle.pcl_words.proofs.running.ask_for_batch.Goals as goal
+use Rattle.pcl_program.specs.Runs.{command_word}
+use Rattle.pcl_program.proofs.Words.{second_word}
+use Rattle.pcl_program.proofs.running.ask_for_batch.Goals as goal
 
 pub returns-in-len2-up : goal.returns-in-len2-up
 returns-in-len2-up g c =

@@ -1,0 +1,33 @@
+//! What a batch is asked for.
+
+use crate::request::Resolution;
+
+/// How each job is written again.
+#[derive(Clone, Copy, Debug, PartialEq, Eq)]
+pub enum Rewriting {
+    /// As the smallest job that is found with the same dots.
+    Shrink,
+    /// As the least raster job, with a certificate of the first format in a file of its own.
+    Certify,
+}
+
+/// What is done with each job, and where it goes.
+#[derive(Clone, Copy)]
+pub struct Batch<'w> {
+    /// The folder that gets what is written: for the job `NAME` a file `NAME`, its digests `NAME.sha256`, and where it is asked for
+    /// its certificate `NAME.cert`. It has to be there.
+    pub folder: &'w str,
+    pub rewriting: Rewriting,
+    pub resolution: Resolution,
+    /// How the report is laid out.
+    pub form: ReportForm,
+}
+
+/// How a report is laid out: a line for each job.
+#[derive(Clone, Copy, Debug, PartialEq, Eq)]
+pub enum ReportForm {
+    /// Columns that tabs part, below a line of their names.
+    Table,
+    /// An object of JSON on each line.
+    Json,
+}
