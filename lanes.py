@@ -99,11 +99,20 @@ class Build:
         self.process.wait()
         self.give_back()
 
+    def has_ended(self):
+        """Whether its command has ended; if so, what processors spent on it is known."""
+        pid, status, usage = os.wait4(self.process.pid, os.WNOHANG)
+        if pid:
+            self.process.returncode = os.waitstatus_to_exitcode(status)
+            self.spent = usage.ru_utime + usage.ru_stime
+        return bool(pid)
+
     def end(self):
         """Whether it is proved; says so, or shows the log's last lines."""
         self.give_back()
         if self.process.returncode == 0:
-            print(f"{self.name} is proved and built after {time.monotonic() - self.began:.0f} seconds", flush=True)
+            taken = time.monotonic() - self.began
+            print(f"{self.name} is proved and built after {taken:.0f} seconds, {self.spent:.0f} of a processor", flush=True)
             return True
         sys.stdout.writelines(self.log.read_text(errors="replace").splitlines(keepends=True)[-20:])
         print(f"{self.name} isn't built: see {self.log.relative_to(ROOT)}", flush=True)
@@ -150,7 +159,7 @@ def build(names, processors):
                     left.remove(name)
                     running.append(Build(name, all_crates, within_memory(max(1, jobs)), is_first))
             time.sleep(0.2)
-            for it in [it for it in running if it.process.poll() is not None]:
+            for it in [it for it in running if it.has_ended()]:
                 running.remove(it)
                 if not it.end():
                     return 1

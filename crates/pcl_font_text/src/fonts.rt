@@ -33,7 +33,7 @@ struct Sent<'a> {
 pub fn append_fonts(layout: &Layout, out: &mut Vec<u8>) -> Result<(), AllocError> {
     let mut font = None;
     for (rank, character) in layout.spacing.characters.keys().enumerate() {
-        let Some(code) = layout.code_of_rank(rank) else {
+        let Some(code) = layout.spacing.code_of_rank(rank) else {
             return Ok(());
         };
         let Some(pattern) = layout.pattern_of(character.glyph) else {

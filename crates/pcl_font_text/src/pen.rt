@@ -93,7 +93,7 @@ fn append_letter(
         Some(next) => letter.gap_to(next),
         None => None,
     };
-    let Some((code, advance)) = layout.character(letter.glyph, gap) else {
+    let Some((code, advance)) = layout.spacing.character(letter.glyph, gap) else {
         return Ok(pen);
     };
     append_move(layout, letter, pen, out)?;

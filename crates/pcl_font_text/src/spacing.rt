@@ -1,5 +1,6 @@
 //! How far letters advance, and what makes the gaps that differ.
 
+use crate::codes::{Code, code_of_rank};
 use indexmap::{IndexMap, IndexSet};
 use pcl_shapes::{Form, Letter, Letters, Pattern, number_of_place};
 use std::alloc::{AllocError, Global};
@@ -43,9 +44,20 @@ impl Spacing {
     ) -> Result<Spacing, AllocError> {
         let gaps = count_gaps(alloc, &found.letters)?;
         let uses = count_uses(alloc, &found.letters, found.glyphs.len())?;
-        let usual = usual_advances(alloc, patterns, found, &gaps, &uses)?;
-        let characters = find_characters(alloc, patterns, found, &gaps, &uses, &usual)?;
-        let blanks = find_blanks(alloc, &gaps, &characters, &usual)?;
+        Spacing::of_gaps(alloc, patterns, found, &gaps, &uses)
+    }
+
+    /// The spacing of letters whose glyphs are followed so, and used so often.
+    fn of_gaps(
+        alloc: Global,
+        patterns: &IndexSet<Pattern>,
+        found: &Letters,
+        gaps: &IndexMap<Character, u32>,
+        uses: &[u32],
+    ) -> Result<Spacing, AllocError> {
+        let usual = usual_advances(alloc, patterns, found, gaps, uses)?;
+        let characters = find_characters(alloc, patterns, found, gaps, uses, &usual)?;
+        let blanks = find_blanks(alloc, gaps, &characters, &usual)?;
         Ok(Spacing {
             usual,
             characters,
@@ -54,11 +66,35 @@ impl Spacing {
     }
 
     /// The usual character of a glyph.
-    pub fn usual_character(&self, glyph: u32) -> Character {
+    fn usual_character(&self, glyph: u32) -> Character {
         Character {
             glyph,
             advance: self.usual.get(glyph as usize).copied().unwrap_or(0),
         }
+    }
+
+    /// The font and the code of the character of this rank, if there is one left for it.
+    pub fn code_of_rank(&self, rank: usize) -> Option<Code> {
+        code_of_rank(rank, self.blanks.len())
+    }
+
+    /// The font and the code of a character, if it is sent.
+    fn code(&self, character: Character) -> Option<Code> {
+        let rank = self.characters.get_index_of(&character)?;
+        self.code_of_rank(rank)
+    }
+
+    /// The character that prints a glyph where the next letter stands so far right of it, and its advance: one that
+    /// advances so far, or else the usual one. None where that isn't sent.
+    pub fn character(&self, glyph: u32, gap: Option<u32>) -> Option<(Code, u32)> {
+        let usual = self.usual_character(glyph);
+        let usual_code = self.code(usual)?;
+        if let Some(advance) = gap {
+            if let Some(code) = self.code(Character { glyph, advance }) {
+                return Some((code, advance));
+            }
+        }
+        Some((usual_code, usual.advance))
     }
 }
 

@@ -22,15 +22,17 @@ impl Lettering {
         let mut collection = collection;
         join_shapes(alloc, &mut collection)?;
         let letters = find_letters(alloc, &collection)?;
-        match collection.form {
-            Form::Characters => {
-                let patterns = collection.into_patterns();
-                Ok(Lettering::Characters(lay_out(alloc, patterns, letters)?))
-            }
-            Form::Macros => {
-                let layout = lay_out_macros(alloc, collection, letters)?;
-                Ok(Lettering::Macros(layout))
-            }
+        let Collection {
+            form,
+            widths,
+            patterns,
+            ..
+        } = collection;
+        match form {
+            Form::Characters => Ok(Lettering::Characters(lay_out(alloc, patterns, letters)?)),
+            Form::Macros => Ok(Lettering::Macros(lay_out_macros(
+                alloc, &widths, patterns, letters,
+            )?)),
         }
     }
 

@@ -50,7 +50,7 @@ impl<'a> MacroWriter<'a> {
     ) -> Result<(), AllocError> {
         let layout = self.layout;
         let letters = layout.letters.of_page(self.page, self.letters);
-        let lines = layout.text.script.of_page(self.page, self.lines);
+        let lines = layout.plan.text.script.of_page(self.page, self.lines);
         self.page = self.page.saturating_add(1);
         self.letters = self.letters.saturating_add(letters.len());
         self.lines = self.lines.saturating_add(lines.len());

@@ -41,6 +41,31 @@ impl Frequency {
         let cost = number_of(&self.costs, pattern as usize).saturating_mul(count);
         usize::try_from(quotient(cost, all.saturating_mul(FINE))).unwrap_or(0)
     }
+
+    /// Looks at all patterns once more, which weigh so much and have so many shapes.
+    fn look_again(
+        &mut self,
+        alloc: Global,
+        collection: &Collection,
+        weights: &[i64],
+        uses: &[usize],
+    ) -> Result<(), AllocError> {
+        let sums = self.sums(alloc, collection, weights)?;
+        self.costs = raster_costs(alloc, collection, weights, self, &sums)?;
+        self.are_letters = find_cheaper(alloc, collection, uses, self)?;
+        Ok(())
+    }
+
+    /// What a byte of weight costs in all rows before each one together, in fine parts.
+    fn sums(
+        &self,
+        alloc: Global,
+        collection: &Collection,
+        weights: &[i64],
+    ) -> Result<Vec<i64>, AllocError> {
+        let changes = weight_changes(alloc, collection, weights, self)?;
+        sum_parts(alloc, &collection.rows, &changes)
+    }
 }
 
 /// What the shapes of each pattern take.
@@ -52,10 +77,7 @@ pub fn find_frequency(alloc: Global, collection: &Collection) -> Result<Frequenc
         costs: vec![in alloc; 0i64; uses.len()]?,
     };
     for _ in 0..ROUNDS {
-        let changes = weight_changes(alloc, collection, &weights, &frequency)?;
-        let sums = sum_parts(alloc, &collection.rows, &changes)?;
-        frequency.costs = raster_costs(alloc, collection, &weights, &frequency, &sums)?;
-        frequency.are_letters = find_cheaper(alloc, collection, &uses, &frequency)?;
+        frequency.look_again(alloc, collection, &weights, &uses)?;
     }
     Ok(frequency)
 }

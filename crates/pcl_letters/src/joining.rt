@@ -62,10 +62,19 @@ fn find_pairs(
         frequency,
         uses: &uses,
     };
-    let pairs = count_pairs(alloc, collection)?;
-    let pairs = shorter_pairs(alloc, collection, apart, &pairs)?;
+    let pairs = first_pairs(alloc, collection, apart)?;
     // A pair may overlap another that is more frequent: what counts is how often it would be joined.
     let pairs = count_joined(alloc, collection, &pairs)?;
+    shorter_pairs(alloc, collection, apart, &pairs)
+}
+
+/// The pairs that would take fewer bytes as one if all of them were joined.
+fn first_pairs(
+    alloc: Global,
+    collection: &Collection,
+    apart: Apart<'_>,
+) -> Result<IndexMap<Pair, usize>, AllocError> {
+    let pairs = count_pairs(alloc, collection)?;
     shorter_pairs(alloc, collection, apart, &pairs)
 }
 

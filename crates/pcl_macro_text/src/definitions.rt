@@ -18,7 +18,7 @@ pub fn append_definitions(
 ) -> Result<(), AllocError> {
     out.extend_from_slice(b"\x1b&u600D")?;
     let mut id: u32 = 0;
-    for mark in layout.macros.uses.keys() {
+    for mark in layout.plan.macros.uses.keys() {
         append_labelled(b"\x1b&f", id, out)?;
         out.extend_from_slice(b"y0X")?;
         append_content(alloc, layout, *mark, out)?;
@@ -38,8 +38,8 @@ fn append_content(
     match mark {
         Mark::Glyph(glyph) => append_glyph(alloc, layout, glyph, out),
         Mark::Gap(gap) => append_move(gap, out),
-        Mark::Phrase(number) => match layout.text.phrases.get(number as usize) {
-            Some(phrase) => append_marks(&layout.macros, &phrase.marks, out),
+        Mark::Phrase(number) => match layout.plan.text.phrases.get(number as usize) {
+            Some(phrase) => append_marks(&layout.plan.macros, &phrase.marks, out),
             None => Ok(()),
         },
     }
@@ -61,12 +61,12 @@ fn append_glyph(
     out.extend_from_slice(b"s1A")?;
     append_rows(alloc, pattern, out)?;
     out.extend_from_slice(b"\x1b&f1S")?;
-    append_move(layout.metrics.advance(glyph), out)
+    append_move(layout.plan.metrics.advance(glyph), out)
 }
 
 /// Appends the way from the cursor to the left upper corner of a glyph.
 fn append_way(layout: &MacroLayout, glyph: u32, out: &mut Vec<u8>) -> Result<(), AllocError> {
-    let right = layout.metrics.bearing(glyph);
+    let right = layout.plan.metrics.bearing(glyph);
     out.extend_from_slice(b"\x1b*p")?;
     if right != 0 {
         append_signed(right, out)?;

@@ -23,8 +23,8 @@ pub fn append_lines(
     for line in lines {
         append_line_start(line, above, out)?;
         append_marks(
-            &layout.macros,
-            layout.text.script.marks_of(line, start),
+            &layout.plan.macros,
+            layout.plan.text.script.marks_of(line, start),
             out,
         )?;
         start = line.end;

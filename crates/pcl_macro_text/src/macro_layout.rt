@@ -5,7 +5,7 @@ use crate::marks::find_script;
 use crate::metrics::{Metrics, find_metrics};
 use crate::phrases::{Text, find_phrases};
 use indexmap::IndexSet;
-use pcl_shapes::{Collection, Letters, Pattern};
+use pcl_shapes::{Letters, Pattern};
 use std::alloc::{AllocError, Global};
 
 /// How many glyphs have macros, at most: there are twice as many IDs.
@@ -16,30 +16,45 @@ const GLYPH_LIMIT: u32 = 16_384;
 pub struct MacroLayout {
     pub patterns: IndexSet<Pattern>,
     pub letters: Letters,
+    pub plan: MacroPlan,
+}
+
+/// How letters are printed by macros.
+#[derive(Drop)]
+pub struct MacroPlan {
     pub metrics: Metrics,
     pub text: Text,
     pub macros: Macros,
 }
 
-/// The layout of these letters, which are shapes of this collection.
+/// The layout of these letters, on pages of these widths.
 pub fn lay_out_macros(
     alloc: Global,
-    collection: Collection,
+    widths: &[u32],
+    patterns: IndexSet<Pattern>,
     letters: Letters,
 ) -> Result<MacroLayout, AllocError> {
     let mut letters = letters;
     letters.letters.retain(|letter| letter.glyph < GLYPH_LIMIT);
-    let found = &letters.letters;
-    let metrics = find_metrics(alloc, &collection.widths, found, letters.glyphs.len())?;
-    let script = find_script(alloc, &collection.widths, found, &metrics)?;
-    let patterns = collection.into_patterns();
-    let text = find_phrases(alloc, script)?;
-    let macros = Macros::new(alloc, &text)?;
+    let plan = MacroPlan::new(alloc, widths, &letters)?;
     Ok(MacroLayout {
         patterns,
         letters,
-        metrics,
-        text,
-        macros,
+        plan,
     })
+}
+
+impl MacroPlan {
+    /// The macros of these letters, on pages of these widths.
+    fn new(alloc: Global, widths: &[u32], letters: &Letters) -> Result<MacroPlan, AllocError> {
+        let metrics = find_metrics(alloc, widths, &letters.letters, letters.glyphs.len())?;
+        let script = find_script(alloc, widths, &letters.letters, &metrics)?;
+        let text = find_phrases(alloc, script)?;
+        let macros = Macros::new(alloc, &text)?;
+        Ok(MacroPlan {
+            metrics,
+            text,
+            macros,
+        })
+    }
 }

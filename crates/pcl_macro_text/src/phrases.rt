@@ -57,15 +57,31 @@ pub fn find_phrases(alloc: Global, script: Script) -> Result<Text, AllocError> {
 impl Text {
     /// Joins the pairs that are frequent.
     fn join(&mut self, alloc: Global) -> Result<(), AllocError> {
+        let pairs = self.frequent_pairs(alloc)?;
+        self.add_phrases(alloc, &pairs)?;
+        self.script = self.joined(alloc, &pairs)?;
+        Ok(())
+    }
+
+    /// The pairs that are frequent, and how often each would be joined.
+    fn frequent_pairs(&self, alloc: Global) -> Result<IndexMap<Pair, u32>, AllocError> {
         let mut counts = count_pairs(alloc, &self.script)?;
         self.keep_frequent(&mut counts);
         // A pair that is frequent may overlap another that is more so: what counts is how often it would be joined.
         let mut uses = count_uses(alloc, &self.script, &counts)?;
         self.keep_frequent(&mut uses);
-        for pair in uses.keys() {
+        Ok(uses)
+    }
+
+    /// Adds the phrases of pairs, unless they are there.
+    fn add_phrases(
+        &mut self,
+        alloc: Global,
+        pairs: &IndexMap<Pair, u32>,
+    ) -> Result<(), AllocError> {
+        for pair in pairs.keys() {
             self.add_phrase(alloc, *pair)?;
         }
-        self.script = self.joined(alloc, &uses)?;
         Ok(())
     }
 

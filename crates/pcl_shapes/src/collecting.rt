@@ -70,11 +70,6 @@ impl Collection {
         }
     }
 
-    /// The patterns alone.
-    pub fn into_patterns(self) -> IndexSet<Pattern> {
-        self.patterns
-    }
-
     /// The height of a page, in dots.
     pub fn height_of(&self, page: u32) -> u32 {
         self.heights.get(page as usize).copied().unwrap_or(0)
