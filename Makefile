@@ -59,13 +59,16 @@ test-process:
 	process/run.py $(PROGRAM)
 	process/calls.py $(PROGRAM)
 
-# The manual pages by their linter, the completions in each shell, what the console blocks of README print, and a second checker
-# beside `check`. Needs Python 3, mandoc, zsh, fish, and the program that `make build` left.
-test-home:
+# All that gets the filter to people: test-cups, test-batch and test-cupsd, and then the manual pages by their linter, the completions
+# in each shell, what the console blocks of README and docs print, a second checker beside `check`, and the Debian package, installed
+# and purged. Needs root, Python 3, mandoc, zsh, fish, the packages that home/batch.py and cups/server.py name, and the program that
+# `make build` left.
+test-home: test-cups test-batch test-cupsd
 	mandoc -T lint -W warning man/pclmin.1 man/pclmin-cups.8
 	home/completions.sh
 	home/blocks.py $(PROGRAM) README.md docs/*.md examples/README.md
 	home/sceptic.py $(PROGRAM)
+	home/deb.sh try
 
 # Makes 1,000 jobs, some of them refused, empty or not there, and runs batches over them: one that is killed and run again, and those
 # of GNU parallel in docs/BATCH.md, on this machine and over ssh on loopback. Needs the packages that home/batch.py names, and the

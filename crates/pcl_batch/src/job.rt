@@ -53,6 +53,24 @@ enum Seen<'w> {
 }
 
 impl<'w> Job<'w> {
+    /// The job of a file that has these bytes.
+    fn new(
+        alloc: Global,
+        batch: Batch<'_>,
+        file: &'w str,
+        bytes: &[u8],
+    ) -> Result<Job<'w>, AllocError> {
+        let dpi = resolve(alloc, batch.resolution, bytes)?;
+        let input = FileSum::of(alloc, bytes)?;
+        Ok(Job {
+            file,
+            paths: Paths::new(alloc, batch.folder, file)?,
+            dpi,
+            pages: page_count(alloc, bytes, dpi).ok(),
+            input,
+        })
+    }
+
     /// What is reported of it where its file in the folder is this.
     fn written(self, outcome: Outcome, output: FileSum) -> Entry<'w> {
         Entry {
@@ -93,14 +111,7 @@ fn see<'w, F: JobFiles>(
         Ok(bytes) => bytes,
         Err(fault) => return Ok(Seen::Ended(unread(alloc, file, &fault)?)),
     };
-    let dpi = resolve(alloc, batch.resolution, &bytes)?;
-    let job = Job {
-        file,
-        paths: Paths::new(alloc, batch.folder, file)?,
-        dpi,
-        pages: page_count(alloc, &bytes, dpi).ok(),
-        input: FileSum::of(alloc, &bytes)?,
-    };
+    let job = Job::new(alloc, batch, file, &bytes)?;
     match kept_output(files, alloc, batch, &job)? {
         Some(output) => Ok(Seen::Ended(job.written(Outcome::Kept, output))),
         None => Ok(Seen::Waits(job)),
@@ -134,11 +145,27 @@ fn rewrite<'w, F: JobFiles, P: Reporter>(
     job: Job<'w>,
     reporter: P,
 ) -> Result<Entry<'w>, AllocError> {
-    let request = Request::Run(run_for(batch, &job));
+    let ending = carry_out_run(files, alloc, run_for(batch, &job), reporter);
+    finish(files, alloc, batch, job, &ending)
+}
+
+/// Carries out a run from a file to another one: there is no standard input, and nothing is written to standard output.
+fn carry_out_run<F: JobFiles, P: Reporter>(
+    files: &mut F,
+    alloc: Global,
+    run: Run<'_>,
+    reporter: P,
+) -> Ending {
     let mut no_bytes: &[u8] = b"";
     let mut nothing: Vec<u8> = Vec::new(alloc);
-    let ending = carry_out(files, alloc, request, &mut no_bytes, &mut nothing, reporter);
-    finish(files, alloc, batch, job, &ending)
+    carry_out(
+        files,
+        alloc,
+        Request::Run(run),
+        &mut no_bytes,
+        &mut nothing,
+        reporter,
+    )
 }
 
 /// The run that writes a job again.

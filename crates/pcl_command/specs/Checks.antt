@@ -20,6 +20,7 @@ use Rattle.pcl_command.specs.Files.{FileAct, Opened, Unopened}
 use Rattle.pcl_request.specs.declared.request.CheckedFiles.{CheckedFiles}
 use Rattle.pcl_request.specs.declared.request.Beside.{Beside}
 use Rattle.pcl_request.specs.Requests.{performed}
+use Rattle.pcl_request.specs.declared.request.Beside.TheVariants.{Input, Images}
 use Rattle.pcl_command.specs.Resolutions.{IsSeenAt}
 use Rattle.pcl_command.specs.Verdicts.{answer_line_of}
 

@@ -3,16 +3,29 @@
 use clap::{Arg, ArgAction, Command, value_parser};
 use std::alloc::{AllocError, Global};
 
+/// A command that is being made, unless memory ran out.
+type Made<'a> = Result<Command<'a>, AllocError>;
+
 /// The program's command line.
-pub fn pclmin<'a>(alloc: Global) -> Result<Command<'a>, AllocError> {
-    let command = program(alloc).subcommand(min(alloc)?)?;
-    let command = command.subcommand(same(alloc)?)?;
-    let command = command
-        .subcommand(explain(alloc)?)?
-        .subcommand(pages(alloc)?)?
-        .subcommand(shrink(alloc)?)?;
-    let command = command.subcommand(batch(alloc)?)?;
-    command.subcommand(check(alloc)?)?.subcommand(pbm(alloc)?)
+pub fn pclmin<'a>(alloc: Global) -> Made<'a> {
+    let command = with_command(Ok(program(alloc)), min(alloc));
+    let command = with_command(command, same(alloc));
+    let command = with_command(command, explain(alloc));
+    let command = with_command(command, pages(alloc));
+    let command = with_command(command, shrink(alloc));
+    let command = with_command(command, batch(alloc));
+    let command = with_command(command, check(alloc));
+    with_command(command, pbm(alloc))
+}
+
+/// A command with one below it.
+fn with_command<'a>(command: Made<'a>, below: Made<'a>) -> Made<'a> {
+    command?.subcommand(below?)
+}
+
+/// A command with a word that it takes.
+fn with<'a>(command: Made<'a>, arg: Arg<'a>) -> Made<'a> {
+    command?.arg(arg)
 }
 
 /// The program, without its commands.
@@ -29,12 +42,17 @@ fn program<'a>(alloc: Global) -> Command<'a> {
 }
 
 /// The command that writes a job again.
-fn min<'a>(alloc: Global) -> Result<Command<'a>, AllocError> {
+fn min<'a>(alloc: Global) -> Made<'a> {
     let command = Command::new(alloc, "min").about(
         "Writes a job again as the least raster job of the same pages",
     );
-    let command = with_files(alloc, command)?;
-    of_every_run(alloc, command.arg(cert(alloc))?.arg(format(alloc)?)?)
+    let command = with(with_files(alloc, command), cert(alloc));
+    of_every_run(alloc, with_format(alloc, command))
+}
+
+/// A command with the format of its certificate.
+fn with_format<'a>(alloc: Global, command: Made<'a>) -> Made<'a> {
+    with(command, format(alloc)?)
 }
 
 /// The file of a certificate.
@@ -55,36 +73,40 @@ fn format<'a>(alloc: Global) -> Result<Arg<'a>, AllocError> {
 }
 
 /// The command that checks a written job.
-fn check<'a>(alloc: Global) -> Result<Command<'a>, AllocError> {
+fn check<'a>(alloc: Global) -> Made<'a> {
     let command = Command::new(alloc, "check").about(
         "Checks by a certificate that a written job prints the pages of another one, and that none is shorter",
     );
-    let command = command
-        .arg(file(
-            alloc,
-            "IN",
-            "The job as it was, or with --page images of its pages",
-        ))?
-        .arg(file(alloc, "OUT", "The job that it was written as"))?
-        .arg(file(alloc, "CERT", "The certificate of the written job"))?;
-    let page = Arg::new(alloc, "page")
+    let input = file(
+        alloc,
+        "IN",
+        "The job as it was, or with --page images of its pages",
+    );
+    let output = file(alloc, "OUT", "The job that it was written as");
+    let cert = file(alloc, "CERT", "The certificate of the written job");
+    let command = with(with(with(Ok(command), input), output), cert);
+    of_every_run(alloc, with(command, images(alloc)))
+}
+
+/// Whether images of the pages stand in place of a job.
+fn images<'a>(alloc: Global) -> Arg<'a> {
+    Arg::new(alloc, "page")
         .long("page")
         .action(ArgAction::SetTrue)
-        .help("IN has PBM images (P4) of the pages, one after the other, as pbm writes them");
-    of_every_run(alloc, command.arg(page)?)
+        .help("IN has PBM images (P4) of the pages, one after the other, as pbm writes them")
 }
 
 /// The command that says what the rules refuse.
-fn explain<'a>(alloc: Global) -> Result<Command<'a>, AllocError> {
+fn explain<'a>(alloc: Global) -> Made<'a> {
     let command = Command::new(alloc, "explain").about(
         "Names everything in a job that is refused, and says what to set instead; given the name of a kind of \
          refusal in place of a file, as NoFont, says what that means",
     );
-    with_files(alloc, command)?.arg(dpi(alloc))
+    with(with_files(alloc, command), dpi(alloc))
 }
 
 /// The command that writes the smallest job that is found.
-fn shrink<'a>(alloc: Global) -> Result<Command<'a>, AllocError> {
+fn shrink<'a>(alloc: Global) -> Made<'a> {
     let command = Command::new(alloc, "shrink").about(
         "Writes the smallest job that is found with the same dots, sides, trays, bins and @PJL lines",
     );
@@ -92,40 +114,46 @@ fn shrink<'a>(alloc: Global) -> Result<Command<'a>, AllocError> {
         .long("report")
         .action(ArgAction::SetTrue)
         .help("Tell on standard error the bytes of both jobs, the pages, and how they are written");
-    with_files(alloc, command)?.arg(report)?.arg(dpi(alloc))
+    with(with(with_files(alloc, command), report), dpi(alloc))
 }
 
 /// The command that says what the pages are.
-fn pages<'a>(alloc: Global) -> Result<Command<'a>, AllocError> {
+fn pages<'a>(alloc: Global) -> Made<'a> {
     let command = Command::new(alloc, "pages").about(
         "Lists the pages of a job: resolution, size, copies, sides, paper source, black dots in percent, \
          bytes as least raster, and bytes of row data by method",
     );
+    let command = with_layout(alloc, with_files(alloc, command));
+    with(command, dpi(alloc))
+}
+
+/// A command with the layout of what it writes.
+fn with_layout<'a>(alloc: Global, command: Made<'a>) -> Made<'a> {
     let json = Arg::new(alloc, "json")
         .long("json")
         .action(ArgAction::SetTrue)
         .conflicts_with("tsv")?
         .help("Write one object of JSON");
-    let tsv = Arg::new(alloc, "tsv")
+    with(with(command, json), tsv(alloc))
+}
+
+/// Whether lines of columns are asked for.
+fn tsv<'a>(alloc: Global) -> Arg<'a> {
+    Arg::new(alloc, "tsv")
         .long("tsv")
         .action(ArgAction::SetTrue)
         .help(
             "Write lines of columns that tabs part, which is what comes where nothing is asked for",
-        );
-    with_files(alloc, command)?
-        .arg(json)?
-        .arg(tsv)?
-        .arg(dpi(alloc))
+        )
 }
 
 /// The command that writes many jobs again.
-fn batch<'a>(alloc: Global) -> Result<Command<'a>, AllocError> {
-    let folder = Arg::new(alloc, "output")
-        .short('o')
-        .long("output")
-        .value_name("DIR")
-        .required(true)
-        .help("The folder of what is written, which has to be there");
+fn batch<'a>(alloc: Global) -> Made<'a> {
+    let command = Command::new(alloc, "batch").about(
+        "Shrinks many jobs into a folder, and reports on each; one that fails doesn't stop the others, \
+         and what is done isn't done again",
+    );
+    let command = with(Ok(command), folder(alloc));
     let min = Arg::new(alloc, "min")
         .long("min")
         .action(ArgAction::SetTrue)
@@ -134,30 +162,36 @@ fn batch<'a>(alloc: Global) -> Result<Command<'a>, AllocError> {
         .long("json")
         .action(ArgAction::SetTrue)
         .help("Report in JSON, an object on each line");
-    let files = Arg::new(alloc, "JOB").value_name("JOB").num_args(0..).help(
+    let command = with(with(with(command, min), json), dpi(alloc));
+    with(command, jobs(alloc))
+}
+
+/// The folder of a batch.
+fn folder<'a>(alloc: Global) -> Arg<'a> {
+    Arg::new(alloc, "output")
+        .short('o')
+        .long("output")
+        .value_name("DIR")
+        .required(true)
+        .help("The folder of what is written, which has to be there")
+}
+
+/// The files of the jobs of a batch.
+fn jobs<'a>(alloc: Global) -> Arg<'a> {
+    Arg::new(alloc, "JOB").value_name("JOB").num_args(0..).help(
         "The files of the jobs; where none is given they are read from standard input, one name on each line",
-    );
-    Command::new(alloc, "batch")
-        .about(
-            "Shrinks many jobs into a folder, and reports on each; one that fails doesn't stop the others, \
-             and what is done isn't done again",
-        )
-        .arg(folder)?
-        .arg(min)?
-        .arg(json)?
-        .arg(dpi(alloc))?
-        .arg(files)
+    )
 }
 
 /// The command that compares two jobs.
-fn same<'a>(alloc: Global) -> Result<Command<'a>, AllocError> {
-    Command::new(alloc, "same")
-        .about("Tells whether two jobs print the same pages, and where not")
-        .arg(file(alloc, "A", "The one job"))?
-        .arg(file(alloc, "B", "The other job"))?
-        .arg(asked(alloc))?
-        .arg(image(alloc))?
-        .arg(dpi(alloc))
+fn same<'a>(alloc: Global) -> Made<'a> {
+    let command = Command::new(alloc, "same").about(
+        "Tells whether two jobs print the same pages, and where not",
+    );
+    let command = with(Ok(command), file(alloc, "A", "The one job"));
+    let command = with(command, file(alloc, "B", "The other job"));
+    let command = with(with(command, asked(alloc)), image(alloc));
+    with(command, dpi(alloc))
 }
 
 /// Whether what is asked of the printer counts.
@@ -182,12 +216,12 @@ fn image<'a>(alloc: Global) -> Arg<'a> {
 }
 
 /// A command with what those that run over whole jobs take.
-fn of_every_run<'a>(alloc: Global, command: Command<'a>) -> Result<Command<'a>, AllocError> {
-    command.arg(quiet(alloc))?.arg(dpi(alloc))
+fn of_every_run<'a>(alloc: Global, command: Made<'a>) -> Made<'a> {
+    with(with(command, quiet(alloc)), dpi(alloc))
 }
 
 /// A command with the job that it reads and the file that it writes.
-fn with_files<'a>(alloc: Global, command: Command<'a>) -> Result<Command<'a>, AllocError> {
+fn with_files<'a>(alloc: Global, command: Command<'a>) -> Made<'a> {
     let job = Arg::new(alloc, "JOB").value_name("JOB").help(
         "The file of the job; standard input where none or - is given",
     );
@@ -198,7 +232,7 @@ fn with_files<'a>(alloc: Global, command: Command<'a>) -> Result<Command<'a>, Al
         .help(
             "Write to this file, which keeps what it has until the run is done; standard output where none or - is given",
         );
-    command.arg(job)?.arg(output)
+    with(with(Ok(command), job), output)
 }
 
 /// A file that is asked for.
@@ -210,14 +244,14 @@ fn file<'a>(alloc: Global, name: &'a str, help: &'a str) -> Arg<'a> {
 }
 
 /// The command that previews pages.
-fn pbm<'a>(alloc: Global) -> Result<Command<'a>, AllocError> {
+fn pbm<'a>(alloc: Global) -> Made<'a> {
     let page = Arg::new(alloc, "page").long("page").value_name("N").help(
         "The number of the page, from 1 to 256, or a range such as 2-5; all pages where it isn't given",
     );
     let command = Command::new(alloc, "pbm").about(
         "Writes pages of a job as PBM images (P4), one after the other",
     );
-    with_files(alloc, command)?.arg(page)?.arg(dpi(alloc))
+    with(with(with_files(alloc, command), page), dpi(alloc))
 }
 
 /// Silence, where a run would tell how far it has come.
