@@ -6,8 +6,8 @@ work waits for:
 
 rt has one command at a time work in a crate and those below it. So each library is built in a tree of its own under build/lanes,
 whose files are links to these and to what is built of the crates below, and its out/ is then moved here. What rt says is kept in
-build/lanes/NAME.log. The crate that most work waits for is given all processors, and the others share what it leaves of them. LANES
-bounds how many are taken.
+build/lanes/NAME.log. A crate has one job, since each further one reads all libraries first, unless it has many functions and no
+other waits for a processor; the crate that most work waits for has two at least. LANES bounds how many are taken.
 """
 
 import os
@@ -22,6 +22,7 @@ ROOT = pathlib.Path(__file__).resolve().parent
 LANES = ROOT / "build" / "lanes"
 FIRST_JOB = 4_000_000_000  # bytes that a large check may take with one job
 FURTHER_JOB = 1_500_000_000  # bytes of each further job
+FUNCTIONS = 30  # so many functions make up for what a further job reads before it proves anything
 
 
 def crates():
@@ -153,11 +154,12 @@ def build(names, processors):
             ready = [it for it in left if done.issuperset(all_crates[it][1])]
             for at, name in enumerate(ready):
                 is_first = all(chain[name] >= chain[it.name] for it in running)
-                idle = processors - sum(it.jobs for it in running if not it.is_first)
-                jobs = processors if is_first else idle // (len(ready) - at)
+                idle = processors - sum(it.jobs for it in running)
+                spare = idle - (len(ready) - at - 1)
                 if (is_first or idle > 0) and (not running or free_memory() > FIRST_JOB):
                     left.remove(name)
-                    running.append(Build(name, all_crates, within_memory(max(1, jobs)), is_first))
+                    jobs = min(max(2 if is_first else 1, spare), 1 + functions_of(name) // FUNCTIONS)
+                    running.append(Build(name, all_crates, within_memory(jobs), is_first))
             time.sleep(0.2)
             for it in [it for it in running if it.has_ended()]:
                 running.remove(it)

@@ -1,6 +1,6 @@
 //! The files of the system.
 
-use pcl_command::{FileFault, JobFiles};
+use pcl_program::{FileFault, JobFiles};
 use std::fs::{self, File};
 use std::io::{self, ErrorKind};
 use std::os::fd::AsFd;
@@ -106,8 +106,6 @@ impl SystemFiles<'_> {
 }
 
 impl JobFiles for SystemFiles<'_> {
-    ghost use Rattle.pcl_command.specs.Files.{FileAct};
-
     type Reader = File;
 
     type Writer = File;

@@ -1,7 +1,9 @@
-//! A run by the words of a command line, over any files, reader and writer, and its status.
+//! A run by the words of a command line, over any files, reader and writer, and its status. What a caller needs besides is handed on:
+//! the traits of files and of who is told of a run, and how one ends.
 #![tactic(auto)]
 
 mod running;
 
-pub use pcl_command::USAGE_STATUS;
+pub use pcl_command::{Ending, FileFault, JobFiles, Reporter, USAGE_STATUS};
+pub use pcl_tool::Watcher;
 pub use running::{exit_status, run, run_request};
