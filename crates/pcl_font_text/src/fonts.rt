@@ -49,7 +49,7 @@ pub fn append_fonts(layout: &Layout, out: &mut Vec<u8>) -> Result<(), AllocError
             width: pattern.width,
             height: pattern.height,
             advance: character.advance,
-            rows: &pattern.rows,
+            rows: pattern.rows,
         };
         append_character(&sent, out)?;
     }
@@ -141,7 +141,7 @@ impl Cell {
     }
 
     /// The box with one character more.
-    fn with(self, pattern: &Pattern, letters: &Letters, glyph: u32) -> Cell {
+    fn with(self, pattern: Pattern<'_>, letters: &Letters, glyph: u32) -> Cell {
         let top = letters.top_of(glyph);
         let below = self.height.saturating_sub(self.baseline);
         let baseline = self.baseline.max(top);

@@ -1,31 +1,26 @@
 //! What of a job is printed by characters, and by which.
 
 use crate::spacing::Spacing;
-use indexmap::IndexSet;
-use pcl_shapes::{Letter, Letters, Pattern};
+use pcl_shapes::{Letter, Letters, Pattern, Patterns};
 use std::alloc::{AllocError, Global};
 
 /// What of a job is printed as text.
 #[derive(Drop)]
 pub struct Layout {
-    pub patterns: IndexSet<Pattern>,
+    pub patterns: Patterns,
     pub letters: Letters,
     pub spacing: Spacing,
 }
 
 impl Layout {
     /// The pattern of a glyph.
-    pub fn pattern_of(&self, glyph: u32) -> Option<&Pattern> {
+    pub fn pattern_of(&self, glyph: u32) -> Option<Pattern<'_>> {
         self.letters.pattern_of(&self.patterns, glyph)
     }
 }
 
 /// The layout of these letters: those whose characters are sent.
-pub fn lay_out(
-    alloc: Global,
-    patterns: IndexSet<Pattern>,
-    letters: Letters,
-) -> Result<Layout, AllocError> {
+pub fn lay_out(alloc: Global, patterns: Patterns, letters: Letters) -> Result<Layout, AllocError> {
     let mut letters = letters;
     let spacing = Spacing::new(alloc, &patterns, &letters)?;
     letters.letters.retain(|letter: &Letter| -> bool {

@@ -1,8 +1,8 @@
 //! How far letters advance, and what makes the gaps that differ.
 
 use crate::codes::{Code, code_of_rank};
-use indexmap::{IndexMap, IndexSet};
-use pcl_shapes::{Form, Letter, Letters, Pattern, number_of_place};
+use indexmap::IndexMap;
+use pcl_shapes::{Letter, Letters, Patterns, number_of_place};
 use std::alloc::{AllocError, Global};
 
 /// The usual advance of a glyph is the least that at least one in so many of its letters has.
@@ -37,11 +37,7 @@ pub struct Spacing {
 
 impl Spacing {
     /// The spacing of the letters of a job.
-    pub fn new(
-        alloc: Global,
-        patterns: &IndexSet<Pattern>,
-        found: &Letters,
-    ) -> Result<Spacing, AllocError> {
+    pub fn new(alloc: Global, patterns: &Patterns, found: &Letters) -> Result<Spacing, AllocError> {
         let gaps = count_gaps(alloc, &found.letters)?;
         let uses = count_uses(alloc, &found.letters, found.glyphs.len())?;
         Spacing::of_gaps(alloc, patterns, found, &gaps, &uses)
@@ -50,7 +46,7 @@ impl Spacing {
     /// The spacing of letters whose glyphs are followed so, and used so often.
     fn of_gaps(
         alloc: Global,
-        patterns: &IndexSet<Pattern>,
+        patterns: &Patterns,
         found: &Letters,
         gaps: &IndexMap<Character, u32>,
         uses: &[u32],
@@ -125,7 +121,7 @@ fn count_uses(alloc: Global, letters: &[Letter], glyphs: usize) -> Result<Vec<u3
 /// For each glyph, the advance of its usual character: the least frequent enough, or the width where none is.
 fn usual_advances(
     alloc: Global,
-    patterns: &IndexSet<Pattern>,
+    patterns: &Patterns,
     found: &Letters,
     gaps: &IndexMap<Character, u32>,
     uses: &[u32],
@@ -142,7 +138,7 @@ fn usual_advances(
     for (advance, glyph) in usual.iter_mut().zip(found.glyphs.iter()) {
         if *advance == u32::MAX {
             *advance = patterns
-                .get_index(glyph.pattern as usize)
+                .get(glyph.pattern)
                 .map_or(0, |pattern| pattern.width);
         }
     }
@@ -152,7 +148,7 @@ fn usual_advances(
 /// The characters: the usual one of each glyph, and others of advances so frequent that they save more than they take.
 fn find_characters(
     alloc: Global,
-    patterns: &IndexSet<Pattern>,
+    patterns: &Patterns,
     found: &Letters,
     gaps: &IndexMap<Character, u32>,
     uses: &[u32],
@@ -177,9 +173,9 @@ fn find_characters(
 }
 
 /// Whether a character that is used so often saves more bytes than it takes, where each use saves one.
-fn pays(patterns: &IndexSet<Pattern>, found: &Letters, character: Character, count: u32) -> bool {
-    match found.pattern_of(patterns, character.glyph) {
-        Some(pattern) => count as usize > Form::Characters.definition_bytes(pattern),
+fn pays(patterns: &Patterns, found: &Letters, character: Character, count: u32) -> bool {
+    match found.glyphs.get_index(character.glyph as usize) {
+        Some(glyph) => count as usize > patterns.definition_bytes(glyph.pattern),
         None => false,
     }
 }

@@ -3,10 +3,9 @@
 ghost use Rattle.std.specs.Prelude.{◌≡◌};
 ghost use Rattle.pcl_bitmap.specs.Bitmap.{IsPicture};
 
-use indexmap::IndexSet;
 use pcl_bitmap::{Bitmap, Page};
 use pcl_plan::plan;
-use pcl_shapes::{Ink, Letter, Letters, Pattern, Place, stamp};
+use pcl_shapes::{Ink, Letter, Letters, Patterns, Place, stamp};
 use pcl_writer::write_page;
 use std::alloc::{AllocError, Global};
 
@@ -19,7 +18,7 @@ pub const FORM_FEED: u8 = 12;
 /// Appends a page text of what of a page isn't one of some letters, without its form feed.
 pub fn append_raster(
     alloc: Global,
-    patterns: &IndexSet<Pattern>,
+    patterns: &Patterns,
     found: &Letters,
     letters: &[Letter],
     page: &Page,
@@ -35,7 +34,7 @@ pub fn append_raster(
 /// A page without the dots of some letters.
 fn page_without(
     alloc: Global,
-    patterns: &IndexSet<Pattern>,
+    patterns: &Patterns,
     found: &Letters,
     letters: &[Letter],
     page: &Page,
@@ -53,7 +52,7 @@ fn page_without(
 /// Paints a page without the dots of some letters, a band of rows at a time.
 fn paint_without(
     alloc: Global,
-    patterns: &IndexSet<Pattern>,
+    patterns: &Patterns,
     found: &Letters,
     letters: &[Letter],
     whole: &Bitmap,
@@ -65,13 +64,14 @@ fn paint_without(
 {
     let row_bytes = bitmap.size().row_bytes(bitmap.dpi());
     let band_bytes = row_bytes.saturating_mul(BAND_ROWS as usize).max(1);
+    let white = vec![in alloc; 0u8; row_bytes]?;
     let mut bytes = Vec::new(alloc);
     let mut top: u32 = 0;
     for band in whole.bytes().chunks(band_bytes) {
         bytes.clear();
         bytes.extend_from_slice(band)?;
         whiten(&mut bytes, row_bytes, top, patterns, found, letters);
-        paint(&bytes, row_bytes, top, bitmap);
+        paint(&bytes, &white, top, bitmap);
         top = top.saturating_add(BAND_ROWS);
     }
     Ok(())
@@ -82,7 +82,7 @@ fn whiten(
     bytes: &mut [u8],
     row_bytes: usize,
     top: u32,
-    patterns: &IndexSet<Pattern>,
+    patterns: &Patterns,
     found: &Letters,
     letters: &[Letter],
 ) {
@@ -102,17 +102,19 @@ fn whiten(
     }
 }
 
-/// Paints rows of so many bytes from row `top` on.
-fn paint(bytes: &[u8], row_bytes: usize, top: u32, bitmap: &mut Bitmap)
+/// Paints rows as long as a white one from row `top` on. White ones are passed over.
+fn paint(bytes: &[u8], white: &[u8], top: u32, bitmap: &mut Bitmap)
     ensures size { bitmap.new.size ≡ bitmap.old.size }
     ensures dpi { bitmap.new.dpi ≡ bitmap.old.dpi }
     ensures picture { IsPicture bitmap.new }
 {
     let page_width = bitmap.size().width(bitmap.dpi());
     let mut y = u64::from(top);
-    for row in bytes.chunks(row_bytes.max(1)) {
-        let bits = u32::try_from(row.len()).map_or(0, |bytes| bytes.saturating_mul(8));
-        bitmap.paint_row(0, y, 1, page_width.min(bits), row);
+    for row in bytes.chunks(white.len().max(1)) {
+        if row != white {
+            let bits = u32::try_from(row.len()).map_or(0, |bytes| bytes.saturating_mul(8));
+            bitmap.paint_row(0, y, 1, page_width.min(bits), row);
+        }
         y = y.saturating_add(1);
     }
 }

@@ -14,7 +14,7 @@ pub fn find_letters(alloc: Global, collection: &Collection) -> Result<Letters, A
     for item in collection.items.iter() {
         let pattern = item.pattern;
         let top = tops.get(pattern as usize).copied().unwrap_or(0);
-        let baseline = item.top.saturating_add(top);
+        let baseline = u32::from(item.top).saturating_add(top);
         let height = collection.height_of(item.page);
         if frequency.is_letter(pattern) && baseline <= height {
             let (glyph, _) = glyphs.insert_full(Glyph { pattern, top })?;
@@ -28,9 +28,9 @@ pub fn find_letters(alloc: Global, collection: &Collection) -> Result<Letters, A
 /// The letter that a shape becomes.
 fn letter_of(item: &Item, baseline: u32, glyph: u32) -> Letter {
     Letter {
-        page: item.page,
+        page: u32::from(item.page),
         baseline,
-        x: item.x,
+        x: u32::from(item.x),
         glyph,
     }
 }
@@ -39,7 +39,7 @@ fn letter_of(item: &Item, baseline: u32, glyph: u32) -> Letter {
 fn stand_of(item: &Item) -> Glyph {
     Glyph {
         pattern: item.pattern,
-        top: item.baseline.saturating_sub(item.top),
+        top: u32::from(item.baseline.saturating_sub(item.top)),
     }
 }
 

@@ -1,8 +1,8 @@
 //! Shapes that stand above each other on a line, as the dot and the stem of an i do, joined to one where that takes fewer bytes.
 
 use crate::frequency::{Frequency, count_uses, find_frequency};
-use indexmap::{IndexMap, IndexSet};
-use pcl_shapes::{Collection, Form, Item, Pattern, number_of_place};
+use indexmap::IndexMap;
+use pcl_shapes::{Collection, Drawing, Form, Item, Pattern, Patterns, short_number};
 use std::alloc::{AllocError, Global};
 
 /// How often shapes are joined two by two, in rounds: one of the last round has up to eight parts.
@@ -96,18 +96,18 @@ fn count_pairs(
 }
 
 /// The pair of two shapes, the first of which begins no further right: none where they stand on two lines, or beside each other.
-fn pair_of(patterns: &IndexSet<Pattern>, first: &Item, second: &Item) -> Option<Pair> {
+fn pair_of(patterns: &Patterns, first: &Item, second: &Item) -> Option<Pair> {
     if first.page != second.page || first.baseline != second.baseline {
         return None;
     }
-    let right = second.x.checked_sub(first.x)?;
-    let width = patterns.get_index(first.pattern as usize)?.width;
+    let right = u32::from(second.x.checked_sub(first.x)?);
+    let width = patterns.get(first.pattern)?.width;
     (right < width).then_some(Pair {
         first: first.pattern,
         second: second.pattern,
         right,
-        first_down: first.top.saturating_sub(second.top),
-        second_down: second.top.saturating_sub(first.top),
+        first_down: u32::from(first.top.saturating_sub(second.top)),
+        second_down: u32::from(second.top.saturating_sub(first.top)),
     })
 }
 
@@ -136,27 +136,30 @@ impl<'a> Apart<'a> {
         pair: Pair,
         count: usize,
     ) -> Result<bool, AllocError> {
-        let form = collection.form;
+        let patterns = &collection.patterns;
         let freed = self.freed_by_pair(collection, pair, count);
-        if freed <= form.least_definition_bytes() {
+        // What prints both is taken to need no fewer bytes than what prints one of them.
+        let least = patterns.definition_bytes(pair.first);
+        if freed <= least.max(patterns.definition_bytes(pair.second)) {
             return Ok(false);
         }
         match draw_pair(alloc, collection, pair)? {
-            Some(joined) => Ok(self.joined_bytes(form, pair, &joined, count) < freed),
+            Some(joined) => Ok(
+                self.joined_bytes(collection.form, pair, joined.pattern(), count) < freed,
+            ),
             None => Ok(false),
         }
     }
 
     /// About how many bytes a pair takes that is joined so often to this pattern.
-    fn joined_bytes(self, form: Form, pair: Pair, joined: &Pattern, count: usize) -> usize {
+    fn joined_bytes(self, form: Form, pair: Pair, joined: Pattern<'_>, count: usize) -> usize {
+        let definition = form.definition_bytes(joined, joined.changes());
         let is_letter = self.frequency.is_letter(pair.first)
             || self.frequency.is_letter(pair.second);
         if is_letter {
-            count
-                .saturating_mul(CODE_BYTES)
-                .saturating_add(form.definition_bytes(joined))
+            count.saturating_mul(CODE_BYTES).saturating_add(definition)
         } else {
-            form.bytes_of_letters(joined, count)
+            form.bytes_of_letters(definition, count)
         }
     }
 
@@ -175,9 +178,10 @@ impl<'a> Apart<'a> {
         if !self.frequency.is_letter(pattern) {
             return self.frequency.raster_bytes(pattern, count, all);
         }
-        let definition = match collection.patterns.get_index(pattern as usize) {
-            Some(pattern) if all <= count => collection.form.definition_bytes(pattern),
-            _ => 0,
+        let definition = if all <= count {
+            collection.patterns.definition_bytes(pattern)
+        } else {
+            0
         };
         definition.saturating_add(count.saturating_mul(CODE_BYTES))
     }
@@ -188,22 +192,21 @@ fn draw_pair(
     alloc: Global,
     collection: &Collection,
     pair: Pair,
-) -> Result<Option<Pattern>, AllocError> {
+) -> Result<Option<Drawing>, AllocError> {
     let patterns = &collection.patterns;
-    let (Some(first), Some(second)) = (
-        patterns.get_index(pair.first as usize),
-        patterns.get_index(pair.second as usize),
-    ) else {
+    let (Some(first), Some(second)) = (patterns.get(pair.first), patterns.get(pair.second)) else {
         return Ok(None);
     };
     let width = first.width.max(second.width.saturating_add(pair.right));
     let upper = first.height.saturating_add(pair.first_down);
     let height = upper.max(second.height.saturating_add(pair.second_down));
     let scale = collection.form.scale();
-    let mut joined = Pattern::white(alloc, width, height, scale)?;
+    let Some(mut joined) = Drawing::white(alloc, width, height, scale)? else {
+        return Ok(None);
+    };
     joined.blacken_with(first, 0, pair.first_down);
     joined.blacken_with(second, pair.right, pair.second_down);
-    Ok((!joined.rows.is_empty()).then_some(joined))
+    Ok(Some(joined))
 }
 
 /// How often each of these pairs would be joined.
@@ -252,9 +255,11 @@ fn join(
 ) -> Result<(), AllocError> {
     let mut numbers = IndexMap::new(alloc);
     for pair in pairs.keys() {
-        if let Some(pattern) = draw_pair(alloc, collection, *pair)? {
-            let (number, _) = collection.patterns.insert_full(pattern)?;
-            numbers.insert(*pair, number_of_place(number))?;
+        if let Some(joined) = draw_pair(alloc, collection, *pair)? {
+            let number = collection
+                .patterns
+                .number_of_drawing(&joined, collection.form)?;
+            numbers.insert(*pair, number)?;
         }
     }
     join_items(collection, pairs, &numbers);
@@ -294,7 +299,7 @@ fn joined_item(first: Item, pair: Option<Pair>, numbers: &IndexMap<Pair, u32>) -
         page: first.page,
         baseline: first.baseline,
         x: first.x,
-        top: first.top.saturating_sub(pair.first_down),
+        top: first.top.saturating_sub(short_number(pair.first_down)),
         pattern: numbers.get(&pair).copied().unwrap_or(first.pattern),
     }
 }

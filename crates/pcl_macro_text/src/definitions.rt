@@ -78,7 +78,7 @@ fn append_way(layout: &MacroLayout, glyph: u32, out: &mut Vec<u8>) -> Result<(),
 
 /// Appends the rows of a pattern, by method 3. Rows without data, which are like the row above, stand in one sequence with
 /// the next one that has some.
-fn append_rows(alloc: Global, pattern: &Pattern, out: &mut Vec<u8>) -> Result<(), AllocError> {
+fn append_rows(alloc: Global, pattern: Pattern<'_>, out: &mut Vec<u8>) -> Result<(), AllocError> {
     let size = pattern.row_bytes();
     let mut above: &[u8] = &[];
     let mut is_open = false;

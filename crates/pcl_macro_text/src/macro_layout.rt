@@ -4,8 +4,7 @@ use crate::macros::Macros;
 use crate::marks::find_script;
 use crate::metrics::{Metrics, find_metrics};
 use crate::phrases::{Text, find_phrases};
-use indexmap::IndexSet;
-use pcl_shapes::{Letters, Pattern};
+use pcl_shapes::{Letters, Patterns};
 use std::alloc::{AllocError, Global};
 
 /// How many glyphs have macros, at most: there are twice as many IDs.
@@ -14,7 +13,7 @@ const GLYPH_LIMIT: u32 = 16_384;
 /// What of a job is printed by macros.
 #[derive(Drop)]
 pub struct MacroLayout {
-    pub patterns: IndexSet<Pattern>,
+    pub patterns: Patterns,
     pub letters: Letters,
     pub plan: MacroPlan,
 }
@@ -31,7 +30,7 @@ pub struct MacroPlan {
 pub fn lay_out_macros(
     alloc: Global,
     widths: &[u32],
-    patterns: IndexSet<Pattern>,
+    patterns: Patterns,
     letters: Letters,
 ) -> Result<MacroLayout, AllocError> {
     let mut letters = letters;

@@ -21,7 +21,7 @@ pub fn count_bottoms(
     let mut counts = vec![in alloc; 0u32; rows]?;
     for extent in extents {
         if extent.height() <= limit {
-            if let Some(count) = counts.get_mut(extent.bottom as usize) {
+            if let Some(count) = counts.get_mut(usize::from(extent.bottom)) {
                 *count = count.saturating_add(1);
             }
         }
@@ -32,9 +32,9 @@ pub fn count_bottoms(
 /// The row on which a shape seems to stand: of the rows from its middle to a little below it the one above which most
 /// shapes end.
 pub fn guess_baseline(extent: Extent, bottoms: &[u32], scale: u32) -> u32 {
-    let middle = extent.top.saturating_add(extent.height() / 2);
-    let last = extent.bottom.saturating_add(REACH.saturating_mul(scale));
-    let mut best = extent.bottom;
+    let middle = u32::from(extent.top).saturating_add(extent.height() / 2);
+    let last = u32::from(extent.bottom).saturating_add(REACH.saturating_mul(scale));
+    let mut best = u32::from(extent.bottom);
     let mut most = bottoms.get(best as usize).copied().unwrap_or(0);
     let rows = bottoms.get(middle as usize..).unwrap_or(&[]);
     for (y, count) in (middle..last).zip(rows.iter()) {

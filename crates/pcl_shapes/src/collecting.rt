@@ -1,15 +1,17 @@
 //! The shapes of all pages of a job.
 
 use crate::baselines::{count_bottoms, guess_baseline};
-use crate::drawing::{Drawings, draw_shapes};
+use crate::drawing::Drawings;
 use crate::forms::Form;
-use crate::numbers::number_of_place;
+use crate::numbers::{number_of_place, short_number};
+use crate::pattern_set::Patterns;
 use crate::patterns::Pattern;
 use crate::rows::{Row, append_rows};
+use crate::runs::RowWalk;
+use crate::screening::screen_shapes;
 use crate::shapes::{Extent, find_shapes};
-use indexmap::IndexSet;
 use pcl_base::Dpi;
-use pcl_bitmap::{Page, PageSink};
+use pcl_bitmap::{Bitmap, Page, PageSink};
 use std::alloc::{AllocError, Global};
 use std::marker::Model;
 
@@ -20,18 +22,19 @@ const ITEM_LIMIT: usize = 4_000_000;
 #[derive(Clone, Copy, PartialEq, Eq, PartialOrd, Ord)]
 pub struct Item {
     /// The number of its page, from 0.
-    pub page: u32,
+    pub page: u16,
     /// The row on which it seems to stand.
-    pub baseline: u32,
+    pub baseline: u16,
     /// The dot of its left edge.
-    pub x: u32,
+    pub x: u16,
     /// Its topmost row.
-    pub top: u32,
+    pub top: u16,
     /// The number of its pattern.
     pub pattern: u32,
 }
 
-/// The shapes of the pages that came, in order. Shapes that are too large aren't kept.
+/// The shapes of the pages that came, in order. Shapes that are too large aren't kept, nor those that stay in the raster whatever becomes
+/// of the others.
 #[derive(Drop)]
 pub struct Collection {
     /// How its letters will be printed.
@@ -41,7 +44,7 @@ pub struct Collection {
     /// The height of each page, in dots.
     pub heights: Vec<u32>,
     /// The patterns of the shapes, each once.
-    pub patterns: IndexSet<Pattern>,
+    pub patterns: Patterns,
     pub items: Vec<Item>,
     /// The rows of the pages in turn, each page's with a white one below them.
     pub rows: Vec<Row>,
@@ -63,7 +66,7 @@ impl Collection {
             form: Form::at(dpi),
             widths: Vec::new(alloc),
             heights: Vec::new(alloc),
-            patterns: IndexSet::new(alloc),
+            patterns: Patterns::new(alloc),
             items: Vec::new(alloc),
             rows: Vec::new(alloc),
             starts: Vec::new(alloc),
@@ -71,8 +74,8 @@ impl Collection {
     }
 
     /// The height of a page, in dots.
-    pub fn height_of(&self, page: u32) -> u32 {
-        self.heights.get(page as usize).copied().unwrap_or(0)
+    pub fn height_of(&self, page: u16) -> u32 {
+        self.heights.get(usize::from(page)).copied().unwrap_or(0)
     }
 
     /// Collects the shapes of a page, and what its rows take.
@@ -80,60 +83,89 @@ impl Collection {
         let alloc = *self.items.allocator();
         let scale = self.form.scale();
         let shapes = find_shapes(alloc, &page.bitmap)?;
-        let start = self.rows.len();
+        let first = self.rows.len();
         append_rows(&page.bitmap, &mut self.rows)?;
-        let start = start.min(self.rows.len());
-        let rows = &mut self.rows[start..];
-        let drawings = draw_shapes(alloc, &page.bitmap, &shapes, scale, rows)?;
+        let first = first.min(self.rows.len());
+        let stay = screen_shapes(alloc, &shapes.extents, &mut self.rows[first..])?;
+        if stay.iter().all(|stays| *stays) {
+            return Ok(());
+        }
+        let mut drawings = Drawings::new(alloc, &shapes, &stay, scale)?;
         let height = page.size.height(page.dpi);
         let bottoms = count_bottoms(alloc, height, &shapes.extents, scale)?;
-        self.collect_shapes(&shapes.extents, &drawings, &bottoms)
+        self.collect_rows(&page.bitmap, first, &mut drawings, &bottoms)
     }
 
-    /// Collects the shapes of a page that have these boxes and drawings. So many shapes end above each of its rows.
-    fn collect_shapes(
+    /// Draws the shapes of a page, of whose rows the first is in this place, and collects them. So many shapes end above each of its rows.
+    fn collect_rows(
         &mut self,
-        extents: &[Extent],
-        drawings: &Drawings,
+        bitmap: &Bitmap,
+        first: usize,
+        drawings: &mut Drawings<'_>,
         bottoms: &[u32],
     ) -> Result<(), AllocError> {
-        let page = number_of_place(self.heights.len());
-        let scale = self.form.scale();
         let start = self.items.len();
-        for (place, extent) in extents.iter().enumerate() {
-            let rows = drawings.rows_of(place);
-            if !rows.is_empty() {
-                let pattern = self.number_of_pattern(*extent, rows)?;
-                let baseline = guess_baseline(*extent, bottoms, scale);
-                self.items.push(item_of(page, pattern, *extent, baseline))?;
+        let mut walk = RowWalk::new(*self.items.allocator());
+        for y in 0..bitmap.size().height(bitmap.dpi()) {
+            walk.step(bitmap, y)?;
+            let others = drawings.draw_row(short_number(y), &walk.runs)?;
+            if let Some(row) = self.rows.get_mut(first.saturating_add(y as usize)) {
+                row.others = row.others.saturating_add(others);
             }
+            self.collect_whole(short_number(y), first, drawings, bottoms)?;
         }
         let start = start.min(self.items.len());
         self.items[start..].sort_unstable();
         Ok(())
     }
 
-    /// The number of the pattern of a shape with this box and these rows.
-    fn number_of_pattern(&mut self, extent: Extent, rows: &[u8]) -> Result<u32, AllocError> {
-        let pattern = Pattern {
-            width: extent.width(),
-            height: extent.height(),
-            rows: Vec::from_slice(*self.items.allocator(), rows)?,
-        };
-        let (number, _) = self.patterns.insert_full(pattern)?;
-        Ok(number_of_place(number))
+    /// Collects the shapes that are whole once row `y` is drawn.
+    fn collect_whole(
+        &mut self,
+        y: u16,
+        first: usize,
+        drawings: &mut Drawings<'_>,
+        bottoms: &[u32],
+    ) -> Result<(), AllocError> {
+        let end = drawings.end_of_whole(y);
+        for number in drawings.first()..end {
+            if let Some((extent, pattern)) = drawings.shape(number) {
+                self.collect_shape(extent, pattern, first, bottoms)?;
+            }
+        }
+        drawings.forget(end);
+        Ok(())
+    }
+
+    /// Collects a shape with this box.
+    fn collect_shape(
+        &mut self,
+        extent: Extent,
+        pattern: Pattern<'_>,
+        first: usize,
+        bottoms: &[u32],
+    ) -> Result<(), AllocError> {
+        let page = number_of_place(self.heights.len());
+        let baseline = guess_baseline(extent, bottoms, self.form.scale());
+        let rows = rows_of(&self.rows, first, extent);
+        let pattern = self.patterns.number_of_shape(pattern, self.form, rows)?;
+        self.items.push(Item {
+            page: short_number(page),
+            baseline: short_number(baseline),
+            x: extent.left,
+            top: extent.top,
+            pattern,
+        })?;
+        Ok(())
     }
 }
 
-/// The shape with this box.
-fn item_of(page: u32, pattern: u32, extent: Extent, baseline: u32) -> Item {
-    Item {
-        page,
-        pattern,
-        x: extent.left,
-        top: extent.top,
-        baseline,
-    }
+/// The rows that the shape with this box is in, with the one below it, of the page whose first row is in this place.
+fn rows_of(rows: &[Row], first: usize, extent: Extent) -> &[Row] {
+    let start = first.saturating_add(usize::from(extent.top));
+    let end = first.saturating_add(usize::from(extent.bottom));
+    let rows = rows.get(..end.saturating_add(1)).unwrap_or(&[]);
+    rows.get(start..).unwrap_or(&[])
 }
 
 impl PageSink for Collection {

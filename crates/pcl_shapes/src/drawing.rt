@@ -1,73 +1,181 @@
 //! The dots of the shapes of a page.
 
 use crate::numbers::number_of_place;
-use crate::patterns::rows_len;
-use crate::rows::Row;
-use crate::runs::{RowWalk, Run};
+use crate::patterns::{Pattern, row_bytes_of, rows_len};
+use crate::runs::Run;
 use crate::shapes::{Extent, Shapes};
-use pcl_bitmap::Bitmap;
 use std::alloc::{AllocError, Global};
 
-/// How many bytes the drawings of one page may have together.
-const PAGE_BYTES_LIMIT: usize = 16_777_216;
+/// How many bytes drawings may have together that are held at once.
+const HELD_BYTES_LIMIT: usize = 2_097_152;
 
-/// The dots of the shapes of a page that aren't too large for letters: in the smallest box around each, rows of whole bytes.
+/// The dots of shapes of a page, in the smallest box around each, rows of whole bytes. Those are drawn that aren't too large for letters
+/// and don't stay in the raster. Rows of the page are drawn in turn, and what is drawn is held until it is forgotten; a shape for which
+/// there is no room isn't drawn.
 #[derive(Drop)]
-pub struct Drawings {
-    /// The rows of all of them in turn.
-    bytes: Vec<u8>,
-    /// Where the rows of each shape begin, and where those of the last one end.
+pub struct Drawings<'a> {
+    shapes: &'a Shapes,
+    /// For each shape, whether it stays in the raster.
+    stay: &'a [bool],
+    /// How many dots are one at 300 dots per inch.
+    scale: u32,
+    /// Where the rows of each shape that began begin in those of all shapes in turn, and where those of the last one end.
     starts: Vec<u32>,
+    /// The rows of shapes that are held.
+    bytes: Vec<u8>,
+    /// How many bytes of the rows of all shapes come before those.
+    before: usize,
+    /// How many shapes began above or in the last row.
+    begun: usize,
+    /// How many shapes were forgotten.
+    forgotten: usize,
 }
 
-impl Drawings {
-    /// White boxes for shapes of these extents.
-    fn blank(alloc: Global, extents: &[Extent], scale: u32) -> Result<Drawings, AllocError> {
+impl<'a> Drawings<'a> {
+    /// Above the topmost row. `stay` says of each shape whether it stays in the raster.
+    pub fn new(
+        alloc: Global,
+        shapes: &'a Shapes,
+        stay: &'a [bool],
+        scale: u32,
+    ) -> Result<Drawings<'a>, AllocError> {
         let mut starts = Vec::new(alloc);
-        let mut len: usize = 0;
-        for extent in extents {
-            starts.push(number_of_place(len))?;
-            let all = len.saturating_add(rows_len(extent.width(), extent.height(), scale));
-            if all <= PAGE_BYTES_LIMIT {
-                len = all;
+        starts.push(0)?;
+        Ok(Drawings {
+            shapes,
+            stay,
+            scale,
+            starts,
+            bytes: Vec::new(alloc),
+            before: 0,
+            begun: 0,
+            forgotten: 0,
+        })
+    }
+
+    /// Draws row `y`, the next one, which has these runs, and counts the runs of shapes that aren't drawn and don't stay.
+    pub fn draw_row(&mut self, y: u16, runs: &[Run]) -> Result<u16, AllocError> {
+        self.begin(y)?;
+        let mut others: u16 = 0;
+        for run in runs {
+            let number = self.shapes.number_of(*run);
+            if self.stay.get(number) == Some(&true) {
+                continue;
+            }
+            match self.shapes.extents.get(number) {
+                Some(extent) if self.has(number) => self.blacken(number, *extent, y, *run),
+                _ => others = others.saturating_add(1),
             }
         }
-        starts.push(number_of_place(len))?;
-        let bytes = vec![in alloc; 0; len]?;
-        Ok(Drawings { bytes, starts })
+        Ok(others)
     }
 
-    /// The rows of a shape: none where it is too large.
-    pub fn rows_of(&self, number: usize) -> &[u8] {
-        let end = self.start_of(number.saturating_add(1));
-        let rows = self.bytes.get(..end).unwrap_or(&[]);
-        rows.get(self.start_of(number)..).unwrap_or(&[])
+    /// Begins the shapes whose topmost row is `y`, with white boxes.
+    fn begin(&mut self, y: u16) -> Result<(), AllocError> {
+        let begun = self.begun;
+        let count = count_down_to(&self.shapes.extents, begun, y);
+        let mut len = self.bytes.len();
+        for number in begun..begun.saturating_add(count) {
+            let all = len.saturating_add(self.len_of(number));
+            if all <= HELD_BYTES_LIMIT {
+                len = all;
+            }
+            let end = self.before.saturating_add(len);
+            self.starts.push(number_of_place(end))?;
+        }
+        self.begun = begun.saturating_add(count);
+        self.bytes.resize(len, 0)
     }
 
-    /// Whether a shape is drawn: it isn't too large.
+    /// How many bytes the rows of a shape have: none where it stays in the raster or is too large.
+    fn len_of(&self, number: usize) -> usize {
+        if self.stay.get(number) == Some(&true) {
+            return 0;
+        }
+        match self.shapes.extents.get(number) {
+            Some(extent) => rows_len(extent.width(), extent.height(), self.scale),
+            None => 0,
+        }
+    }
+
+    /// The first shape that isn't forgotten.
+    pub fn first(&self) -> usize {
+        self.forgotten
+    }
+
+    /// The first shape that isn't forgotten and isn't whole once row `y` is drawn.
+    pub fn end_of_whole(&self, y: u16) -> usize {
+        let mut number = self.forgotten;
+        for extent in self.shapes.extents.get(number..).unwrap_or(&[]) {
+            let goes_on = extent.bottom > y.saturating_add(1) && self.has(number);
+            if extent.top > y || goes_on {
+                break;
+            }
+            number = number.saturating_add(1);
+        }
+        number
+    }
+
+    /// A shape that is held: none where it isn't drawn.
+    pub fn shape(&self, number: usize) -> Option<(Extent, Pattern<'_>)> {
+        let extent = self.shapes.extents.get(number)?;
+        let end = self.place_of(number.saturating_add(1));
+        let rows = self.bytes.get(..end)?.get(self.place_of(number)..)?;
+        let pattern = Pattern {
+            width: extent.width(),
+            height: extent.height(),
+            rows,
+        };
+        (!rows.is_empty()).then_some((*extent, pattern))
+    }
+
+    /// Forgets the shapes before this one. Their bytes go once they are half of those that are held.
+    pub fn forget(&mut self, number: usize) {
+        self.forgotten = number;
+        let count = self.place_of(number);
+        if count > self.bytes.len() / 2 && count <= self.bytes.len() {
+            self.bytes.copy_within(count.., 0);
+            self.bytes.truncate(self.bytes.len().saturating_sub(count));
+            self.before = self.before.saturating_add(count);
+        }
+    }
+
+    /// Whether a shape is drawn.
     fn has(&self, number: usize) -> bool {
         self.start_of(number) < self.start_of(number.saturating_add(1))
     }
 
-    /// Where the rows of a shape begin.
+    /// Where the rows of a shape begin in those of all shapes.
     fn start_of(&self, number: usize) -> usize {
         self.starts.get(number).copied().unwrap_or(0) as usize
     }
 
+    /// Where the rows of a shape begin in those that are held.
+    fn place_of(&self, number: usize) -> usize {
+        self.start_of(number).saturating_sub(self.before)
+    }
+
     /// Makes the dots of a run of row `y` black, in the box of the shape with this extent.
-    fn blacken(&mut self, number: usize, extent: Extent, y: u32, run: Run) {
-        let row_bytes = (extent.width() as usize).div_ceil(8);
-        let row = y.saturating_sub(extent.top) as usize;
-        let start = self
-            .start_of(number)
-            .saturating_add(row.saturating_mul(row_bytes));
-        let left = u32::from(run.start).saturating_sub(extent.left);
-        let right = u32::from(run.end).saturating_sub(extent.left);
+    fn blacken(&mut self, number: usize, extent: Extent, y: u16, run: Run) {
+        let row = usize::from(y.saturating_sub(extent.top));
+        let start = row.saturating_mul(row_bytes_of(extent.width()));
+        let start = self.place_of(number).saturating_add(start);
+        let left = u32::from(run.start.saturating_sub(extent.left));
+        let right = u32::from(run.end.saturating_sub(extent.left));
         for place in left / 8..right.div_ceil(8) {
             if let Some(byte) = self.bytes.get_mut(start.saturating_add(place as usize)) {
                 *byte |= dots_of_byte(place, left, right);
             }
         }
+    }
+}
+
+/// How many boxes from a place on begin no further down than row `y`, before the first one that does.
+fn count_down_to(extents: &[Extent], from: usize, y: u16) -> usize {
+    let later = extents.get(from..).unwrap_or(&[]);
+    match later.iter().position(|extent| extent.top > y) {
+        Some(count) => count,
+        None => later.len(),
     }
 }
 
@@ -81,37 +189,4 @@ fn dots_of_byte(place: u32, left: u32, right: u32) -> u8 {
         bits &= !(0xFF >> (right % 8));
     }
     bits
-}
-
-/// The dots of the shapes of a page. Runs of others are counted in the rows of the page. `scale` dots are one at 300 dots per inch.
-pub fn draw_shapes(
-    alloc: Global,
-    bitmap: &Bitmap,
-    shapes: &Shapes,
-    scale: u32,
-    rows: &mut [Row],
-) -> Result<Drawings, AllocError> {
-    let mut drawings = Drawings::blank(alloc, &shapes.extents, scale)?;
-    let mut walk = RowWalk::new(alloc);
-    for y in 0..bitmap.size().height(bitmap.dpi()) {
-        walk.step(bitmap, y)?;
-        let others = draw_runs(shapes, y, &walk.runs, &mut drawings);
-        if let Some(row) = rows.get_mut(y as usize) {
-            row.others = others;
-        }
-    }
-    Ok(drawings)
-}
-
-/// Draws the runs of row `y`, and counts those of shapes that are too large.
-fn draw_runs(shapes: &Shapes, y: u32, runs: &[Run], drawings: &mut Drawings) -> u16 {
-    let mut others: u16 = 0;
-    for run in runs {
-        let number = shapes.number_of(*run);
-        match shapes.extents.get(number) {
-            Some(extent) if drawings.has(number) => drawings.blacken(number, *extent, y, *run),
-            _ => others = others.saturating_add(1),
-        }
-    }
-    others
 }

@@ -1,6 +1,7 @@
 //! How letters are printed, and what that takes.
 
-use crate::patterns::Pattern;
+use crate::patterns::{Changes, Pattern};
+use crate::rows::ROW_BYTES;
 use pcl_base::Dpi;
 
 /// The bytes around a pattern where it is sent as a character: the commands, with the descriptor's 16 bytes.
@@ -9,9 +10,6 @@ const CHARACTER_BYTES: usize = 29;
 /// The bytes around the rows of a pattern where it is sent as a macro: the commands that begin and end it, and those that lead to
 /// the raster and away from it.
 const MACRO_BYTES: usize = 50;
-
-/// The bytes around the data of a row, `ESC*b#W`.
-const ROW_BYTES: usize = 5;
 
 /// How letters are printed.
 #[derive(Clone, Copy, Debug, PartialEq, Eq)]
@@ -47,20 +45,11 @@ impl Form {
         }
     }
 
-    /// No fewer bytes than these take what prints a pattern, once for the job.
-    pub fn least_definition_bytes(self) -> usize {
-        match self {
-            Form::Characters => CHARACTER_BYTES,
-            Form::Macros => MACRO_BYTES,
-        }
-    }
-
-    /// How many bytes what prints a pattern takes, once for the job.
-    pub fn definition_bytes(self, pattern: &Pattern) -> usize {
+    /// How many bytes what prints a pattern takes, once for the job, where this differs from row to row.
+    pub fn definition_bytes(self, pattern: Pattern<'_>, changes: Changes) -> usize {
         match self {
             Form::Characters => pattern.rows.len().saturating_add(CHARACTER_BYTES),
             Form::Macros => {
-                let changes = pattern.changes();
                 let rows = changes.rows.saturating_mul(ROW_BYTES);
                 let bytes = changes.bytes.saturating_add(pattern.height as usize);
                 rows.saturating_add(bytes).saturating_add(MACRO_BYTES)
@@ -68,10 +57,10 @@ impl Form {
         }
     }
 
-    /// About how many bytes so many letters of a pattern take, with what prints it.
-    pub fn bytes_of_letters(self, pattern: &Pattern, count: usize) -> usize {
+    /// About how many bytes so many letters of a pattern take, where what prints it takes so many.
+    pub fn bytes_of_letters(self, definition: usize, count: usize) -> usize {
         count
             .saturating_mul(self.letter_bytes())
-            .saturating_add(self.definition_bytes(pattern))
+            .saturating_add(definition)
     }
 }

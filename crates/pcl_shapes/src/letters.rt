@@ -1,5 +1,6 @@
 //! Shapes that are printed as letters.
 
+use crate::pattern_set::Patterns;
 use crate::patterns::Pattern;
 use indexmap::IndexSet;
 
@@ -61,12 +62,8 @@ impl Letters {
     }
 
     /// The pattern of a glyph.
-    pub fn pattern_of<'a>(
-        &self,
-        patterns: &'a IndexSet<Pattern>,
-        glyph: u32,
-    ) -> Option<&'a Pattern> {
+    pub fn pattern_of<'a>(&self, patterns: &'a Patterns, glyph: u32) -> Option<Pattern<'a>> {
         let glyph = self.glyphs.get_index(glyph as usize)?;
-        patterns.get_index(glyph.pattern as usize)
+        patterns.get(glyph.pattern)
     }
 }

@@ -11,9 +11,12 @@ mod forms;
 mod letters;
 mod lists;
 mod numbers;
+mod parts;
+mod pattern_set;
 mod patterns;
 mod rows;
 mod runs;
+mod screening;
 mod shapes;
 mod stamping;
 mod words;
@@ -23,7 +26,11 @@ pub use edges::append_edges;
 pub use forms::Form;
 pub use letters::{Glyph, Letter, Letters};
 pub use lists::{add, number_of, quotient};
-pub use numbers::{append_labelled, append_signed, append_word, digit_count, number_of_place};
-pub use patterns::{Pattern, PatternRows};
+pub use numbers::{
+    append_labelled, append_signed, append_word, digit_count, number_of_place, short_number,
+};
+pub use parts::{FINE, in_fine_parts, sum_parts};
+pub use pattern_set::Patterns;
+pub use patterns::{Drawing, Pattern, PatternRows};
 pub use rows::Row;
 pub use stamping::{Ink, Place, stamp};

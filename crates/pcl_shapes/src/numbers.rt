@@ -32,3 +32,8 @@ pub fn append_signed(number: i32, out: &mut Vec<u8>) -> Result<(), AllocError> {
 pub fn number_of_place(place: usize) -> u32 {
     u32::try_from(place).unwrap_or(u32::MAX)
 }
+
+/// A number of dots, rows or pages in two bytes. No page has 65,535 dots in a row or in a column.
+pub fn short_number(number: u32) -> u16 {
+    u16::try_from(number).unwrap_or(u16::MAX)
+}

@@ -9,14 +9,14 @@ use std::alloc::{AllocError, Global};
 const SIDE_LIMIT: u32 = 400;
 
 /// The dots of a shape.
-#[derive(Debug, PartialEq, Eq, Hash, Drop)]
-pub struct Pattern {
+#[derive(Clone, Copy, Debug)]
+pub struct Pattern<'a> {
     /// In dots.
     pub width: u32,
     /// In dots.
     pub height: u32,
     /// The rows from the uppermost down, each of whole bytes, the left dot the highest bit.
-    pub rows: Vec<u8>,
+    pub rows: &'a [u8],
 }
 
 /// Some rows of a pattern.
@@ -27,30 +27,16 @@ pub struct PatternRows<'a> {
     pub bytes: &'a [u8],
 }
 
-impl Pattern {
-    /// A white pattern of these sides, in dots. Where one of them is longer than a shape's may be, it has no rows.
-    pub fn white(
-        alloc: Global,
-        width: u32,
-        height: u32,
-        scale: u32,
-    ) -> Result<Pattern, AllocError> {
-        Ok(Pattern {
-            width,
-            height,
-            rows: vec![in alloc; 0; rows_len(width, height, scale)]?,
-        })
-    }
-
+impl<'a> Pattern<'a> {
     /// How many bytes a row has: one at least.
-    pub fn row_bytes(&self) -> usize
+    pub fn row_bytes(self) -> usize
         ensures { 1 ≤ result }
     {
-        (self.width as usize).div_ceil(8).max(1)
+        row_bytes_of(self.width)
     }
 
     /// Its rows but so many of the uppermost ones.
-    pub fn rows_from(&self, first: u32) -> PatternRows<'_> {
+    pub fn rows_from(self, first: u32) -> PatternRows<'a> {
         let row_bytes = self.row_bytes();
         let start = (first as usize).saturating_mul(row_bytes);
         PatternRows {
@@ -59,9 +45,56 @@ impl Pattern {
         }
     }
 
-    /// Makes the dots of another pattern black, whose left upper dot is so far right and down in this one.
-    pub fn blacken_with(&mut self, other: &Pattern, right: u32, down: u32) {
-        let row_bytes = self.row_bytes();
+    /// The rows and bytes that aren't those of the row above.
+    pub fn changes(self) -> Changes {
+        let mut changes = Changes { rows: 0, bytes: 0 };
+        let mut above: &[u8] = &[];
+        for row in self.rows.chunks(self.row_bytes()) {
+            changes = changes.with(changed_bytes(above, row));
+            above = row;
+        }
+        changes
+    }
+
+    /// The bytes of the last row that aren't white.
+    pub fn last_bytes(self) -> usize {
+        let start = self.rows.len().saturating_sub(self.row_bytes());
+        changed_bytes(&[], self.rows.get(start..).unwrap_or(&[]))
+    }
+}
+
+/// A pattern that is drawn.
+#[derive(Debug, Drop)]
+pub struct Drawing {
+    /// In dots.
+    width: u32,
+    /// In dots.
+    height: u32,
+    rows: Vec<u8>,
+}
+
+impl Drawing {
+    /// A white pattern of these sides, in dots: none where one of them is longer than a shape's may be.
+    pub fn white(
+        alloc: Global,
+        width: u32,
+        height: u32,
+        scale: u32,
+    ) -> Result<Option<Drawing>, AllocError> {
+        let len = rows_len(width, height, scale);
+        if len == 0 {
+            return Ok(None);
+        }
+        Ok(Some(Drawing {
+            width,
+            height,
+            rows: vec![in alloc; 0; len]?,
+        }))
+    }
+
+    /// Makes the dots of a pattern black, whose left upper dot is so far right and down in this one.
+    pub fn blacken_with(&mut self, other: Pattern<'_>, right: u32, down: u32) {
+        let row_bytes = row_bytes_of(self.width);
         let place = Place { x: right, y: down };
         stamp(
             &mut self.rows,
@@ -72,22 +105,13 @@ impl Pattern {
         );
     }
 
-    /// The rows and bytes that aren't those of the row above.
-    pub fn changes(&self) -> Changes {
-        let mut changes = Changes { rows: 0, bytes: 0 };
-        let mut above: &[u8] = &[];
-        for row in self.rows.chunks(self.row_bytes()) {
-            changes = changes.with(changed_bytes(above, row));
-            above = row;
+    /// The pattern as it is drawn.
+    pub fn pattern(&self) -> Pattern<'_> {
+        Pattern {
+            width: self.width,
+            height: self.height,
+            rows: &self.rows,
         }
-        changes
-    }
-
-    /// The rows and bytes that aren't those of the row above, with the white row below.
-    pub fn changes_in_raster(&self) -> Changes {
-        let start = self.rows.len().saturating_sub(self.row_bytes());
-        let last = self.rows.get(start..).unwrap_or(&[]);
-        self.changes().with(changed_bytes(&[], last))
     }
 }
 
@@ -102,7 +126,7 @@ pub struct Changes {
 
 impl Changes {
     /// With a row of which so many bytes differ.
-    fn with(self, bytes: usize) -> Changes {
+    pub fn with(self, bytes: usize) -> Changes {
         if bytes == 0 {
             return self;
         }
@@ -122,6 +146,13 @@ fn changed_bytes(above: &[u8], row: &[u8]) -> usize {
         }
     }
     changed
+}
+
+/// How many bytes a row of so many dots has: one at least.
+pub fn row_bytes_of(width: u32) -> usize
+    ensures { 1 ≤ result }
+{
+    (width as usize).div_ceil(8).max(1)
 }
 
 /// How many bytes the rows of a pattern of these sides have, in dots: none where one of them is longer than a shape's may be. `scale` dots

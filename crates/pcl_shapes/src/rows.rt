@@ -5,12 +5,15 @@ use pcl_base::ROW_LIMIT;
 use pcl_bitmap::Bitmap;
 use std::alloc::{AllocError, Global};
 
+/// The bytes around the data of a row, `ESC*b#W`.
+pub const ROW_BYTES: usize = 5;
+
 /// A row of a page.
 #[derive(Clone, Copy, Debug)]
 pub struct Row {
     /// About how many bytes its data take, with all shapes in it.
     pub bytes: u16,
-    /// How many runs of it are of shapes that are too large for letters.
+    /// About how many bytes shapes that can't be letters weigh in it: one each run of a shape that is too large.
     pub others: u16,
 }
 
@@ -29,7 +32,12 @@ pub fn append_rows(bitmap: &Bitmap, rows: &mut Vec<Row>) -> Result<(), AllocErro
     let mut above: &[u8] = &[];
     for y in 0..bitmap.size().height(bitmap.dpi()) {
         let row = bitmap.row(y);
-        rows.push(Row::of(data_bytes(above, row)))?;
+        let bytes = if row == above {
+            0
+        } else {
+            data_bytes(above, row)
+        };
+        rows.push(Row::of(bytes))?;
         above = row;
     }
     rows.push(Row::of(0))?;

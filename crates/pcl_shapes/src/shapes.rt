@@ -1,26 +1,26 @@
 //! Shapes of a page: black dots that hang together, each the neighbour of another in one of eight directions.
 
-use crate::numbers::number_of_place;
+use crate::numbers::{number_of_place, short_number};
 use crate::runs::{Link, RowWalk, Run};
 use pcl_bitmap::Bitmap;
 use std::alloc::{AllocError, Global};
 
-/// The smallest box around a shape, in dots: `right` and `bottom` lie past it.
+/// The smallest box around a shape, in dots: `right` and `bottom` lie past it. No page has 65,535 dots in a row or in a column.
 #[derive(Clone, Copy)]
 pub struct Extent {
-    pub left: u32,
-    pub top: u32,
-    pub right: u32,
-    pub bottom: u32,
+    pub left: u16,
+    pub top: u16,
+    pub right: u16,
+    pub bottom: u16,
 }
 
 impl Extent {
     /// The box of one run of row `y`.
-    fn of(y: u32, run: Run) -> Extent {
+    fn of(y: u16, run: Run) -> Extent {
         Extent {
-            left: u32::from(run.start),
+            left: run.start,
             top: y,
-            right: u32::from(run.end),
+            right: run.end,
             bottom: y.saturating_add(1),
         }
     }
@@ -36,11 +36,11 @@ impl Extent {
     }
 
     pub fn width(self) -> u32 {
-        self.right.saturating_sub(self.left)
+        u32::from(self.right.saturating_sub(self.left))
     }
 
     pub fn height(self) -> u32 {
-        self.bottom.saturating_sub(self.top)
+        u32::from(self.bottom.saturating_sub(self.top))
     }
 }
 
@@ -69,7 +69,7 @@ pub fn find_shapes(alloc: Global, bitmap: &Bitmap) -> Result<Shapes, AllocError>
     };
     for y in 0..bitmap.size().height(bitmap.dpi()) {
         walk.step(bitmap, y)?;
-        labels.add_row(y, &walk.runs, &walk.links)?;
+        labels.add_row(short_number(y), &walk.runs, &walk.links)?;
     }
     Ok(labels.into_shapes())
 }
@@ -85,7 +85,7 @@ struct Labels {
 
 impl Labels {
     /// Adds the runs of row `y`, and the links that come with it.
-    fn add_row(&mut self, y: u32, runs: &[Run], links: &[Link]) -> Result<(), AllocError> {
+    fn add_row(&mut self, y: u16, runs: &[Run], links: &[Link]) -> Result<(), AllocError> {
         for run in runs {
             match self.extents.get_mut(run.label as usize) {
                 Some(extent) => *extent = extent.with(Extent::of(y, *run)),

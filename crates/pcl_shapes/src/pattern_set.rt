@@ -1,0 +1,181 @@
+//! The patterns of a job, each once.
+
+use crate::forms::Form;
+use crate::lists::quotient;
+use crate::numbers::{number_of_place, short_number};
+use crate::parts::{in_fine_parts, most_in_row};
+use crate::patterns::{Changes, Drawing, Pattern, row_bytes_of};
+use crate::rows::Row;
+use indexmap::IndexMap;
+use std::alloc::{AllocError, Global};
+use std::hash::{FoldHasher, Hasher};
+
+/// Patterns, numbered from 0 as they came. They are told apart by a hash of their sides and dots: if two had the same one, a letter would
+/// be another than it should be, and the look at the job would refuse it.
+#[derive(Drop)]
+pub struct Patterns {
+    /// By their hashes.
+    kept: IndexMap<u64, KeptPattern>,
+    /// The rows of patterns in turn.
+    rows: Vec<u8>,
+}
+
+/// What is kept of a pattern.
+#[derive(Clone, Copy)]
+struct KeptPattern {
+    width: u16,
+    height: u16,
+    /// How many bytes what prints it takes, once for the job.
+    definition: u32,
+    /// About how many bytes it takes in each of its rows by itself, in fine parts.
+    weight: u32,
+    /// Where its rows begin; none where they aren't kept.
+    start: Option<u32>,
+}
+
+impl KeptPattern {
+    fn without_rows(pattern: Pattern<'_>, form: Form) -> KeptPattern {
+        let changes = pattern.changes();
+        KeptPattern {
+            width: short_number(pattern.width),
+            height: short_number(pattern.height),
+            definition: number_of_place(form.definition_bytes(pattern, changes)),
+            weight: weight_of(pattern, changes),
+            start: None,
+        }
+    }
+
+    /// No more bytes than these, in fine parts, does a shape of the pattern take that is in these rows.
+    fn most_bytes(self, rows: &[Row]) -> i64 {
+        let mut most: i64 = 0;
+        for row in rows {
+            most = most.saturating_add(most_in_row(row, i64::from(self.weight)));
+        }
+        most
+    }
+}
+
+impl Patterns {
+    /// No pattern yet.
+    pub fn new(alloc: Global) -> Patterns {
+        Patterns {
+            kept: IndexMap::new(alloc),
+            rows: Vec::new(alloc),
+        }
+    }
+
+    /// How many there are.
+    pub fn len(&self) -> usize {
+        self.kept.len()
+    }
+
+    /// The pattern of a number, if its dots are kept.
+    pub fn get(&self, number: u32) -> Option<Pattern<'_>> {
+        let kept = self.kept_at(number)?;
+        let start = kept.start? as usize;
+        let len = row_bytes_of(u32::from(kept.width)).saturating_mul(usize::from(kept.height));
+        let rows = self.rows.get(..start.saturating_add(len))?;
+        Some(Pattern {
+            width: u32::from(kept.width),
+            height: u32::from(kept.height),
+            rows: rows.get(start..)?,
+        })
+    }
+
+    /// How many bytes what prints a pattern takes, once for the job.
+    pub fn definition_bytes(&self, number: u32) -> usize {
+        self.kept_at(number)
+            .map_or(0, |kept| kept.definition as usize)
+    }
+
+    /// About how many bytes a pattern takes in each of its rows by itself, in fine parts.
+    pub fn weight(&self, number: u32) -> i64 {
+        self.kept_at(number)
+            .map_or(0, |kept| i64::from(kept.weight))
+    }
+
+    /// How many rows a pattern is in: its own, and the one below them, which has dots no longer.
+    pub fn row_count(&self, number: u32) -> usize {
+        self.kept_at(number)
+            .map_or(0, |kept| usize::from(kept.height).saturating_add(1))
+    }
+
+    /// The number of the pattern of a shape that is in these rows of its page. A pattern that isn't there is added, without its dots where
+    /// a single shape of it is no letter, since what prints it takes as many bytes as the shape takes in these rows: they are kept once it
+    /// comes again.
+    pub fn number_of_shape(
+        &mut self,
+        pattern: Pattern<'_>,
+        form: Form,
+        rows: &[Row],
+    ) -> Result<u32, AllocError> {
+        let (place, is_new) = self.place_of(pattern, form)?;
+        if !is_new || self.is_worth_a_letter(place, rows) {
+            self.keep_rows(place, pattern)?;
+        }
+        Ok(number_of_place(place))
+    }
+
+    /// The number of a pattern that was drawn, which is added if it isn't there.
+    pub fn number_of_drawing(&mut self, drawing: &Drawing, form: Form) -> Result<u32, AllocError> {
+        let pattern = drawing.pattern();
+        let (place, _) = self.place_of(pattern, form)?;
+        self.keep_rows(place, pattern)?;
+        Ok(number_of_place(place))
+    }
+
+    /// The place of a pattern, which is added without its rows if it isn't there, and whether it was added.
+    fn place_of(&mut self, pattern: Pattern<'_>, form: Form) -> Result<(usize, bool), AllocError> {
+        let hash = hash_of(pattern);
+        if let Some(place) = self.kept.get_index_of(&hash) {
+            return Ok((place, false));
+        }
+        let kept = KeptPattern::without_rows(pattern, form);
+        let (place, _) = self.kept.insert_full(hash, kept)?;
+        Ok((place, true))
+    }
+
+    /// Whether a single shape of the pattern in a place, in these rows, may take more bytes there than what prints it.
+    fn is_worth_a_letter(&self, place: usize, rows: &[Row]) -> bool {
+        match self.kept.get_index(place) {
+            Some((_, kept)) => kept.most_bytes(rows) > in_fine_parts(kept.definition as usize),
+            None => false,
+        }
+    }
+
+    /// Keeps the rows of the pattern in a place, unless they are kept.
+    fn keep_rows(&mut self, place: usize, pattern: Pattern<'_>) -> Result<(), AllocError> {
+        let start = number_of_place(self.rows.len());
+        if let Some(kept) = self.kept.get_index_mut(place) {
+            if kept.start.is_none() {
+                self.rows.extend_from_slice(pattern.rows)?;
+                kept.start = Some(start);
+            }
+        }
+        Ok(())
+    }
+
+    /// What is kept of the pattern of a number.
+    fn kept_at(&self, number: u32) -> Option<KeptPattern> {
+        let (_, kept) = self.kept.get_index(number as usize)?;
+        Some(*kept)
+    }
+}
+
+/// A hash of the sides and the dots of a pattern.
+fn hash_of(pattern: Pattern<'_>) -> u64 {
+    let mut hasher = FoldHasher::default();
+    hasher.write_u32(pattern.width);
+    hasher.write_u32(pattern.height);
+    hasher.write(pattern.rows);
+    hasher.finish()
+}
+
+/// About how many bytes a pattern takes in each of its rows by itself, in fine parts: those that differ from the row above and one more,
+/// in each row that isn't the one above, where a white row follows below. This differs from row to row.
+fn weight_of(pattern: Pattern<'_>, changes: Changes) -> u32 {
+    let changes = changes.with(pattern.last_bytes());
+    let bytes = changes.rows.saturating_add(changes.bytes);
+    let rows = i64::from(pattern.height).saturating_add(1);
+    u32::try_from(quotient(in_fine_parts(bytes), rows)).unwrap_or(u32::MAX)
+}
