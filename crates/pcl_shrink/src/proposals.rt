@@ -5,11 +5,9 @@ ghost use Rattle.pcl_shrink.specs.Texts.{HasTexts};
 
 use crate::letter_jobs::letter_job;
 use crate::rasters::Text;
-use crate::texts::page_texts;
+use crate::texts::{Found, page_texts};
 use pcl_base::{Dpi, JobFault};
 use pcl_lettering::Lettering;
-use pcl_page::Asks;
-use pcl_shapes::Collection;
 use std::alloc::Global;
 
 /// The texts of the pages of a job as rasters, and a shorter job with letters, which asks for what the job asks for: none where letters
@@ -18,30 +16,28 @@ pub fn propose(
     alloc: Global,
     job: &[u8],
     dpi: Dpi,
-    asks: &Asks<'_>,
 ) -> Result<(Vec<Text>, Option<Vec<u8>>), JobFault>
     ensures { HasTexts dpi job.now result }
 {
-    let (texts, shapes) = page_texts(alloc, job, dpi)?;
-    let letters = propose_letters(alloc, job, dpi, asks, &texts, shapes)?;
+    let (texts, found) = page_texts(alloc, job, dpi)?;
+    let letters = propose_letters(alloc, job, dpi, &texts, found)?;
     Ok((texts, letters))
 }
 
-/// A job with these shapes as letters, if that is shorter.
+/// A job with letters found by this, if that is shorter.
 fn propose_letters(
     alloc: Global,
     job: &[u8],
     dpi: Dpi,
-    asks: &Asks<'_>,
     texts: &[Text],
-    shapes: Collection,
+    found: Found<'_>,
 ) -> Result<Option<Vec<u8>>, JobFault>
     ensures { RefusesWith dpi job.now result }
 {
-    let lettering = Lettering::new(alloc, shapes)?;
+    let lettering = Lettering::new(alloc, found.shapes)?;
     if lettering.is_empty() {
         Ok(None)
     } else {
-        letter_job(alloc, job, dpi, asks, texts, &lettering)
+        letter_job(alloc, job, dpi, &found.asks, texts, &lettering)
     }
 }

@@ -77,6 +77,7 @@ fn least_text(alloc: Global, page: &Page) -> Result<Vec<u8>, AllocError>
     let least = plan(alloc, page)?;
     let mut text = Vec::new(alloc);
     write_page(page, &least, &mut text)?;
+    text.shrink_to_fit();
     Ok(text)
 }
 
@@ -92,6 +93,7 @@ fn coarse_text(alloc: Global, coarse: &Page, side: u32) -> Result<Vec<u8>, Alloc
     append_labelled(b"R\x1b*r", columns, &mut text)?;
     text.extend_from_slice(b"s0A")?;
     text.extend_from_slice(rows_of_text(&least))?;
+    text.shrink_to_fit();
     Ok(text)
 }
 

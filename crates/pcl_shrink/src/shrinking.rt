@@ -20,9 +20,10 @@ use std::alloc::{AllocError, Global};
 pub fn shrink(alloc: Global, job: &[u8], dpi: Dpi) -> Result<Shrunk, JobFault>
     ensures { IsShrunk dpi job.now result }
 {
+    let (texts, letters) = propose(alloc, job, dpi)?;
+    // The pages are kept for the looks once what proposes has gone.
     let kept = keep_job(alloc, job, dpi)?;
     let asks = kept.asks();
-    let (texts, letters) = propose(alloc, job, dpi, asks)?;
     // The shortest proposal comes first: where it is taken, no other needs a look.
     let best = shorter(alloc, &kept, dpi, job, None, letters, Candidate::Glyphs)?;
     let coarse = coarse_job(alloc, asks, &texts)?;

@@ -37,7 +37,7 @@ fn common_side_of_row(side: u32, edges: &[u16], width: u32) -> u32 {
     for edge in edges {
         let edge = u32::from(*edge);
         if edge < width {
-            side = greatest_divisor(side, edge);
+            side = greatest_divisor(edge, side);
         }
     }
     side
@@ -93,22 +93,19 @@ fn paint_squares(fine: &Bitmap, side: u32, coarse: &mut Bitmap)
 fn coarsen(row: &[u8], side: u32, dots: &mut [u8])
     ensures { length dots.new ≡ length dots.old }
 {
-    let mut start: u32 = 0;
-    for byte in dots {
-        if start as usize / 8 >= row.len() {
-            return;
-        }
-        *byte = coarse_byte(row, side, start);
-        start = start.saturating_add(side.saturating_mul(8));
+    for (byte, fine) in dots.iter_mut().zip(row.chunks(side.max(1) as usize)) {
+        *byte = coarse_byte(fine, side);
     }
 }
 
-/// The bits for eight times so many dots, from this one on.
-fn coarse_byte(row: &[u8], side: u32, start: u32) -> u8 {
+/// The bits for eight times so many dots, which stand in so many bytes.
+fn coarse_byte(fine: &[u8], side: u32) -> u8 {
+    if fine.iter().all(|byte| *byte == 0) {
+        return 0;
+    }
     let mut bits: u8 = 0;
     for number in 0..8u32 {
-        let dot = start.saturating_add(side.saturating_mul(number));
-        bits = (bits << 1) | u8::from(is_black(row, dot));
+        bits = (bits << 1) | u8::from(is_black(fine, side.saturating_mul(number)));
     }
     bits
 }

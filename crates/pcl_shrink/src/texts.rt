@@ -1,24 +1,38 @@
-//! The pages of a job as texts, and their shapes.
+//! The pages of a job as texts, and what letters for them are found by.
 
 ghost use Rattle.pcl_shrink.specs.Texts.{HasTexts};
 
 use crate::rasters::{Text, page_text};
 use pcl_base::{Dpi, JobFault};
-use pcl_page::{Page, PageSink, perform};
+use pcl_page::{Asks, Page, PageSink, perform_asked};
 use pcl_shapes::Collection;
 use std::alloc::{AllocError, Global};
 use std::marker::Model;
 
-/// The texts of the pages of a job as rasters, and the shapes on them. A refusal is the job's.
-pub fn page_texts(alloc: Global, job: &[u8], dpi: Dpi) -> Result<(Vec<Text>, Collection), JobFault>
+/// What the letters of a job are found by. Nothing is promised of it.
+#[derive(Drop)]
+pub struct Found<'a> {
+    /// The shapes of its pages.
+    pub shapes: Collection,
+    /// What it asks of the printer.
+    pub asks: Asks<'a>,
+}
+
+/// The texts of the pages of a job as rasters, and what their letters are found by. A refusal is the job's.
+pub fn page_texts<'a>(
+    alloc: Global,
+    job: &'a [u8],
+    dpi: Dpi,
+) -> Result<(Vec<Text>, Found<'a>), JobFault>
     ensures { HasTexts dpi job.now result }
 {
     let mut writer = TextWriter {
         texts: Vec::new(alloc),
         shapes: Collection::new(alloc, dpi),
     };
-    perform(alloc, job, dpi, &mut writer)?;
-    Ok((writer.texts, writer.shapes))
+    let asks = perform_asked(alloc, job, dpi, &mut writer)?;
+    let shapes = writer.shapes;
+    Ok((writer.texts, Found { shapes, asks }))
 }
 
 /// Writes the pages that come, and collects their shapes.
