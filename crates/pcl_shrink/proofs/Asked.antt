@@ -10,7 +10,7 @@ use Rattle.pcl_page.specs.declared.asks.Exit.{Exit as ExitOfCode}
 use Rattle.pcl_page.specs.Asks.{Asks, Exit, exit_of}
 use Rattle.pcl_shrink.specs.declared.rasters.Text.{Text}
 use Rattle.pcl_shrink.specs.Texts.{least_of}
-use Rattle.pcl_shrink.specs.Asking.{exit_bytes, exit_text, exits_after, is_exit_after, change_text, asked_at, page_start, asked_pages}
+use Rattle.pcl_shrink.specs.Asking.{exit_bytes, exit_text, exits_after, is_exit_after, drops, change_text, asked_at, page_start, is_reset_before, asked_pages}
 
 -- ---- exits
 
@@ -121,6 +121,18 @@ starts_later asks page before is_left old {mid} already asked place left exits a
     ∙ ap (λ (bytes : List ℕ). bytes ++ change is_left) exits ∙ append_assoc old (exits_after page asks.exits) (change is_left)
     ∙ ap (λ (b : Bool). old ++ (exits_after page asks.exits ++ change b)) left
     ∙ ap (λ (bytes : List ℕ). old ++ bytes) (sym start)
+
+-- whether that puts the printer back to its defaults
+pub resets_later : (asks : Asks) (page before : ℕ) {is_left is_reset : Bool} (already asked : Asked) → suc before ≡ page
+    → is_left ≡ is_exit_after page asks.exits → already ≡ (if is_left then nothing_asked else asked_at asks before)
+    → asked ≡ asked_at asks page → is_reset ≡ drops already asked → (is_left || is_reset) ≡ is_reset_before asks page
+resets_later asks page before {is_left} already asked place left already_is asked_is reset =
+    let before_it = λ (b : Bool). if b then nothing_asked else asked_at asks before in
+    ap (λ (b : Bool). is_left || b)
+    (reset ∙ ap (λ (one : Asked). drops one asked) already_is ∙ ap (λ (one : Asked). drops (before_it is_left) one) asked_is)
+    ∙ ap (λ (b : Bool). b || drops (before_it b) (asked_at asks page)) left
+    ∙ subst (λ (n : ℕ). (is_exit_after n asks.exits || drops (before_it (is_exit_after n asks.exits)) (asked_at asks n))
+    ≡ is_reset_before asks n) place refl
 
 -- ---- pages
 

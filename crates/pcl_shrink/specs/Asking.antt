@@ -1,5 +1,5 @@
 -- What a job asks of the printer, written around the texts of its pages.
-use Rattle.std.specs.Prelude.{ℕ, zero, suc, ◌==◌, Bool, false, ◌&&◌, ◌||◌, is_some, is_none, if◌then◌else◌, List, [], ◌∷◌, ◌++◌, length, get_or, flat_map, codes, Option, Some, None, ℤ}
+use Rattle.std.specs.Prelude.{ℕ, zero, suc, ◌==◌, Bool, true, false, ◌&&◌, ◌||◌, is_some, is_none, if◌then◌else◌, List, [], ◌∷◌, ◌++◌, length, get_or, flat_map, codes, Option, Some, None, ℤ}
 use Rattle.std.specs.Fmt.{signed_decimal}
 use Rattle.std.specs.Ordering.{int_eq}
 use Rattle.pcl_env.specs.declared.asked.Asked.{Asked}
@@ -70,6 +70,12 @@ first_reset (suc before) = []
 abbrev pub page_start : Asks → ℕ → List ℕ
 page_start asks number =
     exits_after number asks.exits ++ first_reset number ++ change_text (asked_before asks number) (asked_at asks number)
+
+-- something that stands before that text puts the printer back to its defaults, as it does before the first page
+abbrev pub is_reset_before : Asks → ℕ → Bool
+is_reset_before asks zero = true
+is_reset_before asks (suc before) =
+    is_exit_after (suc before) asks.exits || drops (asked_before asks (suc before)) (asked_at asks (suc before))
 
 -- what stands after the last of so many pages
 abbrev pub job_end : Asks → ℕ → List ℕ

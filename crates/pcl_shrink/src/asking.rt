@@ -14,6 +14,7 @@ ghost use Rattle.pcl_shrink.specs.Asking.{
   change_text,
   asked_at,
   page_start,
+  is_reset_before,
   job_end,
 };
 
@@ -36,7 +37,8 @@ pub fn append_page_start(
     page: usize,
     out: &mut Vec<u8>,
 ) -> Result<bool, AllocError>
-    ensures { OnOk result (out.new.items ≡ out.old.items ++ page_start (asks_of asks.now) page) }
+    ensures text { OnOk result (out.new.items ≡ out.old.items ++ page_start (asks_of asks.now) page) }
+    ensures reset { IfOk result (λ is_reset. is_reset ≡ is_reset_before (asks_of asks.now) page) }
 {
     let is_left = append_exits(asks, page, out)?;
     let Some(before) = page.checked_sub(1) else {
@@ -109,7 +111,8 @@ fn append_exit(exit: &Exit<'_>, out: &mut Vec<u8>) -> Result<(), AllocError>
 /// Appends what asks for something where something else is asked for: a reset first where what is asked for no longer is. Says
 /// whether there is one.
 fn append_change(old: Asked, new: Asked, out: &mut Vec<u8>) -> Result<bool, AllocError>
-    ensures { OnOk result (out.new.items ≡ out.old.items ++ change_text old new) }
+    ensures text { OnOk result (out.new.items ≡ out.old.items ++ change_text old new) }
+    ensures reset { IfOk result (λ is_reset. is_reset ≡ drops old new) }
 {
     if drops(old, new) {
         out.extend_from_slice(RESET)?;

@@ -1,13 +1,23 @@
-use Rattle.std.proofs.Common.{◌≡◌, suc, arith}
+use Rattle.std.proofs.Common.{◌≡◌, suc, Bool, ◌||◌, subst, arith}
 use Rattle.pcl_page.specs.Asks.{asks_of}
-use Rattle.pcl_shrink.proofs.Asked.{starts_later}
+use Rattle.pcl_shrink.specs.Asking.{is_reset_before}
+use Rattle.pcl_shrink.proofs.Asked.{starts_later, resets_later}
 use Rattle.pcl_shrink.proofs.asking.append_page_start.Goals as goal
 
-pub returns-else-is_left : goal.returns-else-is_left
-returns-else-is_left c =
+pub returns-else-is_left-clause-text : goal.returns-else-is_left-clause-text
+returns-else-is_left-clause-text c =
     let some = c.in-Some.ensures in
     let place : suc c.in-Some.before ≡ c.args.page = omega (arith, some.0, some.1) in
     let exits = c.in_ok-is_left.ensures in
     starts_later (asks_of c.args.asks.now) c.args.page c.in-Some.before c.in_ok-is_left.is_left c.args.out.now.items
     c.asked_already-old.result c.asked_at-2.result place exits.found exits.text c.asked_already-old.ensures c.asked_at-2.ensures
-    c.in_ok-is_reset.ensures
+    c.in_ok-is_reset.ensures.text
+
+pub returns-else-is_left-clause-reset : goal.returns-else-is_left-clause-reset
+returns-else-is_left-clause-reset c =
+    let some = c.in-Some.ensures in
+    let place : suc c.in-Some.before ≡ c.args.page = omega (arith, some.0, some.1) in
+    subst (λ (left : Bool). (left || c.in_ok-is_reset.is_reset) ≡ is_reset_before (asks_of c.args.asks.now) c.args.page)
+    c.if-is_left.false
+    (resets_later (asks_of c.args.asks.now) c.args.page c.in-Some.before c.asked_already-old.result c.asked_at-2.result place
+    c.in_ok-is_left.ensures.found c.asked_already-old.ensures c.asked_at-2.ensures c.in_ok-is_reset.ensures.reset)

@@ -9,5 +9,5 @@ loop-number-preserved c =
     let text = c.index-texts-number.result in
     let lent = c.deref.ensures.value ∙ ap (λ (t : Text). t.least.items) c.index-texts-number.is in
     appended_page (asks_of c.args.asks.now) c.args.texts.now text c.loop-number-test.true c.loop-number.invariant
-    c.in_ok-append_page_start.ensures
+    c.in_ok-append_page_start.ensures.text
     (c.in_ok-extend_from_slice.ensures.items ∙ ap (λ (bytes : List ℕ). c.append_page_start.new.out.items ++ bytes) lent)
