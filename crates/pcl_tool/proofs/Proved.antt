@@ -1,11 +1,12 @@
--- The page texts that a sink gathers with what proves them.
-use Rattle.std.proofs.Common.{◌≡◌, ℕ, ◌+◌, ◌^◌, ◌<◌, List, [], ◌∷◌, ◌++◌, Option, Some, None, length, refl, sym, ap, subst, ◌∙◌, append_assoc, arith}
+-- The page texts that a sink gathers, and what proves them.
+use Rattle.std.proofs.Common.{◌≡◌, ℕ, ◌+◌, ◌^◌, ◌<◌, List, [], ◌∷◌, ◌++◌, Option, Some, None, Ok, Err, length, refl, sym, ap, subst, ◌∙◌, append_assoc, arith}
 use Rattle.std.specs.List.{AllByRecursion}
 use Rattle.std.proofs.lemmas.List.{append-nil, length-append}
 use Rattle.pcl_base.specs.declared.dpi.Dpi.{Dpi}
 use Rattle.pcl_bitmap.specs.declared.page.Page.{Page}
 use Rattle.pcl_page.specs.Situation.{Sheet}
-use Rattle.pcl_page.specs.Delivering.{Hands}
+use Rattle.pcl_page.specs.Performing.{Shows}
+use Rattle.pcl_page.specs.Delivering.{Hands, IsRefusal}
 use Rattle.pcl_page.specs.Jobs.{HasPages}
 use Rattle.pcl_output.specs.Tokens.{frame_bytes}
 use Rattle.pcl_plan.specs.PagePlans.{IsPlanOf}
@@ -16,15 +17,17 @@ use Rattle.pcl_writer.specs.Appending.{IsWrittenPage}
 use Rattle.pcl_cert.specs.declared.format.Format.{Format}
 use Rattle.pcl_cert.specs.declared.format.Format.TheVariants.{One, Two}
 use Rattle.pcl_cert.specs.declared.page_proof.PageProof.{PageProof}
-use Rattle.pcl_cert.specs.Certificates.{AreProofs, IsProof, certificate_bytes, proof_in}
+use Rattle.pcl_cert.specs.Certificates.{IsProof, certificate_bytes, proof_in}
 use Rattle.pcl_cert.specs.Checking.{HasLeastLists, AreLeastOf, IsVerdict}
 use Rattle.pcl_cert.specs.declared.check.Verdict.TheVariants.{Proved}
 use Rattle.pcl_cert.proofs.TablesProved.{table_proved, table_certified}
 use Rattle.pcl_meaning.specs.JobTexts.{PrintEach}
 use Rattle.pcl_meaning.proofs.Jobs.{job_fits}
 use Rattle.pcl_tool.specs.Certified.{AreProved}
-use Rattle.pcl_tool.specs.inner.Certifying.{SoFar, Proves, TakesProved}
-use Rattle.pcl_tool.specs.Minimizing.{IsCertifiedJobOf}
+use Rattle.pcl_tool.specs.declared.fault.Fault.{Fault}
+use Rattle.pcl_tool.specs.declared.minimizing.Output.{Output}
+use Rattle.pcl_tool.specs.JobFaults.{RefusedOrMemory}
+use Rattle.pcl_tool.specs.inner.WrittenJobs.{SoFar, IsBegun, IsOutput, IsProvedIn, Proves, TakesText}
 use Rattle.pcl_tool.proofs.Texts.{job_of_texts}
 
 -- ---- one page
@@ -60,80 +63,102 @@ proof_said Two is = refl
 
 -- ---- all pages
 
--- page texts of all sheets, and what proves them
+-- what proves page texts of all sheets is appended to the certificate of some pages before
+pub record ProofsGathered (dpi : Dpi) (format : Format) (sheets : List Sheet) (texts old new : List ℕ) : Type 0 where
+  pub proofs : List PageProof
+  pub behind : (before : List PageProof) → length before + length proofs < 2 ^ 32
+      → old ≡ certificate_bytes format before → new ≡ certificate_bytes format (before ++ proofs)
+  pub can_be_said : AllByRecursion (IsProof dpi format) proofs
+  pub proved : AreProved dpi sheets texts proofs
+
+abbrev pub AreProvedIn : Dpi → Option Format → List Sheet → (texts old new : List ℕ) → Type 0
+AreProvedIn dpi None sheets texts old new = Unit {0}
+AreProvedIn dpi (Some format) sheets texts old new = ProofsGathered dpi format sheets texts old new
+
+none_proved : (dpi : Dpi) (format : Option Format) {old new : List ℕ} → new ≡ old → AreProvedIn dpi format [] [] old new
+none_proved dpi None same = tt
+none_proved dpi (Some format) same = record {
+  proofs = [];
+  behind = λ before few is. same ∙ is ∙ ap (certificate_bytes format) (sym (append-nil before));
+  can_be_said = tt;
+  proved = (refl, refl);
+}
+
+one_more_proved : {dpi : Dpi} (format : Option Format) {page : Page} {sheet : Sheet} (sheets : List Sheet) (text texts : List ℕ)
+    (old mid new : List ℕ) → Shows dpi page sheet → IsProvedIn format page text old mid → AreProvedIn dpi format sheets texts mid new
+    → AreProvedIn dpi format (sheet ∷ sheets) (text ++ texts) old new
+one_more_proved None sheets text texts old mid new shows one rest = tt
+one_more_proved (Some format) {page} sheets text texts old mid new shows one rest = record {
+  proofs = one.proof ∷ rest.proofs;
+  behind = λ before few is.
+      rest.behind (before ++ one.proof ∷ []) (omega (arith, length-append before (one.proof ∷ [])))
+      (one.certificate before (omega arith) is)
+      ∙ ap (certificate_bytes format) (append_assoc before (one.proof ∷ []) rest.proofs);
+  can_be_said = (subst (λ (d : Dpi). IsProof d format one.proof) shows.resolution one.proves.can_be_said, rest.can_be_said);
+  proved = (
+    omega (arith, rest.proved.0),
+    (
+      text,
+      texts,
+      record { page = page; shows = shows; as_long = one.proves.text_len; verdict_is = one.proves.proved },
+      refl,
+      rest.proved.1,
+    ),
+  );
+}
+
+-- page texts of all sheets, and where a certificate is wanted, what proves them
 pub record Gathered (dpi : Dpi) (sheets : List Sheet) (old new : SoFar) : Type 0 where
   pub texts : List ℕ
   pub bytes : new.bytes ≡ old.bytes ++ texts
   pub print : PrintEach IsWrittenPage dpi sheets texts
-  pub proofs : List PageProof
-  pub behind : (before : List PageProof) → length before + length proofs < 2 ^ 32
-      → old.certificate ≡ certificate_bytes old.format before → new.certificate ≡ certificate_bytes old.format (before ++ proofs)
-  pub can_be_said : AllByRecursion (IsProof dpi old.format) proofs
-  pub proved : AreProved dpi sheets texts proofs
+  pub proved : AreProvedIn dpi old.format sheets texts old.certificate new.certificate
 
-pub gathered : {dpi : Dpi} (sheets : List Sheet) {old new : SoFar} → Hands TakesProved dpi sheets old new → Gathered dpi sheets old new
-gathered [] {old} h = record {
+gathered : {dpi : Dpi} (sheets : List Sheet) {old new : SoFar} → Hands TakesText dpi sheets old new → Gathered dpi sheets old new
+gathered {dpi} [] {old} h = record {
   texts = [];
   bytes = ap (λ (s : SoFar). s.bytes) h ∙ sym (append-nil old.bytes);
   print = refl;
-  proofs = [];
-  behind = λ before few is. ap (λ (s : SoFar). s.certificate) h ∙ is ∙ ap (certificate_bytes old.format) (sym (append-nil before));
-  can_be_said = tt;
-  proved = (refl, refl);
+  proved = none_proved dpi old.format (ap (λ (s : SoFar). s.certificate) h);
 }
-gathered {dpi} (sheet ∷ sheets) {old} h =
+gathered {dpi} (sheet ∷ sheets) {old} {new} h =
     let rest = gathered sheets h.4 in
     let t = h.3 in
     record {
       texts = t.text ++ rest.texts;
       bytes = rest.bytes ∙ ap (λ (b : List ℕ). b ++ rest.texts) t.bytes ∙ append_assoc old.bytes t.text rest.texts;
       print = (t.text, rest.texts, (h.0, h.2, t.written), refl, rest.print);
-      proofs = t.proof ∷ rest.proofs;
-      behind = λ before few is.
-          let one = t.certificate before (omega arith) is
-          ∙ ap (λ (f : Format). certificate_bytes f (before ++ t.proof ∷ [])) (sym t.format) in
-          rest.behind (before ++ t.proof ∷ []) (omega (arith, length-append before (t.proof ∷ []))) one
-          ∙ ap (λ (f : Format). certificate_bytes f ((before ++ t.proof ∷ []) ++ rest.proofs)) t.format
-          ∙ ap (certificate_bytes old.format) (append_assoc before (t.proof ∷ []) rest.proofs);
-      can_be_said = (
-        subst (λ (d : Dpi). IsProof d old.format t.proof) h.2.resolution t.proves.can_be_said,
-        subst (λ (f : Format). AllByRecursion (IsProof dpi f) rest.proofs) t.format rest.can_be_said,
-      );
-      proved = (
-        omega (arith, rest.proved.0),
-        (
-          t.text,
-          rest.texts,
-          record { page = h.0; shows = h.2; as_long = t.proves.text_len; verdict_is = t.proves.proved },
-          refl,
-          rest.proved.1,
-        ),
-      );
+      proved = one_more_proved old.format sheets t.text rest.texts old.certificate h.1.certificate new.certificate h.2 t.proved
+          (subst (λ (f : Option Format). AreProvedIn dpi f sheets rest.texts h.1.certificate new.certificate) t.format rest.proved);
     }
 
 -- ---- a whole job
 
-are_proofs : {dpi : Dpi} {job : List ℕ} {pages : List Sheet} (old new : SoFar) → HasPages dpi job pages
-    → (h : Hands TakesProved dpi pages old new) → AreProofs dpi old.format (gathered pages h).proofs
-are_proofs {dpi} {job} {pages} old new meaning h =
-    let g = gathered pages h in
-    (omega (arith, g.proved.0, job_fits meaning), g.can_be_said)
+-- a refusal is the job's, and no fault comes but this and out of memory, whatever is wanted
+pub not_written : (dpi : Dpi) (job : List ℕ) (format : Option Format) (fault : Fault) → RefusedOrMemory (IsRefusal dpi job) fault
+    → IsOutput dpi job format (Err fault)
+not_written dpi job None fault came = came
+not_written dpi job (Some format) fault came = came
 
-pub certified_job : {dpi : Dpi} {format : Format} {job output certificate : List ℕ} {pages : List Sheet} {old : SoFar} (new : SoFar)
-    → HasPages dpi job pages → old.format ≡ format → old.bytes ≡ frame_bytes → old.certificate ≡ certificate_bytes format []
-    → Hands TakesProved dpi pages old new → output ≡ new.bytes ++ frame_bytes → certificate ≡ new.certificate
-    → IsCertifiedJobOf dpi format job output certificate
+pub written_output : {dpi : Dpi} {job : List ℕ} (format : Option Format) (output : Output) {pages : List Sheet} (old new : SoFar)
+    → HasPages dpi job pages → old.format ≡ format → old.bytes ≡ frame_bytes → IsBegun format old.certificate
+    → Hands TakesText dpi pages old new → output.job.items ≡ new.bytes ++ frame_bytes → output.certificate.items ≡ new.certificate
+    → IsOutput dpi job format (Ok output)
 unfolding job_of_texts
-certified_job {dpi} {format} {job} {output} {pages} {old} new meaning same opened none h closed whole =
+written_output {dpi} {job} None output {pages} old new meaning same opened none h closed whole =
     let g = gathered pages h in
-    let are = are_proofs old new meaning h in
+    job_of_texts dpi job old.bytes new.bytes output.job.items g.texts pages meaning opened g.print g.bytes closed
+written_output {dpi} {job} (Some format) output {pages} old new meaning same opened none h closed whole =
+    let g = gathered pages h in
+    let p : ProofsGathered dpi format pages g.texts old.certificate new.certificate =
+    subst (λ (f : Option Format). AreProvedIn dpi f pages g.texts old.certificate new.certificate) same g.proved in
+    let few : length p.proofs < 2 ^ 32 = omega (arith, p.proved.0, job_fits meaning) in
     record {
-      written = job_of_texts dpi job old.bytes new.bytes output g.texts pages meaning opened g.print g.bytes closed;
+      written = job_of_texts dpi job old.bytes new.bytes output.job.items g.texts pages meaning opened g.print g.bytes closed;
       certified = record {
-        proofs = g.proofs;
-        can_be_said = subst (λ (f : Format). AreProofs dpi f g.proofs) same are;
-        spelled = whole ∙ g.behind [] (omega (arith, are.0)) (none ∙ ap (λ (f : Format). certificate_bytes f []) (sym same))
-            ∙ ap (λ (f : Format). certificate_bytes f g.proofs) same;
-        proved = g.proved;
+        proofs = p.proofs;
+        can_be_said = (few, p.can_be_said);
+        spelled = whole ∙ p.behind [] (omega (arith, few)) none;
+        proved = p.proved;
       };
     }

@@ -1,32 +1,19 @@
--- The page texts that a sink gathers.
-use Rattle.std.proofs.Common.{◌≡◌, ℕ, List, [], ◌∷◌, ◌++◌, Err, refl, sym, ap, subst, ◌∙◌, append_assoc}
-use Rattle.std.proofs.lemmas.List.{append-nil}
+-- Page texts between two resets.
+use Rattle.std.proofs.Common.{◌≡◌, ℕ, List, ◌++◌, Err, sym, ap, subst, ◌∙◌, append_assoc}
 use Rattle.pcl_base.specs.declared.dpi.Dpi.{Dpi}
 use Rattle.pcl_base.specs.declared.fault.JobFault.{JobFault}
 use Rattle.pcl_base.specs.declared.fault.JobFault.TheVariants.{Refused, Memory}
 use Rattle.pcl_bitmap.specs.declared.page.Page.{Page}
 use Rattle.pcl_page.specs.Situation.{Sheet}
-use Rattle.pcl_page.specs.Delivering.{Hands, IsRefusal}
+use Rattle.pcl_page.specs.Delivering.{IsRefusal}
 use Rattle.pcl_page.specs.Jobs.{HasPages, HasAsks}
 use Rattle.pcl_output.specs.Tokens.{frame_bytes}
-use Rattle.pcl_writer.specs.Appending.{AppendsPage, IsWrittenPage}
+use Rattle.pcl_writer.specs.Appending.{IsWrittenPage}
 use Rattle.pcl_meaning.specs.JobTexts.{PrintEach, nothing_for}
 use Rattle.pcl_meaning.proofs.Jobs.{IsAgain, written_again}
 use Rattle.pcl_tool.specs.JobFaults.{fault_of, RefusedOrMemory}
 use Rattle.pcl_tool.specs.Watching.{HasTaken}
 use Rattle.pcl_tool.specs.Minimizing.{IsJobOf}
-
-pub texts_gathered : (dpi : Dpi) (sheets : List Sheet) (old : List ℕ) {new : List ℕ}
-    → Hands (λ (o : List ℕ) (page : Page) (n : List ℕ). AppendsPage page o n) dpi sheets old new
-    → (texts : List ℕ) × PrintEach IsWrittenPage dpi sheets texts × (new ≡ old ++ texts)
-texts_gathered dpi [] old h = ([], refl, h ∙ sym (append-nil old))
-texts_gathered dpi (sheet ∷ sheets) old h =
-    let rest = texts_gathered dpi sheets h.1 h.4 in
-    let text = h.3.0 in (
-      text ++ rest.0,
-      (text, rest.0, (h.0, h.2, h.3.2), refl, rest.1),
-      rest.2 ∙ ap (λ (t : List ℕ). t ++ rest.0) h.3.1 ∙ append_assoc old text rest.0,
-    )
 
 -- a least raster job asks for nothing
 pub asks_nothing : {dpi : Dpi} {job output : List ℕ} (w : IsJobOf dpi job output) → HasAsks dpi output (nothing_for w.pages)
@@ -53,14 +40,6 @@ job_of_texts dpi job start body output texts pages meaning opened print joined c
       alike = w.alike;
       few = w.few;
     }
-
-pub job_written : {dpi : Dpi} {job start : List ℕ} (body : List ℕ) {output : List ℕ} {pages : List Sheet} → HasPages dpi job pages
-    → start ≡ frame_bytes
-    → Hands (λ (o : List ℕ) (page : Page) (n : List ℕ). AppendsPage page o n) dpi pages start body → output ≡ body ++ frame_bytes
-    → IsJobOf dpi job output
-job_written {dpi} {job} {start} body {output} {pages} meaning opened handed closed =
-    let t = texts_gathered dpi pages start handed in
-    job_of_texts dpi job start body output t.0 pages meaning opened t.1 t.2 closed
 
 -- the job was refused or memory ran out, and so it is said
 pub not_taken : {S : Type 0} (takes : S → Page → S → Type 0) (dpi : Dpi) (job : List ℕ) (begun : S) (fault : JobFault)

@@ -1,7 +1,6 @@
 //! Whole runs: a job is read, performed, and shown, over any reader and writer.
 #![tactic(auto)]
 
-mod certifying;
 mod checking;
 mod fault;
 mod image;
@@ -15,6 +14,7 @@ mod page_preview;
 mod reading;
 mod watching;
 mod writing;
+mod written_job;
 
 pub use checking::{check_job, check_job_watched};
 pub use fault::Fault;

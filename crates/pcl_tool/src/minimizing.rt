@@ -1,21 +1,20 @@
 //! A job written again.
 
+ghost use Rattle.std.specs.Prelude.{IfOk};
 ghost use Rattle.pcl_tool.specs.Minimizing.{IsMinimized, IsFiltered, IsFilteredCert};
 ghost use Rattle.pcl_tool.specs.Writing.{IsJobWritten};
+ghost use Rattle.pcl_tool.specs.inner.WrittenJobs.{IsBegun, IsOutput};
 
 use crate::Fault;
-use crate::certifying::CertifiedJob;
 use crate::reading::read_all;
 use crate::watching::{Unwatched, Watcher, perform_watched};
 use crate::writing::write_all;
+use crate::written_job::WrittenJob;
 use pcl_base::{Dpi, INPUT_LIMIT};
 use pcl_cert::{Format, write_certificate};
-use pcl_page::{Page, PageSink};
-use pcl_plan::plan;
-use pcl_writer::{write_frame, write_page};
+use pcl_writer::write_frame;
 use std::alloc::{AllocError, Global};
 use std::io::{Read, Write};
-use std::marker::Model;
 
 /// What a job is written as.
 #[derive(Debug, Drop)]
@@ -44,21 +43,7 @@ pub fn minimize_watched<P: Watcher>(
 ) -> Result<Output, Fault>
     ensures { IsMinimized dpi format job.now result }
 {
-    let mut bytes = Vec::new(alloc);
-    write_frame(&mut bytes)?;
-    let mut certificate = Vec::new(alloc);
-    write_certificate(&[], format, &mut certificate)?;
-    let begun = CertifiedJob {
-        format,
-        bytes,
-        certificate,
-    };
-    let mut certified = perform_watched(alloc, job, dpi, begun, watcher)?;
-    write_frame(&mut certified.bytes)?;
-    Ok(Output {
-        job: certified.bytes,
-        certificate: certified.certificate,
-    })
+    write_again(alloc, job, dpi, Some(format), watcher)
 }
 
 /// Writes a job again as the least raster job of the same pages, without a certificate. The watcher is called for each page that
@@ -71,11 +56,47 @@ pub fn least_job<P: Watcher>(
 ) -> Result<Vec<u8>, Fault>
     ensures { IsJobWritten dpi job.now result }
 {
+    match write_again(alloc, job, dpi, None, watcher) {
+        Ok(output) => Ok(output.job),
+        Err(fault) => Err(fault),
+    }
+}
+
+/// Writes a job again, with a certificate where one of a format is wanted, which else is empty.
+fn write_again<P: Watcher>(
+    alloc: Global,
+    job: &[u8],
+    dpi: Dpi,
+    format: Option<Format>,
+    watcher: P,
+) -> Result<Output, Fault>
+    ensures { IsOutput dpi job.now format result }
+{
     let mut bytes = Vec::new(alloc);
     write_frame(&mut bytes)?;
-    let mut written = perform_watched(alloc, job, dpi, Written { bytes }, watcher)?;
+    let certificate = begun_certificate(alloc, format)?;
+    let begun = WrittenJob {
+        format,
+        bytes,
+        certificate,
+    };
+    let mut written = perform_watched(alloc, job, dpi, begun, watcher)?;
     write_frame(&mut written.bytes)?;
-    Ok(written.bytes)
+    Ok(Output {
+        job: written.bytes,
+        certificate: written.certificate,
+    })
+}
+
+/// The certificate of no page, or nothing where none is wanted.
+fn begun_certificate(alloc: Global, format: Option<Format>) -> Result<Vec<u8>, AllocError>
+    ensures { IfOk result (λ certificate. IsBegun format certificate.items) }
+{
+    let mut certificate = Vec::new(alloc);
+    if let Some(format) = format {
+        write_certificate(&[], format, &mut certificate)?;
+    }
+    Ok(certificate)
 }
 
 /// Reads a job to its end, writes it again, and flushes. Nothing is written after any fault but of a write, and then a
@@ -140,29 +161,4 @@ pub fn filter_cert_watched<R: Read, W: Write, C: Write, P: Watcher>(
     let output = minimize_watched(alloc, &job, dpi, format, watcher)?;
     write_all(out, &output.job)?;
     write_all(cert, &output.certificate)
-}
-
-/// The job so far.
-#[derive(Drop)]
-struct Written {
-    bytes: Vec<u8>,
-}
-
-impl Model for Written {
-    ghost use Rattle.std.specs.Prelude.{List, ℕ};
-
-    ghost Value = { List ℕ };
-
-    ghost view = { λ a. a.bytes.items };
-}
-
-impl PageSink for Written {
-    ghost use Rattle.pcl_writer.specs.Appending.{AppendsPage};
-
-    ghost takes = { λ old page new. AppendsPage page old new };
-
-    fn page(&mut self, page: &Page) -> Result<(), AllocError> {
-        let least = plan(*self.bytes.allocator(), page)?;
-        write_page(page, &least, &mut self.bytes)
-    }
 }

@@ -1,4 +1,4 @@
-//! A job while it is written with a certificate.
+//! A job while it is written.
 
 ghost use Rattle.std.specs.Prelude.{IfOk};
 ghost use Rattle.pcl_cert.specs.Checking.{HasLeastLists};
@@ -10,16 +10,17 @@ use pcl_writer::write_page;
 use std::alloc::{AllocError, Global};
 use std::marker::Model;
 
-/// The bytes of a job so far, and the certificate of its pages so far. Nothing else stays of a page's tables.
+/// The bytes of a job so far, and the certificate of its pages so far, where one is wanted. Nothing else stays of a page's tables.
 #[derive(Drop)]
-pub struct CertifiedJob {
-    pub format: Format,
+pub struct WrittenJob {
+    /// The format of the certificate: none where none is wanted.
+    pub format: Option<Format>,
     pub bytes: Vec<u8>,
     pub certificate: Vec<u8>,
 }
 
-impl Model for CertifiedJob {
-    ghost use Rattle.pcl_tool.specs.inner.Certifying.{SoFar, so_far, HasCount};
+impl Model for WrittenJob {
+    ghost use Rattle.pcl_tool.specs.inner.WrittenJobs.{SoFar, so_far, HasCount};
 
     ghost Value = { SoFar };
 
@@ -28,15 +29,18 @@ impl Model for CertifiedJob {
     ghost invariant = { HasCount };
 }
 
-impl PageSink for CertifiedJob {
-    ghost use Rattle.pcl_tool.specs.inner.Certifying.{TakesProved};
+impl PageSink for WrittenJob {
+    ghost use Rattle.pcl_tool.specs.inner.WrittenJobs.{TakesText};
 
-    ghost takes = { TakesProved };
+    ghost takes = { TakesText };
 
     fn page(&mut self, page: &Page) -> Result<(), AllocError> {
         let alloc = *self.bytes.allocator();
         let least = plan(alloc, page)?;
-        let places = places_of(alloc, page, self.format)?;
+        let Some(format) = self.format else {
+            return write_page(page, &least, &mut self.bytes);
+        };
+        let places = places_of(alloc, page, format)?;
         let before = self.bytes.len();
         write_page(page, &least, &mut self.bytes)?;
         let proof = PageProof {
@@ -44,7 +48,7 @@ impl PageSink for CertifiedJob {
             table: least.into_table(),
             places,
         };
-        match add_proof(&proof, self.format, &mut self.certificate) {
+        match add_proof(&proof, format, &mut self.certificate) {
             Ok(()) => Ok(()),
             Err(failed) => {
                 self.bytes.truncate(before);

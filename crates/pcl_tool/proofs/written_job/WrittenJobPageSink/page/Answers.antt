@@ -1,15 +1,16 @@
-use Rattle.std.proofs.Common.{◌≡◌, ◌-◌, length, refl, sym, ap, subst, arith}
+use Rattle.std.proofs.Common.{◌≡◌, ◌-◌, Option, length, refl, sym, ap, subst, arith}
 use Rattle.std.proofs.lemmas.List.{length-append}
+use Rattle.pcl_cert.specs.declared.format.Format.{Format}
 use Rattle.pcl_cert.specs.declared.page_proof.PageProof.{PageProof}
 use Rattle.pcl_cert.specs.Certificates.{FitsFormat, HasProofMore}
-use Rattle.pcl_tool.specs.inner.Certifying.{SoFar, TakesProved}
+use Rattle.pcl_tool.specs.inner.WrittenJobs.{SoFar, IsProvedIn, TakesText}
 use Rattle.pcl_tool.proofs.Proved.{plan_proves, proof_said}
-use Rattle.pcl_tool.proofs.certifying.CertifiedJobPageSink.page.Goals as goal
+use Rattle.pcl_tool.proofs.written_job.WrittenJobPageSink.page.Goals as goal
 
 pub overflow_cast-proof : goal.overflow_cast-proof
 overflow_cast-proof c =
     let a = c.in_ok-write_page.ensures.ok in
-    let p = plan_proves c.self.inside.format c.args.page.now a.0 c.in_ok-least.least
+    let p = plan_proves c.in-Some.format c.args.page.now a.0 c.in_ok-least.least
     (record { text_len = length a.0; table = c.in_ok-least.least.table; places = c.in_ok-places.places }) c.in_ok-least.ensures a.2
     c.in_ok-places.ensures refl refl in
     omega (arith, p.can_be_said.text_len, ap length a.1, length-append c.self.inside.bytes.items a.0, c.len.ensures, c.len-before.ensures)
@@ -24,10 +25,10 @@ add_proof-requires-clause-fits c =
       table = c.into_table.result;
       places = c.in_ok-places.places;
     } in
-    let is = plan_proves c.self.inside.format c.args.page.now a.0 c.in_ok-least.least proof c.in_ok-least.ensures a.2 c.in_ok-places.ensures
+    let is = plan_proves c.in-Some.format c.args.page.now a.0 c.in_ok-least.least proof c.in_ok-least.ensures a.2 c.in_ok-places.ensures
     long c.into_table.ensures in (
       c.args.page.now.dpi,
-      subst (FitsFormat c.args.page.now.dpi c.self.inside.format) (sym (proof_said c.self.inside.format is.can_be_said))
+      subst (FitsFormat c.args.page.now.dpi c.in-Some.format) (sym (proof_said c.in-Some.format is.can_be_said))
           is.can_be_said.fits,
     )
 
@@ -43,20 +44,24 @@ returns-in-Ok-clause-taken c =
     } in
     let new : SoFar = record {
       format = c.self.inside.format;
-      bytes = c.write_page.new.out.items;
+      bytes = c.write_page-2.new.out.items;
       certificate = c.add_proof.new.certificate.items;
     } in
-    let is = plan_proves c.self.inside.format c.args.page.now a.0 c.in_ok-least.least proof c.in_ok-least.ensures a.2 c.in_ok-places.ensures
+    let is = plan_proves c.in-Some.format c.args.page.now a.0 c.in_ok-least.least proof c.in_ok-least.ensures a.2 c.in_ok-places.ensures
     long c.into_table.ensures in
-    subst (λ (old : SoFar). TakesProved old c.args.page.now new) c.self.view_is
+    subst (λ (old : SoFar). TakesText old c.args.page.now new) c.self.view_is
     (record {
       text = a.0;
       bytes = a.1;
       written = a.2;
-      proof = proof;
-      certificate = subst
-          (λ (said : PageProof). HasProofMore c.self.inside.format said c.self.inside.certificate.items c.add_proof.new.certificate.items)
-          (proof_said c.self.inside.format is.can_be_said) c.in-Ok.ensures.ok;
-      proves = is;
+      proved = subst (λ (f : Option Format). IsProvedIn f c.args.page.now a.0 c.self.inside.certificate.items new.certificate)
+          (sym c.in-Some.is)
+          (record {
+            proof = proof;
+            certificate = subst
+                (λ (said : PageProof). HasProofMore c.in-Some.format said c.self.inside.certificate.items new.certificate)
+                (proof_said c.in-Some.format is.can_be_said) c.in-Ok.ensures.ok;
+            proves = is;
+          });
       format = refl;
     })
