@@ -43,33 +43,26 @@ pub fn report_no_page<P: Reporter>(
 /// shrunk to, its pages, and how they are written.
 pub fn report_shrunk<P: Reporter>(
     alloc: Global,
-    job: &[u8],
+    len: usize,
     shrunk: &Shrunk,
     is_asked_for: bool,
-    dpi: Dpi,
     reporter: P,
 ) -> Result<(), AllocError> {
-    let pages = count_pages(alloc, job, dpi)?.unwrap_or(0);
-    if pages == 0 {
+    if shrunk.pages == 0 {
         reporter.report(NO_PAGE);
     }
     if is_asked_for {
-        reporter.report(&shrunk_line(alloc, job.len(), shrunk, pages)?);
+        reporter.report(&shrunk_line(alloc, len, shrunk)?);
     }
     Ok(())
 }
 
 /// What is said of a job of so many bytes that was shrunk.
-fn shrunk_line(
-    alloc: Global,
-    len: usize,
-    shrunk: &Shrunk,
-    pages: usize,
-) -> Result<Vec<u8>, AllocError> {
+fn shrunk_line(alloc: Global, len: usize, shrunk: &Shrunk) -> Result<Vec<u8>, AllocError> {
     let mut line = Vec::from_slice(alloc, b"pclmin: ")?;
     append_number(len, b" bytes in, ", &mut line)?;
     append_number(shrunk.job.len(), b" out, ", &mut line)?;
-    append_number(pages, b" pages, ", &mut line)?;
+    append_number(shrunk.pages, b" pages, ", &mut line)?;
     line.extend_from_slice(candidate_name(shrunk.by))?;
     line.extend_from_slice(b"\n")?;
     Ok(line)

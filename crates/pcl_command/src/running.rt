@@ -328,7 +328,7 @@ fn write_smaller<R: Read, W: Write, P: Reporter>(
 {
     let job = read_all(alloc, reader, INPUT_LIMIT)?;
     let shrunk = shrink(alloc, &job, dpi)?;
-    report_shrunk(alloc, &job, &shrunk, report, dpi, reporter)?;
+    report_shrunk(alloc, job.len(), &shrunk, report, reporter)?;
     write_all(out, &shrunk.job)
 }
 

@@ -1,7 +1,7 @@
 -- What a job asks for, written around the texts of its pages, one exit or page more.
-use Rattle.std.proofs.Common.{◌≡◌, ◌≢◌, ℕ, suc, ◌+◌, Bool, true, false, ◌==◌, ◌||◌, if◌then◌else◌, List, [], ◌∷◌, ◌++◌, length, map, take, get_or, ◌<◌, refl, sym, ap, subst, ◌∙◌, append_assoc, append-nil, arith}
+use Rattle.std.proofs.Common.{◌≡◌, ◌≢◌, ℕ, suc, ◌+◌, Bool, true, false, ◌==◌, ◌||◌, if◌then◌else◌, List, [], ◌∷◌, ◌++◌, length, map, take, get_or, ◌<◌, ◌≤◌, refl, sym, ap, subst, ◌∙◌, append_assoc, append-nil, arith}
 use Rattle.std.proofs.lemmas.Bool.Decides.{nat_tests}
-use Rattle.std.proofs.lemmas.List.{length-map, length-take-le, map_more}
+use Rattle.std.proofs.lemmas.List.{length-append, length-map, length-take-le, map_more}
 use Rattle.std.proofs.lemmas.List.Concat.{flat_map-cons}
 use Rattle.std.proofs.lemmas.Grind.{flat_map-append}
 use Rattle.pcl_env.specs.declared.asked.Asked.{Asked}
@@ -171,3 +171,13 @@ appended_page asks texts {i} d {old} {start} {new} lt so_far begun written =
     let text = (get_or texts i d).least.items in
     written ∙ ap (λ (bytes : List ℕ). bytes ++ text) begun ∙ append_assoc old (page_start asks i) text
     ∙ ap (λ (bytes : List ℕ). bytes ++ (page_start asks i ++ text)) so_far ∙ sym (next_page asks texts d lt)
+
+-- bytes that are counted, in place of bytes that are written
+pub counted_page : (asks : Asks) (texts : List Text) {i : ℕ} (d : Text) (old start new : ℕ) → i < length texts
+    → old ≤ length (asked_pages asks 0 (least_of (take i texts))) → start ≡ length (page_start asks i)
+    → new ≤ old + start + length (get_or texts i d).least.items → new ≤ length (asked_pages asks 0 (least_of (take (i + 1) texts)))
+counted_page asks texts {i} d old start new lt so_far begun counted =
+    let text = (get_or texts i d).least.items in
+    let pages = asked_pages asks 0 (least_of (take i texts)) in
+    let all = ap length (next_page asks texts d lt) in
+    omega (arith, all, length-append pages (page_start asks i ++ text), length-append (page_start asks i) text, so_far, begun, counted)

@@ -1,5 +1,5 @@
 -- The texts of a job's pages, listed.
-use Rattle.std.proofs.Common.{◌≡◌, ℕ, List, [], ◌∷◌, ◌++◌, sym, ap, subst, ◌∙◌, append_assoc, append-nil}
+use Rattle.std.proofs.Common.{◌≡◌, ℕ, suc, List, [], ◌∷◌, ◌++◌, length, refl, sym, ap, subst, ◌∙◌, append_assoc, append-nil}
 use Rattle.pcl_base.specs.declared.dpi.Dpi.{Dpi}
 use Rattle.pcl_page.specs.Situation.{Sheet}
 use Rattle.pcl_page.specs.Delivering.{Hands}
@@ -23,3 +23,11 @@ pub texts_from_none : (dpi : Dpi) (sheets : List Sheet) {old : List (List ℕ)} 
 texts_from_none dpi sheets {old} new h e =
     let t = texts_listed dpi sheets old h in
     subst (AreLeastTexts dpi sheets) (sym (t.2 ∙ ap (λ (o : List (List ℕ)). o ++ t.0) e)) t.1
+
+-- one for each page
+pub as_many_texts : (dpi : Dpi) (sheets : List Sheet) (texts : List (List ℕ)) → AreLeastTexts dpi sheets texts
+    → length texts ≡ length sheets
+as_many_texts dpi [] [] least = refl
+as_many_texts dpi [] (text ∷ texts) least = absurd least
+as_many_texts dpi (sheet ∷ sheets) [] least = absurd least
+as_many_texts dpi (sheet ∷ sheets) (text ∷ texts) least = ap suc (as_many_texts dpi sheets texts least.1)

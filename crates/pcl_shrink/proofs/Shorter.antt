@@ -1,58 +1,49 @@
--- The shorter of the best job so far and a proposal, and what comes of several.
-use Rattle.std.proofs.Common.{◌≡◌, ℕ, ◌<◌, ◌≤◌, List, length, Option, Some, None, ◌++◌, refl, sym, ap, ◌∙◌, subst, arith}
-use Rattle.std.specs.Global.{Vec}
+-- The shorter of the best job so far and a proposal, and what comes of it.
+use Rattle.std.proofs.Common.{◌≡◌, ℕ, ◌<◌, ◌≤◌, List, length, ◌++◌, refl, sym, ap, ◌∙◌, subst, arith}
 use Rattle.pcl_base.specs.declared.dpi.Dpi.{Dpi}
-use Rattle.pcl_page.specs.Asks.{Asks, asks_of}
+use Rattle.pcl_page.specs.Asks.{Asks}
 use Rattle.pcl_page.specs.Situation.{Sheet}
-use Rattle.pcl_page.specs.Jobs.{HasPages}
+use Rattle.pcl_page.specs.Jobs.{HasPages, HasAsks}
 use Rattle.pcl_same.specs.declared.comparison.AskedComparison.TheVariants.{Same}
-use Rattle.pcl_same.specs.declared.keeping.KeptJob.{KeptJob}
 use Rattle.pcl_same.specs.Comparing.{IsAskedComparison}
-use Rattle.pcl_same.specs.Keeping.{IsKept}
 use Rattle.pcl_output.specs.Tokens.{frame_bytes}
 use Rattle.pcl_meaning.specs.JobTexts.{nothing_for}
 use Rattle.pcl_tool.proofs.Texts.{job_of_texts}
 use Rattle.pcl_shrink.specs.Asking.{asked_job}
 use Rattle.pcl_shrink.specs.Texts.{AreLeastTexts}
 use Rattle.pcl_shrink.specs.Shrinking.{IsSmallerJob}
-use Rattle.pcl_shrink.specs.inner.Best.{IsShorter}
-use Rattle.pcl_shrink.proofs.Smaller.{OnePages, OneAsks, AskNothing, input_best, same_as_raster, proposal_smaller}
+use Rattle.pcl_shrink.specs.inner.Best.{IsBest, IsShorter}
+use Rattle.pcl_shrink.specs.inner.Proposals.{IsLimit}
+use Rattle.pcl_shrink.proofs.Smaller.{OnePages, OneAsks, AskNothing, same_as_raster, proposal_smaller}
 use Rattle.pcl_shrink.proofs.LeastJobs.{joined, print_each, job_of_nothing}
 
 -- the best job so far stays
-pub stays_alone : {dpi : Dpi} {job best : List ℕ} → IsShorter dpi job best None best
-stays_alone = record { keeps = λ b. b; no_longer = omega arith; takes = tt }
+pub stays_shorter : {dpi : Dpi} {job best proposal : List ℕ} → length best ≤ length proposal → IsShorter dpi job best proposal best
+stays_shorter short = record { keeps = λ b. b; no_longer = omega arith; takes = λ same. short }
 
-pub stays_shorter : {dpi : Dpi} {job best : List ℕ} (proposal : Vec ℕ) → length best ≤ length proposal.items
-    → IsShorter dpi job best (Some proposal) best
-stays_shorter proposal short = record { keeps = λ b. b; no_longer = omega arith; takes = λ same. short }
-
-pub stays_unlike : {dpi : Dpi} {job best : List ℕ} (proposal : Vec ℕ) → (IsAskedComparison dpi job proposal.items Same → ⊥)
-    → IsShorter dpi job best (Some proposal) best
-stays_unlike proposal unlike = record { keeps = λ b. b; no_longer = omega arith; takes = λ same. absurd (unlike same) }
+pub stays_unlike : {dpi : Dpi} {job best proposal : List ℕ} → (IsAskedComparison dpi job proposal Same → ⊥)
+    → IsShorter dpi job best proposal best
+stays_unlike unlike = record { keeps = λ b. b; no_longer = omega arith; takes = λ same. absurd (unlike same) }
 
 -- the proposal is taken
-pub takes_proposal : OnePages → OneAsks → {dpi : Dpi} {job best : List ℕ} (proposal : Vec ℕ)
-    → IsAskedComparison dpi job proposal.items Same → length proposal.items < length best
-    → IsShorter dpi job best (Some proposal) proposal.items
-takes_proposal one one_asks proposal looked short = record {
+pub takes_proposal : OnePages → OneAsks → {dpi : Dpi} {job best proposal : List ℕ} → IsAskedComparison dpi job proposal Same
+    → length proposal < length best → IsShorter dpi job best proposal proposal
+takes_proposal one one_asks looked short = record {
   keeps = λ best. proposal_smaller one one_asks best looked short;
   no_longer = omega (arith, short);
   takes = λ same. omega arith;
 }
 
--- three looks, of which the last is at the least page texts with what is asked around them
-pub smaller_job : OnePages → OneAsks → AskNothing → {dpi : Dpi} {job second third last : List ℕ} {kept : KeptJob} (asked : Vec ℕ)
-    {coarse letters : Option (Vec ℕ)} (texts : List (List ℕ)) {pages : List Sheet} → IsKept dpi job kept
-    → HasPages dpi job pages → AreLeastTexts dpi pages texts → asked.items ≡ asked_job (asks_of kept.asks) texts
-    → IsShorter dpi job job letters second → IsShorter dpi job second coarse third → IsShorter dpi job third (Some asked) last
-    → IsSmallerJob dpi job last
-smaller_job one one_asks ask_nothing {dpi} {job} {second} {third} {last} {kept} asked texts {pages} k meaning least spelled one_look
-    two_looks three_looks =
-    let s = three_looks.keeps (two_looks.keeps (one_look.keeps (input_best k))) in
-    let asks_are : asks_of kept.asks ≡ s.asks = one_asks dpi job (asks_of kept.asks) s.asks k.asked s.asked in
-    let is : asked.items ≡ asked_job s.asks texts = spelled ∙ ap (λ (a : Asks). asked_job a texts) asks_are in
+-- a job that is no longer than least page texts with what is asked around them, where these are the same
+pub smaller_job : OnePages → OneAsks → AskNothing → {dpi : Dpi} {job last : List ℕ} {pages : List Sheet} {asks : Asks}
+    (texts : List (List ℕ)) → IsBest dpi job last → HasPages dpi job pages → HasAsks dpi job asks → AreLeastTexts dpi pages texts
+    → (IsAskedComparison dpi job (asked_job asks texts) Same → length last ≤ length (asked_job asks texts)) → IsSmallerJob dpi job last
+smaller_job one one_asks ask_nothing {dpi} {job} {last} {pages} {asks} texts s meaning asked least shorter =
+    let asks_are : asks ≡ s.asks = one_asks dpi job asks s.asks asked s.asked in
     let each = subst (λ (ps : List Sheet). AreLeastTexts dpi ps texts) (one dpi job pages s.pages meaning s.meaning) least in
+    let within : IsAskedComparison dpi job (asked_job s.asks texts) Same → length last ≤ length (asked_job s.asks texts) =
+    subst (λ (a : Asks). IsAskedComparison dpi job (asked_job a texts) Same → length last ≤ length (asked_job a texts)) asks_are
+    shorter in
     let raster = frame_bytes ++ joined texts ++ frame_bytes in
     let w = job_of_texts dpi job frame_bytes (frame_bytes ++ joined texts) raster (joined texts) s.pages s.meaning refl
     (print_each dpi s.pages texts each) refl refl in
@@ -68,13 +59,26 @@ smaller_job one one_asks ask_nothing {dpi} {job} {second} {third} {last} {kept} 
       raster = raster;
       raster_is = w;
       within_raster = λ nothing.
-          let raster_here : asked.items ≡ raster = is ∙ ap (λ (a : Asks). asked_job a texts) nothing ∙ job_of_nothing s.pages texts in
+          let raster_here : asked_job s.asks texts ≡ raster =
+          ap (λ (a : Asks). asked_job a texts) nothing ∙ job_of_nothing s.pages texts in
           let same = same_as_raster ask_nothing w s.asks s.asked (nothing ∙ ap nothing_for pages_are) in
-          let taken = three_looks.takes (subst (λ (bytes : List ℕ). IsAskedComparison dpi job bytes Same) (sym raster_here) same) in
-          subst (λ (bytes : List ℕ). length last ≤ length bytes) raster_here (omega (arith, taken));
+          subst (λ (bytes : List ℕ). length last ≤ length bytes) raster_here
+          (within (subst (λ (bytes : List ℕ). IsAskedComparison dpi job bytes Same) (sym raster_here) same));
       texts = texts;
       least = each;
-      within_asked = λ same.
-          let taken = three_looks.takes (subst (λ (bytes : List ℕ). IsAskedComparison dpi job bytes Same) (sym is) same) in
-          subst (λ (bytes : List ℕ). length last ≤ length bytes) is (omega (arith, taken));
+      within_asked = within;
     }
+
+-- a job that is as short as the limit
+pub limited_job : OnePages → OneAsks → AskNothing → {dpi : Dpi} {job last : List ℕ} {limit : ℕ} → IsLimit dpi job limit
+    → length last ≤ limit → IsBest dpi job last → IsSmallerJob dpi job last
+limited_job one one_asks ask_nothing m short s =
+    smaller_job one one_asks ask_nothing m.texts s m.meaning m.asked m.least (λ same. omega (arith, short, m.within))
+
+-- the shorter of the best job so far and of least page texts with what is asked around them
+pub raster_job : OnePages → OneAsks → AskNothing → {dpi : Dpi} {job best last asked_texts : List ℕ} {pages : List Sheet} {asks : Asks}
+    (texts : List (List ℕ)) → HasPages dpi job pages → HasAsks dpi job asks → AreLeastTexts dpi pages texts
+    → asked_texts ≡ asked_job asks texts → IsShorter dpi job best asked_texts last → IsBest dpi job best → IsSmallerJob dpi job last
+raster_job one one_asks ask_nothing {dpi} {job} {best} {last} {asks} texts meaning asked least spelled look s =
+    let here = subst (λ (bytes : List ℕ). IsShorter dpi job best bytes last) spelled look in
+    smaller_job one one_asks ask_nothing texts (here.keeps s) meaning asked least here.takes

@@ -40,7 +40,12 @@ pub record IsSmallerJob (dpi : Dpi) (job output : List ℕ) : Type 0 where
   pub least : AreLeastTexts dpi pages texts
   pub within_asked : IsAskedComparison dpi job (asked_job asks texts) Same → length output ≤ length (asked_job asks texts)
 
+-- such a job, and how many pages it has
+pub record IsShrunkTo (dpi : Dpi) (job : List ℕ) (shrunk : Shrunk) : Type 0 where
+  pub smaller : IsSmallerJob dpi job shrunk.job.items
+  pub counted : shrunk.pages ≡ length smaller.pages
+
 abbrev pub IsShrunk : Dpi → List ℕ → Result Shrunk JobFault → Type 0
-IsShrunk dpi job (Ok shrunk) = IsSmallerJob dpi job shrunk.job.items
+IsShrunk dpi job (Ok shrunk) = IsShrunkTo dpi job shrunk
 IsShrunk dpi job (Err (Refused refusal)) = IsRefusal dpi job refusal
 IsShrunk dpi job (Err Memory) = Unit {0}

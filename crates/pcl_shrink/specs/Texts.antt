@@ -7,10 +7,12 @@ use Rattle.pcl_base.specs.declared.fault.JobFault.TheVariants.{Refused, Memory}
 use Rattle.pcl_bitmap.specs.declared.page.Page.{Page}
 use Rattle.pcl_page.specs.Situation.{Sheet}
 use Rattle.pcl_page.specs.Performing.{Shows}
-use Rattle.pcl_page.specs.Jobs.{HasPages}
+use Rattle.pcl_page.specs.Asks.{asks_of}
+use Rattle.pcl_page.specs.Jobs.{HasPages, HasAsks}
 use Rattle.pcl_page.specs.Delivering.{IsRefusal}
 use Rattle.pcl_writer.specs.Appending.{IsWrittenPage}
 use Rattle.pcl_shrink.specs.declared.rasters.Text.{Text}
+use Rattle.pcl_shrink.specs.declared.texts.Found.{Found}
 
 -- a least page text for each page
 abbrev pub AreLeastTexts : Dpi → List Sheet → List (List ℕ) → Type 0
@@ -29,8 +31,17 @@ least_of texts = map (λ (text : Text). text.least.items) texts
 abbrev pub TakesText : List (List ℕ) → Page → List (List ℕ) → Type 0
 TakesText old page new = (text : List ℕ) × (new ≡ old ++ text ∷ []) × IsWrittenPage page text
 
--- the job is accepted, and these are its pages' texts, whatever comes beside them
-abbrev pub HasTexts : {T : Type 0} → Dpi → List ℕ → Result (Vec Text × T) JobFault → Type 0
-HasTexts {T} dpi job (Ok found) = (pages : List Sheet) × HasPages dpi job pages × AreLeastTexts dpi pages (least_of found.0.items)
-HasTexts {T} dpi job (Err (Refused refusal)) = IsRefusal dpi job refusal
-HasTexts {T} dpi job (Err Memory) = Unit {0}
+-- the job is accepted, and these are its pages' texts
+abbrev pub AreTextsOf : Dpi → List ℕ → List (List ℕ) → Type 0
+AreTextsOf dpi job texts = (pages : List Sheet) × HasPages dpi job pages × AreLeastTexts dpi pages texts
+
+abbrev pub HasTextsAlone : Dpi → List ℕ → Result (Vec Text) JobFault → Type 0
+HasTextsAlone dpi job (Ok texts) = AreTextsOf dpi job (least_of texts.items)
+HasTextsAlone dpi job (Err (Refused refusal)) = IsRefusal dpi job refusal
+HasTextsAlone dpi job (Err Memory) = Unit {0}
+
+-- these, and what the job asks for
+abbrev pub HasTexts : Dpi → List ℕ → Result (Vec Text × Found) JobFault → Type 0
+HasTexts dpi job (Ok found) = AreTextsOf dpi job (least_of found.0.items) × HasAsks dpi job (asks_of found.1.asks)
+HasTexts dpi job (Err (Refused refusal)) = IsRefusal dpi job refusal
+HasTexts dpi job (Err Memory) = Unit {0}

@@ -1,2 +1,3 @@
 -- What only proofs and contracts of private functions cite.
 pub mod Best
+pub mod Proposals

@@ -20,4 +20,15 @@ pub struct Shrunk {
     pub job: Vec<u8>,
     /// How it is written.
     pub by: Candidate,
+    /// How many pages it has.
+    pub pages: usize,
+}
+
+/// A job that may have the pages of another.
+#[derive(Drop)]
+pub(crate) struct Proposal {
+    /// The job.
+    pub job: Vec<u8>,
+    /// How it is written.
+    pub by: Candidate,
 }

@@ -3,7 +3,6 @@
 ghost use Rattle.pcl_shrink.specs.Outcome.{IsOutcome};
 
 use crate::asking::{append_end, append_page_start};
-use crate::rasters::Text;
 use pcl_base::{Dpi, JobFault};
 use pcl_lettering::{Lettering, PageWriter};
 use pcl_page::{Asks, Page, PageSink, perform};
@@ -18,7 +17,7 @@ pub fn letter_job(
     job: &[u8],
     dpi: Dpi,
     asks: &Asks<'_>,
-    texts: &[Text],
+    texts: &[Vec<u8>],
     lettering: &Lettering,
 ) -> Result<Option<Vec<u8>>, JobFault>
     ensures { IsOutcome dpi job.now result }
@@ -49,7 +48,7 @@ struct LetterWriter<'a, 'b> {
     /// What the job asks for.
     asks: &'b Asks<'a>,
     /// The texts of its pages without letters.
-    texts: &'b [Text],
+    texts: &'b [Vec<u8>],
     /// The fonts or the macros.
     start: Vec<u8>,
     writer: PageWriter<'b>,
@@ -72,7 +71,7 @@ impl<'a, 'b> LetterWriter<'a, 'b> {
     fn new(
         alloc: Global,
         asks: &'b Asks<'a>,
-        texts: &'b [Text],
+        texts: &'b [Vec<u8>],
         lettering: &'b Lettering,
     ) -> Result<LetterWriter<'a, 'b>, AllocError> {
         let mut start = Vec::new(alloc);
@@ -126,7 +125,7 @@ impl<'a, 'b> LetterWriter<'a, 'b> {
         for (number, text) in self.texts.iter().enumerate() {
             if self.first <= number && number < self.pages {
                 append_page_start(self.asks, number, &mut self.out)?;
-                self.out.extend_from_slice(text.shortest())?;
+                self.out.extend_from_slice(text)?;
             }
         }
         Ok(())
@@ -159,9 +158,8 @@ impl<'a, 'b> PageSink for LetterWriter<'a, 'b> {
             return Ok(());
         };
         self.begin_page()?;
-        let plain = text.shortest();
-        self.plain = self.plain.saturating_add(plain.len());
-        self.writer.append_page(page, plain, &mut self.out)?;
+        self.plain = self.plain.saturating_add(text.len());
+        self.writer.append_page(page, text, &mut self.out)?;
         self.pages = self.pages.saturating_add(1);
         Ok(())
     }

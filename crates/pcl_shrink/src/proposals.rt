@@ -1,43 +1,96 @@
 //! What a job may be written as.
 
 ghost use Rattle.pcl_shrink.specs.Outcome.{RefusesWith};
-ghost use Rattle.pcl_shrink.specs.Texts.{HasTexts};
+ghost use Rattle.pcl_shrink.specs.inner.Proposals.{HasProposed};
 
+use crate::Candidate;
+use crate::candidate::Proposal;
 use crate::letter_jobs::letter_job;
-use crate::rasters::Text;
+use crate::raster_jobs::{asked_len, plain_job};
+use crate::rasters::{Text, shortest_texts};
 use crate::texts::{Found, page_texts};
 use pcl_base::{Dpi, JobFault};
 use pcl_lettering::Lettering;
+use pcl_page::Asks;
+use pcl_shapes::Collection;
 use std::alloc::Global;
 
-/// The texts of the pages of a job as rasters, and a shorter job with letters, which asks for what the job asks for: none where letters
-/// take no fewer bytes than the shortest of these texts. Nothing is promised of that. A refusal is the job's.
-pub fn propose(
+/// What is proposed for a job, and what it is measured by.
+#[derive(Drop)]
+pub struct Proposed {
+    /// The shortest job that was made, of which nothing is promised.
+    pub proposal: Proposal,
+    /// How many bytes the least page texts of the job take, with what it asks for around them.
+    pub limit: usize,
+    /// How many pages the job has.
+    pub pages: usize,
+}
+
+/// Proposes a job with the pages of a job, which asks for what that asks for: its pages as their shortest rasters, or, where that is
+/// shorter, with letters. A refusal is the job's.
+pub fn propose(alloc: Global, job: &[u8], dpi: Dpi) -> Result<Proposed, JobFault>
+    ensures { HasProposed dpi job.now result }
+{
+    let (texts, found) = page_texts(alloc, job, dpi)?;
+    let pages = texts.len();
+    let limit = asked_len(alloc, &found.asks, &texts)?;
+    let proposal = proposal_of(alloc, job, dpi, texts, found)?;
+    Ok(Proposed {
+        proposal,
+        limit,
+        pages,
+    })
+}
+
+/// The shorter of the texts of the pages, with what is asked around them, and of a job with letters found by this.
+fn proposal_of(
     alloc: Global,
     job: &[u8],
     dpi: Dpi,
-) -> Result<(Vec<Text>, Option<Vec<u8>>), JobFault>
-    ensures { HasTexts dpi job.now result }
+    texts: Vec<Text>,
+    found: Found<'_>,
+) -> Result<Proposal, JobFault>
+    ensures { RefusesWith dpi job.now result }
 {
-    let (texts, found) = page_texts(alloc, job, dpi)?;
-    let letters = propose_letters(alloc, job, dpi, &texts, found)?;
-    Ok((texts, letters))
+    let by = raster_kind(&texts);
+    let plain = shortest_texts(alloc, texts)?;
+    let Found { shapes, asks } = found;
+    match propose_letters(alloc, job, dpi, &asks, &plain, shapes)? {
+        Some(job) => Ok(Proposal {
+            job,
+            by: Candidate::Glyphs,
+        }),
+        None => Ok(Proposal {
+            job: plain_job(alloc, &asks, plain)?,
+            by,
+        }),
+    }
 }
 
-/// A job with letters found by this, if that is shorter.
+/// What the shortest texts of pages are called.
+fn raster_kind(texts: &[Text]) -> Candidate {
+    if texts.iter().any(|text| text.coarse.is_some()) {
+        Candidate::Coarse
+    } else {
+        Candidate::Raster
+    }
+}
+
+/// A job with letters among these shapes, where that is shorter than these texts of its pages.
 fn propose_letters(
     alloc: Global,
     job: &[u8],
     dpi: Dpi,
-    texts: &[Text],
-    found: Found<'_>,
+    asks: &Asks<'_>,
+    plain: &[Vec<u8>],
+    shapes: Collection,
 ) -> Result<Option<Vec<u8>>, JobFault>
     ensures { RefusesWith dpi job.now result }
 {
-    let lettering = Lettering::new(alloc, found.shapes)?;
+    let lettering = Lettering::new(alloc, shapes)?;
     if lettering.is_empty() {
         Ok(None)
     } else {
-        letter_job(alloc, job, dpi, &found.asks, texts, &lettering)
+        letter_job(alloc, job, dpi, asks, plain, &lettering)
     }
 }

@@ -1,6 +1,6 @@
 //! A job written again as rasters, with what it asks for.
 
-ghost use Rattle.std.specs.Prelude.{◌≡◌, IfOk};
+ghost use Rattle.std.specs.Prelude.{◌≡◌, ◌≤◌, length, IfOk};
 ghost use Rattle.pcl_page.specs.Asks.{asks_of};
 ghost use Rattle.pcl_shrink.specs.Asking.{asked_job};
 ghost use Rattle.pcl_shrink.specs.Texts.{least_of};
@@ -23,20 +23,37 @@ pub fn asked_job(alloc: Global, asks: &Asks<'_>, texts: &[Text]) -> Result<Vec<u
     Ok(out)
 }
 
-/// The same with the shortest text of each page: none where no page has a shorter one of a coarser resolution.
-pub fn coarse_job(
+/// How many bytes `asked_job` makes, without making them.
+pub fn asked_len(alloc: Global, asks: &Asks<'_>, texts: &[Text]) -> Result<usize, AllocError>
+    ensures { IfOk result (λ len. len ≤ length (asked_job (asks_of asks.now) (least_of texts.now))) }
+{
+    let mut len: usize = 0;
+    let mut around = Vec::new(alloc);
+    for (number, text) in texts.iter().enumerate() {
+        around.clear();
+        append_page_start(asks, number, &mut around)?;
+        len = len
+            .saturating_add(around.len())
+            .saturating_add(text.least.len());
+    }
+    around.clear();
+    append_end(asks, texts.len(), &mut around)?;
+    Ok(len.saturating_add(around.len()))
+}
+
+/// The same as `asked_job` with any texts of the pages, each of which is dropped once it is appended.
+pub fn plain_job(
     alloc: Global,
     asks: &Asks<'_>,
-    texts: &[Text],
-) -> Result<Option<Vec<u8>>, AllocError> {
-    if texts.iter().all(|text| text.coarse.is_none()) {
-        return Ok(None);
-    }
+    texts: Vec<Vec<u8>>,
+) -> Result<Vec<u8>, AllocError> {
     let mut out = Vec::new(alloc);
-    for (number, text) in texts.iter().enumerate() {
+    let mut pages = 0;
+    for (number, text) in texts.into_iter().enumerate() {
         append_page_start(asks, number, &mut out)?;
-        out.extend_from_slice(text.shortest())?;
+        out.extend_from_slice(&text)?;
+        pages = number.saturating_add(1);
     }
-    append_end(asks, texts.len(), &mut out)?;
-    Ok(Some(out))
+    append_end(asks, pages, &mut out)?;
+    Ok(out)
 }

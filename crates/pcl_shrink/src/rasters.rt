@@ -22,12 +22,22 @@ pub struct Text {
 
 impl Text {
     /// The shortest of them.
-    pub fn shortest(&self) -> &[u8] {
-        match &self.coarse {
+    fn into_shortest(self) -> Vec<u8> {
+        let Text { least, coarse } = self;
+        match coarse {
             Some(coarse) => coarse,
-            None => &self.least,
+            None => least,
         }
     }
+}
+
+/// The shortest text of each page.
+pub fn shortest_texts(alloc: Global, texts: Vec<Text>) -> Result<Vec<Vec<u8>>, AllocError> {
+    let mut shortest = Vec::new(alloc);
+    for text in texts {
+        shortest.push(text.into_shortest())?;
+    }
+    Ok(shortest)
 }
 
 /// The texts of a page as a raster.

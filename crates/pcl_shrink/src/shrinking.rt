@@ -4,10 +4,13 @@ ghost use Rattle.std.specs.Prelude.{◌≡◌, length, IfOk};
 ghost use Rattle.pcl_same.specs.Keeping.{IsKept};
 ghost use Rattle.pcl_shrink.specs.Shrinking.{IsShrunk};
 ghost use Rattle.pcl_shrink.specs.inner.Best.{best_bytes, IsShorter};
+ghost use Rattle.pcl_shrink.specs.inner.Proposals.{IsLimit, IsWithin};
 
+use crate::candidate::Proposal;
 use crate::looking::is_same;
 use crate::proposals::propose;
-use crate::raster_jobs::{asked_job, coarse_job};
+use crate::raster_jobs::asked_job;
+use crate::texts::texts_alone;
 use crate::{Candidate, Shrunk};
 use pcl_base::{Dpi, JobFault};
 use pcl_page::one_meaning;
@@ -20,19 +23,38 @@ use std::alloc::{AllocError, Global};
 pub fn shrink(alloc: Global, job: &[u8], dpi: Dpi) -> Result<Shrunk, JobFault>
     ensures { IsShrunk dpi job.now result }
 {
-    let (texts, letters) = propose(alloc, job, dpi)?;
+    let proposed = propose(alloc, job, dpi)?;
     // The pages are kept for the looks once what proposes has gone.
     let kept = keep_job(alloc, job, dpi)?;
-    let asks = kept.asks();
-    // The shortest proposal comes first: where it is taken, no other needs a look.
-    let best = shorter(alloc, &kept, dpi, job, None, letters, Candidate::Glyphs)?;
-    let coarse = coarse_job(alloc, asks, &texts)?;
-    let best = shorter(alloc, &kept, dpi, job, best, coarse, Candidate::Coarse)?;
-    let asked = asked_job(alloc, asks, &texts)?;
-    let best = shorter(alloc, &kept, dpi, job, best, Some(asked), Candidate::Raster)?;
+    let best = shorter(alloc, &kept, dpi, job, None, proposed.proposal)?;
+    let best = within(alloc, &kept, dpi, job, best, proposed.limit)?;
+    one_meaning();
+    Ok(best_or_input(alloc, job, best, proposed.pages)?)
+}
+
+/// The best job so far where it has no more than so many bytes, which is what the least page texts take with what the job asks for
+/// around them. Else a proposal wasn't what it was to be: then it is compared with these.
+fn within(
+    alloc: Global,
+    kept: &KeptJob<'_>,
+    dpi: Dpi,
+    job: &[u8],
+    best: Option<Proposal>,
+    limit: usize,
+) -> Result<Option<Proposal>, JobFault>
+    ensures { IsKept dpi job.now kept.now → IsLimit dpi job.now limit → IsWithin dpi job.now best result }
+{
     one_meaning();
     written_jobs_ask_for_nothing();
-    Ok(best_or_input(alloc, job, best)?)
+    if best_len(job, &best) <= limit {
+        return Ok(best);
+    }
+    let texts = texts_alone(alloc, job, dpi)?;
+    let rasters = Proposal {
+        job: asked_job(alloc, kept.asks(), &texts)?,
+        by: Candidate::Raster,
+    };
+    Ok(shorter(alloc, kept, dpi, job, best, rasters)?)
 }
 
 /// A proposal where it is shorter than the best job so far, has the pages of the job that is kept and asks for the same; else the best
@@ -42,45 +64,48 @@ fn shorter(
     kept: &KeptJob<'_>,
     dpi: Dpi,
     job: &[u8],
-    best: Option<Shrunk>,
-    proposal: Option<Vec<u8>>,
-    by: Candidate,
-) -> Result<Option<Shrunk>, AllocError>
+    best: Option<Proposal>,
+    proposal: Proposal,
+) -> Result<Option<Proposal>, AllocError>
     ensures { IsKept dpi job.now kept.now
-        → IfOk result (λ shorter. IsShorter dpi job.now (best_bytes job.now best) proposal (best_bytes job.now shorter)) }
+        → IfOk result (λ shorter. IsShorter dpi job.now (best_bytes job.now best) proposal.job.items (best_bytes job.now shorter)) }
 {
-    let Some(proposal) = proposal else {
-        return Ok(best);
-    };
-    if proposal.len() >= best_len(job, &best) {
+    if proposal.job.len() >= best_len(job, &best) {
         return Ok(best);
     }
-    if !is_same(alloc, kept, &proposal, dpi)? {
+    if !is_same(alloc, kept, &proposal.job, dpi)? {
         return Ok(best);
     }
     one_meaning();
-    Ok(Some(Shrunk { job: proposal, by }))
+    Ok(Some(proposal))
 }
 
 /// How many bytes the best job so far has.
-fn best_len(job: &[u8], best: &Option<Shrunk>) -> usize
+fn best_len(job: &[u8], best: &Option<Proposal>) -> usize
     ensures { result ≡ length (best_bytes job.now best.now) }
 {
     match best {
-        Some(shrunk) => shrunk.job.len(),
+        Some(proposal) => proposal.job.len(),
         None => job.len(),
     }
 }
 
-/// The best job that was found, or else the job as it came.
-fn best_or_input(alloc: Global, job: &[u8], best: Option<Shrunk>) -> Result<Shrunk, AllocError>
-    ensures { IfOk result (λ shrunk. shrunk.job.items ≡ best_bytes job.now best) }
+/// The best job that was found, or else the job as it came, of so many pages.
+fn best_or_input(
+    alloc: Global,
+    job: &[u8],
+    best: Option<Proposal>,
+    pages: usize,
+) -> Result<Shrunk, AllocError>
+    ensures job { IfOk result (λ shrunk. shrunk.job.items ≡ best_bytes job.now best) }
+    ensures pages { IfOk result (λ shrunk. shrunk.pages ≡ pages) }
 {
     match best {
-        Some(shrunk) => Ok(shrunk),
+        Some(Proposal { job, by }) => Ok(Shrunk { job, by, pages }),
         None => Ok(Shrunk {
             job: Vec::from_slice(alloc, job)?,
             by: Candidate::Input,
+            pages,
         }),
     }
 }

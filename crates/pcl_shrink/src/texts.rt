@@ -1,6 +1,6 @@
 //! The pages of a job as texts, and what letters for them are found by.
 
-ghost use Rattle.pcl_shrink.specs.Texts.{HasTexts};
+ghost use Rattle.pcl_shrink.specs.Texts.{HasTexts, HasTextsAlone};
 
 use crate::rasters::{Text, page_text};
 use pcl_base::{Dpi, JobFault};
@@ -9,10 +9,10 @@ use pcl_shapes::Collection;
 use std::alloc::{AllocError, Global};
 use std::marker::Model;
 
-/// What the letters of a job are found by. Nothing is promised of it.
+/// What the letters of a job are found by.
 #[derive(Drop)]
 pub struct Found<'a> {
-    /// The shapes of its pages.
+    /// The shapes of its pages. Nothing is promised of them.
     pub shapes: Collection,
     /// What it asks of the printer.
     pub asks: Asks<'a>,
@@ -33,6 +33,16 @@ pub fn page_texts<'a>(
     let asks = perform_asked(alloc, job, dpi, &mut writer)?;
     let shapes = writer.shapes;
     Ok((writer.texts, Found { shapes, asks }))
+}
+
+/// The texts of the pages of a job as rasters, alone. A refusal is the job's.
+pub fn texts_alone(alloc: Global, job: &[u8], dpi: Dpi) -> Result<Vec<Text>, JobFault>
+    ensures { HasTextsAlone dpi job.now result }
+{
+    match page_texts(alloc, job, dpi) {
+        Ok((texts, _)) => Ok(texts),
+        Err(fault) => Err(fault),
+    }
 }
 
 /// Writes the pages that come, and collects their shapes.

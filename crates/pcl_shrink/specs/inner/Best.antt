@@ -1,6 +1,5 @@
 -- The best job so far.
-use Rattle.std.specs.Prelude.{ℕ, ◌≤◌, List, length, Option, Some, None, IfSome}
-use Rattle.std.specs.Global.{Vec}
+use Rattle.std.specs.Prelude.{ℕ, ◌≤◌, List, length, Option, Some, None}
 use Rattle.pcl_base.specs.declared.dpi.Dpi.{Dpi}
 use Rattle.pcl_page.specs.Situation.{Sheet}
 use Rattle.pcl_page.specs.Asks.{Asks}
@@ -8,7 +7,7 @@ use Rattle.pcl_page.specs.Jobs.{HasPages, HasAsks}
 use Rattle.pcl_same.specs.declared.comparison.AskedComparison.TheVariants.{Same}
 use Rattle.pcl_same.specs.Comparing.{IsAskedComparison}
 use Rattle.pcl_shrink.specs.Shrinking.{PrintsAlike}
-use Rattle.pcl_shrink.specs.declared.candidate.Shrunk.{Shrunk}
+use Rattle.pcl_shrink.specs.declared.candidate.Proposal.{Proposal}
 
 -- a job with the pages of another, which asks for the same, and is no longer
 pub record IsBest (dpi : Dpi) (job best : List ℕ) : Type 0 where
@@ -21,12 +20,12 @@ pub record IsBest (dpi : Dpi) (job best : List ℕ) : Type 0 where
   pub within_input : length best ≤ length job
 
 -- the bytes of the best job that was found, or else those of the job as it came
-abbrev pub best_bytes : List ℕ → Option Shrunk → List ℕ
+abbrev pub best_bytes : List ℕ → Option Proposal → List ℕ
 best_bytes job None = job
-best_bytes job (Some shrunk) = shrunk.job.items
+best_bytes job (Some proposal) = proposal.job.items
 
 -- the shorter of the best job so far and a proposal that has the same pages and asks for the same
-pub record IsShorter (dpi : Dpi) (job best : List ℕ) (proposal : Option (Vec ℕ)) (shorter : List ℕ) : Type 0 where
+pub record IsShorter (dpi : Dpi) (job best proposal shorter : List ℕ) : Type 0 where
   pub keeps : IsBest dpi job best → IsBest dpi job shorter
   pub no_longer : length shorter ≤ length best
-  pub takes : IfSome proposal (λ proposed. IsAskedComparison dpi job proposed.items Same → length shorter ≤ length proposed.items)
+  pub takes : IsAskedComparison dpi job proposal Same → length shorter ≤ length proposal

@@ -1,0 +1,40 @@
+-- What is proposed for a job, and what it is measured by.
+use Rattle.std.specs.Prelude.{◌≡◌, ℕ, ◌≤◌, List, length, Option, Result, Ok, Err}
+use Rattle.pcl_base.specs.declared.dpi.Dpi.{Dpi}
+use Rattle.pcl_base.specs.declared.fault.JobFault.{JobFault}
+use Rattle.pcl_base.specs.declared.fault.JobFault.TheVariants.{Refused, Memory}
+use Rattle.pcl_page.specs.Situation.{Sheet}
+use Rattle.pcl_page.specs.Asks.{Asks}
+use Rattle.pcl_page.specs.Jobs.{HasPages, HasAsks}
+use Rattle.pcl_page.specs.Delivering.{IsRefusal}
+use Rattle.pcl_shrink.specs.Asking.{asked_job}
+use Rattle.pcl_shrink.specs.Texts.{AreLeastTexts}
+use Rattle.pcl_shrink.specs.Shrinking.{IsSmallerJob}
+use Rattle.pcl_shrink.specs.inner.Best.{IsBest, best_bytes}
+use Rattle.pcl_shrink.specs.declared.candidate.Proposal.{Proposal}
+use Rattle.pcl_shrink.specs.declared.proposals.Proposed.{Proposed}
+
+-- least page texts take no fewer bytes, with what the job asks for around them
+pub record IsLimit (dpi : Dpi) (job : List ℕ) (limit : ℕ) : Type 0 where
+  pub pages : List Sheet
+  pub meaning : HasPages dpi job pages
+  pub asks : Asks
+  pub asked : HasAsks dpi job asks
+  pub texts : List (List ℕ)
+  pub least : AreLeastTexts dpi pages texts
+  pub within : limit ≤ length (asked_job asks texts)
+
+pub record IsMeasured (dpi : Dpi) (job : List ℕ) (limit count : ℕ) : Type 0 where
+  pub limit_is : IsLimit dpi job limit
+  pub counted : count ≡ length limit_is.pages
+
+abbrev pub HasProposed : Dpi → List ℕ → Result Proposed JobFault → Type 0
+HasProposed dpi job (Ok proposed) = IsMeasured dpi job proposed.limit proposed.pages
+HasProposed dpi job (Err (Refused refusal)) = IsRefusal dpi job refusal
+HasProposed dpi job (Err Memory) = Unit {0}
+
+-- a job that was the best so far becomes one that is no longer than least page texts with what is asked for around them
+abbrev pub IsWithin : Dpi → List ℕ → Option Proposal → Result (Option Proposal) JobFault → Type 0
+IsWithin dpi job best (Ok last) = IsBest dpi job (best_bytes job best) → IsSmallerJob dpi job (best_bytes job last)
+IsWithin dpi job best (Err (Refused refusal)) = IsRefusal dpi job refusal
+IsWithin dpi job best (Err Memory) = Unit {0}
