@@ -1,7 +1,7 @@
 //! The smallest job that is found with the same pages (docs/SHRINK.md).
 //!
-//! Candidates are made by code of which nothing is promised but that it returns. Each is performed and compared with the input, which
-//! is performed once for all looks, dot for dot and in what it asks of the printer, before it is taken.
+//! A proposal is made by code of which nothing is promised but that it returns. It is performed and compared with the input, dot for
+//! dot and in what it asks of the printer, before it is taken.
 #![tactic(auto)]
 
 mod asking;

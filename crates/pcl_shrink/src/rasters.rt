@@ -60,8 +60,7 @@ fn shortest_coarse(
     let mut shortest = None;
     for side in sides(page.dpi) {
         if common.checked_rem(*side) == Some(0) {
-            let coarse = coarse_page(alloc, page, *side)?;
-            let text = coarse_text(alloc, &coarse, *side)?;
+            let text = coarse_text(alloc, page, *side)?;
             if text.len() < limit {
                 limit = text.len();
                 shortest = Some(text);
@@ -91,15 +90,15 @@ fn least_text(alloc: Global, page: &Page) -> Result<Vec<u8>, AllocError>
     Ok(text)
 }
 
-/// The text of a page whose dots, in its upper left corner, stand for squares of so many dots.
-fn coarse_text(alloc: Global, coarse: &Page, side: u32) -> Result<Vec<u8>, AllocError> {
+/// The text of a page with a raster whose dots stand for squares of so many dots.
+fn coarse_text(alloc: Global, page: &Page, side: u32) -> Result<Vec<u8>, AllocError> {
     let side = side.max(1);
-    let least = least_text(alloc, coarse)?;
+    let least = least_text(alloc, &coarse_page(alloc, page, side)?)?;
     let mut text = Vec::new(alloc);
-    append_labelled(b"\x1b&l", u32::from(coarse.copies), &mut text)?;
-    append_labelled(b"x", coarse.size.code(), &mut text)?;
-    append_labelled(b"a0E\x1b*p0x0Y\x1b*t", coarse.dpi.dots() / side, &mut text)?;
-    let columns = coarse.size.width(coarse.dpi).div_ceil(side);
+    append_labelled(b"\x1b&l", u32::from(page.copies), &mut text)?;
+    append_labelled(b"x", page.size.code(), &mut text)?;
+    append_labelled(b"a0E\x1b*p0x0Y\x1b*t", page.dpi.dots() / side, &mut text)?;
+    let columns = page.size.width(page.dpi).div_ceil(side);
     append_labelled(b"R\x1b*r", columns, &mut text)?;
     text.extend_from_slice(b"s0A")?;
     text.extend_from_slice(rows_of_text(&least))?;

@@ -3,7 +3,7 @@
 ghost use Rattle.std.specs.Prelude.{◌≡◌, length};
 ghost use Rattle.pcl_bitmap.specs.Bitmap.{IsPicture};
 
-use pcl_base::ROW_LIMIT;
+use pcl_base::{Dpi, ROW_LIMIT};
 use pcl_bitmap::Bitmap;
 use pcl_page::Page;
 use pcl_shapes::append_edges;
@@ -58,15 +58,16 @@ fn greatest_divisor(one: u32, other: u32) -> u32 {
     1
 }
 
-/// A page with a dot for each square of so many dots of this one, in its upper left corner. Squares are cut by the right and the lower
-/// edge.
+/// A page at 300 dots per inch with a dot for each square of so many dots of this one, in its upper left corner. Squares are cut by the
+/// right and the lower edge, and are two dots wide at least, so they have room there.
 pub fn coarse_page(alloc: Global, page: &Page, side: u32) -> Result<Page, AllocError> {
-    let mut bitmap = Bitmap::new(alloc, page.size, page.dpi)?;
+    let dpi = Dpi::Dpi300;
+    let mut bitmap = Bitmap::new(alloc, page.size, dpi)?;
     paint_squares(&page.bitmap, side, &mut bitmap);
     Ok(Page {
         size: page.size,
         copies: page.copies,
-        dpi: page.dpi,
+        dpi,
         bitmap,
     })
 }
