@@ -54,13 +54,22 @@ impl RowWalk {
         }
     }
 
-    /// Goes on to row `y` of a page, the next one.
+    /// Goes on to row `y` of a page, the next one. The runs of a row like the one above are its runs: each touches the one above it, and
+    /// no other.
     pub fn step(&mut self, bitmap: &Bitmap, y: u32) -> Result<(), AllocError> {
-        swap(&mut self.above, &mut self.runs);
-        self.runs.clear();
         self.links.clear();
-        self.edges.clear();
-        if self.count < RUN_LIMIT && y < bitmap.size().height(bitmap.dpi()) && !bitmap.is_blank(y) {
+        if self.count >= RUN_LIMIT
+            || y >= bitmap.size().height(bitmap.dpi())
+            || bitmap.is_blank(y)
+        {
+            swap(&mut self.above, &mut self.runs);
+            self.runs.clear();
+            return Ok(());
+        }
+        if !is_like_above(bitmap, y) {
+            swap(&mut self.above, &mut self.runs);
+            self.runs.clear();
+            self.edges.clear();
             append_edges(bitmap.row(y), &mut self.edges)?;
             self.label_runs()?;
         }
@@ -85,6 +94,16 @@ impl RowWalk {
             }
         }
         Ok(())
+    }
+}
+
+/// Whether a row of a page is the one above once more.
+fn is_like_above(bitmap: &Bitmap, y: u32) -> bool {
+    match y.checked_sub(1) {
+        Some(above) => {
+            y < bitmap.size().height(bitmap.dpi()) && bitmap.row(above) == bitmap.row(y)
+        }
+        None => false,
     }
 }
 
