@@ -31,8 +31,7 @@ def main():
         for file in EXAMPLES.glob("dot*"):
             (folder / file.name).write_bytes(file.read_bytes())
         wanted = expected.read_bytes()
-        found = failing.each([cases], lambda ran: (ran.returncode, ran.stdout) == (0, wanted))
-        print("memory_cases: %d allocations, each failed in turn" % found, flush=True)
+        fail_each(failing, "memory_cases", [cases], lambda ran: (ran.returncode, ran.stdout) == (0, wanted))
         for run in RUNS:
             words = [program, *run.split()]
             ample = subprocess.run(words, cwd=folder, stdin=subprocess.DEVNULL, capture_output=True, check=False)
@@ -43,7 +42,15 @@ def main():
                 done = (ran.returncode, ran.stdout, kept) == (ample.returncode, ample.stdout, made)
                 return done or (ran.returncode, ran.stdout, ran.stderr, kept) == (3, b"", LINE, b"kept")
 
-            print("pclmin %s: %d allocations, each failed in turn" % (run, failing.each(words, holds)), flush=True)
+            fail_each(failing, "pclmin " + run, words, holds)
+
+
+def fail_each(failing, name, words, holds):
+    """Makes each allocation of a run fail in turn. Where none is seen nothing was tried, so there has to be one."""
+    found = failing.each(words, holds)
+    if found == 0:
+        sys.exit("%s: no allocation was seen" % name)
+    print("%s: %d allocations, each failed in turn" % (name, found), flush=True)
 
 
 main()

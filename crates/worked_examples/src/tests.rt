@@ -2,7 +2,6 @@ mod certifying;
 mod devices;
 mod filtering;
 mod laws;
-mod memory;
 mod reading;
 mod watching;
 mod writing;

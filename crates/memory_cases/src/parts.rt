@@ -1,0 +1,77 @@
+//! Parts of jobs alone: the text of a page, a font and its character, and a macro.
+
+use crate::jobs::{CHARACTER, HEADER};
+use pcl_base::{CallFault, Dpi, Size};
+use pcl_bitmap::{Bitmap, Ink, Page};
+use pcl_fonts::Fonts;
+use pcl_macros::Macros;
+use pcl_plan::plan;
+use pcl_writer::write_page;
+use std::alloc::{AllocError, Global};
+use std::io;
+
+/// Prints what each part gives.
+pub(crate) fn print_parts<R: Print + AllocGlobal>(rt: &R) -> io::Result<()> {
+    print_page(rt)?;
+    print_font(rt)?;
+    print_macro(rt)
+}
+
+/// Prints how many bytes the text of a page with a dot has.
+fn print_page<R: Print + AllocGlobal>(rt: &R) -> io::Result<()> {
+    let len = match page_text(rt.alloc()) {
+        Err(AllocError) => page_text(rt.alloc()),
+        answer => answer,
+    };
+    println!(rt; "a page with a dot: {len:?}")
+}
+
+/// How many bytes the text of a page with a dot has, which is written after one byte.
+fn page_text(alloc: Global) -> Result<usize, AllocError> {
+    let mut bitmap = Bitmap::new(alloc, Size::Letter, Dpi::Dpi300)?;
+    bitmap.fill(0, 0, 1, 1, Ink::Black);
+    let page = Page {
+        size: Size::Letter,
+        copies: 1,
+        dpi: Dpi::Dpi300,
+        bitmap,
+    };
+    let plan = plan(alloc, &page)?;
+    let mut out = vec![in alloc; 0; 1]?;
+    if write_page(&page, &plan, &mut out).is_err() {
+        let kept = out.len();
+        write_page(&page, &plan, &mut out)?;
+        return Ok(out.len() - kept);
+    }
+    Ok(out.len() - 1)
+}
+
+/// Prints what a font and its character are taken as.
+fn print_font<R: Print + AllocGlobal>(rt: &R) -> io::Result<()> {
+    let mut fonts = Fonts::new(rt.alloc());
+    let header = match fonts.header(1, &HEADER) {
+        Err(CallFault::Memory) => fonts.header(1, &HEADER),
+        answer => answer,
+    };
+    let character = match fonts.character(1, 65, &CHARACTER) {
+        Err(CallFault::Memory) => fonts.character(1, 65, &CHARACTER),
+        answer => answer,
+    };
+    let is_there = fonts.glyph(1, 65).is_some();
+    println!(rt; "a font: {header:?}, its character: {character:?}, there: {is_there}")
+}
+
+/// Prints where a macro stands.
+fn print_macro<R: Print + AllocGlobal>(rt: &R) -> io::Result<()> {
+    let mut macros = Macros::new(rt.alloc());
+    macros.begin(5, 1);
+    let end = match macros.end(3) {
+        Err(CallFault::Memory) => macros.end(3),
+        answer => answer,
+    };
+    let body = macros.body(5);
+    println!(rt;
+        "a macro: {end:?}, {:?}",
+        body.map(|body| (body.start, body.end))
+    )
+}
