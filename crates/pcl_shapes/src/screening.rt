@@ -1,7 +1,7 @@
 //! Shapes that are no letters, whatever becomes of the others.
 //!
-//! In a picture hundreds of small shapes share the few bytes of a row. A shape that takes less than a byte there is no letter, however often
-//! its pattern is there: so its dots needn't be looked at.
+//! In a picture hundreds of small shapes share the few bytes of a row. A shape that takes less than a byte there is no letter, however
+//! often its pattern is there: so its dots needn't be looked at.
 
 use crate::lists::{add, number_of, quotient};
 use crate::parts::{FINE, sum_parts};

@@ -19,6 +19,7 @@ pub returns : goal.returns
 returns g c =
     let r = c.in_ok-job.ensures in
     told (IsSmallerJob c.args.dpi) (IsRefusal c.args.dpi) _ _ _ (record { given = r.0; ended = r.1 })
-    (subst (λ (job : List ℕ). IsSmallerJob c.args.dpi job c.in_ok-shrunk.shrunk.job.items) c.deref.ensures.value c.in_ok-shrunk.ensures.smaller)
+    (subst (λ (job : List ℕ). IsSmallerJob c.args.dpi job c.in_ok-shrunk.shrunk.job.items) c.deref.ensures.value
+    c.in_ok-shrunk.ensures.smaller)
     (subst (λ (text : List ℕ). IsWritten (g.W.Write.contents c.args.out.now) (g.W.Write.contents c.write_all.new.out) text
     c.write_all.result) c.deref-2.ensures.value c.write_all.ensures)

@@ -34,7 +34,8 @@ returns-in_err-written g c =
       certificate = c.in_ok-certificate.certificate.items;
     } in
     rw (p.1, p.2)
-    (not_written c.args.dpi c.args.job.now c.args.format _ (not_taken TakesText c.args.dpi c.args.job.now begun c.in_err-written.field-0.0 c.in_err-written.ensures))
+    (not_written c.args.dpi c.args.job.now c.args.format _
+    (not_taken TakesText c.args.dpi c.args.job.now begun c.in_err-written.field-0.0 c.in_err-written.ensures))
 
 pub returns-in_err-write_frame-2 : goal.returns-in_err-write_frame-2
 returns-in_err-write_frame-2 g c =

@@ -13,7 +13,8 @@ loop-macro_run-preserved g c = (
       record { performer = c.loop-macro_run.self.performer; macros = c.loop-macro_run.self.macros; running = c.pop.new.self } in
       macro_on g.S.PageSink.takes c.args.dpi (g.L.CommandList.commands c.args.commands.now)
       (resumed macro_limit c.args.dpi (g.L.CommandList.commands c.args.commands.now) c.args.self.now.running.items s) s
-      c.loop-macro_run.self middle c.go_on.new.self c.in-Some.macro_run c.args.sink.now c.loop-macro_run.sink c.go_on.new.sink (c.loop-macro_run.invariant.0 s at)
+      c.loop-macro_run.self middle c.go_on.new.self c.in-Some.macro_run c.args.sink.now c.loop-macro_run.sink c.go_on.new.sink
+      (c.loop-macro_run.invariant.0 s at)
       c.in-Some.ensures.items refl refl (λ now there. c.in_ok-go_on.ensures.done now there),
   c.in_ok-go_on.ensures.few,
 )
@@ -26,7 +27,8 @@ returns-in_err-go_on-clause-done g c = λ s at.
     rw (p.1, p.2)
     (macro_fault g.S.PageSink.takes c.args.dpi (g.L.CommandList.commands c.args.commands.now)
     (resumed macro_limit c.args.dpi (g.L.CommandList.commands c.args.commands.now) c.args.self.now.running.items s) s _
-    c.loop-macro_run.self middle c.go_on.new.self c.in-Some.macro_run c.args.sink.now c.loop-macro_run.sink c.go_on.new.sink (c.loop-macro_run.invariant.0 s at)
+    c.loop-macro_run.self middle c.go_on.new.self c.in-Some.macro_run c.args.sink.now c.loop-macro_run.sink c.go_on.new.sink
+    (c.loop-macro_run.invariant.0 s at)
     c.in-Some.ensures.items refl refl (λ now there. c.in_err-go_on.ensures.done now there))
 
 pub go_on-requires : goal.go_on-requires
