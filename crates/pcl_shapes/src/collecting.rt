@@ -7,7 +7,7 @@ use crate::numbers::{number_of_place, short_number};
 use crate::pattern_set::Patterns;
 use crate::patterns::Pattern;
 use crate::rows::{Row, append_rows};
-use crate::runs::RowWalk;
+use crate::runs::{KeptRuns, RowWalk};
 use crate::screening::screen_shapes;
 use crate::shapes::{Extent, find_shapes};
 use pcl_base::Dpi;
@@ -93,13 +93,15 @@ impl Collection {
         let mut drawings = Drawings::new(alloc, &shapes, &stay, scale)?;
         let height = page.size.height(page.dpi);
         let bottoms = count_bottoms(alloc, height, &shapes.extents, scale)?;
-        self.collect_rows(&page.bitmap, first, &mut drawings, &bottoms)
+        self.collect_rows(&page.bitmap, &shapes.runs, first, &mut drawings, &bottoms)
     }
 
-    /// Draws the shapes of a page, of whose rows the first is in this place, and collects them. So many shapes end above each of its rows.
+    /// Draws the shapes of a page with these runs, of whose rows the first is in this place, and collects them. So many shapes end above
+    /// each of its rows.
     fn collect_rows(
         &mut self,
         bitmap: &Bitmap,
+        runs: &KeptRuns,
         first: usize,
         drawings: &mut Drawings<'_>,
         bottoms: &[u32],
@@ -107,8 +109,13 @@ impl Collection {
         let start = self.items.len();
         let mut walk = RowWalk::new(*self.items.allocator());
         for y in 0..bitmap.size().height(bitmap.dpi()) {
-            walk.step(bitmap, y)?;
-            let others = drawings.draw_row(short_number(y), &walk.runs)?;
+            let others = match runs.row(y) {
+                Some(runs) => drawings.draw_row(short_number(y), runs)?,
+                None => {
+                    walk.step(bitmap, y)?;
+                    drawings.draw_row(short_number(y), &walk.runs)?
+                }
+            };
             if let Some(row) = self.rows.get_mut(first.saturating_add(y as usize)) {
                 row.others = row.others.saturating_add(others);
             }

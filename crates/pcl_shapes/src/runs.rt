@@ -24,6 +24,54 @@ pub struct Link {
     pub other: u32,
 }
 
+/// The runs of a page are kept up to so many; those of a page with more are found once more where they are wanted.
+const KEPT_RUNS_LIMIT: usize = 262_144;
+
+/// The runs of the rows of a page, as a walk over it found them: none where they are more than are kept.
+#[derive(Drop)]
+pub struct KeptRuns {
+    runs: Vec<Run>,
+    /// For each row, how many runs there are up to its end.
+    ends: Vec<usize>,
+    is_full: bool,
+}
+
+impl KeptRuns {
+    /// Above the topmost row.
+    pub fn new(alloc: Global) -> KeptRuns {
+        KeptRuns {
+            runs: Vec::new(alloc),
+            ends: Vec::new(alloc),
+            is_full: false,
+        }
+    }
+
+    /// Keeps the runs of the next row.
+    pub fn keep(&mut self, runs: &[Run]) -> Result<(), AllocError> {
+        if self.runs.len().saturating_add(runs.len()) > KEPT_RUNS_LIMIT {
+            self.is_full = true;
+            self.runs.clear();
+            self.runs.shrink_to_fit();
+            self.ends.clear();
+        }
+        if !self.is_full {
+            self.runs.extend_from_slice(runs)?;
+            self.ends.push(self.runs.len())?;
+        }
+        Ok(())
+    }
+
+    /// The runs of row `y`: none where they aren't kept.
+    pub fn row(&self, y: u32) -> Option<&[Run]> {
+        let end = self.ends.get(y as usize).copied()?;
+        let start = match y.checked_sub(1) {
+            Some(above) => self.ends.get(above as usize).copied()?,
+            None => 0,
+        };
+        self.runs.get(..end)?.get(start..)
+    }
+}
+
 /// Goes over the rows of a page from the topmost one on. Labels are numbered in the order of their first runs, and each walk over a page
 /// gives its runs the same.
 #[derive(Drop)]

@@ -1,7 +1,7 @@
 //! Shapes of a page: black dots that hang together, each the neighbour of another in one of eight directions.
 
 use crate::numbers::{number_of_place, short_number};
-use crate::runs::{Link, RowWalk, Run};
+use crate::runs::{KeptRuns, Link, RowWalk, Run};
 use pcl_bitmap::Bitmap;
 use std::alloc::{AllocError, Global};
 
@@ -51,6 +51,8 @@ pub struct Shapes {
     pub extents: Vec<Extent>,
     /// For each label of runs, the number of its shape.
     numbers: Vec<u32>,
+    /// The runs of the page.
+    pub runs: KeptRuns,
 }
 
 impl Shapes {
@@ -67,11 +69,13 @@ pub fn find_shapes(alloc: Global, bitmap: &Bitmap) -> Result<Shapes, AllocError>
         parents: Vec::new(alloc),
         extents: Vec::new(alloc),
     };
+    let mut runs = KeptRuns::new(alloc);
     for y in 0..bitmap.size().height(bitmap.dpi()) {
         walk.step(bitmap, y)?;
         labels.add_row(short_number(y), &walk.runs, &walk.links)?;
+        runs.keep(&walk.runs)?;
     }
-    Ok(labels.into_shapes())
+    Ok(labels.into_shapes(runs))
 }
 
 /// The labels of runs so far.
@@ -101,8 +105,8 @@ impl Labels {
         Ok(())
     }
 
-    /// Numbers the shapes. Their boxes move to the front, and numbers take the place of parents, label by label.
-    fn into_shapes(self) -> Shapes {
+    /// Numbers the shapes, which have these runs. Their boxes move to the front, and numbers take the place of parents, label by label.
+    fn into_shapes(self, runs: KeptRuns) -> Shapes {
         let mut numbers = self.parents;
         let mut extents = self.extents;
         let mut count: usize = 0;
@@ -119,7 +123,11 @@ impl Labels {
             }
         }
         extents.truncate(count);
-        Shapes { extents, numbers }
+        Shapes {
+            extents,
+            numbers,
+            runs,
+        }
     }
 }
 
