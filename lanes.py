@@ -6,8 +6,8 @@ work waits for:
 
 rt has one command at a time work in a crate and those below it. So each library is built in a tree of its own under build/lanes,
 whose files are links to these and to what is built of the crates below, and its out/ is then moved here. What rt says is kept in
-build/lanes/NAME.log. A crate has one job, since each further one reads all libraries first, unless it has many functions and no
-other waits for a processor; the crate that most work waits for has two at least. LANES bounds how many are taken.
+build/lanes/NAME.log. A crate has one job, since each further one reads all libraries first, unless it has much to prove and no
+other waits for a processor; the crate that most work waits for has three where it has. LANES bounds how many are taken.
 """
 
 import os
@@ -22,7 +22,8 @@ ROOT = pathlib.Path(__file__).resolve().parent
 LANES = ROOT / "build" / "lanes"
 FIRST_JOB = 4_000_000_000  # bytes that a large check may take with one job
 FURTHER_JOB = 1_500_000_000  # bytes of each further job
-FUNCTIONS = 30  # so many functions make up for what a further job reads before it proves anything
+FURTHER_WORK = 30  # so many seconds of proofs make up for what a further job reads before it proves anything
+READING = 4  # seconds for each crate below
 
 
 def crates():
@@ -47,9 +48,11 @@ def below(name, all_crates):
     return [it for it in all_crates if it in found]
 
 
-def functions_of(name):
-    """How much there is to prove: a check takes two or three seconds a function, where lines of proof say little."""
-    return sum(it.read_text().count("fn ") for it in (ROOT / "crates" / name / "src").rglob("*.rt"))
+def work_of(name):
+    """About how many seconds the proofs of a crate take: one a function, and two for each `?`, a way out where all is dropped that is
+    alive there. Lines of proof say little."""
+    texts = [it.read_text() for it in (ROOT / "crates" / name / "src").rglob("*.rt")]
+    return sum(it.count("fn ") + 2 * it.count("?") for it in texts)
 
 
 def free_memory():
@@ -126,10 +129,10 @@ def link(old, new):
 
 
 def chains(wanted, all_crates):
-    """For each crate the functions of the longest chain of crates that begins with it, upwards."""
+    """For each crate about how long the longest chain of crates takes that begins with it, upwards."""
     longest = {it: 0 for it in wanted}
     for name in reversed(wanted):
-        longest[name] += functions_of(name)
+        longest[name] += work_of(name) + READING * len(below(name, all_crates))
         for it in all_crates[name][1]:
             longest[it] = max(longest[it], longest[name])
     return longest
@@ -158,7 +161,7 @@ def build(names, processors):
                 spare = idle - (len(ready) - at - 1)
                 if (is_first or idle > 0) and (not running or free_memory() > FIRST_JOB):
                     left.remove(name)
-                    jobs = min(max(2 if is_first else 1, spare), 1 + functions_of(name) // FUNCTIONS)
+                    jobs = min(max(3 if is_first else 1, spare), 1 + work_of(name) // FURTHER_WORK)
                     running.append(Build(name, all_crates, within_memory(jobs), is_first))
             time.sleep(0.2)
             for it in [it for it in running if it.has_ended()]:
