@@ -7,7 +7,8 @@ work waits for:
 rt has one command at a time work in a crate and those below it. So each library is built in a tree of its own under build/lanes,
 whose files are links to these and to what is built of the crates below, and its out/ is then moved here. What rt says is kept in
 build/lanes/NAME.log. A crate has one job, since each further one reads all libraries first, unless it has much to prove and no
-other waits for a processor; the crate that most work waits for has three where it has. LANES bounds how many are taken.
+other waits for a processor; the crate that most work waits for has up to three even then. LANES bounds how many
+are taken.
 """
 
 import os
