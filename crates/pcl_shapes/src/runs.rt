@@ -1,6 +1,7 @@
 //! Runs of black dots in the rows of a page, and which of them hang together.
 
 use crate::edges::append_edges;
+use pcl_base::Dpi;
 use pcl_bitmap::Bitmap;
 use std::alloc::{AllocError, Global};
 use std::mem::swap;
@@ -24,8 +25,13 @@ pub struct Link {
     pub other: u32,
 }
 
-/// The runs of a page are kept up to so many; those of a page with more are found once more where they are wanted.
-const KEPT_RUNS_LIMIT: usize = 262_144;
+/// So many runs of a page are kept, which take two or four megabytes; those of a page with more are found once more where they are wanted.
+fn kept_runs_limit(dpi: Dpi) -> usize {
+    match dpi {
+        Dpi::Dpi300 => 262_144,
+        Dpi::Dpi600 => 524_288,
+    }
+}
 
 /// The runs of the rows of a page, as a walk over it found them: none where they are more than are kept.
 #[derive(Drop)]
@@ -33,22 +39,25 @@ pub struct KeptRuns {
     runs: Vec<Run>,
     /// For each row, how many runs there are up to its end.
     ends: Vec<usize>,
+    /// How many runs are kept at most.
+    limit: usize,
     is_full: bool,
 }
 
 impl KeptRuns {
-    /// Above the topmost row.
-    pub fn new(alloc: Global) -> KeptRuns {
+    /// Above the topmost row of a page of so many dots per inch.
+    pub fn new(alloc: Global, dpi: Dpi) -> KeptRuns {
         KeptRuns {
             runs: Vec::new(alloc),
             ends: Vec::new(alloc),
+            limit: kept_runs_limit(dpi),
             is_full: false,
         }
     }
 
     /// Keeps the runs of the next row.
     pub fn keep(&mut self, runs: &[Run]) -> Result<(), AllocError> {
-        if self.runs.len().saturating_add(runs.len()) > KEPT_RUNS_LIMIT {
+        if self.runs.len().saturating_add(runs.len()) > self.limit {
             self.is_full = true;
             self.runs.clear();
             self.runs.shrink_to_fit();

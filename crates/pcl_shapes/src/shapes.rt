@@ -69,7 +69,7 @@ pub fn find_shapes(alloc: Global, bitmap: &Bitmap) -> Result<Shapes, AllocError>
         parents: Vec::new(alloc),
         extents: Vec::new(alloc),
     };
-    let mut runs = KeptRuns::new(alloc);
+    let mut runs = KeptRuns::new(alloc, bitmap.dpi());
     for y in 0..bitmap.size().height(bitmap.dpi()) {
         walk.step(bitmap, y)?;
         labels.add_row(short_number(y), &walk.runs, &walk.links)?;

@@ -47,12 +47,11 @@ pub fn plain_job(
     asks: &Asks<'_>,
     texts: Vec<Vec<u8>>,
 ) -> Result<Vec<u8>, AllocError> {
+    let pages = texts.len();
     let mut out = Vec::new(alloc);
-    let mut pages = 0;
     for (number, text) in texts.into_iter().enumerate() {
         append_page_start(asks, number, &mut out)?;
         out.extend_from_slice(&text)?;
-        pages = number.saturating_add(1);
     }
     append_end(asks, pages, &mut out)?;
     Ok(out)
