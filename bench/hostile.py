@@ -12,6 +12,7 @@ rectangles.pcl  100,000 black rectangles of the whole page
 rows.pcl        the same with a raster row of one dot between every two of 20,000
 macros.pcl      32,767 permanent macros, and then the temporary ones are deleted 200,000 times
 fonts.pcl       the same with fonts, 30,000 times
+renewed_macros.pcl, renewed_fonts.pcl   the same with a temporary one before each deletion
 noise.pcl       256 Letter pages of random dots, 210 rows that a macro sends fifteen times on each: a certificate of the second format
                 has some 2 GB
 
@@ -77,15 +78,30 @@ def rows():
     return TOP_LEFT + b"\x1b*c2400a3300B" + 20_000 * b"\x1b*cP\x1b*b1W\x80\x1b*rB\x1b*p0Y"
 
 
+def permanent_macros():
+    return b"".join(b"\x1b&f%dy0x1x10X" % number for number in range(1, 32_768))
+
+
+def permanent_fonts():
+    one = b"\x1b&f0X" + FONT + b"\x1b*c5F\x1b&f1X"
+    return one + b"".join(b"\x1b*c%dD\x1b&f2X" % number for number in range(1, 32_768))
+
+
 def macros():
-    kept = b"".join(b"\x1b&f%dy0x1x10X" % number for number in range(1, 32_768))
-    return kept + b"\x1b&f" + 199_999 * b"7x" + b"7X" + PAGE
+    return permanent_macros() + b"\x1b&f" + 199_999 * b"7x" + b"7X" + PAGE
 
 
 def fonts():
-    one = b"\x1b&f0X" + FONT + b"\x1b*c5F\x1b&f1X"
-    kept = b"".join(b"\x1b*c%dD\x1b&f2X" % number for number in range(1, 32_768))
-    return one + kept + b"\x1b*c" + 29_999 * b"1f" + b"1F" + PAGE
+    return permanent_fonts() + b"\x1b*c" + 29_999 * b"1f" + b"1F" + PAGE
+
+
+def renewed_macros():
+    return permanent_macros() + b"\x1b&f0y" + 199_999 * b"0x1x7x" + b"0x1x7X" + PAGE
+
+
+def renewed_fonts():
+    send = b"\x1b*c0D\x1b&f3y0X" + FONT + b"\x1b*c1F\x1b&f1X"
+    return permanent_fonts() + send + b"\x1b&f3y" + 29_999 * b"2x" + b"2X" + PAGE
 
 
 def noise():
@@ -101,7 +117,7 @@ def noise():
     return b"\x1b&l0E\x1b&f1y0X" + rows + b"\x1b&f1X" + page + b"\x1b&f2y" + 255 * b"3x" + b"3X"
 
 
-JOBS = [glyph, shifted, turns, controls, elements, rectangles, rows, macros, fonts, noise]
+JOBS = [glyph, shifted, turns, controls, elements, rectangles, rows, macros, fonts, renewed_macros, renewed_fonts, noise]
 
 
 def preview(program, path, dpi):

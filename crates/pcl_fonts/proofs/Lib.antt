@@ -1,4 +1,3 @@
 mod Glyphs
 pub mod Histories
-mod Permanent
 mod Tables

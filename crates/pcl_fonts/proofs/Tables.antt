@@ -1,6 +1,6 @@
 -- Tables of fonts as the entries of a map, and what each event does to them.
-use Rattle.std.proofs.Common.{◌≡◌, ℕ, Bool, true, false, true≢false, ◌&&◌, cond, nat_eq, if◌then◌else◌, List, [], map, Option, None, Some, Ok, Err, is_some, filter, refl, sym, ap, subst, ◌∙◌}
-use Rattle.std.proofs.lemmas.Bool.{eqb-true}
+use Rattle.std.proofs.Common.{◌≡◌, ℕ, ◌≤◌, ◌+◌, Bool, true, false, true≢false, ◌&&◌, ◌||◌, cond, nat_eq, if◌then◌else◌, List, [], map, filter, Option, None, Some, is_some, IfSome, refl, sym, ap, subst, ◌∙◌, arith}
+use Rattle.std.proofs.lemmas.Bool.{eqb-true, eq-eqb, ne_eqb}
 use Rattle.std.proofs.lemmas.Map.Made.{lookup-map_values}
 use Rattle.std.proofs.lemmas.Map.Entries.{lookup-filter-values, option_filter}
 use Rattle.std.proofs.lemmas.Cmp.{nat_eq_equiv}
@@ -8,370 +8,385 @@ use Rattle.std.specs.List.{IsDistinct}
 use Rattle.std.specs.Map.{keys_of, lookup}
 use Rattle.std.specs.Option.{option_map}
 use Rattle.indexmap.specs.IndexMap.{IndexMap, get, WritesThrough}
-use Rattle.pcl_base.specs.declared.kind.Kind.TheVariants.{CharacterData}
-use Rattle.pcl_base.specs.declared.fault.CallFault.TheVariants.{Refused}
-use Rattle.pcl_fonts.specs.Fields.{Font, Character, font_of, has_code, is_character, character_of as character_with}
-use Rattle.pcl_fonts.specs.History.{FontEvent, header, character, control, with_permanent, if_permanent}
-use Rattle.pcl_fonts.specs.Table.{Stored, FontTable, Follows, IsSame, ArePermanent, HasCharacter, info_of, printed, printed_in, font_at, character_at, character_of, font_in, character_in, stored_in}
+use Rattle.pcl_fonts.specs.Fields.{Font, Character, font_of, has_code, character_of as character_with}
+use Rattle.pcl_fonts.specs.History.{FontEvent, header, character, control, with_permanent, font_step, character_step}
+use Rattle.pcl_fonts.specs.Table.{Stored, FontTable, Follows, IsSame, printed, printed_in, font_at, character_at, character_of, font_in, character_in, stored_in, is_there}
 use Rattle.pcl_fonts.specs.declared.fonts.Entry.{Entry}
 use Rattle.pcl_fonts.specs.declared.fonts.FontControl.{FontControl}
-use Rattle.pcl_fonts.specs.declared.fonts.FontControl.TheVariants.{All, Temporary, One, MakeTemporary, MakePermanent}
+use Rattle.pcl_fonts.specs.declared.fonts.FontControl.TheVariants.{Temporary, One, MakeTemporary, MakePermanent}
 use Rattle.pcl_fonts.specs.declared.fonts.FontControl.TheVariants as controls
 use Rattle.pcl_fonts.specs.declared.glyph.Glyph.{Glyph}
 
 abbrev pub Entries : Type 0
 Entries = List (ℕ × Entry)
 
--- the table of some entries
-abbrev pub view : Entries → FontTable
-view es = map (λ e. (e.0, stored_in e.1)) es
+-- the table of some entries after so many deletions of temporary fonts
+abbrev pub view : ℕ → Entries → FontTable
+view deletions es = map (λ e. (e.0, stored_in e.1)) (filter (λ e. is_there deletions e.1) es)
+
+-- an entry, if it is still there
+abbrev pub live : ℕ → Option Entry → Option Entry
+live deletions entry = option_filter (is_there deletions) entry
+
+pub stored_view : (deletions : ℕ) (es : Entries) (id : ℕ) → IsDistinct nat_eq (keys_of es)
+    → lookup (nat_eq id) (view deletions es) ≡ option_map stored_in (live deletions (lookup (nat_eq id) es))
+stored_view deletions es id distinct =
+    lookup-map_values stored_in (nat_eq id) (filter (λ (e : ℕ × Entry). is_there deletions e.1) es)
+    ∙ ap (option_map stored_in) (lookup-filter-values nat_eq_equiv (is_there deletions) id es distinct)
+
+-- what is found of an ID
+pub entry_found : (deletions : ℕ) (es : Entries) (id : ℕ) {table : FontTable} {o : Option Entry} → IsDistinct nat_eq (keys_of es)
+    → view deletions es ≡ table → o ≡ lookup (nat_eq id) es → option_map stored_in (live deletions o) ≡ lookup (nat_eq id) table
+entry_found deletions es id distinct is found =
+    ap (λ (x : Option Entry). option_map stored_in (live deletions x)) found ∙ sym (stored_view deletions es id distinct)
+    ∙ ap (λ (t : FontTable). lookup (nat_eq id) t) is
 
 -- the character of a code in an entry
 abbrev pub entry_character : Option Entry → ℕ → Option Character
 entry_character None code = None
 entry_character (Some e) code = option_map character_in (lookup (nat_eq code) e.characters.entries)
 
-pub font_view : (es : Entries) (id : ℕ) → font_at (view es) id ≡ option_map font_in (lookup (nat_eq id) es)
-font_view es id = ap (option_map (λ (s : Stored). s.font)) (lookup-map_values stored_in (nat_eq id) es) ∙ joined (lookup (nat_eq id) es)
+-- a table in which these are the entries that are there, by their IDs
+pub record IsSeen (table : FontTable) (entry : ℕ → Option Entry) : Type 0 where
+  pub fonts : (id : ℕ) → font_at table id ≡ option_map font_in (entry id)
+  pub characters : (id code : ℕ) → character_at table id code ≡ entry_character (entry id) code
+
+pub seen : (deletions : ℕ) (es : Entries) {table : FontTable} → IsDistinct nat_eq (keys_of es) → view deletions es ≡ table
+    → IsSeen table (λ id. live deletions (lookup (nat_eq id) es))
+seen deletions es distinct is = subst (λ (t : FontTable). IsSeen t (λ id. live deletions (lookup (nat_eq id) es))) is (record {
+  fonts = λ id. ap (option_map (λ (s : Stored). s.font)) (stored_view deletions es id distinct)
+      ∙ fonts (live deletions (lookup (nat_eq id) es));
+  characters = λ id code. ap (λ (o : Option Stored). character_of o code) (stored_view deletions es id distinct)
+      ∙ characters (live deletions (lookup (nat_eq id) es)) code;
+})
   where
-    joined : (o : Option Entry) → option_map (λ (s : Stored). s.font) (option_map stored_in o) ≡ option_map font_in o
-    joined None = refl
-    joined (Some e) = refl
+    fonts : (o : Option Entry) → option_map (λ (s : Stored). s.font) (option_map stored_in o) ≡ option_map font_in o
+    fonts None = refl
+    fonts (Some e) = refl
 
-pub character_view : (es : Entries) (id code : ℕ) → character_at (view es) id code ≡ entry_character (lookup (nat_eq id) es) code
-character_view es id code =
-    ap (λ (o : Option Stored). character_of o code) (lookup-map_values stored_in (nat_eq id) es) ∙ joined (lookup (nat_eq id) es)
-  where
-    joined : (o : Option Entry) → character_of (option_map stored_in o) code ≡ entry_character o code
-    joined None = refl
-    joined (Some e) = lookup-map_values character_in (nat_eq code) e.characters.entries
+    characters : (o : Option Entry) (code : ℕ) → character_of (option_map stored_in o) code ≡ entry_character o code
+    characters None code = refl
+    characters (Some e) code = lookup-map_values character_in (nat_eq code) e.characters.entries
 
--- the same tables and event under other names
-pub follows_as : {old new later last : FontTable} {event same : FontEvent} → old ≡ later → new ≡ last → event ≡ same
-    → Follows old new event → Follows later last same
-follows_as {new = new} {later = later} {last = last} {event = event} o n e f =
-    subst (λ (x : FontEvent). Follows later last x) e
-    (subst (λ (t : FontTable). Follows later t event) n (subst (λ (t : FontTable). Follows t new event) o f))
+-- the same entries
+pub same_seen : {old new : FontTable} {entry later : ℕ → Option Entry} → IsSeen old entry → IsSeen new later
+    → ((id : ℕ) → later id ≡ entry id) → IsSame old new
+same_seen o n same = (
+  λ id. n.fonts id ∙ ap (option_map font_in) (same id) ∙ sym (o.fonts id),
+  λ id code. n.characters id code ∙ ap (λ (e : Option Entry). entry_character e code) (same id) ∙ sym (o.characters id code),
+)
 
--- ---- one entry changes
+-- ---- what an event makes of an entry
 
--- the entry of an ID becomes w, those of others stay
-abbrev pub Becomes : Entries → Entries → ℕ → Option Entry → Type 0
-Becomes es fs id w = (q : ℕ) → lookup (nat_eq q) fs ≡ cond (nat_eq id q) w (lookup (nat_eq q) es)
+pub record Steps (event : FontEvent) (id : ℕ) (old new : Option Entry) : Type 0 where
+  pub font : option_map font_in new ≡ font_step event id (option_map font_in old)
+  pub character : (code : ℕ) → entry_character new code
+      ≡ character_step event id code (option_map font_in old) (entry_character old code)
+
+pub follows : {old new : FontTable} {entry later : ℕ → Option Entry} (event : FontEvent) → IsSeen old entry → IsSeen new later
+    → ((id : ℕ) → Steps event id (entry id) (later id)) → Follows old new event
+follows {old} {entry = entry} event o n steps = record {
+  fonts = λ id. n.fonts id ∙ (steps id).font ∙ ap (font_step event id) (sym (o.fonts id));
+  characters = λ id code. n.characters id code ∙ (steps id).character code
+      ∙ ap (λ (font : Option Font). character_step event id code font (entry_character (entry id) code)) (sym (o.fonts id))
+      ∙ ap (character_step event id code (font_at old id)) (sym (o.characters id code));
+}
+
+pub steps_to : {event : FontEvent} {id : ℕ} {old new later : Option Entry} → later ≡ new → Steps event id old new
+    → Steps event id old later
+steps_to {event} {id} {old} is s = subst (Steps event id old) (sym is) s
 
 through : {A B : Type 0} (f : A → B) (t : Bool) (x y : A) → f (cond t x y) ≡ cond t (f x) (f y)
 through f true x y = refl
 through f false x y = refl
 
-pub font_becomes : (es fs : Entries) (id : ℕ) (w : Option Entry) → Becomes es fs id w → (q : ℕ)
-    → font_at (view fs) q ≡ cond (nat_eq id q) (option_map font_in w) (font_at (view es) q)
-font_becomes es fs id w b q =
-    font_view fs q ∙ ap (option_map font_in) (b q) ∙ through (option_map font_in) (nat_eq id q) w (lookup (nat_eq q) es)
-    ∙ ap (cond (nat_eq id q) (option_map font_in w)) (sym (font_view es q))
-
-pub character_becomes : (es fs : Entries) (id : ℕ) (w : Option Entry) → Becomes es fs id w → (q code : ℕ)
-    → character_at (view fs) q code ≡ cond (nat_eq id q) (entry_character w code) (character_at (view es) q code)
-character_becomes es fs id w b q code =
-    character_view fs q code ∙ ap (λ (o : Option Entry). entry_character o code) (b q)
-    ∙ through (λ (o : Option Entry). entry_character o code) (nat_eq id q) w (lookup (nat_eq q) es)
-    ∙ ap (cond (nat_eq id q) (entry_character w code)) (sym (character_view es q code))
-
 -- a new font
-pub follows_header : (es fs : Entries) {id : ℕ} {bytes : List ℕ} (e : Entry) → Becomes es fs id (Some e) → font_in e ≡ font_of bytes
-    → e.characters.entries ≡ [] → Follows (view es) (view fs) (header id bytes)
-follows_header es fs {id} e b is none = record {
-  fonts = λ q. font_becomes es fs id (Some e) b q
-      ∙ ap (λ (f : Font). cond (nat_eq id q) (Some f) (font_at (view es) q)) is;
-  characters = λ q code. character_becomes es fs id (Some e) b q code
-      ∙ ap (λ (cs : List (ℕ × Glyph)). cond (nat_eq id q) (option_map character_in (lookup (nat_eq code) cs))
-      (character_at (view es) q code)) none;
+pub header_steps : (id q : ℕ) {bytes : List ℕ} (e : Entry) (x : Option Entry) → font_in e ≡ font_of bytes → e.characters.entries ≡ []
+    → Steps (header id bytes) q x (cond (nat_eq id q) (Some e) x)
+header_steps id q e x is none = record {
+  font = through (option_map font_in) (nat_eq id q) (Some e) x
+      ∙ ap (λ (f : Font). cond (nat_eq id q) (Some f) (option_map font_in x)) is;
+  character = λ code. through (λ (o : Option Entry). entry_character o code) (nat_eq id q) (Some e) x
+      ∙ ap (λ (cs : List (ℕ × Glyph)). cond (nat_eq id q) (option_map character_in (lookup (nat_eq code) cs)) (entry_character x code)) none;
 }
 
 -- a font that is gone
-pub follows_one : (es fs : Entries) {id code : ℕ} → Becomes es fs id None → Follows (view es) (view fs) (control One id code)
-follows_one es fs {id} b = record {
-  fonts = font_becomes es fs id None b;
-  characters = character_becomes es fs id None b;
+pub one_steps : (id code q : ℕ) (x : Option Entry) → Steps (control One id code) q x (cond (nat_eq id q) None x)
+one_steps id code q x = record {
+  font = through (option_map font_in) (nat_eq id q) None x;
+  character = λ its. through (λ (o : Option Entry). entry_character o its) (nat_eq id q) None x;
 }
 
--- another entry for an ID whose font is the same
-pub record Writes (es fs : Entries) (id : ℕ) (e f : Entry) : Type 0 where
-  pub there : lookup (nat_eq id) es ≡ Some e
-  pub becomes : Becomes es fs id (Some f)
-  pub same : font_in f ≡ font_in e
-
--- one of its characters is another one, or is gone
-pub record Changes (es fs : Entries) (id code : ℕ) (e f : Entry) (new : Option Glyph) : Type 0 where
-  pub writes : Writes es fs id e f
-  pub characters : (q : ℕ) → lookup (nat_eq q) f.characters.entries ≡ cond (nat_eq code q) new (lookup (nat_eq q) e.characters.entries)
-
-alike : {A : Type 0} (t : Bool) {x y : A} → (t ≡ true → x ≡ y) → cond t x y ≡ y
-alike true h = h refl
-alike false h = refl
-
--- the entry of an ID under another name
-entry_there : (es : Entries) (id q : ℕ) {o : Option Entry} → lookup (nat_eq id) es ≡ o → nat_eq id q ≡ true → lookup (nat_eq q) es ≡ o
-entry_there es id q {o} there is = subst (λ (i : ℕ). lookup (nat_eq i) es ≡ o) (eqb-true id q is) there
-
-font_there : (es : Entries) (id q : ℕ) {o : Option Entry} → lookup (nat_eq id) es ≡ o → nat_eq id q ≡ true
-    → font_at (view es) q ≡ option_map font_in o
-font_there es id q there is = font_view es q ∙ ap (option_map font_in) (entry_there es id q there is)
-
-character_there : (es : Entries) (id q its : ℕ) {o : Option Entry} → lookup (nat_eq id) es ≡ o → nat_eq id q ≡ true
-    → character_at (view es) q its ≡ entry_character o its
-character_there es id q its there is =
-    character_view es q its ∙ ap (λ (x : Option Entry). entry_character x its) (entry_there es id q there is)
-
--- the same fonts
-pub written_font : {es fs : Entries} {id : ℕ} {e f : Entry} → Writes es fs id e f → (q : ℕ) → font_at (view fs) q ≡ font_at (view es) q
-written_font {es} {fs} {id} {f} w q =
-    font_becomes es fs id (Some f) w.becomes q
-    ∙ alike (nat_eq id q) (λ is. ap Some w.same ∙ sym (font_there es id q w.there is))
-
--- nothing that is seen changes
-pub written_same : {es fs : Entries} {id : ℕ} {e f : Entry} → Writes es fs id e f
-    → ((q : ℕ) → lookup (nat_eq q) f.characters.entries ≡ lookup (nat_eq q) e.characters.entries) → IsSame (view es) (view fs)
-written_same {es} {fs} {id} {f} w same = (
-  written_font w,
-  λ q its. character_becomes es fs id (Some f) w.becomes q its
-      ∙ alike (nat_eq id q)
-      (λ is. ap (option_map character_in) (same its) ∙ sym (character_there es id q its w.there is)),
-)
-
-changed_character : {es fs : Entries} {id code : ℕ} {e f : Entry} {new : Option Glyph} → Changes es fs id code e f new → (q its : ℕ)
-    → character_at (view fs) q its ≡ cond (nat_eq id q && nat_eq code its) (option_map character_in new) (character_at (view es) q its)
-changed_character {es} {fs} {id} {code} {e} {f} {new} c q its =
-    character_becomes es fs id (Some f) c.writes.becomes q its
-    ∙ ap (λ (o : Option Glyph). cond (nat_eq id q) (option_map character_in o) (character_at (view es) q its)) (c.characters its)
-    ∙ by (nat_eq id q) (nat_eq code its) refl
-  where
-    by : (t u : Bool) → nat_eq id q ≡ t
-        → cond t (option_map character_in (cond u new (lookup (nat_eq its) e.characters.entries))) (character_at (view es) q its)
-        ≡ cond (t && u) (option_map character_in new) (character_at (view es) q its)
-    by false u is = refl
-    by true true is = refl
-    by true false is = sym (character_there es id q its c.writes.there is)
-
--- a character is sent, or deleted
-pub follows_character : {es fs : Entries} {id code : ℕ} {bytes : List ℕ} {e f : Entry} {glyph : Glyph}
-    → Changes es fs id code e f (Some glyph) → character_in glyph ≡ character_with bytes
-    → Follows (view es) (view fs) (character id code bytes)
-follows_character {es} {id} {code} {bytes} c is = record {
-  fonts = written_font c.writes;
-  characters = λ q its. changed_character c q its
-      ∙ ap (λ (x : Character). cond (nat_eq id q && nat_eq code its) (Some x) (character_at (view es) q its)) is
-      ∙ by (nat_eq id q) (nat_eq code its) q its refl;
+-- temporary fonts that are gone
+pub temporary_steps : (id code q : ℕ) (x : Option Entry) → Steps (control Temporary id code) q x (option_filter (λ e. e.is_permanent) x)
+temporary_steps id code q None = record { font = refl; character = λ its. refl }
+temporary_steps id code q (Some e) = record {
+  font = through (option_map font_in) e.is_permanent (Some e) None;
+  character = λ its. through (λ (o : Option Entry). entry_character o its) e.is_permanent (Some e) None
+      ∙ ap (λ (b : Bool). cond b (entry_character (Some e) its) None)
+      (sym (through is_some e.is_permanent (Some (font_in e)) None ∙ whether e.is_permanent));
 }
   where
-    by : (t u : Bool) (q its : ℕ) → nat_eq id q ≡ t
-        → cond (t && u) (Some (character_with bytes)) (character_at (view es) q its)
-        ≡ cond (t && u && is_some (font_at (view es) q)) (Some (character_with bytes)) (character_at (view es) q its)
-    by false u q its is = refl
-    by true false q its is = refl
-    by true true q its is =
-        ap (λ (o : Option Font). cond (is_some o) (Some (character_with bytes)) (character_at (view es) q its))
-        (sym (font_there es id q c.writes.there is))
+    whether : (b : Bool) → cond b true false ≡ b
+    whether true = refl
+    whether false = refl
 
-pub follows_one_character : {es fs : Entries} {id code : ℕ} (e f : Entry) → Changes es fs id code e f None
-    → Follows (view es) (view fs) (control controls.Character id code)
-follows_one_character e f c = record { fonts = written_font c.writes; characters = changed_character c }
-
--- without a font of the ID a character is dropped
-pub follows_dropped : (es : Entries) {id code : ℕ} {bytes : List ℕ} → lookup (nat_eq id) es ≡ None
-    → Follows (view es) (view es) (character id code bytes)
-follows_dropped es {id} {code} {bytes} none = record {
-  fonts = λ q. refl;
-  characters = λ q its. by (nat_eq id q) (nat_eq code its) q its refl;
-}
-  where
-    by : (t u : Bool) (q its : ℕ) → nat_eq id q ≡ t → character_at (view es) q its
-        ≡ cond (t && u && is_some (font_at (view es) q)) (Some (character_with bytes)) (character_at (view es) q its)
-    by false u q its is = refl
-    by true false q its is = refl
-    by true true q its is =
-        ap (λ (o : Option Font). cond (is_some o) (Some (character_with bytes)) (character_at (view es) q its))
-        (sym (font_there es id q none is))
-
--- ---- temporary and permanent fonts
-
-pub record Marks (es fs : Entries) (id : ℕ) (e f : Entry) (permanent : Bool) : Type 0 where
-  pub there : lookup (nat_eq id) es ≡ Some e
-  pub becomes : Becomes es fs id (Some f)
-  pub font_is : font_in f ≡ with_permanent permanent (font_in e)
+-- another entry for an ID, with the same font but this mark, and the same characters
+pub record IsMarked (permanent : Bool) (e f : Entry) : Type 0 where
+  pub font : font_in f ≡ with_permanent permanent (font_in e)
   pub characters : f.characters ≡ e.characters
 
 abbrev pub making : Bool → FontControl
 making permanent = if permanent then MakePermanent else MakeTemporary
 
-pub follows_mark : {es fs : Entries} {id code : ℕ} (e f : Entry) {permanent : Bool} → Marks es fs id e f permanent
-    → Follows (view es) (view fs) (control (making permanent) id code)
-follows_mark {es} {fs} {id} {code} e f {permanent} m = marked permanent refl
+pub mark_steps : (permanent : Bool) (id code q : ℕ) {e f : Entry} (x : Option Entry) → (nat_eq id q ≡ true → x ≡ Some e)
+    → IsMarked permanent e f → Steps (control (making permanent) id code) q x (cond (nat_eq id q) (Some f) x)
+mark_steps permanent id code q {e} {f} x there m = by permanent m
   where
-    fonts : (q : ℕ) → font_at (view fs) q
-        ≡ cond (nat_eq id q) (option_map (with_permanent permanent) (font_at (view es) q)) (font_at (view es) q)
-    fonts q = font_becomes es fs id (Some f) m.becomes q ∙ by (nat_eq id q) refl
-      where
-        by : (t : Bool) → nat_eq id q ≡ t → cond t (Some (font_in f)) (font_at (view es) q)
-            ≡ cond t (option_map (with_permanent permanent) (font_at (view es) q)) (font_at (view es) q)
-        by false is = refl
-        by true is = ap Some m.font_is ∙ ap (option_map (with_permanent permanent)) (sym (font_there es id q m.there is))
+    characters : (its : ℕ) (t : Bool) → (t ≡ true → x ≡ Some e) → f.characters ≡ e.characters
+        → entry_character (cond t (Some f) x) its ≡ entry_character x its
+    characters its false h same = refl
+    characters its true h same =
+        ap (λ cs. option_map character_in (lookup (nat_eq its) cs.entries)) same
+        ∙ ap (λ (o : Option Entry). entry_character o its) (sym (h refl))
 
-    characters : (q its : ℕ) → character_at (view fs) q its ≡ character_at (view es) q its
-    characters q its =
-        character_becomes es fs id (Some f) m.becomes q its
-        ∙ alike (nat_eq id q)
-        (λ is. ap (λ cs. option_map character_in (lookup (nat_eq its) cs.entries)) m.characters
-        ∙ sym (character_there es id q its m.there is))
+    fonts : (p : Bool) (t : Bool) → (t ≡ true → x ≡ Some e) → font_in f ≡ with_permanent p (font_in e)
+        → option_map font_in (cond t (Some f) x) ≡ cond t (option_map (with_permanent p) (option_map font_in x)) (option_map font_in x)
+    fonts p false h is = refl
+    fonts p true h is =
+        ap Some is ∙ ap (λ (o : Option Entry). option_map (with_permanent p) (option_map font_in o)) (sym (h refl))
 
-    marked : (b : Bool) → b ≡ permanent → Follows (view es) (view fs) (control (making b) id code)
-    marked true is = record {
-      fonts = λ q. fonts q
-          ∙ ap (λ b. cond (nat_eq id q) (option_map (with_permanent b) (font_at (view es) q)) (font_at (view es) q)) (sym is);
-      characters = characters;
+    by : (p : Bool) → IsMarked p e f → Steps (control (making p) id code) q x (cond (nat_eq id q) (Some f) x)
+    by true m = record {
+      font = fonts true (nat_eq id q) there m.font;
+      character = λ its. characters its (nat_eq id q) there m.characters;
     }
-    marked false is = record {
-      fonts = λ q. fonts q
-          ∙ ap (λ b. cond (nat_eq id q) (option_map (with_permanent b) (font_at (view es) q)) (font_at (view es) q)) (sym is);
-      characters = characters;
+    by false m = record {
+      font = fonts false (nat_eq id q) there m.font;
+      character = λ its. characters its (nat_eq id q) there m.characters;
     }
 
--- what isn't there is left alone
-absent : {A : Type 0} (t : Bool) (x : Option A) {y : Option A} → (t ≡ true → y ≡ None) → (f : Option A → Option A) → f None ≡ None
-    → cond t (f y) y ≡ y
-absent true x none f stays = ap f (none refl) ∙ stays ∙ sym (none refl)
-absent false x none f stays = refl
-
-pub follows_no_mark : (es : Entries) {id code : ℕ} (permanent : Bool) → lookup (nat_eq id) es ≡ None
-    → Follows (view es) (view es) (control (making permanent) id code)
-follows_no_mark es {id} {code} permanent none = marked permanent
+-- one that isn't there is left alone
+pub no_mark_steps : (permanent : Bool) (id code q : ℕ) (x : Option Entry) → (nat_eq id q ≡ true → x ≡ None)
+    → Steps (control (making permanent) id code) q x x
+no_mark_steps permanent id code q x none = by permanent
   where
-    gone : (q : ℕ) → nat_eq id q ≡ true → font_at (view es) q ≡ None
-    gone q is = font_there es id q none is
+    fonts : (p : Bool) (t : Bool) → (t ≡ true → x ≡ None)
+        → option_map font_in x ≡ cond t (option_map (with_permanent p) (option_map font_in x)) (option_map font_in x)
+    fonts p false h = refl
+    fonts p true h =
+        ap (option_map font_in) (h refl)
+        ∙ sym (ap (λ (o : Option Entry). option_map (with_permanent p) (option_map font_in o)) (h refl))
 
-    marked : (b : Bool) → Follows (view es) (view es) (control (making b) id code)
-    marked true = record {
-      fonts = λ q. sym (absent (nat_eq id q) None (gone q) (option_map (with_permanent true)) refl);
-      characters = λ q its. refl;
-    }
-    marked false = record {
-      fonts = λ q. sym (absent (nat_eq id q) None (gone q) (option_map (with_permanent false)) refl);
-      characters = λ q its. refl;
-    }
+    by : (p : Bool) → Steps (control (making p) id code) q x x
+    by true = record { font = fonts true (nat_eq id q) none; character = λ its. refl }
+    by false = record { font = fonts false (nat_eq id q) none; character = λ its. refl }
 
-pub follows_no_character : (es : Entries) {id code : ℕ} → lookup (nat_eq id) es ≡ None
-    → Follows (view es) (view es) (control controls.Character id code)
-follows_no_character es {id} {code} none = record {
-  fonts = λ q. refl;
-  characters = λ q its. by (nat_eq id q) (nat_eq code its) q its refl;
+-- another entry for an ID, with the same font and another character of a code, or none
+pub record IsChanged (code : ℕ) (new : Option Glyph) (e f : Entry) : Type 0 where
+  pub font : font_in f ≡ font_in e
+  pub characters : (its : ℕ) → lookup (nat_eq its) f.characters.entries ≡ cond (nat_eq code its) new (lookup (nat_eq its) e.characters.entries)
+
+changed_font : {e : Entry} (f : Entry) (t : Bool) (x : Option Entry) → (t ≡ true → x ≡ Some e) → font_in f ≡ font_in e
+    → option_map font_in (cond t (Some f) x) ≡ option_map font_in x
+changed_font f false x h same = refl
+changed_font f true x h same = ap Some same ∙ ap (option_map font_in) (sym (h refl))
+
+changed_character : {e f : Entry} (code its : ℕ) (new : Option Glyph) (t : Bool) (x : Option Entry) → (t ≡ true → x ≡ Some e)
+    → IsChanged code new e f
+    → entry_character (cond t (Some f) x) its ≡ cond (t && nat_eq code its) (option_map character_in new) (entry_character x its)
+changed_character code its new false x h c = refl
+changed_character {e} code its new true x h c =
+    ap (option_map character_in) (c.characters its)
+    ∙ through (option_map character_in) (nat_eq code its) new (lookup (nat_eq its) e.characters.entries)
+    ∙ ap (λ (o : Option Entry). cond (nat_eq code its) (option_map character_in new) (entry_character o its)) (sym (h refl))
+
+-- a character is sent
+pub character_steps : (id code q : ℕ) {bytes : List ℕ} {e f : Entry} {glyph : Glyph} (x : Option Entry)
+    → (nat_eq id q ≡ true → x ≡ Some e) → IsChanged code (Some glyph) e f → character_in glyph ≡ character_with bytes
+    → Steps (character id code bytes) q x (cond (nat_eq id q) (Some f) x)
+character_steps id code q {bytes} {e} {f} {glyph} x there c is = record {
+  font = changed_font f (nat_eq id q) x there c.font;
+  character = λ its. changed_character code its (Some glyph) (nat_eq id q) x there c
+      ∙ ap (λ (new : Character). cond (nat_eq id q && nat_eq code its) (Some new) (entry_character x its)) is
+      ∙ by its (nat_eq id q) there (nat_eq code its);
 }
   where
-    by : (t u : Bool) (q its : ℕ) → nat_eq id q ≡ t
-        → character_at (view es) q its ≡ cond (t && u) None (character_at (view es) q its)
-    by false u q its is = refl
-    by true false q its is = refl
-    by true true q its is = character_there es id q its none is
+    by : (its : ℕ) (t : Bool) → (t ≡ true → x ≡ Some e) → (u : Bool) → cond (t && u) (Some (character_with bytes)) (entry_character x its)
+        ≡ cond (t && u && is_some (option_map font_in x)) (Some (character_with bytes)) (entry_character x its)
+    by its false h u = refl
+    by its true h false = refl
+    by its true h true =
+        ap (λ (o : Option Entry). cond (is_some (option_map font_in o)) (Some (character_with bytes)) (entry_character x its)) (sym (h refl))
 
--- ---- fonts that are deleted
-
-pub follows_all : (es : Entries) (id code : ℕ) → Follows (view es) [] (control All id code)
-follows_all es id code = record { fonts = λ q. refl; characters = λ q its. refl }
-
--- the temporary ones
-pub follows_temporary : (es : Entries) {fs : Entries} {id code : ℕ} → IsDistinct nat_eq (keys_of es)
-    → fs ≡ filter (λ (e : ℕ × Entry). e.1.is_permanent) es → Follows (view es) (view fs) (control Temporary id code)
-follows_temporary es {fs} distinct kept = record {
-  fonts = λ q. font_view fs q ∙ ap (option_map font_in) (left q) ∙ fonts (lookup (nat_eq q) es)
-      ∙ ap if_permanent (sym (font_view es q));
-  characters = λ q its. character_view fs q its ∙ ap (λ (o : Option Entry). entry_character o its) (left q)
-      ∙ characters (lookup (nat_eq q) es) its
-      ∙ ap (λ (o : Option Font). cond (is_some (if_permanent o)) (entry_character (lookup (nat_eq q) es) its) None)
-      (sym (font_view es q))
-      ∙ ap (λ (x : Option Character). cond (is_some (if_permanent (font_at (view es) q))) x None) (sym (character_view es q its));
+-- one is deleted
+pub no_more_steps : (id code q : ℕ) {e f : Entry} (x : Option Entry) → (nat_eq id q ≡ true → x ≡ Some e) → IsChanged code None e f
+    → Steps (control controls.Character id code) q x (cond (nat_eq id q) (Some f) x)
+no_more_steps id code q {f = f} x there c = record {
+  font = changed_font f (nat_eq id q) x there c.font;
+  character = λ its. changed_character code its None (nat_eq id q) x there c;
 }
+
+-- without a font of the ID a character is dropped
+pub dropped_steps : (id code q : ℕ) {bytes : List ℕ} (x : Option Entry) → (nat_eq id q ≡ true → x ≡ None)
+    → Steps (character id code bytes) q x x
+dropped_steps id code q {bytes} x none = record { font = refl; character = λ its. by its (nat_eq id q) none (nat_eq code its) }
   where
-    left : (q : ℕ) → lookup (nat_eq q) fs ≡ option_filter (λ (e : Entry). e.is_permanent) (lookup (nat_eq q) es)
-    left q = ap (lookup (nat_eq q)) kept ∙ lookup-filter-values nat_eq_equiv (λ (e : Entry). e.is_permanent) q es distinct
+    by : (its : ℕ) (t : Bool) → (t ≡ true → x ≡ None) → (u : Bool) → entry_character x its
+        ≡ cond (t && u && is_some (option_map font_in x)) (Some (character_with bytes)) (entry_character x its)
+    by its false h u = refl
+    by its true h false = refl
+    by its true h true =
+        ap (λ (o : Option Entry). cond (is_some (option_map font_in o)) (Some (character_with bytes)) (entry_character x its)) (sym (h refl))
 
-    fonts : (o : Option Entry) → option_map font_in (option_filter (λ (e : Entry). e.is_permanent) o) ≡ if_permanent (option_map font_in o)
-    fonts None = refl
-    fonts (Some e) = through (option_map font_in) e.is_permanent (Some e) None
-
-    whether : (b : Bool) → cond b true false ≡ b
-    whether true = refl
-    whether false = refl
-
-    characters : (o : Option Entry) (its : ℕ) → entry_character (option_filter (λ (e : Entry). e.is_permanent) o) its
-        ≡ cond (is_some (if_permanent (option_map font_in o))) (entry_character o its) None
-    characters None its = refl
-    characters (Some e) its =
-        through (λ (o : Option Entry). entry_character o its) e.is_permanent (Some e) None
-        ∙ ap (λ (b : Bool). cond b (entry_character (Some e) its) None)
-        (sym (through is_some e.is_permanent (Some (font_in e)) None ∙ whether e.is_permanent))
-
--- where all are permanent that deletion changes nothing
-pub follows_permanent : (es : Entries) {id code : ℕ} → ArePermanent (view es) → Follows (view es) (view es) (control Temporary id code)
-follows_permanent es all = record {
-  fonts = λ q. sym (all q);
-  characters = λ q its. character_view es q its ∙ of_font (lookup (nat_eq q) es) its
-      ∙ ap (λ (o : Option Font). cond (is_some o) (entry_character (lookup (nat_eq q) es) its) None) (sym (font_view es q) ∙ sym (all q))
-      ∙ ap (λ (x : Option Character). cond (is_some (if_permanent (font_at (view es) q))) x None) (sym (character_view es q its));
-}
+-- and none is deleted
+pub no_character_steps : (id code q : ℕ) (x : Option Entry) → (nat_eq id q ≡ true → x ≡ None)
+    → Steps (control controls.Character id code) q x x
+no_character_steps id code q x none = record { font = refl; character = λ its. by its (nat_eq id q) none (nat_eq code its) }
   where
-    of_font : (o : Option Entry) (its : ℕ) → entry_character o its ≡ cond (is_some (option_map font_in o)) (entry_character o its) None
-    of_font None its = refl
-    of_font (Some e) its = refl
+    by : (its : ℕ) (t : Bool) → (t ≡ true → x ≡ None) → (u : Bool) → entry_character x its ≡ cond (t && u) None (entry_character x its)
+    by its false h u = refl
+    by its true h false = refl
+    by its true h true = ap (λ (o : Option Entry). entry_character o its) (h refl)
 
--- ---- what a map's calls say
+-- another entry with the same font and characters is the same to see
+pub same_to_see : {old new : FontTable} {entry later : ℕ → Option Entry} (id : ℕ) {e : Entry} (f : Entry) → IsSeen old entry → IsSeen new later
+    → ((q : ℕ) → later q ≡ cond (nat_eq id q) (Some f) (entry q)) → ((q : ℕ) → nat_eq id q ≡ true → entry q ≡ Some e)
+    → font_in f ≡ font_in e → ((its : ℕ) → lookup (nat_eq its) f.characters.entries ≡ lookup (nat_eq its) e.characters.entries)
+    → IsSame old new
+same_to_see {entry = entry} id {e} f o n is there font same = (
+  λ q. n.fonts q ∙ ap (option_map font_in) (is q) ∙ changed_font f (nat_eq id q) (entry q) (there q) font ∙ sym (o.fonts q),
+  λ q its. n.characters q its ∙ ap (λ (x : Option Entry). entry_character x its) (is q) ∙ by its (nat_eq id q) (entry q) (there q)
+      ∙ sym (o.characters q its),
+)
+  where
+    by : (its : ℕ) (t : Bool) (x : Option Entry) → (t ≡ true → x ≡ Some e)
+        → entry_character (cond t (Some f) x) its ≡ entry_character x its
+    by its false x h = refl
+    by its true x h = ap (option_map character_in) (same its) ∙ ap (λ (y : Option Entry). entry_character y its) (sym (h refl))
+
+-- no font is there
+pub no_font : {A : Type 0} {table : FontTable} {entry : ℕ → Option Entry} (id : ℕ) → IsSeen table entry → entry id ≡ None
+    → is_some (font_at table id) ≡ true → A
+no_font id s none is = absurd (true≢false (sym is ∙ ap is_some (s.fonts id ∙ ap (option_map font_in) none)))
+
+-- the character that is printed
+pub printed_stored : (table : FontTable) (id code : ℕ) (e : Entry) → lookup (nat_eq id) table ≡ Some (stored_in e) → printed table id code
+    ≡ (if has_code e.font_type code then option_map character_in (lookup (nat_eq code) e.characters.entries) else None)
+printed_stored table id code e is =
+    ap (λ (o : Option Stored). printed_in table id code (option_map (λ (s : Stored). s.font) o)) is
+    ∙ ap (λ (o : Option Character). cond (has_code e.font_type code) o None)
+    (ap (λ (o : Option Stored). character_of o code) is ∙ lookup-map_values character_in (nat_eq code) e.characters.entries)
+
+-- ---- one entry of a map changes
+
+-- the entry of an ID becomes w, those of others stay
+abbrev pub Becomes : Entries → Entries → ℕ → Option Entry → Type 0
+Becomes es fs id w = (q : ℕ) → lookup (nat_eq q) fs ≡ cond (nat_eq id q) w (lookup (nat_eq q) es)
+
+pub live_becomes : (deletions : ℕ) (es fs : Entries) (id : ℕ) (w : Option Entry) {l : Option Entry} → live deletions w ≡ l
+    → Becomes es fs id w → (q : ℕ)
+    → live deletions (lookup (nat_eq q) fs) ≡ cond (nat_eq id q) l (live deletions (lookup (nat_eq q) es))
+live_becomes deletions es fs id w is b q =
+    ap (live deletions) (b q) ∙ through (live deletions) (nat_eq id q) w (lookup (nat_eq q) es)
+    ∙ ap (λ (o : Option Entry). cond (nat_eq id q) o (live deletions (lookup (nat_eq q) es))) is
+
+-- the entry of an ID under another name
+pub entry_at : (deletions : ℕ) (es : Entries) (id q : ℕ) {o : Option Entry} → live deletions (lookup (nat_eq id) es) ≡ o → nat_eq id q ≡ true
+    → live deletions (lookup (nat_eq q) es) ≡ o
+entry_at deletions es id q {o} there is = subst (λ (i : ℕ). live deletions (lookup (nat_eq i) es) ≡ o) (eqb-true id q is) there
+
+-- what is written is what was there
+pub same_entry : (es fs : Entries) (id : ℕ) {e : Entry} → lookup (nat_eq id) es ≡ Some e → Becomes es fs id (Some e) → (q : ℕ)
+    → lookup (nat_eq q) fs ≡ lookup (nat_eq q) es
+same_entry es fs id {e} there b q = b q ∙ by (nat_eq id q) refl
+  where
+    by : (t : Bool) → nat_eq id q ≡ t → cond t (Some e) (lookup (nat_eq q) es) ≡ lookup (nat_eq q) es
+    by false is = refl
+    by true is = sym (subst (λ (i : ℕ). lookup (nat_eq i) es ≡ Some e) (eqb-true id q is) there)
 
 -- what is written through a loan of an entry
 pub becomes_of : {S : Type 0} (m : IndexMap ℕ Entry S) {n : IndexMap ℕ Entry S} (id : ℕ) {e f : Entry} → get nat_eq m id ≡ Some e
     → WritesThrough nat_eq (nat_eq id) m f n → Becomes m.entries n.entries id (Some f)
 becomes_of m id there w = (w.3 (ap is_some there)).0
 
-pub writes_of : {S : Type 0} {m n : IndexMap ℕ Entry S} {id : ℕ} {e f : Entry} → get nat_eq m id ≡ Some e
-    → WritesThrough nat_eq (nat_eq id) m f n → font_in f ≡ font_in e → Writes m.entries n.entries id e f
-writes_of {m} {id} there w same = record { there = there; becomes = becomes_of m id there w; same = same }
+-- ---- what is there after deletions of temporary fonts
 
--- ---- what becomes of a character
+pub live_when : (deletions : ℕ) (e : Entry) {b : Bool} → b ≡ is_there deletions e → live deletions (Some e) ≡ cond b (Some e) None
+live_when deletions e is = ap (λ (t : Bool). cond t (Some e) None) (sym is)
 
-pub character_dropped : (es : Entries) {id code : ℕ} {bytes : List ℕ} → lookup (nat_eq id) es ≡ None
-    → HasCharacter id code bytes (Ok tt) (view es) (view es)
-character_dropped es {id} none = (
-  λ is. absurd (true≢false (sym is ∙ ap is_some (font_view es id ∙ ap (option_map font_in) none))),
-  follows_dropped es none,
-)
-
-pub character_refused : {es fs : Entries} {id : ℕ} {e f : Entry} (code : ℕ) (bytes : List ℕ) → Writes es fs id e f
-    → ((q : ℕ) → lookup (nat_eq q) f.characters.entries ≡ lookup (nat_eq q) e.characters.entries) → is_character bytes ≡ false
-    → HasCharacter id code bytes (Err (Refused CharacterData)) (view es) (view fs)
-character_refused {es} {id} code bytes w same other = (
-  ap is_some (font_view es id ∙ ap (option_map font_in) w.there),
-  other,
-  refl,
-  written_same w same,
-)
-
-pub character_taken : {es fs : Entries} {id code : ℕ} {e f : Entry} {glyph : Glyph} (bytes : List ℕ)
-    → Changes es fs id code e f (Some glyph) → is_character bytes ≡ true → character_in glyph ≡ character_with bytes
-    → HasCharacter id code bytes (Ok tt) (view es) (view fs)
-character_taken bytes c whole is = (λ _. whole, follows_character c is)
-
--- ---- what is looked up
-
-pub info_view : (es : Entries) (id : ℕ) → info_of (font_at (view es) id) ≡ option_map (λ (e : Entry). e.info) (lookup (nat_eq id) es)
-info_view es id = ap info_of (font_view es id) ∙ joined (lookup (nat_eq id) es)
+-- one that was sent after the last of them
+pub sent_now : (deletions : ℕ) (e : Entry) → e.deletions ≡ deletions → live deletions (Some e) ≡ Some e
+sent_now deletions e is = by e.is_permanent refl
   where
-    joined : (o : Option Entry) → info_of (option_map font_in o) ≡ option_map (λ (e : Entry). e.info) o
-    joined None = refl
-    joined (Some e) = refl
+    by : (b : Bool) → e.is_permanent ≡ b → live deletions (Some e) ≡ Some e
+    by true p = ap (λ (t : Bool). cond (t || nat_eq e.deletions deletions) (Some e) None) p
+    by false p =
+        ap (λ (t : Bool). cond (t || nat_eq e.deletions deletions) (Some e) None) p
+        ∙ ap (λ (t : Bool). cond t (Some e) None) (eq-eqb e.deletions deletions is)
 
-pub printed_none : (es : Entries) (id code : ℕ) → lookup (nat_eq id) es ≡ None → printed (view es) id code ≡ None
-printed_none es id code none = ap (printed_in (view es) id code) (font_view es id ∙ ap (option_map font_in) none)
+left : (deletions : ℕ) (e : Entry) → e.is_permanent ≡ true → Some e ≡ option_filter (λ e. e.is_permanent) (live deletions (Some e))
+left deletions e is =
+    ap (λ (t : Bool). cond t (Some e) None) (sym is)
+    ∙ ap (λ (t : Bool). option_filter (λ e. e.is_permanent) (cond (t || nat_eq e.deletions deletions) (Some e) None)) (sym is)
 
-pub printed_view : (es : Entries) (id code : ℕ) {e : Entry} → lookup (nat_eq id) es ≡ Some e
-    → printed (view es) id code
-    ≡ (if has_code e.font_type code then option_map character_in (lookup (nat_eq code) e.characters.entries) else None)
-printed_view es id code {e} there =
-    ap (printed_in (view es) id code) (font_view es id ∙ ap (option_map font_in) there)
-    ∙ ap (λ (o : Option Character). cond (has_code e.font_type code) o None)
-    (character_view es id code ∙ ap (λ (o : Option Entry). entry_character o code) there)
+gone : (deletions : ℕ) (e : Entry) → e.is_permanent ≡ false → None ≡ option_filter (λ e. e.is_permanent) (live deletions (Some e))
+gone deletions e is = by (is_there deletions e)
+  where
+    by : (t : Bool) → None ≡ option_filter (λ e. e.is_permanent) (cond t (Some e) None)
+    by true = ap (λ (t : Bool). cond t (Some e) None) (sym is)
+    by false = refl
+
+-- after one more an entry is there where it is permanent
+pub one_more : (deletions : ℕ) (entry : Option Entry) → IfSome entry (λ e. e.is_permanent ≡ false → e.deletions ≤ deletions)
+    → live (deletions + 1) entry ≡ option_filter (λ e. e.is_permanent) (live deletions entry)
+one_more deletions None earlier = refl
+one_more deletions (Some e) earlier = by e.is_permanent refl
+  where
+    by : (permanent : Bool) → e.is_permanent ≡ permanent
+        → live (deletions + 1) (Some e) ≡ option_filter (λ e. e.is_permanent) (live deletions (Some e))
+    by true is = ap (λ (t : Bool). cond (t || nat_eq e.deletions (deletions + 1)) (Some e) None) is ∙ left deletions e is
+    by false is =
+        let le : e.deletions ≤ deletions = earlier is in
+        let other : e.deletions ≡ deletions + 1 → ⊥ = λ same. omega (arith, le, same) in
+        ap (λ (t : Bool). cond (t || nat_eq e.deletions (deletions + 1)) (Some e) None) is
+        ∙ ap (λ (t : Bool). cond t (Some e) None) (ne_eqb e.deletions (deletions + 1) other)
+        ∙ gone deletions e is
+
+-- and so where those are kept that are permanent
+pub kept : (deletions : ℕ) (entry : Option Entry)
+    → live 0 (option_filter (λ e. e.is_permanent) entry) ≡ option_filter (λ e. e.is_permanent) (live deletions entry)
+kept deletions None = refl
+kept deletions (Some e) = by e.is_permanent refl
+  where
+    by : (permanent : Bool) → e.is_permanent ≡ permanent
+        → live 0 (cond e.is_permanent (Some e) None) ≡ option_filter (λ e. e.is_permanent) (live deletions (Some e))
+    by true is =
+        ap (λ (t : Bool). live 0 (cond t (Some e) None)) is
+        ∙ ap (λ (t : Bool). cond (t || nat_eq e.deletions 0) (Some e) None) is ∙ left deletions e is
+    by false is = ap (λ (t : Bool). live 0 (cond t (Some e) None)) is ∙ gone deletions e is
+
+-- none of them is from after a deletion
+pub kept_permanent : (entry : Option Entry)
+    → IfSome (option_filter (λ e. e.is_permanent) entry) (λ e. e.is_permanent ≡ false → e.deletions ≤ 0)
+kept_permanent None = tt
+kept_permanent (Some e) = by e.is_permanent refl
+  where
+    by : (permanent : Bool) → e.is_permanent ≡ permanent
+        → IfSome (cond permanent (Some e) None) (λ e. e.is_permanent ≡ false → e.deletions ≤ 0)
+    by true is = λ temporary. absurd (true≢false (sym is ∙ temporary))
+    by false is = tt
+
+abbrev pub IsEarlier : ℕ → Entry → Type 0
+IsEarlier deletions e = e.is_permanent ≡ false → e.deletions ≤ deletions
+
+-- no entry is from after a later deletion than the last
+pub earlier_becomes : (deletions : ℕ) (es fs : Entries) (id : ℕ) {e : Entry} (f : Entry) → lookup (nat_eq id) es ≡ Some e
+    → Becomes es fs id (Some f) → (IsEarlier deletions e → IsEarlier deletions f) → ((q : ℕ) → IfSome (lookup (nat_eq q) es) (IsEarlier deletions)) → (q : ℕ)
+    → IfSome (lookup (nat_eq q) fs) (IsEarlier deletions)
+earlier_becomes deletions es fs id f there b same earlier q =
+    subst (λ (o : Option Entry). IfSome o (IsEarlier deletions)) (sym (b q)) (by (nat_eq id q))
+  where
+    by : (t : Bool) → IfSome (cond t (Some f) (lookup (nat_eq q) es)) (IsEarlier deletions)
+    by true = same (subst (λ (o : Option Entry). IfSome o (IsEarlier deletions)) there (earlier id))
+    by false = earlier q

@@ -1,5 +1,5 @@
 -- What contracts see of a table of fonts: the font of each ID, and the character of each ID and code.
-use Rattle.std.specs.Prelude.{◌≡◌, ℕ, true, false, nat_eq, if◌then◌else◌, List, map, Option, None, Some, is_some, Result, Ok, Err}
+use Rattle.std.specs.Prelude.{◌≡◌, ◌≤◌, ℕ, Bool, true, false, ◌||◌, nat_eq, if◌then◌else◌, List, map, filter, Option, None, Some, is_some, IfSome, Result, Ok, Err}
 use Rattle.std.specs.Option.{option_map}
 use Rattle.std.specs.Map.{lookup}
 use Rattle.indexmap.specs.IndexMap.{IsUnique}
@@ -7,7 +7,7 @@ use Rattle.pcl_base.specs.declared.kind.Kind.TheVariants.{FontHeader, CharacterD
 use Rattle.pcl_base.specs.declared.fault.CallFault.{CallFault}
 use Rattle.pcl_base.specs.declared.fault.CallFault.TheVariants.{Refused, Memory}
 use Rattle.pcl_fonts.specs.Fields.{Font, Character, has_code, is_header, is_character}
-use Rattle.pcl_fonts.specs.History.{FontEvent, header, character, if_permanent, font_step, font_after, character_step, character_after}
+use Rattle.pcl_fonts.specs.History.{FontEvent, header, character, font_step, font_after, character_step, character_after}
 use Rattle.pcl_fonts.specs.declared.header.FontInfo.{FontInfo}
 use Rattle.pcl_fonts.specs.declared.header.Header.{Header}
 use Rattle.pcl_fonts.specs.declared.fonts.Entry.{Entry}
@@ -87,13 +87,13 @@ character_in g = record { left = g.left; top = g.top; width = g.width; height = 
 abbrev pub stored_in : Entry → Stored
 stored_in e = record { font = font_in e; characters = map (λ c. (c.0, character_in c.1)) e.characters.entries }
 
-abbrev pub table_view : Inside → FontTable
-table_view a = map (λ e. (e.0, stored_in e.1)) a.entries.entries
+-- after so many deletions of temporary fonts one is there that is permanent, or that was sent or marked after the last of them
+abbrev pub is_there : ℕ → Entry → Bool
+is_there deletions entry = entry.is_permanent || nat_eq entry.deletions deletions
 
--- a deletion of temporary fonts leaves each font
-abbrev pub ArePermanent : FontTable → Type 0
-ArePermanent table = (id : ℕ) → if_permanent (font_at table id) ≡ font_at table id
+abbrev pub table_view : Inside → FontTable
+table_view a = map (λ e. (e.0, stored_in e.1)) (filter (λ e. is_there a.deletions e.1) a.entries.entries)
 
 pub record IsFontMap (a : Inside) : Type 0 where
   pub unique : IsUnique nat_eq a.entries
-  pub permanent : a.has_temporary ≡ false → ArePermanent (table_view a)
+  pub earlier : (id : ℕ) → IfSome (lookup (nat_eq id) a.entries.entries) (λ entry. entry.is_permanent ≡ false → entry.deletions ≤ a.deletions)

@@ -1,6 +1,7 @@
 //! The fonts that a job has sent.
 
 ghost use Rattle.std.specs.Prelude.{◌≡◌};
+ghost use Rattle.pcl_fonts.specs.Table.{is_there};
 
 use crate::glyph::Glyph;
 use crate::header::{FontInfo, FontType, Header};
@@ -32,15 +33,27 @@ pub struct Entry<'a> {
     pub info: FontInfo,
     pub font_type: FontType,
     pub is_permanent: bool,
+    /// How many deletions of temporary fonts were counted when it was sent or marked.
+    pub deletions: u16,
     pub characters: IndexMap<u8, Glyph<'a>>,
+}
+
+impl<'a> Entry<'a> {
+    /// Whether it is still there after so many deletions of temporary fonts.
+    fn is_there(&self, deletions: u16) -> bool
+        ensures { result ≡ is_there deletions self.now }
+    {
+        self.is_permanent || self.deletions == deletions
+    }
 }
 
 /// The soft fonts that are there, by ID, and their characters, by code. Patterns stay in the job.
 #[derive(Drop)]
 pub struct Fonts<'a> {
+    // A temporary one that a deletion took is looked past, until all of these go at once.
     entries: IndexMap<u16, Entry<'a>>,
-    // Whether a font may be temporary; else all are permanent.
-    has_temporary: bool,
+    // How many deletions of temporary fonts came since then.
+    deletions: u16,
     alloc: Global,
 }
 
@@ -51,16 +64,17 @@ impl<'a> Model for Fonts<'a> {
 
     ghost view = { table_view };
 
-    // One entry for an ID, and whether one may be temporary.
+    // One entry for an ID, and none from after a later deletion than the last.
     ghost invariant = { IsFontMap };
 }
 
 impl<'a> Fonts<'a> {
-    ghost use Rattle.std.specs.Prelude.{ℕ, List, [], if◌then◌else◌};
+    ghost use Rattle.std.specs.Prelude.{ℕ, List, [], nat_eq, if◌then◌else◌};
+    ghost use Rattle.std.specs.Map.{lookup};
     ghost use Rattle.std.specs.Option.{option_map};
     ghost use Rattle.pcl_fonts.specs.Fields.{is_header, is_character};
     ghost use Rattle.pcl_fonts.specs.History.{header, character, control};
-    ghost use Rattle.pcl_fonts.specs.Table.{Holds, Follows, IsSame, HasHeader, HasCharacter, printed, font_at, info_of, character_in};
+    ghost use Rattle.pcl_fonts.specs.Table.{Holds, Follows, IsSame, HasHeader, HasCharacter, printed, font_at, info_of, character_in, stored_in};
 
     /// No fonts.
     pub fn new(alloc: Global) -> Fonts<'a>
@@ -68,7 +82,7 @@ impl<'a> Fonts<'a> {
     {
         Fonts {
             entries: IndexMap::new(alloc),
-            has_temporary: false,
+            deletions: 0,
             alloc,
         }
     }
@@ -85,13 +99,11 @@ impl<'a> Fonts<'a> {
             info: header.info,
             font_type: header.font_type,
             is_permanent: false,
+            deletions: self.deletions,
             characters: IndexMap::new(self.alloc),
         };
         match self.entries.insert(id, entry) {
-            Ok(_) => {
-                self.has_temporary = true;
-                Ok(())
-            }
+            Ok(_) => Ok(()),
             Err(_) => Err(CallFault::Memory),
         }
     }
@@ -102,9 +114,13 @@ impl<'a> Fonts<'a> {
     pub fn character(&mut self, id: u16, code: u8, bytes: &'a [u8]) -> Result<(), CallFault>
         ensures { HasCharacter id code bytes.now result self.old self.new }
     {
+        let deletions = self.deletions;
         let Some(entry) = self.entries.get_mut(&id) else {
             return Ok(());
         };
+        if !entry.is_there(deletions) {
+            return Ok(());
+        }
         let Some(glyph) = Glyph::read(bytes) else {
             return Err(CallFault::Refused(Kind::CharacterData));
         };
@@ -128,19 +144,27 @@ impl<'a> Fonts<'a> {
         }
     }
 
-    /// Deletes the temporary fonts. Where none was sent or made temporary since the last time, nothing is looked at.
+    /// Deletes the temporary fonts: from now on they are looked past. All are looked at where no more deletions can be counted, and then
+    /// those go.
     fn delete_temporary(&mut self)
         ensures { Follows self.old self.new (control FontControl.Temporary 0 0) }
     {
-        if !self.has_temporary {
-            return;
+        match self.deletions.checked_add(1) {
+            Some(deletions) => self.deletions = deletions,
+            None => self.forget_temporary(),
         }
+    }
+
+    /// Deletes the temporary fonts, and those that are looked past.
+    fn forget_temporary(&mut self)
+        ensures { Follows self.old self.new (control FontControl.Temporary 0 0) }
+    {
         self.entries.retain(
             |_id: &u16, entry: &mut Entry<'_>| -> bool
                 ensures { (result ≡ entry.old.is_permanent) × (entry.new ≡ entry.old) }
             { entry.is_permanent },
         );
-        self.has_temporary = false;
+        self.deletions = 0;
     }
 
     /// Deletes a font.
@@ -154,9 +178,13 @@ impl<'a> Fonts<'a> {
     fn delete_character(&mut self, id: u16, code: u8)
         ensures { Follows self.old self.new (control FontControl.Character id code) }
     {
+        let deletions = self.deletions;
         let Some(entry) = self.entries.get_mut(&id) else {
             return;
         };
+        if !entry.is_there(deletions) {
+            return;
+        }
         entry.characters.swap_remove(&code);
     }
 
@@ -164,18 +192,33 @@ impl<'a> Fonts<'a> {
     fn set_permanent(&mut self, id: u16, is_permanent: bool)
         ensures { Follows self.old self.new (control (if is_permanent then FontControl.MakePermanent else FontControl.MakeTemporary) id 0) }
     {
+        let deletions = self.deletions;
         let Some(entry) = self.entries.get_mut(&id) else {
             return;
         };
+        if !entry.is_there(deletions) {
+            return;
+        }
         entry.is_permanent = is_permanent;
-        self.has_temporary |= !is_permanent;
+        entry.deletions = deletions;
+    }
+
+    /// The font of an ID with its characters, if it is there.
+    fn entry(&self, id: u16) -> Option<&Entry<'a>>
+        ensures { option_map (λ entry. stored_in entry.now) result ≡ lookup (nat_eq id) self.now }
+    {
+        let entry = self.entries.get(&id)?;
+        if !entry.is_there(self.deletions) {
+            return None;
+        }
+        Some(entry)
     }
 
     /// The font of an ID, if it is there.
     pub fn font(&self, id: u16) -> Option<FontInfo>
         ensures { result ≡ info_of (font_at self.now id) }
     {
-        self.entries.get(&id).map(|entry| entry.info)
+        self.entry(id).map(|entry| entry.info)
     }
 
     /// The character that text prints for a code in the font of an ID: one that is there, of a code that fonts of this
@@ -183,7 +226,7 @@ impl<'a> Fonts<'a> {
     pub fn glyph(&self, id: u16, code: u8) -> Option<Glyph<'a>>
         ensures { option_map character_in result ≡ printed self.now id code }
     {
-        let entry = self.entries.get(&id)?;
+        let entry = self.entry(id)?;
         if !entry.font_type.has_code(code) {
             return None;
         }

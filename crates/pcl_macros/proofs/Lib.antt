@@ -1,3 +1,2 @@
 pub mod Histories
-mod Permanent
 mod Tables

@@ -1,5 +1,5 @@
 -- What contracts see of a table of macros: the body of each ID, and the definition that is open.
-use Rattle.std.specs.Prelude.{◌≡◌, ℕ, Bool, true, false, nat_eq, List, map, Option, None, Some, is_some, Result, Ok, Err}
+use Rattle.std.specs.Prelude.{◌≡◌, ◌≤◌, ℕ, Bool, true, false, ◌||◌, nat_eq, List, map, filter, Option, None, Some, is_some, IfSome, Result, Ok, Err}
 use Rattle.std.specs.Option.{option_map}
 use Rattle.std.specs.Map.{lookup}
 use Rattle.std.specs.declared.ops.Range.{Range}
@@ -7,7 +7,7 @@ use Rattle.indexmap.specs.IndexMap.{IsUnique}
 use Rattle.pcl_base.specs.declared.kind.Kind.TheVariants.{MacroControl}
 use Rattle.pcl_base.specs.declared.fault.CallFault.{CallFault}
 use Rattle.pcl_base.specs.declared.fault.CallFault.TheVariants.{Refused, Memory}
-use Rattle.pcl_macros.specs.History.{MacroEvent, MacroBody, defined, if_permanent, body_step, body_after}
+use Rattle.pcl_macros.specs.History.{MacroEvent, MacroBody, defined, body_step, body_after}
 use Rattle.pcl_macros.specs.declared.table.Body.{Body}
 use Rattle.pcl_macros.specs.declared.table.Definition.{Definition}
 use Rattle.pcl_macros.specs.declared.table.Macros.TheInside.{Inside}
@@ -60,13 +60,16 @@ macro_in body = record { from = body.from; to = body.to; permanent = body.is_per
 abbrev pub begun_in : Definition → Begun
 begun_in definition = record { id = definition.id; from = definition.from }
 
-abbrev pub table_view : Inside → MacroTable
-table_view a = record { bodies = map (λ e. (e.0, macro_in e.1)) a.bodies.entries; begun = option_map begun_in a.begun }
+-- after so many deletions of temporary macros one is there that is permanent, or that was defined or marked after the last of them
+abbrev pub is_there : ℕ → Body → Bool
+is_there deletions body = body.is_permanent || nat_eq body.deletions deletions
 
--- a deletion of temporary macros leaves each macro
-abbrev pub ArePermanent : MacroTable → Type 0
-ArePermanent table = (id : ℕ) → if_permanent (macro_at table id) ≡ macro_at table id
+abbrev pub table_view : Inside → MacroTable
+table_view a = record {
+  bodies = map (λ e. (e.0, macro_in e.1)) (filter (λ e. is_there a.deletions e.1) a.bodies.entries);
+  begun = option_map begun_in a.begun;
+}
 
 pub record IsMacroMap (a : Inside) : Type 0 where
   pub unique : IsUnique nat_eq a.bodies
-  pub permanent : a.has_temporary ≡ false → ArePermanent (table_view a)
+  pub earlier : (id : ℕ) → IfSome (lookup (nat_eq id) a.bodies.entries) (λ body. body.is_permanent ≡ false → body.deletions ≤ a.deletions)

@@ -1,6 +1,7 @@
 //! The macros that a job has defined.
 
 ghost use Rattle.std.specs.Prelude.{◌≡◌};
+ghost use Rattle.pcl_macros.specs.Table.{is_there};
 
 use indexmap::IndexMap;
 use pcl_base::{CallFault, Kind};
@@ -31,6 +32,17 @@ pub struct Body {
     /// The place after the last command.
     pub to: usize,
     pub is_permanent: bool,
+    /// How many deletions of temporary macros were counted when it was defined or marked.
+    pub deletions: u16,
+}
+
+impl Body {
+    /// Whether it is still there after so many deletions of temporary macros.
+    fn is_there(self, deletions: u16) -> bool
+        ensures { result ≡ is_there deletions self }
+    {
+        self.is_permanent || self.deletions == deletions
+    }
 }
 
 /// A definition that has begun and not ended.
@@ -45,9 +57,10 @@ pub struct Definition {
 /// The macros that are there, by ID, and the definition that is open, if any. Commands stay in their list.
 #[derive(Drop)]
 pub struct Macros {
+    // A temporary one that a deletion took is looked past, until all of these go at once.
     bodies: IndexMap<u16, Body>,
-    // Whether a macro may be temporary; else all are permanent.
-    has_temporary: bool,
+    // How many deletions of temporary macros came since then.
+    deletions: u16,
     begun: Option<Definition>,
 }
 
@@ -58,7 +71,7 @@ impl Model for Macros {
 
     ghost view = { table_view };
 
-    // One body for an ID, and whether one may be temporary.
+    // One body for an ID, and none from after a later deletion than the last.
     ghost invariant = { IsMacroMap };
 }
 
@@ -74,7 +87,7 @@ impl Macros {
     {
         Macros {
             bodies: IndexMap::new(alloc),
-            has_temporary: false,
+            deletions: 0,
             begun: None,
         }
     }
@@ -99,10 +112,10 @@ impl Macros {
             from: definition.from,
             to,
             is_permanent: false,
+            deletions: self.deletions,
         };
         match self.bodies.insert(definition.id, body) {
             Ok(_) => {
-                self.has_temporary = true;
                 self.begun = None;
                 Ok(())
             }
@@ -114,7 +127,11 @@ impl Macros {
     pub fn body(&self, id: u16) -> Option<Range<usize>>
         ensures { result ≡ places_of (macro_at self.now id) }
     {
-        self.bodies.get(&id).map(|body| body.from..body.to)
+        let body = self.bodies.get(&id)?;
+        if !body.is_there(self.deletions) {
+            return None;
+        }
+        Some(body.from..body.to)
     }
 
     /// Deletes macros, or makes a macro temporary or permanent. What isn't there is left alone, and so is a definition that
@@ -131,19 +148,27 @@ impl Macros {
         }
     }
 
-    /// Deletes the temporary macros. Where none was defined or made temporary since the last time, nothing is looked at.
+    /// Deletes the temporary macros: from now on they are looked past. All are looked at where no more deletions can be counted, and then
+    /// those go.
     fn delete_temporary(&mut self)
         ensures { Controls self.old self.new (control MacroControl.Temporary 0) }
     {
-        if !self.has_temporary {
-            return;
+        match self.deletions.checked_add(1) {
+            Some(deletions) => self.deletions = deletions,
+            None => self.forget_temporary(),
         }
+    }
+
+    /// Deletes the temporary macros, and those that are looked past.
+    fn forget_temporary(&mut self)
+        ensures { Controls self.old self.new (control MacroControl.Temporary 0) }
+    {
         self.bodies.retain(
             |_id: &u16, body: &mut Body| -> bool
                 ensures { (result ≡ body.old.is_permanent) × (body.new ≡ body.old) }
             { body.is_permanent },
         );
-        self.has_temporary = false;
+        self.deletions = 0;
     }
 
     /// Deletes a macro.
@@ -158,11 +183,15 @@ impl Macros {
         ensures { Controls self.old self.new
             (control (if is_permanent then MacroControl.MakePermanent else MacroControl.MakeTemporary) id) }
     {
+        let deletions = self.deletions;
         let Some(body) = self.bodies.get_mut(&id) else {
             return;
         };
+        if !body.is_there(deletions) {
+            return;
+        }
         body.is_permanent = is_permanent;
-        self.has_temporary |= !is_permanent;
+        body.deletions = deletions;
     }
 
     /// Whether a definition is open.

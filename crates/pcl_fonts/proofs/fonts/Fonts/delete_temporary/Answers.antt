@@ -1,24 +1,16 @@
-use Rattle.std.proofs.Common.{rules, refl}
-use Rattle.indexmap.proofs.CallerLemmas.{filter-RetainsPairs}
-use Rattle.pcl_fonts.proofs.Permanent.{permanent_after}
-use Rattle.pcl_fonts.proofs.Tables.{follows_as, follows_permanent, follows_temporary}
+use Rattle.std.proofs.Common.{ℕ, nat_eq, refl, ap, ◌∙◌}
+use Rattle.std.specs.Map.{lookup}
+use Rattle.pcl_fonts.specs.History.{control}
+use Rattle.pcl_fonts.specs.declared.fonts.FontControl.TheVariants.{Temporary}
+use Rattle.pcl_fonts.proofs.Tables.{seen, live, follows, steps_to, temporary_steps, one_more}
 use Rattle.pcl_fonts.proofs.fonts.Fonts.delete_temporary.Goals as goal
 
-pub returns-then-not-self : goal.returns-then-not-self
-returns-then-not-self c =
-    follows_as c.self.view_is c.self.view_is refl
-    (follows_permanent c.self.inside.entries.entries (c.self.invariant.permanent c.if-not-self.true))
-
-pub invariant_of-self : goal.invariant_of-self
-invariant_of-self c = record {
-  unique = c.retain.ensures.unique;
-  permanent = λ none. permanent_after {of = 0} {code = 0}
-      (follows_temporary c.self.inside.entries.entries c.self.invariant.unique
-      (filter-RetainsPairs _ _ _ (λ k v b w g call. search rules) _ _ c.retain.ensures.filtered));
-}
-
-pub returns : goal.returns
-returns c =
-    follows_as c.self.view_is refl refl
-    (follows_temporary c.self.inside.entries.entries c.self.invariant.unique
-    (filter-RetainsPairs _ _ _ (λ k v b w g call. search rules) _ _ c.retain.ensures.filtered))
+pub returns-in-Some : goal.returns-in-Some
+returns-in-Some c =
+    let d = c.self.inside.deletions in
+    let es = c.self.inside.entries.entries in
+    follows (control Temporary 0 0) (seen d es c.self.invariant.unique c.self.view_is)
+    (seen c.in-Some.deletions es c.self.invariant.unique refl)
+    (λ q. steps_to
+    (ap (λ (n : ℕ). live n (lookup (nat_eq q) es)) c.in-Some.ensures.1 ∙ one_more d (lookup (nat_eq q) es) (c.self.invariant.earlier q))
+    (temporary_steps 0 0 q _))

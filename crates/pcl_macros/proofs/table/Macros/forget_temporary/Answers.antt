@@ -1,0 +1,36 @@
+use Rattle.std.proofs.Common.{◌≡◌, ℕ, Option, IfSome, false, ◌≤◌, nat_eq, rules, sym, subst, ap, ◌∙◌}
+use Rattle.std.proofs.lemmas.Cmp.{nat_eq_equiv}
+use Rattle.std.proofs.lemmas.Map.Entries.{lookup-filter-values, option_filter}
+use Rattle.std.specs.Map.{lookup}
+use Rattle.std.specs.Option.{option_map}
+use Rattle.indexmap.proofs.CallerLemmas.{filter-RetainsPairs}
+use Rattle.pcl_macros.specs.History.{control}
+use Rattle.pcl_macros.specs.Table.{MacroTable, begun_in}
+use Rattle.pcl_macros.specs.declared.table.Body.{Body}
+use Rattle.pcl_macros.specs.declared.table.MacroControl.TheVariants.{Temporary}
+use Rattle.pcl_macros.proofs.Tables.{found, follows_by, kept, kept_permanent}
+use Rattle.pcl_macros.proofs.table.Macros.forget_temporary.Goals as goal
+
+-- what is left of each body
+left : (c : goal.After-self-1) (q : ℕ) → lookup (nat_eq q) c.retain.new.self.entries
+    ≡ option_filter (λ (b : Body). b.is_permanent) (lookup (nat_eq q) c.self.inside.bodies.entries)
+left c q =
+    ap (lookup (nat_eq q)) (filter-RetainsPairs _ (λ (e : ℕ × Body). e.1.is_permanent) _ (λ k v b w g call. search rules) _ _ c.retain.ensures.filtered)
+    ∙ lookup-filter-values nat_eq_equiv (λ (b : Body). b.is_permanent) q c.self.inside.bodies.entries c.self.invariant.unique
+
+pub invariant_of-self : goal.invariant_of-self
+invariant_of-self c = record {
+  unique = c.retain.ensures.unique;
+  earlier = λ q. subst (λ (o : Option Body). IfSome o (λ b. b.is_permanent ≡ false → b.deletions ≤ 0)) (sym (left c q))
+      (kept_permanent (lookup (nat_eq q) c.self.inside.bodies.entries));
+}
+
+pub returns : goal.returns
+returns c =
+    let d = c.self.inside.deletions in
+    let es = c.self.inside.bodies.entries in
+    let begun = option_map begun_in c.self.inside.begun in (
+      follows_by d 0 es c.retain.new.self.entries begun begun (control Temporary 0) c.self.invariant.unique c.retain.ensures.unique
+          c.self.view_is (λ q. ap (found 0) (left c q) ∙ kept d (lookup (nat_eq q) es)),
+      ap (λ (t : MacroTable). t.begun) c.self.view_is,
+    )
