@@ -96,24 +96,11 @@ same_more {a} {b} {place} to fits more = record {
       ];
 }
 
-pub same_one : (a b : List ℕ) (place : ℕ) → AreSameTo a b place → place < length a → get_or a place 0 ≡ get_or b place 0
-    → AreSameTo a b (place + 1)
-same_one a b place to fits here =
-    same_more to (omega arith)
-    (λ k below. let at : place ≡ place + k = omega arith in subst (λ (n : ℕ). get_or a n 0 ≡ get_or b n 0) at here)
-
 -- a byte stands again and again from one place up to another
 pub record IsRunTo (row : List ℕ) (from place : ℕ) : Type 0 where
   pub after : from < place
   pub within : place ≤ length row
   pub same : (k : ℕ) → from ≤ k → k < place → get_or row k 0 ≡ get_or row from 0
-
-pub run_one : (row : List ℕ) (from : ℕ) → from < length row → IsRunTo row from (from + 1)
-run_one row from fits = record {
-  after = omega arith;
-  within = omega arith;
-  same = λ k low high. let at : k ≡ from = omega arith in ap (λ (n : ℕ). get_or row n 0) at;
-}
 
 pub run_more : (row : List ℕ) (from place count : ℕ) → IsRunTo row from place → place + count ≤ length row
     → ((k : ℕ) → k < count → get_or row (place + k) 0 ≡ get_or row from 0) → IsRunTo row from (place + count)
@@ -128,19 +115,10 @@ run_more row from place count to fits more = record {
       ];
 }
 
-pub run_next : (row : List ℕ) (from place : ℕ) → IsRunTo row from place → place < length row → get_or row place 0 ≡ get_or row from 0
-    → IsRunTo row from (place + 1)
-run_next row from place to fits here =
-    run_more row from place 1 to (omega arith)
-    (λ k below. let at : place ≡ place + k = omega arith in subst (λ (n : ℕ). get_or row n 0 ≡ get_or row from 0) at here)
-
 -- there are only zeros from a place on
 pub record AreZerosFrom (row : List ℕ) (len : ℕ) : Type 0 where
   pub within : len ≤ length row
   pub zeros : (k : ℕ) → len ≤ k → get_or row k 0 ≡ 0
-
-pub zeros_past : (row : List ℕ) → AreZerosFrom row (length row)
-zeros_past row = record { within = omega arith; zeros = λ k past. get_or_past row k 0 past }
 
 pub zeros_more : {row : List ℕ} {len count : ℕ} → AreZerosFrom row len → count ≤ len
     → ((k : ℕ) → k < count → get_or row (len - count + k) 0 ≡ 0) → AreZerosFrom row (len - count)
@@ -153,11 +131,6 @@ zeros_more {row} {len} {count} from fits more = record {
             omega arith in subst (λ (n : ℕ). get_or row n 0 ≡ 0) at (more (k - (len - count)) (omega arith))
       ];
 }
-
-pub zeros_one : (row : List ℕ) (len : ℕ) → AreZerosFrom row len → 0 < len → get_or row (len - 1) 0 ≡ 0 → AreZerosFrom row (len - 1)
-zeros_one row len from some here =
-    zeros_more from (omega arith)
-    (λ k below. let at : len - 1 ≡ len - 1 + k = omega arith in subst (λ (n : ℕ). get_or row n 0 ≡ 0) at here)
 
 -- a row is all zeros where nothing is left of it without the zeros at its end
 pub zeros_by_len : (row : List ℕ) (len : ℕ) → IsTrimmedLen row len → (len ≡ 0) ↔ All (λ byte. byte ≡ 0) row

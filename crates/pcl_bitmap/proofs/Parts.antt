@@ -96,14 +96,3 @@ parts_joined from end f t l row k d0 d1 d2 d3 low high stop whole e1 e2 e3 order
             | inr past ↦ ap (λ x. x && bit) (in_run-past (8 * t) past) ∙ sym (run_dot-past from row (omega arith))
           ])
     ]
-
--- a run that ends before it starts, or of a row without bytes, has no bit
-pub run_dot-empty : {from end : ℕ} (row : List ℕ) (k : ℕ) → end ≤ from → run_dot from end row k ≡ false
-run_dot-empty {from} {end} row k none =
-    elim (cases_lt k from) [
-      | inl before ↦ run_dot-before end row before
-      | inr since ↦ run_dot-past from row (omega arith)
-    ]
-
-pub run_dot-nil : (from end k : ℕ) → run_dot from end [] k ≡ false
-run_dot-nil from end k = and_right (nat_le from k && nat_lt k end) (dot_of_row [] (k - from)) (bit_of_byte-zero ((k - from) % 8))

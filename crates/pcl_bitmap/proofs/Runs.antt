@@ -44,12 +44,6 @@ same_test {k} {a} {m} {b} f g =
           le-ltb k a h ∙ sym (le-ltb m b past)
     ]
 
--- a run that goes up to a byte past its end is whole
-pub run_dot-whole : (from : ℕ) {end : ℕ} (i : ℕ) (row : List ℕ) (k : ℕ) → end ≤ 8 * i
-    → run_dot from (min end (8 * i)) row k ≡ run_dot from end row k
-run_dot-whole from {end} i row k h =
-    run_dot-end from (min end (8 * i)) end row k (same_test (λ p. omega arith) (λ p. omega arith))
-
 -- the byte that is added to byte i has the run's bits there
 pub added_bits :
     (row : List ℕ) (from end i b m : ℕ)

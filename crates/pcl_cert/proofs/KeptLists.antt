@@ -51,15 +51,6 @@ table_number {n} list {k} lt =
           ∙ sym (get_or_past list k 0 past)
     ]
 
--- one place more of a table is written out
-pub one_place_more : (n : ℕ) (list out : List ℕ) (k number : ℕ) → k < n → length out ≡ n → take k out ≡ take k (table_of n list)
-    → number ≡ get_or list k 0 → take (k + 1) (set out k number) ≡ take (k + 1) (table_of n list)
-one_place_more n list out k number lt size so_far is =
-    take_more_set out k number (omega (arith, size))
-    ∙ ap (λ (front : List ℕ). front ++ number ∷ []) so_far
-    ∙ ap (λ (m : ℕ). take k (table_of n list) ++ m ∷ []) (is ∙ sym (table_number list lt))
-    ∙ sym (take_more (table_of n list) k 0 (omega (arith, table_length n list)))
-
 -- ---- numbers without the zeros at their end
 
 end_of_front : (numbers : List ℕ) (len : ℕ) → 0 < len → len ≤ length numbers
@@ -310,15 +301,4 @@ all_rows picture {lists} holds all =
       size = omega (arith, listed_length lists, holds.size, all, count);
       lists_are = holds.lists_are;
       least = λ row method lt. holds.least row method (omega (arith, all, count, lt));
-    }
-
-pub none_yet : (width : ℕ) (rows : List (List ℕ)) (lists : Lists) → lists.bytes.items ≡ [] → lists.starts.items ≡ []
-    → HoldsRows width rows 0 lists
-none_yet width rows lists no_bytes no_starts =
-    let none : listed lists ≡ [] = ap (lists_within lists.bytes.items) no_starts in
-    record {
-      size = ap length no_starts;
-      whole = subst (AllByRecursion (IsListAt lists.bytes.items)) (sym no_starts) tt;
-      lists_are = subst (AllByRecursion (IsList width)) (sym none) tt;
-      least = λ row method lt. absurd (omega (arith, lt));
     }

@@ -73,9 +73,6 @@ end_of_list count =
     if ends_in_zero (numbers_from count.0 count.1) then Err Places
     else Ok (numbers_from count.0 count.1, drop (2 * count.0) count.1)
 
-abbrev rest_of_list : ℕ × List ℕ → Result (List ℕ × List ℕ) CertFault
-rest_of_list count = if nat_lt (length count.1) (2 * count.0) then Err Short else end_of_list count
-
 found_at : {most : ℕ} {bytes : List ℕ} {count : ℕ} {behind_count numbers rest : List ℕ} → count_of bytes ≡ count →
     drop 2 bytes ≡ behind_count
     → 2 ≤ length bytes → 2 * count ≤ length behind_count → numbers_from count behind_count ≡ numbers
@@ -136,15 +133,4 @@ next_list {count} {most} {done} {bytes} {rest} {starts} numbers after lt read st
       whole = all_and_one (IsListAt bytes) starts stands.whole
           (record { whole = omega (arith, counted, found.whole, stands.within) });
       many = omega (arith, length-append starts (start ∷ []), stands.many);
-    }
-
-pub no_lists : {count most : ℕ} {bytes : List ℕ} → StandsInLists count most 0 bytes bytes []
-no_lists {bytes} =
-    let none : 0 ≡ length bytes - length bytes = omega arith in
-    record {
-      read = begins;
-      suffix = ap (λ (k : ℕ). drop k bytes) none;
-      within = omega arith;
-      whole = tt;
-      many = refl;
     }

@@ -70,28 +70,6 @@ some_bad {page} {lists} {row} {method} {seed} {bytes} {numbers} {place} is bad =
 
 -- ---- the methods of a row
 
-pub none_below : (page : Page) (lists : List (List ℕ)) (row : ℕ) (method : Method) → FindsBadBelow page lists row (method_code method) None
-    → FindsPlace (IsGoodInTables page lists row method) (page_row_bytes page.size page.dpi) None
-    → FindsBadBelow page lists row (method_code method + 1) None
-none_below page lists row method before none = λ other place below le. elim (split_or below) [
-  | inl lt ↦ before other place lt le
-  | inr e ↦ subst (λ (m : Method). IsGoodInTables page lists row m place) (same_method (sym e)) (none place le)
-]
-
-pub some_below : (page : Page) (lists : List (List ℕ)) (row : ℕ) (method : Method) (place : ℕ)
-    → FindsBadBelow page lists row (method_code method) None
-    → FindsPlace (IsGoodInTables page lists row method) (page_row_bytes page.size page.dpi) (Some place)
-    → IsFirstBadInRow page lists row record { row = row; method = method; place = place }
-some_below page lists row method place before some = record {
-  row_is = refl;
-  place_within = some.within;
-  is_bad = some.is_bad;
-  first = λ other earlier le h. elim h [
-    | inl lt ↦ before other earlier lt le
-    | inr same ↦ subst (λ (m : Method). IsGoodInTables page lists row m earlier) (sym same.0) (some.first earlier same.1)
-  ];
-}
-
 -- ---- the rows of a page
 
 pub no_row_bad : (page : Page) (lists : List (List ℕ)) {row : ℕ}

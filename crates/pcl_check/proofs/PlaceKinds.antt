@@ -44,17 +44,6 @@ ends_known row {ends} small size last stops falls = record {
 
 -- ---- runs
 
-pub run_ends_known : (row ends : List ℕ) → length row ≤ row_limit → AreRunStops row ends 0 → AreEnds ends (length row)
-run_ends_known row ends small are =
-    ends_known row small are.size are.last
-    (λ place inside. let here = are.runs place (omega arith) inside in (here.after, here.within))
-    (λ place next less.
-    let here = are.runs place (omega arith) (omega arith) in
-    let behind = are.runs (place + 1) (omega arith) next in
-    behind.differs (omega (arith, less, here.within))
-    (here.same (slice_index ends (place + 1)) (omega (arith, behind.after)) less
-    ∙ sym (here.same (place + 1) (omega arith) (omega (arith, behind.after, less)))))
-
 pub runs_by_window : {row : List ℕ} (numbers : List ℕ) {ends : List ℕ} {most place : ℕ} → AreRunStops row ends 0
     → IsNotUndercut numbers numbers ends 2 most place → AreGoodRuns row numbers most place
 runs_by_window {row} numbers {ends} {place} are kept = λ count byte some few within alike.
@@ -84,16 +73,6 @@ window_by_runs {row} numbers {ends} {place} are le good = λ stop past few withi
 
 -- ---- literals
 
-pub all_ends_known : (ends : List ℕ) → 0 < length ends → length ends ≤ 601
-    → ((place : ℕ) → place < length ends → slice_index ends place ≡ length ends - 1) → AreEnds ends (length ends - 1)
-all_ends_known ends some small all = record {
-  size = omega arith;
-  few = omega arith;
-  above = λ place le. omega (arith, all place (omega arith));
-  within = λ place le. omega (arith, all place (omega arith));
-  grow = λ place lt. omega (arith, all place (omega arith), all (place + 1) (omega arith));
-}
-
 pub literals_by_window : (numbers sums ends : List ℕ) {place : ℕ} → ArePlaced numbers sums → length ends ≡ length numbers
     → ((k : ℕ) → k < length ends → slice_index ends k ≡ length ends - 1) → IsNotUndercut sums sums ends 1 128 place
     → AreGoodLiterals numbers place
@@ -120,16 +99,6 @@ window_by_literals numbers sums ends {place} placed size all inside good = λ st
     )
 
 -- ---- replacements
-
-pub start_ends_known : (old row ends : List ℕ) → length row ≤ row_limit → AreStartEnds old row ends 0 → AreEnds ends (length row)
-start_ends_known old row ends small are =
-    ends_known row small are.size are.last
-    (λ place inside. let here = are.starts place (omega arith) inside in (here.after, here.within))
-    (λ place next less.
-    let here = are.starts place (omega arith) (omega arith) in
-    let behind = are.starts (place + 1) (omega arith) next in
-    behind.differs (omega (arith, less, here.within))
-    (here.same (slice_index ends (place + 1) - 1) (omega (arith, behind.after)) (omega (arith, behind.after, less))))
 
 -- a replacement starts at the first byte that differs, or before it
 start_within : {old row ends : List ℕ} (place offset : ℕ) {len : ℕ} → AreStartEnds old row ends 0 → 0 < len

@@ -54,11 +54,6 @@ runs_by_stop row {numbers} {most} {end} stop {place} steady none after within br
           ]
     ]
 
-pub runs_past : (row numbers : List ℕ) (most end place : ℕ) → IsSteady numbers → slice_index numbers end ≡ 0 → end ≤ place
-    → AreGoodRuns row numbers most place
-runs_past row numbers most end place steady none past = λ count byte some few inside alike.
-    omega (arith, steady.falls end place past, none)
-
 -- ---- literals
 
 pub sums_more : (numbers : List ℕ) {old new : List ℕ} {count : ℕ} → length old ≡ length numbers → AreLeastSums numbers count old

@@ -60,10 +60,6 @@ of_code (suc (suc (suc zero))) {m} e =
 of_code (suc (suc (suc (suc n)))) {m} e =
     let same : ◌≡◌ {A = Option Method} None (Some m) = sym (none_past (suc (suc (suc (suc n)))) (omega arith)) ∙ e in absurd cc
 
--- a small number isn't cut
-small_is : (number spelled : ℕ) → number ≡ min spelled 65536 → number ≤ 65535 → spelled ≡ number
-small_is number spelled e le = omega arith
-
 pub no_switch : (picture : Picture) {size : Size} {above : List ℕ} (place : Place) {parameter : Parameter} → place.inside ≡ true
     → IsParameter place.text.now parameter → (parameter.letter ≡ 77) ⊎ (parameter.letter ≡ 109)
     → method_with_code parameter.number ≡ None

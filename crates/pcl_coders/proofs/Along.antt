@@ -146,18 +146,6 @@ no_literal_repeat old wanted numbers run end size some right needed is run-is no
           ]
     ]
 
--- a length that has bytes too many
-pub literal_skip : (numbers : List ℕ) (most len excess next : ℕ)
-    → ((i j : ℕ) → i ≤ j → j ≤ most → slice_index numbers j ≤ slice_index numbers i) → len ≤ most
-    → 1 + len + slice_index numbers len ≡ excess + slice_index numbers 0 → 0 < excess → next ≡ len - excess
-    → ((k : ℕ) → len < k → k ≤ most → slice_index numbers 0 ≢ 1 + k + slice_index numbers k) → (k : ℕ) → next < k → k ≤ most
-    → slice_index numbers 0 ≢ 1 + k + slice_index numbers k
-literal_skip numbers most len excess next fall within excess-is some next-is none k low high =
-    elim (cases_lt len k) [
-      | inl behind ↦ none k behind high
-      | inr here ↦ λ same. absurd (omega (arith, fall k len here within))
-    ]
-
 -- ---- methods 1 and 3
 
 -- right numbers bound walks from places of the row

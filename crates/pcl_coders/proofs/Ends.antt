@@ -54,11 +54,6 @@ first_end_of_trimmed {n} {len} size is =
     (λ k low high. is.zeros k low ∙ sym (white_byte n k))
     (λ some same. is.last some (same ∙ white_byte n (len - 1)))
 
-pub first_end_of_same : (old row : List ℕ) (place : ℕ) → length old ≡ length row → IsFirstDifference old row place → place ≡ length row
-    → IsFirstEnd old row 0
-first_end_of_same old row place size is all =
-    first_end_by size (omega arith) (λ k low high. sym (is.same k (omega arith))) (λ some. absurd (omega arith))
-
 -- rows that are the same from a place on
 pub record AreSameFrom (old row : List ℕ) (len : ℕ) : Type 0 where
   pub within : len ≤ length row

@@ -270,10 +270,6 @@ pub record IsAppendedTo (method : Method) (old row table before now : List ℕ) 
   pub goes_on : (es : List Element) → Walk (Leads method old row) (Ends old row) place es → total cost es ≡ slice_index table place
       → Walk (Leads method old row) (Ends old row) 0 (done ++ es) × (total cost (done ++ es) ≡ slice_index table 0)
 
-pub appended_none : (method : Method) (old row table before : List ℕ) → IsAppendedTo method old row table before before 0
-appended_none method old row table before =
-    record { within = omega arith; done = []; joined = sym (append-nil before); goes_on = λ es w t. (w, t) }
-
 -- where the number is not 0, data is needed
 pub more_needed : {method : Method} {old row table : List ℕ} (place : ℕ) → length old ≡ length row → AreRightFrom method old row table 0
     → place ≤ length row → 0 < slice_index table place → place < length row

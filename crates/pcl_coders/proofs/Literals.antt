@@ -44,29 +44,6 @@ next_is_end {table} {end} {place} {best} inside has good = record {
       ];
 }
 
--- else it is the end of the next place's
-pub end_stays : {table : List ℕ} {end place best : ℕ} → place < end → HasLiteralEnd table end (place + 1) best → best ≤ place + 128
-    → best + slice_index table best < place + 1 + slice_index table (place + 1) → IsLiteralEnd table end place best
-end_stays {table} {end} {place} {best} inside has near better =
-    elim (cases_lt (place + 1) end) [
-      | inr last ↦
-          let at : best ≡ place + 1 = omega (arith, has.last (omega arith)) in
-          absurd (omega (arith, better, ap (slice_index table) at))
-      | inl more ↦
-          let is = has.some more in
-          record {
-            above = omega (arith, is.above);
-            within = is.within;
-            near = near;
-            least = λ to low high close. is.least to low high (omega arith);
-            first = λ to low high.
-                elim (cases_lt (place + 1) to) [
-                  | inl after ↦ is.first to after high
-                  | inr same ↦ let at : place + 1 ≡ to = omega arith in omega (arith, better, ap (slice_index table) at)
-                ];
-          }
-    ]
-
 -- no number is above what a literal gives
 literals_bound : {row first table : List ℕ} {end place : ℕ} → IsBegun (replicate (length row) 0) row first end
     → AreRightFrom Packed (replicate (length row) 0) row table place → (from to : ℕ) → place ≤ from → from < to → to ≤ end

@@ -280,13 +280,6 @@ command_grows o l order =
           ]
     ]
 
-pub command_some : (o : ℕ) → 1 ≤ replacement_bytes o
-command_some o =
-    elim (cases_lt o 31) [
-      | inl near ↦ omega (arith, near_bytes o near)
-      | inr far ↦ omega (arith, far_bytes o far)
-    ]
-
 -- an element that stops before the latest start
 pub command_joins : (o k l : ℕ) → 1 ≤ k → o + k ≤ l → replacement_bytes l ≤ replacement_bytes o + k + replacement_bytes (l - (o + k))
 command_joins o k l some order =

@@ -116,9 +116,3 @@ exit_ranged false e = absurd cc
 pub exit_takes_none : (letter : ℕ) (value : Value) (left : ℕ) {len : ℕ} → parameter_checks exit_name letter value left ≡ Ok len → len ≡ 0
 unfolding parameter_checks operation_of
 exit_takes_none letter value left e = exit_ranged (in_range value) e
-
--- whatever is left
-pub exit_any_left : (letter : ℕ) (value : Value) (left more : ℕ)
-    → parameter_checks exit_name letter value left ≡ parameter_checks exit_name letter value more
-unfolding parameter_checks operation_of
-exit_any_left letter value left more = refl

@@ -56,13 +56,6 @@ settings_in {settings} i h = record {
 
 -- ---- rectangles and rows
 
-pub rectangle_in : {dpi : Dpi} {s : Situation} {old new : Performer} (ink : Ink) → IsIn dpi s old
-    → IsDrawn (rectangle_mark dpi ink old.environment) old new → new.raster ≡ old.raster
-    → IsIn dpi (filled_with dpi (Some ink) s) new
-rectangle_in {dpi} {s} {new} ink i d r =
-    subst (λ (t : Settings). IsIn dpi (record s { marks = rectangle_mark dpi ink t ∷ s.marks }) new) i.settings
-    (drawn_in i d (r ∙ i.raster))
-
 -- the row that goes to a raster, by what is set and the raster
 abbrev row_drawn : List ℕ → Situation → Settings → Raster → Situation
 row_drawn bytes s t r =
@@ -235,10 +228,6 @@ all_done {dpi} {proportional} {s} {performer} p e =
     let characters = prints s.fonts (font_in_use s.settings) in
     subst (λ (z : Situation). IsIn dpi z performer)
     (sym (ap (λ (cs : List ℕ). codes_printed dpi proportional characters cs p.now) e) ∙ p.left) p.is_in
-
-pub none_done : {dpi : Dpi} {proportional : Bool} {s : Situation} {codes : List ℕ} {performer : Performer} → IsIn dpi s performer
-    → IsPrintedTo dpi proportional s codes codes performer
-none_done {s} i = record { now = s; is_in = i; fonts = refl; in_use = refl; left = refl }
 
 -- ---- with a font and without
 

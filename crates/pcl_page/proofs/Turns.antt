@@ -348,34 +348,6 @@ turned_short takes dpi operation value effect copies s old {middle} last new sin
     subst (λ (o : Outcome). IsTurned takes dpi o s (Err Memory) new sink later) (sym d.1)
     (inr (subst (λ (z : Situation). (page_refusal z ≡ None) × HandsMore takes dpi s z sink later) (sym d.3) h))
 
-pub turned_past : {S : Type 0} (takes : S → Page → S → Type 0) (dpi : Dpi) (operation : Operation) (value : Value) (effect : Effect)
-    (s : Situation)
-    (old new : Performer) (now : Settings) (sink later : S)
-    → IsIn dpi s old → Answers (outcome dpi operation value old.is_marked old.environment) (Ok effect) old.environment now
-    → ejects effect old.is_marked ≡ true → 256 ≤ old.ejected → later ≡ sink
-    → IsTurned takes dpi (outcome dpi operation value (is_marked s) s.settings) s (Err (Refused TooManyPages)) new sink later
-turned_past takes dpi operation value effect s old new now sink later i a e many same =
-    let d = answered (outcome dpi operation value old.is_marked old.environment) old.environment a in
-    let o : outcome dpi operation value (is_marked s) s.settings ≡ Some d.0 = sym (outcome_in operation value i) ∙ d.1 in
-    let yes : ejects d.0.1 (is_marked s) ≡ true =
-    ap (λ (x : Effect). ejects x (is_marked s)) (sym d.2) ∙ ap (ejects effect) (sym i.marked) ∙ e in
-    let count = length-append s.pages (sheet_of s ∷ []) in
-    subst (λ (q : Outcome). IsTurned takes dpi q s (Err (Refused TooManyPages)) new sink later) (sym o) (
-      ap (λ (z : Situation). page_refusal z) (turned_yes d.0.0 d.0.1 s yes)
-          ∙ pages_past (turned_page d.0.0 s) (omega (arith, i.ejected, count)),
-      same,
-    )
-
-pub turned_none : {S : Type 0} (takes : S → Page → S → Type 0) (dpi : Dpi) (operation : Operation) (value : Value) (why : Unsupported)
-    (s : Situation)
-    (old new : Performer) (now : Settings) (sink later : S)
-    → IsIn dpi s old → Answers (outcome dpi operation value old.is_marked old.environment) (Err why) old.environment now → later ≡ sink
-    → IsTurned takes dpi (outcome dpi operation value (is_marked s) s.settings) s (Err (Refused UnsupportedValue)) new sink later
-turned_none takes dpi operation value why s old new now sink later i a same =
-    let n = unanswered (outcome dpi operation value old.is_marked old.environment) old.environment now a in
-    subst (λ (q : Outcome). IsTurned takes dpi q s (Err (Refused UnsupportedValue)) new sink later)
-    (sym (sym (outcome_in operation value i) ∙ n)) (refl, same)
-
 pub turned_memory : {S : Type 0} (takes : S → Page → S → Type 0) (dpi : Dpi) (o : Outcome) (s : Situation) (new : Performer)
     {sink later : S} → later ≡ sink
     → IsTurned takes dpi o s (Err Memory) new sink later

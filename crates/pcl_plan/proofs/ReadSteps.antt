@@ -127,19 +127,6 @@ pub record IsReadTo (width : ℕ) (rows : List (List ℕ)) (table : List RowNumb
       → Spells false (steps ++ more) (tokens ++ behind) × Walk (Leads width rows) (Ends rows) start (tokens ++ behind)
       × (total cost (tokens ++ behind) ≡ node_number table start)
 
-pub read_none : (width : ℕ) (rows : List (List ℕ)) (table : List RowNumbers) (at : Node) → at ≡ start
-    → IsReadTo width rows table [] at
-read_none width rows table at e = record {
-  within = omega (arith, ap (λ (n : Node). n.row) e);
-  inked = λ goes. (let no : false ≡ true = sym (ap (λ (n : Node). n.inside) e) ∙ goes in absurd cc);
-  tokens = [];
-  goes_on = λ more behind z s spells walk t. (
-    subst (λ (n : Node). Spells n.inside more behind) e spells,
-    subst (λ (n : Node). Walk (Leads width rows) (Ends rows) n behind) e walk,
-    t ∙ ap (node_number table) e,
-  );
-}
-
 -- at the last step it makes no difference whether a sequence is open
 pub spells_any : {one two : Bool} (more : List Step) (behind : List Token) → (is_last more ≡ false → one ≡ two) → Spells one more behind
     → Spells two more behind

@@ -296,9 +296,6 @@ pub cut_not_whole : {method : Method} {bytes : List ℕ} {h : Head} {new rest : 
     → IsCutFront bytes h new rest → IsWhole method bytes room → ⊥
 cut_not_whole some is cut w = cut_not_whole_at w.0 some is cut w.1 w.2
 
-pub whole_none : (method : Method) (room : ℕ) → IsWhole method [] room
-whole_none method room = ([], tt, refl, omega arith)
-
 -- bytes that stand for themselves are whole where they don't pass the row
 plain_fits : (bytes : List ℕ) {room : ℕ} → IsWhole Plain bytes room → length bytes ≤ room
 plain_fits [] w = omega arith

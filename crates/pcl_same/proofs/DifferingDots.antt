@@ -63,14 +63,6 @@ pub record DrawnAbove (one other image : Picture) (y : ℕ) : Type 0 where
   pub dots : (px py : ℕ) → px < page_width one.size one.dpi → py < page_height one.size one.dpi
       → dot image px py ≡ (nat_lt py y && differ (dot one px py) (dot other px py))
 
-pub none_drawn : (one other : Picture) {image : Picture} {size : Size} {dpi : Dpi} → size ≡ one.size → dpi ≡ one.dpi
-    → image ≡ blank_picture size dpi → ((x y : ℕ) → dot image x y ≡ false) → DrawnAbove one other image 0
-none_drawn one other s r blank white = record {
-  size = ap (λ (p : Picture). p.size) blank ∙ s;
-  resolution = ap (λ (p : Picture). p.dpi) blank ∙ r;
-  dots = λ px py across down. white px py ∙ sym (and_left (nat_lt py 0) _ (le-ltb py 0 (omega arith)));
-}
-
 -- a row of bits paints its own row, and no other
 row_here : (y width px : ℕ) (bits : List ℕ) → px < width → raster_dot 0 y 1 width bits px y ≡ dot_of_row bits px
 row_here y width px bits across =
@@ -138,13 +130,3 @@ more_drawn one other old y {new} bits drawn s r w row painted = record {
 pub width_is : (one : Picture) {width : ℕ} {size : Size} {dpi : Dpi} → width ≡ page_width size dpi → size ≡ one.size → dpi ≡ one.dpi
     → width ≡ page_width one.size one.dpi
 width_is one {dpi} w s r = w ∙ ap (λ (size : Size). page_width size dpi) s ∙ ap (page_width one.size) r
-
-pub all_drawn : (one other image : Picture) {y : ℕ} → DrawnAbove one other image y → page_height one.size one.dpi ≤ y
-    → IsDifference one other image
-all_drawn one other image {y} drawn all = record {
-  size = drawn.size;
-  resolution = drawn.resolution;
-  dots = λ px py across down.
-      drawn.dots px py across down
-      ∙ ap (λ (b : Bool). b && differ (dot one px py) (dot other px py)) (lt-ltb py y (omega (arith, down, all)));
-}
