@@ -20,7 +20,7 @@ demo:
 # and previews the sample job into build/sample.pbm.
 build:
 	mkdir -p build
-	./lanes.py pcl_process
+	./lanes.py pcl_program
 	cd crates/pclmin && rt run -- --version < /dev/null
 	$(PROGRAM) pbm --page 1 < examples/picture.pcl > build/sample.pbm
 	@echo "build/sample.pbm is page 1 of examples/picture.pcl"

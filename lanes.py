@@ -2,7 +2,7 @@
 """Proves and builds libraries of crates.txt side by side, each as soon as those are done that it stands on, and those first that most
 work waits for:
 
-    lanes.py pcl_process
+    lanes.py pcl_program
 
 rt has one command at a time work in a crate and those below it. So each library is built in a tree of its own under build/lanes,
 whose files are links to these and to what is built of the crates below, and its out/ is then moved here. What rt says is kept in

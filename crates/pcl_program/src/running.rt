@@ -3,9 +3,9 @@
 ghost use Rattle.std.specs.Prelude.{◌⊎◌, ◌↔◌, map, IsTrue};
 ghost use Rattle.pcl_program.specs.Runs.{IsShown, HasRunAsked, HasRunWords, AskForBatch, IsExitStatus};
 
+use crate::batch::run_named;
 use clap::Error;
 use clap::error::ErrorKind;
-use pcl_batch::run_named;
 use pcl_command::{Ending, JobFiles, Reporter, USAGE_STATUS, carry_out, refuse_terminal};
 use pcl_request::Request;
 use pcl_words::{parse_batch, parse_request};

@@ -1,7 +1,7 @@
-//! `pclmin`: a print filter for HP PCL 5. `pcl_process` is the whole of it.
+//! `pclmin`: a print filter for HP PCL 5. `pcl_program` is the whole of it.
 #![tactic(auto)]
 
-use pcl_process::run_process;
+use pcl_program::run_process;
 use std::process::ExitCode;
 
 fn main(rt: HostRuntime) -> ExitCode {

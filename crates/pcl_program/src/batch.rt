@@ -1,8 +1,16 @@
-//! A batch: what is done with its jobs, and how it ends.
+//! Many jobs, one after the other: each is written again into a folder, beside the digests of both, and a report says what came of it.
 
-use crate::job::write_job;
-use crate::paths::file_name;
-use crate::report::{Entry, header};
+mod job;
+mod names;
+mod paths;
+mod report;
+mod sums;
+
+pub use names::run_named;
+
+use crate::batch::job::write_job;
+use crate::batch::paths::file_name;
+use crate::batch::report::{Entry, header};
 use indexmap::IndexSet;
 use itoa::Buffer;
 use pcl_command::{Ending, JobFiles, Reporter, USAGE_STATUS, fault_line, status_of};

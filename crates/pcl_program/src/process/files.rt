@@ -1,6 +1,6 @@
 //! The files of the system.
 
-use pcl_program::{FileFault, JobFiles};
+use pcl_command::{FileFault, JobFiles};
 use std::fs::{self, File};
 use std::io::{self, ErrorKind};
 use std::os::fd::AsFd;

@@ -1,8 +1,8 @@
 //! One job of a batch.
 
-use crate::paths::Paths;
-use crate::report::{Entry, Outcome};
-use crate::sums::{FileSum, sums_text};
+use crate::batch::paths::Paths;
+use crate::batch::report::{Entry, Outcome};
+use crate::batch::sums::{FileSum, sums_text};
 use pcl_base::Dpi;
 use pcl_cert::Format;
 use pcl_command::{

@@ -1,6 +1,7 @@
 //! What is told on standard error: how far a long run has come, and what there is to say of it.
 
-use pcl_program::{Reporter, Watcher};
+use pcl_command::Reporter;
+use pcl_tool::Watcher;
 use std::io::IsTerminal;
 use std::time::Instant;
 

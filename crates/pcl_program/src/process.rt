@@ -1,10 +1,15 @@
-//! A run of the process.
+//! The process of `pclmin`: its words, its standard streams, the files of the system, its line and its status.
 
-use crate::files::SystemFiles;
-use crate::input::Input;
-use crate::progress::Voice;
+mod files;
+mod input;
+mod progress;
+
+use crate::process::files::SystemFiles;
+use crate::process::input::Input;
+use crate::process::progress::Voice;
+use crate::running::{exit_status, run};
 use clap::Error;
-use pcl_program::{Ending, USAGE_STATUS, exit_status, run};
+use pcl_command::{Ending, USAGE_STATUS};
 use std::alloc::AllocError;
 use std::env;
 use std::io::{self, ErrorKind, IsTerminal};
