@@ -11,13 +11,14 @@ use Rattle.pcl_page.specs.Situation.{Sheet}
 use Rattle.pcl_page.specs.Jobs.{HasPages}
 use Rattle.pcl_page.specs.Accepting.{IsAccepted}
 use Rattle.pcl_page.specs.Delivering.{IsRefusal}
+use Rattle.pcl_meaning.specs.JobTexts.{IsJobOf}
 use Rattle.pcl_cert.specs.declared.format.Format.{Format}
 use Rattle.pcl_tool.specs.declared.fault.Fault.TheVariants as run
 use Rattle.pcl_tool.specs.declared.job_verdict.JobVerdict.{JobVerdict}
 use Rattle.pcl_tool.specs.declared.job_verdict.JobVerdict.TheVariants as verdicts
 use Rattle.pcl_tool.specs.declared.page_images.PageChoice.{PageChoice}
 use Rattle.pcl_tool.specs.PageImages.{AreImagesOf, LacksPage}
-use Rattle.pcl_tool.specs.Minimizing.{IsJobOf, IsCertifiedJobOf}
+use Rattle.pcl_tool.specs.Minimizing.{IsCertifiedJobOf}
 use Rattle.pcl_tool.specs.JobVerdicts.{IsJobVerdict}
 use Rattle.pcl_same.specs.declared.comparison.AskedComparison.{AskedComparison}
 use Rattle.pcl_same.specs.declared.comparison.AskedComparison.TheVariants as comparisons

@@ -7,3 +7,4 @@ pub mod Pads
 pub mod Printing
 pub mod Jobs
 pub mod SamePages
+pub mod WrittenJobs

@@ -1,4 +1,4 @@
--- Job texts that print pages, and the least of them.
+-- Job texts that print pages, the least of them, and a job written again.
 use Rattle.std.specs.Prelude.{◌≡◌, ℕ, ◌+◌, ◌*◌, ◌≤◌, List, [], ◌∷◌, ◌++◌, length, map}
 use Rattle.pcl_base.specs.declared.dpi.Dpi.{Dpi}
 use Rattle.pcl_base.specs.Size.{page_height}
@@ -7,8 +7,11 @@ use Rattle.pcl_env.specs.Settings.{nothing_asked}
 use Rattle.pcl_page.specs.Asks.{Asks}
 use Rattle.pcl_page.specs.Situation.{Sheet}
 use Rattle.pcl_page.specs.Performing.{Shows}
+use Rattle.pcl_page.specs.Jobs.{HasPages}
+use Rattle.pcl_page.specs.Alike.{AllAlike}
 use Rattle.pcl_output.specs.Tokens.{frame_bytes}
 use Rattle.pcl_output.specs.PageText.{PrintsPage}
+use Rattle.pcl_writer.specs.Appending.{IsWrittenPage}
 
 -- texts one after the other, one for each item in order, and this holds of each item and its text
 abbrev pub AreTexts : {A : Type 0} → (A → List ℕ → Type 0) → List A → List ℕ → Type 0
@@ -50,3 +53,16 @@ most_commands dpi (sheet ∷ sheets) = 3 * page_height sheet.size dpi + 10 + mos
 -- what a job with these pages asks for that asks for nothing besides dots
 abbrev pub nothing_for : List Sheet → Asks
 nothing_for pages = record { pages = map (λ (sheet : Sheet). nothing_asked) pages; exits = [] }
+
+-- a job text whose page texts print the pages of a job. It is accepted by the same rules, in few commands, and its pages are the
+-- same.
+pub record IsJobOf (dpi : Dpi) (job output : List ℕ) : Type 0 where
+  pub pages : List Sheet
+  pub meaning : HasPages dpi job pages
+  pub texts : List ℕ
+  pub print : PrintEach IsWrittenPage dpi pages texts
+  pub spelled : output ≡ frame_bytes ++ texts ++ frame_bytes
+  pub again : List Sheet
+  pub accepted : HasPages dpi output again
+  pub alike : AllAlike dpi pages again
+  pub few : length accepted.commands ≤ most_commands dpi pages

@@ -8,7 +8,7 @@ use Rattle.pcl_same.specs.declared.comparison.AskedComparison.TheVariants.{Same}
 use Rattle.pcl_same.specs.Comparing.{IsAskedComparison}
 use Rattle.pcl_output.specs.Tokens.{frame_bytes}
 use Rattle.pcl_meaning.specs.JobTexts.{nothing_for}
-use Rattle.pcl_tool.proofs.Texts.{job_of_texts}
+use Rattle.pcl_meaning.proofs.WrittenJobs.{job_of_texts}
 use Rattle.pcl_shrink.specs.Asking.{asked_job}
 use Rattle.pcl_shrink.specs.Texts.{AreLeastTexts}
 use Rattle.pcl_shrink.specs.Shrinking.{IsSmallerJob}

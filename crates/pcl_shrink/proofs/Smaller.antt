@@ -9,8 +9,7 @@ use Rattle.pcl_same.specs.declared.comparison.AskedComparison.TheVariants.{Same}
 use Rattle.pcl_same.specs.declared.keeping.KeptJob.{KeptJob}
 use Rattle.pcl_same.specs.Comparing.{IsAskedComparison}
 use Rattle.pcl_same.specs.Keeping.{IsKept}
-use Rattle.pcl_meaning.specs.JobTexts.{nothing_for}
-use Rattle.pcl_tool.specs.Minimizing.{IsJobOf}
+use Rattle.pcl_meaning.specs.JobTexts.{nothing_for, IsJobOf}
 use Rattle.pcl_shrink.specs.Shrinking.{PrintsAlike, IsSmallerJob}
 use Rattle.pcl_shrink.specs.inner.Best.{IsBest}
 

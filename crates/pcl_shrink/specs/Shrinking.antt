@@ -10,8 +10,7 @@ use Rattle.pcl_page.specs.Delivering.{IsRefusal}
 use Rattle.pcl_page.specs.Alike.{AllAlike}
 use Rattle.pcl_same.specs.declared.comparison.AskedComparison.TheVariants.{Same}
 use Rattle.pcl_same.specs.Comparing.{IsAskedComparison}
-use Rattle.pcl_meaning.specs.JobTexts.{nothing_for}
-use Rattle.pcl_tool.specs.Minimizing.{IsJobOf}
+use Rattle.pcl_meaning.specs.JobTexts.{nothing_for, IsJobOf}
 use Rattle.pcl_shrink.specs.Asking.{asked_job}
 use Rattle.pcl_shrink.specs.Texts.{AreLeastTexts}
 use Rattle.pcl_shrink.specs.declared.candidate.Shrunk.{Shrunk}

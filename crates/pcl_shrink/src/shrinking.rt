@@ -13,9 +13,9 @@ use crate::raster_jobs::asked_job;
 use crate::texts::texts_alone;
 use crate::{Candidate, Shrunk};
 use pcl_base::{Dpi, JobFault};
+use pcl_meaning::written_jobs_ask_for_nothing;
 use pcl_page::one_meaning;
 use pcl_same::{KeptJob, keep_job};
-use pcl_tool::written_jobs_ask_for_nothing;
 use std::alloc::{AllocError, Global};
 
 /// The smallest job that is found with the pages of a job, dot for dot, and which asks the printer for what that asks for. It is

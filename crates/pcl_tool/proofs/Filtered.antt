@@ -3,11 +3,12 @@ use Rattle.std.proofs.Common.{ℕ, ◌≤◌, List, length, Option, Result, Ok, 
 use Rattle.std.specs.Io.KnownBytes.{Appends}
 use Rattle.std.proofs.KnownBytes.{Keeps-refl}
 use Rattle.pcl_base.specs.declared.dpi.Dpi.{Dpi}
+use Rattle.pcl_meaning.specs.JobTexts.{IsJobOf}
 use Rattle.pcl_cert.specs.declared.format.Format.{Format}
 use Rattle.pcl_tool.specs.declared.fault.Fault.{Fault}
 use Rattle.pcl_tool.specs.declared.fault.Fault.TheVariants.{Refused, Memory, ReadFault, TooLong, WriteFault}
 use Rattle.pcl_tool.specs.Transfer.{IsReadAll, IsWritten}
-use Rattle.pcl_tool.specs.Minimizing.{IsJobOf, IsCertifiedJobOf, IsRead, IsFiltered, IsFilteredCert, input_limit}
+use Rattle.pcl_tool.specs.Minimizing.{IsCertifiedJobOf, IsRead, IsFiltered, IsFilteredCert, input_limit}
 use Rattle.pcl_tool.specs.Writing.{IsJobWritten}
 
 -- the job wasn't read whole, and nothing was written

@@ -5,12 +5,11 @@ use Rattle.pcl_page.specs.Situation.{Sheet}
 use Rattle.pcl_cert.specs.declared.page_proof.PageProof.{PageProof}
 use Rattle.pcl_cert.proofs.ProvedLeast.{proved_least}
 use Rattle.pcl_writer.specs.Appending.{IsWrittenPage}
-use Rattle.pcl_meaning.specs.JobTexts.{PrintEach, PrintsShortest, IsLeastJobText}
+use Rattle.pcl_meaning.specs.JobTexts.{PrintEach, PrintsShortest, IsLeastJobText, IsJobOf}
 use Rattle.pcl_meaning.proofs.SamePages.{least_job}
 use Rattle.pcl_tool.specs.declared.job_verdict.JobVerdict.TheVariants as job
 use Rattle.pcl_tool.specs.Certified.{AreProved}
 use Rattle.pcl_tool.specs.JobVerdicts.{IsJobVerdict}
-use Rattle.pcl_tool.specs.Minimizing.{IsJobOf}
 use Rattle.pcl_tool.specs.LeastJobs.{IsLeastJobOf}
 
 written_texts : (dpi : Dpi) (sheets : List Sheet) (texts : List ℕ) → PrintEach IsWrittenPage dpi sheets texts

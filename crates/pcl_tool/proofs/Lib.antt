@@ -1,7 +1,6 @@
 pub mod Writes
 pub mod Choices
 pub mod Showings
-pub mod Texts
 pub mod Framed
 pub mod Left
 pub mod SameCheckers

@@ -3,6 +3,8 @@ use Rattle.std.proofs.Common.{◌≡◌, ℕ, ◌+◌, ◌^◌, ◌<◌, List, [
 use Rattle.std.specs.List.{AllByRecursion}
 use Rattle.std.proofs.lemmas.List.{append-nil, length-append}
 use Rattle.pcl_base.specs.declared.dpi.Dpi.{Dpi}
+use Rattle.pcl_base.specs.declared.fault.JobFault.{JobFault}
+use Rattle.pcl_base.specs.declared.fault.JobFault.TheVariants.{Refused, Memory}
 use Rattle.pcl_bitmap.specs.declared.page.Page.{Page}
 use Rattle.pcl_page.specs.Situation.{Sheet}
 use Rattle.pcl_page.specs.Performing.{Shows}
@@ -26,9 +28,10 @@ use Rattle.pcl_meaning.proofs.Jobs.{job_fits}
 use Rattle.pcl_tool.specs.Certified.{AreProved}
 use Rattle.pcl_tool.specs.declared.fault.Fault.{Fault}
 use Rattle.pcl_tool.specs.declared.minimizing.Output.{Output}
-use Rattle.pcl_tool.specs.JobFaults.{RefusedOrMemory}
+use Rattle.pcl_tool.specs.JobFaults.{fault_of, RefusedOrMemory}
+use Rattle.pcl_tool.specs.Watching.{HasTaken}
 use Rattle.pcl_tool.specs.inner.WrittenJobs.{SoFar, IsBegun, IsOutput, IsProvedIn, Proves, TakesText}
-use Rattle.pcl_tool.proofs.Texts.{job_of_texts}
+use Rattle.pcl_meaning.proofs.WrittenJobs.{job_of_texts}
 
 -- ---- one page
 
@@ -133,6 +136,12 @@ gathered {dpi} (sheet ∷ sheets) {old} {new} h =
     }
 
 -- ---- a whole job
+
+-- the job was refused or memory ran out, and so it is said
+pub not_taken : {S : Type 0} (takes : S → Page → S → Type 0) (dpi : Dpi) (job : List ℕ) (begun : S) (fault : JobFault)
+    → HasTaken takes dpi job begun (Err fault) → RefusedOrMemory (IsRefusal dpi job) (fault_of fault)
+not_taken takes dpi job begun (Refused refusal) h = h
+not_taken takes dpi job begun Memory h = tt
 
 -- a refusal is the job's, and no fault comes but this and out of memory, whatever is wanted
 pub not_written : (dpi : Dpi) (job : List ℕ) (format : Option Format) (fault : Fault) → RefusedOrMemory (IsRefusal dpi job) fault

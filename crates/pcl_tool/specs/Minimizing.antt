@@ -4,12 +4,8 @@ use Rattle.std.specs.Io.KnownBytes.{Consumes, Appends, IsAtEnd, Keeps}
 use Rattle.pcl_base.specs.declared.dpi.Dpi.{Dpi}
 pub use Rattle.pcl_base.specs.Limits.{input_limit}
 use Rattle.pcl_page.specs.Situation.{Sheet}
-use Rattle.pcl_page.specs.Jobs.{HasPages}
 use Rattle.pcl_page.specs.Delivering.{IsRefusal}
-use Rattle.pcl_output.specs.Tokens.{frame_bytes}
-use Rattle.pcl_page.specs.Alike.{AllAlike}
-use Rattle.pcl_writer.specs.Appending.{IsWrittenPage}
-use Rattle.pcl_meaning.specs.JobTexts.{PrintEach, most_commands}
+use Rattle.pcl_meaning.specs.JobTexts.{IsJobOf}
 use Rattle.pcl_cert.specs.declared.format.Format.{Format}
 use Rattle.pcl_cert.specs.declared.page_proof.PageProof.{PageProof}
 use Rattle.pcl_cert.specs.Certificates.{AreProofs, certificate_bytes}
@@ -19,19 +15,6 @@ use Rattle.pcl_tool.specs.declared.fault.Fault.TheVariants.{Refused, Memory, Rea
 use Rattle.pcl_tool.specs.declared.minimizing.Output.{Output}
 use Rattle.pcl_tool.specs.Transfer.{GivesAtMost, AppendsFront}
 use Rattle.pcl_tool.specs.Certified.{AreProved}
-
--- A job text whose page texts print the pages of a job. It is accepted by the same rules, in few commands, and its pages are the
--- same.
-pub record IsJobOf (dpi : Dpi) (job output : List ℕ) : Type 0 where
-  pub pages : List Sheet
-  pub meaning : HasPages dpi job pages
-  pub texts : List ℕ
-  pub print : PrintEach IsWrittenPage dpi pages texts
-  pub spelled : output ≡ frame_bytes ++ texts ++ frame_bytes
-  pub again : List Sheet
-  pub accepted : HasPages dpi output again
-  pub alike : AllAlike dpi pages again
-  pub few : length accepted.commands ≤ most_commands dpi pages
 
 -- The certificate of the page texts of some pages: by what it says of each, the checker answers Proved on its text.
 pub record IsCertificate (dpi : Dpi) (format : Format) (pages : List Sheet) (texts certificate : List ℕ) : Type 0 where

@@ -3,13 +3,12 @@
 ghost use Rattle.std.specs.Prelude.{◌≡◌, ℕ, List, Ok};
 ghost use Rattle.pcl_base.specs.declared.dpi.Dpi.{Dpi};
 ghost use Rattle.pcl_cert.specs.declared.format.Format.{Format};
-ghost use Rattle.pcl_page.specs.Jobs.{HasAsks};
-ghost use Rattle.pcl_meaning.specs.JobTexts.{nothing_for};
+ghost use Rattle.pcl_meaning.specs.JobTexts.{IsJobOf};
 ghost use Rattle.pcl_tool.specs.declared.job_verdict.JobVerdict.{JobVerdict};
 ghost use Rattle.pcl_tool.specs.declared.job_verdict.JobVerdict.TheVariants as verdicts;
 ghost use Rattle.pcl_tool.specs.declared.minimizing.Output.{Output};
 ghost use Rattle.pcl_tool.specs.Headline.{TheClaim};
-ghost use Rattle.pcl_tool.specs.Minimizing.{IsJobOf, IsCertifiedJobOf, IsMinimized};
+ghost use Rattle.pcl_tool.specs.Minimizing.{IsCertifiedJobOf, IsMinimized};
 ghost use Rattle.pcl_tool.specs.JobVerdicts.{IsJobVerdict};
 ghost use Rattle.pcl_tool.specs.LeastJobs.{IsLeastJobOf, IsCertifiedBy};
 
@@ -50,9 +49,3 @@ pub fn certified_jobs_are_proved()
 {
     one_meaning();
 }
-
-/// A job that `minimize` and `filter` write asks the printer for nothing besides dots: for no sides, trays or bins, and no universal
-/// exit stands in it.
-pub fn written_jobs_ask_for_nothing()
-    ensures { (dpi : Dpi) (input output : List ℕ) → (written : IsJobOf dpi input output) → HasAsks dpi output (nothing_for written.pages) }
-{}

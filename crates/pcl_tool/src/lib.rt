@@ -23,7 +23,6 @@ pub use image_checks::check_images;
 pub use job_verdict::{CheckAnswer, JobVerdict};
 pub use laws::{
     certified_jobs_are_proved, proved_jobs_are_least, the_headline, written_jobs_are_least,
-    written_jobs_ask_for_nothing,
 };
 pub use minimizing::{
     Output, filter, filter_cert, filter_cert_watched, filter_watched, least_job, minimize,
@@ -32,7 +31,7 @@ pub use minimizing::{
 pub use page_images::{PageChoice, preview_pages};
 pub use page_preview::{page_dots, preview};
 pub use pcl_base::INPUT_LIMIT;
-pub use pcl_meaning::page_texts_mean_their_pages;
+pub use pcl_meaning::{page_texts_mean_their_pages, written_jobs_ask_for_nothing};
 pub use reading::read_all;
 pub use watching::{Unwatched, Watcher, perform_watched};
 pub use writing::{write_all, write_bytes};

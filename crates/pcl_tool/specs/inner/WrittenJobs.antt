@@ -3,6 +3,7 @@ use Rattle.std.specs.Prelude.{◌≡◌, ℕ, ◌≤◌, List, [], ◌++◌, len
 use Rattle.pcl_base.specs.declared.dpi.Dpi.{Dpi}
 use Rattle.pcl_bitmap.specs.declared.page.Page.{Page}
 use Rattle.pcl_writer.specs.Appending.{IsWrittenPage}
+use Rattle.pcl_meaning.specs.JobTexts.{IsJobOf}
 use Rattle.pcl_cert.specs.declared.format.Format.{Format}
 use Rattle.pcl_cert.specs.declared.page_proof.PageProof.{PageProof}
 use Rattle.pcl_cert.specs.declared.check.Verdict.TheVariants.{Proved}
@@ -13,7 +14,7 @@ use Rattle.pcl_tool.specs.declared.fault.Fault.{Fault}
 use Rattle.pcl_tool.specs.declared.minimizing.Output.{Output}
 use Rattle.pcl_tool.specs.declared.written_job.WrittenJob.TheInside.{Inside}
 use Rattle.pcl_tool.specs.JobFaults.{RefusedOrMemory}
-use Rattle.pcl_tool.specs.Minimizing.{IsJobOf, IsMinimized}
+use Rattle.pcl_tool.specs.Minimizing.{IsMinimized}
 
 -- the bytes of a job so far, and the certificate of its pages, where one of a format is wanted
 pub record SoFar : Type 0 where

@@ -2,8 +2,7 @@ use Rattle.std.proofs.Common.{◌∙◌, List, ℕ, ◌++◌, refl, ap}
 use Rattle.std.proofs.lemmas.Result.{err_from_is_err_and}
 use Rattle.pcl_output.specs.Tokens.{frame_bytes}
 use Rattle.pcl_tool.specs.inner.WrittenJobs.{SoFar, TakesText}
-use Rattle.pcl_tool.proofs.Texts.{not_taken}
-use Rattle.pcl_tool.proofs.Proved.{not_written, written_output}
+use Rattle.pcl_tool.proofs.Proved.{not_taken, not_written, written_output}
 use Rattle.pcl_tool.proofs.minimizing.write_again.Goals as goal
 
 pub returns : goal.returns

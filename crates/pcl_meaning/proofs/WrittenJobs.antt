@@ -1,19 +1,12 @@
--- Page texts between two resets.
-use Rattle.std.proofs.Common.{◌≡◌, ℕ, List, ◌++◌, Err, sym, ap, subst, ◌∙◌, append_assoc}
+-- A job written again: page texts of its pages between two resets.
+use Rattle.std.proofs.Common.{◌≡◌, ℕ, List, ◌++◌, sym, ap, subst, ◌∙◌, append_assoc}
 use Rattle.pcl_base.specs.declared.dpi.Dpi.{Dpi}
-use Rattle.pcl_base.specs.declared.fault.JobFault.{JobFault}
-use Rattle.pcl_base.specs.declared.fault.JobFault.TheVariants.{Refused, Memory}
-use Rattle.pcl_bitmap.specs.declared.page.Page.{Page}
 use Rattle.pcl_page.specs.Situation.{Sheet}
-use Rattle.pcl_page.specs.Delivering.{IsRefusal}
 use Rattle.pcl_page.specs.Jobs.{HasPages, HasAsks}
 use Rattle.pcl_output.specs.Tokens.{frame_bytes}
 use Rattle.pcl_writer.specs.Appending.{IsWrittenPage}
-use Rattle.pcl_meaning.specs.JobTexts.{PrintEach, nothing_for}
+use Rattle.pcl_meaning.specs.JobTexts.{PrintEach, IsJobOf, nothing_for}
 use Rattle.pcl_meaning.proofs.Jobs.{IsAgain, written_again}
-use Rattle.pcl_tool.specs.JobFaults.{fault_of, RefusedOrMemory}
-use Rattle.pcl_tool.specs.Watching.{HasTaken}
-use Rattle.pcl_tool.specs.Minimizing.{IsJobOf}
 
 -- a least raster job asks for nothing
 pub asks_nothing : {dpi : Dpi} {job output : List ℕ} (w : IsJobOf dpi job output) → HasAsks dpi output (nothing_for w.pages)
@@ -40,9 +33,3 @@ job_of_texts dpi job start body output texts pages meaning opened print joined c
       alike = w.alike;
       few = w.few;
     }
-
--- the job was refused or memory ran out, and so it is said
-pub not_taken : {S : Type 0} (takes : S → Page → S → Type 0) (dpi : Dpi) (job : List ℕ) (begun : S) (fault : JobFault)
-    → HasTaken takes dpi job begun (Err fault) → RefusedOrMemory (IsRefusal dpi job) (fault_of fault)
-not_taken takes dpi job begun (Refused refusal) h = h
-not_taken takes dpi job begun Memory h = tt
