@@ -1,10 +1,10 @@
 -- Rows with no dot past their width.
-use Rattle.std.proofs.Common.{◌≡◌, ℕ, zero, suc, ◌+◌, ◌-◌, ◌*◌, ◌/◌, ◌%◌, ◌<◌, ◌≤◌, ◌==◌, false, List, [], ◌∷◌, refl, sym, ap, ◌∙◌, arith, lit≤, lit<}
+use Rattle.std.proofs.Common.{◌≡◌, ℕ, zero, suc, ◌+◌, ◌-◌, ◌*◌, ◌/◌, ◌%◌, ◌^◌, ◌<◌, ◌≤◌, ◌==◌, false, List, [], ◌∷◌, refl, sym, ap, ◌∙◌, arith}
 use Rattle.std.specs.Prelude.{slice_index}
 use Rattle.std.proofs.lemmas.Bool.Decides.{nat_tests}
+use Rattle.std.proofs.Math.Nat.{pow-suc, div-div-eq-div-mul, mul_comm, mul_assoc}
 use Rattle.pcl_bitmap.specs.Bitmap.{bit_of_byte, dot_of_row}
 use Rattle.pcl_page.specs.Raster.{first_bits, cleared_past}
-use Rattle.pcl_page.proofs.Pads.{whole_byte}
 
 -- the bits of a byte from bit n on are clear
 abbrev AreClear : ℕ → ℕ → Type 0
@@ -14,62 +14,22 @@ AreClear n byte = (k : ℕ) → n ≤ k → k < 8 → bit_of_byte byte k ≡ fal
 bit_clear : (byte unit : ℕ) → (byte / unit % 2 == 1) ≡ false → byte / unit % 2 ≡ 0
 bit_clear byte unit e = grind (arith, nat_tests)
 
+-- a byte whose lowest bits are clear is a multiple of what they stand for
+lowest_clear : (count : ℕ) {byte : ℕ} → count ≤ 8 → AreClear (8 - count) byte → byte / 2 ^ count * 2 ^ count ≡ byte
+lowest_clear zero le h = omega arith
+lowest_clear (suc count) {byte} le h =
+    let unit : ℕ = 2 ^ count in
+    let fewer : byte / unit * unit ≡ byte = lowest_clear count (omega arith) (λ k from. h k (omega arith)) in
+    let at : count ≡ 7 - (7 - count) = omega arith in
+    let clear = bit_clear byte unit (ap (λ (n : ℕ). byte / 2 ^ n % 2 == 1) at ∙ h (7 - count) (omega arith) (omega arith)) in
+    let half : byte / unit / 2 * 2 ≡ byte / unit = omega arith in
+    rw (pow-suc 2 count, ← div-div-eq-div-mul byte unit 2)
+    (ap (λ (n : ℕ). byte / unit / 2 * n) (mul_comm unit 2) ∙ sym (mul_assoc (byte / unit / 2) 2 unit)
+    ∙ ap (λ (n : ℕ). n * unit) half ∙ fewer)
+
 -- bits that are clear are cleared
 first_is : (n : ℕ) {byte : ℕ} → AreClear n byte → first_bits n byte ≡ byte
-first_is zero {byte} h =
-    let a = bit_clear byte 128 (h 0 (lit≤ tt) (lit< tt)) in
-    let b = bit_clear byte 64 (h 1 (lit≤ tt) (lit< tt)) in
-    let c = bit_clear byte 32 (h 2 (lit≤ tt) (lit< tt)) in
-    let d = bit_clear byte 16 (h 3 (lit≤ tt) (lit< tt)) in
-    let e = bit_clear byte 8 (h 4 (lit≤ tt) (lit< tt)) in
-    let f = bit_clear byte 4 (h 5 (lit≤ tt) (lit< tt)) in
-    let g = bit_clear byte 2 (h 6 (lit≤ tt) (lit< tt)) in
-    let i = bit_clear byte 1 (h 7 (lit≤ tt) (lit< tt)) in
-    let all : byte / 256 * 256 ≡ byte = omega arith in all
-first_is (suc zero) {byte} h =
-    let b = bit_clear byte 64 (h 1 (lit≤ tt) (lit< tt)) in
-    let c = bit_clear byte 32 (h 2 (lit≤ tt) (lit< tt)) in
-    let d = bit_clear byte 16 (h 3 (lit≤ tt) (lit< tt)) in
-    let e = bit_clear byte 8 (h 4 (lit≤ tt) (lit< tt)) in
-    let f = bit_clear byte 4 (h 5 (lit≤ tt) (lit< tt)) in
-    let g = bit_clear byte 2 (h 6 (lit≤ tt) (lit< tt)) in
-    let i = bit_clear byte 1 (h 7 (lit≤ tt) (lit< tt)) in
-    let all : byte / 128 * 128 ≡ byte = omega arith in all
-first_is (suc (suc zero)) {byte} h =
-    let c = bit_clear byte 32 (h 2 (lit≤ tt) (lit< tt)) in
-    let d = bit_clear byte 16 (h 3 (lit≤ tt) (lit< tt)) in
-    let e = bit_clear byte 8 (h 4 (lit≤ tt) (lit< tt)) in
-    let f = bit_clear byte 4 (h 5 (lit≤ tt) (lit< tt)) in
-    let g = bit_clear byte 2 (h 6 (lit≤ tt) (lit< tt)) in
-    let i = bit_clear byte 1 (h 7 (lit≤ tt) (lit< tt)) in
-    let all : byte / 64 * 64 ≡ byte = omega arith in all
-first_is (suc (suc (suc zero))) {byte} h =
-    let d = bit_clear byte 16 (h 3 (lit≤ tt) (lit< tt)) in
-    let e = bit_clear byte 8 (h 4 (lit≤ tt) (lit< tt)) in
-    let f = bit_clear byte 4 (h 5 (lit≤ tt) (lit< tt)) in
-    let g = bit_clear byte 2 (h 6 (lit≤ tt) (lit< tt)) in
-    let i = bit_clear byte 1 (h 7 (lit≤ tt) (lit< tt)) in
-    let all : byte / 32 * 32 ≡ byte = omega arith in all
-first_is (suc (suc (suc (suc zero)))) {byte} h =
-    let e = bit_clear byte 8 (h 4 (lit≤ tt) (lit< tt)) in
-    let f = bit_clear byte 4 (h 5 (lit≤ tt) (lit< tt)) in
-    let g = bit_clear byte 2 (h 6 (lit≤ tt) (lit< tt)) in
-    let i = bit_clear byte 1 (h 7 (lit≤ tt) (lit< tt)) in
-    let all : byte / 16 * 16 ≡ byte = omega arith in all
-first_is (suc (suc (suc (suc (suc zero))))) {byte} h =
-    let f = bit_clear byte 4 (h 5 (lit≤ tt) (lit< tt)) in
-    let g = bit_clear byte 2 (h 6 (lit≤ tt) (lit< tt)) in
-    let i = bit_clear byte 1 (h 7 (lit≤ tt) (lit< tt)) in
-    let all : byte / 8 * 8 ≡ byte = omega arith in all
-first_is (suc (suc (suc (suc (suc (suc zero)))))) {byte} h =
-    let g = bit_clear byte 2 (h 6 (lit≤ tt) (lit< tt)) in
-    let i = bit_clear byte 1 (h 7 (lit≤ tt) (lit< tt)) in
-    let all : byte / 4 * 4 ≡ byte = omega arith in all
-first_is (suc (suc (suc (suc (suc (suc (suc zero))))))) {byte} h =
-    let i = bit_clear byte 1 (h 7 (lit≤ tt) (lit< tt)) in
-    let all : byte / 2 * 2 ≡ byte = omega arith in all
-first_is (suc (suc (suc (suc (suc (suc (suc (suc n)))))))) {byte} h =
-    whole_byte (suc (suc (suc (suc (suc (suc (suc (suc n)))))))) byte (omega arith)
+first_is n h = lowest_clear (8 - n) (omega arith) (λ k from lt. h k (omega arith) lt)
 
 dot_at : (bytes : List ℕ) (x i k : ℕ) → x / 8 ≡ i → x % 8 ≡ k → dot_of_row bytes x ≡ bit_of_byte (slice_index bytes i) k
 dot_at bytes x i k a b = ap (λ (n : ℕ). bit_of_byte (slice_index bytes n) (x % 8)) a ∙ ap (bit_of_byte (slice_index bytes i)) b

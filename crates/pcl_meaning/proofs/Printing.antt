@@ -213,48 +213,8 @@ one_scale : (dpi : Dpi) (size : Size) {top : ℕ} {height : Option ℕ} → heig
           0;
       seed = zeros size dpi;
     } ≡ body_raster size dpi 0 (zeros size dpi)
-one_scale Dpi300 size {top} {height} h t =
-    ap (λ (o : Option ℕ). record {
-      left = 0;
-      top = top;
-      scale = 1;
-      width = page_width size Dpi300;
-      height = o;
-      rows = 0;
-      seed =
-          zeros size Dpi300;
-    }) h
-    ∙ ap (λ (n : ℕ). record {
-      left = 0;
-      top = n;
-      scale = 1;
-      width = page_width size Dpi300;
-      height = None;
-      rows = 0;
-      seed =
-          zeros size Dpi300;
-    }) t
-one_scale Dpi600 size {top} {height} h t =
-    ap (λ (o : Option ℕ). record {
-      left = 0;
-      top = top;
-      scale = 1;
-      width = page_width size Dpi600;
-      height = o;
-      rows = 0;
-      seed =
-          zeros size Dpi600;
-    }) h
-    ∙ ap (λ (n : ℕ). record {
-      left = 0;
-      top = n;
-      scale = 1;
-      width = page_width size Dpi600;
-      height = None;
-      rows = 0;
-      seed =
-          zeros size Dpi600;
-    }) t
+one_scale Dpi300 size h t = rw (h, t) refl
+one_scale Dpi600 size h t = rw (h, t) refl
 
 start_after : {size : Size} (dpi : Dpi) {copies : ℕ} {t : Settings} {pages : List Sheet} (n : ℕ) → IsBetween t
     → does dpi (deed StartRaster (number_value 0) []) (between (ready dpi size copies t) pages n)
