@@ -23,7 +23,7 @@ ROOT = pathlib.Path(__file__).resolve().parent
 LANES = ROOT / "build" / "lanes"
 FIRST_JOB = 4_000_000_000  # bytes that a large check may take with one job
 FURTHER_JOB = 1_500_000_000  # bytes of each further job
-FURTHER_WORK = 30  # so many seconds of proofs make up for what a further job reads before it proves anything
+FURTHER_WORK = 30  # so many seconds of proofs, or as many as its reading takes, make up for what a further job reads first
 READING = 4  # seconds for each crate below
 
 
@@ -139,6 +139,16 @@ def chains(wanted, all_crates):
     return longest
 
 
+def paying(name, all_crates):
+    """How many jobs pay for a crate: each reads all that is below before it proves anything."""
+    return 1 + work_of(name) // max(FURTHER_WORK, READING * len(below(name, all_crates)))
+
+
+def busy(jobs):
+    """About how many processors a check with so many jobs keeps busy: it reads alone before it has others prove, and after."""
+    return (jobs + 1) // 2
+
+
 def within_memory(jobs):
     """As many of so many jobs as memory allows, but one at least."""
     return max(1, min(jobs, 1 + (free_memory() - FIRST_JOB) // FURTHER_JOB))
@@ -158,11 +168,11 @@ def build(names, processors):
             ready = [it for it in left if done.issuperset(all_crates[it][1])]
             for at, name in enumerate(ready):
                 is_first = all(chain[name] >= chain[it.name] for it in running)
-                idle = processors - sum(it.jobs for it in running)
+                idle = processors - sum(busy(it.jobs) for it in running)
                 spare = idle - (len(ready) - at - 1)
                 if (is_first or idle > 0) and (not running or free_memory() > FIRST_JOB):
                     left.remove(name)
-                    jobs = min(max(3 if is_first else 1, spare), 1 + work_of(name) // FURTHER_WORK)
+                    jobs = min(max(3 if is_first else 1, spare), paying(name, all_crates))
                     running.append(Build(name, all_crates, within_memory(jobs), is_first))
             time.sleep(0.2)
             for it in [it for it in running if it.has_ended()]:
