@@ -88,9 +88,23 @@ fn propose_letters(
     ensures { RefusesWith dpi job.now result }
 {
     let lettering = Lettering::new(alloc, shapes)?;
+    lettered(alloc, job, dpi, asks, plain, &lettering)
+}
+
+/// A job with these letters, where there are any and it is shorter than these texts of its pages.
+fn lettered(
+    alloc: Global,
+    job: &[u8],
+    dpi: Dpi,
+    asks: &Asks<'_>,
+    plain: &[Vec<u8>],
+    lettering: &Lettering,
+) -> Result<Option<Vec<u8>>, JobFault>
+    ensures { RefusesWith dpi job.now result }
+{
     if lettering.is_empty() {
         Ok(None)
     } else {
-        letter_job(alloc, job, dpi, asks, plain, &lettering)
+        letter_job(alloc, job, dpi, asks, plain, lettering)
     }
 }
