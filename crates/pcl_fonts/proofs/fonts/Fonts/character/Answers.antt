@@ -68,13 +68,7 @@ pub invariant_of-self-2 : goal.invariant_of-self-2
 invariant_of-self-2 c =
     let m = c.self.inside.entries in
     let e = c.in-Some.entry.now in
-    let f : Entry = record {
-      info = e.info;
-      font_type = e.font_type;
-      is_permanent = e.is_permanent;
-      deletions = e.deletions;
-      characters = c.insert.new.self;
-    } in
+    let f : Entry = record e { characters = c.insert.new.self } in
     let n = c.get_mut.follows.lender f in
     let there = sym c.in-Some.ensures.value in
     record {
@@ -88,13 +82,7 @@ returns c =
     let d = c.self.inside.deletions in
     let m = c.self.inside.entries in
     let e = c.in-Some.entry.now in
-    let f : Entry = record {
-      info = e.info;
-      font_type = e.font_type;
-      is_permanent = e.is_permanent;
-      deletions = e.deletions;
-      characters = c.insert.new.self;
-    } in
+    let f : Entry = record e { characters = c.insert.new.self } in
     let n = c.get_mut.follows.lender f in
     let there = sym c.in-Some.ensures.value in
     let some = ap (live d) there ∙ live_when d e c.if-not-is_there.ensures in
