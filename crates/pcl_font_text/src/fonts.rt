@@ -2,6 +2,7 @@
 
 use crate::codes::{blank_code, font_id};
 use crate::layout::Layout;
+use crate::spacing::Character;
 use pcl_shapes::{Letters, Pattern, append_labelled, append_word};
 use std::alloc::AllocError;
 
@@ -33,27 +34,46 @@ struct Sent<'a> {
 pub fn append_fonts(layout: &Layout, out: &mut Vec<u8>) -> Result<(), AllocError> {
     let mut font = None;
     for (rank, character) in layout.spacing.characters.keys().enumerate() {
-        let Some(code) = layout.spacing.code_of_rank(rank) else {
-            return Ok(());
-        };
-        let Some(pattern) = layout.pattern_of(character.glyph) else {
-            return Ok(());
-        };
-        if font != Some(code.font) {
-            append_font(layout, code.font, out)?;
-            font = Some(code.font);
+        font = append_ranked(layout, rank, *character, font, out)?;
+        if font.is_none() {
+            break;
         }
-        let sent = Sent {
-            code: code.code,
-            top: layout.letters.top_of(character.glyph),
-            width: pattern.width,
-            height: pattern.height,
-            advance: character.advance,
-            rows: pattern.rows,
-        };
-        append_character(&sent, out)?;
     }
     Ok(())
+}
+
+/// Appends the character of this rank, after its font if that isn't the one before, and says which font it is of; none where no code is
+/// left.
+fn append_ranked(
+    layout: &Layout,
+    rank: usize,
+    character: Character,
+    before: Option<usize>,
+    out: &mut Vec<u8>,
+) -> Result<Option<usize>, AllocError> {
+    let Some((font, sent)) = sent_of_rank(layout, rank, character) else {
+        return Ok(None);
+    };
+    if before != Some(font) {
+        append_font(layout, font, out)?;
+    }
+    append_character(&sent, out)?;
+    Ok(Some(font))
+}
+
+/// The font of a character of this rank, and the character as it is sent; none where no code is left for it.
+fn sent_of_rank(layout: &Layout, rank: usize, character: Character) -> Option<(usize, Sent<'_>)> {
+    let code = layout.spacing.code_of_rank(rank)?;
+    let pattern = layout.pattern_of(character.glyph)?;
+    let sent = Sent {
+        code: code.code,
+        top: layout.letters.top_of(character.glyph),
+        width: pattern.width,
+        height: pattern.height,
+        advance: character.advance,
+        rows: pattern.rows,
+    };
+    Some((code.font, sent))
 }
 
 /// Appends a font and its blanks.
@@ -62,6 +82,11 @@ fn append_font(layout: &Layout, font: usize, out: &mut Vec<u8>) -> Result<(), Al
     append_labelled(b"D\x1b)s", HEADER_BYTES, out)?;
     out.extend_from_slice(b"W")?;
     append_header(layout, out)?;
+    append_blanks(layout, out)
+}
+
+/// Appends the blanks of a font but the first, which is its pitch.
+fn append_blanks(layout: &Layout, out: &mut Vec<u8>) -> Result<(), AllocError> {
     for (number, gap) in layout.spacing.blanks.keys().enumerate().skip(1) {
         let sent = Sent {
             code: blank_code(number),
@@ -83,36 +108,46 @@ fn append_character(sent: &Sent<'_>, out: &mut Vec<u8>) -> Result<(), AllocError
     append_labelled(b"E\x1b(s", DESCRIPTOR_BYTES.saturating_add(size), out)?;
     // Format 4, no continuation, a descriptor of 14 bytes, class 1, portrait.
     out.extend_from_slice(&[b'W', 4, 0, 14, 1, 0, 0])?;
-    append_word(0, out)?;
-    append_word(sent.top, out)?;
-    append_word(sent.width, out)?;
-    append_word(sent.height, out)?;
-    append_word(sent.advance.saturating_mul(QUARTERS), out)?;
+    let advance = sent.advance.saturating_mul(QUARTERS);
+    append_words(&[0, sent.top, sent.width, sent.height, advance], out)?;
     out.extend_from_slice(sent.rows)
 }
 
-/// Appends the header of a proportional font, whose pitch is the first blank.
+/// Appends fields of two bytes.
+fn append_words(numbers: &[u32], out: &mut Vec<u8>) -> Result<(), AllocError> {
+    for number in numbers {
+        append_word(*number, out)?;
+    }
+    Ok(())
+}
+
+/// Appends the header of a proportional font.
 fn append_header(layout: &Layout, out: &mut Vec<u8>) -> Result<(), AllocError> {
     let cell = Cell::of(layout);
-    let pitch = layout.spacing.blanks.keys().next().copied().unwrap_or(1);
     append_word(HEADER_BYTES, out)?;
     // Format 0, type 1, and two bytes that aren't used.
     out.extend_from_slice(&[0, 1, 0, 0])?;
-    append_word(cell.baseline, out)?;
-    append_word(cell.width, out)?;
-    append_word(cell.height, out)?;
-    // Portrait, proportional, and the symbol set Roman-8.
-    out.extend_from_slice(&[0, 1, 1, 21])?;
-    append_word(pitch.saturating_mul(QUARTERS), out)?;
-    append_word(cell.height.saturating_mul(QUARTERS), out)?;
-    append_word(cell.baseline.saturating_mul(QUARTERS / 2), out)?;
-    // Width, style, weight, typeface, serifs, quality, placement, and no underline.
-    out.extend_from_slice(&[0, 0, 0, 0, 0, 0, 2, 0, 0, 0])?;
-    append_word(cell.height.saturating_mul(QUARTERS), out)?;
-    append_word(cell.width.saturating_mul(QUARTERS), out)?;
+    append_words(&[cell.baseline, cell.width, cell.height], out)?;
+    append_style(layout, cell, out)?;
     // The first and the last code, the parts of pitch and height below quarter dots, the height of capitals, a number.
     out.extend_from_slice(&[0, 32, 0, 255, 0, 0, 0, 0, 0, 0, 0, 0])?;
     out.extend_from_slice(b"pclmin glyphs   ")
+}
+
+/// Appends the part of a header that says how its font looks. The pitch is the first blank.
+fn append_style(layout: &Layout, cell: Cell, out: &mut Vec<u8>) -> Result<(), AllocError> {
+    let pitch = layout.spacing.blanks.keys().next().copied().unwrap_or(1);
+    let height = cell.height.saturating_mul(QUARTERS);
+    let half_baseline = cell.baseline.saturating_mul(QUARTERS / 2);
+    // Portrait, proportional, and the symbol set Roman-8.
+    out.extend_from_slice(&[0, 1, 1, 21])?;
+    append_words(
+        &[pitch.saturating_mul(QUARTERS), height, half_baseline],
+        out,
+    )?;
+    // Width, style, weight, typeface, serifs, quality, placement, and no underline.
+    out.extend_from_slice(&[0, 0, 0, 0, 0, 0, 2, 0, 0, 0])?;
+    append_words(&[height, cell.width.saturating_mul(QUARTERS)], out)
 }
 
 /// The box that holds each character, in dots.

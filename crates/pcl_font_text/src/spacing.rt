@@ -97,14 +97,26 @@ impl Spacing {
 /// How often each glyph is followed at each distance on its line: the advance is the distance.
 fn count_gaps(alloc: Global, letters: &[Letter]) -> Result<IndexMap<Character, u32>, AllocError> {
     let mut gaps = IndexMap::new(alloc);
-    for (letter, next) in letters.iter().zip(letters.iter().skip(1)) {
-        if let Some(advance) = letter.gap_to(next) {
-            let glyph = letter.glyph;
-            let count = gaps.entry(Character { glyph, advance })?.or_insert(0u32);
-            *count = count.saturating_add(1);
+    for (place, letter) in letters.iter().enumerate() {
+        if let Some(next) = letters.get(place.saturating_add(1)) {
+            count_gap(letter, next, &mut gaps)?;
         }
     }
     Ok(gaps)
+}
+
+/// Counts the distance at which a letter is followed, if the next one is on its line.
+fn count_gap(
+    letter: &Letter,
+    next: &Letter,
+    gaps: &mut IndexMap<Character, u32>,
+) -> Result<(), AllocError> {
+    if let Some(advance) = letter.gap_to(next) {
+        let glyph = letter.glyph;
+        let count = gaps.entry(Character { glyph, advance })?.or_insert(0u32);
+        *count = count.saturating_add(1);
+    }
+    Ok(())
 }
 
 /// How many letters each glyph has.
@@ -127,6 +139,13 @@ fn usual_advances(
     uses: &[u32],
 ) -> Result<Vec<u32>, AllocError> {
     let mut usual = vec![in alloc; u32::MAX; uses.len()]?;
+    find_least(gaps, uses, &mut usual);
+    set_widths(patterns, found, &mut usual);
+    Ok(usual)
+}
+
+/// Sets the advances of glyphs to the least that are frequent enough, where there are any.
+fn find_least(gaps: &IndexMap<Character, u32>, uses: &[u32], usual: &mut [u32]) {
     for (gap, count) in gaps.iter() {
         let uses = uses.get(gap.glyph as usize).copied().unwrap_or(0);
         if count.saturating_mul(USUAL_PART) >= uses {
@@ -135,14 +154,17 @@ fn usual_advances(
             }
         }
     }
-    for (advance, glyph) in usual.iter_mut().zip(found.glyphs.iter()) {
+}
+
+/// Sets the advances of glyphs that have none yet to their widths.
+fn set_widths(patterns: &Patterns, found: &Letters, usual: &mut [u32]) {
+    for (glyph, advance) in usual.iter_mut().enumerate() {
         if *advance == u32::MAX {
-            *advance = patterns
-                .get(glyph.pattern)
+            *advance = found
+                .pattern_of(patterns, number_of_place(glyph))
                 .map_or(0, |pattern| pattern.width);
         }
     }
-    Ok(usual)
 }
 
 /// The characters: the usual one of each glyph, and others of advances so frequent that they save more than they take.
@@ -155,21 +177,56 @@ fn find_characters(
     usual: &[u32],
 ) -> Result<IndexMap<Character, u32>, AllocError> {
     let mut characters = IndexMap::new(alloc);
-    for (glyph, (uses, advance)) in uses.iter().zip(usual.iter()).enumerate() {
-        if *uses > 0 {
-            let glyph = number_of_place(glyph);
+    insert_characters(patterns, found, gaps, uses, usual, &mut characters)?;
+    Ok(characters)
+}
+
+/// Inserts the characters, the most used first.
+fn insert_characters(
+    patterns: &Patterns,
+    found: &Letters,
+    gaps: &IndexMap<Character, u32>,
+    uses: &[u32],
+    usual: &[u32],
+    characters: &mut IndexMap<Character, u32>,
+) -> Result<(), AllocError> {
+    insert_usual(uses, usual, characters)?;
+    insert_others(patterns, found, gaps, usual, characters)?;
+    characters.sort_by_key(|_character, uses| u32::MAX.saturating_sub(*uses))
+}
+
+/// Inserts the usual character of each glyph that has letters.
+fn insert_usual(
+    uses: &[u32],
+    usual: &[u32],
+    characters: &mut IndexMap<Character, u32>,
+) -> Result<(), AllocError> {
+    for (place, advance) in usual.iter().enumerate() {
+        let count = uses.get(place).copied().unwrap_or(0);
+        if count > 0 {
+            let glyph = number_of_place(place);
             let advance = *advance;
-            characters.insert(Character { glyph, advance }, *uses)?;
+            characters.insert(Character { glyph, advance }, count)?;
         }
     }
+    Ok(())
+}
+
+/// Inserts the other characters that save more than they take.
+fn insert_others(
+    patterns: &Patterns,
+    found: &Letters,
+    gaps: &IndexMap<Character, u32>,
+    usual: &[u32],
+    characters: &mut IndexMap<Character, u32>,
+) -> Result<(), AllocError> {
     for (gap, count) in gaps.iter() {
         let is_usual = usual.get(gap.glyph as usize).copied() == Some(gap.advance);
         if !is_usual && pays(patterns, found, *gap, *count) {
             characters.insert(*gap, *count)?;
         }
     }
-    characters.sort_by_key(|_character, uses| u32::MAX.saturating_sub(*uses))?;
-    Ok(characters)
+    Ok(())
 }
 
 /// Whether a character that is used so often saves more bytes than it takes, where each use saves one.
@@ -188,17 +245,37 @@ fn find_blanks(
     usual: &[u32],
 ) -> Result<IndexMap<u32, u32>, AllocError> {
     let mut blanks = IndexMap::new(alloc);
+    count_blanks(gaps, characters, usual, &mut blanks)?;
+    Ok(blanks)
+}
+
+/// Counts the blanks that are needed, and keeps those that are frequent.
+fn count_blanks(
+    gaps: &IndexMap<Character, u32>,
+    characters: &IndexMap<Character, u32>,
+    usual: &[u32],
+    blanks: &mut IndexMap<u32, u32>,
+) -> Result<(), AllocError> {
     for (gap, count) in gaps.iter() {
         let advance = usual.get(gap.glyph as usize).copied().unwrap_or(0);
         if gap.advance > advance && !characters.contains_key(gap) {
-            let total = blanks
-                .entry(gap.advance.saturating_sub(advance))?
-                .or_insert(0u32);
-            *total = total.saturating_add(*count);
+            count_blank(gap.advance.saturating_sub(advance), *count, blanks)?;
         }
     }
+    keep_frequent(blanks)
+}
+
+/// Counts a blank that is there so often.
+fn count_blank(blank: u32, count: u32, blanks: &mut IndexMap<u32, u32>) -> Result<(), AllocError> {
+    let total = blanks.entry(blank)?.or_insert(0u32);
+    *total = total.saturating_add(count);
+    Ok(())
+}
+
+/// Keeps the blanks that are frequent, the most frequent first, up to the limit.
+fn keep_frequent(blanks: &mut IndexMap<u32, u32>) -> Result<(), AllocError> {
     blanks.retain(|_gap: &u32, count: &mut u32| -> bool { *count >= BLANK_USES });
     blanks.sort_by_key(|_gap, count| u32::MAX.saturating_sub(*count))?;
     blanks.truncate(BLANK_LIMIT);
-    Ok(blanks)
+    Ok(())
 }
