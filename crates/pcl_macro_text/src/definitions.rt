@@ -19,13 +19,24 @@ pub fn append_definitions(
     out.extend_from_slice(b"\x1b&u600D")?;
     let mut id: u32 = 0;
     for mark in layout.plan.macros.uses.keys() {
-        append_labelled(b"\x1b&f", id, out)?;
-        out.extend_from_slice(b"y0X")?;
-        append_content(alloc, layout, *mark, out)?;
-        out.extend_from_slice(b"\x1b&f1X")?;
+        append_definition(alloc, layout, id, *mark, out)?;
         id = id.saturating_add(1);
     }
     Ok(())
+}
+
+/// Appends the definition of the macro of a mark, which has this ID.
+fn append_definition(
+    alloc: Global,
+    layout: &MacroLayout,
+    id: u32,
+    mark: Mark,
+    out: &mut Vec<u8>,
+) -> Result<(), AllocError> {
+    append_labelled(b"\x1b&f", id, out)?;
+    out.extend_from_slice(b"y0X")?;
+    append_content(alloc, layout, mark, out)?;
+    out.extend_from_slice(b"\x1b&f1X")
 }
 
 /// Appends what the macro of a mark does.
@@ -102,6 +113,16 @@ fn append_row(
 ) -> Result<bool, AllocError> {
     let mut data = Vec::new(alloc);
     append_data(row, above, &mut data)?;
+    append_transfer(&data, is_open, is_last, out)
+}
+
+/// Appends the data of a row, in a sequence that may be open, and says whether one is open after it.
+fn append_transfer(
+    data: &[u8],
+    is_open: bool,
+    is_last: bool,
+    out: &mut Vec<u8>,
+) -> Result<bool, AllocError> {
     if !is_open {
         out.extend_from_slice(b"\x1b*b")?;
     }
@@ -111,7 +132,7 @@ fn append_row(
     }
     append_labelled(b"", u32::try_from(data.len()).unwrap_or(0), out)?;
     out.extend_from_slice(b"W")?;
-    out.extend_from_slice(&data)?;
+    out.extend_from_slice(data)?;
     Ok(false)
 }
 

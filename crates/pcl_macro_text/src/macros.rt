@@ -1,7 +1,7 @@
 //! The numbers of macros, and running them.
 
 use crate::marks::Mark;
-use crate::phrases::Text;
+use crate::phrases::{Phrase, Text};
 use indexmap::IndexMap;
 use pcl_shapes::{append_labelled, append_signed, number_of_place};
 use std::alloc::{AllocError, Global};
@@ -23,16 +23,7 @@ impl Macros {
     /// The macros of a text: those of its glyphs and phrases, and of gaps that are frequent.
     pub fn new(alloc: Global, text: &Text) -> Result<Macros, AllocError> {
         let mut uses = IndexMap::new(alloc);
-        count_marks(&text.script.marks, &mut uses)?;
-        // A phrase has only marks that come before it.
-        for (number, phrase) in text.phrases.iter().enumerate().rev() {
-            if uses.contains_key(&Mark::Phrase(number_of_place(number))) {
-                count_marks(&phrase.marks, &mut uses)?;
-            }
-        }
-        uses.retain(|mark: &Mark, count: &mut u32| -> bool { has_macro(*mark, *count) });
-        uses.sort_by_key(|_mark, count| u32::MAX.saturating_sub(*count))?;
-        uses.truncate(MACRO_LIMIT);
+        count_text(text, &mut uses)?;
         Ok(Macros { uses })
     }
 
@@ -40,6 +31,32 @@ impl Macros {
     fn id(&self, mark: Mark) -> Option<u32> {
         u32::try_from(self.uses.get_index_of(&mark)?).ok()
     }
+}
+
+/// Counts the marks of a text, and keeps those that have macros.
+fn count_text(text: &Text, uses: &mut IndexMap<Mark, u32>) -> Result<(), AllocError> {
+    count_marks(&text.script.marks, uses)?;
+    count_parts(&text.phrases, uses)?;
+    keep_used(uses)
+}
+
+/// Counts the marks of the phrases that are used.
+fn count_parts(phrases: &[Phrase], uses: &mut IndexMap<Mark, u32>) -> Result<(), AllocError> {
+    // A phrase has only marks that come before it.
+    for number in (0..phrases.len()).rev() {
+        if uses.contains_key(&Mark::Phrase(number_of_place(number))) {
+            count_marks(&phrases[number].marks, uses)?;
+        }
+    }
+    Ok(())
+}
+
+/// Keeps the marks that have macros, the most used first, up to the limit.
+fn keep_used(uses: &mut IndexMap<Mark, u32>) -> Result<(), AllocError> {
+    uses.retain(|mark: &Mark, count: &mut u32| -> bool { has_macro(*mark, *count) });
+    uses.sort_by_key(|_mark, count| u32::MAX.saturating_sub(*count))?;
+    uses.truncate(MACRO_LIMIT);
+    Ok(())
 }
 
 /// Whether a mark that is used so often has a macro.

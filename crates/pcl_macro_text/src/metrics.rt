@@ -47,20 +47,11 @@ pub fn find_metrics(
 ) -> Result<Metrics, AllocError> {
     let pairs = find_pairs(alloc, letters)?;
     let mut fit = Fit::new(alloc, glyphs)?;
-    for _ in 0..MEDIAN_ROUNDS {
-        fit.distances = medians(alloc, &pairs, &fit, Side::Left)?;
-        fit.places = medians(alloc, &pairs, &fit, Side::Right)?;
-    }
-    for _ in 0..MEAN_ROUNDS {
-        fit.distances = means(alloc, &pairs, &fit, Side::Left)?;
-        fit.places = means(alloc, &pairs, &fit, Side::Right)?;
-    }
+    fit.fit(alloc, &pairs)?;
     let shift = whole_shift(&pairs, &fit);
-    let room = find_room(alloc, widths, letters, glyphs)?;
-    let bearings = whole_places(alloc, &fit, shift, &room)?;
+    let bearings = find_bearings(alloc, widths, letters, &fit, shift)?;
     fit.set_places(&bearings, shift);
-    let distances = means(alloc, &pairs, &fit, Side::Left)?;
-    let advances = whole_advances(alloc, &distances, &bearings)?;
+    let advances = find_advances(alloc, &pairs, &fit, &bearings)?;
     Ok(Metrics { advances, bearings })
 }
 
@@ -87,41 +78,69 @@ struct Pair {
 /// How often letters stand so in turn.
 fn count_steps(alloc: Global, letters: &[Letter]) -> Result<IndexMap<Step, u32>, AllocError> {
     let mut steps = IndexMap::new(alloc);
-    for (letter, next) in letters.iter().zip(letters.iter().skip(1)) {
-        if let Some(distance) = letter.gap_to(next) {
-            let left = letter.glyph;
-            let right = next.glyph;
-            let step = Step {
-                left,
-                right,
-                distance,
-            };
-            let count = steps.entry(step)?.or_insert(0u32);
-            *count = count.saturating_add(1);
+    add_steps(letters, &mut steps)?;
+    Ok(steps)
+}
+
+/// Counts how letters stand in turn, and sorts the steps.
+fn add_steps(letters: &[Letter], steps: &mut IndexMap<Step, u32>) -> Result<(), AllocError> {
+    for (place, letter) in letters.iter().enumerate() {
+        if let Some(next) = letters.get(place.saturating_add(1)) {
+            add_step(letter, next, steps)?;
         }
     }
-    steps.sort_keys()?;
-    Ok(steps)
+    steps.sort_keys()
+}
+
+/// Counts how two letters stand in turn, if they are on one line.
+fn add_step(
+    letter: &Letter,
+    next: &Letter,
+    steps: &mut IndexMap<Step, u32>,
+) -> Result<(), AllocError> {
+    if let Some(distance) = letter.gap_to(next) {
+        let left = letter.glyph;
+        let right = next.glyph;
+        let step = Step {
+            left,
+            right,
+            distance,
+        };
+        let count = steps.entry(step)?.or_insert(0u32);
+        *count = count.saturating_add(1);
+    }
+    Ok(())
 }
 
 /// The pairs of glyphs that stand in turn: each with the mean of the two distances next to each other that are the most frequent
 /// together.
 fn find_pairs(alloc: Global, letters: &[Letter]) -> Result<Vec<Pair>, AllocError> {
     let steps = count_steps(alloc, letters)?;
-    let mut pairs: Vec<Pair> = Vec::new(alloc);
+    let mut pairs = Vec::new(alloc);
+    add_pairs(&steps, &mut pairs)?;
+    Ok(pairs)
+}
+
+/// Adds the pairs of steps, which are in order.
+fn add_pairs(steps: &IndexMap<Step, u32>, pairs: &mut Vec<Pair>) -> Result<(), AllocError> {
     for (place, (step, count)) in steps.iter().enumerate() {
         let next = steps.get_index(place.saturating_add(1));
-        let pair = pair_of(*step, *count, next);
-        match pairs.last_mut() {
-            Some(last) if last.left == pair.left && last.right == pair.right => {
-                if pair.count > last.count {
-                    *last = pair;
-                }
-            }
-            _ => pairs.push(pair)?,
-        }
+        add_pair(pair_of(*step, *count, next), pairs)?;
     }
-    Ok(pairs)
+    Ok(())
+}
+
+/// Adds a pair, or puts it in place of the last one if that is of the same glyphs and less frequent.
+fn add_pair(pair: Pair, pairs: &mut Vec<Pair>) -> Result<(), AllocError> {
+    match pairs.last_mut() {
+        Some(last) if last.left == pair.left && last.right == pair.right => {
+            if pair.count > last.count {
+                *last = pair;
+            }
+        }
+        _ => pairs.push(pair)?,
+    }
+    Ok(())
 }
 
 /// The pair of a step, and of the next one if it is a dot longer.
@@ -171,6 +190,31 @@ impl Fit {
         })
     }
 
+    /// Fits all pairs: by medians, and then by means.
+    fn fit(&mut self, alloc: Global, pairs: &[Pair]) -> Result<(), AllocError> {
+        for _ in 0..MEDIAN_ROUNDS {
+            self.take_medians(alloc, pairs)?;
+        }
+        for _ in 0..MEAN_ROUNDS {
+            self.take_means(alloc, pairs)?;
+        }
+        Ok(())
+    }
+
+    /// Takes the medians on both sides.
+    fn take_medians(&mut self, alloc: Global, pairs: &[Pair]) -> Result<(), AllocError> {
+        self.distances = medians(alloc, pairs, self, Side::Left)?;
+        self.places = medians(alloc, pairs, self, Side::Right)?;
+        Ok(())
+    }
+
+    /// Takes the means on both sides.
+    fn take_means(&mut self, alloc: Global, pairs: &[Pair]) -> Result<(), AllocError> {
+        self.distances = means(alloc, pairs, self, Side::Left)?;
+        self.places = means(alloc, pairs, self, Side::Right)?;
+        Ok(())
+    }
+
     /// The numbers of a side.
     fn side(&self, side: Side) -> &[i64] {
         match side {
@@ -194,12 +238,17 @@ impl Fit {
 
     /// Sets the places to whole dots, and the distances so that their sums stay.
     fn set_places(&mut self, bearings: &[i32], shift: i64) {
-        for (place, bearing) in self.places.iter_mut().zip(bearings.iter()) {
-            *place = i64::from(*bearing).saturating_mul(FINE);
-        }
+        set_to_whole(bearings, &mut self.places);
         for distance in self.distances.iter_mut() {
             *distance = distance.saturating_add(shift);
         }
+    }
+}
+
+/// Sets places to these, in dots.
+fn set_to_whole(bearings: &[i32], places: &mut [i64]) {
+    for (glyph, bearing) in bearings.iter().enumerate() {
+        set(places, glyph, i64::from(*bearing).saturating_mul(FINE));
     }
 }
 
@@ -239,6 +288,14 @@ fn means(alloc: Global, pairs: &[Pair], fit: &Fit, side: Side) -> Result<Vec<i64
     let old = fit.side(side);
     let mut sums = vec![in alloc; 0i64; old.len()]?;
     let mut counts = vec![in alloc; 0i64; old.len()]?;
+    add_changes(pairs, fit, side, &mut sums, &mut counts);
+    with_means(alloc, old, &sums, &counts)
+}
+
+/// Adds up what the pairs say of each glyph on a side, beyond what is fitted so far, where that is within a dot, and how often they
+/// do.
+fn add_changes(pairs: &[Pair], fit: &Fit, side: Side, sums: &mut [i64], counts: &mut [i64]) {
+    let old = fit.side(side);
     for pair in pairs {
         let sample = fit.sample(pair, side);
         let change = sample
@@ -246,17 +303,23 @@ fn means(alloc: Global, pairs: &[Pair], fit: &Fit, side: Side) -> Result<Vec<i64
             .saturating_sub(number_of(old, sample.glyph as usize));
         if -FINE <= change && change <= FINE {
             let count = i64::from(sample.count);
-            add(
-                &mut sums,
-                sample.glyph as usize,
-                change.saturating_mul(count),
-            );
-            add(&mut counts, sample.glyph as usize, count);
+            add(sums, sample.glyph as usize, change.saturating_mul(count));
+            add(counts, sample.glyph as usize, count);
         }
     }
+}
+
+/// Each number with the mean of so many changes added to it, of which these are the sums.
+fn with_means(
+    alloc: Global,
+    old: &[i64],
+    sums: &[i64],
+    counts: &[i64],
+) -> Result<Vec<i64>, AllocError> {
     let mut found = Vec::new(alloc);
-    for (number, (sum, count)) in old.iter().zip(sums.iter().zip(counts.iter())) {
-        found.push(number.saturating_add(quotient(*sum, *count)))?;
+    for (glyph, number) in old.iter().enumerate() {
+        let change = quotient(number_of(sums, glyph), number_of(counts, glyph));
+        found.push(number.saturating_add(change))?;
     }
     Ok(found)
 }
@@ -301,6 +364,29 @@ fn nearest_whole(number: i64) -> i32 {
     i32::try_from(number.saturating_add(half).div_euclid(FINE)).unwrap_or(0)
 }
 
+/// For each glyph, how far right of the cursor it stands, in dots, on pages of these widths.
+fn find_bearings(
+    alloc: Global,
+    widths: &[u32],
+    letters: &[Letter],
+    fit: &Fit,
+    shift: i64,
+) -> Result<Vec<i32>, AllocError> {
+    let rooms = find_room(alloc, widths, letters, fit.places.len())?;
+    whole_places(alloc, fit, shift, &rooms)
+}
+
+/// For each glyph, how far the cursor moves, in dots, where the glyphs stand so from the cursor.
+fn find_advances(
+    alloc: Global,
+    pairs: &[Pair],
+    fit: &Fit,
+    bearings: &[i32],
+) -> Result<Vec<i32>, AllocError> {
+    let distances = means(alloc, pairs, fit, Side::Left)?;
+    whole_advances(alloc, &distances, bearings)
+}
+
 /// The places that a glyph may have, in dots.
 #[derive(Clone, Copy)]
 struct Room {
@@ -340,8 +426,8 @@ fn whole_places(
     rooms: &[Room],
 ) -> Result<Vec<i32>, AllocError> {
     let mut bearings = Vec::new(alloc);
-    for (place, room) in fit.places.iter().zip(rooms.iter()) {
-        let bearing = nearest_whole(place.saturating_sub(shift));
+    for (glyph, room) in rooms.iter().enumerate() {
+        let bearing = nearest_whole(number_of(&fit.places, glyph).saturating_sub(shift));
         bearings.push(bearing.max(room.least).min(room.most))?;
     }
     Ok(bearings)
@@ -354,8 +440,9 @@ fn whole_advances(
     bearings: &[i32],
 ) -> Result<Vec<i32>, AllocError> {
     let mut advances = Vec::new(alloc);
-    for (distance, bearing) in distances.iter().zip(bearings.iter()) {
-        let advance = distance.saturating_add(i64::from(*bearing).saturating_mul(FINE));
+    for (glyph, bearing) in bearings.iter().enumerate() {
+        let place = i64::from(*bearing).saturating_mul(FINE);
+        let advance = number_of(distances, glyph).saturating_add(place);
         advances.push(nearest_whole(advance))?;
     }
     Ok(advances)

@@ -58,8 +58,13 @@ impl Text {
     /// Joins the pairs that are frequent.
     fn join(&mut self, alloc: Global) -> Result<(), AllocError> {
         let pairs = self.frequent_pairs(alloc)?;
-        self.add_phrases(alloc, &pairs)?;
-        self.script = self.joined(alloc, &pairs)?;
+        self.join_pairs(alloc, &pairs)
+    }
+
+    /// Joins these pairs.
+    fn join_pairs(&mut self, alloc: Global, pairs: &IndexMap<Pair, u32>) -> Result<(), AllocError> {
+        self.add_phrases(alloc, pairs)?;
+        self.script = self.joined(alloc, pairs)?;
         Ok(())
     }
 
@@ -186,16 +191,26 @@ fn count_pairs(alloc: Global, script: &Script) -> Result<IndexMap<Pair, u32>, Al
     for line in script.lines.iter() {
         let marks = script.marks_of(line, start);
         start = line.end;
-        for (first, second) in marks.iter().zip(marks.iter().skip(1)) {
-            let pair = Pair {
-                first: *first,
-                second: *second,
-            };
-            let count = counts.entry(pair)?.or_insert(0u32);
-            *count = count.saturating_add(1);
-        }
+        count_pairs_on_line(marks, &mut counts)?;
     }
     Ok(counts)
+}
+
+/// Counts each two marks that stand in turn on a line.
+fn count_pairs_on_line(marks: &[Mark], counts: &mut IndexMap<Pair, u32>) -> Result<(), AllocError> {
+    for place in 0..marks.len() {
+        if let Some(pair) = two_at(marks, place) {
+            count_pair(pair, counts)?;
+        }
+    }
+    Ok(())
+}
+
+/// Counts a pair.
+fn count_pair(pair: Pair, counts: &mut IndexMap<Pair, u32>) -> Result<(), AllocError> {
+    let count = counts.entry(pair)?.or_insert(0u32);
+    *count = count.saturating_add(1);
+    Ok(())
 }
 
 /// How often each of these pairs would be joined.
@@ -225,8 +240,7 @@ fn count_uses_on_line(
         if is_joined {
             is_joined = false;
         } else if let Some(pair) = pair_at(marks, place, pairs) {
-            let count = uses.entry(pair)?.or_insert(0u32);
-            *count = count.saturating_add(1);
+            count_pair(pair, uses)?;
             is_joined = true;
         }
     }
