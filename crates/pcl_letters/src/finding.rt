@@ -1,6 +1,6 @@
 //! The shapes that are printed as letters.
 
-use crate::frequency::find_frequency;
+use crate::frequency::{Frequency, find_frequency};
 use indexmap::{IndexMap, IndexSet};
 use pcl_shapes::{Collection, Glyph, Item, Letter, Letters, number_of_place};
 use std::alloc::{AllocError, Global};
@@ -9,20 +9,47 @@ use std::alloc::{AllocError, Global};
 pub fn find_letters(alloc: Global, collection: &Collection) -> Result<Letters, AllocError> {
     let tops = usual_tops(alloc, collection)?;
     let frequency = find_frequency(alloc, collection)?;
-    let mut glyphs = IndexSet::new(alloc);
-    let mut letters = Vec::new(alloc);
+    let mut found = Letters {
+        glyphs: IndexSet::new(alloc),
+        letters: Vec::new(alloc),
+    };
+    append_letters(collection, &tops, &frequency, &mut found)?;
+    found.letters.sort_unstable();
+    Ok(found)
+}
+
+/// Appends the letters of a job, where their patterns mostly stand so.
+fn append_letters(
+    collection: &Collection,
+    tops: &[u32],
+    frequency: &Frequency,
+    found: &mut Letters,
+) -> Result<(), AllocError> {
     for item in collection.items.iter() {
-        let pattern = item.pattern;
-        let top = tops.get(pattern as usize).copied().unwrap_or(0);
-        let baseline = u32::from(item.top).saturating_add(top);
-        let height = collection.height_of(item.page);
-        if frequency.is_letter(pattern) && baseline <= height {
-            let (glyph, _) = glyphs.insert_full(Glyph { pattern, top })?;
-            letters.push(letter_of(item, baseline, number_of_place(glyph)))?;
+        if frequency.is_letter(item.pattern) {
+            let top = tops.get(item.pattern as usize).copied().unwrap_or(0);
+            append_letter(item, top, collection.height_of(item.page), found)?;
         }
     }
-    letters.sort_unstable();
-    Ok(Letters { glyphs, letters })
+    Ok(())
+}
+
+/// Appends a shape as a letter whose topmost row lies so far above the baseline, if that is on its page, which has this height.
+fn append_letter(
+    item: &Item,
+    top: u32,
+    height: u32,
+    found: &mut Letters,
+) -> Result<(), AllocError> {
+    let pattern = item.pattern;
+    let baseline = u32::from(item.top).saturating_add(top);
+    if baseline <= height {
+        let (glyph, _) = found.glyphs.insert_full(Glyph { pattern, top })?;
+        found
+            .letters
+            .push(letter_of(item, baseline, number_of_place(glyph)))?;
+    }
+    Ok(())
 }
 
 /// The letter that a shape becomes.
@@ -55,6 +82,12 @@ fn usual_tops(alloc: Global, collection: &Collection) -> Result<Vec<u32>, AllocE
     let stands = count_stands(alloc, &collection.items)?;
     let nothing = Usual { top: 0, count: 0 };
     let mut usual = vec![in alloc; nothing; collection.patterns.len()]?;
+    find_most(&stands, &mut usual);
+    usual.iter().map(|usual| usual.top).collect(alloc)
+}
+
+/// Finds the way in which most shapes of each pattern stand.
+fn find_most(stands: &IndexMap<Glyph, u32>, usual: &mut [Usual]) {
     for (stand, count) in stands.iter() {
         if let Some(best) = usual.get_mut(stand.pattern as usize) {
             if *count > best.count {
@@ -65,7 +98,6 @@ fn usual_tops(alloc: Global, collection: &Collection) -> Result<Vec<u32>, AllocE
             }
         }
     }
-    usual.iter().map(|usual| usual.top).collect(alloc)
 }
 
 /// How often shapes of each pattern seem to stand so.

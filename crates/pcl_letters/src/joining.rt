@@ -40,15 +40,24 @@ struct Apart<'a> {
 pub fn join_shapes(alloc: Global, collection: &mut Collection) -> Result<(), AllocError> {
     let frequency = find_frequency(alloc, collection)?;
     for _ in 0..ROUNDS {
-        collection.items.sort()?;
-        let pairs = find_pairs(alloc, collection, &frequency)?;
-        if pairs.is_empty() {
-            // No round after this one finds any either.
+        if !join_once(alloc, collection, &frequency)? {
+            // No round after this one finds any pair either.
             break;
         }
-        join(alloc, collection, &pairs)?;
     }
     Ok(())
+}
+
+/// Joins shapes two by two, and says whether there were any to join.
+fn join_once(
+    alloc: Global,
+    collection: &mut Collection,
+    frequency: &Frequency,
+) -> Result<bool, AllocError> {
+    collection.items.sort()?;
+    let pairs = find_pairs(alloc, collection, frequency)?;
+    join(alloc, collection, &pairs)?;
+    Ok(!pairs.is_empty())
 }
 
 /// The pairs that take fewer bytes as one, and how often each is joined.
@@ -62,10 +71,19 @@ fn find_pairs(
         frequency,
         uses: &uses,
     };
+    let pairs = joined_pairs(alloc, collection, apart)?;
+    shorter_pairs(alloc, collection, apart, &pairs)
+}
+
+/// The first pairs, and how often each would be joined.
+fn joined_pairs(
+    alloc: Global,
+    collection: &Collection,
+    apart: Apart<'_>,
+) -> Result<IndexMap<Pair, usize>, AllocError> {
     let pairs = first_pairs(alloc, collection, apart)?;
     // A pair may overlap another that is more frequent: what counts is how often it would be joined.
-    let pairs = count_joined(alloc, collection, &pairs)?;
-    shorter_pairs(alloc, collection, apart, &pairs)
+    count_joined(alloc, collection, &pairs)
 }
 
 /// The pairs that would take fewer bytes as one if all of them were joined.
@@ -86,13 +104,19 @@ fn count_pairs(
     let mut counts = IndexMap::new(alloc);
     for place in 0..collection.items.len() {
         if let Some(pair) = two_at(collection, place) {
-            if counts.len() < PAIR_LIMIT || counts.contains_key(&pair) {
-                let count = counts.entry(pair)?.or_insert(0usize);
-                *count = count.saturating_add(1);
-            }
+            count_pair(pair, &mut counts)?;
         }
     }
     Ok(counts)
+}
+
+/// Counts a pair, unless it is of one kind too many.
+fn count_pair(pair: Pair, counts: &mut IndexMap<Pair, usize>) -> Result<(), AllocError> {
+    if counts.len() < PAIR_LIMIT || counts.contains_key(&pair) {
+        let count = counts.entry(pair)?.or_insert(0usize);
+        *count = count.saturating_add(1);
+    }
+    Ok(())
 }
 
 /// The pair of two shapes, the first of which begins no further right: none where they stand on two lines, or beside each other.
@@ -119,12 +143,24 @@ fn shorter_pairs(
     counts: &IndexMap<Pair, usize>,
 ) -> Result<IndexMap<Pair, usize>, AllocError> {
     let mut kept = IndexMap::new(alloc);
+    keep_shorter(alloc, collection, apart, counts, &mut kept)?;
+    Ok(kept)
+}
+
+/// Keeps those of some pairs that take fewer bytes as one, where they are joined so often.
+fn keep_shorter(
+    alloc: Global,
+    collection: &Collection,
+    apart: Apart<'_>,
+    counts: &IndexMap<Pair, usize>,
+    kept: &mut IndexMap<Pair, usize>,
+) -> Result<(), AllocError> {
     for (pair, count) in counts.iter() {
         if apart.is_longer(alloc, collection, *pair, *count)? {
             kept.insert(*pair, *count)?;
         }
     }
-    Ok(kept)
+    Ok(())
 }
 
 impl<'a> Apart<'a> {
@@ -221,8 +257,7 @@ fn count_joined(
         if is_joined {
             is_joined = false;
         } else if let Some(pair) = pair_at(collection, place, pairs) {
-            let count = counts.entry(pair)?.or_insert(0usize);
-            *count = count.saturating_add(1);
+            count_pair(pair, &mut counts)?;
             is_joined = true;
         }
     }
@@ -247,22 +282,47 @@ fn two_at(collection: &Collection, place: usize) -> Option<Pair> {
     pair_of(&collection.patterns, first, second)
 }
 
-/// Joins these pairs.
+/// Joins these pairs, if there are any.
 fn join(
     alloc: Global,
     collection: &mut Collection,
     pairs: &IndexMap<Pair, usize>,
 ) -> Result<(), AllocError> {
-    let mut numbers = IndexMap::new(alloc);
-    for pair in pairs.keys() {
-        if let Some(joined) = draw_pair(alloc, collection, *pair)? {
-            let number = collection
-                .patterns
-                .number_of_drawing(&joined, collection.form)?;
-            numbers.insert(*pair, number)?;
-        }
+    if pairs.is_empty() {
+        return Ok(());
     }
+    let mut numbers = IndexMap::new(alloc);
+    add_patterns(alloc, collection, pairs, &mut numbers)?;
     join_items(collection, pairs, &numbers);
+    Ok(())
+}
+
+/// Adds the patterns of these pairs, and their numbers.
+fn add_patterns(
+    alloc: Global,
+    collection: &mut Collection,
+    pairs: &IndexMap<Pair, usize>,
+    numbers: &mut IndexMap<Pair, u32>,
+) -> Result<(), AllocError> {
+    for pair in pairs.keys() {
+        add_pattern(alloc, collection, *pair, numbers)?;
+    }
+    Ok(())
+}
+
+/// Adds the pattern of a pair, and its number.
+fn add_pattern(
+    alloc: Global,
+    collection: &mut Collection,
+    pair: Pair,
+    numbers: &mut IndexMap<Pair, u32>,
+) -> Result<(), AllocError> {
+    if let Some(joined) = draw_pair(alloc, collection, pair)? {
+        let number = collection
+            .patterns
+            .number_of_drawing(&joined, collection.form)?;
+        numbers.insert(pair, number)?;
+    }
     Ok(())
 }
 
