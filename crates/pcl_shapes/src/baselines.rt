@@ -36,11 +36,11 @@ pub fn guess_baseline(extent: Extent, bottoms: &[u32], scale: u32) -> u32 {
     let last = u32::from(extent.bottom).saturating_add(REACH.saturating_mul(scale));
     let mut best = u32::from(extent.bottom);
     let mut most = bottoms.get(best as usize).copied().unwrap_or(0);
-    let rows = bottoms.get(middle as usize..).unwrap_or(&[]);
-    for (y, count) in (middle..last).zip(rows.iter()) {
-        if *count > most {
+    for y in middle..last {
+        let count = bottoms.get(y as usize).copied().unwrap_or(0);
+        if count > most {
             best = y;
-            most = *count;
+            most = count;
         }
     }
     best

@@ -81,7 +81,6 @@ impl Collection {
     /// Collects the shapes of a page, and what its rows take.
     fn collect(&mut self, page: &Page) -> Result<(), AllocError> {
         let alloc = *self.items.allocator();
-        let scale = self.form.scale();
         let shapes = find_shapes(alloc, &page.bitmap)?;
         let first = self.rows.len();
         append_rows(&page.bitmap, &mut self.rows)?;
@@ -90,6 +89,7 @@ impl Collection {
         if stay.iter().all(|stays| *stays) {
             return Ok(());
         }
+        let scale = self.form.scale();
         let mut drawings = Drawings::new(alloc, &shapes, &stay, scale)?;
         let height = page.size.height(page.dpi);
         let bottoms = count_bottoms(alloc, height, &shapes.extents, scale)?;
@@ -109,16 +109,8 @@ impl Collection {
         let start = self.items.len();
         let mut walk = RowWalk::new(*self.items.allocator());
         for y in 0..bitmap.size().height(bitmap.dpi()) {
-            let others = match runs.row(y) {
-                Some(runs) => drawings.draw_row(short_number(y), runs)?,
-                None => {
-                    walk.step(bitmap, y)?;
-                    drawings.draw_row(short_number(y), &walk.runs)?
-                }
-            };
-            if let Some(row) = self.rows.get_mut(first.saturating_add(y as usize)) {
-                row.others = row.others.saturating_add(others);
-            }
+            let others = draw_row(bitmap, runs, y, &mut walk, drawings)?;
+            count_others(&mut self.rows, first.saturating_add(y as usize), others);
             self.collect_whole(short_number(y), first, drawings, bottoms)?;
         }
         let start = start.min(self.items.len());
@@ -164,6 +156,31 @@ impl Collection {
             pattern,
         })?;
         Ok(())
+    }
+}
+
+/// Draws row `y` of a page, the next one, and counts the runs of shapes that aren't drawn and don't stay. Its runs are found once more
+/// where they aren't kept.
+fn draw_row(
+    bitmap: &Bitmap,
+    runs: &KeptRuns,
+    y: u32,
+    walk: &mut RowWalk,
+    drawings: &mut Drawings<'_>,
+) -> Result<u16, AllocError> {
+    match runs.row(y) {
+        Some(runs) => drawings.draw_row(short_number(y), runs),
+        None => {
+            walk.step(bitmap, y)?;
+            drawings.draw_row(short_number(y), &walk.runs)
+        }
+    }
+}
+
+/// Counts other runs of the row in a place.
+fn count_others(rows: &mut [Row], place: usize, others: u16) {
+    if let Some(row) = rows.get_mut(place) {
+        row.others = row.others.saturating_add(others);
     }
 }
 

@@ -58,16 +58,26 @@ impl<'a> Drawings<'a> {
         self.begin(y)?;
         let mut others: u16 = 0;
         for run in runs {
-            let number = self.shapes.number_of(*run);
-            if self.stay.get(number) == Some(&true) {
-                continue;
-            }
-            match self.shapes.extents.get(number) {
-                Some(extent) if self.has(number) => self.blacken(number, *extent, y, *run),
-                _ => others = others.saturating_add(1),
+            if !self.draw_run(y, *run) {
+                others = others.saturating_add(1);
             }
         }
         Ok(others)
+    }
+
+    /// Draws a run of row `y`, unless its shape stays in the raster. Says whether that stays or is drawn.
+    fn draw_run(&mut self, y: u16, run: Run) -> bool {
+        let number = self.shapes.number_of(run);
+        if self.stay.get(number) == Some(&true) {
+            return true;
+        }
+        match self.shapes.extents.get(number) {
+            Some(extent) if self.has(number) => {
+                self.blacken(number, *extent, y, run);
+                true
+            }
+            _ => false,
+        }
     }
 
     /// Begins the shapes whose topmost row is `y`, with white boxes.
@@ -118,15 +128,20 @@ impl<'a> Drawings<'a> {
 
     /// A shape that is held: none where it isn't drawn.
     pub fn shape(&self, number: usize) -> Option<(Extent, Pattern<'_>)> {
-        let extent = self.shapes.extents.get(number)?;
-        let end = self.place_of(number.saturating_add(1));
-        let rows = self.bytes.get(..end)?.get(self.place_of(number)..)?;
+        let extent = *self.shapes.extents.get(number)?;
         let pattern = Pattern {
             width: extent.width(),
             height: extent.height(),
-            rows,
+            rows: self.rows_of(number)?,
         };
-        (!rows.is_empty()).then_some((*extent, pattern))
+        Some((extent, pattern))
+    }
+
+    /// The rows of a shape that is held: none where it isn't drawn.
+    fn rows_of(&self, number: usize) -> Option<&[u8]> {
+        let end = self.place_of(number.saturating_add(1));
+        let rows = self.bytes.get(..end)?.get(self.place_of(number)..)?;
+        (!rows.is_empty()).then_some(rows)
     }
 
     /// Forgets the shapes before this one. Their bytes go once they are half of those that are held.

@@ -3,7 +3,7 @@
 //! What shapes take in a row depends on what else is in it: they share the bytes around its data, and many small ones share each byte of
 //! these. So each row is taken to cost what its data take, and each shape its part of that, by its weight.
 
-use crate::lists::quotient;
+use crate::lists::{number_of, quotient};
 use crate::rows::{ROW_BYTES, Row};
 use std::alloc::{AllocError, Global};
 
@@ -16,9 +16,9 @@ pub fn sum_parts(alloc: Global, rows: &[Row], changes: &[i64]) -> Result<Vec<i64
     let mut sums = Vec::new(alloc);
     let mut weight: i64 = 0;
     let mut sum: i64 = 0;
-    for (row, change) in rows.iter().zip(changes.iter()) {
+    for (place, row) in rows.iter().enumerate() {
         sums.push(sum)?;
-        weight = weight.saturating_add(*change);
+        weight = weight.saturating_add(number_of(changes, place));
         sum = sum.saturating_add(part_of(row, weight));
     }
     sums.push(sum)?;

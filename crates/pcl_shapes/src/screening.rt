@@ -87,8 +87,8 @@ fn most_bytes(extent: &Extent, sums: &[i64]) -> i64 {
 /// Adds the weight of shapes to that of the others in each row.
 fn add_others(rows: &mut [Row], changes: &[i64]) {
     let mut weight: i64 = 0;
-    for (row, change) in rows.iter_mut().zip(changes.iter()) {
-        weight = weight.saturating_add(*change);
+    for (place, row) in rows.iter_mut().enumerate() {
+        weight = weight.saturating_add(number_of(changes, place));
         let bytes = u16::try_from(quotient(weight, FINE)).unwrap_or(u16::MAX);
         row.others = row.others.saturating_add(bytes);
     }
