@@ -24,17 +24,32 @@ pub struct AskedBatch<'w> {
 
 /// What the words of a command line ask for, or the help, the version or the fault to print.
 pub fn parse_request<'w, S: AsStr>(alloc: Global, words: &'w [S]) -> Result<Request<'w>, Error> {
-    let matches = pclmin(alloc)?.try_get_matches_from(words)?;
-    match request_of(&matches) {
+    let matches = matches_of(alloc, words)?;
+    request_or_fault(alloc, &matches)
+}
+
+/// The batch that the words of a command line ask for, or the help or the fault to print.
+pub fn parse_batch<'w, S: AsStr>(alloc: Global, words: &'w [S]) -> Result<AskedBatch<'w>, Error> {
+    let matches = matches_of(alloc, words)?;
+    batch_or_fault(alloc, &matches)
+}
+
+/// The words of a command line, told apart.
+fn matches_of<'w, S: AsStr>(alloc: Global, words: &'w [S]) -> Result<ArgMatches<'w>, Error> {
+    pclmin(alloc)?.try_get_matches_from(words)
+}
+
+/// What words ask for, or the fault to print.
+fn request_or_fault<'w>(alloc: Global, matches: &ArgMatches<'w>) -> Result<Request<'w>, Error> {
+    match request_of(matches) {
         Ok(request) => Ok(request),
         Err(wrong) => Err(wrong.error(alloc)?),
     }
 }
 
-/// The batch that the words of a command line ask for, or the help or the fault to print.
-pub fn parse_batch<'w, S: AsStr>(alloc: Global, words: &'w [S]) -> Result<AskedBatch<'w>, Error> {
-    let matches = pclmin(alloc)?.try_get_matches_from(words)?;
-    match batch_of(&matches) {
+/// The batch that words ask for, or the fault to print.
+fn batch_or_fault<'w>(alloc: Global, matches: &ArgMatches<'w>) -> Result<AskedBatch<'w>, Error> {
+    match batch_of(matches) {
         Ok((batch, command)) => Ok(AskedBatch {
             batch,
             paths: batch_paths(alloc, command)?,
