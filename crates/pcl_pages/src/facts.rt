@@ -208,22 +208,33 @@ impl JobFacts {
         mut pages: Vec<PageFacts>,
         asks: &Asks<'_>,
     ) -> Result<JobFacts, AllocError> {
-        let mut total = Total::NOTHING;
-        for (page, asked) in pages.iter_mut().zip(asks.pages.iter()) {
-            *page = page.asked(asked);
-            total = total.with(page);
-        }
-        let mut exits = Vec::new(alloc);
-        for exit in asks.exits.iter() {
-            exits.push(ExitFacts::of_exit(alloc, exit)?)?;
-        }
+        let total = total_asked(&mut pages, &asks.pages);
         Ok(JobFacts {
             dpi: dpi.dots(),
+            exits: exits_of(alloc, &asks.exits)?,
             pages,
-            exits,
             total,
         })
     }
+}
+
+/// Gives each page what it is asked with, and sums the pages up.
+fn total_asked(pages: &mut [PageFacts], asks: &[Asked]) -> Total {
+    let mut total = Total::NOTHING;
+    for (page, asked) in pages.iter_mut().zip(asks.iter()) {
+        *page = page.asked(asked);
+        total = total.with(page);
+    }
+    total
+}
+
+/// What is known of the exits of a job.
+fn exits_of(alloc: Global, exits: &[Exit<'_>]) -> Result<Vec<ExitFacts>, AllocError> {
+    let mut facts = Vec::new(alloc);
+    for exit in exits {
+        facts.push(ExitFacts::of_exit(alloc, exit)?)?;
+    }
+    Ok(facts)
 }
 
 /// How many dots of a page are black.

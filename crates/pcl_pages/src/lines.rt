@@ -9,70 +9,68 @@ const HEADER: &str =
 
 /// A header, a line for each page, and one of the sums.
 pub fn table(alloc: Global, facts: &JobFacts) -> Result<Vec<u8>, AllocError> {
-    let mut text = Vec::from_slice(alloc, HEADER.as_bytes())?;
-    for page in &facts.pages {
-        let line = page_line(alloc, facts.dpi, page)?;
-        text.extend_from_slice(line.as_bytes())?;
-    }
-    let line = total_line(alloc, facts.dpi, &facts.total)?;
-    text.extend_from_slice(line.as_bytes())?;
-    Ok(text)
+    let mut text = String::from_str(alloc, HEADER)?;
+    append_lines(facts, &mut text)?;
+    Ok(text.into_bytes())
 }
 
-/// The line of a page.
-fn page_line(alloc: Global, dpi: u32, facts: &PageFacts) -> Result<String, AllocError> {
-    let sides = asked(alloc, facts.sides)?;
-    let source = asked(alloc, facts.source)?;
-    let black = percent(alloc, facts.black_dots, facts.dots)?;
-    let data = data_columns(alloc, facts.data)?;
+/// Appends the lines after the header.
+fn append_lines(facts: &JobFacts, text: &mut String) -> Result<(), AllocError> {
+    for page in &facts.pages {
+        append_page(facts.dpi, page, text)?;
+    }
+    append_total(facts.dpi, &facts.total, text)
+}
+
+/// Appends the line of a page.
+fn append_page(dpi: u32, facts: &PageFacts, text: &mut String) -> Result<(), AllocError> {
     let PageFacts {
         page,
         size,
         copies,
-        bytes,
         ..
     } = *facts;
-    format!(in alloc;
-        "{page}\t{dpi}\t{size}\t{copies}\t{sides}\t{source}\t{black}\t{bytes}\t{data}\n"
-    )
+    write!(text, "{page}\t{dpi}\t{size}\t{copies}\t")?;
+    append_asked(facts.sides, text)?;
+    append_asked(facts.source, text)?;
+    append_percent(facts.black_dots, facts.dots, text)?;
+    append_bytes(facts.bytes, facts.data, text)
 }
 
-/// The line of the sums.
-fn total_line(alloc: Global, dpi: u32, total: &Total) -> Result<String, AllocError> {
-    let black = percent(alloc, total.black_dots, total.dots)?;
-    let data = data_columns(alloc, total.data)?;
-    let Total {
-        pages,
-        copies,
-        bytes,
-        ..
-    } = *total;
-    format!(in alloc; "{pages}\t{dpi}\ttotal\t{copies}\t\t\t{black}\t{bytes}\t{data}\n")
+/// Appends the line of the sums.
+fn append_total(dpi: u32, total: &Total, text: &mut String) -> Result<(), AllocError> {
+    let Total { pages, copies, .. } = *total;
+    write!(text, "{pages}\t{dpi}\ttotal\t{copies}\t\t\t")?;
+    append_percent(total.black_dots, total.dots, text)?;
+    append_bytes(total.bytes, total.data, text)
 }
 
-/// The columns of the bytes by method.
-fn data_columns(alloc: Global, data: DataBytes) -> Result<String, AllocError> {
+/// Appends the last columns of a line: bytes, and those of row data by method.
+fn append_bytes(bytes: usize, data: DataBytes, text: &mut String) -> Result<(), AllocError> {
     let DataBytes {
         method_0,
         method_1,
         method_2,
         method_3,
     } = data;
-    format!(in alloc; "{method_0}\t{method_1}\t{method_2}\t{method_3}")
+    write!(
+        text,
+        "{bytes}\t{method_0}\t{method_1}\t{method_2}\t{method_3}\n"
+    )
 }
 
-/// What is asked, or a dash.
-fn asked(alloc: Global, value: Option<i32>) -> Result<String, AllocError> {
+/// Appends the column of what is asked, or of a dash.
+fn append_asked(value: Option<i32>, text: &mut String) -> Result<(), AllocError> {
     match value {
-        Some(value) => format!(in alloc; "{value}"),
-        None => String::from_str(alloc, "-"),
+        Some(value) => write!(text, "{value}\t"),
+        None => text.push_str("-\t"),
     }
 }
 
-/// A share in percent, with two digits after the point.
-fn percent(alloc: Global, part: u64, whole: u64) -> Result<String, AllocError> {
+/// Appends the column of a share in percent, with two digits after the point.
+fn append_percent(part: u64, whole: u64, text: &mut String) -> Result<(), AllocError> {
     let permyriad = part.saturating_mul(10_000).checked_div(whole).unwrap_or(0);
     let percent = permyriad / 100;
     let rest = permyriad % 100;
-    format!(in alloc; "{percent}.{rest:02}")
+    write!(text, "{percent}.{rest:02}\t")
 }
