@@ -7,4 +7,3 @@ pub mod Inked
 pub mod Spread
 pub mod KernelLanes
 pub mod Cut
-pub mod Parts

@@ -1,16 +1,14 @@
 -- Pictures.
-use Rattle.std.proofs.Common.{◌≡◌, ℕ, ◌+◌, ◌*◌, ◌^◌, ◌<◌, ◌≤◌, false, List, length, replicate, refl, sym, ap, ◌∙◌, subst, lit<, arith}
+use Rattle.std.proofs.Common.{◌≡◌, ℕ, ◌*◌, ◌^◌, ◌<◌, ◌≤◌, false, List, length, replicate, refl, sym, ap, ◌∙◌, subst, lit<, arith}
 use Rattle.std.proofs.lemmas.List.{length-replicate}
 use Rattle.std.proofs.lemmas.List.Elements.{All-replicate}
 use Rattle.std.proofs.lemmas.Nat.{mul-le}
 use Rattle.pcl_base.specs.declared.dpi.Dpi.{Dpi}
 use Rattle.pcl_base.specs.declared.size.Size.{Size}
-use Rattle.pcl_base.specs.declared.dpi.Dpi.TheVariants.{Dpi300, Dpi600}
-use Rattle.pcl_base.specs.declared.size.Size.TheVariants.{Executive, Letter, Legal, A4}
 use Rattle.pcl_base.specs.Size.{page_width, page_height, page_row_bytes}
 use Rattle.pcl_base.proofs.PageBounds.{width_small, height_small}
 use Rattle.pcl_bitmap.specs.Bitmap.{Picture, IsPicture, dot, blank_bytes, blank_picture}
-use Rattle.pcl_bitmap.proofs.Pages.{same_pages, dot_of_zeros, rows_apart}
+use Rattle.pcl_bitmap.proofs.Pages.{same_pages, dot_of_zeros}
 
 -- a picture by its parts
 abbrev pub picture_of : Size → Dpi → List ℕ → Picture
@@ -55,21 +53,24 @@ page_bytes_limit size dpi =
     let high = height_small size dpi in
     omega (arith, mul-le (page_height size dpi) (page_row_bytes size dpi) 8400 600 high (omega (arith, width_small size dpi)))
 
--- the bytes of the first rows of a page are bytes of it
-pub rows_on_page :
-    (size : Size) (dpi : Dpi) (bytes : List ℕ) (n r : ℕ)
-    → length bytes ≡ page_height size dpi * page_row_bytes size dpi → n ≤ page_height size dpi → r ≡ page_row_bytes size dpi
-    → n * r ≤ length bytes
-rows_on_page size dpi bytes n r whole on_page row =
-    omega (arith, mul-le n r (page_height size dpi) (page_row_bytes size dpi) on_page (omega arith), whole)
+-- the bytes of the first n rows of a page, r bytes each, are bytes of it, and a row has room for the page's width
+pub record HasRoom (width n r : ℕ) (bytes : List ℕ) : Type 0 where
+  pub wide : width ≤ 8 * r
+  pub high : n * r ≤ length bytes
+  pub small : length bytes < 2 ^ 32
 
--- row y of a page is within its bytes
-pub row_on_page :
-    (size : Size) (dpi : Dpi) (bytes : List ℕ) (y r : ℕ)
-    → length bytes ≡ page_height size dpi * page_row_bytes size dpi → y < page_height size dpi → r ≡ page_row_bytes size dpi
-    → y * r + r ≤ length bytes
-row_on_page size dpi bytes y r whole on_page row =
-    omega (arith, rows_apart y (y + 1) r (omega arith), rows_on_page size dpi bytes (y + 1) r whole (omega arith) row)
+-- bytes that were lent of a picture have this room
+pub lent_room :
+    (size : Size) (dpi : Dpi) {bytes lent : List ℕ} {r : ℕ}
+    → IsPicture (picture_of size dpi bytes) → lent ≡ bytes → (n : ℕ) → n ≤ page_height size dpi → r ≡ page_row_bytes size dpi
+    → HasRoom (page_width size dpi) n r lent
+lent_room size dpi {bytes} {lent} {r} picture e_lent n on_page e_r =
+    let whole : length lent ≡ page_height size dpi * page_row_bytes size dpi = ap (λ (t : List ℕ). length t) e_lent ∙ picture.whole in
+    record {
+      wide = omega (arith, wide_rows size dpi);
+      high = omega (arith, mul-le n r (page_height size dpi) (page_row_bytes size dpi) on_page (omega arith));
+      small = omega (arith, page_bytes_limit size dpi);
+    }
 
 -- a white page
 pub blank_dots : (size : Size) (dpi : Dpi) (x y : ℕ) → dot (blank_picture size dpi) x y ≡ false

@@ -1,10 +1,11 @@
-use Rattle.std.proofs.Common.{◌≡◌, ℕ, ◌-◌, ◌/◌, ◌<◌, get_or, refl, ap, ◌∙◌, arith}
-use Rattle.pcl_bitmap.specs.Bitmap.{bit_of_byte, dot_of_row}
-use Rattle.pcl_bitmap.proofs.Parts.{part_more, no_part, pair_bits}
+use Rattle.std.proofs.Common.{◌≡◌, ℕ, ◌-◌, ◌/◌, ◌<◌, get_or, refl, arith}
+use Rattle.std.proofs.lemmas.Bool.Decides.{nat_tests}
+use Rattle.pcl_bitmap.specs.Bitmap.{dot_of_row}
+use Rattle.pcl_bitmap.proofs.Runs.{part_more, pair_bits}
 use Rattle.pcl_bitmap.proofs.bits.or_pairs.Goals as goal
 
 pub loop-i-init : goal.loop-i-init
-loop-i-init c k = no_part c.args.first k (dot_of_row c.args.source.now (k - c.args.from)) (dot_of_row c.args.target.now k)
+loop-i-init c k = grind (arith, nat_tests)
 
 pub loop-i-preserved : goal.loop-i-preserved
 loop-i-preserved c =
@@ -15,8 +16,8 @@ loop-i-preserved c =
     let byte : get_or source place 0 < 256 = omega (arith, c.type_inv.source place) in
     part_more c.args.target.now c.loop-i.target c.args.first i c.bits_of_pair.result (λ k. dot_of_row source (k - from))
     (omega arith) (omega arith)
-    (λ k small. ap (λ b. bit_of_byte b k) c.bits_of_pair.ensures
-    ∙ pair_bits source from i (get_or source (place - 1) 0) (get_or source place 0) byte (omega arith) refl refl k small)
+    (λ k small. rw c.bits_of_pair.ensures
+    (pair_bits source from i (get_or source (place - 1) 0) (get_or source place 0) byte (omega arith) refl refl k small))
     c.loop-i.invariant
 
 pub returns : goal.returns

@@ -1,13 +1,11 @@
 use Rattle.std.proofs.Common.{◌≡◌, bit_and, arith}
-use Rattle.pcl_bitmap.specs.Bitmap.{dot_of_row}
+use Rattle.std.proofs.lemmas.Bool.Decides.{nat_tests}
 use Rattle.pcl_bitmap.specs.Dots.{run_dot}
-use Rattle.pcl_bitmap.proofs.Runs.{added_bits}
-use Rattle.pcl_bitmap.proofs.Parts.{part_more, no_part}
+use Rattle.pcl_bitmap.proofs.Runs.{added_bits, part_more}
 use Rattle.pcl_bitmap.proofs.bits.or_part.Goals as goal
 
 pub loop-i-init : goal.loop-i-init
-loop-i-init c k =
-    no_part c.args.first k (run_dot c.args.from c.args.end c.args.source.now k) (dot_of_row c.args.target.now k)
+loop-i-init c k = grind (arith, nat_tests)
 
 pub loop-i-preserved : goal.loop-i-preserved
 loop-i-preserved c =

@@ -1,7 +1,7 @@
 use Rattle.std.proofs.Common.{◌/◌, ◌<◌, arith}
 use Rattle.std.proofs.lemmas.List.Elements.{All-from_get_or}
 use Rattle.pcl_bitmap.specs.Bitmap.{dot_of_row}
-use Rattle.pcl_bitmap.proofs.Parts.{parts_joined}
+use Rattle.pcl_bitmap.proofs.Runs.{parts_joined}
 use Rattle.pcl_bitmap.proofs.bits.or_shifted.Goals as goal
 
 pub returns-clause-bits : goal.returns-clause-bits

@@ -1,39 +1,22 @@
-use Rattle.std.proofs.Common.{◌≡◌, ℕ, ◌+◌, ◌-◌, ◌*◌, List, take, drop, ap, ◌∙◌, arith}
+use Rattle.std.proofs.Common.{◌≡◌, ℕ, ◌+◌, ◌-◌, ◌*◌, List, take, drop, refl, ap, ◌∙◌, arith}
 use Rattle.pcl_bitmap.specs.Bitmap.{row_of, dot_of_row}
-use Rattle.pcl_bitmap.proofs.Pictures.{picture_of, row_on_page, page_bytes_limit}
+use Rattle.pcl_bitmap.proofs.Pictures.{picture_of, lent_room}
 use Rattle.pcl_bitmap.proofs.bitmap.Bitmap.row.Goals as goal
 
 pub overflow_mul-start : goal.overflow_mul-start
 overflow_mul-start c =
-    let a = c.self.inside in
-    omega (
-      arith,
-      page_bytes_limit a.size a.dpi,
-      c.self.invariant.picture.whole,
-      row_on_page a.size a.dpi a.bytes.items c.args.y c.row_bytes-len.result c.self.invariant.picture.whole
-          (rw (← c.self.view_is) at c.requires) c.row_bytes-len.ensures,
-    )
+    let within = rw (← c.self.view_is) at c.requires in
+    omega (arith, lent_room _ _ c.self.invariant.picture refl _ within c.row_bytes-len.ensures)
 
 pub overflow_add-result : goal.overflow_add-result
 overflow_add-result c =
-    let a = c.self.inside in
-    omega (
-      arith,
-      page_bytes_limit a.size a.dpi,
-      c.self.invariant.picture.whole,
-      row_on_page a.size a.dpi a.bytes.items c.args.y c.row_bytes-len.result c.self.invariant.picture.whole
-          (rw (← c.self.view_is) at c.requires) c.row_bytes-len.ensures,
-    )
+    let within = rw (← c.self.view_is) at c.requires in
+    omega (arith, lent_room _ _ c.self.invariant.picture refl _ within c.row_bytes-len.ensures)
 
 pub slice_bounds-result-end : goal.slice_bounds-result-end
 slice_bounds-result-end c =
-    let a = c.self.inside in
-    omega (
-      arith,
-      row_on_page a.size a.dpi c.deref.result.now c.args.y c.row_bytes-len.result
-          (rw (← c.deref.ensures.value) at c.self.invariant.picture.whole)
-          (rw (← c.self.view_is) at c.requires) c.row_bytes-len.ensures,
-    )
+    let within = rw (← c.self.view_is) at c.requires in
+    omega (arith, lent_room _ _ c.self.invariant.picture c.deref.ensures.value _ within c.row_bytes-len.ensures)
 
 -- the row, by the bytes that are inside
 row_inside :
