@@ -1,9 +1,10 @@
 -- Lanes of bytes, and places where rows change.
-use Rattle.std.proofs.Common.{◌↔◌, All, ◌≡◌, ◌≢◌, ℕ, ◌+◌, ◌-◌, ◌<◌, ◌≤◌, ◌^◌, ◌%◌, min, Bool, true, false, not, cond, eqb, map, List, length, get_or, refl, sym, ap, ◌∙◌, subst, inl, inr, arith, w8, w64}
+use Rattle.std.proofs.Common.{◌↔◌, All, ◌≡◌, ◌≢◌, ℕ, ◌+◌, ◌-◌, ◌<◌, ◌≤◌, ◌^◌, ◌%◌, min, Bool, false, not, cond, eqb, map, List, length, get_or, sym, ap, ◌∙◌, inl, inr, arith, w8, w64}
 use Rattle.std.specs.Int.{bit_at, trailing_zeros}
 use Rattle.std.specs.Simd.Lanes.{zip2, mask_l, top}
 use Rattle.std.proofs.lemmas.Simd.{length-zip2, get_or-zip2, bit_mask_l, tops_compared, mask_l-mod}
-use Rattle.std.proofs.lemmas.Bool.{cases_lt, eqb-true, eqb-false}
+use Rattle.std.proofs.lemmas.Bool.{cases_lt}
+use Rattle.std.proofs.lemmas.Bool.Decides.{nat_tests}
 use Rattle.std.proofs.lemmas.List.Elements.{All-get_or, All-from_get_or}
 use Rattle.pcl_bitmap.specs.Kernels.{IsTrimmedLen}
 use Rattle.std.proofs.lemmas.Nat.Bits.{bit_at-zero, bit_at-trailing_zeros}
@@ -32,42 +33,24 @@ first_set_is {mask} {count} fits is =
           }
     ]
 
-not_is_false : (b : Bool) → not b ≡ false → b ≡ true
-not_is_false true e = refl
-not_is_false false e = absurd cc
-
-not_is_true : (b : Bool) → not b ≡ true → b ≡ false
-not_is_true false e = refl
-not_is_true true e = absurd cc
-
 -- whether two lanes differ
 abbrev pub differ : ℕ → ℕ → Bool
 differ x y = not (eqb x y)
 
 -- a bit of the mask of a comparison
-pub mask_bit : (test : ℕ → ℕ → Bool) (a b : List ℕ) (k : ℕ) → length a ≡ 32 → length b ≡ 32 → k < 32
-    → bit_at (mask_l (zip2 test a b)) k ≡ cond (test (get_or a k 0) (get_or b k 0)) 1 0
-mask_bit test a b k size size' within =
-    bit_mask_l (zip2 test a b) k ∙ ap (λ (t : Bool). cond t 1 0) (get_or-zip2 test a b k 0 0 false (omega arith) (omega arith))
-
-differ_not : {x y : ℕ} (d : Bool) → differ x y ≡ d → cond {A = ℕ} d 1 0 ≡ 0 → x ≡ y
-differ_not {x} {y} false e clear = eqb-true x y (not_is_false (eqb x y) e)
-differ_not true e clear = absurd cc
-
-differ_so : (x y : ℕ) (d : Bool) → differ x y ≡ d → cond {A = ℕ} d 1 0 ≡ 1 → x ≢ y
-differ_so x y true e set = eqb-false x y (not_is_true (eqb x y) e)
-differ_so x y false e set = absurd cc
+lane_bit : (a b : List ℕ) (k : ℕ) → length a ≡ 32 → length b ≡ 32 → k < 32
+    → bit_at (mask_l (zip2 differ a b)) k ≡ cond (differ (get_or a k 0) (get_or b k 0)) 1 0
+lane_bit a b k size size' within =
+    bit_mask_l (zip2 differ a b) k ∙ ap (λ (t : Bool). cond t 1 0) (get_or-zip2 differ a b k 0 0 false (omega arith) (omega arith))
 
 -- what a mask's first bit says of the lanes
 pub lanes_same : (a b : List ℕ) {k : ℕ} → length a ≡ 32 → length b ≡ 32 → k < 32 → bit_at (mask_l (zip2 differ a b)) k ≡ 0
     → get_or a k 0 ≡ get_or b k 0
-lanes_same a b {k} size size' within clear = differ_not (differ (get_or a k 0) (get_or b k 0)) refl
-    (sym (mask_bit differ a b k size size' within) ∙ clear)
+lanes_same a b {k} size size' within clear = grind (arith, nat_tests, lane_bit a b k size size' within)
 
 pub lanes_differ : (a b : List ℕ) {k : ℕ} → length a ≡ 32 → length b ≡ 32 → k < 32 → bit_at (mask_l (zip2 differ a b)) k ≡ 1
     → get_or a k 0 ≢ get_or b k 0
-lanes_differ a b {k} size size' within set = differ_so (get_or a k 0) (get_or b k 0) (differ (get_or a k 0) (get_or b k 0)) refl
-    (sym (mask_bit differ a b k size size' within) ∙ set)
+lanes_differ a b {k} size size' within set = grind (arith, nat_tests, lane_bit a b k size size' within)
 
 -- the mask as the code computes it
 pub whole_mask : (a b : List ℕ) → length a ≡ 32 → length b ≡ 32
@@ -87,12 +70,7 @@ pub same_more : {a b : List ℕ} {place count : ℕ} → AreSameTo a b place →
     → ((k : ℕ) → k < count → get_or a (place + k) 0 ≡ get_or b (place + k) 0) → AreSameTo a b (place + count)
 same_more {a} {b} {place} to fits more = record {
   within = fits;
-  same = λ k below.
-      elim (cases_lt k place) [
-        | inl before ↦ to.same k before
-        | inr past ↦ let at : place + (k - place) ≡ k =
-            omega arith in subst (λ (n : ℕ). get_or a n 0 ≡ get_or b n 0) at (more (k - place) (omega arith))
-      ];
+  same = λ k below. grind (arith, to.same k, more (k - place));
 }
 
 -- a byte stands again and again from one place up to another
@@ -106,12 +84,7 @@ pub run_more : (row : List ℕ) (from place count : ℕ) → IsRunTo row from pl
 run_more row from place count to fits more = record {
   after = omega (arith, to.after);
   within = fits;
-  same = λ k low high.
-      elim (cases_lt k place) [
-        | inl before ↦ to.same k low before
-        | inr past ↦ let at : place + (k - place) ≡ k =
-            omega arith in subst (λ (n : ℕ). get_or row n 0 ≡ get_or row from 0) at (more (k - place) (omega arith))
-      ];
+  same = λ k low high. grind (arith, to.same k, more (k - place));
 }
 
 -- there are only zeros from a place on
@@ -123,12 +96,7 @@ pub zeros_more : {row : List ℕ} {len count : ℕ} → AreZerosFrom row len →
     → ((k : ℕ) → k < count → get_or row (len - count + k) 0 ≡ 0) → AreZerosFrom row (len - count)
 zeros_more {row} {len} {count} from fits more = record {
   within = omega (arith, from.within);
-  zeros = λ k low.
-      elim (cases_lt k len) [
-        | inr past ↦ from.zeros k past
-        | inl before ↦ let at : len - count + (k - (len - count)) ≡ k =
-            omega arith in subst (λ (n : ℕ). get_or row n 0 ≡ 0) at (more (k - (len - count)) (omega arith))
-      ];
+  zeros = λ k low. grind (arith, from.zeros k, more (k - (len - count)));
 }
 
 -- a row is all zeros where nothing is left of it without the zeros at its end

@@ -1,11 +1,10 @@
 -- Rows within the bytes of a page: r bytes a row.
-use Rattle.std.proofs.Common.{◌≡◌, ℕ, ◌+◌, ◌-◌, ◌*◌, ◌/◌, ◌%◌, ◌<◌, ◌≤◌, nat_eq, false, List, length, get_or, take, drop, replicate, All, refl, sym, ap, ◌∙◌, inl, inr, lit<, arith, length-take}
-use Rattle.std.specs.Int.{bit_at}
+use Rattle.std.proofs.Common.{◌≡◌, ℕ, ◌+◌, ◌-◌, ◌*◌, ◌/◌, ◌%◌, ◌<◌, ◌≤◌, false, List, length, get_or, take, drop, replicate, All, refl, sym, ap, ◌∙◌, inl, inr, lit<, arith, length-take}
 use Rattle.std.proofs.lemmas.Bool.{cases_lt}
 use Rattle.std.proofs.lemmas.Bool.Decides.{nat_tests}
-use Rattle.std.proofs.lemmas.List.{get_or-take, get_or-drop, length-replicate, get_or-replicate, get_or_past, ext_get_or}
-use Rattle.std.proofs.lemmas.List.Elements.{All-get_or, All-from_get_or}
-use Rattle.std.proofs.lemmas.Nat.{row_fits, div_below, div-add-mod', mod_below}
+use Rattle.std.proofs.lemmas.List.{get_or-take, get_or-drop, get_or_past, ext_get_or}
+use Rattle.std.proofs.lemmas.List.Elements.{All-get_or, All-from_get_or, All-take, All-drop, All-replicate}
+use Rattle.std.proofs.lemmas.Nat.{row_fits, mul-le, div_below, div-add-mod', mod_below}
 use Rattle.std.proofs.lemmas.Nat.Bits.{bit_at-lt, same_from_bits_below}
 use Rattle.pcl_bitmap.specs.Bitmap.{bit_of_byte, dot_of_row}
 use Rattle.pcl_bitmap.proofs.Bytes.{bit_of_byte-zero, dot_at}
@@ -23,49 +22,32 @@ pub dot_past_row : (zs : List ℕ) (r : ℕ) {x : ℕ} → 8 * r ≤ x → dot_o
 dot_past_row zs r {x} h =
     ap (λ n. bit_of_byte n (x % 8)) (get_or_past (take r zs) (x / 8) 0 (omega (arith, length-take r zs))) ∙ bit_of_byte-zero (x % 8)
 
-zero_after_take : (r : ℕ) (bs : List ℕ) → ((i : ℕ) → get_or bs i 0 ≡ 0) → (i : ℕ) → get_or (take r bs) i 0 ≡ 0
-zero_after_take r bs h i =
-    elim (cases_lt i r) [
-      | inl p ↦ get_or-take r bs i 0 p ∙ h i
-      | inr p ↦ get_or_past (take r bs) i 0 (omega (arith, length-take r bs))
-    ]
-
-zero_in_replicate : (n i : ℕ) → get_or {A = ℕ} (replicate n 0) i 0 ≡ 0
-zero_in_replicate n i =
-    elim (cases_lt i n) [
-      | inl p ↦ get_or-replicate n i 0 0 p
-      | inr p ↦ get_or_past (replicate n 0) i 0 (omega (arith, length-replicate {A = ℕ} n 0))
-    ]
+-- a row of zeros is white
+pub white_from_zeros : (zs : List ℕ) → All (λ n. n ≡ 0) zs → (x : ℕ) → dot_of_row zs x ≡ false
+white_from_zeros zs zeros x =
+    let zero : get_or zs (x / 8) 0 ≡ 0 =
+    elim (cases_lt (x / 8) (length zs)) [
+      | inl within ↦ All-get_or (λ n. n ≡ 0) zs (x / 8) 0 within zeros
+      | inr past ↦ get_or_past zs (x / 8) 0 past
+    ] in
+    rw zero (bit_of_byte-zero (x % 8))
 
 -- a page of zeros is white
 pub dot_of_zeros : (n r x y : ℕ) → dot_of_row (take r (drop (y * r) (replicate n 0))) x ≡ false
 dot_of_zeros n r x y =
-    let zero = zero_after_take r (drop (y * r) (replicate n 0))
-    (λ i. get_or-drop (y * r) (replicate n 0) i 0 ∙ zero_in_replicate n (y * r + i)) (x / 8) in
-    ap (λ m. bit_of_byte m (x % 8)) zero ∙ bit_of_byte-zero (x % 8)
+    white_from_zeros (take r (drop (y * r) (replicate n 0)))
+    (All-take (λ n. n ≡ 0) r _ (All-drop (λ n. n ≡ 0) (y * r) _ (All-replicate (λ n. n ≡ 0) n 0 refl))) x
 
+-- a row that is above another ends before that
 pub rows_apart : (a b r : ℕ) → a < b → a * r + r ≤ b * r
 rows_apart a b r h = row_fits a r b r h (omega arith)
-
-same_small : {u v : ℕ} → u < 2 → v < 2 → nat_eq u 1 ≡ nat_eq v 1 → u ≡ v
-same_small p q h = grind (arith, nat_tests)
-
-same_bits : (a b k : ℕ) → bit_of_byte a k ≡ bit_of_byte b k → bit_at a (7 - k) ≡ bit_at b (7 - k)
-same_bits a b k h = same_small (bit_at-lt a (7 - k)) (bit_at-lt b (7 - k)) h
 
 -- bytes with the same bits are equal
 pub same_byte : {a b : ℕ} → a < 256 → b < 256 → ((k : ℕ) → k < 8 → bit_of_byte a k ≡ bit_of_byte b k) → a ≡ b
 same_byte {a} {b} p q h =
     same_from_bits_below 8 a b p q (λ i small.
     let place : 7 - (7 - i) ≡ i = omega arith in
-    ap (λ e. bit_at a e) (sym place) ∙ same_bits a b (7 - i) (h (7 - i) (omega arith)) ∙ ap (λ e. bit_at b e) place)
-
-some_columns : (h r i : ℕ) → i < h * r → 0 < r
-some_columns h r i p =
-    elim (cases_lt 0 r) [
-      | inl some ↦ some
-      | inr none ↦ let zero : r ≡ 0 = omega arith in absurd (omega (arith, ap (λ n. h * n) zero))
-    ]
+    grind (arith, nat_tests, place, h (7 - i) (omega arith), bit_at-lt a i, bit_at-lt b i))
 
 -- pages of h rows with the same dots across w dots, and clear pads, have the same bytes
 pub same_pages :
@@ -77,7 +59,7 @@ pub same_pages :
     → a ≡ b
 same_pages r w h a b la lb fa fb pa pb same =
     ext_get_or 0 a b (la ∙ sym lb) (λ i within.
-    let some : 0 < r = some_columns h r i (omega arith) in
+    let some : 0 < r = elim (cases_lt 0 r) [ inl some ↦ some | inr none ↦ absurd (omega (arith, mul-le h r h 0 (omega arith) none)) ] in
     let y : ℕ = i / r in
     let j : ℕ = i % r in
     let place : i ≡ y * r + j = sym (div-add-mod' i r) in
@@ -108,12 +90,3 @@ zeros_from_white zs w bytes pads white =
     sym (dot_at zs i small refl)
     ∙ (elim (cases_lt (8 * i + k) w) [ inl seen ↦ white (8 * i + k) seen | inr pad ↦ pads (8 * i + k) pad ])
     ∙ sym (bit_of_byte-zero k)))
-
-pub white_from_zeros : (zs : List ℕ) → All (λ n. n ≡ 0) zs → (x : ℕ) → dot_of_row zs x ≡ false
-white_from_zeros zs zeros x =
-    let zero : get_or zs (x / 8) 0 ≡ 0 =
-    elim (cases_lt (x / 8) (length zs)) [
-      | inl within ↦ All-get_or (λ n. n ≡ 0) zs (x / 8) 0 within zeros
-      | inr past ↦ get_or_past zs (x / 8) 0 past
-    ] in
-    ap (λ n. bit_of_byte n (x % 8)) zero ∙ bit_of_byte-zero (x % 8)

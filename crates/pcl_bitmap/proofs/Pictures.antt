@@ -1,5 +1,5 @@
 -- Pictures.
-use Rattle.std.proofs.Common.{◌≡◌, ℕ, ◌*◌, ◌^◌, ◌<◌, ◌≤◌, false, List, length, replicate, refl, sym, ap, ◌∙◌, subst, lit<, arith}
+use Rattle.std.proofs.Common.{◌≡◌, ℕ, ◌*◌, ◌^◌, ◌<◌, ◌≤◌, false, List, length, replicate, sym, ap, ◌∙◌, lit<, arith}
 use Rattle.std.proofs.lemmas.List.{length-replicate}
 use Rattle.std.proofs.lemmas.List.Elements.{All-replicate}
 use Rattle.std.proofs.lemmas.Nat.{mul-le}
@@ -14,35 +14,20 @@ use Rattle.pcl_bitmap.proofs.Pages.{same_pages, dot_of_zeros}
 abbrev pub picture_of : Size → Dpi → List ℕ → Picture
 picture_of size dpi bytes = record { size = size; dpi = dpi; bytes = bytes }
 
-same_bytes_same_picture : {p q : Picture} → p.size ≡ q.size → p.dpi ≡ q.dpi → p.bytes ≡ q.bytes → p ≡ q
-same_bytes_same_picture {p} {q} s d b =
-    ap (λ (t : Size). picture_of t p.dpi p.bytes) s
-    ∙ ap (λ (t : Dpi). picture_of q.size t p.bytes) d
-    ∙ ap (λ (t : List ℕ). picture_of q.size q.dpi t) b
-
--- at one size and resolution
-same_dots_same_bytes :
-    (size : Size) (dpi : Dpi) (a b : List ℕ)
-    → IsPicture (picture_of size dpi a) → IsPicture (picture_of size dpi b)
-    → ((x y : ℕ) → x < page_width size dpi → y < page_height size dpi
-    → dot (picture_of size dpi a) x y ≡ dot (picture_of size dpi b) x y)
-    → a ≡ b
-same_dots_same_bytes size dpi a b p q same =
-    same_pages (page_row_bytes size dpi) (page_width size dpi) (page_height size dpi) a b
-    p.whole q.whole p.in_bytes q.in_bytes p.clear_pads q.clear_pads same
-
+-- pictures of one size and resolution with the same dots are the same
 pub same_dots :
     (p q : Picture) → IsPicture p → IsPicture q → p.size ≡ q.size → p.dpi ≡ q.dpi
     → ((x y : ℕ) → x < page_width p.size p.dpi → y < page_height p.size p.dpi → dot p x y ≡ dot q x y)
     → p ≡ q
 same_dots p q is_p is_q s d same =
-    let turned : q ≡ picture_of p.size p.dpi q.bytes =
-    same_bytes_same_picture (sym s) (sym d) refl in
-    let is_turned : IsPicture (picture_of p.size p.dpi q.bytes) =
-    let P : Picture → Type 0 = λ t. IsPicture t in subst P turned is_q in
+    let turned : q ≡ picture_of p.size p.dpi q.bytes = rw (s, d) in
+    let is_turned : IsPicture (picture_of p.size p.dpi q.bytes) = rw turned at is_q in
     let same_turned = λ (x : ℕ) (y : ℕ) (in_row : x < page_width p.size p.dpi) (on_page : y < page_height p.size p.dpi).
     same x y in_row on_page ∙ ap (λ (t : Picture). dot t x y) turned in
-    same_bytes_same_picture s d (same_dots_same_bytes p.size p.dpi p.bytes q.bytes is_p is_turned same_turned)
+    let bytes : p.bytes ≡ q.bytes =
+    same_pages (page_row_bytes p.size p.dpi) (page_width p.size p.dpi) (page_height p.size p.dpi) p.bytes q.bytes
+    is_p.whole is_turned.whole is_p.in_bytes is_turned.in_bytes is_p.clear_pads is_turned.clear_pads same_turned in
+    ap (λ (t : List ℕ). picture_of p.size p.dpi t) bytes ∙ sym turned
 
 -- eight dots to a byte are room for the width
 pub wide_rows : (size : Size) (dpi : Dpi) → page_width size dpi ≤ 8 * page_row_bytes size dpi
