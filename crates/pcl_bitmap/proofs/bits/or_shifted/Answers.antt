@@ -11,6 +11,3 @@ returns-clause-bits c k =
     (dot_of_row c.or_part.new.target k) (dot_of_row c.or_pairs.new.target k) (dot_of_row c.or_part-2.new.target k)
     (omega arith) (omega arith) (omega arith) (λ more. omega arith) (c.or_part.ensures k) (c.or_pairs.ensures k) (c.or_part-2.ensures k)
     (omega arith)
-
-pub returns-clause-in_bytes : goal.returns-clause-in_bytes
-returns-clause-in_bytes c = All-from_get_or (λ n. n < 256) c.or_part-2.new.target 0 (λ i _. omega (arith, c.type_inv.target i))

@@ -20,6 +20,3 @@ returns-clause-bits c k =
     (runs_joined from head tail k black before first between (omega arith) (omega arith) (c.fill_in_byte.ensures k)
     (c.fill_bytes.ensures k ∙ ap (λ t. if t then black else first) middle))
     (c.fill_in_byte-2.ensures k)
-
-pub returns-clause-in_bytes : goal.returns-clause-in_bytes
-returns-clause-in_bytes c = All-from_get_or (λ n. n < 256) c.fill_in_byte-2.new.target 0 (λ i _. omega (arith, c.type_inv.target i))

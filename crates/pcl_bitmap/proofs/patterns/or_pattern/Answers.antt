@@ -49,39 +49,7 @@ loop-row-preserved c =
       held = λ next at_row below. let same : next ≡ row - a.area.y + w.y = omega arith in rw same held;
     }
 
-pub overflow_mul-source : goal.overflow_mul-source
-overflow_mul-source c =
-    let a = c.args in
-    omega (arith, c.requires.bits (c.loop-row.row - a.area.y) (omega arith))
-
-pub slice_bounds-source-count : goal.slice_bounds-source-count
-slice_bounds-source-count c =
-    let a = c.args in
-    omega (arith, c.requires.bits (c.loop-row.row - a.area.y) (omega arith))
-
-pub slice_bounds-source-start : goal.slice_bounds-source-start
-slice_bounds-source-start c =
-    let a = c.args in
-    omega (arith, c.requires.bits (c.loop-row.row - a.area.y) (omega arith))
-
-pub slice_bounds-source-end : goal.slice_bounds-source-end
-slice_bounds-source-end c =
-    let a = c.args in
-    omega (arith, c.requires.bits (c.loop-row.row - a.area.y) (omega arith))
-
-pub slice_bounds-write_dots-end : goal.slice_bounds-write_dots-end
-slice_bounds-write_dots-end c = omega (arith, length-take c.div_ceil-count.result c.loop-row.dots)
-
-pub write_dots-requires-clause-small : goal.write_dots-requires-clause-small
-write_dots-requires-clause-small c = omega (arith, length-take c.div_ceil-count.result c.loop-row.dots)
-
-pub slice_bounds-or_bits-end : goal.slice_bounds-or_bits-end
-slice_bounds-or_bits-end c = omega (arith, length-take {A = ℕ}, length-append {A = ℕ}, length-drop {A = ℕ})
-
 pub returns-clause-dots : goal.returns-clause-dots
 returns-clause-dots c =
     let rows : c.loop-row.row - c.args.area.y ≡ c.args.area.height = omega arith in
     rw rows at c.loop-row.invariant.rows.dots
-
-pub returns-clause-in_bytes : goal.returns-clause-in_bytes
-returns-clause-in_bytes c = c.loop-row.invariant.rows.in_bytes

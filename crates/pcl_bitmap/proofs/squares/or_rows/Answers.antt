@@ -23,6 +23,3 @@ pub returns-clause-dots : goal.returns-clause-dots
 returns-clause-dots c =
     let rows : c.loop-row.row - c.args.area.y ≡ c.args.area.height = omega arith in
     rw rows at c.loop-row.invariant.dots
-
-pub returns-clause-in_bytes : goal.returns-clause-in_bytes
-returns-clause-in_bytes c = c.loop-row.invariant.in_bytes

@@ -23,6 +23,3 @@ invariant_of-self c = record {
       subst P (sym (returns-clause-blank c)) (blank_is_picture c.args.self.now.size c.args.self.now.dpi);
   inked = nothing_inked _ _ c.nothing-self-inside.ensures;
 }
-
-pub returns-clause-picture : goal.returns-clause-picture
-returns-clause-picture c = (invariant_of-self c).picture

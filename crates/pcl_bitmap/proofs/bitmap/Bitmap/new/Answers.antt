@@ -28,6 +28,3 @@ invariant_of-result c = record {
       subst P (sym (returns-clause-blank c)) (blank_is_picture c.args.size c.args.dpi);
   inked = nothing_inked _ _ c.nothing.ensures;
 }
-
-pub returns-clause-picture : goal.returns-clause-picture
-returns-clause-picture c = (invariant_of-result c).picture

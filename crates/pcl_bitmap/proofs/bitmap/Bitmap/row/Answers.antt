@@ -3,21 +3,6 @@ use Rattle.pcl_bitmap.specs.Bitmap.{row_of, dot_of_row}
 use Rattle.pcl_bitmap.proofs.Pictures.{picture_of, lent_room}
 use Rattle.pcl_bitmap.proofs.bitmap.Bitmap.row.Goals as goal
 
-pub overflow_mul-start : goal.overflow_mul-start
-overflow_mul-start c =
-    let within = rw (← c.self.view_is) at c.requires in
-    omega (arith, lent_room _ _ c.self.invariant.picture refl _ within c.row_bytes-len.ensures)
-
-pub overflow_add-result : goal.overflow_add-result
-overflow_add-result c =
-    let within = rw (← c.self.view_is) at c.requires in
-    omega (arith, lent_room _ _ c.self.invariant.picture refl _ within c.row_bytes-len.ensures)
-
-pub slice_bounds-result-end : goal.slice_bounds-result-end
-slice_bounds-result-end c =
-    let within = rw (← c.self.view_is) at c.requires in
-    omega (arith, lent_room _ _ c.self.invariant.picture c.deref.ensures.value _ within c.row_bytes-len.ensures)
-
 -- the row, by the bytes that are inside
 row_inside :
     (c : goal.After-result-1)
