@@ -1,4 +1,4 @@
-use Rattle.std.proofs.Common.{◌≡◌, ◌+◌, ◌-◌, ◌*◌, length, get_or, refl, arith}
+use Rattle.std.proofs.Common.{◌≡◌, ◌+◌, ◌-◌, ◌*◌, get_or, refl, arith}
 use Rattle.std.proofs.lemmas.Bool.Decides.{nat_tests}
 use Rattle.pcl_bitmap.specs.Bitmap.{dot_of_row}
 use Rattle.pcl_bitmap.proofs.Bytes.{dot_at}
@@ -28,8 +28,3 @@ loop-i-preserved c =
           rw (place, dot_at source i small refl))
           c.loop-i.invariant.bits);
     }
-
-pub returns : goal.returns
-returns c =
-    let done : c.loop-i.i ≡ length c.args.source.now = omega arith in
-    rw done at c.loop-i.invariant.bits

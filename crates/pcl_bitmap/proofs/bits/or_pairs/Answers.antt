@@ -1,11 +1,7 @@
-use Rattle.std.proofs.Common.{◌≡◌, ℕ, ◌-◌, ◌/◌, ◌<◌, get_or, refl, arith}
-use Rattle.std.proofs.lemmas.Bool.Decides.{nat_tests}
+use Rattle.std.proofs.Common.{ℕ, ◌-◌, ◌/◌, ◌<◌, get_or, refl, arith}
 use Rattle.pcl_bitmap.specs.Bitmap.{dot_of_row}
 use Rattle.pcl_bitmap.proofs.Runs.{part_more, pair_bits}
 use Rattle.pcl_bitmap.proofs.bits.or_pairs.Goals as goal
-
-pub loop-i-init : goal.loop-i-init
-loop-i-init c k = grind (arith, nat_tests)
 
 pub loop-i-preserved : goal.loop-i-preserved
 loop-i-preserved c =
@@ -19,8 +15,3 @@ loop-i-preserved c =
     (λ k small. rw c.bits_of_pair.ensures
     (pair_bits source from i (get_or source (place - 1) 0) (get_or source place 0) byte (omega arith) refl refl k small))
     c.loop-i.invariant
-
-pub returns : goal.returns
-returns c =
-    let done : c.loop-i.i ≡ c.args.last = omega arith in
-    rw done at c.loop-i.invariant

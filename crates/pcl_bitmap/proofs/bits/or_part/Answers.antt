@@ -1,11 +1,7 @@
-use Rattle.std.proofs.Common.{◌≡◌, bit_and, arith}
-use Rattle.std.proofs.lemmas.Bool.Decides.{nat_tests}
+use Rattle.std.proofs.Common.{bit_and, arith}
 use Rattle.pcl_bitmap.specs.Dots.{run_dot}
 use Rattle.pcl_bitmap.proofs.Runs.{added_bits, part_more}
 use Rattle.pcl_bitmap.proofs.bits.or_part.Goals as goal
-
-pub loop-i-init : goal.loop-i-init
-loop-i-init c k = grind (arith, nat_tests)
 
 pub loop-i-preserved : goal.loop-i-preserved
 loop-i-preserved c =
@@ -16,8 +12,3 @@ loop-i-preserved c =
     c.shifted_byte.ensures c.leading_ones.ensures in
     part_more c.args.target.now c.loop-i.target c.args.first i (bit_and c.shifted_byte.result c.leading_ones.result)
     (run_dot c.args.from c.args.end source) (omega arith) (omega arith) bits c.loop-i.invariant
-
-pub returns : goal.returns
-returns c =
-    let done : c.loop-i.i ≡ c.args.last = omega arith in
-    rw done at c.loop-i.invariant

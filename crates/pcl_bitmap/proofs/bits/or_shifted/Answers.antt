@@ -1,5 +1,4 @@
-use Rattle.std.proofs.Common.{◌/◌, ◌<◌, arith}
-use Rattle.std.proofs.lemmas.List.Elements.{All-from_get_or}
+use Rattle.std.proofs.Common.{◌/◌, arith}
 use Rattle.pcl_bitmap.specs.Bitmap.{dot_of_row}
 use Rattle.pcl_bitmap.proofs.Runs.{parts_joined}
 use Rattle.pcl_bitmap.proofs.bits.or_shifted.Goals as goal

@@ -1,5 +1,4 @@
-use Rattle.std.proofs.Common.{ap, ◌∙◌, ◌<◌, if◌then◌else◌, arith}
-use Rattle.std.proofs.lemmas.List.Elements.{All-from_get_or}
+use Rattle.std.proofs.Common.{ap, ◌∙◌, if◌then◌else◌, arith}
 use Rattle.pcl_bitmap.specs.Bitmap.{dot_of_row}
 use Rattle.pcl_bitmap.specs.Dots.{is_black_ink}
 use Rattle.pcl_bitmap.proofs.Runs.{runs_joined, whole_run}

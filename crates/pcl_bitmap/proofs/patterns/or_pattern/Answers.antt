@@ -1,4 +1,4 @@
-use Rattle.std.proofs.Common.{◌≡◌, ℕ, ◌*◌, ◌+◌, ◌-◌, ◌/◌, List, length, take, length-take, length-append, length-drop, drop, ap, ◌∙◌, arith}
+use Rattle.std.proofs.Common.{◌≡◌, ℕ, ◌*◌, ◌+◌, ◌-◌, ◌/◌, List, length, take, length-take, drop, ap, ◌∙◌, arith}
 use Rattle.std.proofs.lemmas.List.{take_rest}
 use Rattle.pcl_bitmap.specs.Bitmap.{dot_of_row}
 use Rattle.pcl_bitmap.proofs.Inked.{none_inked, row_inked, run_or}
@@ -48,8 +48,3 @@ loop-row-preserved c =
           (λ level inside. take_dots count dots (omega arith) ∙ rw level (held (px - a.area.x) (omega arith))));
       held = λ next at_row below. let same : next ≡ row - a.area.y + w.y = omega arith in rw same held;
     }
-
-pub returns-clause-dots : goal.returns-clause-dots
-returns-clause-dots c =
-    let rows : c.loop-row.row - c.args.area.y ≡ c.args.area.height = omega arith in
-    rw rows at c.loop-row.invariant.rows.dots

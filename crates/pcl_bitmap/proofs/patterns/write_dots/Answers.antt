@@ -1,16 +1,9 @@
-use Rattle.std.proofs.Common.{◌≡◌, ℕ, List, length, ◌+◌, ◌*◌, ◌/◌, ◌%◌, ◌<◌, ◌≤◌, sym, ap, ◌∙◌, arith}
-use Rattle.std.proofs.Math.Nat.{div-one}
+use Rattle.std.proofs.Common.{◌≡◌, ℕ, List, length, ◌+◌, ◌*◌, ◌/◌, ◌%◌, ◌<◌, ◌≤◌, ap, ◌∙◌, arith}
 use Rattle.std.specs.Int.{div_ceil}
 use Rattle.pcl_bitmap.proofs.Runs.{take_dots}
 use Rattle.pcl_bitmap.specs.Bitmap.{dot_of_row}
 use Rattle.pcl_bitmap.proofs.Spread.{spread_count, seen_from}
 use Rattle.pcl_bitmap.proofs.patterns.write_dots.Goals as goal
-
-pub returns-then-scale-eq1 : goal.returns-then-scale-eq1
-returns-then-scale-eq1 c k small =
-    let m = c.args.start + k in
-    let one : m ≡ m / c.args.scale = sym (ap (λ n. m / n) c.if-scale-eq1.true ∙ div-one m) in
-    c.write_bits.ensures k small ∙ ap (λ n. dot_of_row c.args.row.now n) one
 
 -- the spread row has the dots
 spread_dot :

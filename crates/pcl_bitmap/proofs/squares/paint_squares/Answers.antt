@@ -1,21 +1,7 @@
-use Rattle.std.proofs.Common.{◌≡◌, ◌+◌, ◌-◌, ◌*◌, ◌/◌, ap, ◌∙◌, ◌||◌, if◌then◌else◌, sym, zero-add, arith}
-use Rattle.std.proofs.Math.Nat.{div-one}
+use Rattle.std.proofs.Common.{◌+◌, ◌-◌, ◌*◌, ◌/◌, ap, ◌∙◌, zero-add, arith}
 use Rattle.pcl_bitmap.specs.Bitmap.{dot_of_row}
-use Rattle.pcl_bitmap.specs.Dots.{rectangle_dot}
 use Rattle.pcl_bitmap.proofs.Spread.{spread_count, same_source}
 use Rattle.pcl_bitmap.proofs.squares.paint_squares.Goals as goal
-
-pub spread_row-requires-clause-room : goal.spread_row-requires-clause-room
-spread_row-requires-clause-room c = omega (arith, (spread_count {s = c.args.scale} (omega arith) c.div_ceil-count.ensures).1)
-
-pub returns-then-scale-eq1-clause-dots : goal.returns-then-scale-eq1-clause-dots
-returns-then-scale-eq1-clause-dots c px py within =
-    let a = c.args in
-    let m = px - a.area.x in
-    let before = dot_of_row a.page.now (8 * (py * a.row_bytes) + px) in
-    let one : m ≡ m / a.scale = sym (ap (λ n. m / n) c.if-scale-eq1.true ∙ div-one m) in
-    c.or_rows.ensures.dots px py within
-    ∙ ap (λ n. if rectangle_dot a.area.x a.area.y a.area.width a.area.height px py then dot_of_row a.row.now n || before else before) one
 
 pub returns-else-scale-eq1-clause-dots : goal.returns-else-scale-eq1-clause-dots
 returns-else-scale-eq1-clause-dots c px py within =

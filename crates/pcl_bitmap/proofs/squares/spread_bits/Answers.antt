@@ -1,14 +1,9 @@
-use Rattle.std.proofs.Common.{◌≡◌, ◌/◌, sym, ap, ◌∙◌, arith}
+use Rattle.std.proofs.Common.{◌≡◌, sym, ap, ◌∙◌, arith}
 use Rattle.std.specs.Int.{bit_at}
 use Rattle.std.proofs.lemmas.Nat.Bits.{shr_and_one, bit_at-lt}
 use Rattle.pcl_bitmap.proofs.Spread.{spread_bit, spread_set, spread_clear, spread_all}
 use Rattle.pcl_bitmap.proofs.squares.spread_bits.Goals as goal
 use Rattle.pcl_bitmap.proofs.squares.spread_bits.Goals.{then-byte-i-eq1, else-byte-i-eq1}
-
-pub returns-then-scale-eq2 : goal.returns-then-scale-eq2
-returns-then-scale-eq2 c j =
-    ap (λ n. bit_at n j) c.from.ensures ∙ c.doubled_bits.ensures j
-    ∙ ap (λ n. bit_at c.args.byte (j / n)) (sym c.if-scale-eq2.true)
 
 pub loop-i-preserved : goal.loop-i-preserved
 loop-i-preserved c j =

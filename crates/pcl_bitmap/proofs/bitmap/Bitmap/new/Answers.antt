@@ -1,8 +1,6 @@
-use Rattle.std.proofs.Common.{sym, ap, ◌∙◌, subst, arith}
-use Rattle.std.proofs.lemmas.Nat.{mul-le}
+use Rattle.std.proofs.Common.{sym, ap, ◌∙◌, subst}
 use Rattle.pcl_bitmap.specs.Bitmap.{Picture, IsPicture, dot}
 use Rattle.pcl_bitmap.proofs.Pictures.{blank_from_zeros, blank_dots, blank_is_picture}
-use Rattle.pcl_base.proofs.PageBounds.{width_small, height_small}
 use Rattle.pcl_bitmap.proofs.OneInk.{nothing_inked}
 use Rattle.pcl_bitmap.proofs.bitmap.Bitmap.new.Goals as goal
 
@@ -14,12 +12,6 @@ returns-clause-blank c =
 
 pub returns-clause-dots : goal.returns-clause-dots
 returns-clause-dots c x y = ap (λ (t : Picture). dot t x y) (returns-clause-blank c) ∙ blank_dots c.args.size c.args.dpi x y
-
-pub overflow_mul-count : goal.overflow_mul-count
-overflow_mul-count c =
-    let wide = width_small c.args.size c.args.dpi in
-    let high = height_small c.args.size c.args.dpi in
-    omega (arith, mul-le c.height.result c.row_bytes.result 8400 600 (omega arith) (omega arith))
 
 pub invariant_of-result : goal.invariant_of-result
 invariant_of-result c = record {

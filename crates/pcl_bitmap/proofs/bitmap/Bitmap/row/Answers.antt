@@ -1,6 +1,6 @@
-use Rattle.std.proofs.Common.{◌≡◌, ℕ, ◌+◌, ◌-◌, ◌*◌, List, take, drop, refl, ap, ◌∙◌, arith}
+use Rattle.std.proofs.Common.{◌≡◌, ℕ, ◌+◌, ◌-◌, ◌*◌, List, take, drop, ap, ◌∙◌, arith}
 use Rattle.pcl_bitmap.specs.Bitmap.{row_of, dot_of_row}
-use Rattle.pcl_bitmap.proofs.Pictures.{picture_of, lent_room}
+use Rattle.pcl_bitmap.proofs.Pictures.{picture_of}
 use Rattle.pcl_bitmap.proofs.bitmap.Bitmap.row.Goals as goal
 
 -- the row, by the bytes that are inside
