@@ -1,4 +1,4 @@
-use Rattle.std.proofs.Common.{◌≡◌, ◌*◌, ◌+◌, ◌-◌, arith}
+use Rattle.std.proofs.Common.{◌*◌, ◌+◌, arith}
 use Rattle.pcl_bitmap.specs.Dots.{is_black_ink}
 use Rattle.pcl_bitmap.proofs.Inked.{none_inked, row_inked}
 use Rattle.pcl_bitmap.proofs.fills.fill_rows.Goals as goal
@@ -14,8 +14,3 @@ loop-row-preserved c =
     let a = c.args in
     row_inked c.fill_bits.new.target c.loop-row.invariant (omega arith) c.requires.wide (omega arith) c.fill_bits.ensures.in_bytes
     (λ px py _. c.fill_bits.ensures.bits (8 * (py * a.row_bytes) + px))
-
-pub returns-clause-dots : goal.returns-clause-dots
-returns-clause-dots c =
-    let rows : c.loop-row.row - c.args.area.y ≡ c.args.area.height = omega arith in
-    rw rows at c.loop-row.invariant.dots

@@ -1,4 +1,4 @@
-use Rattle.std.proofs.Common.{◌≡◌, ◌*◌, ◌+◌, ◌-◌, ◌||◌, refl, ◌∙◌, arith}
+use Rattle.std.proofs.Common.{◌*◌, ◌+◌, ◌-◌, ◌||◌, refl, ◌∙◌, arith}
 use Rattle.pcl_bitmap.specs.Bitmap.{dot_of_row}
 use Rattle.pcl_bitmap.proofs.Inked.{none_inked, row_inked, run_or}
 use Rattle.pcl_bitmap.proofs.squares.or_rows.Goals as goal
@@ -18,8 +18,3 @@ loop-row-preserved c =
     c.or_bits.ensures.bits place
     ∙ run_or a.source.now a.row_bytes a.area.x a.area.width c.loop-row.row px py (dot_of_row a.source.now (px - a.area.x))
     (dot_of_row c.loop-row.page place) c.requires.wide within (λ _ _. refl))
-
-pub returns-clause-dots : goal.returns-clause-dots
-returns-clause-dots c =
-    let rows : c.loop-row.row - c.args.area.y ≡ c.args.area.height = omega arith in
-    rw rows at c.loop-row.invariant.dots

@@ -1,7 +1,7 @@
 use Rattle.std.proofs.Common.{refl, replicate, sym, ap, ◌∙◌, subst, arith}
 use Rattle.pcl_base.specs.Size.{page_height, page_row_bytes}
-use Rattle.pcl_bitmap.specs.Bitmap.{Picture, IsPicture, dot}
-use Rattle.pcl_bitmap.proofs.Pictures.{blank_from_zeros, blank_dots, blank_is_picture}
+use Rattle.pcl_bitmap.specs.Bitmap.{Picture, IsPicture}
+use Rattle.pcl_bitmap.proofs.Pictures.{blank_from_zeros, blank_is_picture}
 use Rattle.pcl_bitmap.proofs.OneInk.{nothing_inked}
 use Rattle.pcl_bitmap.proofs.bitmap.Bitmap.clear.Goals as goal
 
@@ -11,10 +11,6 @@ returns-clause-blank c =
     rw (← c.self.view_is)
     (blank_from_zeros a.size a.dpi c.fill.new.self.items (page_height a.size a.dpi) (page_row_bytes a.size a.dpi) refl refl
     (c.fill.ensures.items (λ _ e. e) ∙ ap (λ n. replicate n 0) (omega (arith, a.bytes.ok.0, c.self.invariant.picture.whole))))
-
-pub returns-clause-dots : goal.returns-clause-dots
-returns-clause-dots c x y =
-    ap (λ (page : Picture). dot page x y) (returns-clause-blank c) ∙ blank_dots c.args.self.now.size c.args.self.now.dpi x y
 
 pub invariant_of-self : goal.invariant_of-self
 invariant_of-self c = record {

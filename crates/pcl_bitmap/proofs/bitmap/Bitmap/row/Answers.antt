@@ -1,5 +1,5 @@
-use Rattle.std.proofs.Common.{◌≡◌, ℕ, ◌+◌, ◌-◌, ◌*◌, List, take, drop, ap, ◌∙◌, arith}
-use Rattle.pcl_bitmap.specs.Bitmap.{row_of, dot_of_row}
+use Rattle.std.proofs.Common.{◌≡◌, ◌+◌, ◌-◌, ◌*◌, take, drop, arith}
+use Rattle.pcl_bitmap.specs.Bitmap.{row_of}
 use Rattle.pcl_bitmap.proofs.Pictures.{picture_of}
 use Rattle.pcl_bitmap.proofs.bitmap.Bitmap.row.Goals as goal
 
@@ -16,8 +16,3 @@ row_inside c =
 
 pub returns-clause-bytes : goal.returns-clause-bytes
 returns-clause-bytes c = rw (← c.self.view_is) (row_inside c)
-
-pub returns-clause-clear_pads : goal.returns-clause-clear_pads
-returns-clause-clear_pads c =
-    rw (← c.self.view_is) (λ x pad.
-    ap (λ (t : List ℕ). dot_of_row t x) (row_inside c) ∙ c.self.invariant.picture.clear_pads x c.args.y pad)
