@@ -1,5 +1,5 @@
 -- Rectangles of dots that take ink, row by row, and the pages that they are on.
-use Rattle.std.proofs.Common.{◌≡◌, ℕ, ◌+◌, ◌-◌, ◌*◌, ◌<◌, ◌≤◌, Bool, ◌||◌, if◌then◌else◌, min, List, length, get_or, drop, All, sym, ap, ◌∙◌, inl, inr, arith}
+use Rattle.std.proofs.Common.{◌≡◌, ℕ, ◌+◌, ◌-◌, ◌*◌, ◌<◌, ◌≤◌, Bool, ◌||◌, if◌then◌else◌, min, List, length, get_or, drop, All, ap, inl, inr, arith}
 use Rattle.std.proofs.lemmas.Bool.{cases_lt, cases_order}
 use Rattle.std.proofs.lemmas.Bool.Decides.{nat_tests}
 use Rattle.std.proofs.lemmas.List.Elements.{All-from_get_or}
@@ -87,23 +87,21 @@ pub drawn :
     → (if rectangle_dot x y w h px py then ink px py before else before) ≡ after px py before)
     → IsDrawn size dpi old new after
 drawn {size} {dpi} {old} {new} {lent} {page} x y w h r ink after is_picture e_old e_new len bytes on_page e_r painted seen =
-    let r : ℕ = page_row_bytes size dpi in
-    let room : (px : ℕ) → px < page_width size dpi → px < 8 * page_row_bytes size dpi = λ px in_row. omega (arith, wide_rows size dpi) in
+    let n : ℕ = page_row_bytes size dpi in
     let bits = rw (e_old, e_r) at painted in
     rw e_new (record {
       picture = record {
-        whole = len ∙ ap (λ (t : List ℕ). length t) e_old ∙ is_picture.whole;
+        whole = rw (len, e_old) is_picture.whole;
         in_bytes = bytes;
         clear_pads = λ px py off.
             elim (cases_lt px (8 * page_row_bytes size dpi)) [
               | inl pad ↦
                   let white = is_picture.clear_pads px py off in
-                  dot_in_page page r py pad ∙ bits px py pad ∙ grind (arith, nat_tests) ∙ sym (dot_in_page old r py pad) ∙ white
-              | inr past ↦ dot_past_row (drop (py * r) page) r past
+                  rw (dot_in_page page n py pad, bits px py pad) (grind (arith, nat_tests, white, dot_in_page old n py pad))
+              | inr past ↦ dot_past_row (drop (py * n) page) n past
             ];
       };
       dots = λ px py in_row on_page.
-          let here = room px in_row in
-          dot_in_page page r py here ∙ bits px py here ∙ seen px py _ in_row on_page
-          ∙ ap (λ t. after px py t) (sym (dot_in_page old r py here));
+          let room : px < 8 * page_row_bytes size dpi = omega (arith, wide_rows size dpi) in
+          rw (dot_in_page page n py room, bits px py room, dot_in_page old n py room) (seen px py _ in_row on_page);
     })

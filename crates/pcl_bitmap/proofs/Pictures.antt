@@ -70,8 +70,7 @@ pub blank_from_zeros :
     → picture_of size dpi bs ≡ blank_picture size dpi
 unfolding blank_bytes
 blank_from_zeros size dpi bs h r e_h e_r e =
-    ap (λ (t : List ℕ). picture_of size dpi t)
-    (e ∙ ap (λ n. replicate (n * r) 0) e_h ∙ ap (λ n. replicate (page_height size dpi * n) 0) e_r)
+    rw (e, e_h, e_r)
 
 pub blank_is_picture : (size : Size) (dpi : Dpi) → IsPicture (blank_picture size dpi)
 unfolding blank_bytes

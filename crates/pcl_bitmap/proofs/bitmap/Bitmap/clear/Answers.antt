@@ -1,6 +1,5 @@
-use Rattle.std.proofs.Common.{refl, replicate, sym, ap, ◌∙◌, subst, arith}
+use Rattle.std.proofs.Common.{refl, replicate, ap, ◌∙◌, arith}
 use Rattle.pcl_base.specs.Size.{page_height, page_row_bytes}
-use Rattle.pcl_bitmap.specs.Bitmap.{Picture, IsPicture}
 use Rattle.pcl_bitmap.proofs.Pictures.{blank_from_zeros, blank_is_picture}
 use Rattle.pcl_bitmap.proofs.OneInk.{nothing_inked}
 use Rattle.pcl_bitmap.proofs.bitmap.Bitmap.clear.Goals as goal
@@ -14,8 +13,6 @@ returns-clause-blank c =
 
 pub invariant_of-self : goal.invariant_of-self
 invariant_of-self c = record {
-  picture =
-      let P : Picture → Type 0 = λ page. IsPicture page in
-      subst P (sym (returns-clause-blank c)) (blank_is_picture c.args.self.now.size c.args.self.now.dpi);
+  picture = rw (returns-clause-blank c) (blank_is_picture c.args.self.now.size c.args.self.now.dpi);
   inked = nothing_inked _ _ c.nothing-self-inside.ensures;
 }

@@ -1,5 +1,5 @@
-use Rattle.std.proofs.Common.{sym, ap, ◌∙◌, subst}
-use Rattle.pcl_bitmap.specs.Bitmap.{Picture, IsPicture, dot}
+use Rattle.std.proofs.Common.{ap, ◌∙◌}
+use Rattle.pcl_bitmap.specs.Bitmap.{Picture, dot}
 use Rattle.pcl_bitmap.proofs.Pictures.{blank_from_zeros, blank_dots, blank_is_picture}
 use Rattle.pcl_bitmap.proofs.OneInk.{nothing_inked}
 use Rattle.pcl_bitmap.proofs.bitmap.Bitmap.new.Goals as goal
@@ -15,8 +15,6 @@ returns-clause-dots c x y = ap (λ (t : Picture). dot t x y) (returns-clause-bla
 
 pub invariant_of-result : goal.invariant_of-result
 invariant_of-result c = record {
-  picture =
-      let P : Picture → Type 0 = λ page. IsPicture page in
-      subst P (sym (returns-clause-blank c)) (blank_is_picture c.args.size c.args.dpi);
+  picture = rw (returns-clause-blank c) (blank_is_picture c.args.size c.args.dpi);
   inked = nothing_inked _ _ c.nothing.ensures;
 }
