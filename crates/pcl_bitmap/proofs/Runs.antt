@@ -1,11 +1,11 @@
 -- Runs of bits, byte by byte and part by part.
-use Rattle.std.proofs.Common.{◌≡◌, ℕ, ◌+◌, ◌-◌, ◌*◌, ◌/◌, ◌%◌, ◌^◌, ◌<◌, ◌≤◌, nat_le, nat_lt, Bool, ◌&&◌, ◌||◌, if◌then◌else◌, List, ◌++◌, length, get_or, set, take, drop, bit_and, bit_or, add-zero, refl, ap, ◌∙◌, inl, inr, arith}
-use Rattle.std.proofs.lemmas.Bool.{cases_lt, cases_eq}
+use Rattle.std.proofs.Common.{◌≡◌, ℕ, ◌+◌, ◌-◌, ◌*◌, ◌/◌, ◌%◌, ◌<◌, ◌≤◌, nat_le, nat_lt, Bool, ◌&&◌, ◌||◌, List, ◌++◌, length, get_or, set, take, drop, bit_and, bit_or, refl, ap, ◌∙◌, inl, inr, arith}
+use Rattle.std.proofs.lemmas.Bool.{cases_lt}
 use Rattle.std.proofs.lemmas.Bool.Decides.{nat_tests}
 use Rattle.std.proofs.lemmas.List.{get_or-take, get_or-drop, get_or_append_left, length-take-le}
 use Rattle.pcl_bitmap.specs.Bitmap.{bit_of_byte, dot_of_row}
 use Rattle.pcl_bitmap.specs.Dots.{in_run, run_dot}
-use Rattle.pcl_bitmap.proofs.Bytes.{bit_of_byte-or, bit_of_byte-and, bit_of_byte-not, dot_at, dot_of_bits, shifted_bits}
+use Rattle.pcl_bitmap.proofs.Bytes.{bit_of_byte-or, bit_of_byte-and, bit_of_byte-not, dot_at, dot_of_bits}
 
 -- some bits are in place from byte `first` up to byte i, and then up to the next
 pub part_more :
@@ -32,17 +32,6 @@ pub added_bits :
 added_bits row from end i b m since bits mask k small =
     let place : 8 * (i - from / 8) + k - from % 8 ≡ 8 * i + k - from = omega arith in
     rw (bit_of_byte-and, bits k small, mask k small, place) (grind (arith, nat_tests))
-
--- the eight bits of a row that stand in two of its bytes, where these are shifted to bit `from`
-pub pair_bits :
-    (row : List ℕ) (from i p q : ℕ)
-    → q < 256 → from / 8 < i → p ≡ get_or row (i - from / 8 - 1) 0 → q ≡ get_or row (i - from / 8) 0
-    → (k : ℕ) → k < 8 → bit_of_byte (bit_and ((p * 256 + q) / 2 ^ (from % 8)) 255) k ≡ dot_of_row row (8 * i + k - from)
-pair_bits row from i p q byte start first second k small =
-    let j : ℕ = i - from / 8 in
-    let place : 8 * (i - from / 8) + k - from % 8 ≡ 8 * i + k - from = omega arith in
-    let bits = shifted_bits row p q j (from % 8) k (omega arith) byte second (λ _. first) (λ none. absurd (omega arith)) small in
-    rw (← place) (grind (arith, nat_tests, bits))
 
 -- the first byte of a run, those up to byte t that two bytes of the row fill, and those up to byte l
 pub parts_joined :
@@ -83,33 +72,9 @@ run_dot-joined from end w row k before between within aligned fits painted =
       | inr rest ↦ grind (arith, nat_tests, drop_dots w row (k - (from + 8 * w)) {y = k - from})
     ]
 
--- nothing was painted before
-pub run_dot-alone :
-    (from end w : ℕ) (row : List ℕ) (k : ℕ) → w ≤ 0 → run_dot (from + 8 * w) end (drop w row) k ≡ run_dot from end row k
-run_dot-alone from end w row k none =
-    let no_byte : w ≡ 0 = omega arith in
-    rw (no_byte, add-zero from)
-
 -- the byte that has the bits of a run set, from the bytes with the bits up to each of its ends
 pub mask_bit :
     (a b from end k : ℕ)
     → b < 256 → k < 8 → bit_of_byte a k ≡ nat_lt k end → bit_of_byte b k ≡ nat_lt k from
     → bit_of_byte (bit_and a (255 - b)) k ≡ in_run from end k
 mask_bit a b from end k byte small upper lower = rw bit_of_byte-and (grind (arith, nat_tests, bit_of_byte-not {n = b} {k = k} byte small))
-
--- a run of one ink and the run after it
-pub runs_joined :
-    (from m end k : ℕ) (b d0 d1 d2 : Bool)
-    → from ≤ m → m ≤ end
-    → d1 ≡ (if in_run from m k then b else d0) → d2 ≡ (if in_run m end k then b else d1)
-    → d2 ≡ (if in_run from end k then b else d0)
-runs_joined from m end k b d0 d1 d2 since order e1 e2 = grind (arith, nat_tests)
-
--- a run between places where a byte begins, or an empty one, is that of the bytes
-pub whole_run : {a b : ℕ} (k : ℕ) → ((a ≡ b → ⊥) → (8 * (a / 8) ≡ a) × (8 * (b / 8) ≡ b))
-    → in_run (8 * (a / 8)) (8 * (b / 8)) k ≡ in_run a b k
-whole_run {a} {b} k whole =
-    elim (cases_eq a b) [
-      | inl same ↦ grind (arith, nat_tests)
-      | inr apart ↦ let starts = whole apart in grind (arith, nat_tests, starts)
-    ]

@@ -1,12 +1,12 @@
 -- Bits that are spread to squares of dots.
-use Rattle.std.proofs.Common.{◌≡◌, ℕ, ◌+◌, ◌-◌, ◌*◌, ◌/◌, ◌%◌, ◌^◌, ◌<◌, ◌≤◌, min, nat_lt, nat_eq, Bool, ◌||◌, if◌then◌else◌, List, get_or, bit_and, bit_or, add-zero, ap, ◌∙◌, inl, inr, arith}
+use Rattle.std.proofs.Common.{◌≡◌, ℕ, ◌+◌, ◌-◌, ◌*◌, ◌/◌, ◌%◌, ◌^◌, ◌<◌, ◌≤◌, min, nat_lt, Bool, ◌||◌, if◌then◌else◌, List, get_or, bit_and, bit_or, add-zero, ap, ◌∙◌, inl, inr, arith}
 use Rattle.std.specs.Int.{bit_at, div_ceil}
 use Rattle.std.proofs.Math.Nat.{mul-add-div_right}
 use Rattle.std.proofs.lemmas.Grind.{div_ceil_times}
 use Rattle.std.proofs.lemmas.Bool.{cases_lt}
 use Rattle.std.proofs.lemmas.Bool.Decides.{nat_tests}
 use Rattle.std.proofs.lemmas.Nat.{pow_pos, shr-shr, shl_whole, mul-le, div_below, le-div, mod_below, div-add-mod', div-mul-add}
-use Rattle.std.proofs.lemmas.Nat.Bits.{bit_at-zero, bit_at_or, bit_at_ones, bit_at_ones_above, ones_shr, bit_at_cat_low, bit_at_cat_high, bit_at_above}
+use Rattle.std.proofs.lemmas.Nat.Bits.{bit_at-zero, bit_at_or, bit_at_ones, bit_at_ones_above, ones_shr, bit_at_cat_low, bit_at_cat_high}
 use Rattle.pcl_bitmap.specs.Bitmap.{bit_of_byte, dot_of_row}
 use Rattle.pcl_bitmap.specs.Dots.{in_run, rectangle_dot, raster_dot}
 use Rattle.pcl_bitmap.proofs.Bytes.{bit_of_byte-low, dot_at}
@@ -36,13 +36,7 @@ square_bit s m j some few fits =
 abbrev pub spread_bit : (byte s i j : ℕ) → ℕ
 spread_bit byte s i j = if nat_lt (j / s) i then bit_at byte (j / s) else 0
 
--- bit i is clear
-pub spread_clear :
-    (wide byte s i j : ℕ) → bit_at byte i ≡ 0 → bit_at wide j ≡ spread_bit byte s i j
-    → bit_at wide j ≡ spread_bit byte s (i + 1) j
-spread_clear wide byte s i j clear above = grind (arith, nat_tests)
-
--- bit i is set
+-- bit i is set, and the bits below are spread
 pub spread_set :
     (wide byte s i j : ℕ) → 1 ≤ s → s ≤ 8 → i < 8 → bit_at byte i ≡ 1 → bit_at wide j ≡ spread_bit byte s i j
     → bit_at (bit_or wide (255 / 2 ^ (8 - s) * 2 ^ (s * i) % 2 ^ 64)) j ≡ spread_bit byte s (i + 1) j
@@ -51,10 +45,6 @@ spread_set wide byte s i j some few small is_set above =
     let since = quotient_test j s i some in
     let until = quotient_test j s (i + 1) some in
     rw (bit_at_or, square_bit s (s * i) j some few fits) (grind (arith, nat_tests, since, until))
-
--- all eight bits
-pub spread_all : {byte : ℕ} (s j : ℕ) → byte < 256 → spread_bit byte s 8 j ≡ bit_at byte (j / s)
-spread_all {byte} s j fits = grind (arith, nat_tests, bit_at_above byte 8 (j / s) fits)
 
 -- counted from the other end
 mirror : {s q : ℕ} → 1 ≤ s → q < 8 * s → (8 * s - 1 - q) / s ≡ 7 - q / s
@@ -77,10 +67,8 @@ pub part_bits :
 part_bits wide byte s part some within bits m small =
     let e : ℕ = 8 * (s - 1 - part) in
     let place : e + (7 - m) ≡ 8 * s - 1 - (8 * part + m) = omega arith in
-    bit_of_byte-low (wide / 2 ^ e) small
-    ∙ ap (λ n. nat_eq (n % 2) 1) (shr-shr wide e (7 - m))
-    ∙ ap (λ n. nat_eq n 1)
-    (bits (e + (7 - m)) ∙ ap (λ n. bit_at byte (n / s)) place ∙ ap (λ n. bit_at byte n) (mirror some (omega arith)))
+    let turned = mirror {s = s} {q = 8 * part + m} some (omega arith) in
+    rw (bit_of_byte-low (wide / 2 ^ e) small, shr-shr wide e (7 - m), bits (e + (7 - m)), place, turned)
 
 -- a quotient by the products that are left out
 quotient_moved : {s : ℕ} (b k rest : ℕ) → 1 ≤ s → k ≡ b * s + rest → k / s ≡ b + rest / s
@@ -105,12 +93,6 @@ spread_more row now new s first i k some above added within =
           grind (arith, nat_tests, here)
     ]
 
--- within a rectangle two sources have the same bits
-pub same_source :
-    (x y w h px py : ℕ) (p q d : Bool) → (px - x < w → p ≡ q)
-    → (if rectangle_dot x y w h px py then p || d else d) ≡ (if rectangle_dot x y w h px py then q || d else d)
-same_source x y w h px py p q d same = grind (arith, nat_tests)
-
 -- the squares of a row of raster data, cut at the page's edges
 pub squares_dot :
     (wide high x y w h s width px py : ℕ) (row : List ℕ) (d : Bool)
@@ -128,9 +110,14 @@ spread_count {s} {w} {n} some e =
     let product : n * (8 * s) ≡ div_ceil w (8 * s) * (8 * s) = ap (λ m. m * (8 * s)) e in
     (omega (arith, both.0), omega (arith, both.1))
 
--- a row that is seen from dot u on: its bits from a byte on, and the dots of these that are skipped
-pub seen_from : (row : List ℕ) (s u k : ℕ) → 1 ≤ s
-    → dot_of_row row (8 * (u / (8 * s)) + (u % (8 * s) + k) / s) ≡ dot_of_row row ((u + k) / s)
-seen_from row s u k some =
+-- a row that is seen from dot u on, where n bytes of dots are needed: it was spread from a byte on, and the dots of that byte
+-- before dot u are skipped
+pub spread_dot :
+    (row spread : List ℕ) (s u n count k : ℕ)
+    → 1 ≤ s → count ≡ div_ceil (u % (8 * s) + 8 * n) (8 * s) → k < 8 * n
+    → ((m : ℕ) → m < 8 * (s * count) → dot_of_row spread m ≡ dot_of_row row (8 * (u / (8 * s)) + m / s))
+    → dot_of_row spread (u % (8 * s) + k) ≡ dot_of_row row ((u + k) / s)
+spread_dot row spread s u n count k some e small bits =
     let whole : u / (8 * s) * (8 * s) + u % (8 * s) ≡ u = div-add-mod' u (8 * s) in
     rw (quotient_moved (8 * (u / (8 * s))) (u + k) (u % (8 * s) + k) some (omega arith))
+    (bits (u % (8 * s) + k) (omega (arith, (spread_count {s = s} some e).0)))

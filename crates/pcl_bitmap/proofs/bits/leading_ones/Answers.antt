@@ -1,5 +1,5 @@
-use Rattle.std.proofs.Common.{arith, sym, ◌∙◌}
-use Rattle.std.proofs.lemmas.Bool.{lt-ltb}
+use Rattle.std.proofs.Common.{arith}
+use Rattle.std.proofs.lemmas.Bool.Decides.{nat_tests}
 use Rattle.pcl_bitmap.proofs.Bytes.{bit_of_byte-leading, bit_of_byte-all}
 use Rattle.pcl_bitmap.proofs.bits.leading_ones.Goals as goal
 
@@ -7,4 +7,4 @@ pub returns-then-count-lt8 : goal.returns-then-count-lt8
 returns-then-count-lt8 c = λ k h. bit_of_byte-leading (omega arith) h
 
 pub returns-else-count-lt8 : goal.returns-else-count-lt8
-returns-else-count-lt8 c = λ k h. bit_of_byte-all h ∙ sym (lt-ltb k c.args.count (omega arith))
+returns-else-count-lt8 c = λ k h. grind (arith, nat_tests, bit_of_byte-all h)

@@ -1,6 +1,8 @@
-use Rattle.std.proofs.Common.{ℕ, ◌-◌, ◌/◌, ◌<◌, get_or, refl, arith}
+use Rattle.std.proofs.Common.{◌≡◌, ℕ, ◌+◌, ◌-◌, ◌*◌, ◌/◌, ◌%◌, ◌<◌, get_or, refl, arith}
+use Rattle.std.proofs.lemmas.Bool.Decides.{nat_tests}
 use Rattle.pcl_bitmap.specs.Bitmap.{dot_of_row}
-use Rattle.pcl_bitmap.proofs.Runs.{part_more, pair_bits}
+use Rattle.pcl_bitmap.proofs.Bytes.{shifted_bits}
+use Rattle.pcl_bitmap.proofs.Runs.{part_more}
 use Rattle.pcl_bitmap.proofs.bits.or_pairs.Goals as goal
 
 pub loop-i-preserved : goal.loop-i-preserved
@@ -12,6 +14,10 @@ loop-i-preserved c =
     let byte : get_or source place 0 < 256 = omega (arith, c.type_inv.source place) in
     part_more c.args.target.now c.loop-i.target c.args.first i c.bits_of_pair.result (λ k. dot_of_row source (k - from))
     (omega arith) (omega arith)
-    (λ k small. rw c.bits_of_pair.ensures
-    (pair_bits source from i (get_or source (place - 1) 0) (get_or source place 0) byte (omega arith) refl refl k small))
+    (λ k small.
+    let moved : 8 * (i - from / 8) + k - from % 8 ≡ 8 * i + k - from = omega arith in
+    let bits =
+    shifted_bits source (get_or source (place - 1) 0) (get_or source place 0) place (from % 8) k (omega arith) byte refl (λ _. refl)
+    (λ none. absurd (omega arith)) small in
+    rw (c.bits_of_pair.ensures, ← moved) (grind (arith, nat_tests, bits)))
     c.loop-i.invariant

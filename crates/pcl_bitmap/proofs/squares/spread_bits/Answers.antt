@@ -1,7 +1,8 @@
-use Rattle.std.proofs.Common.{◌≡◌, sym, ap, ◌∙◌, arith}
+use Rattle.std.proofs.Common.{◌≡◌, ◌/◌, sym, ◌∙◌, arith}
+use Rattle.std.proofs.lemmas.Bool.Decides.{nat_tests}
 use Rattle.std.specs.Int.{bit_at}
-use Rattle.std.proofs.lemmas.Nat.Bits.{shr_and_one, bit_at-lt}
-use Rattle.pcl_bitmap.proofs.Spread.{spread_bit, spread_set, spread_clear, spread_all}
+use Rattle.std.proofs.lemmas.Nat.Bits.{shr_and_one, bit_at-lt, bit_at_above}
+use Rattle.pcl_bitmap.proofs.Spread.{spread_set}
 use Rattle.pcl_bitmap.proofs.squares.spread_bits.Goals as goal
 use Rattle.pcl_bitmap.proofs.squares.spread_bits.Goals.{then-byte-i-eq1, else-byte-i-eq1}
 
@@ -12,16 +13,12 @@ loop-i-preserved c j =
     let scale = c.args.scale in
     elim c.if-byte-i-eq1.branch [
       | then-byte-i-eq1 w ↦
-          ap (λ n. bit_at n j) w.wide-is
-          ∙ spread_set c.loop-i.wide byte scale i j (omega arith) (omega arith) (omega arith)
-          (sym (shr_and_one byte i) ∙ w.if-byte-i-eq1.true) (c.loop-i.invariant j)
+          rw w.wide-is (spread_set c.loop-i.wide byte scale i j (omega arith) (omega arith) (omega arith)
+          (sym (shr_and_one byte i) ∙ w.if-byte-i-eq1.true) (c.loop-i.invariant j))
       | else-byte-i-eq1 w ↦
-          ap (λ n. bit_at n j) w.wide-is
-          ∙ spread_clear c.loop-i.wide byte scale i j (omega (arith, bit_at-lt byte i, shr_and_one byte i, w.if-byte-i-eq1.false))
-          (c.loop-i.invariant j)
+          let clear : bit_at byte i ≡ 0 = omega (arith, bit_at-lt byte i, shr_and_one byte i, w.if-byte-i-eq1.false) in
+          rw w.wide-is (grind (arith, nat_tests, c.loop-i.invariant j, clear))
     ]
 
 pub returns : goal.returns
-returns c j =
-    let all : c.loop-i.i ≡ 8 = omega arith in
-    c.loop-i.invariant j ∙ ap (λ n. spread_bit c.args.byte c.args.scale n j) all ∙ spread_all c.args.scale j (omega arith)
+returns c j = grind (arith, nat_tests, c.loop-i.invariant j, bit_at_above c.args.byte 8 (j / c.args.scale) (omega arith))
