@@ -62,48 +62,12 @@ tried_as dpi command s few named =
     |> within_page_limit) under
     ∙ ap (λ (o : Option Operation). after_named dpi o command (counted s) |> within_page_limit) named
 
-pub tried_ignored : {S : Type 0} (takes : S → Page → S → Type 0) (dpi : Dpi) (operation : Operation) (command : Said) (s : Situation)
-    (old new : Performer) (sink : S)
-    → IsIn dpi s old → old.performed < 100000000 → old.ejected ≤ 256 → operation_of command.name ≡ Some operation
-    → (is_some old.raster && is_ignored_in_raster operation) ≡ true → IsIn dpi (counted s) new
-    → IsTried takes dpi command s (Ok operation) new sink sink
-unfolding after
-tried_ignored takes dpi operation command s old new sink i few fit named e now =
-    let ignored : is_ignored operation s ≡ true =
-    ap (λ (r : Option Raster). is_some r && is_ignored_in_raster operation) (sym i.raster) ∙ e in (
-      counted s,
-      named,
-      tried_as dpi command s (omega (arith, few, i.performed)) named
-          ∙ ap (λ (b : Bool). cond b (Ok (counted s))
-          (taken dpi operation command.value (prepared dpi operation (counted s)) |> drawn_on dpi operation command)
-          |> within_page_limit) ignored
-          ∙ ap (λ (why : Option Kind). unless_refused why (counted s)) (pages_fit (counted s) (omega (arith, i.ejected))),
-      now,
-      ([], sym (append-nil s.pages), refl),
-    )
-
 -- what is known of a command that isn't ignored, at the turn of the page
 pub record AtTurn (dpi : Dpi) (operation : Operation) (command : Said) (s : Situation) (old : Performer) : Type 0 where
   pub is_in : IsIn dpi s old
   pub few : old.performed < 100000000
   pub named : operation_of command.name ≡ Some operation
   pub performed : (is_some old.raster && is_ignored_in_raster operation) ≡ false
-
--- what such a command leads to, by the outcome of its operation
-tried_at : {dpi : Dpi} {operation : Operation} {command : Said} {s : Situation} {old : Performer} {o : Outcome}
-    → AtTurn dpi operation command s old
-    → outcome dpi operation command.value (is_marked (prepared dpi operation (counted s))) (prepared dpi operation (counted s)).settings ≡ o
-    → tried dpi command s
-    ≡ (turned_by o (prepared dpi operation (counted s)) |> drawn_on dpi operation command |> within_page_limit)
-unfolding after
-tried_at {dpi} {operation} {command} {s} a is =
-    let before = prepared dpi operation (counted s) in
-    let ignored : is_ignored operation s ≡ false =
-    ap (λ (r : Option Raster). is_some r && is_ignored_in_raster operation) (sym a.is_in.raster) ∙ a.performed in
-    tried_as dpi command s (omega (arith, a.few, a.is_in.performed)) a.named
-    ∙ ap (λ (b : Bool). cond b (Ok (counted s)) (taken dpi operation command.value before |> drawn_on dpi operation command)
-    |> within_page_limit) ignored
-    ∙ ap (λ (p : Outcome). turned_by p before |> drawn_on dpi operation command |> within_page_limit) is
 
 -- ---- commands that are refused where they draw
 
@@ -135,196 +99,170 @@ no_more pages (sheet ∷ more) e =
     let longer = ap (λ (ps : List Sheet). length ps) e in
     absurd (omega (arith, longer, length-append pages (sheet ∷ more)))
 
--- so the sink is as before
-stays_sink : {S : Type 0} (takes : S → Page → S → Type 0) (dpi : Dpi) (done : Settings × Effect) (s : Situation) (sink later : S)
-    → done.1 ≡ Stay → HandsMore takes dpi s (turned done.0 done.1 s) sink later → later ≡ sink
-stays_sink takes dpi done s sink later e h =
-    subst (λ (more : List Sheet). Hands takes dpi more sink later) (no_more s.pages h.0 (sym (stays_pages done s e) ∙ h.1)) h.2
+-- ---- a command and its sink
 
--- the pages of a turn, after those from before the command
-handed_on : {S : Type 0} (takes : S → Page → S → Type 0) (dpi : Dpi) (operation : Operation) (command : Said) (s now : Situation)
-    (sink later : S)
-    → HandsMore takes dpi (prepared dpi operation (counted s)) now sink later
-    → HandsMore takes dpi s (drawn dpi operation command now) sink later
-handed_on takes dpi operation command s now sink later h = (
-  h.0,
-  drawn_pages dpi operation command now ∙ h.1
-      ∙ ap (λ (ps : List Sheet). ps ++ h.0) (prepared_pages dpi (ends_raster operation) (counted s)),
-  h.2,
-)
+module _ {S : Type 0} (takes : S → Page → S → Type 0) (dpi : Dpi) (operation : Operation) (command : Said) (s : Situation) where
+  -- the situation at the turn of the page
+  abbrev before : Situation
+  before = prepared dpi operation (counted s)
 
--- by why it isn't drawn, if it isn't
-tried_by : (dpi : Dpi) (operation : Operation) (command : Said) (s now : Situation) {why : Option Kind}
-    → tried dpi command s ≡ (drawn_on dpi operation command now |> within_page_limit) → draw_refusal operation command now ≡ why
-    → tried dpi command s ≡ (unless_refused why (drawn dpi operation command now) |> within_page_limit)
-tried_by dpi operation command s now is e =
-    is ∙ ap (λ (o : Option Kind). unless_refused o (drawn dpi operation command now) |> within_page_limit) e
+  -- what the settings become there
+  abbrev set_to : Outcome
+  set_to = outcome dpi operation command.value (is_marked before) before.settings
 
--- what is drawn hands over no page
-drawn_fits : (dpi : Dpi) (operation : Operation) (command : Said) (now : Situation) {past : Option Kind} → page_refusal now ≡ past
-    → within_page_limit (drawn dpi operation command now) ≡ unless_refused past (drawn dpi operation command now)
-drawn_fits dpi operation command now e =
-    ap (λ (why : Option Kind). unless_refused why (drawn dpi operation command now))
-    (ap (λ (ps : List Sheet). cond (nat_le (length ps) page_limit) None (Some TooManyPages)) (drawn_pages dpi operation command now) ∙ e)
+  -- and the situation after the turn
+  abbrev turned_with : Settings × Effect → Situation
+  turned_with done = turned done.0 done.1 before
 
--- the page was turned: what holds before anything is drawn, and what then is the situation after the command
-pub record IsGone {S : Type 0} (takes : S → Page → S → Type 0) (dpi : Dpi) (operation : Operation) (command : Said) (s now : Situation)
-    (sink later : S) : Type 0 where
-  pub tried_is : tried dpi command s ≡ (drawn_on dpi operation command now |> within_page_limit)
-  pub fits : page_refusal now ≡ None
-  pub handed : HandsMore takes dpi s (drawn dpi operation command now) sink later
-  pub quiet : (kind : Kind) → draw_refusal operation command now ≡ Some kind → later ≡ sink
+  pub tried_ignored : (old new : Performer) (sink : S)
+      → IsIn dpi s old → old.performed < 100000000 → old.ejected ≤ 256 → operation_of command.name ≡ Some operation
+      → (is_some old.raster && is_ignored_in_raster operation) ≡ true → IsIn dpi (counted s) new
+      → IsTried takes dpi command s (Ok operation) new sink sink
+  unfolding after
+  tried_ignored old new sink i few fit named e now =
+      let ignored : is_ignored operation s ≡ true =
+      ap (λ (r : Option Raster). is_some r && is_ignored_in_raster operation) (sym i.raster) ∙ e in (
+        counted s,
+        named,
+        tried_as dpi command s (omega (arith, few, i.performed)) named
+            ∙ ap (λ (b : Bool). cond b (Ok (counted s)) (taken dpi operation command.value before |> drawn_on dpi operation command)
+            |> within_page_limit) ignored
+            ∙ ap (λ (why : Option Kind). unless_refused why (counted s)) (pages_fit (counted s) (omega (arith, i.ejected))),
+        now,
+        ([], sym (append-nil s.pages), refl),
+      )
 
-gone_with : {S : Type 0} (takes : S → Page → S → Type 0) (dpi : Dpi) (operation : Operation) (command : Said) (s : Situation)
-    (old : Performer) (done : Settings × Effect) (sink later : S)
-    → AtTurn dpi operation command s old
-    → outcome dpi operation command.value (is_marked (prepared dpi operation (counted s))) (prepared dpi operation (counted s)).settings
-    ≡ Some done
-    → page_refusal (turned done.0 done.1 (prepared dpi operation (counted s))) ≡ None
-    → HandsMore takes dpi (prepared dpi operation (counted s)) (turned done.0 done.1 (prepared dpi operation (counted s))) sink later
-    → IsGone takes dpi operation command s (turned done.0 done.1 (prepared dpi operation (counted s))) sink later
-gone_with takes dpi operation command s old done sink later a is fits h =
-    let before = prepared dpi operation (counted s) in
-    let now = turned done.0 done.1 before in
-    record {
-      tried_is = tried_at a is;
-      fits = fits;
-      handed = handed_on takes dpi operation command s now sink later h;
-      quiet = λ kind e.
-          stays_sink takes dpi done before sink later
-          (refused_stays dpi operation command (is_marked before) before.settings now e is) h;
-    }
+  -- what a command that isn't ignored leads to, by the outcome of its operation
+  tried_at : {old : Performer} {o : Outcome} → AtTurn dpi operation command s old → set_to ≡ o
+      → tried dpi command s ≡ (turned_by o before |> drawn_on dpi operation command |> within_page_limit)
+  unfolding after
+  tried_at a is =
+      let ignored : is_ignored operation s ≡ false =
+      ap (λ (r : Option Raster). is_some r && is_ignored_in_raster operation) (sym a.is_in.raster) ∙ a.performed in
+      tried_as dpi command s (omega (arith, a.few, a.is_in.performed)) a.named
+      ∙ ap (λ (b : Bool). cond b (Ok (counted s)) (taken dpi operation command.value before |> drawn_on dpi operation command)
+      |> within_page_limit) ignored
+      ∙ ap (λ (p : Outcome). turned_by p before |> drawn_on dpi operation command |> within_page_limit) is
 
--- nothing is refused where it is drawn
-gone_drawn : {S : Type 0} (takes : S → Page → S → Type 0) (dpi : Dpi) (operation : Operation) (command : Said) (s now : Situation)
-    (sink later : S) → IsGone takes dpi operation command s now sink later → draw_refusal operation command now ≡ None
-    → tried dpi command s ≡ Ok (drawn dpi operation command now)
-gone_drawn takes dpi operation command s now sink later g e =
-    tried_by dpi operation command s now g.tried_is e ∙ drawn_fits dpi operation command now g.fits
+  -- by why it isn't drawn, if it isn't
+  tried_by : (now : Situation) {why : Option Kind}
+      → tried dpi command s ≡ (drawn_on dpi operation command now |> within_page_limit) → draw_refusal operation command now ≡ why
+      → tried dpi command s ≡ (unless_refused why (drawn dpi operation command now) |> within_page_limit)
+  tried_by now is e = is ∙ ap (λ (o : Option Kind). unless_refused o (drawn dpi operation command now) |> within_page_limit) e
 
--- memory ran out after the turn
-gone_short : {S : Type 0} (takes : S → Page → S → Type 0) (dpi : Dpi) (operation : Operation) (command : Said) (s now : Situation)
-    (new : Performer) (sink later : S) (why : Option Kind) → IsGone takes dpi operation command s now sink later
-    → draw_refusal operation command now ≡ why → IsTried takes dpi command s (Err Memory) new sink later
-gone_short takes dpi operation command s now new sink later None g e =
-    inr (drawn dpi operation command now, gone_drawn takes dpi operation command s now sink later g e, g.handed)
-gone_short takes dpi operation command s now new sink later (Some kind) g e = inl (g.quiet kind e)
+  -- what is drawn hands over no page
+  drawn_fits : (now : Situation) {past : Option Kind} → page_refusal now ≡ past
+      → within_page_limit (drawn dpi operation command now) ≡ unless_refused past (drawn dpi operation command now)
+  drawn_fits now e =
+      ap (λ (why : Option Kind). unless_refused why (drawn dpi operation command now))
+      (ap (λ (ps : List Sheet). cond (nat_le (length ps) page_limit) None (Some TooManyPages)) (drawn_pages dpi operation command now) ∙ e)
 
--- pages that are past the limit come from a command that isn't refused where it draws
-past_why : {dpi : Dpi} {operation : Operation} {command : Said} {s : Situation} {old : Performer} {done : Settings × Effect}
-    {kind : Kind} (why : Option Kind)
-    → AtTurn dpi operation command s old
-    → outcome dpi operation command.value (is_marked (prepared dpi operation (counted s))) (prepared dpi operation (counted s)).settings
-    ≡ Some done
-    → page_refusal (turned done.0 done.1 (prepared dpi operation (counted s))) ≡ Some kind
-    → draw_refusal operation command (turned done.0 done.1 (prepared dpi operation (counted s))) ≡ why → why ≡ None
-past_why None a is past e = refl
-past_why {dpi} {operation} {command} {s} {old} {done} (Some other) a is past e =
-    let before = prepared dpi operation (counted s) in
-    let now = turned done.0 done.1 before in
-    let stay = refused_stays dpi operation command (is_marked before) before.settings now e is in
-    let pages : now.pages ≡ s.pages = stays_pages done before stay ∙ prepared_pages dpi (ends_raster operation) (counted s) in
-    let few : length s.pages ≤ 256 = omega (arith, a.is_in.ejected, old.few_pages) in
-    let fits : page_refusal now ≡ None =
-    ap (λ (ps : List Sheet). cond (nat_le (length ps) page_limit) None (Some TooManyPages)) pages ∙ pages_fit s few in
-    absurd cc
+  -- the page was turned: what holds before anything is drawn, and what then is the situation after the command
+  pub record IsGone (now : Situation) (sink later : S) : Type 0 where
+    pub tried_is : tried dpi command s ≡ (drawn_on dpi operation command now |> within_page_limit)
+    pub fits : page_refusal now ≡ None
+    pub handed : HandsMore takes dpi s (drawn dpi operation command now) sink later
+    pub quiet : (kind : Kind) → draw_refusal operation command now ≡ Some kind → later ≡ sink
 
--- the same for a turn that a command's refusal comes from
-turn_refused : {S : Type 0} (takes : S → Page → S → Type 0) (dpi : Dpi) (operation : Operation) (command : Said) (s : Situation)
-    (old new : Performer) (sink later : S) (kind : Kind)
-    (o : Outcome) → AtTurn dpi operation command s old
-    → outcome dpi operation command.value (is_marked (prepared dpi operation (counted s))) (prepared dpi operation (counted s)).settings ≡ o
-    → IsTurned takes dpi o (prepared dpi operation (counted s)) (Err (Refused kind)) new sink later
-    → IsTried takes dpi command s (Err (Refused kind)) new sink later
-turn_refused takes dpi operation command s old new sink later kind None a is t = (tried_at a is ∙ ap (λ (k : Kind). Err k) (sym t.0), t.1)
-turn_refused takes dpi operation command s old new sink later kind (Some done) a is t =
-    let now = turned done.0 done.1 (prepared dpi operation (counted s)) in
-    let free : draw_refusal operation command now ≡ None = past_why (draw_refusal operation command now) a is t.0 refl in (
-      tried_by dpi operation command s now (tried_at a is) free ∙ drawn_fits dpi operation command now t.0,
-      t.1,
-    )
+  gone_with : {old : Performer} (done : Settings × Effect) (sink later : S) → AtTurn dpi operation command s old → set_to ≡ Some done
+      → page_refusal (turned_with done) ≡ None → HandsMore takes dpi before (turned_with done) sink later
+      → IsGone (turned_with done) sink later
+  gone_with done sink later a is fits h = record {
+    tried_is = tried_at a is;
+    fits = fits;
+    handed = (
+      h.0,
+      drawn_pages dpi operation command (turned_with done) ∙ h.1
+          ∙ ap (λ (ps : List Sheet). ps ++ h.0) (prepared_pages dpi (ends_raster operation) (counted s)),
+      h.2,
+    );
+    quiet = λ kind e.
+        let stay = refused_stays dpi operation command (is_marked before) before.settings (turned_with done) e is in
+        subst (λ (more : List Sheet). Hands takes dpi more sink later)
+        (no_more before.pages h.0 (sym (stays_pages done before stay) ∙ h.1)) h.2;
+  }
 
-turn_short : {S : Type 0} (takes : S → Page → S → Type 0) (dpi : Dpi) (operation : Operation) (command : Said) (s : Situation)
-    (old new : Performer) (sink later : S) (o : Outcome)
-    → AtTurn dpi operation command s old
-    → outcome dpi operation command.value (is_marked (prepared dpi operation (counted s))) (prepared dpi operation (counted s)).settings ≡ o
-    → IsTurned takes dpi o (prepared dpi operation (counted s)) (Err Memory) new sink later
-    → IsTried takes dpi command s (Err Memory) new sink later
-turn_short takes dpi operation command s old new sink later None a is t = inl t
-turn_short takes dpi operation command s old new sink later (Some done) a is t =
-    let now = turned done.0 done.1 (prepared dpi operation (counted s)) in
-    elim t [
-      | inl same ↦ inl same
-      | inr h ↦
-          gone_short takes dpi operation command s now new sink later (draw_refusal operation command now)
-          (gone_with takes dpi operation command s old done sink later a is h.0 h.1) refl
-    ]
+  -- nothing is refused where it is drawn
+  gone_drawn : (now : Situation) {sink later : S} → IsGone now sink later → draw_refusal operation command now ≡ None
+      → tried dpi command s ≡ Ok (drawn dpi operation command now)
+  gone_drawn now g e = tried_by now g.tried_is e ∙ drawn_fits now g.fits
 
-pub tried_refused : {S : Type 0} (takes : S → Page → S → Type 0) (dpi : Dpi) (operation : Operation) (command : Said) (s : Situation)
-    (old new : Performer) (sink later : S) (fault : CallFault)
-    → AtTurn dpi operation command s old
-    → IsTurned takes dpi
-    (outcome dpi operation command.value (is_marked (prepared dpi operation (counted s))) (prepared dpi operation (counted s)).settings)
-    (prepared dpi operation (counted s)) (Err fault) new sink later
-    → IsTried takes dpi command s (Err fault) new sink later
-tried_refused takes dpi operation command s old new sink later (Refused kind) a t =
-    turn_refused takes dpi operation command s old new sink later kind _ a refl t
-tried_refused takes dpi operation command s old new sink later Memory a t =
-    turn_short takes dpi operation command s old new sink later _ a refl t
+  -- memory ran out after the turn
+  gone_short : (now : Situation) (new : Performer) (sink later : S) (why : Option Kind) → IsGone now sink later
+      → draw_refusal operation command now ≡ why → IsTried takes dpi command s (Err Memory) new sink later
+  gone_short now new sink later None g e = inr (drawn dpi operation command now, gone_drawn now g e, g.handed)
+  gone_short now new sink later (Some kind) g e = inl (g.quiet kind e)
 
--- the performer is at the situation after the turn
-pub record Gone {S : Type 0} (takes : S → Page → S → Type 0) (dpi : Dpi) (operation : Operation) (command : Said) (s : Situation)
-    (middle : Performer) (sink later : S) : Type 0 where
-  pub turned_to : Situation
-  pub is_in : IsIn dpi turned_to middle
-  pub is_gone : IsGone takes dpi operation command s turned_to sink later
+  -- pages that are past the limit come from a command that isn't refused where it draws
+  past_why : {old : Performer} {done : Settings × Effect} {kind : Kind} (why : Option Kind) → AtTurn dpi operation command s old
+      → set_to ≡ Some done → page_refusal (turned_with done) ≡ Some kind → draw_refusal operation command (turned_with done) ≡ why
+      → why ≡ None
+  past_why None a is past e = refl
+  past_why {old} {done} (Some other) a is past e =
+      let stay = refused_stays dpi operation command (is_marked before) before.settings (turned_with done) e is in
+      let pages : (turned_with done).pages ≡ s.pages =
+      stays_pages done before stay ∙ prepared_pages dpi (ends_raster operation) (counted s) in
+      let fits : page_refusal (turned_with done) ≡ None =
+      ap (λ (ps : List Sheet). cond (nat_le (length ps) page_limit) None (Some TooManyPages)) pages
+      ∙ pages_fit s (omega (arith, a.is_in.ejected, old.few_pages)) in
+      absurd cc
 
-gone_by : {S : Type 0} (takes : S → Page → S → Type 0) (dpi : Dpi) (operation : Operation) (command : Said) (s : Situation)
-    (old middle : Performer) (sink later : S) (o : Outcome)
-    → AtTurn dpi operation command s old
-    → outcome dpi operation command.value (is_marked (prepared dpi operation (counted s))) (prepared dpi operation (counted s)).settings ≡ o
-    → IsTurned takes dpi o (prepared dpi operation (counted s)) (Ok tt) middle sink later
-    → Gone takes dpi operation command s middle sink later
-gone_by takes dpi operation command s old middle sink later None a is t = absurd t
-gone_by takes dpi operation command s old middle sink later (Some done) a is t = record {
-  turned_to = turned done.0 done.1 (prepared dpi operation (counted s));
-  is_in = t.0;
-  is_gone = gone_with takes dpi operation command s old done sink later a is t.1 t.2;
-}
+  turn_refused : {old : Performer} (new : Performer) (sink later : S) (kind : Kind) (o : Outcome) → AtTurn dpi operation command s old
+      → set_to ≡ o → IsTurned takes dpi o before (Err (Refused kind)) new sink later
+      → IsTried takes dpi command s (Err (Refused kind)) new sink later
+  turn_refused new sink later kind None a is t = (tried_at a is ∙ ap (λ (k : Kind). Err k) (sym t.0), t.1)
+  turn_refused new sink later kind (Some done) a is t =
+      let free : draw_refusal operation command (turned_with done) ≡ None =
+      past_why (draw_refusal operation command (turned_with done)) a is t.0 refl in
+      (tried_by (turned_with done) (tried_at a is) free ∙ drawn_fits (turned_with done) t.0, t.1)
 
-pub gone : {S : Type 0} (takes : S → Page → S → Type 0) (dpi : Dpi) (operation : Operation) (command : Said) (s : Situation)
-    (old middle : Performer) (sink later : S)
-    → AtTurn dpi operation command s old
-    → IsTurned takes dpi
-    (outcome dpi operation command.value (is_marked (prepared dpi operation (counted s))) (prepared dpi operation (counted s)).settings)
-    (prepared dpi operation (counted s)) (Ok tt) middle sink later
-    → Gone takes dpi operation command s middle sink later
-gone takes dpi operation command s old middle sink later a t = gone_by takes dpi operation command s old middle sink later _ a refl t
+  turn_short : {old : Performer} (new : Performer) (sink later : S) (o : Outcome) → AtTurn dpi operation command s old → set_to ≡ o
+      → IsTurned takes dpi o before (Err Memory) new sink later → IsTried takes dpi command s (Err Memory) new sink later
+  turn_short new sink later None a is t = inl t
+  turn_short new sink later (Some done) a is t =
+      elim t [
+        | inl same ↦ inl same
+        | inr h ↦
+            gone_short (turned_with done) new sink later (draw_refusal operation command (turned_with done))
+            (gone_with done sink later a is h.0 h.1) refl
+      ]
 
--- a command that was drawn
-pub tried_drawn : {S : Type 0} (takes : S → Page → S → Type 0) (dpi : Dpi) (operation : Operation) (command : Said) (s : Situation)
-    (old middle new : Performer) (sink later : S)
-    → AtTurn dpi operation command s old → (g : Gone takes dpi operation command s middle sink later)
-    → Draws dpi (draw_refusal operation command g.turned_to) (drawn dpi operation command g.turned_to) (Ok tt) new
-    → IsTried takes dpi command s (Ok operation) new sink later
-tried_drawn takes dpi operation command s old middle new sink later a g d = (
-  drawn dpi operation command g.turned_to,
-  a.named,
-  gone_drawn takes dpi operation command s g.turned_to sink later g.is_gone d.0,
-  d.1,
-  g.is_gone.handed,
-)
+  pub tried_refused : (old new : Performer) (sink later : S) (fault : CallFault) → AtTurn dpi operation command s old
+      → IsTurned takes dpi set_to before (Err fault) new sink later → IsTried takes dpi command s (Err fault) new sink later
+  tried_refused old new sink later (Refused kind) a t = turn_refused new sink later kind _ a refl t
+  tried_refused old new sink later Memory a t = turn_short new sink later _ a refl t
 
--- a command that is refused where it draws
-pub tried_undrawn : {S : Type 0} (takes : S → Page → S → Type 0) (dpi : Dpi) (operation : Operation) (command : Said) (s : Situation)
-    (old middle new : Performer) (sink later : S)
-    → AtTurn dpi operation command s old → (g : Gone takes dpi operation command s middle sink later) (fault : CallFault)
-    → Draws dpi (draw_refusal operation command g.turned_to) (drawn dpi operation command g.turned_to) (Err fault) new
-    → IsTried takes dpi command s (Err fault) new sink later
-tried_undrawn takes dpi operation command s old middle new sink later a g (Refused kind) d =
-    (tried_by dpi operation command s g.turned_to g.is_gone.tried_is d, g.is_gone.quiet kind d)
-tried_undrawn takes dpi operation command s old middle new sink later a g Memory d =
-    gone_short takes dpi operation command s g.turned_to new sink later (draw_refusal operation command g.turned_to) g.is_gone refl
+  -- the performer is at the situation after the turn
+  pub record Gone (middle : Performer) (sink later : S) : Type 0 where
+    pub turned_to : Situation
+    pub is_in : IsIn dpi turned_to middle
+    pub is_gone : IsGone turned_to sink later
+
+  gone_by : {old : Performer} (middle : Performer) (sink later : S) (o : Outcome) → AtTurn dpi operation command s old → set_to ≡ o
+      → IsTurned takes dpi o before (Ok tt) middle sink later → Gone middle sink later
+  gone_by middle sink later None a is t = absurd t
+  gone_by middle sink later (Some done) a is t =
+      record { turned_to = turned_with done; is_in = t.0; is_gone = gone_with done sink later a is t.1 t.2 }
+
+  pub gone : (old middle : Performer) (sink later : S) → AtTurn dpi operation command s old
+      → IsTurned takes dpi set_to before (Ok tt) middle sink later → Gone middle sink later
+  gone old middle sink later a t = gone_by middle sink later _ a refl t
+
+  -- a command that was drawn
+  pub tried_drawn : (old middle new : Performer) (sink later : S) → AtTurn dpi operation command s old → (g : Gone middle sink later)
+      → Draws dpi (draw_refusal operation command g.turned_to) (drawn dpi operation command g.turned_to) (Ok tt) new
+      → IsTried takes dpi command s (Ok operation) new sink later
+  tried_drawn old middle new sink later a g d =
+      (drawn dpi operation command g.turned_to, a.named, gone_drawn g.turned_to g.is_gone d.0, d.1, g.is_gone.handed)
+
+  -- a command that is refused where it draws
+  pub tried_undrawn : (old middle new : Performer) (sink later : S) → AtTurn dpi operation command s old → (g : Gone middle sink later)
+      (fault : CallFault) → Draws dpi (draw_refusal operation command g.turned_to) (drawn dpi operation command g.turned_to) (Err fault) new
+      → IsTried takes dpi command s (Err fault) new sink later
+  tried_undrawn old middle new sink later a g (Refused kind) d =
+      (tried_by g.turned_to g.is_gone.tried_is d, g.is_gone.quiet kind d)
+  tried_undrawn old middle new sink later a g Memory d =
+      gone_short g.turned_to new sink later (draw_refusal operation command g.turned_to) g.is_gone refl
 
 -- ---- the end of the input
 

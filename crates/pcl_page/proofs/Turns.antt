@@ -187,54 +187,6 @@ pub turned_yes : (settings : Settings) (effect : Effect) (s : Situation) → eje
     → turned settings effect s ≡ turned_page settings s
 turned_yes settings effect s e = ap (λ (b : Bool). cond b (turned_page settings s) (with_settings settings s)) e
 
--- the facts of a turn, as one record
-record Turns {S : Type 0} (takes : S → Page → S → Type 0) (dpi : Dpi) (s later : Situation) (new : Performer)
-    (old_sink new_sink : S) : Type 0 where
-  is_in : IsIn dpi later new
-  fits : page_refusal later ≡ None
-  handed : HandsMore takes dpi s later old_sink new_sink
-
-turns_to : {S : Type 0} (takes : S → Page → S → Type 0) (dpi : Dpi) (o : Outcome) (done : Settings × Effect) (s later : Situation)
-    (new : Performer) (old_sink new_sink : S)
-    → o ≡ Some done → turned done.0 done.1 s ≡ later → Turns takes dpi s later new old_sink new_sink
-    → IsTurned takes dpi o s (Ok tt) new old_sink new_sink
-turns_to takes dpi o done s later new old_sink new_sink e t w =
-    subst (λ (p : Outcome). IsTurned takes dpi p s (Ok tt) new old_sink new_sink) (sym e)
-    (let is : Turns takes dpi s (turned done.0 done.1 s) new old_sink new_sink =
-    subst (λ (z : Situation). Turns takes dpi s z new old_sink new_sink) (sym t) w in
-    (is.is_in, is.fits, is.handed))
-
-pub turned_stays : {S : Type 0} (takes : S → Page → S → Type 0) (dpi : Dpi) (operation : Operation) (value : Value) (effect : Effect)
-    (s : Situation)
-    (old middle new : Performer) (sink later : S)
-    → IsIn dpi s old → Answers (outcome dpi operation value old.is_marked old.environment) (Ok effect) old.environment middle.environment
-    → ejects effect old.is_marked ≡ false → old.ejected ≤ 256 → middle.page.bitmap ≡ old.page.bitmap → middle.is_marked ≡ old.is_marked
-    → middle.ejected ≡ old.ejected → middle.performed ≡ old.performed → middle.asks ≡ old.asks → middle.raster ≡ old.raster
-    → middle.fonts ≡ old.fonts
-    → IsFollowed middle new → later ≡ sink
-    → IsTurned takes dpi (outcome dpi operation value (is_marked s) s.settings) s (Ok tt) new sink later
-turned_stays takes dpi operation value effect s old middle new sink later i a e few b m j p q r t f same =
-    let d = answered (outcome dpi operation value old.is_marked old.environment) old.environment a in
-    let o : outcome dpi operation value (is_marked s) s.settings ≡ Some d.0 = sym (outcome_in operation value i) ∙ d.1 in
-    let no : ejects d.0.1 (is_marked s) ≡ false =
-    ap (λ (x : Effect). ejects x (is_marked s)) (sym d.2) ∙ ap (ejects effect) (sym i.marked) ∙ e in
-    turns_to takes dpi (outcome dpi operation value (is_marked s) s.settings) d.0 s (with_settings d.0.0 s) new sink later o
-    (turned_no d.0.1 s no)
-    (record {
-      is_in = record {
-        settings = f.settings ∙ d.3;
-        raster = f.raster ∙ r ∙ i.raster;
-        marked = f.marked ∙ m ∙ i.marked;
-        ejected = f.ejected ∙ j ∙ i.ejected;
-        performed = f.performed ∙ p ∙ i.performed;
-        asks = ap asks_of (f.asks ∙ q) ∙ i.asks;
-        fonts = holds_same i.fonts (f.fonts ∙ t) refl;
-        painted = followed_page operation value d.0.1 i o no b d.3 f;
-      };
-      fits = pages_fit (with_settings d.0.0 s) (omega (arith, i.ejected));
-      handed = ([], sym (append-nil s.pages), same);
-    })
-
 -- the page that was ejected is the situation's
 pub handed_sheet : {dpi : Dpi} {s : Situation} {copies : ℕ} {old middle : Performer} {page : Page} → IsIn dpi s old → middle.page ≡ old.page
     → copies ≡ old.environment.copies → IsHanded copies middle page → Shows dpi page (sheet_of s)
@@ -247,26 +199,6 @@ handed_sheet {dpi} {copies} {old} {page} i b c handed =
       dots = λ x y wide high. ap (λ (q : Picture). dot q x y) same ∙ i.painted.dots x y wide high;
     }
 
--- what is known where the page was ejected: the settings were set, the page was handed over, and a white one began
-pub record Ejected {S : Type 0} (takes : S → Page → S → Type 0) (dpi : Dpi) (operation : Operation) (value : Value) (effect : Effect)
-    (copies : ℕ)
-    (s : Situation) (old middle last : Performer) (sink later : S) : Type 0 where
-  pub is_in : IsIn dpi s old
-  pub answered_as : Answers (outcome dpi operation value old.is_marked old.environment) (Ok effect) old.environment middle.environment
-  pub yes : ejects effect old.is_marked ≡ true
-  pub few : old.ejected < 256
-  pub page : middle.page ≡ old.page
-  pub ejected : middle.ejected ≡ old.ejected
-  pub performed : middle.performed ≡ old.performed
-  pub raster : middle.raster ≡ old.raster
-  pub fonts : middle.fonts ≡ old.fonts
-  pub copies_are : copies ≡ old.environment.copies
-  pub asks : middle.asks ≡ old.asks
-  pub asked : Asked
-  pub asked_is : asked ≡ old.environment.asked
-  pub is_ejected : IsEjected asked middle last
-  pub taken : Takes takes copies middle sink later
-
 -- what the page was asked with
 pub asked_page : {dpi : Dpi} {s : Situation} {asked : Asked} {old : Performer} (middle : Performer) → IsIn dpi s old
     → asked ≡ old.environment.asked
@@ -275,84 +207,135 @@ asked_page {s} {asked} middle i a e =
     ap (λ (all : AsksOfCode). with_page asked (asks_of all)) e ∙ ap (with_page asked) i.asks
     ∙ ap (λ (one : Asked). with_page one s.asks) (a ∙ ap (λ (t : Settings). t.asked) i.settings)
 
-ejected_done : {S : Type 0} (takes : S → Page → S → Type 0) (dpi : Dpi) (operation : Operation) (value : Value) (effect : Effect)
-    (copies : ℕ) (s : Situation)
-    (old middle last : Performer) (sink later : S) → Ejected takes dpi operation value effect copies s old middle last sink later
-    → (done : Settings × Effect) × (outcome dpi operation value (is_marked s) s.settings ≡ Some done) × (middle.environment ≡ done.0)
-    × (turned done.0 done.1 s ≡ turned_page done.0 s)
-ejected_done takes dpi operation value effect copies s old middle last sink later e =
-    let d = answered (outcome dpi operation value old.is_marked old.environment) old.environment e.answered_as in
-    let yes : ejects d.0.1 (is_marked s) ≡ true =
-    ap (λ (x : Effect). ejects x (is_marked s)) (sym d.2) ∙ ap (ejects effect) (sym e.is_in.marked) ∙ e.yes in
-    (d.0, sym (outcome_in operation value e.is_in) ∙ d.1, d.3, turned_yes d.0.0 d.0.1 s yes)
+-- ---- a turn and its sink
 
-ejected_handed : {S : Type 0} (takes : S → Page → S → Type 0) (dpi : Dpi) (operation : Operation) (value : Value) (effect : Effect)
-    (copies : ℕ) (s : Situation)
-    (old middle last : Performer) (sink later : S) (settings : Settings)
-    → Ejected takes dpi operation value effect copies s old middle last sink later
-    → (page_refusal (turned_page settings s) ≡ None) × HandsMore takes dpi s (turned_page settings s) sink later
-ejected_handed takes dpi operation value effect copies s old middle last sink later settings e =
-    let count = length-append s.pages (sheet_of s ∷ []) in (
-      pages_fit (turned_page settings s) (omega (arith, e.is_in.ejected, e.few, count)),
-      (
-        sheet_of s ∷ [],
-        refl,
-        (e.taken.0, later, handed_sheet e.is_in e.page e.copies_are e.taken.1, e.taken.2, refl),
-      ),
-    )
+module _ {S : Type 0} (takes : S → Page → S → Type 0) (dpi : Dpi) where
+  -- memory ran out before the page was handed over
+  pub turned_memory : (o : Outcome) (s : Situation) (new : Performer) {sink later : S} → later ≡ sink
+      → IsTurned takes dpi o s (Err Memory) new sink later
+  turned_memory None s new same = same
+  turned_memory (Some done) s new same = inl same
 
-pub turned_ejects : {S : Type 0} (takes : S → Page → S → Type 0) (dpi : Dpi) (operation : Operation) (value : Value) (effect : Effect)
-    (copies : ℕ) (s : Situation)
-    (old : Performer) {middle : Performer} (last new : Performer) (sink later : S)
-    → Ejected takes dpi operation value effect copies s old middle last sink later
-    → IsFollowed last new
-    → IsTurned takes dpi (outcome dpi operation value (is_marked s) s.settings) s (Ok tt) new sink later
-turned_ejects takes dpi operation value effect copies s old {middle} last new sink later e f =
-    let i = e.is_in in
-    let d = ejected_done takes dpi operation value effect copies s old middle last sink later e in
-    let h = ejected_handed takes dpi operation value effect copies s old middle last sink later d.0.0 e in
-    let size : new.page.bitmap.size ≡ d.0.0.size = f.size ∙ ap (λ (z : Settings). z.size) (e.is_ejected.settings ∙ ap to_first_line d.2) in
-    let resolution : new.page.bitmap.dpi ≡ dpi =
-    f.resolution ∙ e.is_ejected.resolution ∙ ap (λ (q : Page). q.bitmap.dpi) e.page ∙ i.painted.dpi_is in
-    let count = length-append s.pages (sheet_of s ∷ []) in
-    turns_to takes dpi (outcome dpi operation value (is_marked s) s.settings) d.0 s (turned_page d.0.0 s) new sink later d.1 d.3
-    (record {
-      is_in = record {
-        settings = f.settings ∙ e.is_ejected.settings ∙ ap to_first_line d.2;
-        raster = f.raster ∙ e.is_ejected.raster ∙ e.raster ∙ i.raster;
-        marked = f.marked ∙ e.is_ejected.marked;
-        ejected = omega (arith, f.ejected, e.is_ejected.ejected, e.ejected, i.ejected, count);
-        performed = f.performed ∙ e.is_ejected.performed ∙ e.performed ∙ i.performed;
-        asks = ap asks_of f.asks ∙ e.is_ejected.asks ∙ asked_page middle i e.asked_is e.asks;
-        fonts = holds_same i.fonts (f.fonts ∙ e.is_ejected.fonts ∙ e.fonts) refl;
-        painted = record {
-          size_is = size;
-          dpi_is = resolution;
-          dots = λ x y wide high.
-              f.white e.is_ejected.white x y (subst (λ (n : ℕ). x < n) (sym (width_same size resolution)) wide)
-              (subst (λ (n : ℕ). y < n) (sym (height_same size resolution)) high);
+  -- the facts of a turn, as one record
+  record Turns (s later : Situation) (new : Performer) (old_sink new_sink : S) : Type 0 where
+    is_in : IsIn dpi later new
+    fits : page_refusal later ≡ None
+    handed : HandsMore takes dpi s later old_sink new_sink
+
+  turns_to : (o : Outcome) (done : Settings × Effect) (s later : Situation) (new : Performer) (old_sink new_sink : S) → o ≡ Some done
+      → turned done.0 done.1 s ≡ later → Turns s later new old_sink new_sink → IsTurned takes dpi o s (Ok tt) new old_sink new_sink
+  turns_to o done s later new old_sink new_sink e t w =
+      subst (λ (p : Outcome). IsTurned takes dpi p s (Ok tt) new old_sink new_sink) (sym e)
+      (let is : Turns s (turned done.0 done.1 s) new old_sink new_sink = subst (λ (z : Situation). Turns s z new old_sink new_sink) (sym t) w in
+      (is.is_in, is.fits, is.handed))
+
+module _ {S : Type 0} (takes : S → Page → S → Type 0) (dpi : Dpi) (operation : Operation) (value : Value) (effect : Effect)
+    (s : Situation) where
+  -- the outcome in the situation
+  abbrev comes_to : Outcome
+  comes_to = outcome dpi operation value (is_marked s) s.settings
+
+  pub turned_stays : (old middle new : Performer) (sink later : S)
+      → IsIn dpi s old → Answers (outcome dpi operation value old.is_marked old.environment) (Ok effect) old.environment middle.environment
+      → ejects effect old.is_marked ≡ false → old.ejected ≤ 256 → middle.page.bitmap ≡ old.page.bitmap → middle.is_marked ≡ old.is_marked
+      → middle.ejected ≡ old.ejected → middle.performed ≡ old.performed → middle.asks ≡ old.asks → middle.raster ≡ old.raster
+      → middle.fonts ≡ old.fonts
+      → IsFollowed middle new → later ≡ sink → IsTurned takes dpi comes_to s (Ok tt) new sink later
+  turned_stays old middle new sink later i a e few b m j p q r t f same =
+      let d = answered (outcome dpi operation value old.is_marked old.environment) old.environment a in
+      let o : comes_to ≡ Some d.0 = sym (outcome_in operation value i) ∙ d.1 in
+      let no : ejects d.0.1 (is_marked s) ≡ false =
+      ap (λ (x : Effect). ejects x (is_marked s)) (sym d.2) ∙ ap (ejects effect) (sym i.marked) ∙ e in
+      turns_to takes dpi comes_to d.0 s (with_settings d.0.0 s) new sink later o (turned_no d.0.1 s no)
+      (record {
+        is_in = record {
+          settings = f.settings ∙ d.3;
+          raster = f.raster ∙ r ∙ i.raster;
+          marked = f.marked ∙ m ∙ i.marked;
+          ejected = f.ejected ∙ j ∙ i.ejected;
+          performed = f.performed ∙ p ∙ i.performed;
+          asks = ap asks_of (f.asks ∙ q) ∙ i.asks;
+          fonts = holds_same i.fonts (f.fonts ∙ t) refl;
+          painted = followed_page operation value d.0.1 i o no b d.3 f;
         };
-      };
-      fits = h.0;
-      handed = h.1;
-    })
+        fits = pages_fit (with_settings d.0.0 s) (omega (arith, i.ejected));
+        handed = ([], sym (append-nil s.pages), same);
+      })
 
-pub turned_short : {S : Type 0} (takes : S → Page → S → Type 0) (dpi : Dpi) (operation : Operation) (value : Value) (effect : Effect)
-    (copies : ℕ) (s : Situation)
-    (old : Performer) {middle : Performer} (last new : Performer) (sink later : S)
-    → Ejected takes dpi operation value effect copies s old middle last sink later
-    → IsTurned takes dpi (outcome dpi operation value (is_marked s) s.settings) s (Err Memory) new sink later
-turned_short takes dpi operation value effect copies s old {middle} last new sink later e =
-    let d = ejected_done takes dpi operation value effect copies s old middle last sink later e in
-    let h = ejected_handed takes dpi operation value effect copies s old middle last sink later d.0.0 e in
-    subst (λ (o : Outcome). IsTurned takes dpi o s (Err Memory) new sink later) (sym d.1)
-    (inr (subst (λ (z : Situation). (page_refusal z ≡ None) × HandsMore takes dpi s z sink later) (sym d.3) h))
+  -- what is known where the page was ejected: the settings were set, the page was handed over, and a white one began
+  pub record Ejected (copies : ℕ) (old middle last : Performer) (sink later : S) : Type 0 where
+    pub is_in : IsIn dpi s old
+    pub answered_as : Answers (outcome dpi operation value old.is_marked old.environment) (Ok effect) old.environment middle.environment
+    pub yes : ejects effect old.is_marked ≡ true
+    pub few : old.ejected < 256
+    pub page : middle.page ≡ old.page
+    pub ejected : middle.ejected ≡ old.ejected
+    pub performed : middle.performed ≡ old.performed
+    pub raster : middle.raster ≡ old.raster
+    pub fonts : middle.fonts ≡ old.fonts
+    pub copies_are : copies ≡ old.environment.copies
+    pub asks : middle.asks ≡ old.asks
+    pub asked : Asked
+    pub asked_is : asked ≡ old.environment.asked
+    pub is_ejected : IsEjected asked middle last
+    pub taken : Takes takes copies middle sink later
 
-pub turned_memory : {S : Type 0} (takes : S → Page → S → Type 0) (dpi : Dpi) (o : Outcome) (s : Situation) (new : Performer)
-    {sink later : S} → later ≡ sink
-    → IsTurned takes dpi o s (Err Memory) new sink later
-turned_memory takes dpi None s new same = same
-turned_memory takes dpi (Some done) s new same = inl same
+  ejected_done : {copies : ℕ} {old middle last : Performer} {sink later : S} → Ejected copies old middle last sink later
+      → (done : Settings × Effect) × (comes_to ≡ Some done) × (middle.environment ≡ done.0) × (turned done.0 done.1 s ≡ turned_page done.0 s)
+  ejected_done {old} e =
+      let d = answered (outcome dpi operation value old.is_marked old.environment) old.environment e.answered_as in
+      let yes : ejects d.0.1 (is_marked s) ≡ true =
+      ap (λ (x : Effect). ejects x (is_marked s)) (sym d.2) ∙ ap (ejects effect) (sym e.is_in.marked) ∙ e.yes in
+      (d.0, sym (outcome_in operation value e.is_in) ∙ d.1, d.3, turned_yes d.0.0 d.0.1 s yes)
+
+  ejected_handed : {copies : ℕ} {old middle last : Performer} {sink later : S} (settings : Settings)
+      → Ejected copies old middle last sink later
+      → (page_refusal (turned_page settings s) ≡ None) × HandsMore takes dpi s (turned_page settings s) sink later
+  ejected_handed {later} settings e =
+      let count = length-append s.pages (sheet_of s ∷ []) in (
+        pages_fit (turned_page settings s) (omega (arith, e.is_in.ejected, e.few, count)),
+        (sheet_of s ∷ [], refl, (e.taken.0, later, handed_sheet e.is_in e.page e.copies_are e.taken.1, e.taken.2, refl)),
+      )
+
+  pub turned_ejects : (copies : ℕ) (old : Performer) {middle : Performer} (last new : Performer) (sink later : S)
+      → Ejected copies old middle last sink later → IsFollowed last new → IsTurned takes dpi comes_to s (Ok tt) new sink later
+  turned_ejects copies old {middle} last new sink later e f =
+      let i = e.is_in in
+      let d = ejected_done e in
+      let h = ejected_handed d.0.0 e in
+      let size : new.page.bitmap.size ≡ d.0.0.size = f.size ∙ ap (λ (z : Settings). z.size) (e.is_ejected.settings ∙ ap to_first_line d.2) in
+      let resolution : new.page.bitmap.dpi ≡ dpi =
+      f.resolution ∙ e.is_ejected.resolution ∙ ap (λ (q : Page). q.bitmap.dpi) e.page ∙ i.painted.dpi_is in
+      let count = length-append s.pages (sheet_of s ∷ []) in
+      turns_to takes dpi comes_to d.0 s (turned_page d.0.0 s) new sink later d.1 d.3
+      (record {
+        is_in = record {
+          settings = f.settings ∙ e.is_ejected.settings ∙ ap to_first_line d.2;
+          raster = f.raster ∙ e.is_ejected.raster ∙ e.raster ∙ i.raster;
+          marked = f.marked ∙ e.is_ejected.marked;
+          ejected = omega (arith, f.ejected, e.is_ejected.ejected, e.ejected, i.ejected, count);
+          performed = f.performed ∙ e.is_ejected.performed ∙ e.performed ∙ i.performed;
+          asks = ap asks_of f.asks ∙ e.is_ejected.asks ∙ asked_page middle i e.asked_is e.asks;
+          fonts = holds_same i.fonts (f.fonts ∙ e.is_ejected.fonts ∙ e.fonts) refl;
+          painted = record {
+            size_is = size;
+            dpi_is = resolution;
+            dots = λ x y wide high.
+                f.white e.is_ejected.white x y (subst (λ (n : ℕ). x < n) (sym (width_same size resolution)) wide)
+                (subst (λ (n : ℕ). y < n) (sym (height_same size resolution)) high);
+          };
+        };
+        fits = h.0;
+        handed = h.1;
+      })
+
+  -- memory ran out after the page was handed over
+  pub turned_short : (copies : ℕ) (old : Performer) {middle : Performer} (last new : Performer) (sink later : S)
+      → Ejected copies old middle last sink later → IsTurned takes dpi comes_to s (Err Memory) new sink later
+  turned_short copies old last new sink later e =
+      let d = ejected_done e in
+      subst (λ (o : Outcome). IsTurned takes dpi o s (Err Memory) new sink later) (sym d.1)
+      (inr (subst (λ (z : Situation). (page_refusal z ≡ None) × HandsMore takes dpi s z sink later) (sym d.3) (ejected_handed d.0.0 e)))
 
 -- ---- what is drawn
 

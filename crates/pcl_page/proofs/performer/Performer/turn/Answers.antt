@@ -14,7 +14,7 @@ returns-in_err-follow_size-clause-turned g c = λ s i.
     rw (p.1, p.2) (elim c.if-ejects.branch [
       | then-ejects+else-self-ge-PAGE_LIMIT+in_ok-eject w ↦
           rw w.sink-is
-          (turned_short g.S.PageSink.takes c.args.dpi c.args.operation c.args.value c.in-Ok.effect c.copies-copies.result s
+          (turned_short g.S.PageSink.takes c.args.dpi c.args.operation c.args.value c.in-Ok.effect s c.copies-copies.result
           c.args.self.now w.eject.new.self _ c.args.sink.now w.eject.new.sink
           (record {
             is_in = i;
@@ -43,7 +43,7 @@ returns-clause-turned g c = λ s i.
           let f : IsFollowed w.eject.new.self c.follow_size.new.self =
           subst (λ (p : Performer). IsFollowed p c.follow_size.new.self) w.self-is c.in_ok-follow_size.ensures in
           rw w.sink-is
-          (turned_ejects g.S.PageSink.takes c.args.dpi c.args.operation c.args.value c.in-Ok.effect c.copies-copies.result s
+          (turned_ejects g.S.PageSink.takes c.args.dpi c.args.operation c.args.value c.in-Ok.effect s c.copies-copies.result
           c.args.self.now w.eject.new.self c.follow_size.new.self c.args.sink.now w.eject.new.sink
           (record {
             is_in = i;
