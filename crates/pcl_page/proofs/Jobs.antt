@@ -75,108 +75,102 @@ then_refused : {why : Option Refusal} {reason : Refusal} {s : Situation} (f : Si
     → unless why s f ≡ record { situation = s; refusal = Some reason }
 then_refused {s} f e = ap (λ (o : Option Refusal). unless o s f) e
 
--- it stopped on the way
-stopped_on : {S : Type 0} (takes : S → Page → S → Type 0) (dpi : Dpi) (all : List Said) (whole first : Performance)
-    (f : Situation → Performance) (s : Situation) (last : Interpreter) (old now then : S) (fault : JobFault)
-    → Hands takes dpi s.pages old now → then_on first f ≡ whole → Grows f → GoesOn takes dpi all first s (Err fault) last now then
-    → HandsOver takes dpi whole (Err fault) old then
-stopped_on takes dpi all whole first f s last old now then (Refused why) h e g on =
-    let is : whole ≡ record { situation = first.situation; refusal = Some why } =
-    sym e ∙ then_refused f on.0 in
-    subst (λ (p : Performance). HandsOver takes dpi p (Err (Refused why)) old then) (sym is)
-    (refl, hands_further takes dpi s first.situation old now then h on.1)
-stopped_on takes dpi all whole first f s last old now then Memory h e g on =
-    let o = then_grows first first.situation f (stays_there first.situation) g in
-    subst (λ (p : Performance). HandsOver takes dpi p (Err Memory) old then) e (
-      s.pages ++ on.0,
-      on.1 ++ o.0,
-      o.1 ∙ ap (λ (ps : List Sheet). ps ++ o.0) on.2
-          ∙ (append_assoc s.pages (on.0 ++ on.1) o.0
-          ∙ ap (λ (ps : List Sheet). s.pages ++ ps) (append_assoc on.0 on.1 o.0)
-          ∙ sym (append_assoc s.pages on.0 (on.1 ++ o.0))),
-      hands_append takes dpi s.pages on.0 old now then h on.3,
-    )
+module _ {S : Type 0} (takes : S → Page → S → Type 0) (dpi : Dpi) (all : List Said) (whole : Performance) where
+  -- it stopped on the way
+  stopped_on : (first : Performance) (f : Situation → Performance) (s : Situation) (last : Interpreter) (old now then : S)
+      (fault : JobFault) → Hands takes dpi s.pages old now → then_on first f ≡ whole → Grows f
+      → GoesOn takes dpi all first s (Err fault) last now then → HandsOver takes dpi whole (Err fault) old then
+  stopped_on first f s last old now then (Refused why) h e g on =
+      let is : whole ≡ record { situation = first.situation; refusal = Some why } = sym e ∙ then_refused f on.0 in
+      subst (λ (p : Performance). HandsOver takes dpi p (Err (Refused why)) old then) (sym is)
+      (refl, hands_further takes dpi s first.situation old now then h on.1)
+  stopped_on first f s last old now then Memory h e g on =
+      let o = then_grows first first.situation f (stays_there first.situation) g in
+      subst (λ (p : Performance). HandsOver takes dpi p (Err Memory) old then) e (
+        s.pages ++ on.0,
+        on.1 ++ o.0,
+        o.1 ∙ ap (λ (ps : List Sheet). ps ++ o.0) on.2
+            ∙ (append_assoc s.pages (on.0 ++ on.1) o.0
+            ∙ ap (λ (ps : List Sheet). s.pages ++ ps) (append_assoc on.0 on.1 o.0)
+            ∙ sym (append_assoc s.pages on.0 (on.1 ++ o.0))),
+        hands_append takes dpi s.pages on.0 old now then h on.3,
+      )
 
--- the performing of a command stopped
-pub command_stopped : {S : Type 0} (takes : S → Page → S → Type 0) (dpi : Dpi) (end : ℕ) (all : List Said) (whole : Performance)
-    (place : ℕ) (command : Said) (commands : List Said) (first last : Interpreter) (old now then : S) (fault : JobFault)
-    → (r : IsReached takes dpi whole (rest_of_job dpi end all place (command ∷ commands)) first old now)
-    → GoesOn takes dpi all (begun_among dpi all place command first.running.items r.situation) r.situation (Err fault) last now then
-    → HandsOver takes dpi whole (Err fault) old then
-command_stopped takes dpi end all whole place command commands first last old now then fault r on =
-    let s = r.situation in
-    stopped_on takes dpi all whole (next_step dpi all place command s) (rest_of_job dpi end all (place + 1) commands) s last old now then
-    fault r.handed (sym (rest_next dpi end all place command commands s) ∙ r.same) (rest_grows dpi end all (place + 1) commands)
-    (goes_to takes dpi all (begun_among dpi all place command first.running.items s) (next_step dpi all place command s) s (Err fault) last
-    now then (begun_alone dpi all place command s r.idle) on)
+module _ {S : Type 0} (takes : S → Page → S → Type 0) (dpi : Dpi) (end : ℕ) (all : List Said) (whole : Performance) (place : ℕ)
+    (command : Said) (commands : List Said) where
+  abbrev from_here : Situation → Performance
+  from_here = rest_of_job dpi end all place (command ∷ commands)
 
--- what a command has led to, whose macros are still to be performed
-pub record HasBegun {S : Type 0} (takes : S → Page → S → Type 0) (dpi : Dpi) (end : ℕ) (all : List Said) (whole : Performance) (place : ℕ)
-    (command : Said) (commands : List Said) (middle : Interpreter) (old now then : S) : Type 0 where
-  pub from : Situation
-  pub handed : Hands takes dpi from.pages old now
-  pub same : rest_of_job dpi end all place (command ∷ commands) from ≡ whole
-  pub on : GoesOn takes dpi all (next_step dpi all place command from) from (Ok tt) middle now then
+  abbrev after_it : Situation → Performance
+  after_it = rest_of_job dpi end all (place + 1) commands
 
-pub has_begun : {S : Type 0} (takes : S → Page → S → Type 0) (dpi : Dpi) (end : ℕ) (all : List Said) (whole : Performance)
-    (place : ℕ) {command : Said} {commands : List Said} (first middle : Interpreter) (old now then : S)
-    → (r : IsReached takes dpi whole (rest_of_job dpi end all place (command ∷ commands)) first old now)
-    → GoesOn takes dpi all (begun_among dpi all place command first.running.items r.situation) r.situation (Ok tt) middle now then
-    → HasBegun takes dpi end all whole place command commands middle old now then
-has_begun takes dpi end all whole place {command} first middle old now then r on = record {
-  from = r.situation;
-  handed = r.handed;
-  same = r.same;
-  on = goes_to takes dpi all (begun_among dpi all place command first.running.items r.situation)
-      (next_step dpi all place command r.situation) r.situation (Ok tt) middle now then
-      (begun_alone dpi all place command r.situation r.idle) on;
-}
+  abbrev it : Situation → Performance
+  it = next_step dpi all place command
 
--- its macros, performed from there
-macros_on : {S : Type 0} (takes : S → Page → S → Type 0) (dpi : Dpi) (end : ℕ) (all : List Said) (whole : Performance)
-    (place : ℕ) (command : Said) (commands : List Said) (middle last : Interpreter) (old now then later : S)
-    (result : Result (Unit {0}) JobFault)
-    → (b : HasBegun takes dpi end all whole place command commands middle old now then)
-    → ((s : Situation) → IsAt dpi s middle
-    → GoesOn takes dpi all (resumed macro_limit dpi all middle.running.items s) s result last then later)
-    → GoesOn takes dpi all (next_step dpi all place command b.from) b.from result last now later
-macros_on takes dpi end all whole place command commands middle last old now then later result b f =
-    let g = b.on in
-    goes_from takes dpi all (next_step dpi all place command b.from) b.from g.0 result last now then later g.2
-    (goes_to takes dpi all (resumed macro_limit dpi all middle.running.items g.0) (next_step dpi all place command b.from) g.0 result last
-    then later g.3 (f g.0 g.1))
+  -- the performing of a command stopped
+  pub command_stopped : (first last : Interpreter) (old now then : S) (fault : JobFault)
+      → (r : IsReached takes dpi whole from_here first old now)
+      → GoesOn takes dpi all (begun_among dpi all place command first.running.items r.situation) r.situation (Err fault) last now then
+      → HandsOver takes dpi whole (Err fault) old then
+  command_stopped first last old now then fault r on =
+      let s = r.situation in
+      stopped_on takes dpi all whole (it s) after_it s last old now then fault r.handed
+      (sym (rest_next dpi end all place command commands s) ∙ r.same) (rest_grows dpi end all (place + 1) commands)
+      (goes_to takes dpi all (begun_among dpi all place command first.running.items s) (it s) s (Err fault) last now then
+      (begun_alone dpi all place command s r.idle) on)
 
-pub macros_stopped : {S : Type 0} (takes : S → Page → S → Type 0) (dpi : Dpi) (end : ℕ) (all : List Said) (whole : Performance)
-    (place : ℕ) (command : Said) (commands : List Said) (middle last : Interpreter) (old now then later : S) (fault : JobFault)
-    → (b : HasBegun takes dpi end all whole place command commands middle old now then)
-    → ((s : Situation) → IsAt dpi s middle
-    → GoesOn takes dpi all (resumed macro_limit dpi all middle.running.items s) s (Err fault) last then later)
-    → HandsOver takes dpi whole (Err fault) old later
-macros_stopped takes dpi end all whole place command commands middle last old now then later fault b f =
-    stopped_on takes dpi all whole (next_step dpi all place command b.from) (rest_of_job dpi end all (place + 1) commands) b.from last old
-    now later fault b.handed (sym (rest_next dpi end all place command commands b.from) ∙ b.same)
-    (rest_grows dpi end all (place + 1) commands)
-    (macros_on takes dpi end all whole place command commands middle last old now then later (Err fault) b f)
+  -- what a command has led to, whose macros are still to be performed
+  pub record HasBegun (middle : Interpreter) (old now then : S) : Type 0 where
+    pub from : Situation
+    pub handed : Hands takes dpi from.pages old now
+    pub same : from_here from ≡ whole
+    pub on : GoesOn takes dpi all (it from) from (Ok tt) middle now then
 
-pub macros_reached : {S : Type 0} (takes : S → Page → S → Type 0) (dpi : Dpi) (end : ℕ) (all : List Said) (whole : Performance)
-    (place : ℕ) (command : Said) {commands : List Said} (middle last : Interpreter) (old now then later : S)
-    → (b : HasBegun takes dpi end all whole place command commands middle old now then)
-    → ((s : Situation) → IsAt dpi s middle
-    → GoesOn takes dpi all (resumed macro_limit dpi all middle.running.items s) s (Ok tt) last then later)
-    → last.running.items ≡ []
-    → IsReached takes dpi whole (rest_of_job dpi end all (place + 1) commands) last old later
-macros_reached takes dpi end all whole place command {commands} middle last old now then later b f idle =
-    let g = macros_on takes dpi end all whole place command commands middle last old now then later (Ok tt) b f in
-    let all_done : done g.0 ≡ next_step dpi all place command b.from =
-    ap (λ (rs : List Running). resumed macro_limit dpi all rs g.0) (sym idle) ∙ g.3 in
-    record {
-      situation = g.0;
-      is_at = g.1;
-      idle = idle;
-      handed = hands_further takes dpi b.from g.0 old now later b.handed g.2;
-      same = ap (λ (p : Performance). then_on p (rest_of_job dpi end all (place + 1) commands)) all_done
-          ∙ sym (rest_next dpi end all place command commands b.from) ∙ b.same;
-    }
+  pub has_begun : (first middle : Interpreter) (old now then : S) → (r : IsReached takes dpi whole from_here first old now)
+      → GoesOn takes dpi all (begun_among dpi all place command first.running.items r.situation) r.situation (Ok tt) middle now then
+      → HasBegun middle old now then
+  has_begun first middle old now then r on = record {
+    from = r.situation;
+    handed = r.handed;
+    same = r.same;
+    on = goes_to takes dpi all (begun_among dpi all place command first.running.items r.situation) (it r.situation) r.situation (Ok tt)
+        middle now then (begun_alone dpi all place command r.situation r.idle) on;
+  }
+
+  -- its macros, performed from there
+  macros_on : (middle last : Interpreter) (old now then later : S) (result : Result (Unit {0}) JobFault)
+      → (b : HasBegun middle old now then)
+      → ((s : Situation) → IsAt dpi s middle
+      → GoesOn takes dpi all (resumed macro_limit dpi all middle.running.items s) s result last then later)
+      → GoesOn takes dpi all (it b.from) b.from result last now later
+  macros_on middle last old now then later result b f =
+      let g = b.on in
+      goes_from takes dpi all (it b.from) b.from g.0 result last now then later g.2
+      (goes_to takes dpi all (resumed macro_limit dpi all middle.running.items g.0) (it b.from) g.0 result last then later g.3 (f g.0 g.1))
+
+  pub macros_stopped : (middle last : Interpreter) (old now then later : S) (fault : JobFault) → (b : HasBegun middle old now then)
+      → ((s : Situation) → IsAt dpi s middle
+      → GoesOn takes dpi all (resumed macro_limit dpi all middle.running.items s) s (Err fault) last then later)
+      → HandsOver takes dpi whole (Err fault) old later
+  macros_stopped middle last old now then later fault b f =
+      stopped_on takes dpi all whole (it b.from) after_it b.from last old now later fault b.handed
+      (sym (rest_next dpi end all place command commands b.from) ∙ b.same) (rest_grows dpi end all (place + 1) commands)
+      (macros_on middle last old now then later (Err fault) b f)
+
+  pub macros_reached : (middle last : Interpreter) (old now then later : S) → (b : HasBegun middle old now then)
+      → ((s : Situation) → IsAt dpi s middle
+      → GoesOn takes dpi all (resumed macro_limit dpi all middle.running.items s) s (Ok tt) last then later)
+      → last.running.items ≡ [] → IsReached takes dpi whole after_it last old later
+  macros_reached middle last old now then later b f idle =
+      let g = macros_on middle last old now then later (Ok tt) b f in
+      let all_done : done g.0 ≡ it b.from = ap (λ (rs : List Running). resumed macro_limit dpi all rs g.0) (sym idle) ∙ g.3 in
+      record {
+        situation = g.0;
+        is_at = g.1;
+        idle = idle;
+        handed = hands_further takes dpi b.from g.0 old now later b.handed g.2;
+        same = ap (λ (p : Performance). then_on p after_it) all_done ∙ sym (rest_next dpi end all place command commands b.from) ∙ b.same;
+      }
 
 -- the end of the input
 pub end_reached : {S : Type 0} (takes : S → Page → S → Type 0) (dpi : Dpi) (end : ℕ) (all : List Said) (whole : Performance) (place : ℕ)

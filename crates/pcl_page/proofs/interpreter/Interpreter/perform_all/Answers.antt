@@ -22,10 +22,10 @@ loop-command-preserved g c =
     let r = subst (λ (rest : List Said). IsReached g.S.PageSink.takes c.args.dpi whole
     (rest_of_job c.args.dpi c.args.end all c.loop-command.place rest) c.loop-command.self c.args.sink.now c.loop-command.sink) next
     c.loop-command.invariant in
-    let b = has_begun g.S.PageSink.takes c.args.dpi c.args.end all whole c.loop-command.place c.loop-command.self
+    let b = has_begun g.S.PageSink.takes c.args.dpi c.args.end all whole c.loop-command.place _ _ c.loop-command.self
     c.perform_at.new.self c.args.sink.now c.loop-command.sink c.perform_at.new.sink r
     (c.in_ok-perform_at.ensures.done all r.situation r.is_at) in
-    macros_reached g.S.PageSink.takes c.args.dpi c.args.end all whole c.loop-command.place _ c.perform_at.new.self c.run_macros.new.self
+    macros_reached g.S.PageSink.takes c.args.dpi c.args.end all whole c.loop-command.place _ _ c.perform_at.new.self c.run_macros.new.self
     c.args.sink.now c.loop-command.sink c.perform_at.new.sink c.run_macros.new.sink b (λ s at. c.in_ok-run_macros.ensures.done s at)
     c.in_ok-run_macros.ensures.idle
 
@@ -58,7 +58,7 @@ returns-in_err-run_macros g c =
     let r = subst (λ (rest : List Said). IsReached g.S.PageSink.takes c.args.dpi whole
     (rest_of_job c.args.dpi c.args.end all c.loop-command.place rest) c.loop-command.self c.args.sink.now c.loop-command.sink) next
     c.loop-command.invariant in
-    let b = has_begun g.S.PageSink.takes c.args.dpi c.args.end all whole c.loop-command.place c.loop-command.self
+    let b = has_begun g.S.PageSink.takes c.args.dpi c.args.end all whole c.loop-command.place _ _ c.loop-command.self
     c.perform_at.new.self c.args.sink.now c.loop-command.sink c.perform_at.new.sink r
     (c.in_ok-perform_at.ensures.done all r.situation r.is_at) in
     let p = err_from_is_err_and c.from_residual-in_err-run_macros.result c.from_residual-in_err-run_macros.ensures.1 in
