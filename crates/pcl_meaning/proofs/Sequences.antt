@@ -175,31 +175,6 @@ offset_setting_more : {digits : List ℕ} {count : ℕ} → IsSpelled digits cou
 offset_setting_more spelled small =
     record { spelled = spelled; small = small; named = offset_named; alone = refl; stays = refl }
 
--- one more parameter of a sequence that goes on
-setting_more : {letter : ℕ} {digits : List ℕ} {n : ℕ} {operation : Operation} (middle : List Parameter)
-    → may_go_on row_prefix letter ≡ true → IsSetting row_prefix letter digits n operation
-    → AllByRecursion (IsMiddle row_prefix) middle
-    → AllByRecursion (IsMiddle row_prefix) (middle ++ number_parameter digits letter ∷ [])
-setting_more middle goes s each =
-    middle_more middle each (setting_middle goes s)
-
--- and what it means
-setting_meant_more : {letter : ℕ} {digits : List ℕ} {n : ℕ} {operation : Operation} (middle : List Parameter) (deeds : List Deed)
-    → IsSetting row_prefix letter digits n operation → AreMeant row_prefix middle deeds
-    → AreMeant row_prefix (middle ++ number_parameter digits letter ∷ []) (deeds ++ set_to operation n ∷ [])
-setting_meant_more middle deeds s meant =
-    meant_more row_prefix middle deeds _ meant (setting_meant s)
-
--- the last one
-setting_read : {letter : ℕ} {digits : List ℕ} {n : ℕ} {operation : Operation} (middle : List Parameter) (deeds : List Deed)
-    → is_last letter ≡ true → IsSetting row_prefix letter digits n operation
-    → AllByRecursion (IsMiddle row_prefix) middle → AreMeant row_prefix middle deeds
-    → ReadsAs (27 ∷ 42 ∷ 98 ∷ (flat_map parameter_bytes middle ++ (parameter_bytes (number_parameter digits letter) ++ [])))
-    (deeds ++ set_to operation n ∷ [])
-setting_read middle deeds last s each meant =
-    reads_sequence middle deeds row_prefix_is each meant
-    (setting_end last s) (setting_meant s)
-
 tokens_read : (tokens : List Token) → IsTokensRead tokens
 unfolding PrintsRows
 tokens_read [] = (λ current seed rows p few. reads_none, λ current seed rows middle deeds p few each meant. absurd p)
@@ -214,8 +189,8 @@ tokens_read (method digits next false ∷ tokens) = (
       let code = method_code next in
       more_inside tokens digits code 109 RasterMethod middle deeds
       ((tokens_read tokens).1 next seed rows _ _ p.1 few
-      (setting_more middle refl s each)
-      (setting_meant_more middle deeds s meant)),
+      (middle_more middle each (setting_middle refl s))
+      (meant_more row_prefix middle deeds _ meant (setting_meant s))),
 )
 tokens_read (method digits next true ∷ tokens) = (
   λ current seed rows p few. absurd p,
@@ -223,7 +198,7 @@ tokens_read (method digits next true ∷ tokens) = (
       let s = method_setting next p.0 in
       let code = method_code next in
       ended_inside tokens digits code 77 RasterMethod [] middle deeds
-      (setting_read middle deeds refl s each meant)
+      (reads_sequence middle deeds row_prefix_is each meant (setting_end refl s) (setting_meant s))
       ((tokens_read tokens).0 next seed rows p.1 few),
 )
 tokens_read (skip digits count false ∷ tokens) = (
@@ -232,15 +207,15 @@ tokens_read (skip digits count false ∷ tokens) = (
       let s = offset_setting_more p.0 (omega (arith, p.2)) in
       more_inside tokens digits count 121 RasterOffset middle deeds
       ((tokens_read tokens).1 current (replicate (length seed) 0) (drop count rows) _ _ p.4 (omega (arith, length-drop count rows))
-      (setting_more middle refl s each)
-      (setting_meant_more middle deeds s meant)),
+      (middle_more middle each (setting_middle refl s))
+      (meant_more row_prefix middle deeds _ meant (setting_meant s))),
 )
 tokens_read (skip digits count true ∷ tokens) = (
   λ current seed rows p few. absurd p,
   λ current seed rows middle deeds p few each meant.
       let s = offset_setting p.0 (omega (arith, p.2)) in
       ended_inside tokens digits count 89 RasterOffset [] middle deeds
-      (setting_read middle deeds refl s each meant)
+      (reads_sequence middle deeds row_prefix_is each meant (setting_end refl s) (setting_meant s))
       ((tokens_read tokens).0 current (replicate (length seed) 0) (drop count rows) p.4 (omega (arith, length-drop count rows))),
 )
 tokens_read (send digits bytes ∷ tokens) = (
