@@ -79,9 +79,9 @@ pub record IsRunTo (row : List ℕ) (from place : ℕ) : Type 0 where
   pub within : place ≤ length row
   pub same : (k : ℕ) → from ≤ k → k < place → get_or row k 0 ≡ get_or row from 0
 
-pub run_more : (row : List ℕ) (from place count : ℕ) → IsRunTo row from place → place + count ≤ length row
+pub run_more : {row : List ℕ} {from place count : ℕ} → IsRunTo row from place → place + count ≤ length row
     → ((k : ℕ) → k < count → get_or row (place + k) 0 ≡ get_or row from 0) → IsRunTo row from (place + count)
-run_more row from place count to fits more = record {
+run_more {row} {from} {place} {count} to fits more = record {
   after = omega (arith, to.after);
   within = fits;
   same = λ k low high. grind (arith, to.same k, more (k - place));

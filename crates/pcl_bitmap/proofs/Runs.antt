@@ -48,16 +48,16 @@ parts_joined from end f t l row k d0 d1 d2 d3 low high stop whole e1 e2 e3 order
 pub take_dots : (w : ℕ) (row : List ℕ) {x : ℕ} → x < 8 * w → dot_of_row (take w row) x ≡ dot_of_row row x
 take_dots w row {x} inside = ap (λ n. bit_of_byte n (x % 8)) (get_or-take w row (x / 8) 0 (omega arith))
 
--- the bytes that were written to the front of a list
-pub front_dots : (dots new : List ℕ) {n k : ℕ} → length new ≡ n → k < 8 * n → dot_of_row (new ++ drop n dots) k ≡ dot_of_row new k
-front_dots dots new {n} {k} long inside =
-    ap (λ b. bit_of_byte b (k % 8)) (get_or_append_left new (drop n dots) 0 (k / 8) (omega arith))
-
 drop_dots : (w : ℕ) (row : List ℕ) (x : ℕ) {y : ℕ} → y ≡ 8 * w + x → dot_of_row (drop w row) x ≡ dot_of_row row y
 drop_dots w row x {y} moved =
     let byte : w + x / 8 ≡ y / 8 = omega arith in
     let bit : x % 8 ≡ y % 8 = omega arith in
     ap (λ n. bit_of_byte n (x % 8)) (get_or-drop w row (x / 8) 0) ∙ rw (byte, bit)
+
+-- the bytes that were written to the front of a list
+pub front_dots : (dots new : List ℕ) {n k : ℕ} → length new ≡ n → k < 8 * n → dot_of_row (new ++ drop n dots) k ≡ dot_of_row new k
+front_dots dots new {n} {k} long inside =
+    ap (λ b. bit_of_byte b (k % 8)) (get_or_append_left new (drop n dots) 0 (k / 8) (omega arith))
 
 -- first the run of a row's whole first bytes, and then that of the others
 pub run_dot-joined :

@@ -49,16 +49,14 @@ spread_set wide byte s i j some few small is_set above =
 -- counted from the other end
 mirror : {s q : ℕ} → 1 ≤ s → q < 8 * s → (8 * s - 1 - q) / s ≡ 7 - q / s
 mirror {s} {q} some h =
-    let u : ℕ = q / s in
-    let v : ℕ = q % s in
     let whole : q / s * s + q % s ≡ q = div-add-mod' q s in
     let short : q % s < s = mod_below q s some in
     let few : q / s < 8 = div_below q s 8 some h in
-    let other : ℕ = 7 - u in
+    let other : ℕ = 7 - q / s in
     let parts : other + q / s ≡ 7 = omega arith in
     let product : (other + q / s) * s ≡ 7 * s = ap (λ n. n * s) parts in
-    let place : 8 * s - 1 - q ≡ other * s + (s - 1 - v) = omega arith in
-    ap (λ n. n / s) place ∙ div-mul-add other s (s - 1 - v) (omega arith)
+    let place : 8 * s - 1 - q ≡ other * s + (s - 1 - q % s) = omega arith in
+    rw (place, div-mul-add other s (s - 1 - q % s) (omega arith))
 
 -- byte `part` of the spread bits
 pub part_bits :

@@ -20,15 +20,12 @@ doubled_all = refl
 
 doubled_low : (byte j : ℕ) → byte < 256 → j < 16 → bit_at (doubled byte) j ≡ bit_at byte (j / 2)
 doubled_low byte j small low =
-    let n : ℕ = 16 * byte + j in
     let row : (16 * byte + j) / 16 ≡ byte = omega arith in
     let bit : (16 * byte + j) % 16 ≡ j = omega arith in
-    let same : nat_eq (bit_at (doubled (n / 16)) (n % 16)) (bit_at (n / 16) (n % 16 / 2)) ≡ true =
-    agree_below_at (λ m. nat_eq (bit_at (doubled (m / 16)) (m % 16)) (bit_at (m / 16) (m % 16 / 2))) (λ _. true) 4096 n doubled_all
-    (omega arith) in
-    ap (λ b. bit_at (doubled b) j) (sym row) ∙ ap (λ k. bit_at (doubled (n / 16)) k) (sym bit)
-    ∙ eqb-true _ _ same
-    ∙ ap (λ b. bit_at b (n % 16 / 2)) row ∙ ap (λ k. bit_at byte (k / 2)) bit
+    let same =
+    agree_below_at (λ n. nat_eq (bit_at (doubled (n / 16)) (n % 16)) (bit_at (n / 16) (n % 16 / 2))) (λ _. true) 4096 (16 * byte + j)
+    doubled_all (omega arith) in
+    eqb-true _ _ (rw (row, bit) at same)
 
 doubled_fits : (bits : ℕ) → bits < 65536 → bit_or bits (bits * 2 % 65536) < 2 ^ 16
 doubled_fits bits small = or_of_16 bits (bits * 2 % 65536) (omega arith) (omega arith)

@@ -1,12 +1,11 @@
-use Rattle.std.proofs.Common.{◌≡◌, ℕ, ℤ, w32, ◌≤◌, ◌+◌, ◌*◌, ◌/◌, ◌||◌, length, sym, ap, ◌∙◌, inl, inr, ◌⊎◌, arith}
+use Rattle.std.proofs.Common.{◌≡◌, ℕ, w32, ◌≤◌, ◌+◌, ◌*◌, ◌/◌, ◌||◌, length, ap, inl, inr, ◌⊎◌, arith}
 use Rattle.std.proofs.lemmas.List.{with_items_is}
 use Rattle.std.proofs.lemmas.Int.{to_z-of_z}
 use Rattle.std.specs.Vec.{with_items}
 use Rattle.pcl_base.specs.Size.{page_width, page_height}
-use Rattle.pcl_bitmap.specs.Bitmap.{dot}
-use Rattle.pcl_bitmap.specs.Dots.{dots_past, pattern_dot}
+use Rattle.pcl_bitmap.specs.Dots.{pattern_dot}
 use Rattle.pcl_base.proofs.PageBounds.{width_small}
-use Rattle.pcl_bitmap.proofs.Pictures.{picture_of, lent_room}
+use Rattle.pcl_bitmap.proofs.Pictures.{lent_room}
 use Rattle.pcl_bitmap.proofs.Inked.{IsDrawn, drawn}
 use Rattle.pcl_bitmap.proofs.Cut.{line_or, seen_pattern, seen_row, pattern_off}
 use Rattle.pcl_bitmap.proofs.OneInk.{black_stays}
@@ -26,6 +25,8 @@ painted c =
     let y = c.start_and_skip-top.result in
     let across : c.from.result * c.args.scale ≡ c.args.width * c.args.scale = ap (λ n. n * c.args.scale) c.from.ensures in
     let down : c.from-2.result * c.args.scale ≡ c.args.height * c.args.scale = ap (λ n. n * c.args.scale) c.from-2.ensures in
+    let edge_x = rw (to_z-of_z w32 args.x c.ranges.x) at c.start_and_skip-left.ensures.dots in
+    let edge_y = rw (to_z-of_z w32 args.y c.ranges.y) at c.start_and_skip-top.ensures.dots in
     drawn x.0 y.0 c.min.result c.min-2.result c.row_bytes-row_bytes.result
     (line_or args.rows.now x.0 y.0 x.1 y.1 args.scale c.div_ceil.result) _
     c.self.invariant.picture c.deref_mut.ensures.value (with_items_is a.bytes c.or_pattern.new.page (omega arith))
@@ -33,8 +34,7 @@ painted c =
     (λ px py before.
     seen_pattern args.x args.y x.0 y.0 x.1 y.1 (page_width a.size a.dpi) (page_height a.size a.dpi) c.min.result c.min-2.result args.scale
     c.div_ceil.result args.width args.height px py args.rows.now before (omega arith) (omega arith) (omega arith) (omega arith)
-    (ap (λ (z : ℤ). dots_past z px) (sym (to_z-of_z w32 args.x c.ranges.x)) ∙ c.start_and_skip-left.ensures.dots px)
-    (ap (λ (z : ℤ). dots_past z py) (sym (to_z-of_z w32 args.y c.ranges.y)) ∙ c.start_and_skip-top.ensures.dots py))
+    (edge_x px) (edge_y py))
 
 pub invariant_of-self : goal.invariant_of-self
 invariant_of-self c = record {
@@ -63,12 +63,11 @@ returns-then-left-page_width-clause-dots c =
       | then-left-page_width-via-then-left-page_width w ↦ inl (omega arith)
       | then-left-page_width-via-else-left-page_width+then-top-page_height w ↦ inr (omega arith)
     ] in
+    let edge_x = rw (to_z-of_z w32 args.x c.ranges.x) at c.start_and_skip-left.ensures.dots in
+    let edge_y = rw (to_z-of_z w32 args.y c.ranges.y) at c.start_and_skip-top.ensures.dots in
     rw (← c.self.view_is) (λ px py within on_page.
-    sym (ap (λ t. t || dot (picture_of c.self.inside.size c.self.inside.dpi c.self.inside.bytes.items) px py)
-    (pattern_off args.x args.y x.0 y.0 x.1 y.1 wide high args.scale args.width args.height px py args.rows.now off
-    (ap (λ (z : ℤ). dots_past z px) (sym (to_z-of_z w32 args.x c.ranges.x)) ∙ c.start_and_skip-left.ensures.dots px)
-    (ap (λ (z : ℤ). dots_past z py) (sym (to_z-of_z w32 args.y c.ranges.y)) ∙ c.start_and_skip-top.ensures.dots py)
-    within on_page)))
+    rw (pattern_off args.x args.y x.0 y.0 x.1 y.1 wide high args.scale args.width args.height px py args.rows.now off
+    (edge_x px) (edge_y py) within on_page))
 
 pub or_pattern-requires : goal.or_pattern-requires
 or_pattern-requires c =
