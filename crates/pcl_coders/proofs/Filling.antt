@@ -70,8 +70,7 @@ number_stays {table} {at} number {place} behind is =
             element = next.1.element;
             agrees = next.1.agrees;
             goes_on = next.1.goes_on;
-            number_is =
-                omega (arith, next.1.number_is, here, there next.0);
+            number_is = omega (arith, next.1.number_is, here, there next.0);
           },
         )
       ];
@@ -88,22 +87,17 @@ number_of_choice {row} table {place} {shape} {sum} inside size more c small =
     let here : slice_index now place ≡ sum = get_or-set_same table place sum 0 (omega arith) in
     let there : (k : ℕ) → 0 < k → slice_index (drop place table) k ≡ slice_index now (place + k) =
     λ k some. get_or-drop place table k 0 ∙ sym (number_behind table place sum (place + k) (omega arith)) in
+    let e : Element = element_of shape (drop place row) in
     record {
-      steps = λ e element agrees.
-          elim (cases_lt 0 (stop e)) [
-            | inl some ↦ omega (arith, c.choice.least e element agrees some, there (stop e) some, here)
-            | inr none ↦
-                let at : place + stop e ≡ place = omega arith in
-                omega (arith, ap (slice_index now) at)
-          ];
+      steps = λ e element agrees. grind (arith, c.choice.least e element agrees, there (stop e));
       ends = λ end. absurd (more end);
       attained = inr (
-        element_of shape (drop place row),
+        e,
         record {
           element = c.choice.element;
           agrees = c.choice.agrees;
           goes_on = c.choice.goes_on;
-          number_is = omega (arith, c.choice.sum_is, there (stop (element_of shape (drop place row))) c.choice.goes_on, here);
+          number_is = omega (arith, c.choice.sum_is, there (stop e) c.choice.goes_on, here);
         },
       );
       small = omega (arith, here, small);
@@ -115,9 +109,7 @@ pub choice_small : {method : Method} (old row table : List ℕ) {place : ℕ} {s
     → slice_index table (place + 1) ≤ 2 * (length row - (place + 1)) → sum ≤ 2 * (length row - place)
 choice_small {method} old row table {place} {sum} inside c small =
     let one = one_byte method (drop place old) (drop place row) (omega (arith, length-drop place row)) in
-    let first : sum ≤ cost one.0 + slice_index (drop place table) (stop one.0) =
-    c.choice.least one.0 one.1.element one.1.agrees (omega (arith, one.1.stop_is)) in
-    omega (arith, first, one.1.few, ap (slice_index (drop place table)) one.1.stop_is, get_or-drop place table 1 0)
+    grind (arith, c.choice.least one.0 one.1.element one.1.agrees, one.1, get_or-drop place table)
 
 -- a shape's choice at parts of lists that go to their ends
 pub choice_to_ends : {method : Method} (old row table : List ℕ) (place : ℕ) {shape : Shape} {sum : ℕ}
@@ -131,8 +123,7 @@ choice_to_ends old row table place c = rw (take_rest old place, take_rest row pl
 pub ends_here : (old row : List ℕ) {place : ℕ} → length old ≡ length row → place < length row → get_or row place 0 ≡ get_or old place 0
     → Ends old row (place + 1) → Ends old row place
 ends_here old row {place} size inside same end =
-    drop_more row place 0 inside ∙ ap (λ (b : ℕ). b ∷ drop (place + 1) row) same ∙ ap (λ (bs : List ℕ). get_or old place 0 ∷ bs) end
-    ∙ sym (drop_more old place 0 (omega arith))
+    cc (drop_more row place 0 inside, drop_more old place 0 (omega arith))
 
 pub ends_behind : (old row : List ℕ) (place : ℕ) → Ends old row place → Ends old row (place + 1)
 ends_behind old row place end = sym (drop-drop 1 place row) ∙ ap (drop 1) end ∙ drop-drop 1 place old
@@ -287,21 +278,18 @@ best_number : {method : Method} {old row table : List ℕ} {place : ℕ} {shape 
     (place + stop (element_of shape (drop place row)))
 best_number {row} {table} {place} {shape} right within some c =
     let is = right place (omega arith) within in
-    let e : Element = element_of shape (drop place row) in
     let at : (k : ℕ) → slice_index (drop place table) k ≡ slice_index table (place + k) = λ k. get_or-drop place table k 0 in
-    let above = is.steps e c.choice.element c.choice.agrees in
+    let above = is.steps (element_of shape (drop place row)) c.choice.element c.choice.agrees in
     elim is.attained [
       | inl end ↦ absurd (omega (arith, is.ends end))
-      | inr next ↦
-          omega (
-            arith,
-            above,
-            c.choice.sum_is,
-            at (stop e),
-            next.1.number_is,
-            c.choice.least next.0 next.1.element next.1.agrees next.1.goes_on,
-            at (stop next.0),
-          )
+      | inr next ↦ omega (
+        arith,
+        c.choice.sum_is,
+        at (stop (element_of shape (drop place row))),
+        next.1.number_is,
+        c.choice.least next.0 next.1.element next.1.agrees next.1.goes_on,
+        at (stop next.0),
+      )
     ]
 
 pub appended_more : {method : Method} {old row table before now : List ℕ} {place : ℕ} {shape : Shape} {sum : ℕ} {now' : List ℕ} {place' : ℕ}
@@ -313,23 +301,16 @@ pub appended_more : {method : Method} {old row table before now : List ℕ} {pla
 appended_more {method} {old} {row} {table} {before} {place} {shape} {place'} size right some a c now-is place-is =
     let e : Element = element_of shape (drop place row) in
     let inside = stop_within method old row place e size c.choice.element c.choice.agrees in
-    let next : place' ≡ place + stop e = place-is ∙ ap (λ (k : ℕ). place + k) (sym c.stop_is) in
+    let next : place' ≡ place + stop e = omega (arith, c.stop_is) in
     let number = best_number right a.within some c in
-    let more : flat_map element_bytes (a.done ++ e ∷ []) ≡ flat_map element_bytes a.done ++ element_bytes e =
-    flat_map-append element_bytes a.done (e ∷ [])
-    ∙ ap (λ (bs : List ℕ). flat_map element_bytes a.done ++ bs) (append-nil (element_bytes e)) in
     let begins = more_needed place size right a.within some in
     record {
       within = omega arith;
       done = a.done ++ e ∷ [];
-      joined = now-is ∙ ap (λ (bs : List ℕ). bs ++ element_bytes e) a.joined
-          ∙ append_assoc before (flat_map element_bytes a.done) (element_bytes e)
-          ∙ ap (λ (bs : List ℕ). before ++ bs) (sym more);
-      goes_on = λ es w t.
-          let g = a.goes_on (e ∷ es) (place', record { element = c.choice.element; agrees = c.choice.agrees; next_is = next }, w)
-          (omega (arith, t, number, ap (slice_index table) next)) in
-          let same : a.done ++ (e ∷ es) ≡ (a.done ++ e ∷ []) ++ es = sym (append_assoc a.done (e ∷ []) es) in
-          (subst (Walk (Leads method old row) (Ends old row) 0) same g.0, ap (total cost) (sym same) ∙ g.1);
+      joined = rw flat_map-append (rw (append-nil (element_bytes e)) (now-is ∙ rw a.joined (rw append_assoc refl)));
+      goes_on = λ es w t. rw append_assoc
+          (a.goes_on (e ∷ es) (place', record { element = c.choice.element; agrees = c.choice.agrees; next_is = next }, w)
+          (omega (arith, t, number, ap (slice_index table) next)));
     }
 
 pub appended_all : {method : Method} {old row table before now : List ℕ} {place : ℕ} → AreRightFrom method old row table 0
@@ -341,23 +322,14 @@ appended_all {method} {old} {row} {before} {place} right none a =
       | inr next ↦ absurd (omega (arith, next.1.number_is, spelling_has_byte method next.0 next.1.element))
     ] in
     let g = a.goes_on [] end (sym none) in
-    record {
-      steps = a.done ++ [];
-      walk = g.0;
-      total_is = g.1;
-      joined =
-          a.joined ∙ ap (λ (es : List Element). before ++ flat_map element_bytes es) (sym (append-nil a.done));
-    }
+    record { steps = a.done ++ []; walk = g.0; total_is = g.1; joined = rw append-nil a.joined }
 
 -- what was appended is least
 pub appends_least : {method : Method} {seed row old table before now : List ℕ} → IsCodable seed row → length table ≡ length row + 1
     → old ≡ base method seed → AreRightFrom method old row table 0
     → AppendsWalk method old row table before now → AppendsLeast method seed row before now
-appends_least {method} {seed} {row} {table} {before} {now} codable size old-is right a =
-    let right' : AreRightFrom method (base method seed) row table 0 =
-    subst (λ (o : List ℕ). AreRightFrom method o row table 0) old-is right in
-    let a' : AppendsWalk method (base method seed) row table before now =
-    subst (λ (o : List ℕ). AppendsWalk method o row table before now) old-is a in
-    let is = table_is_least codable.same_size size right' in
-    let l = least_along a'.steps codable is.table_is a'.walk a'.total_is in
-    record { bytes = flat_map element_bytes a'.steps; joined = a'.joined; whole = l.0; least = l.1 }
+appends_least {method} {seed} {row} {table} codable size old-is right a =
+    let b = rw old-is at a in
+    let is = table_is_least codable.same_size size (rw old-is at right) in
+    let l = least_along b.steps codable is.table_is b.walk b.total_is in
+    record { bytes = flat_map element_bytes b.steps; joined = b.joined; whole = l.0; least = l.1 }

@@ -2,7 +2,8 @@
 use Rattle.std.proofs.Common.{◌≡◌, ℕ, ◌+◌, ◌-◌, ◌*◌, ◌<◌, ◌≤◌, min, List, length, get_or, take, drop, replicate, refl, sym, ap, ◌∙◌, subst, inl, inr, arith}
 use Rattle.std.specs.Prelude.{slice_index}
 use Rattle.std.proofs.lemmas.Bool.{cases_lt}
-use Rattle.std.proofs.lemmas.List.{ext_get_or, get_or-take, get_or-drop, get_or-replicate, length-drop, length-take-le, length-replicate}
+use Rattle.std.proofs.lemmas.List.{ext_get_or, get_or-take, get_or-drop, get_or-replicate, length-drop, length-take, length-take-le, length-replicate}
+use Rattle.pcl_base.proofs.Lists.{run_byte}
 use Rattle.pcl_bitmap.specs.Kernels.{IsFirstDifference, IsRunEnd}
 use Rattle.pcl_coders.specs.inner.Choosing.{IsLeastLen}
 
@@ -20,61 +21,30 @@ pub record IsSameLen (old wanted : List ℕ) (len : ℕ) : Type 0 where
 
 -- the run at a place, of which the end is known
 pub run_len_of : {row : List ℕ} {from end : ℕ} (run : ℕ) → IsRunEnd row from end → end ≡ from + run → IsRunLen (drop from row) run
-run_len_of {row} {from} run is there =
-    let at : (k : ℕ) → slice_index (drop from row) k ≡ slice_index row (from + k) = λ k. get_or-drop from row k 0 in
-    let first : slice_index (drop from row) 0 ≡ slice_index row from = at 0 ∙ ap (slice_index row) (omega arith) in
-    let size : length (take run (drop from row)) ≡ run =
-    length-take-le run (drop from row) (omega (arith, length-drop from row, is.within)) in
-    record {
-      within = omega (arith, length-drop from row, is.within);
-      equal = ext_get_or 0 (take run (drop from row)) (replicate run (slice_index (drop from row) 0))
-          (size ∙ sym (length-replicate run (slice_index (drop from row) 0)))
-          (λ k below.
-          let inside : k < run = omega arith in
-          get_or-take run (drop from row) k 0 inside ∙ at k ∙ is.same (from + k) (omega arith) (omega arith) ∙ sym first
-          ∙ sym (get_or-replicate run k (slice_index (drop from row) 0) 0 inside));
-      longest = λ k byte fits alike.
-          elim (cases_lt run k) [
-            | inr le ↦ le
-            | inl past ↦
-                let each : (i : ℕ) → i < k → slice_index (drop from row) i ≡ byte =
-                λ i h. sym (get_or-take k (drop from row) i 0 h) ∙ ap (λ (xs : List ℕ). get_or xs i 0) alike
-                ∙ get_or-replicate k i byte 0 h in
-                absurd (is.differs (omega (arith, length-drop from row))
-                (ap (slice_index row) there ∙ sym (at run) ∙ each run past ∙ sym (each 0 (omega arith)) ∙ first))
-          ];
-    }
+run_len_of {row} {from} run is there = record {
+  within = omega (arith, length-drop from row, is.within);
+  equal = ext_get_or 0 (take run (drop from row)) (replicate run (slice_index (drop from row) 0))
+      (grind (arith, length-take, length-drop, length-replicate, is.within))
+      (λ k below. grind (arith, length-take, get_or-take, get_or-drop, get_or-replicate, is.same));
+  longest = λ k byte fits alike.
+      grind (arith, run_byte row from k byte 0 alike, run_byte row from k byte run alike, is.differs, length-drop from row);
+}
 
 -- the front of two rows that is the same
 pub same_len_of : {old wanted : List ℕ} {place : ℕ} → length old ≡ length wanted → IsFirstDifference old wanted place
     → IsSameLen old wanted place
 same_len_of {old} {wanted} {place} size is = record {
   within = omega (arith, is.within);
-  equal = ext_get_or 0 (take place wanted) (take place old)
-      (length-take-le place wanted (omega (arith, is.within)) ∙ sym (length-take-le place old is.within))
-      (λ k below.
-      let inside : k < place = omega (arith, length-take-le place wanted (omega (arith, is.within))) in
-      get_or-take place wanted k 0 inside ∙ sym (is.same k inside) ∙ sym (get_or-take place old k 0 inside));
-  longest = λ k fits alike.
-      elim (cases_lt place k) [
-        | inr le ↦ le
-        | inl past ↦
-            absurd (is.differs (omega arith)
-            (sym (get_or-take k old place 0 past) ∙ ap (λ (xs : List ℕ). get_or xs place 0) (sym alike)
-            ∙ get_or-take k wanted place 0 past))
-      ];
+  equal = ext_get_or 0 (take place wanted) (take place old) (grind (arith, length-take, is.within))
+      (λ k below. grind (arith, length-take, get_or-take, is.same));
+  longest = λ k fits alike. grind (arith, get_or-take k old place 0, get_or-take k wanted place 0, is.differs);
 }
 
 -- ---- the best length
 
 pub least_len_one : {numbers : List ℕ} {from head each len sum : ℕ} → len ≡ from → sum ≡ head + each * from + slice_index numbers from
     → IsLeastLen numbers from from head each len sum
-least_len_one {from} at e = record {
-  above = omega arith;
-  below = omega arith;
-  sum_is = rw at e;
-  least = λ k low high. let same : k ≡ from = omega arith in rw (same, e) (omega arith);
-}
+least_len_one {from} at e = record { above = omega arith; below = omega arith; sum_is = rw at e; least = λ k low high. grind arith }
 
 -- the next length is better
 pub least_len_next : {numbers : List ℕ} {from to head each len sum : ℕ} → from ≤ to → {l s : ℕ}
@@ -84,11 +54,7 @@ least_len_next {to} order best at e better = record {
   above = omega arith;
   below = omega arith;
   sum_is = rw at e;
-  least = λ k low high.
-      elim (cases_lt k to) [
-        | inl below ↦ omega (arith, best.least k low (omega arith))
-        | inr above ↦ let same : k ≡ to = omega arith in rw (same, e) (omega arith)
-      ];
+  least = λ k low high. grind (arith, best.least k);
 }
 
 -- it isn't
@@ -98,11 +64,7 @@ least_len_stays {to} sum best e worse = record {
   above = best.above;
   below = omega (arith, best.below);
   sum_is = best.sum_is;
-  least = λ k low high.
-      elim (cases_lt k to) [
-        | inl below ↦ best.least k low (omega arith)
-        | inr above ↦ let same : k ≡ to = omega arith in rw (same, ← e) worse
-      ];
+  least = λ k low high. grind (arith, best.least k);
 }
 
 -- the lesser of the best so far and the next

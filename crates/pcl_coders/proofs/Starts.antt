@@ -17,23 +17,7 @@ use Rattle.pcl_coders.proofs.Shapes.{delta_shape, replacement_is}
 use Rattle.pcl_coders.proofs.Prefixes.{IsSameLen, same_len_of}
 use Rattle.pcl_coders.proofs.Choices.{agrees_gives, replace_step}
 use Rattle.pcl_coders.proofs.Ends.{ends_at}
-use Rattle.pcl_coders.proofs.Places.{command_grows, command_joins}
-
--- as many bytes are left as are the same
-same_to_start : {old row : List ℕ} {place start : ℕ} → length old ≡ length row → IsLatestStart old row place start
-    → IsSameLen (drop place old) (drop place row) (start - place)
-same_to_start {old} {row} {place} {start} size is =
-    let last : ℕ = start - place in
-    let there : place + last ≡ start = omega (arith, is.order) in
-    let long : length (drop place old) ≡ length row - place = omega (arith, length-drop place old) in
-    let difference : IsFirstDifference (drop place old) (drop place row) last = record {
-      within = omega (arith, long, is.within);
-      same = λ k below. get_or-drop place old k 0 ∙ is.same (place + k) (omega arith) (omega arith) ∙ sym (get_or-drop place row k 0);
-      differs = λ _ same. is.differs
-          (ap (slice_index old) (sym there) ∙ sym (get_or-drop place old last 0) ∙ same ∙ get_or-drop place row last 0
-          ∙ ap (slice_index row) there);
-    } in
-    same_len_of (omega (arith, long, length-drop place row)) difference
+use Rattle.pcl_coders.proofs.Places.{command_grows, command_joins, same_to_start}
 
 -- a replacement at the latest start
 record IsLatestStep (old row : List ℕ) (place start len : ℕ) (e : Element) : Type 0 where

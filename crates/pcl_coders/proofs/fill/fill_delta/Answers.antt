@@ -4,7 +4,7 @@ use Rattle.std.proofs.lemmas.Bool.{cases_lt}
 use Rattle.pcl_base.specs.declared.method.Method.TheVariants.{Delta}
 use Rattle.pcl_coders.specs.inner.Filling.{AreRightFrom}
 use Rattle.pcl_coders.specs.inner.Replacement.{replacement_bytes}
-use Rattle.pcl_coders.proofs.Places.{IsNextStart, IsDeltaAt, begun_right, place_done, delta_place, delta_at, next_start_stays, next_start_here, last_differs}
+use Rattle.pcl_coders.proofs.Places.{IsNextStart, begun_right, place_done, delta_place, next_start_set, next_start_stays, next_start_here, last_differs}
 use Rattle.pcl_coders.proofs.fill.fill_delta.Goals as goal
 use Rattle.pcl_coders.proofs.fill.fill_delta.Goals.{then-old-place, else-old-place}
 
@@ -16,7 +16,8 @@ loop-place-init c = record {
 
 -- the next start of a place, and what its number then is: right, and small
 placed : (c : goal.After-row_known-in-loop-place-1)
-    → IsNextStart c.args.old.now c.args.row.now c.loop-place.out (c.loop-place.place - 1) c.if-old-place.start c.if-old-place.best
+    → IsNextStart c.args.old.now c.args.row.now c.loop-place.out (c.loop-place.place - 1 + 1) (c.loop-place.place - 1) c.if-old-place.start
+    c.if-old-place.best
     × AreRightFrom Delta c.args.old.now c.args.row.now
     (set c.loop-place.out (c.loop-place.place - 1)
     (replacement_bytes (c.if-old-place.start - (c.loop-place.place - 1)) + c.if-old-place.best))
@@ -31,7 +32,7 @@ placed c =
     let after : c.loop-place.place ≡ place + 1 = omega arith in
     let inside : place < c.args.end = omega (arith, c.loop-place.auto.place) in
     let size : length out ≡ length row + 1 = c.loop-place.auto.out ∙ c.requires.size in
-    let next : IsNextStart old row out place c.if-old-place.start c.if-old-place.best =
+    let next : IsNextStart old row out (place + 1) place c.if-old-place.start c.if-old-place.best =
     elim c.if-old-place.branch [
       | then-old-place w ↦
           let e = rw (take_rest out place) at w.least_behind-best.ensures in
@@ -42,9 +43,8 @@ placed c =
             | inl more ↦ more
             | inr last ↦ absurd (last_differs place c.requires (omega arith) w.if-old-place.false)
           ] in
-          let at = subst (λ (p : ℕ). IsDeltaAt old row out p c.loop-place.start c.loop-place.best) after
-          (c.loop-place.invariant.next (omega arith)) in
-          rw (w.start-is, w.best-is) (next_start_stays at.next at.number w.if-old-place.false)
+          rw (w.start-is, w.best-is)
+          (next_start_stays (rw after at (c.loop-place.invariant.next (omega arith))) w.if-old-place.false)
     ] in
     let behind = subst (AreRightFrom Delta old row out) after c.loop-place.invariant.right in
     let done = place_done c.requires size inside behind (delta_place c.requires size inside next).1 in
@@ -64,5 +64,5 @@ loop-place-preserved c =
     record {
       right = rw c.command_bytes.ensures p.1;
       next = λ _. rw c.command_bytes.ensures
-          (delta_at (c.loop-place.auto.out ∙ c.requires.size) (omega (arith, c.loop-place.auto.place, c.requires.first_end.within)) p.0);
+          (next_start_set (c.loop-place.auto.out ∙ c.requires.size) (omega (arith, c.loop-place.auto.place, c.requires.first_end.within)) p.0);
     }
