@@ -3,6 +3,7 @@ use Rattle.std.proofs.Common.{◌≡◌, ◌≢◌, ℕ, ◌+◌, ◌-◌, ◌<�
 use Rattle.std.specs.Prelude.{slice_index}
 use Rattle.std.proofs.lemmas.Bool.{cases_lt}
 use Rattle.std.proofs.lemmas.List.{drop-drop, length-drop, get_or-drop, take-take, take-replicate}
+use Rattle.pcl_base.proofs.Lists.{run_part}
 use Rattle.pcl_base.specs.declared.method.Method.{Method}
 use Rattle.pcl_base.specs.declared.method.Method.TheVariants.{Runs, Packed, Delta}
 use Rattle.pcl_bitmap.specs.Kernels.{IsFirstDifference, IsRunEnd}
@@ -32,24 +33,21 @@ pub right_from_drop : {method : Method} {old row table : List ℕ} {place : ℕ}
 right_from_drop {old} {row} {table} {place} within right q low high =
     let is = right (place + q) (omega arith) (omega (arith, length-drop place row)) in
     let at : (k : ℕ) → slice_index (drop place table) k ≡ slice_index table (place + k) = λ k. get_or-drop place table k 0 in
-    let there : (e : Element) → slice_index (drop place table) (q + stop e) ≡ slice_index table (place + q + stop e) =
-    λ e. let same : place + (q + stop e) ≡ place + q + stop e = omega arith in at (q + stop e) ∙ ap (slice_index table) same in
     record {
-      steps = λ e element
-          agrees. omega (arith, is.steps e element (rw (drop-drop q place old, drop-drop q place row) at agrees), at q, there e);
+      steps = λ e element agrees.
+          let l = is.steps e element (rw (drop-drop q place old, drop-drop q place row) at agrees) in grind (arith, at q, at (q + stop e));
       ends = λ end. at q ∙ is.ends (rw (drop-drop q place old, drop-drop q place row) at end);
       attained = elim is.attained [
         | inl end ↦ inl (rw (drop-drop q place old, drop-drop q place row) end)
-        | inr next ↦
-            inr (
-              next.0,
-              record {
-                element = next.1.element;
-                agrees = rw (drop-drop q place old, drop-drop q place row) next.1.agrees;
-                goes_on = next.1.goes_on;
-                number_is = omega (arith, next.1.number_is, at q, there next.0);
-              },
-            )
+        | inr next ↦ inr (
+          next.0,
+          record {
+            element = next.1.element;
+            agrees = rw (drop-drop q place old, drop-drop q place row) next.1.agrees;
+            goes_on = next.1.goes_on;
+            number_is = grind (arith, next.1, at q, at (q + stop next.0));
+          },
+        )
       ];
       small = omega (arith, is.small, at q, length-drop place row);
     }
@@ -62,7 +60,7 @@ pub along_choice : {method : Method} {old wanted numbers : List ℕ} {shape : Sh
 along_choice {numbers} right s some sum-is =
     step_choice s some sum-is (λ d element agrees goes.
     let at : 0 + stop d ≡ stop d = omega arith in
-    omega (arith, (right 0 (omega arith) (omega arith)).steps d element agrees, ap (slice_index numbers) at))
+    omega (arith, rw at at ((right 0 (omega arith) (omega arith)).steps d element agrees)))
 
 pub numbers_fall : {old wanted numbers : List ℕ} (i j : ℕ) → length old ≡ length wanted → AreRightFrom Packed old wanted numbers 0 → i ≤ j
     → j ≤ length wanted → slice_index numbers j ≤ slice_index numbers i
@@ -73,13 +71,7 @@ pub literal_bounds : {old wanted numbers : List ℕ} (k : ℕ) → AreRightFrom 
     → slice_index numbers 0 ≤ 1 + k + slice_index numbers k
 literal_bounds {old} {wanted} {numbers} k right some within =
     let s = literal_step old wanted k some (omega arith) (omega arith) in
-    let at : 0 + stop (element_of (LiteralRun k) wanted) ≡ k = omega (arith, s.stop_is) in
-    omega (
-      arith,
-      (right 0 (omega arith) (omega arith)).steps (element_of (LiteralRun k) wanted) s.element s.agrees,
-      s.bytes_are,
-      ap (slice_index numbers) at,
-    )
+    grind (arith, s, (right 0 (omega arith) (omega arith)).steps (element_of (LiteralRun k) wanted) s.element s.agrees)
 
 pub along_literal : {old wanted numbers : List ℕ} {len : ℕ} → AreRightFrom Packed old wanted numbers 0
     → IsLiteralLen numbers (min (length wanted) 128) len → IsShapeChoice Packed old wanted numbers (LiteralRun len) (slice_index numbers 0)
@@ -90,9 +82,8 @@ along_literal {old} {wanted} {len} right is =
 repeat_of_run : (old : List ℕ) {wanted : List ℕ} {run end : ℕ} → IsRunLen wanted end → run ≡ min end 128 → 2 ≤ run
     → IsShapeElement Packed old wanted (RepeatRun run) 2
 repeat_of_run old {wanted} {run} {end} is run-is more =
-    let part : run ≤ end = omega arith in
     repeat_step old more (omega arith) (omega (arith, is.within))
-    (sym (take-take run end wanted part) ∙ ap (take run) is.equal ∙ take-replicate run end (slice_index wanted 0) part)
+    (run_part wanted (slice_index wanted 0) (omega arith) is.equal)
 
 pub along_repeat : {old wanted numbers : List ℕ} {run end : ℕ} → AreRightFrom Packed old wanted numbers 0 → IsRunEnd wanted 0 end
     → run ≡ min end 128 → 2 ≤ run → slice_index numbers run + 2 ≡ slice_index numbers 0
@@ -115,34 +106,15 @@ no_literal_repeat old wanted numbers run end size some right needed is run-is no
           let g = agrees_gives old size next.1.element next.1.agrees in
           let s = packed_shape e.head e.bytes next.1.element.head_is.method_is next.1.element.head_is.in_range next.1.element.complete
           next.1.goes_on in
-          let at : 0 + stop e ≡ stop e = omega arith in
           elim s.1 [
-            | inr l ↦
-                let count : ℕ = length (given e) in
-                let stops : stop e ≡ count = omega (arith, s.0) in
-                absurd (none count l.above (omega (arith, g.0, l.below))
-                (omega (arith, next.1.number_is, l.bytes_are, ap (slice_index numbers) at, ap (slice_index numbers) stops)))
+            | inr l ↦ absurd (none (length (given e)) l.above (omega (arith, g.0, l.below)) (grind (arith, s.0, next.1, l)))
             | inl r ↦
                 let w = within_run run-len s.0 r g.0 g.2 in
                 let more : 2 ≤ run = omega (arith, w.0, r.above, r.below) in
-                let fall =
-                numbers_fall r.count run size right (omega (arith, w.0, r.below)) (omega (arith, run-len.within)) in
+                let fall = numbers_fall r.count run size right (omega (arith, w.0, r.below)) (omega (arith, run-len.within)) in
                 let m = repeat_of_run old run-len run-is more in
-                let at' : 0 + stop (element_of (RepeatRun run) wanted) ≡ run = omega (arith, m.stop_is) in
-                let above = here.steps (element_of (RepeatRun run) wanted) m.element m.agrees in (
-                  more,
-                  omega (
-                    arith,
-                    fall,
-                    above,
-                    m.bytes_are,
-                    ap (slice_index numbers) at',
-                    next.1.number_is,
-                    r.bytes_are,
-                    ap (slice_index numbers) at,
-                    ap (slice_index numbers) w.1,
-                  ),
-                )
+                let above = here.steps (element_of (RepeatRun run) wanted) m.element m.agrees in
+                (more, grind (arith, next.1, m, r))
           ]
     ]
 
@@ -153,26 +125,26 @@ walk_bounds : {old row table : List ℕ} (es : List Element) {place : ℕ} → l
     → place ≤ length row → Walk (Leads Delta old row) (Ends old row) place es → slice_index table place ≤ total cost es
 walk_bounds [] {place} size right within walk = omega (arith, (right place (omega arith) within).ends walk)
 walk_bounds {old} {row} {table} (e ∷ es) {place} size right within walk =
-    let next : walk.0 ≡ place + stop e = walk.1.next_is in
     let inside = stop_within Delta old row place e size walk.1.element walk.1.agrees in
-    let rest = walk_bounds es size right (omega arith) walk.2 in
-    omega (arith, (right place (omega arith) within).steps e walk.1.element walk.1.agrees, ap (slice_index table) next, rest)
+    let next = walk.1.next_is in
+    grind (
+      arith,
+      (right place (omega arith) within).steps e walk.1.element walk.1.agrees,
+      walk_bounds es size right (omega arith) walk.2,
+    )
 
 pub along_run : {old wanted numbers : List ℕ} {end len : ℕ} → length old ≡ length wanted → AreRightFrom Runs old wanted numbers 0
     → IsRunEnd wanted 0 end → len ≡ min end 256 → IsShapeChoice Runs old wanted numbers (Run len) (2 + slice_index numbers len)
 along_run {old} {wanted} {numbers} {end} {len} size right is len-is =
-    let run-len = run_len_of end is (omega arith) in
-    runs_choice size run-len
+    runs_choice size (run_len_of end is (omega arith))
     (record {
       above = omega (arith, is.after);
       below = omega arith;
       sum_is = omega arith;
-      least = λ k low
-          high. omega (
-            arith,
-            falls Runs old wanted numbers 0 k len runs_shorten size right (omega arith) (omega arith)
-                (omega (arith, is.within)),
-          );
+      least = λ k low high. omega (
+        arith,
+        falls Runs old wanted numbers 0 k len runs_shorten size right (omega arith) (omega arith) (omega (arith, is.within)),
+      );
     })
 
 -- data is needed, so the rows differ
@@ -205,31 +177,27 @@ along_replacement {old} {wanted} {numbers} {start} {shape} {sum} size long right
     let walk = attained_from (length wanted) size right (omega arith) (omega arith) in
     let s = latest_is_as_good old wanted walk.0 0 start size latest walk.1 in
     let d = delta_step size latest s.walk.1 in
-    let rest = walk_bounds s.rest size right d.within s.walk.2 in
     let at : (k : ℕ) → slice_index (drop start numbers) k ≡ slice_index numbers (start + k) = λ k. get_or-drop start numbers k 0 in
     let begins : offset_of s.first.head ≡ start = omega (arith, s.offset_is) in
     let there : s.walk.0 ≡ start + d.len = omega (arith, d.next_is, begins) in
+    let rest = walk_bounds s.rest size right d.within s.walk.2 in
     let most : sum ≤ slice_index numbers 0 =
     omega (
       arith,
       r.best.least d.len d.some (omega (arith, d.few, d.within, there)),
       at d.len,
-      d.cost_is,
-      ap replacement_bytes begins,
-      ap (slice_index numbers) there,
-      rest,
+      rw begins at d.cost_is,
+      rw there at rest,
       s.cheap,
       walk.2,
     ) in
     let len : ℕ = r.len in
-    let front : take start wanted ≡ take start old = (same_len_of size is).equal in
-    let e = replace_step old wanted start len r.best.above (omega (arith, r.best.below)) (omega (arith, r.best.below)) front in
+    let e = replace_step old wanted start len r.best.above (omega (arith, r.best.below)) (omega (arith, r.best.below))
+    (same_len_of size is).equal in
     let m : Element = element_of (Replace start len) wanted in
-    let ends : 0 + stop m ≡ start + len = omega (arith, e.stop_is) in
     let least = (right 0 (omega arith) (omega arith)).steps m e.element e.agrees in
-    let equal : slice_index numbers 0 ≡ sum =
-    omega (arith, most, least, e.bytes_are, ap (slice_index numbers) ends, r.best.sum_is, at len) in
-    subst (λ (n : ℕ). IsShapeChoice Delta old wanted numbers shape n) equal
-    (subst (λ (t : Shape). IsShapeChoice Delta old wanted numbers t (slice_index numbers 0)) (sym r.step_is)
-    (along_choice right e (omega (arith, r.best.above))
-    (omega (arith, equal, r.best.sum_is, at len))))
+    let equal : sum ≡ slice_index numbers 0 = grind (arith, most, least, e, r.best.sum_is, at len) in
+    let first : slice_index numbers 0 ≡ replacement_bytes start + len + slice_index numbers (start + len) =
+    omega (arith, equal, r.best.sum_is, at len) in
+    let best = along_choice right e (omega (arith, r.best.above)) first in
+    rw (r.step_is, equal) best

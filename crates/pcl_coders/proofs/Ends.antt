@@ -11,21 +11,16 @@ pub ends_by : (old row : List ℕ) (place : ℕ) → length old ≡ length row
     → ((k : ℕ) → place ≤ k → k < length row → get_or row k 0 ≡ get_or old k 0) → Ends old row place
 ends_by old row place size same =
     ext_get_or 0 (drop place row) (drop place old) (omega (arith, length-drop place row, length-drop place old))
-    (λ k below. get_or-drop place row k 0 ∙ same (place + k) (omega arith) (omega (arith, length-drop place row))
-    ∙ sym (get_or-drop place old k 0))
+    (λ k below. grind (arith, get_or-drop, length-drop place row, same (place + k)))
 
 pub ends_at : (old row : List ℕ) {place : ℕ} (k : ℕ) → Ends old row place → place ≤ k → get_or row k 0 ≡ get_or old k 0
 ends_at old row {place} k end low =
-    let at : place + (k - place) ≡ k = omega arith in
-    ap (λ (n : ℕ). get_or row n 0) (sym at) ∙ sym (get_or-drop place row (k - place) 0) ∙ ap (λ (bs : List ℕ). get_or bs (k - place) 0) end
-    ∙ get_or-drop place old (k - place) 0 ∙ ap (λ (n : ℕ). get_or old n 0) at
+    grind (arith, get_or-drop place row (k - place) 0, get_or-drop place old (k - place) 0)
 
 -- after such a place there are only such places
 pub ends_on : (old row : List ℕ) {place q : ℕ} → Ends old row place → place ≤ q → Ends old row q
 ends_on old row {place} {q} end low =
-    let at : place + (q - place) ≡ q = omega arith in
-    subst (λ (n : ℕ). drop n row ≡ drop n old) at
-    (sym (drop-drop (q - place) place row) ∙ ap (drop (q - place)) end ∙ drop-drop (q - place) place old)
+    let at : place + (q - place) ≡ q = omega arith in cc (drop-drop (q - place) place row, drop-drop (q - place) place old)
 
 pub first_end_by : {old row : List ℕ} {len : ℕ} → length old ≡ length row → len ≤ length row
     → ((k : ℕ) → len ≤ k → k < length row → get_or row k 0 ≡ get_or old k 0)
@@ -42,11 +37,7 @@ first_end_by {old} {row} {len} size within same differs = record {
 
 -- a byte of a row of white
 pub white_byte : (n k : ℕ) → get_or {A = ℕ} (replicate n 0) k 0 ≡ 0
-white_byte n k =
-    elim (cases_lt k n) [
-      | inl within ↦ get_or-replicate {A = ℕ} n k 0 0 within
-      | inr past ↦ get_or_past {X = ℕ} (replicate n 0) k 0 (omega (arith, length-replicate {A = ℕ} n 0))
-    ]
+white_byte n k = grind (arith, get_or-replicate, get_or_past, length-replicate)
 
 pub first_end_of_trimmed : {row : List ℕ} {n len : ℕ} → n ≡ length row → IsTrimmedLen row len → IsFirstEnd (replicate n 0) row len
 first_end_of_trimmed {n} {len} size is =
@@ -66,9 +57,5 @@ pub same_before : {old row : List ℕ} {len : ℕ} → AreSameFrom old row len �
     → AreSameFrom old row (len - 1)
 same_before {old} {row} {len} from some here = record {
   within = omega (arith, from.within);
-  same = λ k low high.
-      elim (cases_lt k len) [
-        | inr past ↦ from.same k past high
-        | inl before ↦ let at : len - 1 ≡ k = omega arith in subst (λ (n : ℕ). get_or row n 0 ≡ get_or old n 0) at (sym here)
-      ];
+  same = λ k low high. grind (arith, from.same k);
 }

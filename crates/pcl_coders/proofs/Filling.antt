@@ -126,7 +126,7 @@ ends_here old row {place} size inside same end =
     cc (drop_more row place 0 inside, drop_more old place 0 (omega arith))
 
 pub ends_behind : (old row : List ℕ) (place : ℕ) → Ends old row place → Ends old row (place + 1)
-ends_behind old row place end = sym (drop-drop 1 place row) ∙ ap (drop 1) end ∙ drop-drop 1 place old
+ends_behind old row place end = cc (drop-drop 1 place row, drop-drop 1 place old)
 
 -- one more number
 pub right_more : {method : Method} {old row table : List ℕ} {place : ℕ} (number : ℕ) → AreRightFrom method old row table (place + 1)
@@ -134,7 +134,7 @@ pub right_more : {method : Method} {old row table : List ℕ} {place : ℕ} (num
 right_more {method} {old} {row} {table} {place} number behind here q low high =
     elim (cases_lt place q) [
       | inl above ↦ number_stays number above (behind q (omega arith) high)
-      | inr same ↦ let at : place ≡ q = omega arith in subst (λ (p : ℕ). IsPlaceNumber method old row (set table place number) p) at here
+      | inr same ↦ let at : q ≡ place = omega arith in rw at here
     ]
 
 -- ---- a whole table
@@ -163,35 +163,25 @@ attained_from {method} {old} {row} (suc rest) {place} size right within left =
           )
     ]
 
--- it is enough to look at the places of the row and its end
-pub row_table_of_places : {method : Method} {seed row table : List ℕ} → length seed ≡ length row → length table ≡ length row + 1
-    → ((place : ℕ) (e : Element) → place ≤ length row → IsElement method e → Agrees (drop place (base method seed)) (drop place row) e
-    → slice_index table place ≤ cost e + slice_index table (place + stop e))
-    → ((place : ℕ) → place ≤ length row → Ends (base method seed) row place → slice_index table place ≡ 0)
-    → IsRowTable method seed row table
-row_table_of_places {row} {table} same size steps ends = record {
-  size = size;
-  feasible = record {
-    steps = λ place e next l.
-        elim (cases_lt (length row) place) [
-          | inl past ↦ omega (arith, get_or_past table place 0 (omega arith))
-          | inr within ↦ omega (arith, steps place e within l.element l.agrees, ap (slice_index table) l.next_is)
-        ];
-    ends = λ place end.
-        elim (cases_lt (length row) place) [
-          | inl past ↦ get_or_past table place 0 (omega arith)
-          | inr within ↦ ends place within end
-        ];
-  };
-}
-
 pub table_is_least : {method : Method} {seed row table : List ℕ} → length seed ≡ length row → length table ≡ length row + 1
     → AreRightFrom method (base method seed) row table 0 → IsLeastTable method seed row table
-table_is_least {method} {seed} {row} same size right = record {
-  table_is = row_table_of_places same size (λ place e within. (right place (omega arith) within).steps e)
-      (λ place within. (right place (omega arith) within).ends);
-  attained = λ place within. attained_from (length row) (length-base method seed ∙ same) right
-      within (omega arith);
+table_is_least {method} {seed} {row} {table} same size right = record {
+  table_is = record {
+    size = size;
+    feasible = record {
+      steps = λ place e next l.
+          elim (cases_lt (length row) place) [
+            | inl past ↦ omega (arith, get_or_past table place 0 (omega arith))
+            | inr within ↦ rw l.next_is ((right place (omega arith) within).steps e l.element l.agrees)
+          ];
+      ends = λ place end.
+          elim (cases_lt (length row) place) [
+            | inl past ↦ get_or_past table place 0 (omega arith)
+            | inr within ↦ (right place (omega arith) within).ends end
+          ];
+    };
+  };
+  attained = λ place within. attained_from (length row) (length-base method seed ∙ same) right within (omega arith);
 }
 
 -- ---- what the first number says

@@ -13,7 +13,7 @@ use Rattle.pcl_coders.specs.declared.shape.Shape.TheVariants.{LiteralRun, Repeat
 use Rattle.pcl_coders.proofs.Prefixes.{run_len_of}
 use Rattle.pcl_coders.proofs.Choices.{literal_step, literal_choice, repeat_choice}
 use Rattle.pcl_coders.proofs.Filling.{number_behind}
-use Rattle.pcl_coders.proofs.Places.{packed_shorten, falls}
+use Rattle.pcl_coders.proofs.Places.{packed_shorten, longest_least}
 
 -- ---- where the best literal ends
 
@@ -28,19 +28,11 @@ next_is_end {table} {end} {place} {best} inside has good = record {
   first = λ to low high. absurd (omega arith);
   least = λ to low high near.
       elim (cases_lt (place + 1) to) [
-        | inr same ↦ let at : place + 1 ≡ to = omega arith in omega (arith, ap (slice_index table) at)
+        | inr same ↦ grind arith
         | inl after ↦
             let is = has.some (omega arith) in
-            let next : place + 1 + slice_index table (place + 1) ≤ 1 + best + slice_index table best =
-            omega (arith, has.literals (place + 1) best (omega arith) is.above is.within is.near, is.above) in
-            elim (cases_lt to best) [
-              | inl before ↦ omega (arith, next, is.first to after before)
-              | inr behind ↦
-                  elim good [
-                    | inl far ↦ absurd (omega arith)
-                    | inr as_good ↦ omega (arith, as_good, is.least to (omega arith) high (omega arith))
-                  ]
-            ]
+            let next = has.literals (place + 1) best (omega arith) is.above is.within is.near in
+            grind (arith, is.above, is.first to, is.least to)
       ];
 }
 
@@ -49,19 +41,10 @@ literals_bound : {row first table : List ℕ} {end place : ℕ} → IsBegun (rep
     → AreRightFrom Packed (replicate (length row) 0) row table place → (from to : ℕ) → place ≤ from → from < to → to ≤ end
     → to ≤ from + 128 → slice_index table from ≤ 1 + (to - from) + slice_index table to
 literals_bound {row} {table} {end} begun right from to low more high near =
-    let len : ℕ = to - from in
-    let wanted : List ℕ = drop from row in
     let inside : to ≤ length row = omega (arith, begun.first_end.within) in
-    let s = literal_step (drop from (replicate (length row) 0)) wanted len (omega arith) (omega arith) (omega (arith, length-drop from row)) in
-    let e = element_of (LiteralRun len) wanted in
-    let at : from + len ≡ to = omega arith in
-    omega (
-      arith,
-      (right from low (omega arith)).steps e s.element s.agrees,
-      s.bytes_are,
-      ap (λ (n : ℕ). slice_index table (from + n)) s.stop_is,
-      ap (slice_index table) at,
-    )
+    let s = literal_step (drop from (replicate (length row) 0)) (drop from row) (to - from) (omega arith) (omega arith)
+    (omega (arith, length-drop from row)) in
+    grind (arith, s, (right from low (omega arith)).steps (element_of (LiteralRun (to - from)) (drop from row)) s.element s.agrees)
 
 -- at the end
 pub has_no_literal : {table : List ℕ} {end : ℕ} → HasLiteralEnd table end end end
@@ -84,16 +67,13 @@ has_literal begun right inside is = record {
 -- a number is set at the place itself
 pub end_of_set : {table : List ℕ} {end place best : ℕ} (number : ℕ) → IsLiteralEnd table end place best
     → IsLiteralEnd (set table place number) end place best
-end_of_set {table} {place} {best} number is =
-    let same : (to : ℕ) → place < to → slice_index (set table place number) to ≡ slice_index table to =
-    number_behind table place number in
-    record {
-      above = is.above;
-      within = is.within;
-      near = is.near;
-      least = λ to low high near. omega (arith, is.least to low high near, same best is.above, same to (omega (arith, is.above)));
-      first = λ to low high. omega (arith, is.first to low high, same best is.above, same to low);
-    }
+end_of_set {table} {place} {best} number is = record {
+  above = is.above;
+  within = is.within;
+  near = is.near;
+  least = λ to low high near. grind (arith, is, is.least to, number_behind table place number);
+  first = λ to low high. grind (arith, is, is.first to, number_behind table place number);
+}
 
 -- ---- the better of literals and repeats
 
@@ -102,26 +82,15 @@ pub literal_least : {row first table : List ℕ} {end place best number : ℕ} �
     → AreRightFrom Packed (replicate (length row) 0) row table (place + 1) → IsLiteralEnd table end place best
     → number ≡ best - place + 1 + slice_index table best
     → IsLeastLen (drop place table) 1 (min (length (drop place row)) 128) 1 1 (best - place) number
-literal_least {row} {table} {end} {place} {best} {number} begun behind is number-is =
+literal_least {row} {table} {end} {place} {best} begun behind is number-is =
     let at : (n : ℕ) → slice_index (drop place table) n ≡ slice_index table (place + n) = λ n. get_or-drop place table n 0 in
-    let there : place + (best - place) ≡ best = omega (arith, is.above) in
+    let zero = (behind end (omega (arith, is.above, is.within)) begun.first_end.within).ends begun.first_end.ends in
     record {
       above = omega (arith, is.above);
       below = omega (arith, is.above, is.near, is.within, length-drop place row, begun.first_end.within);
-      sum_is = omega (arith, is.above, number-is, at (best - place), ap (slice_index table) there);
-      least = λ n low high.
-          elim (cases_lt (place + n) best) [
-            | inl before ↦ omega (arith, number-is, is.above, is.first (place + n) (omega arith) before, at n)
-            | inr after ↦
-                elim (cases_lt end (place + n)) [
-                  | inr inside ↦ omega (arith, number-is, is.above, is.least (place + n) (omega arith) (omega arith) (omega arith), at n)
-                  | inl past ↦
-                      -- after the end the numbers are 0
-                      let zero : slice_index table end ≡ 0 =
-                      (behind end (omega (arith, is.above, is.within)) begun.first_end.within).ends begun.first_end.ends in
-                      omega (arith, number-is, is.above, is.least end is.within (omega arith) (omega arith), zero, at n)
-                ]
-          ];
+      sum_is = grind (arith, is, at (best - place));
+      -- after the end the numbers are 0
+      least = λ n low high. grind (arith, is, is.first (place + n), is.least (place + n), is.least end, at n);
     }
 
 -- the longest repeat of a place is the best
@@ -130,19 +99,7 @@ pub repeat_least : {row first table : List ℕ} {end place run_end len : ℕ} �
     → IsRunEnd row place run_end → place + 1 < run_end → len ≡ min (run_end - place) 128
     → IsLeastLen (drop place table) 2 (min (run_end - place) 128) 2 0 len (slice_index table (place + len) + 2)
 repeat_least {row} {table} {place} {len} begun size behind is more len-is =
-    let at : (n : ℕ) → slice_index (drop place table) n ≡ slice_index table (place + n) = λ n. get_or-drop place table n 0 in
-    record {
-      above = omega arith;
-      below = omega arith;
-      sum_is = omega (arith, at len);
-      least = λ k low
-          high. omega (
-            arith,
-            at k,
-            falls Packed (replicate (length row) 0) row table (place + 1) (place + k) (place + len) packed_shorten
-                begun.same_size behind (omega arith) (omega arith) (omega (arith, is.within, is.after)),
-          );
-    }
+    longest_least 128 packed_shorten begun.same_size behind is (omega arith) (omega arith) len-is
 
 -- the better of both
 pub packed_place : {row first table : List ℕ} {end place run_end best literal repeat number : ℕ}
@@ -153,40 +110,27 @@ pub packed_place : {row first table : List ℕ} {end place run_end best literal 
     → (shape : Shape) × IsShapeChoice Packed (drop place (replicate (length row) 0)) (drop place row) (drop place table) shape number
 packed_place {row} {table} {place} {run_end} {best} {literal} {repeat} {number} begun size inside behind is run literal-is small none
     some number-is =
-    let old : List ℕ = drop place (replicate (length row) 0) in
-    let wanted : List ℕ = drop place row in
+    let old : List ℕ = replicate (length row) 0 in
     let run-len = run_len_of (run_end - place) run (omega (arith, run.after)) in
-    let same : length old ≡ length wanted =
-    omega (arith, length-drop {A = ℕ} place (replicate (length row) 0), length-drop place row, begun.same_size) in
+    let same : length (drop place old) ≡ length (drop place row) =
+    omega (arith, length-drop place old, length-drop place row, begun.same_size) in
     let l = literal_least begun behind is literal-is in
-    let len : ℕ = min (run_end - place) 128 in
-    let at : place + len ≡ min run_end (place + 128) = omega (arith, run.after) in
     elim (cases_lt (place + 1) run_end) [
       | inr short ↦
-          let e : literal ≡ number = omega (arith, none (omega (arith, run.after))) in (
-            LiteralRun (best - place),
-            subst (IsShapeChoice Packed old wanted (drop place table) (LiteralRun (best - place))) e
-                (literal_choice same run-len l
-                (λ k low high. absurd (omega arith))),
-          )
+          let e : number ≡ literal = omega (arith, none (omega (arith, run.after))) in
+          (LiteralRun (best - place), rw e (literal_choice same run-len l (λ k low high. absurd (omega arith))))
       | inl more ↦
+          let len : ℕ = min (run_end - place) 128 in
           let r = repeat_least begun size behind run more refl in
-          let repeat-is : slice_index table (place + len) + 2 ≡ repeat = omega (arith, some more, ap (slice_index table) at) in
+          let at : min run_end (place + 128) ≡ place + len = omega (arith, run.after) in
+          let repeat-is = rw at at (some more) in
           elim (cases_lt repeat literal) [
             | inl better ↦
-                let e : repeat ≡ number = omega arith in (
-                  RepeatRun len,
-                  subst (IsShapeChoice Packed old wanted (drop place table) (RepeatRun len)) (repeat-is ∙ e)
-                      (repeat_choice same run-len
-                      r (λ k low high. omega (arith, l.least k low high))),
-                )
+                let e : number ≡ slice_index table (place + len) + 2 = omega arith in
+                (RepeatRun len, rw e (repeat_choice same run-len r (λ k low high. omega (arith, l.least k low high))))
             | inr worse ↦
-                let e : literal ≡ number = omega arith in (
-                  LiteralRun (best - place),
-                  subst (IsShapeChoice Packed old wanted (drop place table) (LiteralRun (best - place))) e
-                      (literal_choice same run-len l
-                      (λ k low high. omega (arith, r.least k low high))),
-                )
+                let e : number ≡ literal = omega arith in
+                (LiteralRun (best - place), rw e (literal_choice same run-len l (λ k low high. omega (arith, r.least k low high))))
           ]
     ]
 

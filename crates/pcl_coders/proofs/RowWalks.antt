@@ -31,13 +31,9 @@ total_is (e ∷ es) = omega (arith, total_is es, length-append (element_bytes e)
 
 -- an element gives a byte, or leaves none
 given_or_nothing_left : (h : Head) (bytes : List ℕ) → length bytes ≡ new_count h → (offset_of h ≡ 0) ⊎ (0 < length (given_by h bytes))
-given_or_nothing_left Itself bytes e = inl refl
-given_or_nothing_left (Count c) bytes e = inl refl
-given_or_nothing_left (Literal c) bytes e = inl refl
-given_or_nothing_left Skipped bytes e = inl refl
-given_or_nothing_left (Repeat c) bytes e = inl refl
 given_or_nothing_left (Near m o) bytes e = inr (omega (arith, length-copied 1 bytes))
 given_or_nothing_left (Far m f l) bytes e = inr (omega (arith, length-copied 1 bytes))
+given_or_nothing_left h bytes e = inl refl
 
 -- elements within the row that make the wanted bytes are a walk
 pub walk_from_elements : (method : Method) (old row : List ℕ) (es : List Element) (place : ℕ) → length old ≡ length row
@@ -47,16 +43,14 @@ walk_from_elements method old row [] place size are within made = sym made
 walk_from_elements method old row (e ∷ es) place size are within made =
     let before : List ℕ = take (offset_of e.head) (drop place old) in
     let rest : List ℕ = after_elements es kept (drop (stop e) (drop place old)) in
-    let whole : drop place row ≡ (before ++ given e) ++ rest = sym made ∙ sym (append_assoc before (given e) rest) in
     let len : length (before ++ given e) ≡ stop e =
     omega (arith, length-append before (given e), length-take (offset_of e.head) (drop place old), length-drop place old) in
-    let behind : drop (place + stop e) row ≡ rest =
-    sym (drop-drop (stop e) place row) ∙ ap (drop (stop e)) whole ∙ drop_at (before ++ given e) rest (stop e) len in
-    let same : drop (stop e) (drop place row) ≡ rest = drop-drop (stop e) place row ∙ behind in
+    let same : drop (stop e) (drop place row) ≡ rest =
+    cc (append_assoc before (given e) rest, drop_at (before ++ given e) rest (stop e) len) in
     let next : after_elements es kept (drop (place + stop e) old) ≡ drop (place + stop e) row =
-    ap (after_elements es kept) (sym (drop-drop (stop e) place old)) ∙ sym behind in (
+    cc (drop-drop (stop e) place old, drop-drop (stop e) place row) in (
       place + stop e,
-      record { element = are.0; agrees = sym made ∙ ap (λ (bs : List ℕ). before ++ (given e ++ bs)) (sym same); next_is = refl },
+      record { element = are.0; agrees = cc; next_is = refl },
       walk_from_elements method old row es (place + stop e) size are.1 (omega arith) next,
     )
 
@@ -64,24 +58,17 @@ walk_from_elements method old row (e ∷ es) place size are within made =
 pub stop_within : (method : Method) (old row : List ℕ) (place : ℕ) (e : Element) → length old ≡ length row → IsElement method e
     → Agrees (drop place old) (drop place row) e → stop e ≤ length row - place
 stop_within method old row place e size is agrees =
-    let wanted : List ℕ = drop place row in
-    let before : List ℕ = take (offset_of e.head) (drop place old) in
-    let behind : List ℕ = drop (stop e) wanted in
-    let sizes : length row - place ≡ min (offset_of e.head) (length row - place) + (length (given e) + (length row - place - stop e)) =
-    omega (
+    grind (
       arith,
+      given_or_nothing_left e.head e.bytes is.complete,
       ap length agrees,
-      length-append before (given e ++ behind),
-      length-append (given e) behind,
+      length-append (take (offset_of e.head) (drop place old)) (given e ++ drop (stop e) (drop place row)),
+      length-append (given e) (drop (stop e) (drop place row)),
       length-take (offset_of e.head) (drop place old),
-      length-drop (stop e) wanted,
+      length-drop (stop e) (drop place row),
       length-drop place row,
       length-drop place old,
-    ) in
-    elim (given_or_nothing_left e.head e.bytes is.complete) [
-      | inl none ↦ omega arith
-      | inr some ↦ omega arith
-    ]
+    )
 
 -- a walk makes the wanted bytes
 pub walk_makes : (method : Method) (old row : List ℕ) (es : List Element) (place : ℕ) → length old ≡ length row
@@ -92,14 +79,9 @@ walk_makes method old row (e ∷ es) place size w =
     let within = stop_within method old row place e size w.1.element w.1.agrees in
     let rest = walk_makes method old row es w.0 size w.2 in
     let next = w.1.next_is in
-    let before : List ℕ = take (offset_of e.head) (drop place old) in
     let made : after_elements es kept (drop (stop e) (drop place old)) ≡ drop (stop e) (drop place row) =
-    ap (after_elements es kept) (drop-drop (stop e) place old ∙ ap (λ (p : ℕ). drop p old) (sym next)) ∙ rest.2
-    ∙ ap (λ (p : ℕ). drop p row) next ∙ sym (drop-drop (stop e) place row) in (
-      (w.1.element, rest.0),
-      omega (arith, rest.1, next),
-      ap (λ (bs : List ℕ). before ++ (given e ++ bs)) made ∙ sym w.1.agrees,
-    )
+    cc (drop-drop (stop e) place old, drop-drop (stop e) place row, rest.2) in
+    ((w.1.element, rest.0), omega (arith, rest.1, next), cc)
 
 -- after the elements a cut one with no bytes changes nothing
 after_elements_cut : (es : List Element) (h : Head) {none : List ℕ} (old : List ℕ) → none ≡ []
@@ -112,8 +94,7 @@ after_elements_cut (d ∷ es) h old e =
 pub elements_decode : {method : Method} (old : List ℕ) (es : List Element) → AreElements method es
     → RowFrom method (flat_map element_bytes es) old (take (length old) (after_elements es kept old))
 elements_decode {method} old es are =
-    let e = some_element method in
-    let none : drop (length (head_bytes e.0.head)) [] ≡ [] = drop-nil (length (head_bytes e.0.head)) in (
+    let e = some_element method in (
       es,
       e.0,
       [],
@@ -121,10 +102,9 @@ elements_decode {method} old es are =
         elements = are;
         joined = sym (append-nil (flat_map element_bytes es));
         element = e.1;
-        lacking =
-            (element_bytes e.0, refl, spelling_has_byte method e.0 e.1);
+        lacking = (element_bytes e.0, refl, spelling_has_byte method e.0 e.1);
       },
-      ap (take (length old)) (sym (after_elements_cut es e.0.head old none)),
+      ap (take (length old)) (sym (after_elements_cut es e.0.head old (drop-nil (length (head_bytes e.0.head))))),
     )
 
 -- how many bytes there are after elements that stop within the row
@@ -148,11 +128,8 @@ walk_of_data {method} {seed} {row} {bytes} size has =
     let old : List ℕ = base method seed in
     let same : length old ≡ length row = length-base method seed ∙ size in
     let w = has.whole in
-    let decoded : RowFrom method bytes old (take (length old) (after_elements w.0 kept old)) =
-    subst (λ (bs : List ℕ). RowFrom method bs old (take (length old) (after_elements w.0 kept old))) (sym w.2)
-    (elements_decode old w.0 w.1) in
-    let cut : row ≡ take (length old) (after_elements w.0 kept old) =
-    one_row method bytes old row (take (length old) (after_elements w.0 kept old)) has.decodes decoded in
+    let decoded = rw (← w.2) at (elements_decode old w.0 w.1) in
+    let cut = one_row method bytes old row (take (length old) (after_elements w.0 kept old)) has.decodes decoded in
     let made : after_elements w.0 kept old ≡ row =
     sym (take_all (length old) (after_elements w.0 kept old) (omega (arith, length-after w.0 old (omega (arith, w.3))))) ∙ sym cut in
     (w.0, walk_from_elements method old row w.0 0 same w.1 (omega (arith, w.3)) made, total_is w.0 ∙ ap length (sym w.2))
