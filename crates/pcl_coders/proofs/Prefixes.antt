@@ -42,47 +42,17 @@ same_len_of {old} {wanted} {place} size is = record {
 
 -- ---- the best length
 
-pub least_len_one : {numbers : List ℕ} {from head each len sum : ℕ} → len ≡ from → sum ≡ head + each * from + slice_index numbers from
-    → IsLeastLen numbers from from head each len sum
-least_len_one {from} at e = record { above = omega arith; below = omega arith; sum_is = rw at e; least = λ k low high. grind arith }
-
--- the next length is better
-pub least_len_next : {numbers : List ℕ} {from to head each len sum : ℕ} → from ≤ to → {l s : ℕ}
-    → IsLeastLen numbers from (to - 1) head each l s → len ≡ to → sum ≡ head + each * to + slice_index numbers to → sum ≤ s
-    → IsLeastLen numbers from to head each len sum
-least_len_next {to} order best at e better = record {
-  above = omega arith;
-  below = omega arith;
-  sum_is = rw at e;
-  least = λ k low high. grind (arith, best.least k);
-}
-
--- it isn't
-pub least_len_stays : {numbers : List ℕ} {from to head each : ℕ} (sum : ℕ) → {l s : ℕ} → IsLeastLen numbers from (to - 1) head each l s
-    → sum ≡ head + each * to + slice_index numbers to → s ≤ sum → IsLeastLen numbers from to head each l s
-least_len_stays {to} sum best e worse = record {
-  above = best.above;
-  below = omega (arith, best.below);
-  sum_is = best.sum_is;
-  least = λ k low high. grind (arith, best.least k);
-}
-
 -- the lesser of the best so far and the next
 pub least_min_one : (numbers : List ℕ) → (len : ℕ) × IsLeastLen numbers 1 1 0 1 len (slice_index numbers 1 + 1)
-least_min_one numbers = (1, least_len_one refl (omega arith))
+least_min_one numbers = (
+  1,
+  record { above = omega arith; below = omega arith; sum_is = omega arith; least = λ k low high. grind arith },
+)
 
 pub least_min_next : {numbers : List ℕ} {to best : ℕ} (now : ℕ) → 1 ≤ to → (len : ℕ) × IsLeastLen numbers 1 (to - 1) 0 1 len best
     → now ≡ min best (slice_index numbers to + to) → (len : ℕ) × IsLeastLen numbers 1 to 0 1 len now
 least_min_next {numbers} {to} {best} now order b now-is =
-    let sum : ℕ = slice_index numbers to + to in
-    elim (cases_lt sum best) [
-      | inl better ↦
-          let e : sum ≡ now = omega arith in (
-            to,
-            subst (IsLeastLen numbers 1 to 0 1 to) e
-                (least_len_next order b.1 refl (omega arith) (omega arith)),
-          )
-      | inr worse ↦
-          let e : best ≡ now = omega arith in
-          (b.0, subst (IsLeastLen numbers 1 to 0 1 b.0) e (least_len_stays sum b.1 (omega arith) worse))
+    elim (cases_lt (slice_index numbers to + to) best) [
+      | inl better ↦ (to, grind (arith, b.1.least))
+      | inr worse ↦ (b.0, grind (arith, b.1.least))
     ]

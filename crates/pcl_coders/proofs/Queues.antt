@@ -86,21 +86,3 @@ queue_put {numbers} {places} {put} {first} {end} {number} q room low-end high-en
                 ]
           ];
     }
-
--- what the window has then
-pub window_put : (numbers : List ℕ) {taken put : ℕ} (number : ℕ) → taken ≤ put → put < length numbers
-    → in_window (set numbers put number) taken (put + 1) ≡ in_window numbers taken put ++ number ∷ []
-window_put numbers {taken} {put} number order room =
-    let before = length-in_window numbers taken put (omega arith) in
-    let after = length-in_window (set numbers put number) taken (put + 1) (omega (arith, length-set numbers put number)) in
-    ext_get_or 0 (in_window (set numbers put number) taken (put + 1)) (in_window numbers taken put ++ number ∷ [])
-    (grind (arith, length-append)) (λ k below.
-    grind (
-      arith,
-      number_in_window numbers taken put k,
-      number_in_window (set numbers put number) taken (put + 1) k,
-      get_or-set_same,
-      get_or-set_other,
-      get_or_push,
-      get_or_append_left,
-    ))

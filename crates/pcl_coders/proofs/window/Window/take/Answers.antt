@@ -16,9 +16,7 @@ invariant_of-self c =
       ap (λ (v : Numbers). length v.numbers) c.self.view_is,
       length-in_window a.numbers.now a.taken a.put q.put_within,
     ) in
-    queue_take q some
-    (λ same. elim c.if-self.branch [ then-self w ↦ w.first-is | else-self w ↦ absurd (w.if-self.false same) ])
-    (λ other. elim c.if-self.branch [ then-self w ↦ absurd (other w.if-self.true) | else-self w ↦ w.first-is ])
+    queue_take q some (grind (arith, c.if-self.branch)) (grind (arith, c.if-self.branch))
 
 pub returns-clause-numbers : goal.returns-clause-numbers
 returns-clause-numbers c =
