@@ -62,17 +62,7 @@ IsBelow method old wanted numbers sum =
 pub step_choice : {method : Method} {old wanted numbers : List ℕ} {shape : Shape} {bytes sum : ℕ}
     → IsShapeElement method old wanted shape bytes → 0 < shape_stop shape → sum ≡ bytes + slice_index numbers (shape_stop shape)
     → IsBelow method old wanted numbers sum → IsShapeChoice method old wanted numbers shape sum
-step_choice {numbers} e some sum-is below = record {
-  within = e.within;
-  stop_is = e.stop_is;
-  choice = record {
-    element = e.element;
-    agrees = e.agrees;
-    goes_on = omega (arith, e.stop_is);
-    sum_is = omega (arith, sum-is, e.bytes_are, ap (slice_index numbers) e.stop_is);
-    least = below;
-  };
-}
+step_choice {numbers} e some sum-is below = grind (arith, e)
 
 -- a byte that stands for itself
 pub byte_step : (old wanted : List ℕ) → 0 < length wanted → IsShapeElement Plain old wanted SingleByte 1

@@ -31,10 +31,7 @@ pub record IsOneByte (method : Method) (old wanted : List ℕ) (e : Element) : T
 
 one_byte_of : {method : Method} {old wanted : List ℕ} {shape : Shape} {bytes : ℕ} → IsShapeElement method old wanted shape bytes
     → shape_stop shape ≡ 1 → bytes ≤ 2 → (e : Element) × IsOneByte method old wanted e
-one_byte_of {wanted} {shape} s one few = (
-  element_of shape wanted,
-  record { element = s.element; agrees = s.agrees; stop_is = s.stop_is ∙ one; few = omega (arith, s.bytes_are) },
-)
+one_byte_of {wanted} {shape} s one few = (element_of shape wanted, grind (arith, s))
 
 one_byte : (method : Method) (old wanted : List ℕ) → 0 < length wanted → (e : Element) × IsOneByte method old wanted e
 one_byte Plain old wanted some = one_byte_of (byte_step old wanted some) refl (omega arith)

@@ -48,11 +48,7 @@ literals_bound {row} {table} {end} begun right from to low more high near =
 
 -- at the end
 pub has_no_literal : {table : List ℕ} {end : ℕ} → HasLiteralEnd table end end end
-has_no_literal = record {
-  literals = λ from to low more high near. absurd (omega arith);
-  last = λ _. refl;
-  some = λ more. absurd (omega arith);
-}
+has_no_literal = grind arith
 
 -- with numbers that are right
 pub has_literal : {row first table : List ℕ} {end place best : ℕ} → IsBegun (replicate (length row) 0) row first end
@@ -67,13 +63,7 @@ has_literal begun right inside is = record {
 -- a number is set at the place itself
 pub end_of_set : {table : List ℕ} {end place best : ℕ} (number : ℕ) → IsLiteralEnd table end place best
     → IsLiteralEnd (set table place number) end place best
-end_of_set {table} {place} {best} number is = record {
-  above = is.above;
-  within = is.within;
-  near = is.near;
-  least = λ to low high near. grind (arith, is, is.least to, number_behind table place number);
-  first = λ to low high. grind (arith, is, is.first to, number_behind table place number);
-}
+end_of_set {table} {place} {best} number is = grind (arith, is.least, is.first, number_behind table place number)
 
 -- ---- the better of literals and repeats
 

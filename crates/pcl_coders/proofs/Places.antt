@@ -29,12 +29,7 @@ use Rattle.pcl_coders.proofs.Ends.{ends_on, ends_at, white_byte}
 -- no data is needed, and the number is 0
 number_zero : {method : Method} {old row table : List ℕ} {place : ℕ} → slice_index table place ≡ 0 → Ends old row place
     → IsPlaceNumber method old row table place
-number_zero here end = record {
-  steps = λ e element agrees. omega (arith, here);
-  ends = λ _. here;
-  attained = inl end;
-  small = omega (arith, here);
-}
+number_zero here end = grind arith
 
 pub begun_right : {method : Method} {old row table : List ℕ} {end : ℕ} → IsBegun old row table end → AreRightFrom method old row table end
 begun_right {old} {row} begun q low high =
@@ -43,11 +38,7 @@ begun_right {old} {row} begun q low high =
 pub place_at : {old row first : List ℕ} (table : List ℕ) {end place : ℕ} → IsBegun old row first end → length table ≡ length row + 1
     → place < end
     → IsPlace (drop place row) (drop place table)
-place_at {row} table {place} begun size inside = record {
-  size = omega (arith, begun.first_end.within, length-drop place row, length-drop place table);
-  some = omega (arith, begun.first_end.within, length-drop place row);
-  small = omega (arith, begun.small, length-drop place row);
-}
+place_at {row} table {place} begun size inside = grind (arith, begun.first_end.within, length-drop)
 
 -- the best element of a place gives its number
 pub place_done : {method : Method} {old row first table : List ℕ} {end place : ℕ} {shape : Shape} {sum : ℕ} → IsBegun old row first end
@@ -81,16 +72,7 @@ pub record IsShorter (method : Method) (old wanted : List ℕ) (e d : Element) :
 shorter_of : {method : Method} {old wanted : List ℕ} (e : Element) {shape : Shape} {bytes : ℕ}
     → IsShapeElement method (drop 1 old) (drop 1 wanted) shape bytes → shape_stop shape + 1 ≡ stop e → bytes ≤ cost e
     → (d : Element) × IsShorter method old wanted e d
-shorter_of {wanted} e {shape} s stops few = (
-  element_of shape (drop 1 wanted),
-  record {
-    element = s.element;
-    agrees = s.agrees;
-    stop_is = omega (arith, s.stop_is, stops);
-    cheaper =
-        omega (arith, s.bytes_are, few);
-  },
-)
+shorter_of {wanted} e {shape} s stops few = (element_of shape (drop 1 wanted), grind (arith, s))
 
 -- what follows the first byte of an element that repeats one
 repeat_behind : (wanted : List ℕ) (e : Element) {least most : ℕ} (r : IsRepeat e.head e.bytes least most) → offset_of e.head ≡ 0
@@ -184,17 +166,11 @@ pub longest_least : {method : Method} {old row table : List ℕ} {place run_end 
     → length old ≡ length row → AreRightFrom method old row table (place + 1) → IsRunEnd row place run_end → 1 ≤ from
     → from ≤ min (run_end - place) most → len ≡ min (run_end - place) most
     → IsLeastLen (drop place table) from (min (run_end - place) most) 2 0 len (slice_index table (place + len) + 2)
-longest_least {method} {old} {row} {table} {place} most {len} shorten size behind is some more len-is = record {
-  above = omega arith;
-  below = omega arith;
-  sum_is = omega (arith, get_or-drop place table len 0);
-  least = λ k low high. omega (
-    arith,
-    get_or-drop place table k 0,
-    falls method old row table (place + 1) (place + k) (place + len) shorten size behind (omega arith) (omega arith)
-        (omega (arith, is.within)),
-  );
-}
+longest_least {method} {old} {row} {table} {place} most {len} shorten size behind is some more len-is =
+    let fall : (k : ℕ) → 1 ≤ k → k ≤ len → slice_index table (place + len) ≤ slice_index table (place + k) =
+    λ k low high. falls method old row table (place + 1) (place + k) (place + len) shorten size behind (omega arith) (omega arith)
+        (omega (arith, is.within)) in
+    grind (arith, get_or-drop)
 
 -- the longest run is the best
 pub runs_place : {old row first table : List ℕ} {end place run_end len : ℕ} → IsBegun old row first end → length table ≡ length row + 1
@@ -215,21 +191,11 @@ pub record IsRunFrom (row : List ℕ) (end place run_end : ℕ) : Type 0 where
 
 pub run_starts : {row : List ℕ} {place : ℕ} → place + 1 < length row → slice_index row place ≢ slice_index row (place + 1)
     → IsRunEnd row place (place + 1)
-run_starts {row} {place} inside differs = record {
-  after = omega arith;
-  within = omega arith;
-  same = λ k low high. grind arith;
-  differs = λ _ same. differs (sym same);
-}
+run_starts {row} {place} inside differs = grind arith
 
 pub run_goes_on : {row : List ℕ} {place run_end : ℕ} → IsRunEnd row (place + 1) run_end
     → slice_index row place ≡ slice_index row (place + 1) → IsRunEnd row place run_end
-run_goes_on {row} {place} is same = record {
-  after = omega (arith, is.after);
-  within = is.within;
-  same = λ k low high. grind (arith, is.same k);
-  differs = λ inside alike. is.differs inside (alike ∙ same);
-}
+run_goes_on {row} {place} is same = grind (arith, is.same)
 
 -- the last byte that data is needed for differs
 pub last_differs : {old row first : List ℕ} {end : ℕ} (place : ℕ) → IsBegun old row first end → place + 1 ≡ end
@@ -350,18 +316,7 @@ next_start_set {table} {place} {start} {best} size inside next =
 -- one place to the left, where the byte there is that of the row before
 pub next_start_stays : {old row table : List ℕ} {place start best : ℕ} → IsNextStart old row table (place + 1) (place + 1) start best
     → slice_index old place ≡ slice_index row place → IsNextStart old row table (place + 1) place start best
-next_start_stays next same =
-    let is = next.latest in
-    record {
-      latest = record {
-        order = omega (arith, is.order);
-        within = is.within;
-        same = λ k low high. grind (arith, is.same k);
-        differs = is.differs;
-      };
-      behind = next.behind;
-      numbers = next.numbers;
-    }
+next_start_stays next same = grind (arith, next.latest.same)
 
 -- where it differs
 pub next_start_here : {old row table : List ℕ} {place best len : ℕ} → length table ≡ length row + 1 → place < length row

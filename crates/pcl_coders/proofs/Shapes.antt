@@ -30,32 +30,19 @@ pub record IsLiteral (h : Head) (bytes : List ℕ) (most head : ℕ) : Type 0 wh
   pub bytes_are : length (head_bytes h ++ bytes) ≡ head + length (given_by h bytes)
 
 pub plain_shape : (h : Head) {bytes : List ℕ} → method_of h ≡ Plain → length bytes ≡ new_count h → (offset_of h ≡ 0) × IsLiteral h bytes 1 0
-plain_shape Itself {bytes} m c = let l =
-    ap length (once_each bytes) in (refl, record { above = omega (arith, l); below = omega (arith, l); bytes_are = omega (arith, l) })
+plain_shape Itself {bytes} m c = let l = ap length (once_each bytes) in (refl, grind arith)
 plain_shape h m c = absurd cc
 
 pub runs_shape : (h : Head) {bytes : List ℕ} → method_of h ≡ Runs → IsInRange h → length bytes ≡ new_count h
     → (offset_of h ≡ 0) × IsRepeat h bytes 1 256
 runs_shape (Count n) {bytes} m r c =
-    let b = single_byte bytes c in (
-      refl,
-      record {
-        count = n + 1;
-        byte = b.0;
-        above = omega arith;
-        below = omega arith;
-        given_is =
-            given_copies (n + 1) b.1;
-        bytes_are = omega (arith, c);
-      },
-    )
+    let b = single_byte bytes c in
+    (refl, record { count = n + 1; byte = b.0; above = omega arith; below = omega arith; given_is = given_copies (n + 1) b.1; bytes_are = omega (arith, c) })
 runs_shape h m r c = absurd cc
 
 pub packed_shape : (h : Head) (bytes : List ℕ) → method_of h ≡ Packed → IsInRange h → length bytes ≡ new_count h
     → 0 < offset_of h + length (given_by h bytes) → (offset_of h ≡ 0) × (IsRepeat h bytes 2 128 ⊎ IsLiteral h bytes 128 1)
-packed_shape (Literal n) bytes m r c some =
-    let l = ap length (once_each bytes) in
-    (refl, inr record { above = omega (arith, l, c); below = omega (arith, l, c); bytes_are = omega (arith, l) })
+packed_shape (Literal n) bytes m r c some = let l = ap length (once_each bytes) in (refl, inr (grind arith))
 packed_shape (Repeat n) bytes m r c some =
     let b = single_byte bytes c in (
       refl,
@@ -83,27 +70,16 @@ far_bytes offset above = rw (le-ltb offset 31 above) refl
 pub delta_shape : (h : Head) {bytes : List ℕ} → method_of h ≡ Delta → IsInRange h → length bytes ≡ new_count h
     → IsLiteral h bytes 8 (replacement_bytes (offset_of h))
 delta_shape (Near more offset) {bytes} m r c =
-    let l = ap length (once_each bytes) in
-    record { above = omega (arith, l, c); below = omega (arith, l, c, r.0); bytes_are = omega (arith, l, near_bytes offset r.1) }
+    let l = ap length (once_each bytes) in grind (arith, near_bytes)
 delta_shape (Far more full last) {bytes} m r c =
     let l = ap length (once_each bytes) in
-    let offset : ℕ = 31 + 255 * full + last in
-    let last_below : last < 255 = r.1 in
-    let count : (offset - 31) / 255 ≡ full = omega arith in
-    record {
-      above = omega (arith, l, c);
-      below = omega (arith, l, c, r.0);
-      bytes_are =
-          omega (
-            arith,
-            l,
-            count,
-            far_bytes offset (omega arith),
-            length-append {A = ℕ} (replicate full 255 ++ last ∷ []) bytes,
-            length-append {A = ℕ} (replicate full 255) (last ∷ []),
-            length-replicate {A = ℕ} full 255,
-          );
-    }
+    grind (
+      arith,
+      far_bytes (31 + 255 * full + last),
+      length-append (replicate full 255 ++ last ∷ []) bytes,
+      length-append (replicate full 255) (last ∷ []),
+      length-replicate,
+    )
 delta_shape h m r c = absurd cc
 
 -- the head of a replacement
@@ -117,32 +93,10 @@ pub record IsReplacementHead (offset len : ℕ) (h : Head) : Type 0 where
 
 replacement_at : {offset len : ℕ} (near : Bool) → 1 ≤ len → len ≤ 8 → ltb offset 31 ≡ near
     → IsReplacementHead offset len (cond near (Near (len - 1) offset) (Far (len - 1) ((offset - 31) / 255) ((offset - 31) % 255)))
-replacement_at {offset} true some few e =
-    let below : offset < 31 = ltb-true offset 31 e in
-    record {
-      method_is = refl;
-      in_range = (omega arith, below);
-      offset_is = refl;
-      count_is = omega arith;
-      copies_is = refl;
-      bytes_are =
-          rw e refl;
-    }
+replacement_at {offset} true some few e = let below = ltb-true offset 31 e in grind (arith, e)
 replacement_at {offset} false some few e =
-    let above : 31 ≤ offset = ltb-false offset 31 e in
-    record {
-      method_is = refl;
-      in_range = (omega arith, omega arith);
-      offset_is = omega arith;
-      count_is = omega arith;
-      copies_is = refl;
-      bytes_are = rw e
-          (omega (
-            arith,
-            length-append {A = ℕ} (replicate ((offset - 31) / 255) 255) ((offset - 31) % 255 ∷ []),
-            length-replicate {A = ℕ} ((offset - 31) / 255) 255,
-          ));
-    }
+    let above = ltb-false offset 31 e in
+    grind (arith, e, length-append (replicate ((offset - 31) / 255) 255) ((offset - 31) % 255 ∷ []), length-replicate)
 
 pub replacement_is : {offset len : ℕ} → 1 ≤ len → len ≤ 8 → IsReplacementHead offset len (replacement offset len)
 replacement_is {offset} some few = replacement_at (ltb offset 31) some few refl
