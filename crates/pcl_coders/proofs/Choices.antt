@@ -69,13 +69,7 @@ pub byte_step : (old wanted : List ℕ) → 0 < length wanted → IsShapeElement
 byte_step old wanted some =
     let size : length (take 1 wanted) ≡ 1 = length-take-le 1 wanted (omega arith) in
     let a = agrees_by old (element_of SingleByte wanted) 1 refl (once_each (take 1 wanted)) (omega arith) in
-    record {
-      within = omega arith;
-      element = record { head_is = record { method_is = refl; in_range = tt }; complete = size };
-      agrees = a.0;
-      stop_is = a.1;
-      bytes_are = size;
-    }
+    grind arith
 
 -- a count and a byte
 pub run_step : (old : List ℕ) {wanted : List ℕ} {len : ℕ} → 1 ≤ len → len ≤ 256 → len ≤ length wanted
@@ -99,8 +93,8 @@ pub repeat_step : (old : List ℕ) {wanted : List ℕ} {len : ℕ} → 2 ≤ len
 repeat_step old {wanted} {len} some few within run =
     let size : length (take 1 wanted) ≡ 1 = length-take-le 1 wanted (omega arith) in
     let times : 257 - (257 - len) ≡ len = omega arith in
-    let a = agrees_by old (element_of (RepeatRun len) wanted) len refl (rw times (given_copies len (first_byte wanted (omega arith)) ∙ sym run))
-    (omega arith) in
+    let a = agrees_by old (element_of (RepeatRun len) wanted) len refl
+    (rw times (given_copies len (first_byte wanted (omega arith)) ∙ sym run)) (omega arith) in
     record {
       within = (some, few, within);
       element = record { head_is = record { method_is = refl; in_range = (omega arith, omega arith) }; complete = size };
@@ -115,13 +109,7 @@ pub literal_step : (old wanted : List ℕ) (len : ℕ) → 1 ≤ len → len ≤
 literal_step old wanted len some few within =
     let size : length (take len wanted) ≡ len = length-take-le len wanted within in
     let a = agrees_by old (element_of (LiteralRun len) wanted) len refl (once_each (take len wanted)) (omega arith) in
-    record {
-      within = (some, few, within);
-      element = record { head_is = record { method_is = refl; in_range = omega arith }; complete = omega (arith, size) };
-      agrees = a.0;
-      stop_is = omega (arith, a.1);
-      bytes_are = omega (arith, size);
-    }
+    grind arith
 
 -- a command byte and the bytes that replace those after its offset
 pub replace_step : (old wanted : List ℕ) (offset len : ℕ) → 1 ≤ len → len ≤ 8 → offset + len ≤ length wanted

@@ -28,11 +28,7 @@ pub first_end_by : {old row : List ℕ} {len : ℕ} → length old ≡ length ro
 first_end_by {old} {row} {len} size within same differs = record {
   within = within;
   ends = ends_by old row len size same;
-  first = λ place end.
-      elim (cases_lt place len) [
-        | inr le ↦ le
-        | inl before ↦ absurd (differs (omega arith) (ends_at old row (len - 1) end (omega arith)))
-      ];
+  first = λ place end. grind (arith, ends_at old row (len - 1) end, differs);
 }
 
 -- a byte of a row of white
@@ -51,11 +47,8 @@ pub record AreSameFrom (old row : List ℕ) (len : ℕ) : Type 0 where
   pub same : (k : ℕ) → len ≤ k → k < length row → get_or row k 0 ≡ get_or old k 0
 
 pub same_past : (old row : List ℕ) → AreSameFrom old row (length row)
-same_past old row = record { within = omega arith; same = λ k low high. absurd (omega arith) }
+same_past old row = grind arith
 
 pub same_before : {old row : List ℕ} {len : ℕ} → AreSameFrom old row len → 0 < len → get_or old (len - 1) 0 ≡ get_or row (len - 1) 0
     → AreSameFrom old row (len - 1)
-same_before {old} {row} {len} from some here = record {
-  within = omega (arith, from.within);
-  same = λ k low high. grind (arith, from.same k);
-}
+same_before {old} {row} {len} from some here = grind (arith, from.same)

@@ -52,27 +52,7 @@ number_behind table at number place behind = let other : place ≢ at = omega ar
 pub number_stays : {method : Method} {old row table : List ℕ} {at : ℕ} (number : ℕ) {place : ℕ} → at < place
     → IsPlaceNumber method old row table place
     → IsPlaceNumber method old row (set table at number) place
-number_stays {table} {at} number {place} behind is =
-    let here = number_behind table at number place behind in
-    let there : (e : Element) → slice_index (set table at number) (place + stop e) ≡ slice_index table (place + stop e) =
-    λ e. number_behind table at number (place + stop e) (omega arith) in
-    record {
-      steps = λ e element agrees. omega (arith, is.steps e element agrees, here, there e);
-      ends = λ end. here ∙ is.ends end;
-      attained = elim is.attained [
-        | inl end ↦ inl end
-        | inr next ↦ inr (
-          next.0,
-          record {
-            element = next.1.element;
-            agrees = next.1.agrees;
-            goes_on = next.1.goes_on;
-            number_is = omega (arith, next.1.number_is, here, there next.0);
-          },
-        )
-      ];
-      small = omega (arith, is.small, here);
-    }
+number_stays {table} {at} number {place} behind is = grind (arith, is.steps, is.attained, number_behind table at number)
 
 -- where more data is needed
 pub number_of_choice : {method : Method} {old row : List ℕ} (table : List ℕ) {place : ℕ} {shape : Shape} {sum : ℕ} → place < length row
@@ -80,25 +60,7 @@ pub number_of_choice : {method : Method} {old row : List ℕ} (table : List ℕ)
     → IsShapeChoice method (drop place old) (drop place row) (drop place table) shape sum → sum ≤ 2 * (length row - place)
     → IsPlaceNumber method old row (set table place sum) place
 number_of_choice {row} table {place} {shape} {sum} inside size more c small =
-    let now : List ℕ = set table place sum in
-    let here : slice_index now place ≡ sum = get_or-set_same table place sum 0 (omega arith) in
-    let there : (k : ℕ) → 0 < k → slice_index (drop place table) k ≡ slice_index now (place + k) =
-    λ k some. get_or-drop place table k 0 ∙ sym (number_behind table place sum (place + k) (omega arith)) in
-    let e : Element = element_of shape (drop place row) in
-    record {
-      steps = λ e element agrees. grind (arith, c.choice.least e element agrees, there (stop e));
-      ends = λ end. absurd (more end);
-      attained = inr (
-        e,
-        record {
-          element = c.choice.element;
-          agrees = c.choice.agrees;
-          goes_on = c.choice.goes_on;
-          number_is = omega (arith, c.choice.sum_is, there (stop e) c.choice.goes_on, here);
-        },
-      );
-      small = omega (arith, here, small);
-    }
+    grind (arith, c.choice.least, get_or-set_same, get_or-drop, number_behind table place sum)
 
 -- the best element has no more than two bytes for each byte of the row, where that holds after it
 pub choice_small : {method : Method} (old row table : List ℕ) {place : ℕ} {shape : Shape} {sum : ℕ} → place < length row

@@ -21,20 +21,8 @@ use Rattle.pcl_coders.proofs.Places.{packed_shorten, longest_least}
 pub next_is_end : {table : List ℕ} {end place best : ℕ} → place < end → HasLiteralEnd table end (place + 1) best
     → (place + 128 < best) ⊎ (place + 1 + slice_index table (place + 1) ≤ best + slice_index table best)
     → IsLiteralEnd table end place (place + 1)
-next_is_end {table} {end} {place} {best} inside has good = record {
-  above = omega arith;
-  within = omega arith;
-  near = omega arith;
-  first = λ to low high. absurd (omega arith);
-  least = λ to low high near.
-      elim (cases_lt (place + 1) to) [
-        | inr same ↦ grind arith
-        | inl after ↦
-            let is = has.some (omega arith) in
-            let next = has.literals (place + 1) best (omega arith) is.above is.within is.near in
-            grind (arith, is.above, is.first to, is.least to)
-      ];
-}
+next_is_end {table} {end} {place} {best} inside has good =
+    grind (arith, has.some, has.literals (place + 1) best)
 
 -- no number is above what a literal gives
 literals_bound : {row first table : List ℕ} {end place : ℕ} → IsBegun (replicate (length row) 0) row first end
@@ -54,11 +42,7 @@ has_no_literal = grind arith
 pub has_literal : {row first table : List ℕ} {end place best : ℕ} → IsBegun (replicate (length row) 0) row first end
     → AreRightFrom Packed (replicate (length row) 0) row table place → place < end → IsLiteralEnd table end place best
     → HasLiteralEnd table end place best
-has_literal begun right inside is = record {
-  literals = literals_bound begun right;
-  last = λ at_end. absurd (omega arith);
-  some = λ _. is;
-}
+has_literal begun right inside is = grind (arith, literals_bound begun right)
 
 -- a number is set at the place itself
 pub end_of_set : {table : List ℕ} {end place best : ℕ} (number : ℕ) → IsLiteralEnd table end place best
@@ -73,15 +57,9 @@ pub literal_least : {row first table : List ℕ} {end place best number : ℕ} �
     → number ≡ best - place + 1 + slice_index table best
     → IsLeastLen (drop place table) 1 (min (length (drop place row)) 128) 1 1 (best - place) number
 literal_least {row} {table} {end} {place} {best} begun behind is number-is =
-    let at : (n : ℕ) → slice_index (drop place table) n ≡ slice_index table (place + n) = λ n. get_or-drop place table n 0 in
+    -- after the end the numbers are 0
     let zero = (behind end (omega (arith, is.above, is.within)) begun.first_end.within).ends begun.first_end.ends in
-    record {
-      above = omega (arith, is.above);
-      below = omega (arith, is.above, is.near, is.within, length-drop place row, begun.first_end.within);
-      sum_is = grind (arith, is, at (best - place));
-      -- after the end the numbers are 0
-      least = λ n low high. grind (arith, is, is.first (place + n), is.least (place + n), is.least end, at n);
-    }
+    grind (arith, is.first, is.least, get_or-drop, length-drop place row, begun.first_end.within)
 
 -- the longest repeat of a place is the best
 pub repeat_least : {row first table : List ℕ} {end place run_end len : ℕ} → IsBegun (replicate (length row) 0) row first end

@@ -169,7 +169,7 @@ pub longest_least : {method : Method} {old row table : List ℕ} {place run_end 
 longest_least {method} {old} {row} {table} {place} most {len} shorten size behind is some more len-is =
     let fall : (k : ℕ) → 1 ≤ k → k ≤ len → slice_index table (place + len) ≤ slice_index table (place + k) =
     λ k low high. falls method old row table (place + 1) (place + k) (place + len) shorten size behind (omega arith) (omega arith)
-        (omega (arith, is.within)) in
+    (omega (arith, is.within)) in
     grind (arith, get_or-drop)
 
 -- the longest run is the best

@@ -30,16 +30,10 @@ latest_step : {old row : List ℕ} {place start : ℕ} (len : ℕ) → length ol
     → start + len ≤ length row → (e : Element) × IsLatestStep old row place start len e
 latest_step {old} {row} {place} {start} len size is some few fits =
     let last : ℕ = start - place in
-    let wanted : List ℕ = drop place row in
-    let s = replace_step (drop place old) wanted last len some few (omega (arith, length-drop place row, is.order))
-    (same_to_start size is).equal in (
-      element_of (Replace last len) wanted,
-      record {
-        offset_is = (replacement_is some few).offset_is;
-        leads = record { element = s.element; agrees = s.agrees; next_is = omega (arith, s.stop_is, is.order) };
-        cost_is = s.bytes_are;
-      },
-    )
+    let s = replace_step (drop place old) (drop place row) last len some few (omega (arith, length-drop place row, is.order))
+    (same_to_start size is).equal in
+    let at = (replacement_is {offset = last} some few).offset_is in
+    (element_of (Replace last len) (drop place row), grind (arith, s))
 
 -- what an element of a walk gives
 pub record IsDeltaStep (old row : List ℕ) (place start next : ℕ) (e : Element) : Type 0 where
@@ -54,18 +48,10 @@ pub record IsDeltaStep (old row : List ℕ) (place start next : ℕ) (e : Elemen
 pub delta_step : {old row : List ℕ} {place start next : ℕ} {e : Element} → length old ≡ length row → IsLatestStart old row place start
     → Leads Delta old row place e next → IsDeltaStep old row place start next e
 delta_step {old} {row} {place} {e} size is l =
-    let long = length-drop place row in
     let s = delta_shape e.head l.element.head_is.method_is l.element.head_is.in_range l.element.complete in
-    let g = agrees_gives (drop place old) (omega (arith, long, length-drop place old)) l.element l.agrees in
-    record {
-      len = length (given e);
-      some = s.above;
-      few = s.below;
-      early = (same_to_start size is).longest (offset_of e.head) (omega (arith, g.0)) g.1;
-      next_is = l.next_is;
-      within = omega (arith, l.next_is, g.0, long, is.within, is.order);
-      cost_is = s.bytes_are;
-    }
+    let g = agrees_gives (drop place old) (omega (arith, length-drop place row, length-drop place old)) l.element l.agrees in
+    let early = (same_to_start size is).longest (offset_of e.head) (omega (arith, g.0)) g.1 in
+    grind (arith, s, length-drop place row)
 
 pub latest_is_as_good : (old row : List ℕ) (steps : List Element) (place start : ℕ) → length old ≡ length row
     → IsLatestStart old row place start → Walk (Leads Delta old row) (Ends old row) place steps
