@@ -16,31 +16,19 @@ use Rattle.pcl_coders.specs.RowWalks.{Agrees, Leads, Ends, cost, IsRowTable, IsL
 use Rattle.pcl_coders.specs.Coding.{IsCodable, IsLeastLength, AppendsLeast}
 use Rattle.pcl_coders.specs.inner.Filling.{IsPlaceNumber, AreRightFrom, AppendsWalk}
 use Rattle.pcl_coders.specs.declared.shape.Shape.{Shape}
+use Rattle.pcl_coders.specs.declared.shape.Shape.TheVariants.{SingleByte, Run, LiteralRun, Replace}
 use Rattle.pcl_coders.specs.inner.Shape.{element_of, shape_stop, IsShapeChoice}
 use Rattle.pcl_base.proofs.Walks.{feasible_bounds, attained_is_least}
 use Rattle.pcl_coders.proofs.RowWalks.{length-base, total_is, stop_within, walk_of_data, data_of_walk}
-use Rattle.pcl_coders.proofs.Choices.{IsShapeElement, byte_step, run_step, literal_step, replace_step}
+use Rattle.pcl_coders.proofs.Choices.{HasShapeElement, byte_step, run_step, literal_step, replace_step}
 
 -- ---- an element of one byte, for each method
 
-pub record IsOneByte (method : Method) (old wanted : List ℕ) (e : Element) : Type 0 where
-  pub element : IsElement method e
-  pub agrees : Agrees old wanted e
-  pub stop_is : stop e ≡ 1
-  pub few : cost e ≤ 2
-
-one_byte_of : {method : Method} {old wanted : List ℕ} {shape : Shape} {bytes : ℕ} → IsShapeElement method old wanted shape bytes
-    → shape_stop shape ≡ 1 → bytes ≤ 2 → (e : Element) × IsOneByte method old wanted e
-one_byte_of {wanted} {shape} s one few = (element_of shape wanted, grind (arith, s))
-
-one_byte : (method : Method) (old wanted : List ℕ) → 0 < length wanted → (e : Element) × IsOneByte method old wanted e
-one_byte Plain old wanted some = one_byte_of (byte_step old wanted some) refl (omega arith)
-one_byte Runs old wanted some = one_byte_of
-    (run_step old (omega arith) (omega arith) some (first_byte wanted some)) refl (omega arith)
-one_byte Packed old wanted some =
-    one_byte_of (literal_step old wanted 1 (omega arith) (omega arith) some) refl (omega arith)
-one_byte Delta old wanted some = one_byte_of
-    (replace_step old wanted 0 1 (omega arith) (omega arith) (omega arith) refl) refl (omega arith)
+one_byte : (method : Method) (old wanted : List ℕ) → 0 < length wanted → HasShapeElement method old wanted 1 2
+one_byte Plain old wanted some = (SingleByte, 1, byte_step old wanted some, refl, omega arith)
+one_byte Runs old wanted some = (Run 1, 2, run_step old (omega arith) (omega arith) some (first_byte wanted some), refl, omega arith)
+one_byte Packed old wanted some = (LiteralRun 1, 2, literal_step old wanted 1 (omega arith) (omega arith) some, refl, omega arith)
+one_byte Delta old wanted some = (Replace 0 1, 2, replace_step old wanted 0 1 (omega arith) (omega arith) (omega arith) refl, refl, omega arith)
 
 -- ---- the numbers of a table
 
@@ -68,7 +56,8 @@ pub choice_small : {method : Method} (old row table : List ℕ) {place : ℕ} {s
     → slice_index table (place + 1) ≤ 2 * (length row - (place + 1)) → sum ≤ 2 * (length row - place)
 choice_small {method} old row table {place} {sum} inside c small =
     let one = one_byte method (drop place old) (drop place row) (omega (arith, length-drop place row)) in
-    grind (arith, c.choice.least one.0 one.1.element one.1.agrees, one.1, get_or-drop place table)
+    let e = one.2 in
+    grind (arith, c.choice.least (element_of one.0 (drop place row)) e.element e.agrees, one.3, get_or-drop place table)
 
 -- a shape's choice at parts of lists that go to their ends
 pub choice_to_ends : {method : Method} (old row table : List ℕ) (place : ℕ) {shape : Shape} {sum : ℕ}
@@ -163,13 +152,11 @@ row_table_small {method} {seed} {row} zero place same is at =
     omega (arith, is.feasible.ends place (ends_past (base method seed) row (length-base method seed ∙ same) (omega arith)))
 row_table_small {method} {seed} {row} (suc rest) place same is at =
     let one = one_byte method (drop place (base method seed)) (drop place row) (omega (arith, length-drop place row)) in
-    let next : place + 1 ≡ place + stop one.0 = omega (arith, one.1.stop_is) in
-    omega (
-      arith,
-      is.feasible.steps place one.0 (place + 1) (record { element = one.1.element; agrees = one.1.agrees; next_is = next }),
-      one.1.few,
-      row_table_small rest (place + 1) same is (omega arith),
-    )
+    let e = one.2 in
+    let next : place + 1 ≡ place + stop (element_of one.0 (drop place row)) = omega (arith, e.stop_is, one.3) in
+    let step = is.feasible.steps place (element_of one.0 (drop place row)) (place + 1)
+    (record { element = e.element; agrees = e.agrees; next_is = next }) in
+    omega (arith, step, e.bytes_are, one.4, row_table_small rest (place + 1) same is (omega arith))
 
 -- data along a walk of least cost
 pub least_along : {method : Method} {seed row table : List ℕ} (es : List Element) → IsCodable seed row → IsRowTable method seed row table
@@ -227,19 +214,7 @@ best_number : {method : Method} {old row table : List ℕ} {place : ℕ} {shape 
     (place + stop (element_of shape (drop place row)))
 best_number {row} {table} {place} {shape} right within some c =
     let is = right place (omega arith) within in
-    let at : (k : ℕ) → slice_index (drop place table) k ≡ slice_index table (place + k) = λ k. get_or-drop place table k 0 in
-    let above = is.steps (element_of shape (drop place row)) c.choice.element c.choice.agrees in
-    elim is.attained [
-      | inl end ↦ absurd (omega (arith, is.ends end))
-      | inr next ↦ omega (
-        arith,
-        c.choice.sum_is,
-        at (stop (element_of shape (drop place row))),
-        next.1.number_is,
-        c.choice.least next.0 next.1.element next.1.agrees next.1.goes_on,
-        at (stop next.0),
-      )
-    ]
+    grind (arith, is.steps (element_of shape (drop place row)) c.choice.element c.choice.agrees, c.choice.least, get_or-drop place table)
 
 pub appended_more : {method : Method} {old row table before now : List ℕ} {place : ℕ} {shape : Shape} {sum : ℕ} {now' : List ℕ} {place' : ℕ}
     → length old ≡ length row → AreRightFrom method old row table 0 → 0 < slice_index table place

@@ -16,11 +16,11 @@ use Rattle.pcl_coders.specs.inner.Choosing.{IsLeastLen, IsPlace}
 use Rattle.pcl_coders.specs.inner.Replacement.{replacement_bytes}
 use Rattle.pcl_coders.specs.inner.Filling.{IsPlaceNumber, AreRightFrom, IsBegun}
 use Rattle.pcl_coders.specs.declared.shape.Shape.{Shape}
-use Rattle.pcl_coders.specs.declared.shape.Shape.TheVariants.{SingleByte, Run, Replace}
+use Rattle.pcl_coders.specs.declared.shape.Shape.TheVariants.{SingleByte, Run, LiteralRun, RepeatRun, Replace}
 use Rattle.pcl_coders.specs.inner.Shape.{element_of, shape_stop, IsShapeChoice}
 use Rattle.pcl_coders.proofs.Shapes.{IsRepeat, runs_shape, packed_shape, near_bytes, far_bytes}
 use Rattle.pcl_coders.proofs.Prefixes.{IsSameLen, run_len_of, same_len_of}
-use Rattle.pcl_coders.proofs.Choices.{agrees_gives, IsShapeElement, run_step, repeat_step, literal_step, plain_choice, runs_choice, delta_choice}
+use Rattle.pcl_coders.proofs.Choices.{agrees_gives, HasShapeElement, run_step, repeat_step, literal_step, plain_choice, runs_choice, delta_choice}
 use Rattle.pcl_coders.proofs.Filling.{number_behind, number_of_choice, choice_small, right_more, ends_here, ends_behind}
 use Rattle.pcl_coders.proofs.Ends.{ends_on, ends_at, white_byte}
 
@@ -62,18 +62,6 @@ plain_place {old} {row} table {place} begun size inside =
 
 -- ---- methods 1 and 2: numbers never grow to the right
 
--- an element that gives a byte less, one place further on
-pub record IsShorter (method : Method) (old wanted : List ℕ) (e d : Element) : Type 0 where
-  pub element : IsElement method d
-  pub agrees : Agrees (drop 1 old) (drop 1 wanted) d
-  pub stop_is : stop d + 1 ≡ stop e
-  pub cheaper : cost d ≤ cost e
-
-shorter_of : {method : Method} {old wanted : List ℕ} (e : Element) {shape : Shape} {bytes : ℕ}
-    → IsShapeElement method (drop 1 old) (drop 1 wanted) shape bytes → shape_stop shape + 1 ≡ stop e → bytes ≤ cost e
-    → (d : Element) × IsShorter method old wanted e d
-shorter_of {wanted} e {shape} s stops few = (element_of shape (drop 1 wanted), grind (arith, s))
-
 -- what follows the first byte of an element that repeats one
 repeat_behind : (wanted : List ℕ) (e : Element) {least most : ℕ} (r : IsRepeat e.head e.bytes least most) → offset_of e.head ≡ 0
     → given e ≡ take (length (given e)) (drop (offset_of e.head) wanted) → 1 < stop e
@@ -83,50 +71,51 @@ repeat_behind wanted e r none gives more =
     let back : r.count - 1 + 1 ≡ r.count = omega arith in
     (omega arith, run_behind wanted r.byte (omega arith) (rw back (rw (none, size) at (sym gives) ∙ r.given_is)))
 
-shorter_run : (old wanted : List ℕ) (e : Element) → length old ≡ length wanted → IsElement Runs e → Agrees old wanted e → 1 < stop e
-    → (d : Element) × IsShorter Runs old wanted e d
-shorter_run old wanted e size element agrees more =
+-- a method whose elements can be made shorter: one gives a byte less, one place further on
+abbrev pub CanShorten : Method → Type 0
+CanShorten method = (old wanted : List ℕ) (e : Element) → length old ≡ length wanted → IsElement method e → Agrees old wanted e
+    → 1 < stop e → HasShapeElement method (drop 1 old) (drop 1 wanted) (stop e - 1) (cost e)
+
+pub runs_shorten : CanShorten Runs
+runs_shorten old wanted e size element agrees more =
     let s = runs_shape e.head element.head_is.method_is element.head_is.in_range element.complete in
     let g = agrees_gives old size element agrees in
-    let b = repeat_behind wanted e s.1 s.0 g.2 more in
-    shorter_of e
-    (run_step (drop 1 old) (omega arith) (omega (arith, s.1.below)) (omega (arith, g.0, length-drop 1 wanted)) b.1)
-    (omega (arith, b.0)) (omega (arith, s.1.bytes_are))
+    let b = repeat_behind wanted e s.1 s.0 g.2 more in (
+      Run (s.1.count - 1),
+      2,
+      run_step (drop 1 old) (omega arith) (omega (arith, s.1.below)) (omega (arith, g.0, length-drop 1 wanted)) b.1,
+      omega (arith, b.0),
+      omega (arith, s.1.bytes_are),
+    )
 
-shorter_packed : (old wanted : List ℕ) (e : Element) → length old ≡ length wanted → IsElement Packed e → Agrees old wanted e → 1 < stop e
-    → (d : Element) × IsShorter Packed old wanted e d
-shorter_packed old wanted e size element agrees more =
+pub packed_shorten : CanShorten Packed
+packed_shorten old wanted e size element agrees more =
     let g = agrees_gives old size element agrees in
     let s = packed_shape e.head e.bytes element.head_is.method_is element.head_is.in_range element.complete (omega arith) in
     let size' = length-drop 1 wanted in
+    let literal : stop e ≤ 129 → stop e ≤ cost e → HasShapeElement Packed (drop 1 old) (drop 1 wanted) (stop e - 1) (cost e) =
+    λ few cheap. (
+      LiteralRun (stop e - 1),
+      1 + (stop e - 1),
+      literal_step (drop 1 old) (drop 1 wanted) (stop e - 1) (omega arith) (omega arith) (omega (arith, g.0)),
+      refl,
+      omega arith,
+    ) in
     elim s.1 [
+      | inr l ↦ literal (omega (arith, s.0, l.below)) (omega (arith, s.0, l.bytes_are))
       | inl r ↦
           let b = repeat_behind wanted e r s.0 g.2 more in
           elim (cases_lt 2 r.count) [
-            | inl long ↦
-                shorter_of e (repeat_step (drop 1 old) (omega arith) (omega (arith, r.below)) (omega (arith, g.0)) b.1)
-                (omega (arith, b.0)) (omega (arith, r.bytes_are))
-            | inr short ↦
-                shorter_of e (literal_step (drop 1 old) (drop 1 wanted) 1 (omega arith) (omega arith) (omega (arith, g.0)))
-                (omega (arith, b.0)) (omega (arith, r.bytes_are))
+            | inr short ↦ literal (omega (arith, b.0)) (omega (arith, b.0, r.bytes_are))
+            | inl long ↦ (
+              RepeatRun (r.count - 1),
+              2,
+              repeat_step (drop 1 old) (omega arith) (omega (arith, r.below)) (omega (arith, g.0)) b.1,
+              omega (arith, b.0),
+              omega (arith, r.bytes_are),
+            )
           ]
-      | inr l ↦
-          shorter_of e
-          (literal_step (drop 1 old) (drop 1 wanted) (length (given e) - 1) (omega (arith, s.0)) (omega (arith, l.below))
-          (omega (arith, g.0)))
-          (omega (arith, s.0)) (omega (arith, l.bytes_are))
     ]
-
--- a method whose elements can be made shorter
-abbrev pub CanShorten : Method → Type 0
-CanShorten method = (old wanted : List ℕ) (e : Element) → length old ≡ length wanted → IsElement method e → Agrees old wanted e
-    → 1 < stop e → (d : Element) × IsShorter method old wanted e d
-
-pub runs_shorten : CanShorten Runs
-runs_shorten = shorter_run
-
-pub packed_shorten : CanShorten Packed
-packed_shorten = shorter_packed
 
 falls_once : {method : Method} {old row table : List ℕ} {p : ℕ} → CanShorten method → length old ≡ length row
     → IsPlaceNumber method old row table p → IsPlaceNumber method old row table (p + 1) → slice_index table (p + 1) ≤ slice_index table p
@@ -140,26 +129,23 @@ falls_once {old} {row} {table} {p} shorten size here next =
             | inl long ↦
                 let d = shorten (drop p old) (drop p row) e (omega (arith, length-drop p old, length-drop p row)) has.1.element
                 has.1.agrees long in
-                let agrees = rw (drop-drop 1 p old, drop-drop 1 p row) at d.1.agrees in
-                grind (arith, next.steps d.0 d.1.element agrees, d.1, has.1)
+                let s = rw (drop-drop 1 p old, drop-drop 1 p row) at d.2 in
+                grind (arith, next.steps (element_of d.0 (drop (p + 1) row)) s.element s.agrees, s, has.1, d.3)
           ]
     ]
 
-falls_by : {method : Method} {old row table : List ℕ} {from : ℕ} (p steps : ℕ) → CanShorten method → length old ≡ length row
-    → AreRightFrom method old row table from → from ≤ p → p + steps ≤ length row → slice_index table (p + steps) ≤ slice_index table p
-falls_by {table} p zero shorten size right low high = grind arith
-falls_by {table} p (suc steps) shorten size right low high =
-    grind (
-      arith,
-      falls_by p steps shorten size right low (omega arith),
-      falls_once shorten size (right (p + steps) (omega arith) (omega arith)) (right (p + steps + 1) (omega arith) (omega arith)),
-    )
-
 pub falls : (method : Method) (old row table : List ℕ) (from p q : ℕ) → CanShorten method → length old ≡ length row
     → AreRightFrom method old row table from → from ≤ p → p ≤ q → q ≤ length row → slice_index table q ≤ slice_index table p
-falls method old row table from p q shorten size right low order high =
-    let at : p + (q - p) ≡ q = omega arith in
-    rw at at (falls_by p (q - p) shorten size right low (omega arith))
+falls method old row table from p zero shorten size right low order high = grind arith
+falls method old row table from p (suc q) shorten size right low order high =
+    elim (cases_lt q p) [
+      | inl same ↦ grind arith
+      | inr more ↦ grind (
+        arith,
+        falls method old row table from p q shorten size right low more (omega arith),
+        falls_once shorten size (right q (omega arith) (omega arith)) (right (q + 1) (omega arith) (omega arith)),
+      )
+    ]
 
 -- where numbers never grow to the right, the longest of the lengths within a run is the best
 pub longest_least : {method : Method} {old row table : List ℕ} {place run_end from : ℕ} (most : ℕ) {len : ℕ} → CanShorten method

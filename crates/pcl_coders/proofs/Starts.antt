@@ -19,21 +19,22 @@ use Rattle.pcl_coders.proofs.Choices.{agrees_gives, replace_step}
 use Rattle.pcl_coders.proofs.Ends.{ends_at}
 use Rattle.pcl_coders.proofs.Places.{command_grows, command_joins, same_to_start}
 
--- a replacement at the latest start
-record IsLatestStep (old row : List ℕ) (place start len : ℕ) (e : Element) : Type 0 where
-  pub offset_is : offset_of e.head ≡ start - place
-  pub leads : Leads Delta old row place e (start + len)
-  pub cost_is : cost e ≡ replacement_bytes (start - place) + len
-
-latest_step : {old row : List ℕ} {place start : ℕ} (len : ℕ) → length old ≡ length row → IsLatestStart old row place start → 1 ≤ len
-    → len ≤ 8
-    → start + len ≤ length row → (e : Element) × IsLatestStep old row place start len e
-latest_step {old} {row} {place} {start} len size is some few fits =
+-- a replacement at the latest start, and a walk on from where it stops
+latest_step : {old row : List ℕ} {place start next most : ℕ} (len : ℕ) (es : List Element) → length old ≡ length row
+    → IsLatestStart old row place start → 1 ≤ len → len ≤ 8 → next ≡ start + len → next ≤ length row
+    → Walk (Leads Delta old row) (Ends old row) next es → replacement_bytes (start - place) + len + total cost es ≤ most
+    → StartsAt old row place start most
+latest_step {old} {row} {place} {start} {next} len es size is some few next-is fits walk cheap =
     let last : ℕ = start - place in
     let s = replace_step (drop place old) (drop place row) last len some few (omega (arith, length-drop place row, is.order))
     (same_to_start size is).equal in
-    let at = (replacement_is {offset = last} some few).offset_is in
-    (element_of (Replace last len) (drop place row), grind (arith, s))
+    record {
+      first = element_of (Replace last len) (drop place row);
+      rest = es;
+      offset_is = (replacement_is some few).offset_is;
+      walk = (next, record { element = s.element; agrees = s.agrees; next_is = omega (arith, s.stop_is, is.order) }, walk);
+      cheap = omega (arith, s.bytes_are);
+    }
 
 -- what an element of a walk gives
 pub record IsDeltaStep (old row : List ℕ) (place start next : ℕ) (e : Element) : Type 0 where
@@ -58,49 +59,28 @@ pub latest_is_as_good : (old row : List ℕ) (steps : List Element) (place start
     → StartsAt old row place start (total cost steps)
 latest_is_as_good old row [] place start size is walk = absurd (is.differs (sym (ends_at old row start walk is.order)))
 latest_is_as_good old row (e ∷ es) place start size is walk =
-    let b : ℕ = walk.0 in
     let last : ℕ = start - place in
-    let o : ℕ = offset_of e.head in
     let d = delta_step size is walk.1 in
-    elim (cases_lt start b) [
+    elim (cases_lt start walk.0) [
       | inl far ↦
-          let len : ℕ = b - start in
-          let there : start + len ≡ b = omega arith in
-          let n = latest_step len size is (omega arith) (omega (arith, d.few, d.next_is, d.early))
-          (omega (arith, d.within)) in
-          record {
-            first = n.0;
-            rest = es;
-            offset_is = n.1.offset_is;
-            walk = (start + len, n.1.leads, subst (λ (p : ℕ). Walk (Leads Delta old row) (Ends old row) p es) (sym there) walk.2);
-            cheap = omega (arith, n.1.cost_is, d.cost_is, d.next_is, d.early, command_grows o last d.early);
-          }
+          latest_step (walk.0 - start) es size is (omega arith) (omega (arith, d.few, d.next_is, d.early)) (omega arith) d.within walk.2
+          (omega (arith, d.cost_is, d.next_is, d.early, command_grows (offset_of e.head) last d.early))
       | inr near ↦
-          let later : IsLatestStart old row b start = record {
+          let later : IsLatestStart old row walk.0 start = record {
             order = near;
             within = is.within;
             same = λ k low high. is.same k (omega (arith, d.next_is)) high;
             differs = is.differs;
           } in
-          let r = latest_is_as_good old row es b start size later walk.2 in
+          let r = latest_is_as_good old row es walk.0 start size later walk.2 in
           let f = delta_step size later r.walk.1 in
-          let there : start + f.len ≡ r.walk.0 = omega (arith, f.next_is, r.offset_is) in
-          let n = latest_step f.len size is f.some f.few (omega (arith, f.within)) in
-          let rest-cost : replacement_bytes (offset_of r.first.head) ≡ replacement_bytes (last - (o + d.len)) =
-          ap replacement_bytes (omega (arith, r.offset_is, d.next_is)) in
-          record {
-            first = n.0;
-            rest = r.rest;
-            offset_is = n.1.offset_is;
-            walk = (start + f.len, n.1.leads, subst (λ (p : ℕ). Walk (Leads Delta old row) (Ends old row) p r.rest) (sym there) r.walk.2);
-            cheap = omega (
-              arith,
-              n.1.cost_is,
-              d.cost_is,
-              f.cost_is,
-              rest-cost,
-              r.cheap,
-              command_joins o d.len last d.some (omega (arith, d.next_is)),
-            );
-          }
+          let left : offset_of r.first.head ≡ last - (offset_of e.head + d.len) = omega (arith, r.offset_is, d.next_is) in
+          latest_step f.len r.rest size is f.some f.few (omega (arith, f.next_is, r.offset_is)) f.within r.walk.2
+          (omega (
+            arith,
+            d.cost_is,
+            rw left at f.cost_is,
+            r.cheap,
+            command_joins (offset_of e.head) d.len last d.some (omega (arith, d.next_is)),
+          ))
     ]
