@@ -210,27 +210,3 @@ repeat_choice {old} {wanted} {numbers} {run} {len} size is best literals =
     (repeat_step old best.above (omega (arith, best.below)) (omega (arith, best.below, is.within))
     (run_part wanted (slice_index wanted 0) (omega (arith, best.below)) is.equal))
     (omega (arith, best.above)) (omega (arith, best.sum_is)) (packed_below old numbers size is literals best.least)
-
--- the best replacement after the offsets up to one of them
-pub record IsBestReplacement (wanted numbers : List ℕ) (last : ℕ) (shape : Shape) (sum : ℕ) : Type 0 where
-  pub offset : ℕ
-  pub within : offset ≤ last
-  pub replacement : IsReplacement offset (length wanted) numbers shape sum
-  pub least : (o k : ℕ) → o ≤ last → 1 ≤ k → k ≤ min (length wanted - o) 8
-      → sum ≤ replacement_bytes o + 1 * k + slice_index (drop o numbers) k
-
-pub delta_choice : {old wanted numbers : List ℕ} {same : ℕ} (last : ℕ) {shape : Shape} {sum : ℕ} → length old ≡ length wanted
-    → IsPlace wanted numbers → IsSameLen old wanted same → last ≡ min same (length wanted - 1)
-    → IsBestReplacement wanted numbers last shape sum → IsShapeChoice Delta old wanted numbers shape sum
-delta_choice {old} {wanted} {numbers} {same} last {sum} size place is last-is b =
-    let offset : ℕ = b.offset in
-    let best = b.replacement.best in
-    let inside : offset ≤ same = omega (arith, b.within, last-is) in
-    let front : take offset wanted ≡ take offset old =
-    sym (take-take offset same wanted inside) ∙ ap (take offset) is.equal ∙ take-take offset same old inside in
-    rw b.replacement.step_is
-    (step_choice
-    (replace_step old wanted offset b.replacement.len best.above (omega (arith, best.below))
-    (omega (arith, best.below, b.within, last-is, best.above)) front)
-    (omega (arith, best.above)) (omega (arith, best.sum_is, get_or-drop offset numbers b.replacement.len 0))
-    (delta_below numbers size is (λ o k low. b.least o k (omega (arith, last-is)))))

@@ -13,7 +13,7 @@ use Rattle.pcl_coders.specs.declared.shape.Shape.TheVariants.{LiteralRun, Repeat
 use Rattle.pcl_coders.proofs.Prefixes.{run_len_of}
 use Rattle.pcl_coders.proofs.Choices.{literal_step, literal_choice, repeat_choice}
 use Rattle.pcl_coders.proofs.Filling.{number_behind}
-use Rattle.pcl_coders.proofs.Places.{packed_shorten, longest_least}
+use Rattle.pcl_coders.proofs.Places.{packed_shorten, longest_least, literal_bounds}
 
 -- ---- where the best literal ends
 
@@ -24,16 +24,6 @@ pub next_is_end : {table : List ℕ} {end place best : ℕ} → place < end → 
 next_is_end {table} {end} {place} {best} inside has good =
     grind (arith, has.some, has.literals (place + 1) best)
 
--- no number is above what a literal gives
-literals_bound : {row first table : List ℕ} {end place : ℕ} → IsBegun (replicate (length row) 0) row first end
-    → AreRightFrom Packed (replicate (length row) 0) row table place → (from to : ℕ) → place ≤ from → from < to → to ≤ end
-    → to ≤ from + 128 → slice_index table from ≤ 1 + (to - from) + slice_index table to
-literals_bound {row} {table} {end} begun right from to low more high near =
-    let inside : to ≤ length row = omega (arith, begun.first_end.within) in
-    let s = literal_step (drop from (replicate (length row) 0)) (drop from row) (to - from) (omega arith) (omega arith)
-    (omega (arith, length-drop from row)) in
-    grind (arith, s, (right from low (omega arith)).steps (element_of (LiteralRun (to - from)) (drop from row)) s.element s.agrees)
-
 -- at the end
 pub has_no_literal : {table : List ℕ} {end : ℕ} → HasLiteralEnd table end end end
 has_no_literal = grind arith
@@ -42,7 +32,14 @@ has_no_literal = grind arith
 pub has_literal : {row first table : List ℕ} {end place best : ℕ} → IsBegun (replicate (length row) 0) row first end
     → AreRightFrom Packed (replicate (length row) 0) row table place → place < end → IsLiteralEnd table end place best
     → HasLiteralEnd table end place best
-has_literal begun right inside is = grind (arith, literals_bound begun right)
+has_literal begun right inside is = record {
+  literals = λ from to low more high near.
+      let at : from + (to - from) ≡ to = omega arith in
+      rw at at (literal_bounds from (to - from) (right from low (omega (arith, begun.first_end.within))) (omega arith) (omega arith)
+      (omega (arith, begun.first_end.within)));
+  last = λ at_end. absurd (omega arith);
+  some = λ _. is;
+}
 
 -- a number is set at the place itself
 pub end_of_set : {table : List ℕ} {end place best : ℕ} (number : ℕ) → IsLiteralEnd table end place best
@@ -60,14 +57,6 @@ literal_least {row} {table} {end} {place} {best} begun behind is number-is =
     -- after the end the numbers are 0
     let zero = (behind end (omega (arith, is.above, is.within)) begun.first_end.within).ends begun.first_end.ends in
     grind (arith, is.first, is.least, get_or-drop, length-drop place row, begun.first_end.within)
-
--- the longest repeat of a place is the best
-pub repeat_least : {row first table : List ℕ} {end place run_end len : ℕ} → IsBegun (replicate (length row) 0) row first end
-    → length table ≡ length row + 1 → AreRightFrom Packed (replicate (length row) 0) row table (place + 1)
-    → IsRunEnd row place run_end → place + 1 < run_end → len ≡ min (run_end - place) 128
-    → IsLeastLen (drop place table) 2 (min (run_end - place) 128) 2 0 len (slice_index table (place + len) + 2)
-repeat_least {row} {table} {place} {len} begun size behind is more len-is =
-    longest_least 128 packed_shorten begun.same_size behind is (omega arith) (omega arith) len-is
 
 -- the better of both
 pub packed_place : {row first table : List ℕ} {end place run_end best literal repeat number : ℕ}
@@ -89,7 +78,8 @@ packed_place {row} {table} {place} {run_end} {best} {literal} {repeat} {number} 
           (LiteralRun (best - place), rw e (literal_choice same run-len l (λ k low high. absurd (omega arith))))
       | inl more ↦
           let len : ℕ = min (run_end - place) 128 in
-          let r = repeat_least begun size behind run more refl in
+          let two : 2 ≤ min (run_end - place) 128 = omega arith in
+          let r = longest_least 128 packed_shorten begun.same_size behind run (omega arith) two refl in
           let at : min run_end (place + 128) ≡ place + len = omega (arith, run.after) in
           let repeat-is = rw at at (some more) in
           elim (cases_lt repeat literal) [

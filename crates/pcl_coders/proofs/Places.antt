@@ -1,7 +1,7 @@
 -- The numbers of places, one after the other from the row's end.
 use Rattle.std.proofs.Common.{◌≡◌, ◌≢◌, ℕ, zero, suc, ◌+◌, ◌-◌, ◌*◌, ◌<◌, ◌≤◌, min, List, length, set, take, drop, replicate, refl, sym, ap, ◌∙◌, subst, inl, inr, arith}
 use Rattle.std.specs.Prelude.{slice_index}
-use Rattle.std.proofs.lemmas.Bool.{cases_lt}
+use Rattle.std.proofs.lemmas.Bool.{cases_lt, cases_eq}
 use Rattle.std.proofs.lemmas.Bool.Decides.{nat_tests}
 use Rattle.std.proofs.lemmas.List.{drop-drop, length-drop, length-replicate, get_or-drop, get_or-set_same}
 use Rattle.pcl_base.proofs.Lists.{run_behind}
@@ -17,10 +17,10 @@ use Rattle.pcl_coders.specs.inner.Replacement.{replacement_bytes}
 use Rattle.pcl_coders.specs.inner.Filling.{IsPlaceNumber, AreRightFrom, IsBegun}
 use Rattle.pcl_coders.specs.declared.shape.Shape.{Shape}
 use Rattle.pcl_coders.specs.declared.shape.Shape.TheVariants.{SingleByte, Run, LiteralRun, RepeatRun, Replace}
-use Rattle.pcl_coders.specs.inner.Shape.{element_of, shape_stop, IsShapeChoice}
+use Rattle.pcl_coders.specs.inner.Shape.{element_of, IsShapeChoice}
 use Rattle.pcl_coders.proofs.Shapes.{IsRepeat, runs_shape, packed_shape, near_bytes, far_bytes}
 use Rattle.pcl_coders.proofs.Prefixes.{IsSameLen, run_len_of, same_len_of}
-use Rattle.pcl_coders.proofs.Choices.{agrees_gives, HasShapeElement, run_step, repeat_step, literal_step, plain_choice, runs_choice, delta_choice}
+use Rattle.pcl_coders.proofs.Choices.{agrees_gives, HasShapeElement, run_step, repeat_step, literal_step, step_choice, replace_step, delta_below, plain_choice, runs_choice}
 use Rattle.pcl_coders.proofs.Filling.{number_behind, number_of_choice, choice_small, right_more, ends_here, ends_behind}
 use Rattle.pcl_coders.proofs.Ends.{ends_on, ends_at, white_byte}
 
@@ -147,6 +147,13 @@ falls method old row table from p (suc q) shorten size right low order high =
       )
     ]
 
+-- no number is above what a literal gives
+pub literal_bounds : {old row table : List ℕ} (from k : ℕ) → IsPlaceNumber Packed old row table from → 1 ≤ k → k ≤ 128
+    → from + k ≤ length row → slice_index table from ≤ 1 + k + slice_index table (from + k)
+literal_bounds {old} {row} from k is some few within =
+    let s = literal_step (drop from old) (drop from row) k some few (omega (arith, length-drop from row)) in
+    grind (arith, s, is.steps (element_of (LiteralRun k) (drop from row)) s.element s.agrees)
+
 -- where numbers never grow to the right, the longest of the lengths within a run is the best
 pub longest_least : {method : Method} {old row table : List ℕ} {place run_end from : ℕ} (most : ℕ) {len : ℕ} → CanShorten method
     → length old ≡ length row → AreRightFrom method old row table (place + 1) → IsRunEnd row place run_end → 1 ≤ from
@@ -175,14 +182,6 @@ pub record IsRunFrom (row : List ℕ) (end place run_end : ℕ) : Type 0 where
   pub first : place ≡ end → run_end ≡ end
   pub run : place < end → IsRunEnd row place run_end
 
-pub run_starts : {row : List ℕ} {place : ℕ} → place + 1 < length row → slice_index row place ≢ slice_index row (place + 1)
-    → IsRunEnd row place (place + 1)
-run_starts {row} {place} inside differs = grind arith
-
-pub run_goes_on : {row : List ℕ} {place run_end : ℕ} → IsRunEnd row (place + 1) run_end
-    → slice_index row place ≡ slice_index row (place + 1) → IsRunEnd row place run_end
-run_goes_on {row} {place} is same = grind (arith, is.same)
-
 -- the last byte that data is needed for differs
 pub last_differs : {old row first : List ℕ} {end : ℕ} (place : ℕ) → IsBegun old row first end → place + 1 ≡ end
     → slice_index old place ≢ slice_index row place
@@ -203,6 +202,23 @@ run_last {row} {first} {end} {place} begun last = record {
       (white_byte (length row) place ∙ sym (white_byte (length row) end)
       ∙ sym (ends_at (replicate (length row) 0) row end begun.first_end.ends (omega arith)) ∙ alike);
 }
+
+-- the end of a place's run: the next place, where that has another byte, and else the end of the run there
+pub run_next : {row first : List ℕ} {end place run_end now : ℕ} → IsBegun (replicate (length row) 0) row first end → place < end
+    → IsRunFrom row end (place + 1) run_end
+    → (place + 1 < end → slice_index row place ≢ slice_index row (place + 1) → now ≡ place + 1)
+    → (place + 1 < end → slice_index row place ≡ slice_index row (place + 1) → now ≡ run_end) → (end ≤ place + 1 → now ≡ run_end)
+    → IsRunEnd row place now
+run_next {row} {first} {end} {place} {run_end} begun inside next starts goes_on last =
+    elim (cases_lt (place + 1) end) [
+      | inr le ↦ let at : place + 1 ≡ end = omega arith in rw (last le, next.first at) (run_last begun at)
+      | inl more ↦
+          let is = next.run more in
+          elim (cases_eq (slice_index row place) (slice_index row (place + 1))) [
+            | inl same ↦ rw (goes_on more same) (grind (arith, is.same))
+            | inr differs ↦ rw (starts more differs) (grind (arith, begun.first_end.within))
+          ]
+    ]
 
 -- ---- method 3: between two bytes that differ only the command grows
 
@@ -247,35 +263,26 @@ delta_place {old} {row} {table} {place} {start} {best} begun size inside next =
     let last : ℕ = start - place in
     let is = next.latest in
     let b = next.behind in
-    let there : place + last ≡ start = omega (arith, is.order) in
     let long = length-drop place row in
-    let at : (o k : ℕ) → slice_index (drop o (drop place table)) k ≡ slice_index table (place + o + k) =
-    λ o k. rw drop-drop (get_or-drop (place + o) table k 0) in (
+    let same = same_to_start begun.same_size is in
+    let sum-is : replacement_bytes last + best ≡ replacement_bytes last + b.len + slice_index (drop place table) (last + b.len) =
+    grind (arith, b.best_is, is.order, get_or-drop place table (last + b.len) 0) in (
       b.len,
-      delta_choice last (omega (arith, length-drop place old, long, begun.same_size)) (place_at table begun size inside)
-          (same_to_start begun.same_size is) (omega (arith, long, is.within))
-          (record {
-            offset = last;
-            within = omega arith;
-            replacement = record {
-              len = b.len;
-              step_is = refl;
-              best = record {
-                above = b.above;
-                below = omega (arith, b.below, long);
-                sum_is = omega (arith, b.best_is, rw there at (at last b.len));
-                least = λ k low high. omega (arith, b.least k low (omega (arith, long)), rw there at (at last k));
-              };
-            };
-            least = λ o k low some few. grind (
-              arith,
-              at o k,
-              next.numbers (place + o + k),
-              b.least (o + k - last),
-              command_joins o k last some,
-              command_grows o last low,
-            );
-          }),
+      step_choice
+          (replace_step (drop place old) (drop place row) last b.len b.above (omega (arith, b.below))
+          (omega (arith, b.below, long, is.order)) same.equal)
+          (omega (arith, b.above)) sum-is
+          (delta_below (drop place table) (omega (arith, length-drop place old, long, begun.same_size)) same
+          (λ o k low some few.
+          let at : slice_index (drop o (drop place table)) k ≡ slice_index table (place + o + k) =
+          rw drop-drop (get_or-drop (place + o) table k 0) in
+          grind (
+            arith,
+            next.numbers (place + o + k),
+            b.least (o + k - last),
+            command_joins o k last some,
+            command_grows o last,
+          ))),
     )
 
 -- the place's own number is set

@@ -2,7 +2,7 @@ use Rattle.std.proofs.Common.{◌≡◌, ◌<◌, ◌+◌, ◌-◌, ℕ, length,
 use Rattle.pcl_base.specs.declared.method.Method.TheVariants.{Packed}
 use Rattle.pcl_bitmap.specs.Kernels.{IsRunEnd}
 use Rattle.pcl_coders.specs.inner.Filling.{AreRightFrom, HasLiteralEnd, white_like}
-use Rattle.pcl_coders.proofs.Places.{begun_right, place_done, run_last, run_starts, run_goes_on}
+use Rattle.pcl_coders.proofs.Places.{begun_right, place_done, IsRunFrom, run_next}
 use Rattle.pcl_coders.proofs.Literals.{has_no_literal, has_literal, end_of_set, literal_small, packed_place}
 use Rattle.pcl_coders.proofs.fill.fill_packed.Goals as goal
 use Rattle.pcl_coders.proofs.fill.fill_packed.Goals.{then-place-end+then-row-place, else-place-end, else-place-end-via-then-place-end+else-row-place, else-place-end-via-else-place-end}
@@ -27,22 +27,9 @@ loop-place-preserved c =
     let has = subst (λ (at : ℕ). HasLiteralEnd out end at c.loop-place.best) after c.loop-place.invariant.literal in
     let is = c.literal_end-best.ensures end inside has in
     let small = literal_small c.requires behind is in
-    let run : IsRunEnd row place c.if-place-end.run_end =
-    elim c.if-place-end.branch [
-      | then-place-end+then-row-place w ↦ rw w.run_end-is
-          (run_starts (omega (arith, w.if-place-end.true, c.requires.first_end.within)) w.if-row-place.true)
-      | else-place-end w ↦
-          elim w.else-place-end.branch [
-            | else-place-end-via-then-place-end+else-row-place w' ↦
-                rw w.run_end-is
-                (run_goes_on
-                (subst (λ (p : ℕ). IsRunEnd row p c.loop-place.run_end) after
-                (c.loop-place.invariant.run.run (omega (arith, w'.if-place-end.true)))) w'.if-row-place.false)
-            | else-place-end-via-else-place-end w' ↦
-                let last : place + 1 ≡ end = omega (arith, w'.if-place-end.false) in
-                rw (w.run_end-is, c.loop-place.invariant.run.first (after ∙ last)) (run_last c.requires last)
-          ]
-    ] in
+    let from = subst (λ (p : ℕ). IsRunFrom row end p c.loop-place.run_end) after c.loop-place.invariant.run in
+    let run : IsRunEnd row place c.if-place-end.run_end = run_next c.requires inside from (grind (arith, c.if-place-end.branch))
+    (grind (arith, c.if-place-end.branch)) (grind (arith, c.if-place-end.branch)) in
     let choice = packed_place c.requires size inside behind is run refl (omega (arith, small.0, small.1)) c.repeat_number.ensures.none
     c.repeat_number.ensures.some c.min.ensures in
     let right = (place_done c.requires size inside behind choice.1).0 in

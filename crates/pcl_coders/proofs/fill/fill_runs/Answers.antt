@@ -2,7 +2,7 @@ use Rattle.std.proofs.Common.{◌≡◌, ◌<◌, ◌+◌, ◌-◌, ℕ, min, le
 use Rattle.pcl_base.specs.declared.method.Method.TheVariants.{Runs}
 use Rattle.pcl_bitmap.specs.Kernels.{IsRunEnd}
 use Rattle.pcl_coders.specs.inner.Filling.{AreRightFrom, white_like}
-use Rattle.pcl_coders.proofs.Places.{begun_right, place_done, runs_place, run_last, run_starts, run_goes_on}
+use Rattle.pcl_coders.proofs.Places.{begun_right, place_done, runs_place, IsRunFrom, run_next}
 use Rattle.pcl_coders.proofs.fill.fill_runs.Goals as goal
 use Rattle.pcl_coders.proofs.fill.fill_runs.Goals.{then-place-end+then-row-place, else-place-end, else-place-end-via-then-place-end+else-row-place, else-place-end-via-else-place-end}
 
@@ -23,22 +23,9 @@ loop-place-preserved c =
     let inside : place < end = omega (arith, c.loop-place.auto.place) in
     let size : length out ≡ length row + 1 = c.loop-place.auto.out ∙ c.requires.size in
     let behind = subst (AreRightFrom Runs old row out) next c.loop-place.invariant.right in
-    let run : IsRunEnd row place c.if-place-end.run_end =
-    elim c.if-place-end.branch [
-      | then-place-end+then-row-place w ↦ rw w.run_end-is
-          (run_starts (omega (arith, w.if-place-end.true, c.requires.first_end.within)) w.if-row-place.true)
-      | else-place-end w ↦
-          elim w.else-place-end.branch [
-            | else-place-end-via-then-place-end+else-row-place w' ↦
-                rw w.run_end-is
-                (run_goes_on
-                (subst (λ (p : ℕ). IsRunEnd row p c.loop-place.run_end) next
-                (c.loop-place.invariant.run.run (omega (arith, w'.if-place-end.true)))) w'.if-row-place.false)
-            | else-place-end-via-else-place-end w' ↦
-                let last : place + 1 ≡ end = omega (arith, w'.if-place-end.false) in
-                rw (w.run_end-is, c.loop-place.invariant.run.first (next ∙ last)) (run_last c.requires last)
-          ]
-    ] in
+    let from = subst (λ (p : ℕ). IsRunFrom row end p c.loop-place.run_end) next c.loop-place.invariant.run in
+    let run : IsRunEnd row place c.if-place-end.run_end = run_next c.requires inside from (grind (arith, c.if-place-end.branch))
+    (grind (arith, c.if-place-end.branch)) (grind (arith, c.if-place-end.branch)) in
     let len : ℕ = min (c.if-place-end.run_end - place) 256 in
     let at : c.min.result ≡ place + len = omega (arith, c.min.ensures, run.after) in
     record {
