@@ -32,25 +32,16 @@ pub right_from_drop : {method : Method} {old row table : List ℕ} {place : ℕ}
     → AreRightFrom method (drop place old) (drop place row) (drop place table) 0
 right_from_drop {old} {row} {table} {place} within right q low high =
     let is = right (place + q) (omega arith) (omega (arith, length-drop place row)) in
-    let at : (k : ℕ) → slice_index (drop place table) k ≡ slice_index table (place + k) = λ k. get_or-drop place table k 0 in
-    record {
-      steps = λ e element agrees.
-          let l = is.steps e element (rw (drop-drop q place old, drop-drop q place row) at agrees) in grind (arith, at q, at (q + stop e));
-      ends = λ end. at q ∙ is.ends (rw (drop-drop q place old, drop-drop q place row) at end);
-      attained = elim is.attained [
-        | inl end ↦ inl (rw (drop-drop q place old, drop-drop q place row) end)
-        | inr next ↦ inr (
-          next.0,
-          record {
-            element = next.1.element;
-            agrees = rw (drop-drop q place old, drop-drop q place row) next.1.agrees;
-            goes_on = next.1.goes_on;
-            number_is = grind (arith, next.1, at q, at (q + stop next.0));
-          },
-        )
-      ];
-      small = omega (arith, is.small, at q, length-drop place row);
-    }
+    grind (
+      arith,
+      is.steps,
+      is.ends,
+      is.attained,
+      drop-drop q place old,
+      drop-drop q place row,
+      get_or-drop place table,
+      length-drop place row,
+    )
 
 -- a shape whose bytes and number are the first number is a best one
 pub along_choice : {method : Method} {old wanted numbers : List ℕ} {shape : Shape} {bytes : ℕ} → AreRightFrom method old wanted numbers 0
@@ -61,17 +52,6 @@ along_choice {numbers} right s some sum-is =
     step_choice s some sum-is (λ d element agrees goes.
     let at : 0 + stop d ≡ stop d = omega arith in
     omega (arith, rw at at ((right 0 (omega arith) (omega arith)).steps d element agrees)))
-
-pub numbers_fall : {old wanted numbers : List ℕ} (i j : ℕ) → length old ≡ length wanted → AreRightFrom Packed old wanted numbers 0 → i ≤ j
-    → j ≤ length wanted → slice_index numbers j ≤ slice_index numbers i
-numbers_fall {old} {wanted} {numbers} i j size right order within =
-    falls Packed old wanted numbers 0 i j packed_shorten size right (omega arith) order within
-
-pub literal_bounds : {old wanted numbers : List ℕ} (k : ℕ) → AreRightFrom Packed old wanted numbers 0 → 1 ≤ k → k ≤ min (length wanted) 128
-    → slice_index numbers 0 ≤ 1 + k + slice_index numbers k
-literal_bounds {old} {wanted} {numbers} k right some within =
-    let s = literal_step old wanted k some (omega arith) (omega arith) in
-    grind (arith, s, (right 0 (omega arith) (omega arith)).steps (element_of (LiteralRun k) wanted) s.element s.agrees)
 
 pub along_literal : {old wanted numbers : List ℕ} {len : ℕ} → AreRightFrom Packed old wanted numbers 0
     → IsLiteralLen numbers (min (length wanted) 128) len → IsShapeChoice Packed old wanted numbers (LiteralRun len) (slice_index numbers 0)
@@ -111,7 +91,8 @@ no_literal_repeat old wanted numbers run end size some right needed is run-is no
             | inl r ↦
                 let w = within_run run-len s.0 r g.0 g.2 in
                 let more : 2 ≤ run = omega (arith, w.0, r.above, r.below) in
-                let fall = numbers_fall r.count run size right (omega (arith, w.0, r.below)) (omega (arith, run-len.within)) in
+                let fall = falls Packed old wanted numbers 0 r.count run packed_shorten size right (omega arith) (omega (arith, w.0, r.below))
+                (omega (arith, run-len.within)) in
                 let m = repeat_of_run old run-len run-is more in
                 let above = here.steps (element_of (RepeatRun run) wanted) m.element m.agrees in
                 (more, grind (arith, next.1, m, r))
@@ -151,15 +132,8 @@ along_run {old} {wanted} {numbers} {end} {len} size right is len-is =
 pub along_start : {old wanted numbers : List ℕ} {start : ℕ} → length old ≡ length wanted → AreRightFrom Delta old wanted numbers 0
     → 0 < slice_index numbers 0 → IsFirstDifference old wanted start → start < length wanted
 along_start {old} {wanted} {start} size right needed is =
-    elim (cases_lt start (length wanted)) [
-      | inl inside ↦ inside
-      | inr all ↦
-          absurd (omega (
-            arith,
-            (right 0 (omega arith) (omega arith)).ends
-                (ends_by old wanted 0 size (λ k low high. sym (is.same k (omega arith)))),
-          ))
-    ]
+    let none = (right 0 (omega arith) (omega arith)).ends in
+    grind (arith, ends_by old wanted 0 size, is.same)
 
 -- the best replacement at the latest start is a best element
 pub along_replacement : {old wanted numbers : List ℕ} {start : ℕ} {shape : Shape} {sum : ℕ} → length old ≡ length wanted

@@ -180,10 +180,10 @@ delta_below {old} {wanted} numbers {same} size is best d element agrees some =
 
 -- ---- the choices
 
-pub plain_choice : {old wanted numbers : List ℕ} → IsPlace wanted numbers
+pub plain_choice : {old wanted numbers : List ℕ} → 0 < length wanted
     → IsShapeChoice Plain old wanted numbers SingleByte (1 + slice_index numbers 1)
-plain_choice {old} {wanted} {numbers} place = step_choice
-    (byte_step old wanted place.some) (omega arith) refl (plain_below old numbers)
+plain_choice {old} {wanted} {numbers} some = step_choice
+    (byte_step old wanted some) (omega arith) refl (plain_below old numbers)
 
 pub runs_choice : {old wanted numbers : List ℕ} {run len sum : ℕ} → length old ≡ length wanted → IsRunLen wanted run
     → IsLeastLen numbers 1 (min run 256) 2 0 len sum → IsShapeChoice Runs old wanted numbers (Run len) sum

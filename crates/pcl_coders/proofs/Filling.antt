@@ -122,11 +122,7 @@ table_is_least {method} {seed} {row} {table} same size right = record {
             | inl past ↦ omega (arith, get_or_past table place 0 (omega arith))
             | inr within ↦ rw l.next_is ((right place (omega arith) within).steps e l.element l.agrees)
           ];
-      ends = λ place end.
-          elim (cases_lt (length row) place) [
-            | inl past ↦ get_or_past table place 0 (omega arith)
-            | inr within ↦ (right place (omega arith) within).ends end
-          ];
+      ends = λ place end. grind (arith, get_or_past, right place);
     };
   };
   attained = λ place within. attained_from (length row) (length-base method seed ∙ same) right within (omega arith);
@@ -137,13 +133,7 @@ table_is_least {method} {seed} {row} {table} same size right = record {
 pub first_bounds : (method : Method) (seed row table bytes : List ℕ) → length seed ≡ length row → IsRowTable method seed row table
     → IsRowData method seed row bytes → slice_index table 0 ≤ length bytes
 first_bounds method seed row table bytes same is has =
-    let w = walk_of_data same has in
-    omega (
-      arith,
-      feasible_bounds is.feasible
-          0 w.0 w.1,
-      w.2,
-    )
+    let w = walk_of_data same has in omega (arith, feasible_bounds is.feasible 0 w.0 w.1, w.2)
 
 -- no number of a row table is above two bytes for each byte of the row
 pub row_table_small : {method : Method} {seed row table : List ℕ} (rest place : ℕ) → length seed ≡ length row
@@ -197,25 +187,6 @@ pub record IsAppendedTo (method : Method) (old row table before now : List ℕ) 
   pub goes_on : (es : List Element) → Walk (Leads method old row) (Ends old row) place es → total cost es ≡ slice_index table place
       → Walk (Leads method old row) (Ends old row) 0 (done ++ es) × (total cost (done ++ es) ≡ slice_index table 0)
 
--- where the number is not 0, data is needed
-pub more_needed : {method : Method} {old row table : List ℕ} (place : ℕ) → length old ≡ length row → AreRightFrom method old row table 0
-    → place ≤ length row → 0 < slice_index table place → place < length row
-more_needed {old} {row} place size right within some =
-    elim (cases_lt place (length row)) [
-      | inl inside ↦ inside
-      | inr past ↦ absurd (omega (arith, (right place (omega arith) within).ends (ends_past old row size past)))
-    ]
-
--- the best element of a place that needs data
-best_number : {method : Method} {old row table : List ℕ} {place : ℕ} {shape : Shape} {sum : ℕ} → AreRightFrom method old row table 0
-    → place ≤ length row → 0 < slice_index table place
-    → IsShapeChoice method (drop place old) (drop place row) (drop place table) shape sum
-    → slice_index table place ≡ cost (element_of shape (drop place row)) + slice_index table
-    (place + stop (element_of shape (drop place row)))
-best_number {row} {table} {place} {shape} right within some c =
-    let is = right place (omega arith) within in
-    grind (arith, is.steps (element_of shape (drop place row)) c.choice.element c.choice.agrees, c.choice.least, get_or-drop place table)
-
 pub appended_more : {method : Method} {old row table before now : List ℕ} {place : ℕ} {shape : Shape} {sum : ℕ} {now' : List ℕ} {place' : ℕ}
     → length old ≡ length row → AreRightFrom method old row table 0 → 0 < slice_index table place
     → IsAppendedTo method old row table before now place
@@ -224,10 +195,13 @@ pub appended_more : {method : Method} {old row table before now : List ℕ} {pla
     → IsAppendedTo method old row table before now' place'
 appended_more {method} {old} {row} {table} {before} {place} {shape} {place'} size right some a c now-is place-is =
     let e : Element = element_of shape (drop place row) in
+    let is = right place (omega arith) a.within in
     let inside = stop_within method old row place e size c.choice.element c.choice.agrees in
     let next : place' ≡ place + stop e = omega (arith, c.stop_is) in
-    let number = best_number right a.within some c in
-    let begins = more_needed place size right a.within some in
+    let number : slice_index table place ≡ cost e + slice_index table (place + stop e) =
+    grind (arith, is.steps e c.choice.element c.choice.agrees, c.choice.least, get_or-drop place table) in
+    let past : length row ≤ place → Ends old row place = ends_past old row size in
+    let begins : place < length row = grind (arith, is.ends) in
     record {
       within = omega arith;
       done = a.done ++ e ∷ [];

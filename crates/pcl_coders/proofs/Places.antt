@@ -35,11 +35,6 @@ pub begun_right : {method : Method} {old row table : List ℕ} {end : ℕ} → I
 begun_right {old} {row} begun q low high =
     number_zero (begun.zeros q low) (ends_on old row begun.first_end.ends low)
 
-pub place_at : {old row first : List ℕ} (table : List ℕ) {end place : ℕ} → IsBegun old row first end → length table ≡ length row + 1
-    → place < end
-    → IsPlace (drop place row) (drop place table)
-place_at {row} table {place} begun size inside = grind (arith, begun.first_end.within, length-drop)
-
 -- the best element of a place gives its number
 pub place_done : {method : Method} {old row first table : List ℕ} {end place : ℕ} {shape : Shape} {sum : ℕ} → IsBegun old row first end
     → length table ≡ length row + 1 → place < end
@@ -58,7 +53,7 @@ pub plain_place : {old row first : List ℕ} (table : List ℕ) {end place : ℕ
     → IsShapeChoice Plain (drop place old) (drop place row) (drop place table) SingleByte (slice_index table (place + 1) + 1)
 plain_place {old} {row} table {place} begun size inside =
     let at : slice_index table (place + 1) + 1 ≡ 1 + slice_index (drop place table) 1 = omega (arith, get_or-drop place table 1 0) in
-    rw at (plain_choice (place_at table begun size inside))
+    rw at (plain_choice (omega (arith, begun.first_end.within, length-drop place row)))
 
 -- ---- methods 1 and 2: numbers never grow to the right
 

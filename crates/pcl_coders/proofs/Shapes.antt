@@ -1,6 +1,7 @@
 -- What the elements of each method give, and how many bytes they have.
 use Rattle.std.proofs.Common.{◌≡◌, ℕ, ◌+◌, ◌-◌, ◌*◌, ◌/◌, ◌%◌, ◌<◌, ◌≤◌, ◌⊎◌, Bool, true, false, cond, ltb, List, [], ◌∷◌, ◌++◌, length, replicate, refl, ap, ◌∙◌, inl, inr, arith}
 use Rattle.std.specs.List.{flat_map}
+use Rattle.std.proofs.lemmas.Bool.Decides.{nat_tests}
 use Rattle.std.proofs.lemmas.Bool.{ltb-true, ltb-false, lt-ltb, le-ltb}
 use Rattle.std.proofs.lemmas.List.{append-nil, length-append, length-replicate}
 use Rattle.pcl_base.proofs.Lists.{once_each, single_byte}
@@ -36,8 +37,17 @@ plain_shape h m c = absurd cc
 pub runs_shape : (h : Head) {bytes : List ℕ} → method_of h ≡ Runs → IsInRange h → length bytes ≡ new_count h
     → (offset_of h ≡ 0) × IsRepeat h bytes 1 256
 runs_shape (Count n) {bytes} m r c =
-    let b = single_byte bytes c in
-    (refl, record { count = n + 1; byte = b.0; above = omega arith; below = omega arith; given_is = given_copies (n + 1) b.1; bytes_are = omega (arith, c) })
+    let b = single_byte bytes c in (
+      refl,
+      record {
+        count = n + 1;
+        byte = b.0;
+        above = omega arith;
+        below = omega arith;
+        given_is = given_copies (n + 1) b.1;
+        bytes_are = omega (arith, c);
+      },
+    )
 runs_shape h m r c = absurd cc
 
 pub packed_shape : (h : Head) (bytes : List ℕ) → method_of h ≡ Packed → IsInRange h → length bytes ≡ new_count h
@@ -46,26 +56,24 @@ packed_shape (Literal n) bytes m r c some = let l = ap length (once_each bytes) 
 packed_shape (Repeat n) bytes m r c some =
     let b = single_byte bytes c in (
       refl,
-      inl
-          record {
-            count = 257 - n;
-            byte = b.0;
-            above = omega (arith, r.1);
-            below = omega (arith, r.0);
-            given_is =
-                given_copies (257 - n) b.1;
-            bytes_are = omega (arith, c);
-          },
+      inl record {
+        count = 257 - n;
+        byte = b.0;
+        above = omega (arith, r.1);
+        below = omega (arith, r.0);
+        given_is = given_copies (257 - n) b.1;
+        bytes_are = omega (arith, c);
+      },
     )
 packed_shape Skipped [] m r c some = absurd (omega arith)
 packed_shape Skipped (b ∷ bytes) m r c some = absurd (omega arith)
 packed_shape h bytes m r c some = absurd cc
 
 pub near_bytes : (offset : ℕ) → offset < 31 → replacement_bytes offset ≡ 1
-near_bytes offset below = rw (lt-ltb offset 31 below) refl
+near_bytes offset below = grind (arith, nat_tests)
 
 pub far_bytes : (offset : ℕ) → 31 ≤ offset → replacement_bytes offset ≡ 2 + (offset - 31) / 255
-far_bytes offset above = rw (le-ltb offset 31 above) refl
+far_bytes offset above = grind (arith, nat_tests)
 
 pub delta_shape : (h : Head) {bytes : List ℕ} → method_of h ≡ Delta → IsInRange h → length bytes ≡ new_count h
     → IsLiteral h bytes 8 (replacement_bytes (offset_of h))
@@ -91,12 +99,11 @@ pub record IsReplacementHead (offset len : ℕ) (h : Head) : Type 0 where
   pub copies_is : copies_of h ≡ 1
   pub bytes_are : length (head_bytes h) ≡ replacement_bytes offset
 
-replacement_at : {offset len : ℕ} (near : Bool) → 1 ≤ len → len ≤ 8 → ltb offset 31 ≡ near
-    → IsReplacementHead offset len (cond near (Near (len - 1) offset) (Far (len - 1) ((offset - 31) / 255) ((offset - 31) % 255)))
-replacement_at {offset} true some few e = let below = ltb-true offset 31 e in grind (arith, e)
-replacement_at {offset} false some few e =
-    let above = ltb-false offset 31 e in
-    grind (arith, e, length-append (replicate ((offset - 31) / 255) 255) ((offset - 31) % 255 ∷ []), length-replicate)
-
 pub replacement_is : {offset len : ℕ} → 1 ≤ len → len ≤ 8 → IsReplacementHead offset len (replacement offset len)
-replacement_is {offset} some few = replacement_at (ltb offset 31) some few refl
+replacement_is {offset} {len} some few =
+    grind (
+      arith,
+      nat_tests,
+      length-append (replicate ((offset - 31) / 255) 255) ((offset - 31) % 255 ∷ []),
+      length-replicate,
+    )

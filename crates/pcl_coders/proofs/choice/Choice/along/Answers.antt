@@ -1,33 +1,35 @@
-use Rattle.std.proofs.Common.{ℕ, sym, ◌∙◌, subst, arith}
+use Rattle.std.proofs.Common.{◌≡◌, ◌+◌, ℕ, sym, ◌∙◌, subst, arith}
 use Rattle.std.proofs.lemmas.Bool.{eqb-true, leb-true}
 use Rattle.pcl_coders.specs.inner.Choosing.{IsLiteralLen, NoLiteral}
+use Rattle.pcl_base.specs.declared.method.Method.TheVariants.{Packed}
 use Rattle.pcl_coders.proofs.Choices.{plain_choice}
-use Rattle.pcl_coders.proofs.Along.{along_run, along_start, along_replacement, numbers_fall, literal_bounds, along_literal, along_repeat, no_literal_repeat}
+use Rattle.pcl_coders.proofs.Along.{along_run, along_start, along_replacement, along_literal, along_repeat, no_literal_repeat}
+use Rattle.pcl_coders.proofs.Places.{packed_shorten, falls, literal_bounds}
 use Rattle.pcl_coders.proofs.choice.Choice.along.Goals as goal
 use Rattle.pcl_coders.proofs.choice.Choice.along.Goals.{then-run-ge2, else-run-ge2}
 
 pub literal_len-requires-clause-falls : goal.literal_len-requires-clause-falls
 literal_len-requires-clause-falls c i j order within =
     let right = rw c.in-Packed.is at c.requires.right in
-    numbers_fall i j c.requires.same right order (omega (arith, c.min.ensures))
+    falls Packed c.args.old.now c.args.wanted.now c.args.numbers.now 0 i j packed_shorten c.requires.same right (omega arith) order
+    (omega (arith, c.min.ensures))
 
 pub literal_len-requires-clause-least : goal.literal_len-requires-clause-least
 literal_len-requires-clause-least c k some within =
     let right = rw c.in-Packed.is at c.requires.right in
-    literal_bounds k right some (omega (arith, c.min.ensures))
+    let at : 0 + k ≡ k = omega arith in
+    rw at at
+    (literal_bounds 0 k (right 0 (omega arith) (omega arith)) some (omega (arith, c.min.ensures)) (omega (arith, c.min.ensures)))
 
 pub returns-then-not-is_repeat : goal.returns-then-not-is_repeat
 returns-then-not-is_repeat c =
     let right = rw c.in-Packed.is at c.requires.right in
-    let numbers = c.args.numbers.now in
-    let wanted = c.args.wanted.now in
-    let is = subst (λ (most : ℕ). IsLiteralLen numbers most c.in-Some.len) c.min.ensures c.in-Some.ensures in
+    let is = subst (λ (most : ℕ). IsLiteralLen c.args.numbers.now most c.in-Some.len) c.min.ensures c.in-Some.ensures in
     rw (c.in-Packed.is, c.from-sum-in-Packed.ensures) (along_literal right is)
 
 pub returns-else-run-len : goal.returns-else-run-len
 returns-else-run-len c =
     let right = rw c.in-Packed.is at c.requires.right in
-    let numbers = c.args.numbers.now in
     let run = c.min-run.result in
     elim c.if-run-ge2.branch [
       | then-run-ge2 w ↦
@@ -41,18 +43,15 @@ returns-else-run-len c =
 pub returns-in_default : goal.returns-in_default
 returns-in_default c =
     let right = rw c.in-Packed.is at c.requires.right in
-    let numbers = c.args.numbers.now in
-    let wanted = c.args.wanted.now in
-    let run = c.min-run.result in
-    let none = subst (λ (most : ℕ). NoLiteral numbers most) c.min.ensures c.in_default.ensures in
-    let r = no_literal_repeat c.args.old.now wanted numbers run c.run_end-in-Packed.result c.requires.same c.requires.place.some right
-    c.requires.needed c.run_end-in-Packed.ensures c.min-run.ensures none in
+    let none = subst (λ (most : ℕ). NoLiteral c.args.numbers.now most) c.min.ensures c.in_default.ensures in
+    let r = no_literal_repeat c.args.old.now c.args.wanted.now c.args.numbers.now c.min-run.result c.run_end-in-Packed.result
+    c.requires.same c.requires.place.some right c.requires.needed c.run_end-in-Packed.ensures c.min-run.ensures none in
     rw (c.in-Packed.is, c.from-sum-in-Packed.ensures)
     (along_repeat right c.run_end-in-Packed.ensures c.min-run.ensures r.0
     r.1)
 
 pub returns-in-Plain : goal.returns-in-Plain
-returns-in-Plain c = rw (c.in-Plain.is, c.from.ensures) (plain_choice c.requires.place)
+returns-in-Plain c = rw (c.in-Plain.is, c.from.ensures) (plain_choice c.requires.place.some)
 
 pub returns-in-Runs : goal.returns-in-Runs
 returns-in-Runs c =
