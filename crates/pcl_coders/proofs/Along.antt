@@ -117,16 +117,9 @@ walk_bounds {old} {row} {table} (e ∷ es) {place} size right within walk =
 pub along_run : {old wanted numbers : List ℕ} {end len : ℕ} → length old ≡ length wanted → AreRightFrom Runs old wanted numbers 0
     → IsRunEnd wanted 0 end → len ≡ min end 256 → IsShapeChoice Runs old wanted numbers (Run len) (2 + slice_index numbers len)
 along_run {old} {wanted} {numbers} {end} {len} size right is len-is =
-    runs_choice size (run_len_of end is (omega arith))
-    (record {
-      above = omega (arith, is.after);
-      below = omega arith;
-      sum_is = omega arith;
-      least = λ k low high. omega (
-        arith,
-        falls Runs old wanted numbers 0 k len runs_shorten size right (omega arith) (omega arith) (omega (arith, is.within)),
-      );
-    })
+    let fall : (k : ℕ) → 1 ≤ k → k ≤ len → slice_index numbers len ≤ slice_index numbers k =
+    λ k low high. falls Runs old wanted numbers 0 k len runs_shorten size right (omega arith) (omega arith) (omega (arith, is.within)) in
+    runs_choice size (run_len_of end is (omega arith)) (grind (arith, is.after))
 
 -- data is needed, so the rows differ
 pub along_start : {old wanted numbers : List ℕ} {start : ℕ} → length old ≡ length wanted → AreRightFrom Delta old wanted numbers 0

@@ -59,13 +59,6 @@ choice_small {method} old row table {place} {sum} inside c small =
     let e = one.2 in
     grind (arith, c.choice.least (element_of one.0 (drop place row)) e.element e.agrees, one.3, get_or-drop place table)
 
--- a shape's choice at parts of lists that go to their ends
-pub choice_to_ends : {method : Method} (old row table : List ℕ) (place : ℕ) {shape : Shape} {sum : ℕ}
-    → IsShapeChoice method (take (length old - place) (drop place old)) (take (length row - place) (drop place row))
-    (take (length table - place) (drop place table)) shape sum
-    → IsShapeChoice method (drop place old) (drop place row) (drop place table) shape sum
-choice_to_ends old row table place c = rw (take_rest old place, take_rest row place, take_rest table place) at c
-
 -- ---- places from which no more data is needed
 
 pub ends_here : (old row : List ℕ) {place : ℕ} → length old ≡ length row → place < length row → get_or row place 0 ≡ get_or old place 0
@@ -223,11 +216,9 @@ appended_all {method} {old} {row} {before} {place} right none a =
     record { steps = a.done ++ []; walk = g.0; total_is = g.1; joined = rw append-nil a.joined }
 
 -- what was appended is least
-pub appends_least : {method : Method} {seed row old table before now : List ℕ} → IsCodable seed row → length table ≡ length row + 1
-    → old ≡ base method seed → AreRightFrom method old row table 0
-    → AppendsWalk method old row table before now → AppendsLeast method seed row before now
-appends_least {method} {seed} {row} {table} codable size old-is right a =
+pub appends_least : {method : Method} {seed row old table before now : List ℕ} → IsCodable seed row → IsLeastTable method seed row table
+    → old ≡ base method seed → AppendsWalk method old row table before now → AppendsLeast method seed row before now
+appends_least codable is old-is a =
     let b = rw old-is at a in
-    let is = table_is_least codable.same_size size (rw old-is at right) in
     let l = least_along b.steps codable is.table_is b.walk b.total_is in
     record { bytes = flat_map element_bytes b.steps; joined = b.joined; whole = l.0; least = l.1 }

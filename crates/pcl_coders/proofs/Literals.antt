@@ -62,19 +62,20 @@ literal_least {row} {table} {end} {place} {best} begun behind is number-is =
 pub packed_place : {row first table : List ℕ} {end place run_end best literal repeat number : ℕ}
     → IsBegun (replicate (length row) 0) row first end → length table ≡ length row + 1 → place < end
     → AreRightFrom Packed (replicate (length row) 0) row table (place + 1) → IsLiteralEnd table end place best → IsRunEnd row place run_end
-    → literal ≡ best - place + 1 + slice_index table best → literal ≤ 65535 → (run_end ≡ place + 1 → repeat ≡ 65535)
+    → literal ≡ best - place + 1 + slice_index table best → (run_end ≡ place + 1 → repeat ≡ 65535)
     → (place + 1 < run_end → repeat ≡ slice_index table (min run_end (place + 128)) + 2) → number ≡ min literal repeat
     → (shape : Shape) × IsShapeChoice Packed (drop place (replicate (length row) 0)) (drop place row) (drop place table) shape number
-packed_place {row} {table} {place} {run_end} {best} {literal} {repeat} {number} begun size inside behind is run literal-is small none
+packed_place {row} {table} {place} {run_end} {best} {literal} {repeat} {number} begun size inside behind is run literal-is none
     some number-is =
     let old : List ℕ = replicate (length row) 0 in
     let run-len = run_len_of (run_end - place) run (omega (arith, run.after)) in
     let same : length (drop place old) ≡ length (drop place row) =
     omega (arith, length-drop place old, length-drop place row, begun.same_size) in
     let l = literal_least begun behind is literal-is in
+    let small = (behind best (omega (arith, is.above)) (omega (arith, is.within, begun.first_end.within))).small in
     elim (cases_lt (place + 1) run_end) [
       | inr short ↦
-          let e : number ≡ literal = omega (arith, none (omega (arith, run.after))) in
+          let e : number ≡ literal = omega (arith, none (omega (arith, run.after)), is.near, begun.small) in
           (LiteralRun (best - place), rw e (literal_choice same run-len l (λ k low high. absurd (omega arith))))
       | inl more ↦
           let len : ℕ = min (run_end - place) 128 in
@@ -91,12 +92,3 @@ packed_place {row} {table} {place} {run_end} {best} {literal} {repeat} {number} 
                 (LiteralRun (best - place), rw e (literal_choice same run-len l (λ k low high. omega (arith, r.least k low high))))
           ]
     ]
-
--- a literal's number fits
-pub literal_small : {row first table : List ℕ} {end place best : ℕ} → IsBegun (replicate (length row) 0) row first end
-    → AreRightFrom Packed (replicate (length row) 0) row table (place + 1) → IsLiteralEnd table end place best
-    → (best - place ≤ 128) × (slice_index table best ≤ 1200)
-literal_small {row} {table} {place} {best} begun behind is = (
-  omega (arith, is.near),
-  omega (arith, (behind best (omega (arith, is.above)) (omega (arith, is.within, begun.first_end.within))).small, begun.small),
-)

@@ -285,21 +285,14 @@ pub next_start_set : {old row table : List ℕ} {place start best : ℕ} → len
     → IsNextStart old row table (place + 1) place start best
     → IsNextStart old row (set table place (replacement_bytes (start - place) + best)) place place start best
 next_start_set {table} {place} {start} {best} size inside next =
-    let number : ℕ = replacement_bytes (start - place) + best in
-    let stays : (q : ℕ) → place < q → slice_index (set table place number) q ≡ slice_index table q =
-    λ q. number_behind table place number q in
-    let b = next.behind in
-    record {
-      latest = next.latest;
-      behind = record {
-        len = b.len;
-        above = b.above;
-        below = b.below;
-        best_is = omega (arith, b.best_is, stays (start + b.len) (omega (arith, next.latest.order, b.above)));
-        least = λ k low high. omega (arith, b.least k low high, stays (start + k) (omega (arith, next.latest.order)));
-      };
-      numbers = λ q low high. grind (arith, stays q, next.numbers q, get_or-set_same);
-    }
+    grind (
+      arith,
+      next.behind.least,
+      next.numbers,
+      next.latest.order,
+      get_or-set_same,
+      number_behind table place (replacement_bytes (start - place) + best),
+    )
 
 -- one place to the left, where the byte there is that of the row before
 pub next_start_stays : {old row table : List ℕ} {place start best : ℕ} → IsNextStart old row table (place + 1) (place + 1) start best
@@ -311,14 +304,4 @@ pub next_start_here : {old row table : List ℕ} {place best len : ℕ} → leng
     → slice_index old place ≢ slice_index row place
     → IsLeastLen (drop place table) 1 (min (length (drop place table) - 1) 8) 0 1 len best
     → IsNextStart old row table (place + 1) place place best
-next_start_here {table} {place} {len} size inside differs is = record {
-  latest = record { order = omega arith; within = inside; same = λ k low high. absurd (omega arith); differs = differs };
-  behind = record {
-    len = len;
-    above = is.above;
-    below = omega (arith, is.below, length-drop place table);
-    best_is = omega (arith, is.sum_is, get_or-drop place table len 0);
-    least = λ k low high. omega (arith, is.least k low (omega (arith, length-drop place table)), get_or-drop place table k 0);
-  };
-  numbers = λ q low high. absurd (omega arith);
-}
+next_start_here {table} {place} {len} size inside differs is = grind (arith, is.least, get_or-drop place table, length-drop place table)

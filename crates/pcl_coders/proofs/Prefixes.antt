@@ -44,10 +44,7 @@ same_len_of {old} {wanted} {place} size is = record {
 
 -- the lesser of the best so far and the next
 pub least_min_one : (numbers : List ℕ) → (len : ℕ) × IsLeastLen numbers 1 1 0 1 len (slice_index numbers 1 + 1)
-least_min_one numbers = (
-  1,
-  record { above = omega arith; below = omega arith; sum_is = omega arith; least = λ k low high. grind arith },
-)
+least_min_one numbers = (1, grind arith)
 
 pub least_min_next : {numbers : List ℕ} {to best : ℕ} (now : ℕ) → 1 ≤ to → (len : ℕ) × IsLeastLen numbers 1 (to - 1) 0 1 len best
     → now ≡ min best (slice_index numbers to + to) → (len : ℕ) × IsLeastLen numbers 1 to 0 1 len now

@@ -3,7 +3,7 @@ use Rattle.pcl_base.specs.declared.method.Method.TheVariants.{Packed}
 use Rattle.pcl_bitmap.specs.Kernels.{IsRunEnd}
 use Rattle.pcl_coders.specs.inner.Filling.{AreRightFrom, HasLiteralEnd, white_like}
 use Rattle.pcl_coders.proofs.Places.{begun_right, place_done, IsRunFrom, run_next}
-use Rattle.pcl_coders.proofs.Literals.{has_no_literal, has_literal, end_of_set, literal_small, packed_place}
+use Rattle.pcl_coders.proofs.Literals.{has_no_literal, has_literal, end_of_set, packed_place}
 use Rattle.pcl_coders.proofs.fill.fill_packed.Goals as goal
 use Rattle.pcl_coders.proofs.fill.fill_packed.Goals.{then-place-end+then-row-place, else-place-end, else-place-end-via-then-place-end+else-row-place, else-place-end-via-else-place-end}
 
@@ -26,11 +26,10 @@ loop-place-preserved c =
     let behind = subst (AreRightFrom Packed (white_like row) row out) after c.loop-place.invariant.right in
     let has = subst (λ (at : ℕ). HasLiteralEnd out end at c.loop-place.best) after c.loop-place.invariant.literal in
     let is = c.literal_end-best.ensures end inside has in
-    let small = literal_small c.requires behind is in
     let from = subst (λ (p : ℕ). IsRunFrom row end p c.loop-place.run_end) after c.loop-place.invariant.run in
     let run : IsRunEnd row place c.if-place-end.run_end = run_next c.requires inside from (grind (arith, c.if-place-end.branch))
     (grind (arith, c.if-place-end.branch)) (grind (arith, c.if-place-end.branch)) in
-    let choice = packed_place c.requires size inside behind is run refl (omega (arith, small.0, small.1)) c.repeat_number.ensures.none
+    let choice = packed_place c.requires size inside behind is run refl c.repeat_number.ensures.none
     c.repeat_number.ensures.some c.min.ensures in
     let right = (place_done c.requires size inside behind choice.1).0 in
     record {

@@ -7,16 +7,11 @@ use Rattle.pcl_coders.proofs.table.append_along.Goals as goal
 
 pub append_steps-appended-requires-clause-right : goal.append_steps-appended-requires-clause-right
 append_steps-appended-requires-clause-right c =
-    subst (λ (old : List ℕ). AreRightFrom c.args.method old c.args.row.now c.args.numbers.now 0) (sym c.base_row-old.ensures)
-    (right_of_least c.requires.codable.same_size c.requires.least)
+    rw c.base_row-old.ensures (right_of_least c.requires.codable.same_size c.requires.least)
 
 pub returns-else-is_err-clause-ok : goal.returns-else-is_err-clause-ok
 returns-else-is_err-clause-ok c =
-    let right = subst (λ (old : List ℕ). AreRightFrom c.args.method old c.args.row.now c.args.numbers.now 0) (sym c.base_row-old.ensures)
-    (right_of_least c.requires.codable.same_size c.requires.least) in
-    on_ok_weaker c.append_steps-appended.result
-    (appends_least c.requires.codable
-    c.requires.least.table_is.size c.base_row-old.ensures right)
+    on_ok_weaker c.append_steps-appended.result (appends_least c.requires.codable c.requires.least c.base_row-old.ensures)
     c.append_steps-appended.ensures.ok
 
 pub returns-then-is_err-clause-err : goal.returns-then-is_err-clause-err

@@ -6,7 +6,7 @@ use Rattle.pcl_rows.specs.Elements.{element_bytes}
 use Rattle.std.specs.List.{flat_map}
 use Rattle.pcl_base.proofs.Lists.{front_stays}
 use Rattle.pcl_coders.proofs.Along.{right_from_drop}
-use Rattle.pcl_coders.proofs.Filling.{appended_more, appended_all, choice_to_ends}
+use Rattle.pcl_coders.proofs.Filling.{appended_more, appended_all}
 use Rattle.pcl_coders.proofs.table.append_steps.Goals as goal
 
 pub returns-in_err-append-clause-err : goal.returns-in_err-append-clause-err
@@ -31,12 +31,10 @@ loop-place-preserved c =
     let row = c.args.row.now in
     let numbers = c.args.numbers.now in
     let place = c.loop-place.place in
-    let choice = c.along-choice.result in
-    let best = choice_to_ends old row numbers place c.along-choice.ensures in
-    appended_more
-    c.requires.same c.requires.right c.loop-place-test.true c.loop-place.invariant best
-    (c.in_ok-append.ensures.ok ∙ ap (λ (bs : List ℕ). c.loop-place.out.items ++ element_bytes (element_of choice.shape bs))
-    (take_rest row place)) (omega (arith, c.stop-place.ensures))
+    let rest = take_rest row place in
+    let best = rw (take_rest old place, rest, take_rest numbers place) at c.along-choice.ensures in
+    appended_more c.requires.same c.requires.right c.loop-place-test.true c.loop-place.invariant best
+    (rw rest at c.in_ok-append.ensures.ok) (omega (arith, c.stop-place.ensures))
 
 pub returns-clause-ok : goal.returns-clause-ok
 returns-clause-ok c =
