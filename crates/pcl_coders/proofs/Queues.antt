@@ -23,12 +23,10 @@ pub queue_least : {numbers places : List ℕ} {taken put first stop : ℕ} → I
     → (first < stop) × IsLeastOf (in_window numbers taken put) (slice_index numbers (slice_index places first))
 queue_least {numbers} {places} {taken} {put} {first} {stop} q some =
     let c = q.covers taken (omega arith) some in
-    let inside : first < stop = omega (arith, c.1, c.2) in
-    let bounds = q.inside first (omega arith) inside in
     let size = length-in_window numbers taken put q.put_within in (
-      inside,
+      omega (arith, c.1, c.2),
       record {
-        among = (slice_index places first - taken, omega arith, grind (arith, number_in_window));
+        among = (slice_index places first - taken, grind (arith, q.inside first, c), grind (arith, number_in_window, q.inside first, c));
         below = λ k within.
             let d = q.covers (taken + k) (omega arith) (omega arith) in
             grind (arith, number_in_window numbers taken put k, d, q.grow first d.0);
@@ -40,9 +38,9 @@ pub queue_take : {numbers places : List ℕ} {taken put first first' stop : ℕ}
     → (slice_index places first ≡ taken → first' ≡ first + 1) → (slice_index places first ≢ taken → first' ≡ first)
     → IsQueue numbers places (taken + 1) put first' stop
 queue_take {places} {taken} {first} {first'} {stop} q some out stays =
-    let inside = (queue_least q some).0 in
-    let here = q.inside first (omega arith) inside in
-    let next : (first' ≡ first) × (taken < slice_index places first) ⊎ (first' ≡ first + 1) × (slice_index places first ≡ taken) = grind arith in
+    let here = q.inside first (omega arith) (queue_least q some).0 in
+    let next : (first' ≡ first) × (taken < slice_index places first) ⊎ (first' ≡ first + 1) × (slice_index places first ≡ taken) =
+    grind arith in
     record {
       same_size = q.same_size;
       put_within = q.put_within;
@@ -62,9 +60,11 @@ pub queue_put : {numbers places : List ℕ} {taken put first stop end number : �
     → IsQueue (set numbers put number) (set places end put) taken (put + 1) first (end + 1)
 queue_put {numbers} {places} {put} {first} {end} {number} q room low-end high-end above last =
     let new_place : slice_index (set places end put) end ≡ put = grind (arith, get_or-set_same, q.same_size, q.stop_within) in
-    let old_place : (j : ℕ) → j < end → slice_index (set places end put) j ≡ slice_index places j = λ j before. grind (arith, get_or-set_other) in
+    let old_place : (j : ℕ) → j < end → slice_index (set places end put) j ≡ slice_index places j =
+    λ j before. grind (arith, get_or-set_other) in
     let new_number : slice_index (set numbers put number) put ≡ number = get_or-set_same numbers put number 0 room in
-    let old_number : (k : ℕ) → k < put → slice_index (set numbers put number) k ≡ slice_index numbers k = λ k before. grind (arith, get_or-set_other) in
+    let old_number : (k : ℕ) → k < put → slice_index (set numbers put number) k ≡ slice_index numbers k =
+    λ k before. grind (arith, get_or-set_other) in
     let lower : (i : ℕ) → first ≤ i → i < end → slice_index numbers (slice_index places i) ≤ number =
     λ i low high. grind (arith, q.grow i (end - 1), last) in
     record {
@@ -74,15 +74,28 @@ queue_put {numbers} {places} {put} {first} {end} {number} q room low-end high-en
       order = grind arith;
       stop_within = grind arith;
       inside = λ j low high. grind (arith, q.inside j, old_place j, new_place);
-      grow = λ i j low order high. grind (arith, q.grow i j, q.inside i, q.inside j, old_place i, old_place j, new_place, lower i, old_number, new_number);
+      grow = λ i j low order high. grind (
+        arith,
+        q.grow i j,
+        q.inside i,
+        q.inside j,
+        old_place i,
+        old_place j,
+        new_place,
+        lower i,
+        old_number,
+        new_number,
+      );
       covers = λ k low high.
           elim (cases_lt k put) [
-            | inr here ↦ (end, low-end, omega arith, grind (arith, new_place), grind (arith, new_place, new_number))
+            | inr here ↦ (end, low-end, omega arith, omega (arith, new_place), grind (arith, new_place, new_number))
             | inl before ↦
                 let d = q.covers k low before in
+                let old = old_number k before in
                 elim (cases_lt d.0 end) [
-                  | inl stays ↦ (d.0, d.1, omega arith, grind (arith, d, old_place d.0), grind (arith, d, old_place d.0, old_number, q.inside d.0))
-                  | inr gone ↦ (end, low-end, omega arith, grind (arith, new_place), grind (arith, d, above d.0, new_place, new_number, old_number k))
+                  | inl stays ↦
+                      let at = old_place d.0 stays in (d.0, d.1, omega arith, omega (arith, d.3, at), grind (arith, d, old_number, q.inside d.0))
+                  | inr gone ↦ (end, low-end, omega arith, omega (arith, new_place), grind (arith, d, above d.0, new_place, new_number))
                 ]
           ];
     }

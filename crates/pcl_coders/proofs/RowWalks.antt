@@ -111,15 +111,7 @@ elements_decode {method} old es are =
 length-after : (es : List Element) (old : List ℕ) → reach es ≤ length old → length (after_elements es kept old) ≡ length old
 length-after [] old within = refl
 length-after (e ∷ es) old within =
-    let behind : List ℕ = drop (stop e) old in
-    omega (
-      arith,
-      length-append (take (offset_of e.head) old) (given e ++ after_elements es kept behind),
-      length-append (given e) (after_elements es kept behind),
-      length-take (offset_of e.head) old,
-      length-drop (stop e) old,
-      length-after es behind (omega (arith, length-drop (stop e) old)),
-    )
+    grind (arith, length-append, length-take, length-drop, length-after es (drop (stop e) old))
 
 -- whole data for a row is a walk
 pub walk_of_data : {method : Method} {seed row bytes : List ℕ} → length seed ≡ length row → IsRowData method seed row bytes
