@@ -36,12 +36,6 @@ one_byte Delta old wanted some = (Replace 0 1, 2, replace_step old wanted 0 1 (o
 pub number_behind : (table : List ℕ) (at number place : ℕ) → at < place → slice_index (set table at number) place ≡ slice_index table place
 number_behind table at number place behind = let other : place ≢ at = omega arith in get_or-set_other table at place number 0 other
 
--- what is right stays right where a number before it is set
-pub number_stays : {method : Method} {old row table : List ℕ} {at : ℕ} (number : ℕ) {place : ℕ} → at < place
-    → IsPlaceNumber method old row table place
-    → IsPlaceNumber method old row (set table at number) place
-number_stays {table} {at} number {place} behind is = grind (arith, is.steps, is.attained, number_behind table at number)
-
 -- where more data is needed
 pub number_of_choice : {method : Method} {old row : List ℕ} (table : List ℕ) {place : ℕ} {shape : Shape} {sum : ℕ} → place < length row
     → length table ≡ length row + 1 → (Ends old row place → ⊥)
@@ -74,7 +68,8 @@ pub right_more : {method : Method} {old row table : List ℕ} {place : ℕ} (num
     → IsPlaceNumber method old row (set table place number) place → AreRightFrom method old row (set table place number) place
 right_more {method} {old} {row} {table} {place} number behind here q low high =
     elim (cases_lt place q) [
-      | inl above ↦ number_stays number above (behind q (omega arith) high)
+      | inl above ↦
+          let is = behind q (omega arith) high in grind (arith, is.steps, is.attained, number_behind table place number)
       | inr same ↦ let at : q ≡ place = omega arith in rw at here
     ]
 

@@ -26,14 +26,9 @@ use Rattle.pcl_coders.proofs.Ends.{ends_on, ends_at, white_byte}
 
 -- ---- any method
 
--- no data is needed, and the number is 0
-number_zero : {method : Method} {old row table : List ℕ} {place : ℕ} → slice_index table place ≡ 0 → Ends old row place
-    → IsPlaceNumber method old row table place
-number_zero here end = grind arith
-
 pub begun_right : {method : Method} {old row table : List ℕ} {end : ℕ} → IsBegun old row table end → AreRightFrom method old row table end
 begun_right {old} {row} begun q low high =
-    number_zero (begun.zeros q low) (ends_on old row begun.first_end.ends low)
+    let here = begun.zeros q low in let end : Ends old row q = ends_on old row begun.first_end.ends low in grind arith
 
 -- the best element of a place gives its number
 pub place_done : {method : Method} {old row first table : List ℕ} {end place : ℕ} {shape : Shape} {sum : ℕ} → IsBegun old row first end

@@ -39,12 +39,10 @@ placed c =
           rw (w.start-is, w.best-is)
           (next_start_here size (omega (arith, c.requires.first_end.within)) w.if-old-place.true e.1)
       | else-old-place w ↦
-          let more : place + 1 < c.args.end = elim (cases_lt (place + 1) c.args.end) [
-            | inl more ↦ more
-            | inr last ↦ absurd (last_differs place c.requires (omega arith) w.if-old-place.false)
-          ] in
+          let last : place + 1 ≡ c.args.end → ⊥ = λ e. last_differs place c.requires e w.if-old-place.false in
+          let more : place + 1 < c.args.end = omega (arith, last) in
           rw (w.start-is, w.best-is)
-          (next_start_stays (rw after at (c.loop-place.invariant.next (omega arith))) w.if-old-place.false)
+          (next_start_stays (rw after at (c.loop-place.invariant.next (omega (arith, more)))) w.if-old-place.false)
     ] in
     let behind = subst (AreRightFrom Delta old row out) after c.loop-place.invariant.right in
     let done = place_done c.requires size inside behind (delta_place c.requires size inside next).1 in

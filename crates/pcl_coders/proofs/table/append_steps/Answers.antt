@@ -17,24 +17,12 @@ returns-in_err-append-clause-err c =
     search (rules, front)
 
 pub along-choice-requires-clause-right : goal.along-choice-requires-clause-right
-along-choice-requires-clause-right c =
-    let old = c.args.old.now in
-    let row = c.args.row.now in
-    let numbers = c.args.numbers.now in
-    let place = c.loop-place.place in
-    rw (take_rest old place, take_rest row place, take_rest numbers place)
-    (right_from_drop c.loop-place.invariant.within c.requires.right)
+along-choice-requires-clause-right c = simp take_rest (right_from_drop c.loop-place.invariant.within c.requires.right)
 
 pub loop-place-preserved : goal.loop-place-preserved
 loop-place-preserved c =
-    let old = c.args.old.now in
-    let row = c.args.row.now in
-    let numbers = c.args.numbers.now in
-    let place = c.loop-place.place in
-    let rest = take_rest row place in
-    let best = rw (take_rest old place, rest, take_rest numbers place) at c.along-choice.ensures in
-    appended_more c.requires.same c.requires.right c.loop-place-test.true c.loop-place.invariant best
-    (rw rest at c.in_ok-append.ensures.ok) (omega (arith, c.stop-place.ensures))
+    appended_more c.requires.same c.requires.right c.loop-place-test.true c.loop-place.invariant (simp take_rest at c.along-choice.ensures)
+    (simp take_rest at c.in_ok-append.ensures.ok) (omega (arith, c.stop-place.ensures))
 
 pub returns-clause-ok : goal.returns-clause-ok
 returns-clause-ok c =

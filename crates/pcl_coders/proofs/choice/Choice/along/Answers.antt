@@ -10,32 +10,28 @@ use Rattle.pcl_coders.proofs.choice.Choice.along.Goals.{then-run-ge2, else-run-g
 
 pub literal_len-requires-clause-falls : goal.literal_len-requires-clause-falls
 literal_len-requires-clause-falls c i j order within =
-    let right = rw c.in-Packed.is at c.requires.right in
-    falls Packed c.args.old.now c.args.wanted.now c.args.numbers.now 0 i j packed_shorten c.requires.same right (omega arith) order
+    falls Packed c.args.old.now c.args.wanted.now c.args.numbers.now 0 i j packed_shorten c.requires.same (rw c.in-Packed.is at c.requires.right) (omega arith) order
     (omega (arith, c.min.ensures))
 
 pub literal_len-requires-clause-least : goal.literal_len-requires-clause-least
 literal_len-requires-clause-least c k some within =
-    let right = rw c.in-Packed.is at c.requires.right in
     let at : 0 + k ≡ k = omega arith in
     rw at at
-    (literal_bounds 0 k (right 0 (omega arith) (omega arith)) some (omega (arith, c.min.ensures)) (omega (arith, c.min.ensures)))
+    (literal_bounds 0 k ((rw c.in-Packed.is at c.requires.right) 0 (omega arith) (omega arith)) some (omega (arith, c.min.ensures)) (omega (arith, c.min.ensures)))
 
 pub returns-then-not-is_repeat : goal.returns-then-not-is_repeat
 returns-then-not-is_repeat c =
-    let right = rw c.in-Packed.is at c.requires.right in
     let is = subst (λ (most : ℕ). IsLiteralLen c.args.numbers.now most c.in-Some.len) c.min.ensures c.in-Some.ensures in
-    rw (c.in-Packed.is, c.from-sum-in-Packed.ensures) (along_literal right is)
+    rw (c.in-Packed.is, c.from-sum-in-Packed.ensures) (along_literal (rw c.in-Packed.is at c.requires.right) is)
 
 pub returns-else-run-len : goal.returns-else-run-len
 returns-else-run-len c =
-    let right = rw c.in-Packed.is at c.requires.right in
     let run = c.min-run.result in
     elim c.if-run-ge2.branch [
       | then-run-ge2 w ↦
           let same = eqb-true _ _ (sym w.is_repeat-is ∙ c.if-not-is_repeat.false) in
           rw (c.in-Packed.is, c.from-sum-in-Packed.ensures)
-          (along_repeat right c.run_end-in-Packed.ensures
+          (along_repeat (rw c.in-Packed.is at c.requires.right) c.run_end-in-Packed.ensures
           c.min-run.ensures w.if-run-ge2.true (omega (arith, same, w.from-then-run-ge2.ensures, c.from-sum-in-Packed.ensures)))
       | else-run-ge2 w ↦ absurd (omega (arith, leb-true 2 run (sym w.is_repeat-is ∙ c.if-not-is_repeat.false), w.if-run-ge2.false))
     ]
@@ -55,20 +51,17 @@ returns-in-Plain c = rw (c.in-Plain.is, c.from.ensures) (plain_choice c.requires
 
 pub returns-in-Runs : goal.returns-in-Runs
 returns-in-Runs c =
-    let right = rw c.in-Runs.is at c.requires.right in
     rw (c.in-Runs.is, c.from-sum.ensures)
-    (along_run c.requires.same right
+    (along_run c.requires.same (rw c.in-Runs.is at c.requires.right)
     c.run_end.ensures c.min-len.ensures)
 
 pub behind-requires-clause-inside : goal.behind-requires-clause-inside
 behind-requires-clause-inside c =
-    let right = rw c.in-Delta.is at c.requires.right in
-    along_start c.requires.same right c.requires.needed
+    along_start c.requires.same (rw c.in-Delta.is at c.requires.right) c.requires.needed
     c.first_difference-start.ensures
 
 pub returns-in-Delta : goal.returns-in-Delta
 returns-in-Delta c =
-    let right = rw c.in-Delta.is at c.requires.right in
     rw c.in-Delta.is
-    (along_replacement c.requires.same c.requires.place.size right c.requires.needed
+    (along_replacement c.requires.same c.requires.place.size (rw c.in-Delta.is at c.requires.right) c.requires.needed
     c.first_difference-start.ensures c.behind.ensures)
