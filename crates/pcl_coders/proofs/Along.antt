@@ -75,7 +75,7 @@ along_repeat {old} {wanted} {end} right is run-is more sum-is =
 -- where no literal is best, the longest repeat is
 pub no_literal_repeat : (old wanted numbers : List ℕ) (run end : ℕ) → length old ≡ length wanted → 0 < length wanted
     → AreRightFrom Packed old wanted numbers 0 → 0 < slice_index numbers 0 → IsRunEnd wanted 0 end → run ≡ min end 128
-    → NoLiteral numbers (min (length wanted) 128) → (2 ≤ run) × (slice_index numbers run + 2 ≡ slice_index numbers 0)
+    → NoLiteral numbers (min (length wanted) 128) → IsShapeChoice Packed old wanted numbers (RepeatRun run) (slice_index numbers 0)
 no_literal_repeat old wanted numbers run end size some right needed is run-is none =
     let here = right 0 (omega arith) (omega arith) in
     let run-len = run_len_of end is (omega arith) in
@@ -95,7 +95,7 @@ no_literal_repeat old wanted numbers run end size some right needed is run-is no
                 (omega (arith, run-len.within)) in
                 let m = repeat_of_run old run-len run-is more in
                 let above = here.steps (element_of (RepeatRun run) wanted) m.element m.agrees in
-                (more, grind (arith, next.1, m, r))
+                along_choice right m (omega arith) (grind (arith, next.1, m, r))
           ]
     ]
 

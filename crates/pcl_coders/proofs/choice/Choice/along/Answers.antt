@@ -1,5 +1,6 @@
-use Rattle.std.proofs.Common.{◌≡◌, ◌+◌, ℕ, sym, ◌∙◌, subst, arith}
-use Rattle.std.proofs.lemmas.Bool.{eqb-true, leb-true}
+use Rattle.std.proofs.Common.{◌≡◌, ◌+◌, ◌≤◌, ℕ, min, length, sym, ◌∙◌, subst, arith}
+use Rattle.std.proofs.lemmas.Bool.Decides.{nat_tests}
+use Rattle.std.specs.Prelude.{slice_index}
 use Rattle.pcl_coders.specs.inner.Choosing.{IsLiteralLen, NoLiteral}
 use Rattle.pcl_base.specs.declared.method.Method.TheVariants.{Packed}
 use Rattle.pcl_coders.proofs.Choices.{plain_choice}
@@ -10,14 +11,16 @@ use Rattle.pcl_coders.proofs.choice.Choice.along.Goals.{then-run-ge2, else-run-g
 
 pub literal_len-requires-clause-falls : goal.literal_len-requires-clause-falls
 literal_len-requires-clause-falls c i j order within =
-    falls Packed c.args.old.now c.args.wanted.now c.args.numbers.now 0 i j packed_shorten c.requires.same (rw c.in-Packed.is at c.requires.right) (omega arith) order
+    let right = rw c.in-Packed.is at c.requires.right in
+    falls Packed c.args.old.now c.args.wanted.now c.args.numbers.now 0 i j packed_shorten c.requires.same right (omega arith) order
     (omega (arith, c.min.ensures))
 
 pub literal_len-requires-clause-least : goal.literal_len-requires-clause-least
 literal_len-requires-clause-least c k some within =
+    let right = rw c.in-Packed.is at c.requires.right in
     let at : 0 + k ≡ k = omega arith in
-    rw at at
-    (literal_bounds 0 k ((rw c.in-Packed.is at c.requires.right) 0 (omega arith) (omega arith)) some (omega (arith, c.min.ensures)) (omega (arith, c.min.ensures)))
+    let fits : k ≤ min (length c.args.wanted.now) 128 = omega (arith, c.min.ensures) in
+    rw at at (literal_bounds 0 k (right 0 (omega arith) (omega arith)) some (omega arith) (omega arith))
 
 pub returns-then-not-is_repeat : goal.returns-then-not-is_repeat
 returns-then-not-is_repeat c =
@@ -26,25 +29,17 @@ returns-then-not-is_repeat c =
 
 pub returns-else-run-len : goal.returns-else-run-len
 returns-else-run-len c =
-    let run = c.min-run.result in
-    elim c.if-run-ge2.branch [
-      | then-run-ge2 w ↦
-          let same = eqb-true _ _ (sym w.is_repeat-is ∙ c.if-not-is_repeat.false) in
-          rw (c.in-Packed.is, c.from-sum-in-Packed.ensures)
-          (along_repeat (rw c.in-Packed.is at c.requires.right) c.run_end-in-Packed.ensures
-          c.min-run.ensures w.if-run-ge2.true (omega (arith, same, w.from-then-run-ge2.ensures, c.from-sum-in-Packed.ensures)))
-      | else-run-ge2 w ↦ absurd (omega (arith, leb-true 2 run (sym w.is_repeat-is ∙ c.if-not-is_repeat.false), w.if-run-ge2.false))
-    ]
+    let sum-is : (2 ≤ c.min-run.result) × (slice_index c.args.numbers.now c.min-run.result + 2 ≡ slice_index c.args.numbers.now 0) =
+    grind (arith, nat_tests, c.if-run-ge2.branch) in
+    rw (c.in-Packed.is, c.from-sum-in-Packed.ensures)
+    (along_repeat (rw c.in-Packed.is at c.requires.right) c.run_end-in-Packed.ensures c.min-run.ensures sum-is.0 sum-is.1)
 
 pub returns-in_default : goal.returns-in_default
 returns-in_default c =
-    let right = rw c.in-Packed.is at c.requires.right in
     let none = subst (λ (most : ℕ). NoLiteral c.args.numbers.now most) c.min.ensures c.in_default.ensures in
-    let r = no_literal_repeat c.args.old.now c.args.wanted.now c.args.numbers.now c.min-run.result c.run_end-in-Packed.result
-    c.requires.same c.requires.place.some right c.requires.needed c.run_end-in-Packed.ensures c.min-run.ensures none in
     rw (c.in-Packed.is, c.from-sum-in-Packed.ensures)
-    (along_repeat right c.run_end-in-Packed.ensures c.min-run.ensures r.0
-    r.1)
+    (no_literal_repeat c.args.old.now c.args.wanted.now c.args.numbers.now c.min-run.result c.run_end-in-Packed.result c.requires.same
+    c.requires.place.some (rw c.in-Packed.is at c.requires.right) c.requires.needed c.run_end-in-Packed.ensures c.min-run.ensures none)
 
 pub returns-in-Plain : goal.returns-in-Plain
 returns-in-Plain c = rw (c.in-Plain.is, c.from.ensures) (plain_choice c.requires.place.some)

@@ -9,11 +9,5 @@ returns c =
     let a = c.self.inside in
     let q = c.self.invariant in
     let some : a.taken < a.put =
-    omega (
-      arith,
-      c.requires,
-      ap (λ (v : Numbers). length v.numbers) c.self.view_is,
-      length-in_window a.numbers.now a.taken a.put q.put_within,
-    ) in
-    let l = queue_least q some in
-    subst (λ (v : Numbers). IsLeastOf v.numbers (slice_index a.numbers.now (slice_index a.places.now a.first))) c.self.view_is l.1
+    omega (arith, rw (← c.self.view_is) at c.requires, length-in_window a.numbers.now a.taken a.put q.put_within) in
+    rw (← c.self.view_is) (queue_least q some).1

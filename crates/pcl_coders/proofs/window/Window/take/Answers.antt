@@ -10,12 +10,7 @@ invariant_of-self c =
     let a = c.self.inside in
     let q = c.self.invariant in
     let some : a.taken < a.put =
-    omega (
-      arith,
-      c.requires,
-      ap (λ (v : Numbers). length v.numbers) c.self.view_is,
-      length-in_window a.numbers.now a.taken a.put q.put_within,
-    ) in
+    omega (arith, rw (← c.self.view_is) at c.requires, length-in_window a.numbers.now a.taken a.put q.put_within) in
     queue_take q some (grind (arith, c.if-self.branch)) (grind (arith, c.if-self.branch))
 
 pub returns-clause-numbers : goal.returns-clause-numbers
