@@ -1,8 +1,7 @@
 -- The first place from which no more data is needed.
-use Rattle.std.proofs.Common.{◌≡◌, ◌≢◌, ℕ, ◌+◌, ◌-◌, ◌<◌, ◌≤◌, List, length, get_or, drop, replicate, sym, ap, ◌∙◌, subst, inl, inr, arith}
-use Rattle.std.proofs.lemmas.Bool.{cases_lt}
+use Rattle.std.proofs.Common.{◌≡◌, ◌≢◌, ℕ, ◌+◌, ◌-◌, ◌<◌, ◌≤◌, List, length, get_or, drop, replicate, sym, ◌∙◌, arith}
 use Rattle.std.proofs.lemmas.List.{ext_get_or, drop-drop, length-drop, length-replicate, get_or-drop, get_or-replicate, get_or_past}
-use Rattle.pcl_bitmap.specs.Kernels.{IsFirstDifference, IsTrimmedLen}
+use Rattle.pcl_bitmap.specs.Kernels.{IsTrimmedLen}
 use Rattle.pcl_coders.specs.RowWalks.{Ends}
 use Rattle.pcl_coders.specs.inner.Filling.{IsFirstEnd}
 

@@ -1,5 +1,5 @@
 -- The best literal of a place, and the better of literals and repeats.
-use Rattle.std.proofs.Common.{◌≡◌, ℕ, ◌+◌, ◌-◌, ◌<◌, ◌≤◌, ◌⊎◌, min, List, length, set, drop, replicate, refl, ap, ◌∙◌, subst, inl, inr, arith}
+use Rattle.std.proofs.Common.{◌≡◌, ℕ, ◌+◌, ◌-◌, ◌<◌, ◌≤◌, ◌⊎◌, min, List, length, set, drop, replicate, refl, inl, inr, arith}
 use Rattle.std.specs.Prelude.{slice_index}
 use Rattle.std.proofs.lemmas.Bool.{cases_lt}
 use Rattle.std.proofs.lemmas.List.{length-drop, get_or-drop}
@@ -8,10 +8,10 @@ use Rattle.pcl_bitmap.specs.Kernels.{IsRunEnd}
 use Rattle.pcl_coders.specs.inner.Choosing.{IsLeastLen}
 use Rattle.pcl_coders.specs.inner.Filling.{AreRightFrom, IsBegun, IsLiteralEnd, HasLiteralEnd}
 use Rattle.pcl_coders.specs.declared.shape.Shape.{Shape}
-use Rattle.pcl_coders.specs.inner.Shape.{element_of, IsShapeChoice}
+use Rattle.pcl_coders.specs.inner.Shape.{IsShapeChoice}
 use Rattle.pcl_coders.specs.declared.shape.Shape.TheVariants.{LiteralRun, RepeatRun}
 use Rattle.pcl_coders.proofs.Prefixes.{run_len_of}
-use Rattle.pcl_coders.proofs.Choices.{literal_step, literal_choice, repeat_choice}
+use Rattle.pcl_coders.proofs.Choices.{literal_choice, repeat_choice}
 use Rattle.pcl_coders.proofs.Filling.{number_behind}
 use Rattle.pcl_coders.proofs.Places.{packed_shorten, longest_least, literal_bounds}
 

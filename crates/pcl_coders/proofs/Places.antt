@@ -7,18 +7,18 @@ use Rattle.std.proofs.lemmas.List.{drop-drop, length-drop, length-replicate, get
 use Rattle.pcl_base.proofs.Lists.{run_behind}
 use Rattle.pcl_base.specs.declared.method.Method.{Method}
 use Rattle.pcl_base.specs.declared.method.Method.TheVariants.{Plain, Runs, Packed, Delta}
-use Rattle.pcl_bitmap.specs.Kernels.{IsFirstDifference, IsRunEnd}
+use Rattle.pcl_bitmap.specs.Kernels.{IsRunEnd}
 use Rattle.pcl_rows.specs.Heads.{offset_of}
 use Rattle.pcl_rows.specs.Elements.{Element, IsElement, given, stop}
 use Rattle.pcl_coders.specs.RowWalks.{Agrees, Ends, cost}
 use Rattle.pcl_coders.specs.Starts.{IsLatestStart}
-use Rattle.pcl_coders.specs.inner.Choosing.{IsLeastLen, IsPlace}
+use Rattle.pcl_coders.specs.inner.Choosing.{IsLeastLen}
 use Rattle.pcl_coders.specs.inner.Replacement.{replacement_bytes}
 use Rattle.pcl_coders.specs.inner.Filling.{IsPlaceNumber, AreRightFrom, IsBegun}
 use Rattle.pcl_coders.specs.declared.shape.Shape.{Shape}
 use Rattle.pcl_coders.specs.declared.shape.Shape.TheVariants.{SingleByte, Run, LiteralRun, RepeatRun, Replace}
 use Rattle.pcl_coders.specs.inner.Shape.{element_of, IsShapeChoice}
-use Rattle.pcl_coders.proofs.Shapes.{IsRepeat, runs_shape, packed_shape, near_bytes, far_bytes}
+use Rattle.pcl_coders.proofs.Shapes.{IsRepeat, runs_shape, packed_shape}
 use Rattle.pcl_coders.proofs.Prefixes.{IsSameLen, run_len_of, same_len_of}
 use Rattle.pcl_coders.proofs.Choices.{agrees_gives, HasShapeElement, run_step, repeat_step, literal_step, step_choice, replace_step, delta_below, plain_choice, runs_choice}
 use Rattle.pcl_coders.proofs.Filling.{number_behind, number_of_choice, choice_small, right_more, ends_here, ends_behind}

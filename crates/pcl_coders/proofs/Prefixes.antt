@@ -1,8 +1,8 @@
 -- How far the bytes at the front of a list are alike.
-use Rattle.std.proofs.Common.{◌≡◌, ℕ, ◌+◌, ◌-◌, ◌*◌, ◌<◌, ◌≤◌, min, List, length, get_or, take, drop, replicate, refl, sym, ap, ◌∙◌, subst, inl, inr, arith}
+use Rattle.std.proofs.Common.{◌≡◌, ℕ, ◌+◌, ◌-◌, ◌≤◌, min, List, length, take, drop, replicate, inl, inr, arith}
 use Rattle.std.specs.Prelude.{slice_index}
 use Rattle.std.proofs.lemmas.Bool.{cases_lt}
-use Rattle.std.proofs.lemmas.List.{ext_get_or, get_or-take, get_or-drop, get_or-replicate, length-drop, length-take, length-take-le, length-replicate}
+use Rattle.std.proofs.lemmas.List.{ext_get_or, get_or-take, get_or-drop, get_or-replicate, length-drop, length-take, length-replicate}
 use Rattle.pcl_base.proofs.Lists.{run_byte}
 use Rattle.pcl_bitmap.specs.Kernels.{IsFirstDifference, IsRunEnd}
 use Rattle.pcl_coders.specs.inner.Choosing.{IsLeastLen}

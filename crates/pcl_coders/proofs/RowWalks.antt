@@ -1,12 +1,12 @@
 -- Whole data for a row is a walk from its first place, of the same cost, and each such walk is data.
-use Rattle.std.proofs.Common.{◌≡◌, ℕ, ◌+◌, ◌-◌, ◌<◌, ◌≤◌, ◌⊎◌, min, List, [], ◌∷◌, ◌++◌, length, take, drop, refl, sym, ap, ◌∙◌, subst, inl, inr, append_assoc, arith}
+use Rattle.std.proofs.Common.{◌≡◌, ℕ, ◌+◌, ◌-◌, ◌<◌, ◌≤◌, ◌⊎◌, List, [], ◌∷◌, ◌++◌, length, take, drop, refl, sym, ap, ◌∙◌, subst, inl, inr, append_assoc, arith}
 use Rattle.std.specs.List.{flat_map}
 use Rattle.std.proofs.lemmas.List.{append-nil, take_all, drop_at, drop-drop, length-append, length-take, length-drop, length-replicate}
 use Rattle.std.proofs.Math.Seq.{drop-nil}
 use Rattle.pcl_base.proofs.Lists.{length-copied}
 use Rattle.pcl_base.specs.declared.method.Method.{Method}
 use Rattle.pcl_base.specs.declared.method.Method.TheVariants.{Plain, Runs, Packed, Delta}
-use Rattle.pcl_rows.specs.Heads.{Head, Itself, Count, Literal, Skipped, Repeat, Near, Far, head_bytes, new_count, offset_of}
+use Rattle.pcl_rows.specs.Heads.{Head, Near, Far, head_bytes, new_count, offset_of}
 use Rattle.pcl_rows.specs.Elements.{Element, IsElement, AreElements, element_bytes, given, given_by, stop, reach}
 use Rattle.pcl_rows.specs.Rows.{base, after_element, after_elements, RowFrom, IsRowData}
 use Rattle.pcl_rows.proofs.Readings.{after_none, some_element}

@@ -1,12 +1,10 @@
 -- An earlier start of a replacement is never shorter than the latest.
-use Rattle.std.proofs.Common.{◌≡◌, ℕ, ◌+◌, ◌-◌, ◌≤◌, List, [], ◌∷◌, length, drop, sym, ap, ◌∙◌, subst, inl, inr, arith}
-use Rattle.std.specs.Prelude.{slice_index}
+use Rattle.std.proofs.Common.{◌≡◌, ℕ, ◌+◌, ◌-◌, ◌≤◌, List, [], ◌∷◌, length, drop, sym, inl, inr, arith}
 use Rattle.std.proofs.lemmas.Bool.{cases_lt}
-use Rattle.std.proofs.lemmas.List.{length-drop, get_or-drop}
+use Rattle.std.proofs.lemmas.List.{length-drop}
 use Rattle.pcl_base.specs.declared.method.Method.TheVariants.{Delta}
-use Rattle.pcl_bitmap.specs.Kernels.{IsFirstDifference}
 use Rattle.pcl_rows.specs.Heads.{offset_of}
-use Rattle.pcl_rows.specs.Elements.{Element, given}
+use Rattle.pcl_rows.specs.Elements.{Element}
 use Rattle.pcl_base.specs.Walks.{Walk, total}
 use Rattle.pcl_coders.specs.RowWalks.{Leads, Ends, cost}
 use Rattle.pcl_coders.specs.Starts.{IsLatestStart, StartsAt}
@@ -14,7 +12,6 @@ use Rattle.pcl_coders.specs.inner.Replacement.{replacement_bytes}
 use Rattle.pcl_coders.specs.declared.shape.Shape.TheVariants.{Replace}
 use Rattle.pcl_coders.specs.inner.Shape.{element_of}
 use Rattle.pcl_coders.proofs.Shapes.{delta_shape, replacement_is}
-use Rattle.pcl_coders.proofs.Prefixes.{IsSameLen, same_len_of}
 use Rattle.pcl_coders.proofs.Choices.{agrees_gives, replace_step}
 use Rattle.pcl_coders.proofs.Ends.{ends_at}
 use Rattle.pcl_coders.proofs.Places.{command_grows, command_joins, same_to_start}

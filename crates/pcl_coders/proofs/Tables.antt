@@ -1,5 +1,5 @@
 -- Tables that are known without being filled, and what a table of least numbers says of its places.
-use Rattle.std.proofs.Common.{◌≡◌, ℕ, zero, suc, ◌+◌, ◌-◌, ◌<◌, ◌≤◌, ◌⊎◌, List, [], ◌∷◌, ◌++◌, length, get_or, take, drop, replicate, refl, sym, ap, ◌∙◌, subst, inl, inr, arith}
+use Rattle.std.proofs.Common.{◌≡◌, ℕ, ◌+◌, ◌-◌, ◌⊎◌, List, [], ◌∷◌, ◌++◌, length, take, drop, refl, ap, ◌∙◌, subst, inl, inr, arith}
 use Rattle.std.specs.Prelude.{slice_index}
 use Rattle.std.proofs.lemmas.Bool.{cases_lt}
 use Rattle.std.proofs.lemmas.List.{length-take-le, drop_at, take-append-drop}
@@ -15,16 +15,10 @@ use Rattle.pcl_rows.proofs.Spellings.{spelling_has_byte}
 use Rattle.pcl_base.specs.Walks.{Walk, total}
 use Rattle.pcl_coders.specs.RowWalks.{Leads, Ends, cost, IsRowTable, IsLeastTable}
 use Rattle.pcl_coders.specs.Coding.{IsCodable, IsLeastLength, AppendsLeast}
-use Rattle.pcl_coders.specs.inner.Filling.{IsNext, AreRightFrom, IsFirstEnd, IsBegun}
-use Rattle.pcl_coders.specs.declared.shape.Shape.TheVariants.{SingleByte}
-use Rattle.pcl_coders.specs.inner.Shape.{element_of}
+use Rattle.pcl_coders.specs.inner.Filling.{IsNext, AreRightFrom, IsFirstEnd}
 use Rattle.pcl_base.proofs.Walks.{feasible_bounds}
 use Rattle.pcl_coders.proofs.RowWalks.{length-base, data_of_walk}
-use Rattle.pcl_coders.proofs.Shapes.{plain_shape}
-use Rattle.pcl_coders.proofs.Choices.{byte_step}
-use Rattle.pcl_coders.proofs.Filling.{table_is_least, first_is_least, row_table_small}
-use Rattle.pcl_coders.proofs.Ends.{ends_on, white_byte}
-use Rattle.pcl_coders.proofs.Places.{begun_right}
+use Rattle.pcl_coders.proofs.Filling.{row_table_small}
 
 -- where no data is needed at all
 pub none_least : {method : Method} {seed row : List ℕ} {end : ℕ} → IsCodable seed row → IsFirstEnd (base method seed) row end → end ≡ 0

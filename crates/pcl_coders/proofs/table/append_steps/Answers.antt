@@ -1,6 +1,5 @@
-use Rattle.std.proofs.Common.{◌≡◌, ℕ, List, ◌++◌, ap, ◌∙◌, arith, rules}
+use Rattle.std.proofs.Common.{◌≡◌, arith, rules}
 use Rattle.std.proofs.lemmas.List.{take_rest}
-use Rattle.pcl_coders.specs.inner.Shape.{element_of}
 use Rattle.std.specs.Prelude.{slice_index}
 use Rattle.pcl_rows.specs.Elements.{element_bytes}
 use Rattle.std.specs.List.{flat_map}

@@ -1,6 +1,4 @@
-use Rattle.std.proofs.Common.{◌<◌, length, ap, subst, arith}
-use Rattle.std.specs.Prelude.{slice_index}
-use Rattle.pcl_coders.specs.Windows.{Numbers, IsLeastOf}
+use Rattle.std.proofs.Common.{◌<◌, arith}
 use Rattle.pcl_coders.proofs.Queues.{length-in_window, queue_least}
 use Rattle.pcl_coders.proofs.window.Window.least.Goals as goal
 

@@ -1,5 +1,4 @@
-use Rattle.std.proofs.Common.{◌<◌, ◌++◌, [], ◌∷◌, length, ap, ◌∙◌, arith}
-use Rattle.pcl_coders.specs.Windows.{Numbers}
+use Rattle.std.proofs.Common.{◌<◌, length, arith}
 use Rattle.pcl_coders.proofs.Queues.{queue_put}
 use Rattle.pcl_coders.proofs.window.Window.put.Goals as goal
 use Rattle.pcl_coders.proofs.window.Window.put.Goals.{then-loop-stop-test+else-self-stop, else-loop-stop-test}
