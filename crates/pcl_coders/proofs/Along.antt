@@ -90,7 +90,8 @@ no_literal_repeat old wanted numbers run end size some right needed is run-is no
             | inl r ↦
                 let w = within_run run-len s.0 r g.0 g.2 in
                 let more : 2 ≤ run = omega (arith, w.0, r.above, r.below) in
-                let fall = falls Packed old wanted numbers 0 r.count run packed_shorten size right (omega arith) (omega (arith, w.0, r.below))
+                let fall : slice_index numbers run ≤ slice_index numbers r.count =
+                falls Packed old wanted numbers 0 r.count run packed_shorten size right (omega arith) (omega (arith, w.0, r.below))
                 (omega (arith, run-len.within)) in
                 let m = repeat_of_run old run-len run-is more in
                 let above = here.steps (element_of (RepeatRun run) wanted) m.element m.agrees in

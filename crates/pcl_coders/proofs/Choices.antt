@@ -1,7 +1,7 @@
 -- The best element of each method.
 use Rattle.std.proofs.Common.{◌≡◌, ℕ, ◌+◌, ◌-◌, ◌*◌, ◌<◌, ◌≤◌, min, List, ◌++◌, length, take, drop, replicate, refl, sym, ap, ◌∙◌, inl, inr, arith}
 use Rattle.std.specs.Prelude.{slice_index, flat_map}
-use Rattle.std.proofs.lemmas.List.{take_at, drop_at, drop-drop, take-append-drop, length-append, length-drop, length-take-le, length-replicate, get_or-drop}
+use Rattle.std.proofs.lemmas.List.{take_at, drop_at, drop-drop, take-append-drop, length-append, length-drop, length-take, length-take-le, length-replicate, get_or-drop}
 use Rattle.pcl_base.proofs.Lists.{once_each, run_part, first_byte}
 use Rattle.pcl_base.specs.declared.method.Method.{Method}
 use Rattle.pcl_base.specs.declared.method.Method.TheVariants.{Plain, Runs, Packed, Delta}
@@ -25,7 +25,7 @@ pub agrees_by : (old : List ℕ) {wanted : List ℕ} (e : Element) (k : ℕ) →
     → Agrees old wanted e × (stop e ≡ offset_of e.head + k)
 agrees_by old {wanted} e k left gives fits =
     let offset : ℕ = offset_of e.head in
-    let size : length (given e) ≡ k = ap length gives ∙ length-take-le k (drop offset wanted) (omega (arith, length-drop offset wanted)) in (
+    let size : length (given e) ≡ k = omega (arith, ap length gives, length-take k (drop offset wanted), length-drop offset wanted) in (
       cc (take-append-drop offset wanted, take-append-drop k (drop offset wanted), drop-drop k offset wanted),
       omega (arith, size),
     )
@@ -192,21 +192,3 @@ runs_choice {old} {wanted} {numbers} {run} {len} size is best =
     (run_step old best.above (omega (arith, best.below)) (omega (arith, best.below, is.within))
     (run_part wanted (slice_index wanted 0) (omega (arith, best.below)) is.equal))
     (omega (arith, best.above)) (omega (arith, best.sum_is)) (runs_below old numbers size is best.least)
-
-pub literal_choice : {old wanted numbers : List ℕ} {run len sum : ℕ} → length old ≡ length wanted → IsRunLen wanted run
-    → IsLeastLen numbers 1 (min (length wanted) 128) 1 1 len sum
-    → ((k : ℕ) → 2 ≤ k → k ≤ min run 128 → sum ≤ 2 + 0 * k + slice_index numbers k)
-    → IsShapeChoice Packed old wanted numbers (LiteralRun len) sum
-literal_choice {old} {wanted} {numbers} {len} size is best repeats =
-    step_choice (literal_step old wanted len best.above (omega (arith, best.below)) (omega (arith, best.below)))
-    (omega (arith, best.above)) (omega (arith, best.sum_is)) (packed_below old numbers size is best.least repeats)
-
-pub repeat_choice : {old wanted numbers : List ℕ} {run len sum : ℕ} → length old ≡ length wanted → IsRunLen wanted run
-    → IsLeastLen numbers 2 (min run 128) 2 0 len sum
-    → ((k : ℕ) → 1 ≤ k → k ≤ min (length wanted) 128 → sum ≤ 1 + 1 * k + slice_index numbers k)
-    → IsShapeChoice Packed old wanted numbers (RepeatRun len) sum
-repeat_choice {old} {wanted} {numbers} {run} {len} size is best literals =
-    step_choice
-    (repeat_step old best.above (omega (arith, best.below)) (omega (arith, best.below, is.within))
-    (run_part wanted (slice_index wanted 0) (omega (arith, best.below)) is.equal))
-    (omega (arith, best.above)) (omega (arith, best.sum_is)) (packed_below old numbers size is literals best.least)

@@ -28,7 +28,8 @@ one_byte : (method : Method) (old wanted : List ℕ) → 0 < length wanted → H
 one_byte Plain old wanted some = (SingleByte, 1, byte_step old wanted some, refl, omega arith)
 one_byte Runs old wanted some = (Run 1, 2, run_step old (omega arith) (omega arith) some (first_byte wanted some), refl, omega arith)
 one_byte Packed old wanted some = (LiteralRun 1, 2, literal_step old wanted 1 (omega arith) (omega arith) some, refl, omega arith)
-one_byte Delta old wanted some = (Replace 0 1, 2, replace_step old wanted 0 1 (omega arith) (omega arith) (omega arith) refl, refl, omega arith)
+one_byte Delta old wanted some =
+    (Replace 0 1, 2, replace_step old wanted 0 1 (omega arith) (omega arith) (omega arith) refl, refl, omega arith)
 
 -- ---- the numbers of a table
 

@@ -1,8 +1,9 @@
 -- The best literal of a place, and the better of literals and repeats.
-use Rattle.std.proofs.Common.{◌≡◌, ℕ, ◌+◌, ◌-◌, ◌<◌, ◌≤◌, ◌⊎◌, min, List, length, set, drop, replicate, refl, inl, inr, arith}
+use Rattle.std.proofs.Common.{◌≡◌, ℕ, ◌+◌, ◌-◌, ◌*◌, ◌<◌, ◌≤◌, ◌⊎◌, min, List, length, set, take, drop, replicate, refl, inl, inr, arith}
 use Rattle.std.specs.Prelude.{slice_index}
 use Rattle.std.proofs.lemmas.Bool.{cases_lt}
 use Rattle.std.proofs.lemmas.List.{length-drop, get_or-drop}
+use Rattle.pcl_base.proofs.Lists.{run_part}
 use Rattle.pcl_base.specs.declared.method.Method.TheVariants.{Packed}
 use Rattle.pcl_bitmap.specs.Kernels.{IsRunEnd}
 use Rattle.pcl_coders.specs.inner.Choosing.{IsLeastLen}
@@ -11,7 +12,7 @@ use Rattle.pcl_coders.specs.declared.shape.Shape.{Shape}
 use Rattle.pcl_coders.specs.inner.Shape.{IsShapeChoice}
 use Rattle.pcl_coders.specs.declared.shape.Shape.TheVariants.{LiteralRun, RepeatRun}
 use Rattle.pcl_coders.proofs.Prefixes.{run_len_of}
-use Rattle.pcl_coders.proofs.Choices.{literal_choice, repeat_choice}
+use Rattle.pcl_coders.proofs.Choices.{IsBelow, step_choice, repeat_step, literal_step, packed_below}
 use Rattle.pcl_coders.proofs.Filling.{number_behind}
 use Rattle.pcl_coders.proofs.Places.{packed_shorten, longest_least, literal_bounds}
 
@@ -65,30 +66,39 @@ pub packed_place : {row first table : List ℕ} {end place run_end best literal 
     → literal ≡ best - place + 1 + slice_index table best → (run_end ≡ place + 1 → repeat ≡ 65535)
     → (place + 1 < run_end → repeat ≡ slice_index table (min run_end (place + 128)) + 2) → number ≡ min literal repeat
     → (shape : Shape) × IsShapeChoice Packed (drop place (replicate (length row) 0)) (drop place row) (drop place table) shape number
-packed_place {row} {table} {place} {run_end} {best} {literal} {repeat} {number} begun size inside behind is run literal-is none
-    some number-is =
-    let old : List ℕ = replicate (length row) 0 in
-    let run-len = run_len_of (run_end - place) run (omega (arith, run.after)) in
-    let same : length (drop place old) ≡ length (drop place row) =
-    omega (arith, length-drop place old, length-drop place row, begun.same_size) in
-    let l = literal_least begun behind is literal-is in
+packed_place {row} {table} {place} {run_end} {best} {literal} {repeat} {number} begun size inside behind is run literal-is none some
+    number-is =
+    let old : List ℕ = drop place (replicate (length row) 0) in
+    let wanted : List ℕ = drop place row in
+    let len : ℕ = min (run_end - place) 128 in
+    let long = length-drop place row in
+    let is-run = run_len_of (run_end - place) run (omega (arith, run.after)) in
+    let at : min run_end (place + 128) ≡ place + len = omega (arith, run.after) in
+    let repeat-is : place + 1 < run_end → repeat ≡ slice_index table (place + len) + 2 = rw at at some in
     let small = (behind best (omega (arith, is.above)) (omega (arith, is.within, begun.first_end.within))).small in
-    elim (cases_lt (place + 1) run_end) [
-      | inr short ↦
-          let e : number ≡ literal = omega (arith, none (omega (arith, run.after)), is.near, begun.small) in
-          (LiteralRun (best - place), rw e (literal_choice same run-len l (λ k low high. absurd (omega arith))))
-      | inl more ↦
-          let len : ℕ = min (run_end - place) 128 in
-          let two : 2 ≤ min (run_end - place) 128 = omega arith in
-          let r = longest_least 128 packed_shorten begun.same_size behind run (omega arith) two refl in
-          let at : min run_end (place + 128) ≡ place + len = omega (arith, run.after) in
-          let repeat-is = rw at at (some more) in
-          elim (cases_lt repeat literal) [
-            | inl better ↦
-                let e : number ≡ slice_index table (place + len) + 2 = omega arith in
-                (RepeatRun len, rw e (repeat_choice same run-len r (λ k low high. omega (arith, l.least k low high))))
-            | inr worse ↦
-                let e : number ≡ literal = omega arith in
-                (LiteralRun (best - place), rw e (literal_choice same run-len l (λ k low high. omega (arith, r.least k low high))))
-          ]
+    let l = literal_least begun behind is literal-is in
+    let repeats : (k : ℕ) → 2 ≤ k → k ≤ len → number ≤ 2 + 0 * k + slice_index (drop place table) k =
+    λ k low high.
+    let two : 2 ≤ len = omega arith in
+    omega (
+      arith,
+      (longest_least 128 packed_shorten begun.same_size behind run (omega arith) two refl).least k low high,
+      repeat-is (omega arith),
+    ) in
+    let below : IsBelow Packed old wanted (drop place table) number =
+    packed_below old (drop place table) (omega (arith, length-drop {A = ℕ} place (replicate (length row) 0), long, begun.same_size)) is-run
+    (λ k low high. omega (arith, l.least k low high)) repeats in
+    elim (cases_lt repeat literal) [
+      | inl better ↦
+          let more : place + 1 < run_end = grind (arith, run.after, none, is.near, begun.small) in (
+            RepeatRun len,
+            step_choice (repeat_step old (omega arith) (omega arith) (omega (arith, is-run.within))
+                (run_part wanted (slice_index wanted 0) (omega arith) is-run.equal))
+                (omega arith) (omega (arith, repeat-is more, get_or-drop place table len 0)) below,
+          )
+      | inr worse ↦ (
+        LiteralRun (best - place),
+        step_choice (literal_step old wanted (best - place) l.above (omega (arith, l.below)) (omega (arith, l.below)))
+            (omega (arith, l.above)) (omega (arith, l.sum_is)) below,
+      )
     ]

@@ -58,8 +58,8 @@ overflow_cast-out c =
 pub loop-place-preserved : goal.loop-place-preserved
 loop-place-preserved c =
     let p = placed c in
+    let inside : c.loop-place.place - 1 < length c.args.row.now = omega (arith, c.loop-place.auto.place, c.requires.first_end.within) in
     record {
       right = rw c.command_bytes.ensures p.1;
-      next = λ _. rw c.command_bytes.ensures
-          (next_start_set (c.loop-place.auto.out ∙ c.requires.size) (omega (arith, c.loop-place.auto.place, c.requires.first_end.within)) p.0);
+      next = λ _. rw c.command_bytes.ensures (next_start_set (c.loop-place.auto.out ∙ c.requires.size) inside p.0);
     }
