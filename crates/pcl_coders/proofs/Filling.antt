@@ -11,14 +11,14 @@ use Rattle.pcl_base.specs.declared.method.Method.TheVariants.{Plain, Runs, Packe
 use Rattle.pcl_rows.specs.Elements.{Element, element_bytes, stop}
 use Rattle.pcl_rows.specs.Rows.{base, IsRowData}
 use Rattle.pcl_rows.proofs.Spellings.{spelling_has_byte}
-use Rattle.pcl_base.specs.Walks.{Walk, total, IsAttained, IsLeastCost}
+use Rattle.pcl_base.specs.Walks.{Walk, total, IsAttained}
 use Rattle.pcl_coders.specs.RowWalks.{Leads, Ends, cost, IsRowTable, IsLeastTable}
 use Rattle.pcl_coders.specs.Coding.{IsCodable, IsLeastLength, AppendsLeast}
 use Rattle.pcl_coders.specs.inner.Filling.{IsPlaceNumber, AreRightFrom, AppendsWalk}
 use Rattle.pcl_coders.specs.declared.shape.Shape.{Shape}
 use Rattle.pcl_coders.specs.declared.shape.Shape.TheVariants.{SingleByte, Run, LiteralRun, Replace}
 use Rattle.pcl_coders.specs.inner.Shape.{element_of, shape_stop, IsShapeChoice}
-use Rattle.pcl_base.proofs.Walks.{feasible_bounds, attained_is_least}
+use Rattle.pcl_base.proofs.Walks.{feasible_bounds}
 use Rattle.pcl_coders.proofs.RowWalks.{length-base, total_is, stop_within, walk_of_data, data_of_walk}
 use Rattle.pcl_coders.proofs.Choices.{HasShapeElement, byte_step, run_step, literal_step, replace_step}
 
@@ -158,13 +158,6 @@ first_is_least method seed row table codable is =
     let w = is.attained 0 (omega arith) in
     let l = least_along w.0 codable is.table_is w.1 w.2 in
     subst (IsLeastLength method seed row) (sym (total_is w.0) ∙ w.2) l.1
-
--- each number of the least table is the least cost of a walk from its place
-pub numbers_least : (method : Method) (seed row table : List ℕ) (place : ℕ) → IsLeastTable method seed row table → place ≤ length row
-    → IsLeastCost (Leads method (base method seed) row) (Ends (base method seed) row) cost place (slice_index table place)
-numbers_least method seed row table place is within =
-    attained_is_least is.table_is.feasible
-    place (is.attained place within)
 
 -- ---- appending
 

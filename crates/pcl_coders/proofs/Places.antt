@@ -6,7 +6,7 @@ use Rattle.std.proofs.lemmas.Bool.Decides.{nat_tests}
 use Rattle.std.proofs.lemmas.List.{drop-drop, length-drop, length-replicate, get_or-drop, get_or-set_same}
 use Rattle.pcl_base.proofs.Lists.{run_behind}
 use Rattle.pcl_base.specs.declared.method.Method.{Method}
-use Rattle.pcl_base.specs.declared.method.Method.TheVariants.{Plain, Runs, Packed, Delta}
+use Rattle.pcl_base.specs.declared.method.Method.TheVariants.{Runs, Packed, Delta}
 use Rattle.pcl_bitmap.specs.Kernels.{IsRunEnd}
 use Rattle.pcl_rows.specs.Heads.{offset_of}
 use Rattle.pcl_rows.specs.Elements.{Element, IsElement, given, stop}
@@ -16,11 +16,11 @@ use Rattle.pcl_coders.specs.inner.Choosing.{IsLeastLen}
 use Rattle.pcl_coders.specs.inner.Replacement.{replacement_bytes}
 use Rattle.pcl_coders.specs.inner.Filling.{IsPlaceNumber, AreRightFrom, IsBegun}
 use Rattle.pcl_coders.specs.declared.shape.Shape.{Shape}
-use Rattle.pcl_coders.specs.declared.shape.Shape.TheVariants.{SingleByte, Run, LiteralRun, RepeatRun, Replace}
+use Rattle.pcl_coders.specs.declared.shape.Shape.TheVariants.{Run, LiteralRun, RepeatRun, Replace}
 use Rattle.pcl_coders.specs.inner.Shape.{element_of, IsShapeChoice}
 use Rattle.pcl_coders.proofs.Shapes.{IsRepeat, runs_shape, packed_shape}
 use Rattle.pcl_coders.proofs.Prefixes.{IsSameLen, run_len_of, same_len_of}
-use Rattle.pcl_coders.proofs.Choices.{agrees_gives, HasShapeElement, run_step, repeat_step, literal_step, step_choice, replace_step, delta_below, plain_choice, runs_choice}
+use Rattle.pcl_coders.proofs.Choices.{agrees_gives, HasShapeElement, run_step, repeat_step, literal_step, step_choice, replace_step, delta_below, runs_choice}
 use Rattle.pcl_coders.proofs.Filling.{number_behind, number_of_choice, choice_small, right_more, ends_here, ends_behind}
 use Rattle.pcl_coders.proofs.Ends.{ends_on, ends_at, white_byte}
 
@@ -40,15 +40,6 @@ place_done {old} {row} {first} {table} {place} {sum} begun size inside behind c 
     let small = choice_small old row table within c (behind (place + 1) (omega arith) (omega arith)).small in
     let more : Ends old row place → ⊥ = λ e. omega (arith, begun.first_end.first place e) in
     (right_more sum behind (number_of_choice table within size more c small), small)
-
--- ---- method 0
-
-pub plain_place : {old row first : List ℕ} (table : List ℕ) {end place : ℕ} → IsBegun old row first end → length table ≡ length row + 1
-    → place < end
-    → IsShapeChoice Plain (drop place old) (drop place row) (drop place table) SingleByte (slice_index table (place + 1) + 1)
-plain_place {old} {row} table {place} begun size inside =
-    let at : slice_index table (place + 1) + 1 ≡ 1 + slice_index (drop place table) 1 = omega (arith, get_or-drop place table 1 0) in
-    rw at (plain_choice (omega (arith, begun.first_end.within, length-drop place row)))
 
 -- ---- methods 1 and 2: numbers never grow to the right
 

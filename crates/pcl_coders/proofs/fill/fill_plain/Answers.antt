@@ -1,7 +1,10 @@
-use Rattle.std.proofs.Common.{◌≡◌, ◌<◌, ◌+◌, ◌-◌, ℕ, length, ◌∙◌, subst, arith}
+use Rattle.std.proofs.Common.{drop, ◌≡◌, ◌<◌, ◌+◌, ◌-◌, ℕ, length, ◌∙◌, subst, arith}
+use Rattle.std.specs.Prelude.{slice_index}
+use Rattle.std.proofs.lemmas.List.{length-drop, get_or-drop}
 use Rattle.pcl_base.specs.declared.method.Method.TheVariants.{Plain}
 use Rattle.pcl_coders.specs.inner.Filling.{AreRightFrom, white_like}
-use Rattle.pcl_coders.proofs.Places.{begun_right, place_done, plain_place}
+use Rattle.pcl_coders.proofs.Choices.{plain_choice}
+use Rattle.pcl_coders.proofs.Places.{begun_right, place_done}
 use Rattle.pcl_coders.proofs.fill.fill_plain.Goals as goal
 
 pub loop-place-init : goal.loop-place-init
@@ -17,5 +20,6 @@ loop-place-preserved c =
     let inside : place < c.args.end = omega (arith, c.loop-place.auto.place) in
     let size : length out ≡ length row + 1 = c.loop-place.auto.out ∙ c.requires.size in
     let behind = subst (AreRightFrom Plain old row out) next c.loop-place.invariant in
-    (place_done c.requires size inside behind
-    (plain_place out c.requires size inside)).0
+    let at : slice_index out (place + 1) + 1 ≡ 1 + slice_index (drop place out) 1 = omega (arith, get_or-drop place out 1 0) in
+    let choice = plain_choice (omega (arith, c.requires.first_end.within, length-drop place row)) in
+    rw at (place_done c.requires size inside behind choice).0

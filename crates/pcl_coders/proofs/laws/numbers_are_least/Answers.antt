@@ -1,5 +1,5 @@
-use Rattle.pcl_coders.proofs.Filling.{numbers_least}
+use Rattle.pcl_base.proofs.Walks.{attained_is_least}
 use Rattle.pcl_coders.proofs.laws.numbers_are_least.Goals as goal
 
 pub returns : goal.returns
-returns c = numbers_least
+returns c method seed row table place is within = attained_is_least is.table_is.feasible place (is.attained place within)
