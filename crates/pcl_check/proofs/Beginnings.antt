@@ -115,27 +115,13 @@ no_raster dpi copies size rest read some none is =
     (same_size read some is))
 
 -- the number of a size that is found is its own
-found_by : {code : ℕ} {found : Size} (a b c d : Bool) → (code == 1) ≡ a → (code == 2) ≡ b → (code == 3) ≡ c → (code == 26) ≡ d
-    → (if a then Some Executive else (if b then Some Letter else (if c then Some Legal else (if d then Some A4 else None)))) ≡ Some found
-    → code ≡ code_of found
-found_by {code} {found} true b c d one two three last e =
-    let same : Executive ≡ found = cc in let is : code ≡ 1 = grind (arith, nat_tests) in is ∙ ap code_of same
-found_by {code} {found} false true c d one two three last e =
-    let same : Letter ≡ found = cc in let is : code ≡ 2 = grind (arith, nat_tests) in is ∙ ap code_of same
-found_by {code} {found} false false true d one two three last e =
-    let same : Legal ≡ found = cc in let is : code ≡ 3 = grind (arith, nat_tests) in is ∙ ap code_of same
-found_by {code} {found} false false false true one two three last e =
-    let same : A4 ≡ found = cc in let is : code ≡ 26 = grind (arith, nat_tests) in is ∙ ap code_of same
-found_by false false false false one two three last e = absurd cc
-
 found_code : {code : ℕ} {found : Size} → size_with_code code ≡ Some found → code ≡ code_of found
-found_code {code} e = found_by (code == 1) (code == 2) (code == 3) (code == 26) refl refl refl refl e
+found_code {code} {found} e = grind (arith, nat_tests)
 
 -- a size and a resolution that are known
 pub raster_at : {bytes : List ℕ} {size known : Size} {dpi fine : Dpi} → size ≡ known → dpi ≡ fine → bytes ≡ raster_start known fine
     → bytes ≡ raster_start size dpi
-raster_at {size} {fine} s d e =
-    e ∙ sym (ap (λ (z : Size). raster_start z fine) s) ∙ sym (ap (λ (z : Dpi). raster_start size z) d)
+raster_at s d e = rw (s, d) e
 
 pub begun : (dpi : Dpi) (text : List ℕ) (n code : ℕ) (more : List ℕ) (found : Size) (rest : List ℕ) → IsSize text n code more
     → size_with_code code ≡ Some found → more ≡ raster_start found dpi ++ rest → text ≡ start_bytes dpi n found ++ rest

@@ -1,5 +1,5 @@
 -- Good numbers by where the white rows end, and by the rows.
-use Rattle.std.proofs.Common.{◌≡◌, ℕ, ◌-◌, ◌≤◌, Bool, true, false, List, length, drop, refl, sym, subst, inl, inr, arith}
+use Rattle.std.proofs.Common.{◌≡◌, ℕ, ◌-◌, ◌≤◌, Bool, true, false, List, length, drop, refl, sym, inl, inr, arith}
 use Rattle.std.specs.Prelude.{slice_index}
 use Rattle.std.proofs.lemmas.Bool.{cases_lt}
 use Rattle.pcl_base.specs.declared.method.Method.{Method}
@@ -50,22 +50,22 @@ ends_of_skips {rows} {ends} number {row} are le good = λ count inside some with
 
 -- ---- all steps
 
-pub good_by_rows : {rows : List (List ℕ)} {ends : List ℕ} (Counts : ℕ → Method → ℕ → Type 0) (number : Node → ℕ) {row : ℕ} (method : Method)
-    (inside : Bool) → AreRunEnds rows ends 0 → row ≤ length rows → IsGoodBy ends (length rows) Counts number row method inside
-    → IsGoodNumber rows Counts number row method inside
-good_by_rows Counts number method false are le good = outside_of_start are le good
-good_by_rows Counts number method true are le good = record {
+pub good_by_rows : {rows : List (List ℕ)} {ends : List ℕ} {last : ℕ} (Counts : ℕ → Method → ℕ → Type 0) (number : Node → ℕ) {row : ℕ}
+    (method : Method) (inside : Bool) → AreRunEnds rows ends 0 → length rows ≡ last → row ≤ last
+    → IsGoodBy ends last Counts number row method inside → IsGoodNumber rows Counts number row method inside
+good_by_rows Counts number method false are count le good = outside_of_start are (omega arith) good
+good_by_rows Counts number method true are count le good = record {
   switches = good.0;
-  skips = skips_of_ends number are le good.2;
-  sends = good.1;
+  skips = skips_of_ends number are (omega arith) good.2;
+  sends = λ bytes inside. good.1 bytes (omega arith);
 }
 
-pub good_by_ends : {rows : List (List ℕ)} {ends : List ℕ} (Counts : ℕ → Method → ℕ → Type 0) (number : Node → ℕ) {row : ℕ} (method : Method)
-    (inside : Bool) → AreRunEnds rows ends 0 → row ≤ length rows → IsGoodNumber rows Counts number row method inside
-    → IsGoodBy ends (length rows) Counts number row method inside
-good_by_ends Counts number method false are le good = start_of_outside are le good
-good_by_ends Counts number method true are le good =
-    (good.switches, good.sends, ends_of_skips number are le good.skips)
+pub good_by_ends : {rows : List (List ℕ)} {ends : List ℕ} {last : ℕ} (Counts : ℕ → Method → ℕ → Type 0) (number : Node → ℕ) {row : ℕ}
+    (method : Method) (inside : Bool) → AreRunEnds rows ends 0 → length rows ≡ last → row ≤ last
+    → IsGoodNumber rows Counts number row method inside → IsGoodBy ends last Counts number row method inside
+good_by_ends Counts number method false are count le good = start_of_outside are (omega arith) good
+good_by_ends Counts number method true are count le good =
+    (good.switches, λ bytes inside. good.sends bytes (omega arith), ends_of_skips number are (omega arith) good.skips)
 
 -- ---- one kind after the other
 
@@ -77,33 +77,19 @@ InParts ends last Counts number method =
 pub good_of_parts : (ends : List ℕ) {last : ℕ} (Counts : ℕ → Method → ℕ → Type 0) (number : Node → ℕ) {method : Method} {row : ℕ}
     {current : Method} (inside : Bool) → InParts ends last Counts number method row current inside
     → IsGoodIn ends last Counts number method row current inside
-good_of_parts ends Counts number {row} false parts = λ same.
-    subst (λ (m : Method). IsGoodStart ends number m row) (sym same) (parts.0.0 same refl)
-good_of_parts ends {last} Counts number {row} true parts = λ same. (
-  subst (λ (m : Method). AreGoodSwitches number m row) (sym same) (parts.0.1 same refl),
-  subst (λ (m : Method). IsGoodSending last Counts number m row) (sym same) (parts.1.0 same refl),
-  subst (λ (m : Method). AreGoodSkipsTo ends number m row) (sym same) (parts.1.1 same refl),
-)
+good_of_parts ends Counts number false parts = λ same. rw same (parts.0.0 same refl)
+good_of_parts ends Counts number true parts = λ same. rw same (parts.0.1 same refl, parts.1.0 same refl, parts.1.1 same refl)
 
 pub parts_of_good : (ends : List ℕ) {last : ℕ} (Counts : ℕ → Method → ℕ → Type 0) (number : Node → ℕ) {method : Method} {row : ℕ}
     {current : Method} (inside : Bool) → IsGoodIn ends last Counts number method row current inside
     → InParts ends last Counts number method row current inside
-parts_of_good ends Counts number {row} false good = (
-  (
-    λ same here. subst (λ (m : Method). IsGoodStart ends number m row) same (good same),
-    λ same here. (let no : false ≡ true = here in absurd cc),
-  ),
-  (λ same here. (let no : false ≡ true = here in absurd cc), λ same here. (let no : false ≡ true = here in absurd cc)),
+parts_of_good ends Counts number false good = (
+  (λ same here. rw (sym same) (good same), λ same here. absurd cc),
+  (λ same here. absurd cc, λ same here. absurd cc),
 )
-parts_of_good ends {last} Counts number {row} true good = (
-  (
-    λ same here. (let no : true ≡ false = here in absurd cc),
-    λ same here. subst (λ (m : Method). AreGoodSwitches number m row) same (good same).0,
-  ),
-  (
-    λ same here. subst (λ (m : Method). IsGoodSending last Counts number m row) same (good same).1,
-    λ same here. subst (λ (m : Method). AreGoodSkipsTo ends number m row) same (good same).2,
-  ),
+parts_of_good ends Counts number true good = (
+  (λ same here. absurd cc, λ same here. rw (sym same) (good same).0),
+  (λ same here. rw (sym same) (good same).1, λ same here. rw (sym same) (good same).2),
 )
 
 -- ---- one method after the other

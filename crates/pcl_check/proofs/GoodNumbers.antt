@@ -33,11 +33,10 @@ steps_from : (width : ℕ) (rows : List (List ℕ)) (Counts : ℕ → Method →
     → {current : Method} (is_open : Bool) (token : Token) (b : Node) → IsGoodNumber rows Counts number row current is_open
     → Leads width rows (node row current is_open) token b
     → number (node row current is_open) ≤ cost token + number b
-steps_from width rows Counts number few sends true opening b good l = let no : true ≡ false = l.0 in absurd cc
+steps_from width rows Counts number few sends true opening b good l = absurd cc
 steps_from width rows Counts number few sends false opening b good l =
     omega (arith, good.opens, cost_opening, ap number l.1)
-steps_from width rows Counts number few sends false (method digits next ends) b good l =
-    let no : false ≡ true = l.0 in absurd cc
+steps_from width rows Counts number few sends false (method digits next ends) b good l = absurd cc
 steps_from width rows Counts number few sends true (method digits next ends) b good l =
     omega (
       arith,
@@ -46,8 +45,7 @@ steps_from width rows Counts number few sends true (method digits next ends) b g
       spelled_long digits l.1 (omega (arith, method_small next)),
       ap number l.2,
     )
-steps_from width rows Counts number few sends false (skip digits count ends) b good l =
-    let no : false ≡ true = l.0 in absurd cc
+steps_from width rows Counts number few sends false (skip digits count ends) b good l = absurd cc
 steps_from width rows Counts number few sends true (skip digits count ends) b good l =
     omega (
       arith,
@@ -56,8 +54,7 @@ steps_from width rows Counts number few sends true (skip digits count ends) b go
       spelled_long digits l.1 (omega (arith, l.3, few)),
       ap number l.5,
     )
-steps_from width rows Counts number few sends false (send digits bytes) b good l =
-    let no : false ≡ true = l.0 in absurd cc
+steps_from width rows Counts number few sends false (send digits bytes) b good l = absurd cc
 steps_from width rows Counts number {row} few sends {current} true (send digits bytes) b good l =
     omega (
       arith,
@@ -69,7 +66,7 @@ steps_from width rows Counts number {row} few sends {current} true (send digits 
 
 end_from : (rows : List (List ℕ)) (Counts : ℕ → Method → ℕ → Type 0) (number : Node → ℕ) {row : ℕ} {current : Method} (is_open : Bool)
     → IsGoodNumber rows Counts number row current is_open → Ends rows (node row current is_open) → number (node row current is_open) ≡ 0
-end_from rows Counts number true good end = let no : true ≡ false = end.0 in absurd cc
+end_from rows Counts number true good end = absurd cc
 end_from rows Counts number false good end = good.ends end.1
 
 feasible_by_sends : (width : ℕ) {rows : List (List ℕ)} (table : List RowNumbers) (Counts : ℕ → Method → ℕ → Type 0) → length rows ≤ 65535

@@ -25,24 +25,16 @@ use Rattle.pcl_check.proofs.Fronts.{letter_code, letter_is, left_over, white_row
 -- ---- letters and methods
 
 pub letters_77_89 : (a b : Bool) → letter_code 77 a ≡ letter_code 89 b → ⊥
-letters_77_89 true true e = omega arith
-letters_77_89 true false e = omega arith
-letters_77_89 false true e = omega arith
-letters_77_89 false false e = omega arith
+letters_77_89 a b e = grind arith
 
 pub letters_77_87 : (a : Bool) → letter_code 77 a ≡ 87 → ⊥
-letters_77_87 true e = omega arith
-letters_77_87 false e = omega arith
+letters_77_87 a e = grind arith
 
 pub letters_89_87 : (a : Bool) → letter_code 89 a ≡ 87 → ⊥
-letters_89_87 true e = omega arith
-letters_89_87 false e = omega arith
+letters_89_87 a e = grind arith
 
 pub same_case : (capital : ℕ) (a b : Bool) → letter_code capital a ≡ letter_code capital b → a ≡ b
-same_case capital true true e = refl
-same_case capital true false e = absurd (omega arith)
-same_case capital false true e = absurd (omega arith)
-same_case capital false false e = refl
+same_case capital a b e = grind arith
 
 pub with_code : (m : Method) → method_with_code (method_code m) ≡ Some m
 with_code Plain = refl

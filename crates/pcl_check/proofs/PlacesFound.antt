@@ -1,5 +1,5 @@
 -- The first place of which one of two facts doesn't hold.
-use Rattle.std.proofs.Common.{◌≡◌, ℕ, ◌+◌, ◌<◌, ◌≤◌, min, sym, subst, inl, inr, arith}
+use Rattle.std.proofs.Common.{◌≡◌, ℕ, zero, suc, ◌+◌, ◌<◌, ◌≤◌, min, sym, subst, inl, inr, arith}
 use Rattle.std.specs.Prelude.{Option, Some, None, MatchOption}
 use Rattle.std.proofs.lemmas.Bool.{cases_lt}
 use Rattle.pcl_check.specs.Places.{IsFirstPlace, FindsPlace}
@@ -9,50 +9,65 @@ use Rattle.pcl_check.specs.inner.PlacePasses.{first_found_place}
 abbrev pub And : (ℕ → Type 0) → (ℕ → Type 0) → ℕ → Type 0
 And One Other place = One place × Other place
 
+-- the first bad place of one fact is that of another which differs from it at no place up to there
+first_too : (One Other : ℕ → Type 0) {last place : ℕ} → (Other place → One place) → ((k : ℕ) → k < place → One k → Other k)
+    → IsFirstPlace One last place → IsFirstPlace Other last place
+first_too One Other back to found = record {
+  within = found.within;
+  is_bad = λ other. found.is_bad (back other);
+  first = λ k lt. to k lt (found.first k lt);
+}
+
 pub finds_both : (One Other : ℕ → Type 0) (last : ℕ) (one other : Option ℕ) → FindsPlace One last one → FindsPlace Other last other
     → FindsPlace (And One Other) last (first_found_place one other)
 finds_both One Other last None None a b = λ place le. (a place le, b place le)
-finds_both One Other last None (Some bad) a b = record {
-  within = b.within;
-  is_bad = λ both. b.is_bad both.1;
-  first = λ before lt. (a before (omega (arith, lt, b.within)), b.first before lt);
-}
-finds_both One Other last (Some bad) None a b = record {
-  within = a.within;
-  is_bad = λ both. a.is_bad both.0;
-  first = λ before lt. (a.first before lt, b before (omega (arith, lt, a.within)));
-}
+finds_both One Other last None (Some bad) a b =
+    first_too Other (And One Other) (λ both. both.1) (λ k lt here. (a k (omega (arith, b.within)), here)) b
+finds_both One Other last (Some bad) None a b =
+    first_too One (And One Other) (λ both. both.0) (λ k lt here. (here, b k (omega (arith, a.within)))) a
 finds_both One Other last (Some x) (Some y) a b =
     elim (cases_lt y x) [
       | inl less ↦
           let e : min x y ≡ y = omega arith in
-          subst (IsFirstPlace (And One Other) last) (sym e)
-          (record {
-            within = b.within;
-            is_bad = λ both. b.is_bad both.1;
-            first = λ before lt. (a.first before (omega (arith, lt, less)), b.first before lt);
-          })
+          rw e (first_too Other (And One Other) (λ both. both.1) (λ k lt here. (a.first k (omega arith), here)) b)
       | inr more ↦
           let e : min x y ≡ x = omega arith in
-          subst (IsFirstPlace (And One Other) last) (sym e)
-          (record {
-            within = a.within;
-            is_bad = λ both. a.is_bad both.0;
-            first = λ before lt. (a.first before lt, b.first before (omega (arith, lt, more)));
-          })
+          rw e (first_too One (And One Other) (λ both. both.0) (λ k lt here. (here, b.first k (omega arith))) a)
     ]
+
+-- the first place that is bad by one of four facts
+pub first_of_four : (A B C D : ℕ → Type 0) (last : ℕ) (a b c d : Option ℕ) {one other found : Option ℕ}
+    → FindsPlace A last a → FindsPlace B last b → FindsPlace C last c → FindsPlace D last d
+    → one ≡ first_found_place a b → other ≡ first_found_place c d → found ≡ first_found_place one other
+    → FindsPlace (And (And A B) (And C D)) last found
+first_of_four A B C D last a b c d finds_a finds_b finds_c finds_d first second all =
+    rw (all, first, second) (finds_both (And A B) (And C D) last (first_found_place a b) (first_found_place c d)
+    (finds_both A B last a b finds_a finds_b) (finds_both C D last c d finds_c finds_d))
 
 -- another fact that says the same
 pub finds_place_too : (One Other : ℕ → Type 0) {last : ℕ} (found : Option ℕ) → ((place : ℕ) → place ≤ last → One place → Other place)
     → ((place : ℕ) → place ≤ last → Other place → One place) → FindsPlace One last found → FindsPlace Other last found
 finds_place_too One Other None to back found = λ place le. to place le (found place le)
-finds_place_too One Other (Some bad) to back found = record {
-  within = found.within;
-  is_bad = λ other. found.is_bad (back bad found.within other);
-  first = λ before lt. to before (omega (arith, lt, found.within)) (found.first before lt);
-}
+finds_place_too One Other (Some bad) to back found =
+    first_too One Other (back bad found.within) (λ k lt. to k (omega (arith, found.within))) found
 
 -- ---- found from the end
+
+-- what holds at a place and from the next one on holds from there on
+pub from_before : (Good : ℕ → Type 0) {place : ℕ} → Good place → ((k : ℕ) → place + 1 ≤ k → Good k) → (k : ℕ) → place ≤ k → Good k
+from_before Good {place} here later k from =
+    elim (cases_lt place k) [
+      | inl past ↦ later k (omega arith)
+      | inr at ↦ let same : place ≡ k = omega arith in subst Good same here
+    ]
+
+-- what holds from a place on, and at each place before if at the next one, holds at all places
+pub down_to_first : (Good : ℕ → Type 0) (from : ℕ) → ((k : ℕ) → k < from → Good (k + 1) → Good k) → ((k : ℕ) → from ≤ k → Good k)
+    → (k : ℕ) → Good k
+down_to_first Good zero before good k = good k (omega arith)
+down_to_first Good (suc from) before good k =
+    down_to_first Good from (λ j lt. before j (omega arith))
+    (from_before Good (before from (omega arith) (good (from + 1) (omega arith))) (λ j le. good j (omega arith))) k
 
 -- the first place from one on
 pub record IsFirstFrom (Good : ℕ → Type 0) (from last place : ℕ) : Type 0 where
@@ -67,20 +82,12 @@ FindsFrom Good from last found =
 
 pub found_good : (Good : ℕ → Type 0) {place : ℕ} (last : ℕ) (found : Option ℕ) → Good place → FindsFrom Good (place + 1) last found
     → FindsFrom Good place last found
-found_good Good {place} last None here found = λ k from within.
-    elim (cases_lt place k) [
-      | inl past ↦ found k (omega arith) within
-      | inr at ↦ let same : place ≡ k = omega arith in subst Good same here
-    ]
-found_good Good {place} last (Some bad) here found = record {
+found_good Good last None here found = from_before (λ k. k ≤ last → Good k) (λ _. here) found
+found_good Good last (Some bad) here found = record {
   order = omega (arith, found.order);
   within = found.within;
   is_bad = found.is_bad;
-  first = λ k from lt.
-      elim (cases_lt place k) [
-        | inl past ↦ found.first k (omega arith) lt
-        | inr at ↦ let same : place ≡ k = omega arith in subst Good same here
-      ];
+  first = from_before (λ k. k < bad → Good k) (λ _. here) found.first;
 }
 
 pub found_bad : (Good : ℕ → Type 0) {place last : ℕ} → place ≤ last → (Good place → ⊥) → FindsFrom Good place last (Some place)

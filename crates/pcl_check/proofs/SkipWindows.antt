@@ -24,15 +24,7 @@ pub skips_by_window : (ends : List ℕ) (number : Node → ℕ) {method : Method
 skips_by_window ends number {method} digits {most} {row} is le = λ count inside some few within.
     let size = length_values (λ y. rest number y method) (row + 1) (last_of ends most row - row) in
     let at = value_in (λ y. rest number y method) (row + 1) (last_of ends most row - row) (count - 1) (omega arith) in
-    let there : row + 1 + (count - 1) ≡ row + count = omega arith in
-    omega (
-      arith,
-      le,
-      is.below (count - 1) (omega (arith, size)),
-      at,
-      ap (λ (y : ℕ). rest number y method) there,
-      rest_below number (row + count) method inside,
-    )
+    grind (arith, le, is.below (count - 1) (omega (arith, size)), at, rest_below number (row + count) method inside)
 
 pub window_by_skips : (ends : List ℕ) (number : Node → ℕ) {method : Method} (digits : ℕ) {most row least : ℕ}
     → IsLeastOf (rests number method (row + 1) (last_of ends most row - row)) least
@@ -80,25 +72,16 @@ by_digits ends number method row good = record {
 
 pub all_digits : {ends : List ℕ} {last : ℕ} (number : Node → ℕ) (method : Method) {row : ℕ} → AreEnds ends last → row ≤ last
     → AreGoodByDigits ends number method row → AreGoodSkipsTo ends number method row
-all_digits number method {row} are le good = λ count inside some within.
+all_digits number method {row = row} are le good = λ count inside some within.
     let few : count ≤ 9999 = omega (arith, are.within row le, are.few) in
-    elim (cases_lt count 10) [
-      | inl digit ↦
-          omega (arith, good.one count inside some (omega arith) within, count_is 0 count (omega arith) (omega arith) (omega arith))
-      | inr many ↦
-          elim (cases_lt count 100) [
-            | inl digits ↦
-                omega (arith, good.two count inside some (omega arith) within, count_is 1 count (omega arith) (omega arith) (omega arith))
-            | inr hundreds ↦
-                elim (cases_lt count 1000) [
-                  | inl digits ↦
-                      omega (
-                        arith,
-                        good.three count inside some (omega arith) within,
-                        count_is 2 count (omega arith) (omega arith) (omega arith),
-                      )
-                  | inr thousands ↦
-                      omega (arith, good.four count inside some few within, count_is 3 count (omega arith) (omega arith) (omega arith))
-                ]
-          ]
-    ]
+    grind (
+      arith,
+      good.one count inside some,
+      good.two count inside some,
+      good.three count inside some,
+      good.four count inside some,
+      count_is 0 count,
+      count_is 1 count,
+      count_is 2 count,
+      count_is 3 count,
+    )

@@ -42,23 +42,8 @@ cased (inr e) = (false, e, grind (arith, nat_tests))
 
 -- ---- methods
 
-none_past : (n : ℕ) → 3 < n → method_with_code n ≡ None
-none_past n lt =
-    let a : (n == 0) ≡ false = grind (arith, nat_tests) in
-    let b : (n == 1) ≡ false = grind (arith, nat_tests) in
-    let c : (n == 2) ≡ false = grind (arith, nat_tests) in
-    let d : (n == 3) ≡ false = grind (arith, nat_tests) in
-    rw (a, b, c, d) refl
-
 of_code : (number : ℕ) {m : Method} → method_with_code number ≡ Some m → number ≡ method_code m
-of_code zero {m} e = let same : ◌≡◌ {A = Option Method} (Some Plain) (Some m) = e in let is : Plain ≡ m = cc in ap method_code is
-of_code (suc zero) {m} e = let same : ◌≡◌ {A = Option Method} (Some Runs) (Some m) = e in let is : Runs ≡ m = cc in ap method_code is
-of_code (suc (suc zero)) {m} e =
-    let same : ◌≡◌ {A = Option Method} (Some Packed) (Some m) = e in let is : Packed ≡ m = cc in ap method_code is
-of_code (suc (suc (suc zero))) {m} e =
-    let same : ◌≡◌ {A = Option Method} (Some Delta) (Some m) = e in let is : Delta ≡ m = cc in ap method_code is
-of_code (suc (suc (suc (suc n)))) {m} e =
-    let same : ◌≡◌ {A = Option Method} None (Some m) = sym (none_past (suc (suc (suc (suc n)))) (omega arith)) ∙ e in absurd cc
+of_code number {m} e = grind (arith, nat_tests)
 
 pub no_switch : (picture : Picture) {size : Size} {above : List ℕ} (place : Place) {parameter : Parameter} → place.inside ≡ true
     → IsParameter place.text.now parameter → (parameter.letter ≡ 77) ⊎ (parameter.letter ≡ 109)

@@ -18,15 +18,11 @@ pub values_joined : (value : ℕ → ℕ) (from one other : ℕ) → values valu
     ≡ values value from one ++ values value (from + one) other
 unfolding values
 values_joined value from zero other =
-    let count : 0 + other ≡ other = omega arith in
-    let start : from ≡ from + 0 = omega arith in
-    ap (values value from) count ∙ ap (λ (place : ℕ). values value place other) start
+    let count : 0 + other ≡ other = omega arith in let start : from ≡ from + 0 = omega arith in cc
 values_joined value from (suc one) other =
     let count : suc one + other ≡ suc (one + other) = omega arith in
     let start : from + 1 + one ≡ from + suc one = omega arith in
-    ap (values value from) count
-    ∙ ap (λ (rest : List ℕ). value from ∷ rest) (values_joined value (from + 1) one other
-    ∙ ap (λ (place : ℕ). values value (from + 1) one ++ values value place other) start)
+    let rest = values_joined value (from + 1) one other in cc
 
 pub values_rest : (value : ℕ → ℕ) (from count : ℕ) → 0 < count → drop 1 (values value from count) ≡ values value (from + 1) (count - 1)
 unfolding values

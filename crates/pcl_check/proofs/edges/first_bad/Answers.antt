@@ -14,7 +14,7 @@ use Rattle.pcl_check.specs.Edges.{FindsBad, IsGoodNumber}
 use Rattle.pcl_check.specs.inner.EdgePasses.{Both, AreRunEnds, AreEnds, IsGoodBy, IsGoodIn, first_found}
 use Rattle.pcl_base.proofs.PageBounds.{height_small}
 use Rattle.pcl_check.proofs.RunEnds.{ends_known}
-use Rattle.pcl_check.proofs.Found.{first_finds, finds_too}
+use Rattle.pcl_check.proofs.Found.{first_of_four, finds_too}
 use Rattle.pcl_check.proofs.EdgesByRows.{InMethods, good_of_methods, methods_of_good, good_by_rows, good_by_ends}
 use Rattle.pcl_check.proofs.edges.first_bad.Goals as goal
 
@@ -51,24 +51,13 @@ returns g c =
     let count = rows_of_page page in
     let Counts : ℕ → Method → ℕ → Type 0 = g.L.RowLengths.counts c.args.lengths.now page in
     let In : Method → ℕ → Method → Bool → Type 0 = IsGoodIn ends last Counts number in
-    let one = first_found c.first_bad_in-plain.result c.first_bad_in-runs.result in
-    let other = first_found c.first_bad_in-packed.result c.first_bad_in-delta.result in
-    let all = first_finds (Both (In Plain) (In Runs)) (Both (In Packed) (In Delta)) last one other
-    (first_finds (In Plain) (In Runs) last c.first_bad_in-plain.result c.first_bad_in-runs.result c.first_bad_in-plain.ensures
-    c.first_bad_in-runs.ensures)
-    (first_finds (In Packed) (In Delta) last c.first_bad_in-packed.result c.first_bad_in-delta.result c.first_bad_in-packed.ensures
-    c.first_bad_in-delta.ensures) in
-    let found : c.first_of-3.result ≡ first_found one other =
-    c.first_of-3.ensures ∙ ap (λ (a : Option Node). first_found a c.first_of-2.result) c.first_of.ensures
-    ∙ ap (first_found one) c.first_of-2.ensures in
-    subst (FindsBad (IsGoodNumber rows Counts number) last) (sym found)
-    (finds_too (InMethods ends last Counts number) (IsGoodNumber rows Counts number) (first_found one other)
+    finds_too (InMethods ends last Counts number) (IsGoodNumber rows Counts number) c.first_of-3.result
     (λ row method inside le good.
-    good_by_rows Counts number method inside c.fill_run_ends.ensures (omega (arith, count))
-    (subst (λ (n : ℕ). IsGoodBy ends n Counts number row method inside) (sym count)
-    (good_of_methods ends last Counts number row method inside good)))
+    good_by_rows Counts number method inside c.fill_run_ends.ensures count le
+    (good_of_methods ends last Counts number row method inside good))
     (λ row method inside le good.
     methods_of_good ends last Counts number row inside
-    (subst (λ (n : ℕ). IsGoodBy ends n Counts number row method inside) count
-    (good_by_ends Counts number method inside c.fill_run_ends.ensures (omega (arith, count)) good)))
-    all)
+    (good_by_ends Counts number method inside c.fill_run_ends.ensures count le good))
+    (first_of_four (In Plain) (In Runs) (In Packed) (In Delta) last c.first_bad_in-plain.result c.first_bad_in-runs.result
+    c.first_bad_in-packed.result c.first_bad_in-delta.result c.first_bad_in-plain.ensures c.first_bad_in-runs.ensures
+    c.first_bad_in-packed.ensures c.first_bad_in-delta.ensures c.first_of.ensures c.first_of-2.ensures c.first_of-3.ensures)

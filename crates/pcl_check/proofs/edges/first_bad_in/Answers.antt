@@ -6,7 +6,7 @@ use Rattle.pcl_output.specs.Table.{node_number}
 use Rattle.pcl_output.specs.declared.node.Node.{Node}
 use Rattle.pcl_check.specs.Edges.{FindsBad, AreGoodSwitches}
 use Rattle.pcl_check.specs.inner.EdgePasses.{At, Both, IsGoodStart, IsGoodSending, AreGoodSkipsTo, IsGoodIn, first_found}
-use Rattle.pcl_check.proofs.Found.{first_finds, finds_too}
+use Rattle.pcl_check.proofs.Found.{first_of_four, finds_too}
 use Rattle.pcl_check.proofs.EdgesByRows.{InParts, good_of_parts, parts_of_good}
 use Rattle.pcl_check.proofs.edges.first_bad_in.Goals as goal
 
@@ -26,15 +26,9 @@ returns g c =
     let start = subst (λ (n : ℕ). FindsBad Start n c.first_bad_start-outside.result) rows c.first_bad_start-outside.ensures in
     let switch = subst (λ (n : ℕ). FindsBad Switches n c.first_bad_switch-switch.result) rows c.first_bad_switch-switch.ensures in
     let skip = subst (λ (n : ℕ). FindsBad Skips n c.first_bad_skip-skip.result) rows c.first_bad_skip-skip.ensures in
-    let one = first_found c.first_bad_start-outside.result c.first_bad_switch-switch.result in
-    let other = first_found c.first_bad_sending-sent.result c.first_bad_skip-skip.result in
-    let all = first_finds (Both Start Switches) (Both Sending Skips) last one other
-    (first_finds Start Switches last c.first_bad_start-outside.result c.first_bad_switch-switch.result start switch)
-    (first_finds Sending Skips last c.first_bad_sending-sent.result c.first_bad_skip-skip.result c.first_bad_sending-sent.ensures skip) in
-    let found : c.first_of-3.result ≡ first_found one other =
-    c.first_of-3.ensures ∙ ap (λ (a : Option Node). first_found a c.first_of-2.result) c.first_of.ensures
-    ∙ ap (first_found one) c.first_of-2.ensures in
-    subst (FindsBad (IsGoodIn ends last Counts number method) last) (sym found)
-    (finds_too (InParts ends last Counts number method) (IsGoodIn ends last Counts number method) (first_found one other)
+    finds_too (InParts ends last Counts number method) (IsGoodIn ends last Counts number method) c.first_of-3.result
     (λ row current inside le. good_of_parts ends Counts number inside)
-    (λ row current inside le. parts_of_good ends Counts number inside) all)
+    (λ row current inside le. parts_of_good ends Counts number inside)
+    (first_of_four Start Switches Sending Skips last c.first_bad_start-outside.result c.first_bad_switch-switch.result
+    c.first_bad_sending-sent.result c.first_bad_skip-skip.result start switch c.first_bad_sending-sent.ensures skip
+    c.first_of.ensures c.first_of-2.ensures c.first_of-3.ensures)

@@ -2,7 +2,7 @@ use Rattle.std.proofs.Common.{◌≡◌, ℕ, ◌-◌, List, length, sym, ap, su
 use Rattle.std.specs.Prelude.{Option}
 use Rattle.pcl_check.specs.Places.{FindsPlace}
 use Rattle.pcl_check.specs.inner.PlacePasses.{IsNotUndercut, AreGoodReplacements, first_found_place}
-use Rattle.pcl_check.proofs.PlacesFound.{And, finds_both, finds_place_too}
+use Rattle.pcl_check.proofs.PlacesFound.{And, first_of_four, finds_place_too}
 use Rattle.pcl_check.proofs.PlaceKinds.{replacements_by_windows, kept_starts}
 use Rattle.pcl_check.proofs.places.first_bad_replacement.Goals as goal
 
@@ -21,22 +21,8 @@ returns c =
     λ cost most found is.
     subst (λ (n : ℕ). FindsPlace (Kept cost most) n found) last
     (subst (λ (wide : List ℕ). FindsPlace (IsNotUndercut wide sums ends cost most) (length wide - 1) found) c.widen.ensures is) in
-    let one = c.first_undercut-one.result in
-    let two = c.first_undercut-two.result in
-    let three = c.first_undercut-three.result in
-    let four = c.first_undercut-four.result in
-    let all = finds_both (And (Kept 1 31) (Kept 2 286)) (And (Kept 3 541) (Kept 4 796)) (length row) (first_found_place one two)
-    (first_found_place three four)
-    (finds_both (Kept 1 31) (Kept 2 286) (length row) one two (to 1 31 one c.first_undercut-one.ensures)
-    (to 2 286 two c.first_undercut-two.ensures))
-    (finds_both (Kept 3 541) (Kept 4 796) (length row) three four (to 3 541 three c.first_undercut-three.ensures)
-    (to 4 796 four c.first_undercut-four.ensures)) in
-    let found : c.first_place-3.result ≡ first_found_place (first_found_place one two) (first_found_place three four) =
-    c.first_place-3.ensures ∙ ap (λ (a : Option ℕ). first_found_place a c.first_place-2.result) c.first_place.ensures
-    ∙ ap (first_found_place (first_found_place one two)) c.first_place-2.ensures in
-    subst (FindsPlace (AreGoodReplacements old row numbers) (length row)) (sym found)
-    (finds_place_too (And (And (Kept 1 31) (Kept 2 286)) (And (Kept 3 541) (Kept 4 796))) (AreGoodReplacements old row numbers)
-    (first_found_place (first_found_place one two) (first_found_place three four))
+    finds_place_too (And (And (Kept 1 31) (Kept 2 286)) (And (Kept 3 541) (Kept 4 796))) (AreGoodReplacements old row numbers)
+    c.first_place-3.result
     (λ place le kept.
     replacements_by_windows c.requires.small c.requires.size c.fill_start_ends.ensures
     c.fill_behind_starts.ensures (record { one = kept.0.0; two = kept.0.1; three = kept.1.0; four = kept.1.1 }))
@@ -44,4 +30,9 @@ returns c =
     let kept = kept_starts c.requires.same c.requires.size c.fill_start_ends.ensures
     c.fill_behind_starts.ensures le good in
     ((kept.one, kept.two), (kept.three, kept.four)))
-    all)
+    (first_of_four (Kept 1 31) (Kept 2 286) (Kept 3 541) (Kept 4 796) (length row) c.first_undercut-one.result c.first_undercut-two.result
+    c.first_undercut-three.result c.first_undercut-four.result
+    (to 1 31 c.first_undercut-one.result c.first_undercut-one.ensures) (to 2 286 c.first_undercut-two.result c.first_undercut-two.ensures)
+    (to 3 541 c.first_undercut-three.result c.first_undercut-three.ensures)
+    (to 4 796 c.first_undercut-four.result c.first_undercut-four.ensures)
+    c.first_place.ensures c.first_place-2.ensures c.first_place-3.ensures)

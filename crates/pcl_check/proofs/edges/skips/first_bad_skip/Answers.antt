@@ -5,7 +5,7 @@ use Rattle.pcl_output.specs.Table.{node_number}
 use Rattle.pcl_output.specs.declared.node.Node.{Node}
 use Rattle.pcl_check.specs.Edges.{FindsBad}
 use Rattle.pcl_check.specs.inner.EdgePasses.{At, Both, AreGoodSkipsOf, AreGoodSkipsTo, first_found}
-use Rattle.pcl_check.proofs.Found.{first_finds, finds_too}
+use Rattle.pcl_check.proofs.Found.{first_of_four, finds_too}
 use Rattle.pcl_check.proofs.SkipWindows.{by_digits, all_digits}
 use Rattle.pcl_check.proofs.edges.skips.first_bad_skip.Goals as goal
 
@@ -16,22 +16,8 @@ returns c =
     let method = c.args.method in
     let last : ℕ = length c.args.table.now - 1 in
     let Of : ℕ → ℕ → ℕ → Method → Bool → Type 0 = λ digits most. At method true (AreGoodSkipsOf ends number method digits most) in
-    let low = first_finds (Of 1 9) (Of 2 99) last c.first_bad_skip_of-one.result c.first_bad_skip_of-two.result
-    c.first_bad_skip_of-one.ensures c.first_bad_skip_of-two.ensures in
-    let high = first_finds (Of 3 999) (Of 4 9999) last c.first_bad_skip_of-three.result c.first_bad_skip_of-four.result
-    c.first_bad_skip_of-three.ensures c.first_bad_skip_of-four.ensures in
-    let all = first_finds (Both (Of 1 9) (Of 2 99)) (Both (Of 3 999) (Of 4 9999)) last
-    (first_found c.first_bad_skip_of-one.result c.first_bad_skip_of-two.result)
-    (first_found c.first_bad_skip_of-three.result c.first_bad_skip_of-four.result) low high in
-    let found : c.first_of-3.result
-    ≡ first_found (first_found c.first_bad_skip_of-one.result c.first_bad_skip_of-two.result)
-    (first_found c.first_bad_skip_of-three.result c.first_bad_skip_of-four.result) =
-    c.first_of-3.ensures ∙ ap (λ (a : Option Node). first_found a c.first_of-2.result) c.first_of.ensures
-    ∙ ap (first_found (first_found c.first_bad_skip_of-one.result c.first_bad_skip_of-two.result)) c.first_of-2.ensures in
-    subst (FindsBad (At method true (AreGoodSkipsTo ends number method)) last) (sym found)
-    (finds_too (Both (Both (Of 1 9) (Of 2 99)) (Both (Of 3 999) (Of 4 9999))) (At method true (AreGoodSkipsTo ends number method))
-    (first_found (first_found c.first_bad_skip_of-one.result c.first_bad_skip_of-two.result)
-    (first_found c.first_bad_skip_of-three.result c.first_bad_skip_of-four.result))
+    finds_too (Both (Both (Of 1 9) (Of 2 99)) (Both (Of 3 999) (Of 4 9999))) (At method true (AreGoodSkipsTo ends number method))
+    c.first_of-3.result
     (λ row current inside le parts same here.
     all_digits number method c.requires.ends le
     (record {
@@ -40,14 +26,11 @@ returns c =
       three = parts.1.0 same here;
       four = parts.1.1 same here;
     }))
-    (λ row current inside le good. (
-      (
-        λ same here. (by_digits ends number method row (good same here)).one,
-        λ same here. (by_digits ends number method row (good same here)).two,
-      ),
-      (
-        λ same here. (by_digits ends number method row (good same here)).three,
-        λ same here. (by_digits ends number method row (good same here)).four,
-      ),
+    (λ row current inside le good.
+    let kept = by_digits ends number method row in (
+      (λ same here. (kept (good same here)).one, λ same here. (kept (good same here)).two),
+      (λ same here. (kept (good same here)).three, λ same here. (kept (good same here)).four),
     ))
-    all)
+    (first_of_four (Of 1 9) (Of 2 99) (Of 3 999) (Of 4 9999) last c.first_bad_skip_of-one.result c.first_bad_skip_of-two.result
+    c.first_bad_skip_of-three.result c.first_bad_skip_of-four.result c.first_bad_skip_of-one.ensures c.first_bad_skip_of-two.ensures
+    c.first_bad_skip_of-three.ensures c.first_bad_skip_of-four.ensures c.first_of.ensures c.first_of-2.ensures c.first_of-3.ensures)

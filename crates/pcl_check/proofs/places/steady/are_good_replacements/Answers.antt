@@ -2,7 +2,8 @@ use Rattle.std.proofs.Common.{◌≡◌, ◌≢◌, ℕ, ◌+◌, ◌-◌, ◌<�
 use Rattle.std.specs.Prelude.{slice_index}
 use Rattle.std.proofs.lemmas.Bool.{cases_lt}
 use Rattle.pcl_check.specs.inner.PlacePasses.{AreGoodReplacements}
-use Rattle.pcl_check.proofs.SteadyPlaces.{replacements_by_start, replacements_past, replacements_from}
+use Rattle.pcl_check.proofs.PlacesFound.{from_before, down_to_first}
+use Rattle.pcl_check.proofs.SteadyPlaces.{AreFrontSums, replacements_by_start, replacements_past, replacements_before}
 use Rattle.pcl_check.proofs.places.steady.are_good_replacements.Goals as goal
 use Rattle.pcl_check.proofs.places.steady.are_good_replacements.Goals.{then-old-place, else-old-place}
 
@@ -39,18 +40,18 @@ loop-place-preserved c =
             subst (λ (n : ℕ). slice_index old n ≢ slice_index row n) same (c.loop-place.invariant.differs before),
           )
     ] in
-    let here = replacements_by_start old row c.fill_least_of_eight.new.least c.requires.steady
-    c.requires.end.none (omega (arith, c.requires.end.within, c.requires.size)) c.fill_least_of_eight.ensures.sums is.0 is.1 is.2
+    let front : AreFrontSums numbers c.fill_least_of_eight.new.least end = record {
+      none = c.requires.end.none;
+      inside = omega (arith, c.requires.end.within, c.requires.size);
+      sums = c.fill_least_of_eight.ensures.sums;
+    } in
+    let here = replacements_by_start old row c.requires.steady front is.0 is.1 is.2
     (c.is_kept_before.ensures c.if-not-is_kept_before.false) in
     record {
       order = λ _. is.0;
       before = λ _. is.1;
       differs = λ _. is.2;
-      good = λ k low.
-          elim (cases_lt place k) [
-            | inl past ↦ c.loop-place.invariant.good k (omega (arith, after, past))
-            | inr at ↦ let same : place ≡ k = omega arith in subst (AreGoodReplacements old row numbers) same here
-          ];
+      good = from_before (AreGoodReplacements old row numbers) here (λ k low. c.loop-place.invariant.good k (omega (arith, after)));
     }
 
 pub returns-then-fall_by_starts : goal.returns-then-fall_by_starts
@@ -59,7 +60,11 @@ returns-then-fall_by_starts c said =
     let row = c.args.row.now in
     let numbers = c.args.numbers.now in
     let end = c.args.end in
-    let none = c.requires.end.none in
-    replacements_from end none (omega (arith, c.requires.end.within, c.requires.size))
-    c.fill_least_of_eight.ensures.sums (omega arith) (c.fall_by_starts.ensures c.if-fall_by_starts.true)
-    (λ k past. replacements_past old row c.requires.steady none past)
+    let front : AreFrontSums numbers c.fill_least_of_eight.new.least end = record {
+      none = c.requires.end.none;
+      inside = omega (arith, c.requires.end.within, c.requires.size);
+      sums = c.fill_least_of_eight.ensures.sums;
+    } in
+    down_to_first (AreGoodReplacements old row numbers) end
+    (λ k lt. replacements_before front lt (c.fall_by_starts.ensures c.if-fall_by_starts.true k lt))
+    (λ k past. replacements_past old row c.requires.steady front.none past)

@@ -3,7 +3,8 @@ use Rattle.std.specs.Prelude.{slice_index}
 use Rattle.std.proofs.lemmas.Bool.{cases_lt}
 use Rattle.pcl_check.specs.inner.PlacePasses.{AreGoodRuns}
 use Rattle.pcl_check.specs.inner.SteadyNumbers.{FallsByRun}
-use Rattle.pcl_check.proofs.SteadyPlaces.{runs_by_stop, runs_from}
+use Rattle.pcl_check.proofs.PlacesFound.{from_before, down_to_first}
+use Rattle.pcl_check.proofs.SteadyPlaces.{runs_by_stop, runs_before}
 use Rattle.pcl_check.proofs.places.steady.are_good_runs.Goals as goal
 use Rattle.pcl_check.proofs.places.steady.are_good_runs.Goals.{then-place-end+then-row-place, else-place-end, then-fall_by_runs, else-fall_by_runs}
 
@@ -37,11 +38,7 @@ loop-place-preserved c =
       order = omega (arith, is.0);
       within = is.1;
       breaks = is.2;
-      good = λ k low.
-          elim (cases_lt place k) [
-            | inl past ↦ c.loop-place.invariant.good k (omega (arith, after, past))
-            | inr at ↦ let same : place ≡ k = omega arith in subst (AreGoodRuns row numbers c.args.most) same here
-          ];
+      good = from_before (AreGoodRuns row numbers c.args.most) here (λ k low. c.loop-place.invariant.good k (omega (arith, after)));
     }
 
 pub returns : goal.returns
@@ -54,5 +51,5 @@ returns c said =
       | then-fall_by_runs w ↦ λ k lt. c.fall_by_runs.ensures w.if-fall_by_runs.true k (omega (arith, w.from-is, lt))
       | else-fall_by_runs w ↦ λ k lt. absurd (omega (arith, w.from-is, lt))
     ] in
-    runs_from from c.requires.steady falls
+    down_to_first (AreGoodRuns row numbers c.args.most) from (λ k lt. runs_before c.requires.steady (falls k lt))
     (λ k low. c.loop-place.invariant.good k (omega (arith, c.loop-place-test.false, low)))

@@ -1,50 +1,41 @@
-use Rattle.std.proofs.Common.{◌+◌, ◌≤◌, inl, inr, arith}
+use Rattle.std.proofs.Common.{◌≡◌, ℕ, ◌+◌, ◌<◌, ◌≤◌, min, List, inl, inr, arith}
+use Rattle.std.specs.Prelude.{slice_index}
 use Rattle.std.proofs.lemmas.Bool.{cases_lt}
-use Rattle.pcl_check.proofs.SteadyPlaces.{kept_by, one_byte, more_bytes}
+use Rattle.pcl_coders.specs.inner.Replacement.{replacement_bytes}
+use Rattle.pcl_coders.proofs.Shapes.{near_bytes, far_bytes}
 use Rattle.pcl_check.proofs.places.steady.is_kept_before.Goals as goal
+
+-- what no command of so few bytes undercuts is kept where the next one reaches no farther
+kept_near : (number : ℕ) (least : List ℕ) (place start : ℕ) {one two : ℕ} → one ≡ min start (place + 30) → two ≡ min start (place + 285)
+    → number + one ≤ 1 + slice_index least (one + 1) → number + two ≤ 2 + slice_index least (two + 1)
+    → (offset : ℕ) → offset < 286 → place + offset ≤ start
+    → (far : ℕ) × (place + offset ≤ far) × (far ≤ start) × (number + far ≤ replacement_bytes offset + slice_index least (far + 1))
+kept_near number least place start {one} {two} first second a b offset few within =
+    elim (cases_lt offset 31) [
+      | inl near ↦ (one, omega arith, omega arith, omega (arith, near_bytes offset))
+      | inr far ↦ (two, omega arith, omega arith, omega (arith, far_bytes offset))
+    ]
 
 pub returns-then-start-place-2 : goal.returns-then-start-place-2
 returns-then-start-place-2 c near offset within =
-    let number = c.args.number in
-    let least = c.args.least.now in
-    let place = c.args.place in
-    let start = c.args.start in
-    let le : start ≤ place + 285 = c.if-start-place-2.true in
-    elim (cases_lt offset 31) [
-      | inl one ↦
-          kept_by number least place start c.min.result 1 offset (omega (arith, c.min.ensures)) (omega (arith, c.min.ensures))
-          (one_byte offset) (c.is_kept.ensures c.if-is_kept.true)
-      | inr two ↦
-          kept_by number least place start c.min-else-start-place.result 2 offset (omega (arith, c.min-else-start-place.ensures))
-          (omega (arith, c.min-else-start-place.ensures)) (more_bytes offset 2 two (omega arith))
-          (c.is_kept-else-start-place.ensures c.if-is_kept-2.true)
-    ]
+    let le : c.args.start ≤ c.args.place + 285 = c.if-start-place-2.true in
+    kept_near c.args.number c.args.least.now c.args.place c.args.start c.min.ensures c.min-else-start-place.ensures
+    (c.is_kept.ensures c.if-is_kept.true) (c.is_kept-else-start-place.ensures c.if-is_kept-2.true) offset (omega arith) within
 
 pub returns-then-is_kept-3 : goal.returns-then-is_kept-3
 returns-then-is_kept-3 c last offset within =
-    let number = c.args.number in
-    let least = c.args.least.now in
-    let place = c.args.place in
-    let start = c.args.start in
-    elim (cases_lt offset 31) [
-      | inl one ↦
-          kept_by number least place start c.min.result 1 offset (omega (arith, c.min.ensures)) (omega (arith, c.min.ensures))
-          (one_byte offset) (c.is_kept.ensures c.if-is_kept.true)
+    elim (cases_lt offset 286) [
+      | inl few ↦
+          kept_near c.args.number c.args.least.now c.args.place c.args.start c.min.ensures c.min-else-start-place.ensures
+          (c.is_kept.ensures c.if-is_kept.true) (c.is_kept-else-start-place.ensures c.if-is_kept-2.true) offset few within
       | inr far ↦
-          elim (cases_lt offset 286) [
-            | inl two ↦
-                kept_by number least place start c.min-else-start-place.result 2 offset (omega (arith, c.min-else-start-place.ensures))
-                (omega (arith, c.min-else-start-place.ensures)) (more_bytes offset 2 far (omega arith))
-                (c.is_kept-else-start-place.ensures c.if-is_kept-2.true)
-            | inr farther ↦
-                elim (cases_lt offset 541) [
-                  | inl three ↦
-                      kept_by number least place start c.min-else-start-place-2.result 3 offset
-                      (omega (arith, c.min-else-start-place-2.ensures)) (omega (arith, c.min-else-start-place-2.ensures))
-                      (more_bytes offset 3 far (omega (arith, farther))) (c.is_kept-else-start-place-2.ensures c.if-is_kept-3.true)
-                  | inr four ↦
-                      kept_by number least place start start 4 offset within (omega arith)
-                      (more_bytes offset 4 far (omega (arith, four))) (c.is_kept-then-is_kept-3.ensures last)
-                ]
+          elim (cases_lt offset 541) [
+            | inl three ↦ (
+              c.min-else-start-place-2.result,
+              omega (arith, c.min-else-start-place-2.ensures),
+              omega (arith, c.min-else-start-place-2.ensures),
+              omega (arith, far_bytes offset, c.is_kept-else-start-place-2.ensures c.if-is_kept-3.true),
+            )
+            | inr four ↦ (c.args.start, within, omega arith, omega (arith, far_bytes offset, c.is_kept-then-is_kept-3.ensures last))
           ]
     ]
