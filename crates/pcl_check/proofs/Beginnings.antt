@@ -50,6 +50,20 @@ pub record IsSize (text : List ℕ) (copies code : ℕ) (rest : List ℕ) : Type
   pub small : code ≤ 65536
   pub text_is : text ≡ first_bytes ++ (decimal copies ++ 120 ∷ (decimal code ++ 97 ∷ rest))
 
+-- by what is read of a text, one number after the other
+pub copies_of : {text front : List ℕ} {copies : ℕ} {rest : List ℕ} → text ≡ first_bytes ++ front
+    → (front ≡ decimal copies ++ 120 ∷ rest) × (copies ≤ 65536) → IsCopies text copies rest
+copies_of begins read = record { few = read.1; text_is = begins ∙ ap (λ (z : List ℕ). first_bytes ++ z) read.0 }
+
+pub size_of : {text front : List ℕ} {copies : ℕ} {more : List ℕ} {code : ℕ} {rest : List ℕ} → text ≡ first_bytes ++ front
+    → (front ≡ decimal copies ++ 120 ∷ more) × (copies ≤ 65536) → (more ≡ decimal code ++ 97 ∷ rest) × (code ≤ 65536)
+    → IsSize text copies code rest
+size_of {copies = copies} begins read next = record {
+  few = read.1;
+  small = next.1;
+  text_is = (copies_of begins read).text_is ∙ ap (λ (z : List ℕ). first_bytes ++ (decimal copies ++ 120 ∷ z)) next.0;
+}
+
 -- a text that begins so and so
 pub record BeginsAs (dpi : Dpi) (text : List ℕ) (copies : ℕ) (size : Size) (rest : List ℕ) : Type 0 where
   pub few : copies < 100
@@ -118,15 +132,7 @@ no_raster dpi copies size rest read some none is =
 found_code : {code : ℕ} {found : Size} → size_with_code code ≡ Some found → code ≡ code_of found
 found_code {code} {found} e = grind (arith, nat_tests)
 
--- a size and a resolution that are known
-pub raster_at : {bytes : List ℕ} {size known : Size} {dpi fine : Dpi} → size ≡ known → dpi ≡ fine → bytes ≡ raster_start known fine
-    → bytes ≡ raster_start size dpi
-raster_at s d e = rw (s, d) e
-
 pub begun : (dpi : Dpi) (text : List ℕ) (n code : ℕ) (more : List ℕ) (found : Size) (rest : List ℕ) → IsSize text n code more
     → size_with_code code ≡ Some found → more ≡ raster_start found dpi ++ rest → text ≡ start_bytes dpi n found ++ rest
 begun dpi text n code more found rest read some e =
-    read.text_is
-    ∙ ap (λ (z : List ℕ). first_bytes ++ (decimal n ++ 120 ∷ z))
-    (ap (λ (k : ℕ). decimal k ++ 97 ∷ more) (found_code some) ∙ ap (λ (z : List ℕ). decimal (code_of found) ++ 97 ∷ z) e)
-    ∙ sym (start_is dpi n found rest)
+    let code_is : code ≡ code_of found = found_code some in rw (read.text_is, code_is, e) (sym (start_is dpi n found rest))

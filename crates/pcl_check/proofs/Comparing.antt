@@ -53,31 +53,29 @@ pub record IsBodyReadTo (picture : Picture) (size : Size) (text : List ℕ) (may
   pub within : place.row ≤ page_height size picture.dpi
   pub same : IsTrue place.is_same ↔ (IsTrue may_be × AreRowsAt picture 0 given)
 
+-- rows are a page's first ones where those before a place are, and those from there on
+same_joined : (picture : Picture) {may_be before after : Bool} (given : List (List ℕ)) {more : List (List ℕ)}
+    → (IsTrue after ↔ (IsTrue before × AreRowsAt picture (length given) more))
+    → (IsTrue before ↔ (IsTrue may_be × AreRowsAt picture 0 given))
+    → IsTrue after ↔ (IsTrue may_be × AreRowsAt picture 0 (given ++ more))
+same_joined picture given later first = (
+  λ yes.
+      let now = later.0 yes in
+      let before = first.0 now.0 in
+      (before.0, of_parts given (bitmap_rows picture) before.1 now.1),
+  λ h. let parts = parts_of given (bitmap_rows picture) h.1 in later.1 (first.1 (h.0, parts.0), parts.1),
+)
+
 pub read_on : {picture : Picture} {size : Size} {text : List ℕ} {may_be : Bool} {place : Place} {above : List ℕ} {next : Place}
     {below : List ℕ} → IsBodyReadTo picture size text may_be place above → Advances picture size place above next below
     → IsBodyReadTo picture size text may_be next below
 read_on {picture} {place} read advances =
-    let all = bitmap_rows picture in
-    let place_is : place.row ≡ length read.given = read.row_is in
     record {
       given = read.given ++ advances.given;
       becomes = becomes_trans read.becomes advances.becomes;
       row_is = omega (arith, length-append read.given advances.given, read.row_is, advances.row_is);
       within = advances.within;
-      same = (
-        λ yes.
-            let now = advances.same.0 yes in
-            let before = read.same.0 now.0 in
-            let later : advances.given ≡ take (length advances.given) (drop (length read.given) all) =
-            subst (λ (y : ℕ). advances.given ≡ take (length advances.given) (drop y all)) place_is now.1 in
-            (before.0, of_parts read.given all before.1 later),
-        λ h.
-            let parts = parts_of read.given all h.1 in
-            advances.same.1 (
-              read.same.1 (h.0, parts.0),
-              subst (λ (y : ℕ). advances.given ≡ take (length advances.given) (drop y all)) (sym place_is) parts.1,
-            ),
-      );
+      same = same_joined picture read.given (rw read.row_is at advances.same) read.same;
     }
 
 -- at the end of the text the other rows are white
@@ -86,38 +84,21 @@ pub read_all : {picture : Picture} {size : Size} {text : List ℕ} {may_be : Boo
     → (IsTrue outcome ↔ (IsTrue place.is_same × AreRowsAt picture place.row
     (white_rows size picture.dpi (page_height size picture.dpi - place.row))))
     → IsOnlyPrinted picture size text may_be outcome
-read_all {picture} {size} {place} {above} read outside ended same =
-    let all = bitmap_rows picture in
+read_all {picture} {size} {place = place} {above} {outcome} read outside ended same =
     let white = white_rows size picture.dpi (page_height size picture.dpi - place.row) in
-    let left = left_at size picture.dpi place above in
     record {
       rows = read.given ++ white;
       printed = read.becomes.joins white (end_prints outside ended);
       only = λ other p.
           let parts = read.becomes.splits other p in
           parts.1 ∙ ap (λ (z : List (List ℕ)). read.given ++ z) (end_only outside ended parts.2);
-      same = (
-        λ yes.
-            let now = same.0 yes in
-            let before = read.same.0 now.0 in
-            let later : white ≡ take (length white) (drop (length read.given) all) =
-            subst (λ (y : ℕ). white ≡ take (length white) (drop y all)) read.row_is now.1 in
-            (before.0, of_parts read.given all before.1 later),
-        λ h.
-            let parts = parts_of read.given all h.1 in
-            same.1 (
-              read.same.1 (h.0, parts.0),
-              subst (λ (y : ℕ). white ≡ take (length white) (drop y all)) (sym read.row_is) parts.1,
-            ),
-      );
+      same = same_joined picture read.given
+          (subst (λ (y : ℕ). IsTrue outcome ↔ (IsTrue place.is_same × AreRowsAt picture y white)) read.row_is same) read.same;
     }
 
 -- a test of white rows, by their count
 pub white_test : (picture : Picture) (size : Size) (y : ℕ) {n count : ℕ} {test : Bool} → n ≡ count
     → (IsTrue test ↔ (white_rows size picture.dpi n ≡ take n (drop y (bitmap_rows picture))))
     → IsTrue test ↔ AreRowsAt picture y (white_rows size picture.dpi count)
-white_test picture size y {count} {test} e says =
-    let white = white_rows size picture.dpi in
-    let many : length (white count) ≡ count = length-replicate count (replicate (page_row_bytes size picture.dpi) 0) in
-    let counted = subst (λ (k : ℕ). IsTrue test ↔ (white k ≡ take k (drop y (bitmap_rows picture)))) e says in
-    subst (λ (k : ℕ). IsTrue test ↔ (white count ≡ take k (drop y (bitmap_rows picture)))) (sym many) counted
+white_test picture size y {count = count} e says =
+    let white : List ℕ = replicate (page_row_bytes size picture.dpi) 0 in rw (length-replicate count white, sym e) says

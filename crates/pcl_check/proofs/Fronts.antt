@@ -126,4 +126,4 @@ pub front_of : {size : Size} {dpi : Dpi} {left : LeftOver} (digits : List ℕ) {
 front_of {left} digits {rows} inside are off text printed =
     front_by digits are off printed.tokens rows (sym text ∙ printed.spelled)
     printed.count printed.rows_are
-    (subst (λ (i : Bool). PrintsRows i left.method left.above printed.tokens rows) inside printed.prints)
+    (rw inside at printed.prints)

@@ -4,6 +4,7 @@ use Rattle.std.specs.Prelude.{not, slice_index}
 use Rattle.std.specs.List.{flat_map, AllByRecursion}
 use Rattle.std.proofs.lemmas.List.{length-append, length-replicate, take_at, drop_at}
 use Rattle.std.proofs.Math.Nat.{zero-div}
+use Rattle.pcl_base.proofs.Lists.{same_fronts}
 use Rattle.pcl_base.specs.declared.dpi.Dpi.{Dpi}
 use Rattle.pcl_base.specs.declared.method.Method.{Method}
 use Rattle.pcl_base.specs.declared.method.Method.TheVariants.{Plain, Runs, Packed, Delta}
@@ -112,10 +113,7 @@ method_becomes {size} {dpi} {left} {digits} {rest} {next} ends told b n = record
     | is_method other last c m p ↦ (
       rows,
       refl,
-      subst (λ (z : Method). RestPrints size dpi (left_over (not ends) z left.above left.rows rest) rows)
-          (same_method (sym m ∙ n))
-          (subst (λ (z : Bool). RestPrints size dpi (left_over (not z) other left.above left.rows rest) rows)
-          (same_case 77 last ends (sym c ∙ b)) p),
+      rw (sym (same_method (sym m ∙ n)), sym (same_case 77 last ends (sym c ∙ b))) p,
     )
     | is_skip last others c some few r p ↦ absurd (letters_77_89 ends last (sym b ∙ c))
     | is_send bytes more first others c m r some f row row_data p ↦ absurd (letters_77_87 ends (sym b ∙ c))
@@ -127,8 +125,7 @@ method_becomes {size} {dpi} {left} {digits} {rest} {next} ends told b n = record
     spelled = spelled_by digits [] (flat_map token_bytes printed.tokens) end_bytes told.text b
         printed.spelled
         ∙ ap (λ (l : List ℕ). ((digits ++ l) ++ flat_map token_bytes printed.tokens) ++ end_bytes) (sym (letter_is 77 ends));
-    prints = subst (λ (i : Bool). PrintsRows i left.method left.above (method digits next ends ∷ printed.tokens) rows) (sym told.inside)
-        ((told.are_digits, n), printed.prints);
+    prints = rw told.inside ((told.are_digits, n), printed.prints);
   };
 }
 
@@ -145,9 +142,7 @@ skip_becomes {size} {dpi} {left} {digits} {rest} ends told b some few = record {
     | is_skip last others c positive within r p ↦ (
       others,
       r,
-      subst (λ (z : Bool). RestPrints size dpi
-          (left_over (not z) left.method (replicate (length left.above) 0) (left.rows - number_of digits) rest) others)
-          (same_case 89 last ends (sym c ∙ b)) p,
+      rw (sym (same_case 89 last ends (sym c ∙ b))) p,
     )
     | is_send bytes more first others c m r positive f row row_data p ↦ absurd (letters_89_87 ends (sym b ∙ c))
   ];
@@ -157,10 +152,8 @@ skip_becomes {size} {dpi} {left} {digits} {rest} ends told b some few = record {
       let many : length white ≡ count = length-replicate count (replicate (page_row_bytes size dpi) 0) in
       let all : length (white ++ rows) ≡ left.rows = omega (arith, length-append white rows, many, printed.count) in
       let behind : PrintsRows (not ends) left.method (replicate (length left.above) 0) printed.tokens (drop count (white ++ rows)) =
-      subst (λ (rs : List (List ℕ)). PrintsRows (not ends) left.method (replicate (length left.above) 0) printed.tokens rs)
-      (sym (drop_at white rows count many)) printed.prints in
-      let are_white : AreWhite (take count (white ++ rows)) =
-      subst AreWhite (sym (take_at white rows count many)) (rows_white size dpi count) in
+      rw (drop_at white rows count many) printed.prints in
+      let are_white : AreWhite (take count (white ++ rows)) = rw (take_at white rows count many) (rows_white size dpi count) in
       let within : count ≤ length (white ++ rows) = omega (arith, all, few) in
       record {
         count = all;
@@ -169,9 +162,7 @@ skip_becomes {size} {dpi} {left} {digits} {rest} ends told b some few = record {
         spelled = spelled_by digits [] (flat_map token_bytes printed.tokens) end_bytes told.text b
             printed.spelled
             ∙ ap (λ (l : List ℕ). ((digits ++ l) ++ flat_map token_bytes printed.tokens) ++ end_bytes) (sym (letter_is 89 ends));
-        prints = subst (λ (i : Bool). PrintsRows i left.method left.above (skip digits count ends ∷ printed.tokens) (white ++ rows))
-            (sym told.inside)
-            ((told.are_digits, refl), some, within, are_white, behind);
+        prints = rw told.inside ((told.are_digits, refl), some, within, are_white, behind);
       };
 }
 
@@ -187,18 +178,12 @@ send_becomes {size} {dpi} {left} {digits} {bytes} {more} {first} told b n parts 
     | is_method other last c m p ↦ absurd (letters_77_87 last (sym c ∙ b))
     | is_skip last others c positive within r p ↦ absurd (letters_89_87 last (sym c ∙ b))
     | is_send sent behind painted others c m r positive f row row_data p ↦
-        let joined : bytes ++ more ≡ sent ++ behind = sym parts ∙ r in
-        let len : length bytes ≡ length sent = sym n ∙ m in
-        let same : sent ≡ bytes = sym (take_at sent behind (length sent) refl) ∙ ap (take (length sent)) (sym joined)
-        ∙ take_at bytes more (length sent) len in
-        let same_rest : behind ≡ more = sym (drop_at sent behind (length sent) refl) ∙ ap (drop (length sent)) (sym joined)
-        ∙ drop_at bytes more (length sent) len in
+        let same = same_fronts sent bytes (sym m ∙ n) (sym r ∙ parts) in
         let same_row : painted ≡ first = decoded_is left.method left.above sent painted row_data.decodes
-        ∙ ap (decoded left.method left.above) same ∙ sym (decoded_is left.method left.above bytes first is_data.decodes) in (
+        ∙ ap (decoded left.method left.above) same.0 ∙ sym (decoded_is left.method left.above bytes first is_data.decodes) in (
           others,
           f ∙ ap (λ (z : List ℕ). z ∷ others) same_row,
-          subst (λ (z : List ℕ). RestPrints size dpi (left_over false left.method first (left.rows - 1) z) others) same_rest
-              (subst (λ (z : List ℕ). RestPrints size dpi (left_over false left.method z (left.rows - 1) behind) others) same_row p),
+          rw (sym same.1, sym same_row) p,
         )
   ];
   joins = λ rows printed. record {
@@ -207,9 +192,7 @@ send_becomes {size} {dpi} {left} {digits} {bytes} {more} {first} told b n parts 
     tokens = send digits bytes ∷ printed.tokens;
     spelled = spelled_by digits bytes (flat_map token_bytes printed.tokens) end_bytes told.text b
         (parts ∙ ap (λ (z : List ℕ). bytes ++ z) printed.spelled);
-    prints = subst (λ (i : Bool). PrintsRows i left.method left.above (send digits bytes ∷ printed.tokens) (first ∷ rows))
-        (sym told.inside)
-        ((told.are_digits, n), is_data, printed.prints);
+    prints = rw told.inside ((told.are_digits, n), is_data, printed.prints);
   };
 }
 
@@ -283,4 +266,4 @@ pub no_byte : {size : Size} {dpi : Dpi} {left : LeftOver} {rows : List (List ℕ
     → RestPrints size dpi left rows → ⊥
 no_byte {left} {rows} inside are printed =
     digits_only left.method left.above are printed.tokens rows printed.spelled
-    (subst (λ (i : Bool). PrintsRows i left.method left.above printed.tokens rows) inside printed.prints)
+    (rw inside at printed.prints)

@@ -35,14 +35,14 @@ opening_becomes {left} outside e = record {
     rows,
     refl,
     opened_by p.tokens (sym e ∙ p.spelled) p.count p.rows_are
-        (subst (λ (i : Bool). PrintsRows i left.method left.above p.tokens rows) outside p.prints),
+        (rw outside at p.prints),
   );
   joins = λ rows p. record {
     count = p.count;
     rows_are = p.rows_are;
     tokens = opening ∷ p.tokens;
     spelled = e ∙ ap (λ (z : List ℕ). opening_bytes ++ z) p.spelled;
-    prints = subst (λ (i : Bool). PrintsRows i left.method left.above (opening ∷ p.tokens) rows) (sym outside) p.prints;
+    prints = rw outside p.prints;
   };
 }
 
@@ -59,7 +59,7 @@ pub no_opening : {size : Size} {dpi : Dpi} {left : LeftOver} {rows : List (List 
     → ((rest : List ℕ) → left.text ≡ opening_bytes ++ rest → ⊥) → (left.text ≡ end_bytes → ⊥) → RestPrints size dpi left rows → ⊥
 no_opening {left} {rows} outside not_open not_end p =
     outside_by left.method left.above p.tokens rows not_open not_end p.spelled
-    (subst (λ (i : Bool). PrintsRows i left.method left.above p.tokens rows) outside p.prints)
+    (rw outside at p.prints)
 
 -- ---- the text ends
 
@@ -75,7 +75,7 @@ pub end_only : {size : Size} {dpi : Dpi} {left : LeftOver} {rows : List (List �
     → RestPrints size dpi left rows → rows ≡ white_rows size dpi left.rows
 end_only {size} {dpi} {left} {rows} outside e p =
     ended_by size dpi left.method left.above p.tokens (sym e ∙ p.spelled) p.rows_are
-    (subst (λ (i : Bool). PrintsRows i left.method left.above p.tokens rows) outside p.prints)
+    (rw outside at p.prints)
     ∙ ap (white_rows size dpi) p.count
 
 pub end_prints : {size : Size} {dpi : Dpi} {left : LeftOver} → left.inside ≡ false → left.text ≡ end_bytes
@@ -86,6 +86,5 @@ end_prints {size} {dpi} {left} outside e = record {
   rows_are = subst (AllByRecursion (IsRowOf size dpi)) (append-nil (white_rows size dpi left.rows)) (white_before size dpi left.rows [] tt);
   tokens = [];
   spelled = e;
-  prints = subst (λ (i : Bool). PrintsRows i left.method left.above [] (white_rows size dpi left.rows)) (sym outside)
-      (rows_white size dpi left.rows);
+  prints = rw outside (rows_white size dpi left.rows);
 }

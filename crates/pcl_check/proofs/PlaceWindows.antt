@@ -10,30 +10,6 @@ use Rattle.pcl_check.specs.inner.PlacePasses.{IsNotUndercut}
 use Rattle.pcl_check.proofs.Values.{length_values, value_in}
 use Rattle.pcl_check.proofs.StepWindows.{last_of}
 
-pub no_step : (numbers sums ends : List ℕ) (cost : ℕ) {most place : ℕ} → last_of ends most place ≤ place → 0 < most
-    → IsNotUndercut numbers sums ends cost most place
-no_step numbers sums ends cost none some = λ stop past few within. absurd (omega (arith, none))
-
-pub kept_by_window : (numbers sums ends : List ℕ) (cost most : ℕ) {place least : ℕ}
-    → IsLeastOf (values (slice_index sums) (place + 1) (last_of ends most place - place)) least
-    → slice_index numbers place ≤ cost + least → IsNotUndercut numbers sums ends cost most place
-kept_by_window numbers sums ends cost most {place} is le = λ stop past few within.
-    let size = length_values (slice_index sums) (place + 1) (last_of ends most place - place) in
-    let k : ℕ = stop - (place + 1) in
-    let at = value_in (slice_index sums) (place + 1) (last_of ends most place - place) k (omega arith) in
-    let there : place + 1 + k ≡ stop = omega arith in
-    omega (arith, le, is.below k (omega (arith, size)), at, ap (slice_index sums) there)
-
-pub window_by_kept : (numbers sums ends : List ℕ) (cost most : ℕ) {place least : ℕ}
-    → IsLeastOf (values (slice_index sums) (place + 1) (last_of ends most place - place)) least
-    → IsNotUndercut numbers sums ends cost most place → slice_index numbers place ≤ cost + least
-window_by_kept numbers sums ends cost most {place} is kept =
-    let k : ℕ = is.among.0 in
-    let size = length_values (slice_index sums) (place + 1) (last_of ends most place - place) in
-    let inside : k < last_of ends most place - place = omega (arith, is.among.1, size) in
-    let at = value_in (slice_index sums) (place + 1) (last_of ends most place - place) k inside in
-    omega (arith, kept (place + 1 + k) (omega arith) (omega (arith, inside)) (omega (arith, inside)), is.among.2, at)
-
 -- ---- what is counted after starts
 
 abbrev pub IsBehindStart : List ℕ → List ℕ → ℕ → Type 0

@@ -1,6 +1,6 @@
 -- Skips by windows, and by all counts.
 use Rattle.std.proofs.Common.{◌≡◌, ℕ, ◌+◌, ◌-◌, ◌^◌, ◌<◌, ◌≤◌, Bool, true, false, List, ap, inl, inr, arith}
-use Rattle.std.proofs.lemmas.Bool.{cases_lt}
+use Rattle.std.specs.Prelude.{not}
 use Rattle.pcl_base.specs.declared.method.Method.{Method}
 use Rattle.pcl_coders.specs.Windows.{IsLeastOf}
 use Rattle.pcl_output.specs.declared.node.Node.{Node}
@@ -9,41 +9,29 @@ use Rattle.pcl_output.proofs.DigitCounts.{count_is, count_le}
 use Rattle.pcl_output.proofs.TokenCosts.{rest_below, best_end}
 use Rattle.pcl_check.specs.Edges.{number_at}
 use Rattle.pcl_check.specs.inner.EdgePasses.{AreEnds, AreGoodSkipsOf, AreGoodSkipsTo, rests}
-use Rattle.pcl_check.proofs.Values.{length_values, value_in}
-use Rattle.pcl_check.proofs.StepWindows.{last_of}
+use Rattle.pcl_check.proofs.StepWindows.{last_of, IsNextWindow, least_below, least_reached}
 
--- no row to skip
-pub none_to_skip : (ends : List ℕ) (number : Node → ℕ) {method : Method} (digits : ℕ) {most row : ℕ} → last_of ends most row ≤ row
-    → 0 < most
-    → AreGoodSkipsOf ends number method digits most row
-none_to_skip ends number digits none some = λ count inside one few within. absurd (omega (arith, none))
-
-pub skips_by_window : (ends : List ℕ) (number : Node → ℕ) {method : Method} (digits : ℕ) {most row least : ℕ}
-    → IsLeastOf (rests number method (row + 1) (last_of ends most row - row)) least
+pub skips_by_window : {ends : List ℕ} (number : Node → ℕ) {method : Method} (digits : ℕ) {most : ℕ} {filled taken : List ℕ}
+    {row stop far least : ℕ} → IsNextWindow ends (λ y. rest number y method) most filled taken row stop far
+    → far ≡ last_of ends most row → IsLeastOf taken least
     → number_at number row method true ≤ digits + 1 + least → AreGoodSkipsOf ends number method digits most row
-skips_by_window ends number {method} digits {most} {row} is le = λ count inside some few within.
-    let size = length_values (λ y. rest number y method) (row + 1) (last_of ends most row - row) in
-    let at = value_in (λ y. rest number y method) (row + 1) (last_of ends most row - row) (count - 1) (omega arith) in
-    grind (arith, le, is.below (count - 1) (omega (arith, size)), at, rest_below number (row + count) method inside)
+skips_by_window number {method = method} digits {row = row} next farthest is le = λ count inside some few within.
+    omega (arith, le, least_below next is (row + count) (omega arith) (omega (arith, farthest)), rest_below number (row + count) method inside)
 
-pub window_by_skips : (ends : List ℕ) (number : Node → ℕ) {method : Method} (digits : ℕ) {most row least : ℕ}
-    → IsLeastOf (rests number method (row + 1) (last_of ends most row - row)) least
+pub window_by_skips : {ends : List ℕ} (number : Node → ℕ) {method : Method} (digits : ℕ) {most : ℕ} {filled taken : List ℕ}
+    {row stop far least : ℕ} → IsNextWindow ends (λ y. rest number y method) most filled taken row stop far
+    → far ≡ last_of ends most row → IsLeastOf taken least
     → AreGoodSkipsOf ends number method digits most row → number_at number row method true ≤ digits + 1 + least
-window_by_skips ends number {method} digits {most} {row} is good =
-    let k : ℕ = is.among.0 in
-    let size = length_values (λ y. rest number y method) (row + 1) (last_of ends most row - row) in
-    let inside : k < last_of ends most row - row = omega (arith, is.among.1, size) in
-    let at = value_in (λ y. rest number y method) (row + 1) (last_of ends most row - row) k inside in
-    let there : row + 1 + k ≡ row + (k + 1) = omega arith in
-    let best = best_end number (row + (k + 1)) method in
+window_by_skips number {method = method} digits {row = row} next farthest is good =
+    let at = least_reached next is in
+    let best = best_end number at.0 method in
+    let there : row + (at.0 - row) ≡ at.0 = omega (arith, at.1) in
     omega (
       arith,
-      good (k + 1) (elim best.0 as (λ _. Bool) [ true ↦ false | false ↦ true ]) (omega arith) (omega (arith, inside))
-          (omega (arith, inside)),
-      is.among.2,
-      at,
-      ap (λ (y : ℕ). rest number y method) there,
+      good (at.0 - row) (not best.0) (omega (arith, at.1)) (omega (arith, at.2, farthest)) (omega (arith, at.1, at.2, farthest)),
+      ap (λ (y : ℕ). number_at number y method (not best.0)) there,
       best.1,
+      at.3,
     )
 
 -- ---- all counts

@@ -2,7 +2,8 @@
 use Rattle.std.proofs.Common.{◌≡◌, ℕ, ◌+◌, ◌-◌, ◌<◌, ◌≤◌, min, List, [], ◌++◌, length, drop, sym, ap, ◌∙◌, arith}
 use Rattle.std.specs.Prelude.{slice_index}
 use Rattle.pcl_check.specs.inner.EdgePasses.{AreEnds, values}
-use Rattle.pcl_check.proofs.Values.{length_values, values_joined, values_rest, no_values}
+use Rattle.pcl_coders.specs.Windows.{IsLeastOf}
+use Rattle.pcl_check.proofs.Values.{length_values, value_in, values_joined, values_rest, no_values}
 
 -- the last place that a step over at most so many places leads to
 abbrev pub last_of : List ℕ → ℕ → ℕ → ℕ
@@ -27,43 +28,68 @@ window_begins {value} none = record {
   numbers_are = none ∙ sym (no_values value 0 (omega arith));
 }
 
--- where it goes on to, filled up to the farthest place that a step leads to
+-- the window after a place, taken from one that was filled up to the farthest place that a step leads to
+pub record IsNextWindow (ends : List ℕ) (value : ℕ → ℕ) (most : ℕ) (filled taken : List ℕ) (place stop far : ℕ) : Type 0 where
+  pub some : 0 < length filled
+  pub grows : stop ≤ far + 1
+  pub numbers_are : taken ≡ values value (place + 1) (far - place)
+  pub size : length taken ≡ far - place
+  pub window : IsStepWindow ends value most taken (place + 1) (far + 1)
+
 pub window_next : {ends : List ℕ} {last : ℕ} {value : ℕ → ℕ} {most : ℕ} {numbers filled taken : List ℕ} {place stop far : ℕ}
     → AreEnds ends last → place ≤ last → 0 < most → IsStepWindow ends value most numbers place stop → far ≡ last_of ends most place
     → filled ≡ numbers ++ values value stop (far + 1 - stop) → taken ≡ drop 1 filled
-    → (0 < length filled) × (taken ≡ values value (place + 1) (last_of ends most place - place))
-    × IsStepWindow ends value most taken (place + 1) (last_of ends most place + 1)
-window_next {ends} {value} {most} {numbers} {filled} {taken} {place} {stop} are le some is farthest put took =
-    let end : ℕ = last_of ends most place + 1 in
+    → IsNextWindow ends value most filled taken place stop far
+window_next {ends} {value = value} {most} {numbers} {filled} {taken} {place} {stop} {far} are le some is farthest put took =
     let above = are.above place le in
-    let room : stop ≤ end = omega (arith, is.before (omega (arith, are.size)), is.near) in
+    let grows : stop ≤ far + 1 = omega (arith, is.before (omega (arith, are.size)), is.near, farthest) in
     let start : place + (stop - place) ≡ stop = omega (arith, is.order) in
-    let count : stop - place + (end - stop) ≡ end - place = omega (arith, is.order, room) in
-    let all : filled ≡ values value place (end - place) =
-    put ∙ ap (λ (n : ℕ). numbers ++ values value stop (n + 1 - stop)) farthest
-    ∙ ap (λ (front : List ℕ). front ++ values value stop (end - stop)) is.numbers_are
-    ∙ ap (λ (from : ℕ). values value place (stop - place) ++ values value from (end - stop)) (sym start)
-    ∙ sym (values_joined value place (stop - place) (end - stop)) ∙ ap (values value place) count in
-    let less : end - place - 1 ≡ last_of ends most place - place = omega arith in
-    let now : taken ≡ values value (place + 1) (last_of ends most place - place) =
-    took ∙ ap (drop 1) all ∙ values_rest value place (end - place) (omega (arith, above)) ∙ ap (values value (place + 1)) less in
-    let same : last_of ends most place - place ≡ end - (place + 1) = omega arith in (
-      omega (arith, ap length all, length_values value place (end - place), above),
-      now,
-      record {
-        order = omega (arith, above);
-        near = omega arith;
-        within = omega (arith, are.within place le, are.size);
-        before = λ inside. omega (arith, are.grow place (omega (arith, are.size)));
-        numbers_are = now ∙ ap (values value (place + 1)) same;
-      },
+    let count : stop - place + (far + 1 - stop) ≡ far + 1 - place = omega (arith, is.order, grows) in
+    let joined = values_joined value place (stop - place) (far + 1 - stop) in
+    let all : filled ≡ values value place (far + 1 - place) = cc in
+    let rest = values_rest value place (far + 1 - place) (omega (arith, above, farthest)) in
+    let less : far + 1 - place - 1 ≡ far - place = omega arith in
+    let now : taken ≡ values value (place + 1) (far - place) = cc in
+    let same : far + 1 - (place + 1) ≡ far - place = omega arith in
+    record {
+      some = omega (arith, ap length all, length_values value place (far + 1 - place), above, farthest);
+      grows = grows;
+      numbers_are = now;
+      size = ap length now ∙ length_values value (place + 1) (far - place);
+      window = record {
+        order = omega (arith, above, farthest);
+        near = omega (arith, farthest);
+        within = omega (arith, are.within place le, are.size, farthest);
+        before = λ inside. omega (arith, are.grow place (omega (arith, are.size)), farthest);
+        numbers_are = cc;
+      };
+    }
+
+-- ---- the least value in a window
+
+pub least_below : {ends : List ℕ} {value : ℕ → ℕ} {most : ℕ} {filled taken : List ℕ} {place stop far least : ℕ}
+    → IsNextWindow ends value most filled taken place stop far → IsLeastOf taken least → (step : ℕ) → place < step → step ≤ far
+    → least ≤ value step
+least_below {value = value} {taken = taken} {place} {far = far} next is step past within =
+    let k : ℕ = step - (place + 1) in
+    let there : place + 1 + k ≡ step = omega arith in
+    omega (
+      arith,
+      is.below k (omega (arith, next.size)),
+      ap (λ (numbers : List ℕ). slice_index numbers k) next.numbers_are,
+      value_in value (place + 1) (far - place) k (omega arith),
+      ap value there,
     )
 
--- what is put in before a place
-pub window_put : {ends : List ℕ} {last : ℕ} {value : ℕ → ℕ} {most : ℕ} {numbers : List ℕ} {place stop : ℕ}
-    → AreEnds ends last → place ≤ last → IsStepWindow ends value most numbers place stop
-    → (stop ≤ last_of ends most place + 1) × (last_of ends most place + 1 ≤ length ends)
-window_put {place} are le is = (
-  omega (arith, is.before (omega (arith, are.size)), is.near),
-  omega (arith, are.within place le, are.size),
-)
+pub least_reached : {ends : List ℕ} {value : ℕ → ℕ} {most : ℕ} {filled taken : List ℕ} {place stop far least : ℕ}
+    → IsNextWindow ends value most filled taken place stop far → IsLeastOf taken least
+    → (step : ℕ) × (place < step) × (step ≤ far) × (value step ≡ least)
+least_reached {value = value} {place = place} {far = far} next is =
+    let k : ℕ = is.among.0 in
+    let inside : k < far - place = omega (arith, is.among.1, next.size) in (
+      place + 1 + k,
+      omega arith,
+      omega (arith, inside),
+      sym (value_in value (place + 1) (far - place) k inside) ∙ ap (λ (numbers : List ℕ). slice_index numbers k) (sym next.numbers_are)
+          ∙ is.among.2,
+    )

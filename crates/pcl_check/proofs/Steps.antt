@@ -74,14 +74,10 @@ switched {picture} {size} {above} {place} {parameter} {next} inside is letter so
     let signed = cased letter in
     let number = of_code parameter.number some in
     let le = method_small next in
-    let spelled : number_of parameter.digits.now ≡ method_code next = omega (arith, is.number_is, number) in
-    let left = left_at size picture.dpi place above in (
+    let spelled : number_of parameter.digits.now ≡ method_code next = omega (arith, is.number_is, number) in (
       record {
         given = [];
-        becomes = subst (λ (b : Bool). GivesRows size picture.dpi left [] (left_over b next above left.rows parameter.rest.now))
-            (sym signed.2)
-            (method_becomes signed.0
-            (told picture size above place parameter inside is) signed.1 spelled);
+        becomes = rw signed.2 (method_becomes signed.0 (told picture size above place parameter inside is) signed.1 spelled);
         row_is = omega arith;
         within = within;
         same = (λ yes. (yes, refl), λ h. h.0);
@@ -95,10 +91,7 @@ pub becomes_to : {size : Size} {dpi : Dpi} {old : LeftOver} {given : List (List 
     {above below : List ℕ} {rows left : ℕ} {text : List ℕ} → inside ≡ outcome → above ≡ below → rows ≡ left
     → GivesRows size dpi old given (left_over inside current above rows text)
     → GivesRows size dpi old given (left_over outcome current below left text)
-becomes_to {size} {dpi} {old} {given} {outcome} {current} {above} {below} {rows} {text} i a r b =
-    subst (λ (z : ℕ). GivesRows size dpi old given (left_over outcome current below z text)) r
-    (subst (λ (z : List ℕ). GivesRows size dpi old given (left_over outcome current z rows text)) a
-    (subst (λ (z : Bool). GivesRows size dpi old given (left_over z current above rows text)) i b))
+becomes_to i a r b = rw (sym i, sym a, sym r) b
 
 pub too_many : (picture : Picture) {size : Size} {above : List ℕ} (place : Place) {parameter : Parameter} {rows : List (List ℕ)}
     → place.inside ≡ true → IsParameter place.text.now parameter → (parameter.letter ≡ 89) ⊎ (parameter.letter ≡ 121)
@@ -126,25 +119,18 @@ skipped picture size above below place parameter is_same inside is letter some f
     let signed = cased letter in
     let high = height_small size picture.dpi in
     let number : number_of parameter.digits.now ≡ parameter.number = omega (arith, is.number_is) in
-    let left = left_at size picture.dpi place above in
-    let given = white_rows size picture.dpi parameter.number in
-    let many : length given ≡ parameter.number = length-replicate parameter.number (replicate (page_row_bytes size picture.dpi) 0) in
-    let moved = skip_becomes signed.0
+    let row : List ℕ = replicate (page_row_bytes size picture.dpi) 0 in
+    let given : List (List ℕ) = white_rows size picture.dpi parameter.number in
+    let many : length given ≡ parameter.number = length-replicate parameter.number row in
+    let moved = skip_becomes {size = size} {dpi = picture.dpi} signed.0
     (told picture size above place parameter inside is) signed.1 (omega (arith, number)) (omega (arith, number)) in
-    let counted = subst (λ (n : ℕ). GivesRows size picture.dpi left (white_rows size picture.dpi n)
-    (left_over (not signed.0) place.method (replicate (length above) 0) (left.rows - n) parameter.rest.now)) number moved in
-    let at : Type 0 = AreRowsAt picture place.row given in
-    let rows_at : (given ≡ take parameter.number (drop place.row (bitmap_rows picture))) → AreRowsAt picture place.row given =
-    λ e. subst (λ (n : ℕ). given ≡ take n (drop place.row (bitmap_rows picture))) (sym many) e in
-    let at_rows : AreRowsAt picture place.row given → given ≡ take parameter.number (drop place.row (bitmap_rows picture)) =
-    λ e. subst (λ (n : ℕ). given ≡ take n (drop place.row (bitmap_rows picture))) many e in (
+    let counted = rw number at moved in (
       record {
         given = given;
-        becomes = becomes_to
-            (sym signed.2) (sym white) (omega arith) counted;
+        becomes = becomes_to (sym signed.2) (sym white) (omega arith) counted;
         row_is = omega (arith, many);
         within = omega (arith, some, few);
-        same = (λ yes. let h = same.0 yes in (h.0, rows_at h.1), λ h. same.1 (h.0, at_rows h.1));
+        same = rw many same;
       },
       shorter place.text.now parameter is,
     )
@@ -160,9 +146,7 @@ few_bytes picture {size} {above} place {parameter} inside is letter none = λ ro
     (told picture size above place parameter inside is) letter
     (λ bytes more first n parts some row row_data.
     let fits = row_data.fits in
-    let number : parameter.number ≡ length bytes = omega (arith, is.number_is, n) in
-    let lacks = none (omega (arith, number)) in
-    omega (arith, lacks, number, ap length parts, length-append bytes more))
+    omega (arith, none, is.number_is, n, ap length parts, length-append bytes more))
     printed
 
 pub no_row : (picture : Picture) {size : Size} {above : List ℕ} (place : Place) {parameter : Parameter} {bytes : List ℕ} (more : List ℕ)
@@ -172,12 +156,12 @@ pub no_row : (picture : Picture) {size : Size} {above : List ℕ} (place : Place
     → (0 < page_height size picture.dpi - place.row → (other : List ℕ) → IsRowOf size picture.dpi other
     → IsRowData place.method above other bytes → ⊥)
     → RestPrints size picture.dpi (left_at size picture.dpi place above) rows → ⊥
-no_row picture {size} {above} place {parameter} more inside is letter le n parts none printed =
+no_row picture {size} {above} place {parameter} {bytes} more inside is letter le n parts none printed =
     no_send
     (told picture size above place parameter inside is) letter
     (λ sent behind first m joined some row row_data.
-    let same = same_fronts _ _ (omega (arith, is.number_is, m, n)) (sym joined ∙ parts) in
-    none some first row (subst (λ (z : List ℕ). IsRowData place.method above first z) same.0 row_data))
+    let same = same_fronts sent bytes (omega (arith, is.number_is, m, n)) (sym joined ∙ parts) in
+    none some first row (rw same.0 at row_data))
     printed
 
 pub sent : (picture : Picture) (size : Size) (above below : List ℕ) (place : Place) (parameter : Parameter) (bytes : List ℕ)
@@ -194,9 +178,7 @@ pub sent : (picture : Picture) (size : Size) (above below : List ℕ) (place : P
       is_same = is_same;
     }) below
 sent picture size above below place parameter bytes more is_same inside is letter lt le n parts row row_data same =
-    let left = left_at size picture.dpi place above in
-    let number : number_of parameter.digits.now ≡ length bytes = omega (arith, is.number_is, n) in
-    let fewer = shorter place.text.now parameter is in (
+    let number : number_of parameter.digits.now ≡ length bytes = omega (arith, is.number_is, n) in (
       record {
         given = below ∷ [];
         becomes = becomes_to refl refl (omega arith)
@@ -206,7 +188,7 @@ sent picture size above below place parameter bytes more is_same inside is lette
         within = omega (arith, lt);
         same = same;
       },
-      omega (arith, fewer, ap length parts, length-append bytes more.now),
+      omega (arith, shorter place.text.now parameter is, ap length parts, length-append bytes more.now),
     )
 
 -- ---- outside a sequence, and what no letter is

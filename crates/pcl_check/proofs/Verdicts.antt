@@ -13,7 +13,7 @@ use Rattle.pcl_output.proofs.RowsFrom.{length_rows}
 use Rattle.pcl_check.specs.declared.reading.start.Start.{Start}
 use Rattle.pcl_check.specs.inner.Reading.{IsStart, RestPrints, body_of, IsBodyVerdict, raster_start}
 use Rattle.pcl_check.specs.TextVerdicts.{IsSomePageText}
-use Rattle.pcl_check.proofs.Beginnings.{start_is, code_few, size_coded, size_read, IsSize}
+use Rattle.pcl_check.proofs.Beginnings.{start_is, code_few, size_coded, size_read, same_size, IsSize}
 
 -- ---- a begin and a body
 
@@ -48,19 +48,16 @@ pub record IsSameStart (copies other : ℕ) (size other_size : Size) (rest behin
 pub one_start : (dpi : Dpi) {text : List ℕ} {copies other : ℕ} {size other_size : Size} {rest behind : List ℕ} → copies < 100 → other < 100
     → text ≡ start_bytes dpi copies size ++ rest → text ≡ start_bytes dpi other other_size ++ behind
     → IsSameStart copies other size other_size rest behind
-one_start dpi {text} {copies} {size} {other_size} {rest} {behind} few less e f =
+one_start dpi {text} {copies} {size = size} {other_size} {rest} {behind} few less e f =
     let small = code_few size in
     let read : IsSize text copies (code_of size) (raster_start size dpi ++ rest) =
     record { few = omega arith; small = omega arith; text_is = e ∙ start_is dpi copies size rest } in
-    let found = size_read read
-    (record { few = less; text_is = f }) in
-    let coded : Some size ≡ Some other_size = sym (size_coded size) ∙ ap size_with_code found.code_is ∙ size_coded other_size in
-    let same : size ≡ other_size = cc in
+    let found = size_read read (record { few = less; text_is = f }) in
+    let same = same_size read (size_coded size) (record { few = less; text_is = f }) in
     record {
       copies_is = found.copies_are;
-      size_is = same;
-      rest_is = append_cancel_left (raster_start size dpi) rest behind
-          (found.more_is ∙ ap (λ (z : Size). raster_start z dpi ++ behind) (sym same));
+      size_is = sym same;
+      rest_is = append_cancel_left (raster_start size dpi) rest behind (rw same at found.more_is);
     }
 
 -- ---- verdicts
@@ -74,14 +71,10 @@ no_start none is =
 body_at : {dpi : Dpi} {text : List ℕ} (start : Start) {size : Size} {copies : ℕ} {rows : List (List ℕ)} → IsStart dpi text (Some start)
     → IsPageText dpi size copies rows text
     → (start.copies ≡ copies) × (start.size ≡ size) × RestPrints start.size dpi (body_of start.size dpi start.rest.now) rows
-body_at {dpi} start {size} {rows} begun is =
+body_at {dpi} start {size} {rows = rows} begun is =
     let body = text_body is in
-    let same = one_start dpi begun.1 is.few_copies begun.2 body.1 in (
-      same.copies_is,
-      same.size_is,
-      subst (λ (z : Size). RestPrints z dpi (body_of z dpi start.rest.now) rows) (sym same.size_is)
-          (subst (λ (z : List ℕ). RestPrints size dpi (body_of size dpi z) rows) (sym same.rest_is) body.2),
-    )
+    let same = one_start dpi begun.1 is.few_copies begun.2 body.1 in
+    (same.copies_is, same.size_is, rw (same.size_is, same.rest_is) body.2)
 
 pub no_body : (picture : Picture) {text : List ℕ} (start : Start) (may_be : Bool) → IsStart picture.dpi text (Some start)
     → IsBodyVerdict picture start.size start.rest.now may_be None → IsSomePageText picture.dpi text → ⊥
@@ -109,11 +102,7 @@ same_page {picture} {copies} {text} start begun may only =
     let is = may.0 same.0 in
     let count : length only.rows ≡ page_height picture.size picture.dpi =
     only.printed.count ∙ ap (λ (z : Size). page_height z picture.dpi) is.0 in
-    let all = whole_page picture count same.1 in
-    let printed = printed_text begun.0 begun.1 begun.2 only.printed in
-    subst (λ (z : List (List ℕ)). IsPageText picture.dpi picture.size copies z text) all
-    (subst (λ (z : ℕ). IsPageText picture.dpi picture.size z only.rows text) is.1
-    (subst (λ (z : Size). IsPageText picture.dpi z start.copies only.rows text) is.0 printed))
+    rw (sym (whole_page picture count same.1), sym is.1, sym is.0) (printed_text begun.0 begun.1 begun.2 only.printed)
 
 pub some_page : {picture : Picture} {text : List ℕ} (start : Start) {may_be is_same : Bool} → IsStart picture.dpi text (Some start)
     → IsBodyVerdict picture start.size start.rest.now may_be (Some is_same) → IsSomePageText picture.dpi text
@@ -131,7 +120,6 @@ other_page {picture} start begun may only is =
     let all = bitmap_rows picture in
     let body = body_at start begun is in
     let same : all ≡ only.rows = only.only all body.2 in
-    let front : only.rows ≡ take (length only.rows) all =
-    subst (λ (z : List (List ℕ)). z ≡ take (length z) all) same (sym (take_all (length all) all (omega arith))) in
+    let front : only.rows ≡ take (length only.rows) all = rw (sym same) (sym (take_all (length all) all (omega arith))) in
     let yes : false ≡ true = only.same.1 (may.1 (body.1, body.0), front) in
     cc
