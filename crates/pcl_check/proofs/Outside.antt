@@ -1,12 +1,12 @@
 -- Outside a sequence: another one is sequence_opened, or the text ends.
-use Rattle.std.proofs.Common.{◌≡◌, ℕ, Bool, true, false, List, [], ◌∷◌, ◌++◌, length, replicate, refl, sym, ap, subst, ◌∙◌, arith}
+use Rattle.std.proofs.Common.{◌≡◌, ℕ, true, false, List, [], ◌∷◌, ◌++◌, length, replicate, refl, sym, ap, subst, ◌∙◌, arith}
 use Rattle.std.specs.List.{flat_map, AllByRecursion}
 use Rattle.std.proofs.lemmas.List.{length-replicate, append-nil}
 use Rattle.pcl_base.specs.declared.dpi.Dpi.{Dpi}
 use Rattle.pcl_base.specs.declared.method.Method.{Method}
 use Rattle.pcl_base.specs.declared.size.Size.{Size}
 use Rattle.pcl_base.specs.Size.{page_row_bytes}
-use Rattle.pcl_output.specs.Tokens.{Token, opening, method, token_bytes, PrintsRows, end_bytes}
+use Rattle.pcl_output.specs.Tokens.{Token, opening, token_bytes, PrintsRows, end_bytes}
 use Rattle.pcl_output.specs.PageText.{IsRowOf}
 use Rattle.pcl_check.specs.inner.Reading.{LeftOver, RestPrints, GivesRows}
 use Rattle.pcl_check.proofs.Fronts.{left_over, white_rows}

@@ -1,14 +1,15 @@
 -- Elements of each kind by windows.
-use Rattle.std.proofs.Common.{◌≡◌, ℕ, ◌+◌, ◌-◌, ◌/◌, ◌<◌, ◌≤◌, List, length, take, drop, replicate, sym, ap, ◌∙◌, inl, inr, arith}
+use Rattle.std.proofs.Common.{◌≡◌, ℕ, ◌+◌, ◌-◌, ◌<◌, ◌≤◌, List, length, take, drop, sym, ap, ◌∙◌, inl, inr, arith}
 use Rattle.std.specs.Prelude.{slice_index}
 use Rattle.std.proofs.lemmas.Bool.{cases_lt}
-use Rattle.std.proofs.lemmas.List.{ext_get_or, get_or-take, get_or-drop, length-drop, length-take-le, take-take, take-replicate}
+use Rattle.std.proofs.lemmas.List.{ext_get_or, get_or-take, get_or-drop, length-drop, length-take-le}
 use Rattle.pcl_base.proofs.Lists.{run_part, start_within}
 use Rattle.pcl_base.specs.Limits.{row_limit}
 use Rattle.pcl_coders.specs.inner.Replacement.{replacement_bytes}
 use Rattle.pcl_coders.proofs.Prefixes.{run_len_of}
 use Rattle.pcl_coders.proofs.Shapes.{near_bytes, far_bytes}
 use Rattle.pcl_check.specs.inner.EdgePasses.{AreEnds}
+use Rattle.pcl_check.proofs.PlacesFound.{And}
 use Rattle.pcl_check.specs.inner.PlacePasses.{IsNotUndercut, AreGoodRuns, AreGoodLiterals, AreGoodReplacements, AreRunStops, AreStartEnds, ArePlaced, AreBehindStarts}
 
 -- ---- where steps stop at the latest
@@ -95,36 +96,27 @@ same_before_start {old} {row} {place} offset size are inside within =
     ∙ sym (get_or-drop place old k 0) ∙ sym (get_or-take offset (drop place old) k 0 lt))
 
 -- by the four counts of bytes of a command
-pub record AreKeptStarts (numbers sums ends : List ℕ) (place : ℕ) : Type 0 where
-  pub one : IsNotUndercut numbers sums ends 1 31 place
-  pub two : IsNotUndercut numbers sums ends 2 286 place
-  pub three : IsNotUndercut numbers sums ends 3 541 place
-  pub four : IsNotUndercut numbers sums ends 4 796 place
+abbrev pub AreKeptStarts : List ℕ → List ℕ → List ℕ → ℕ → Type 0
+AreKeptStarts numbers sums ends =
+    And (And (IsNotUndercut numbers sums ends 1 31) (IsNotUndercut numbers sums ends 2 286))
+    (And (IsNotUndercut numbers sums ends 3 541) (IsNotUndercut numbers sums ends 4 796))
 
 -- what a start costs at least
-start_cost : {numbers sums ends : List ℕ} {place : ℕ} (offset : ℕ) → AreKeptStarts numbers sums ends place → offset < row_limit
+start_cost : (numbers sums ends : List ℕ) {place : ℕ} (offset : ℕ) → AreKeptStarts numbers sums ends place → offset < row_limit
     → place + offset + 1 ≤ slice_index ends place
     → slice_index numbers place ≤ replacement_bytes offset + slice_index sums (place + offset + 1)
-start_cost {place = place} offset kept small within =
+start_cost numbers sums ends {place} offset kept small within =
     let stop : ℕ = place + offset + 1 in
-    grind (arith, kept.one stop, kept.two stop, kept.three stop, kept.four stop, near_bytes offset, far_bytes offset)
+    grind (arith, kept.0.0 stop, kept.0.1 stop, kept.1.0 stop, kept.1.1 stop, near_bytes offset, far_bytes offset)
 
-pub replacements_by_windows : {old row numbers sums ends : List ℕ} {place : ℕ} → length row ≤ row_limit → length numbers ≡ length row + 1
+pub replacements_by_windows : {old row numbers : List ℕ} (sums : List ℕ) {ends : List ℕ} {place : ℕ} → length row ≤ row_limit → length numbers ≡ length row + 1
     → AreStartEnds old row ends 0 → AreBehindStarts numbers sums → AreKeptStarts numbers sums ends place
     → AreGoodReplacements old row numbers place
-replacements_by_windows {old} {row} {numbers} {ends} {place} small size are behind kept = λ offset len some few within alike.
+replacements_by_windows {numbers = numbers} sums {ends} {place} small size are behind kept = λ offset len some few within alike.
     let start : ℕ = place + offset in
-    let reach = start_reached place offset are some within alike in
-    let b = behind start (omega (arith, size)) in
-    let low = b.1.least len (omega arith) (omega (arith, size)) in
-    let there : start + len ≡ place + (offset + len) = omega arith in
-    omega (
-      arith,
-      start_cost offset kept (omega arith) reach,
-      low,
-      get_or-drop start numbers len 0,
-      ap (slice_index numbers) there,
-    )
+    let least = (behind start (omega (arith, size))).1.least len (omega arith) (omega (arith, size)) in
+    let cost = start_cost numbers sums ends offset kept (omega arith) (start_reached place offset are some within alike) in
+    grind (arith, cost, least, get_or-drop start numbers len 0)
 
 pub window_by_replacements : {old row numbers : List ℕ} (sums : List ℕ) {ends : List ℕ} {cost most place : ℕ} → length old ≡ length row
     → length numbers ≡ length row + 1 → AreStartEnds old row ends 0 → AreBehindStarts numbers sums → place ≤ length row
@@ -134,28 +126,22 @@ window_by_replacements {row = row} {numbers} sums {ends} {place = place} same si
     let inside : place < length row = grind (arith, are.last) in
     let is = are.starts place (omega arith) inside in
     let offset : ℕ = stop - 1 - place in
-    let start : ℕ = place + offset in
-    let at : start + 1 ≡ stop = omega arith in
-    let b = behind start (omega (arith, is.within, size)) in
+    let b = behind (place + offset) (omega (arith, is.within, size)) in
     let len : ℕ = b.0 in
-    let there : start + len ≡ place + (offset + len) = omega arith in
     let alike = same_before_start offset same are inside (omega arith) in
-    omega (
-      arith,
-      good offset len (omega (arith, b.1.above)) (omega (arith, b.1.below)) (omega (arith, b.1.below, size, is.within)) alike,
-      b.1.sum_is,
-      get_or-drop start numbers len 0,
-      ap (slice_index numbers) there,
-      ap (slice_index sums) at,
-      spelled offset (omega arith),
-    )
+    let kept = good offset len (omega (arith, b.1.above)) (omega (arith, b.1.below)) (omega (arith, b.1.below, size, is.within)) alike in
+    grind (arith, kept, b.1.sum_is, get_or-drop (place + offset) numbers len 0, spelled offset)
 
-pub kept_starts : {old row numbers sums ends : List ℕ} {place : ℕ} → length old ≡ length row
+pub kept_starts : {old row numbers : List ℕ} (sums : List ℕ) {ends : List ℕ} {place : ℕ} → length old ≡ length row
     → length numbers ≡ length row + 1 → AreStartEnds old row ends 0 → AreBehindStarts numbers sums → place ≤ length row
     → AreGoodReplacements old row numbers place → AreKeptStarts numbers sums ends place
-kept_starts {sums = sums} same size are behind le good = record {
-  one = window_by_replacements sums same size are behind le (λ offset below. omega (arith, near_bytes offset)) good;
-  two = window_by_replacements sums same size are behind le (λ offset below. grind (arith, near_bytes offset, far_bytes offset)) good;
-  three = window_by_replacements sums same size are behind le (λ offset below. grind (arith, near_bytes offset, far_bytes offset)) good;
-  four = window_by_replacements sums same size are behind le (λ offset below. grind (arith, near_bytes offset, far_bytes offset)) good;
-}
+kept_starts sums same size are behind le good = (
+  (
+    window_by_replacements sums same size are behind le (λ offset below. grind (arith, near_bytes offset)) good,
+    window_by_replacements sums same size are behind le (λ offset below. grind (arith, near_bytes offset, far_bytes offset)) good,
+  ),
+  (
+    window_by_replacements sums same size are behind le (λ offset below. grind (arith, near_bytes offset, far_bytes offset)) good,
+    window_by_replacements sums same size are behind le (λ offset below. grind (arith, near_bytes offset, far_bytes offset)) good,
+  ),
+)

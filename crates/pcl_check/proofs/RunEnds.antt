@@ -23,7 +23,7 @@ ends_grow {rows} {ends} row are lt =
       | inl falls ↦
           let there : row + (after - row) ≡ row + 1 + (after - (row + 1)) = omega (arith, next.0) in
           let white = white_below rows row (after - row) here.1.white (omega (arith, next.0)) here.1.within in
-          absurd (next.1.longest (omega (arith, next.0, here.0, here.1.within)) (subst (λ (y : ℕ). IsWhite (row_at rows y)) there white))
+          absurd (next.1.longest (omega (arith, next.0, here.0, here.1.within)) (rw (sym there) white))
     ]
 
 pub ends_known : {rows : List (List ℕ)} {ends : List ℕ} {last : ℕ} → length rows ≡ last → last ≤ 9999 → AreRunEnds rows ends 0
@@ -45,12 +45,9 @@ ends_begin {rows} ends {last} count size =
     record {
       size = omega (arith, length-set ends last last, count);
       runs = λ row from within.
-          let same : last ≡ row = omega arith in
-          subst (λ (r : ℕ). (r ≤ slice_index (set ends last last) r) × IsWhiteRun rows r (slice_index (set ends last last) r - r)) same (
-            omega (arith, at),
-            (let none : 0 ≡ slice_index (set ends last last) last - last = omega (arith, at) in
-                subst (IsWhiteRun rows last) none (run_end (sym count))),
-          );
+          let same : row ≡ last = omega arith in
+          let none : last - last ≡ 0 = omega arith in
+          rw (same, at, none) (omega arith, run_end (sym count));
     }
 
 -- a row more
@@ -63,14 +60,8 @@ ends_more {rows} {ends} {row} {end} lt are order run =
       size = length-set ends row end ∙ are.size;
       runs = λ k from within.
           elim (cases_eq row k) [
-            | inl same ↦
-                subst (λ (r : ℕ). (r ≤ slice_index (set ends row end) r) × IsWhiteRun rows r (slice_index (set ends row end) r - r)) same
-                (omega (arith, at), subst (λ (e : ℕ). IsWhiteRun rows row (e - row)) (sym at) run)
-            | inr other ↦
-                let is = are.runs k (omega (arith, other)) within in
-                let stays : slice_index (set ends row end) k ≡ slice_index ends k =
-                get_or-set_other ends row k end 0 (λ e. other (sym e)) in
-                (omega (arith, stays, is.0), subst (λ (e : ℕ). IsWhiteRun rows k (e - k)) (sym stays) is.1)
+            | inl same ↦ rw (sym same, at) (order, run)
+            | inr other ↦ rw (get_or-set_other ends row k end 0 (λ e. other (sym e))) (are.runs k (omega (arith, other)) within)
           ];
     }
 
@@ -79,10 +70,8 @@ pub white_more : {rows : List (List ℕ)} {ends : List ℕ} {row : ℕ} → row 
     → (row ≤ slice_index ends (row + 1)) × IsWhiteRun rows row (slice_index ends (row + 1) - row)
 white_more {rows} {ends} {row} lt are white =
     let next = are.runs (row + 1) (omega arith) (omega arith) in
-    let count : slice_index ends (row + 1) - (row + 1) + 1 ≡ slice_index ends (row + 1) - row = omega (arith, next.0) in (
-      omega (arith, next.0),
-      subst (IsWhiteRun rows row) count (run_more lt next.1 white),
-    )
+    let count : slice_index ends (row + 1) - row ≡ slice_index ends (row + 1) - (row + 1) + 1 = omega (arith, next.0) in
+    (omega (arith, next.0), rw count (run_more lt next.1 white))
 
 pub inked_more : {rows : List (List ℕ)} {row : ℕ} → row < length rows → (IsWhite (row_at rows row) → ⊥) → IsWhiteRun rows row (row - row)
-inked_more {rows} {row} lt inked = let none : 0 ≡ row - row = omega arith in subst (IsWhiteRun rows row) none (run_none lt inked)
+inked_more {rows} {row} lt inked = let none : row - row ≡ 0 = omega arith in rw none (run_none lt inked)

@@ -1,5 +1,5 @@
 -- Skips by windows, and by all counts.
-use Rattle.std.proofs.Common.{◌≡◌, ℕ, ◌+◌, ◌-◌, ◌^◌, ◌<◌, ◌≤◌, Bool, true, false, List, ap, inl, inr, arith}
+use Rattle.std.proofs.Common.{◌≡◌, Bool, true, ℕ, ◌+◌, ◌-◌, ◌^◌, ◌<◌, ◌≤◌, true, List, ap, arith}
 use Rattle.std.specs.Prelude.{not}
 use Rattle.pcl_base.specs.declared.method.Method.{Method}
 use Rattle.pcl_coders.specs.Windows.{IsLeastOf}
@@ -8,7 +8,7 @@ use Rattle.pcl_output.specs.Table.{rest}
 use Rattle.pcl_output.proofs.DigitCounts.{count_is, count_le}
 use Rattle.pcl_output.proofs.TokenCosts.{rest_below, best_end}
 use Rattle.pcl_check.specs.Edges.{number_at}
-use Rattle.pcl_check.specs.inner.EdgePasses.{AreEnds, AreGoodSkipsOf, AreGoodSkipsTo, rests}
+use Rattle.pcl_check.specs.inner.EdgePasses.{At, Both, AreEnds, AreGoodSkipsOf, AreGoodSkipsTo}
 use Rattle.pcl_check.proofs.StepWindows.{last_of, IsNextWindow, least_below, least_reached}
 
 pub skips_by_window : {ends : List ℕ} (number : Node → ℕ) {method : Method} (digits : ℕ) {most : ℕ} {filled taken : List ℕ}
@@ -43,31 +43,35 @@ short_skips ends number digits short few good = λ count inside some le within.
     omega (arith, good count inside some within, count_le digits count (omega (arith, short)) (omega arith))
 
 -- the four counts of digits
-pub record AreGoodByDigits (ends : List ℕ) (number : Node → ℕ) (method : Method) (row : ℕ) : Type 0 where
-  pub one : AreGoodSkipsOf ends number method 1 9 row
-  pub two : AreGoodSkipsOf ends number method 2 99 row
-  pub three : AreGoodSkipsOf ends number method 3 999 row
-  pub four : AreGoodSkipsOf ends number method 4 9999 row
+abbrev pub AreGoodByDigits : List ℕ → (Node → ℕ) → Method → ℕ → Method → Bool → Type 0
+AreGoodByDigits ends number method =
+    Both (Both (At method true (AreGoodSkipsOf ends number method 1 9)) (At method true (AreGoodSkipsOf ends number method 2 99)))
+    (Both (At method true (AreGoodSkipsOf ends number method 3 999)) (At method true (AreGoodSkipsOf ends number method 4 9999)))
 
-pub by_digits : (ends : List ℕ) (number : Node → ℕ) (method : Method) (row : ℕ) → AreGoodSkipsTo ends number method row
-    → AreGoodByDigits ends number method row
-by_digits ends number method row good = record {
-  one = short_skips ends number 1 (omega arith) (omega arith) good;
-  two = short_skips ends number 2 (omega arith) (omega arith) good;
-  three = short_skips ends number 3 (omega arith) (omega arith) good;
-  four = short_skips ends number 4 (omega arith) (omega arith) good;
-}
+pub by_digits : (ends : List ℕ) (number : Node → ℕ) (method : Method) {row : ℕ} {current : Method} {inside : Bool}
+    → At method true (AreGoodSkipsTo ends number method) row current inside → AreGoodByDigits ends number method row current inside
+by_digits ends number method good = (
+  (
+    λ same here. short_skips ends number 1 (omega arith) (omega arith) (good same here),
+    λ same here. short_skips ends number 2 (omega arith) (omega arith) (good same here),
+  ),
+  (
+    λ same here. short_skips ends number 3 (omega arith) (omega arith) (good same here),
+    λ same here. short_skips ends number 4 (omega arith) (omega arith) (good same here),
+  ),
+)
 
-pub all_digits : {ends : List ℕ} {last : ℕ} (number : Node → ℕ) (method : Method) {row : ℕ} → AreEnds ends last → row ≤ last
-    → AreGoodByDigits ends number method row → AreGoodSkipsTo ends number method row
-all_digits number method {row = row} are le good = λ count inside some within.
+pub all_digits : {ends : List ℕ} {last : ℕ} (number : Node → ℕ) (method : Method) {row : ℕ} {current : Method} {inside : Bool}
+    → AreEnds ends last → row ≤ last → AreGoodByDigits ends number method row current inside
+    → At method true (AreGoodSkipsTo ends number method) row current inside
+all_digits number method {row = row} are le good = λ same here count inside some within.
     let few : count ≤ 9999 = omega (arith, are.within row le, are.few) in
     grind (
       arith,
-      good.one count inside some,
-      good.two count inside some,
-      good.three count inside some,
-      good.four count inside some,
+      good.0.0 same here count inside some,
+      good.0.1 same here count inside some,
+      good.1.0 same here count inside some,
+      good.1.1 same here count inside some,
       count_is 0 count,
       count_is 1 count,
       count_is 2 count,

@@ -1,12 +1,11 @@
 -- Steps of the reader, from the contracts of what it calls.
-use Rattle.std.proofs.Common.{◌≡◌, ℕ, zero, suc, ◌+◌, ◌-◌, ◌<◌, ◌≤◌, ◌⊎◌, ◌==◌, min, Bool, true, false, IsTrue, List, [], ◌∷◌, ◌++◌, length, take, drop, replicate, Option, Some, None, inl, inr, refl, sym, ap, subst, ◌∙◌, arith}
+use Rattle.std.proofs.Common.{◌≡◌, ℕ, ◌+◌, ◌-◌, ◌<◌, ◌≤◌, ◌⊎◌, ◌==◌, Bool, true, false, IsTrue, List, [], ◌∷◌, ◌++◌, length, take, drop, replicate, Some, None, inl, inr, refl, sym, ap, ◌∙◌, arith}
 use Rattle.std.specs.Prelude.{not, ◌↔◌}
 use Rattle.std.specs.Borrow.{Bor}
 use Rattle.std.proofs.lemmas.List.{length-append, length-replicate}
 use Rattle.std.proofs.lemmas.Bool.Decides.{nat_tests}
 use Rattle.pcl_base.proofs.Lists.{same_fronts}
 use Rattle.pcl_base.specs.declared.method.Method.{Method}
-use Rattle.pcl_base.specs.declared.method.Method.TheVariants.{Plain, Runs, Packed, Delta}
 use Rattle.pcl_base.specs.declared.dpi.Dpi.{Dpi}
 use Rattle.pcl_base.specs.declared.size.Size.{Size}
 use Rattle.pcl_base.specs.Method.{method_code, method_with_code}
@@ -19,7 +18,7 @@ use Rattle.pcl_rows.specs.Rows.{IsRowData}
 use Rattle.pcl_output.proofs.TokenCosts.{method_small}
 use Rattle.pcl_check.specs.declared.reading.body.Place.{Place}
 use Rattle.pcl_check.specs.declared.reading.parameter.Parameter.{Parameter}
-use Rattle.pcl_check.specs.inner.Reading.{LeftOver, IsParameter, RestPrints, GivesRows, left_at, AreRowsAt, IsStep}
+use Rattle.pcl_check.specs.inner.Reading.{LeftOver, IsParameter, RestPrints, GivesRows, left_at, IsStep}
 use Rattle.pcl_check.proofs.Fronts.{letter_code, left_over, white_rows}
 use Rattle.pcl_check.proofs.Outside.{opening_bytes, opening_becomes}
 use Rattle.pcl_check.proofs.Moves.{Told, with_code, no_method, no_skip, no_send, method_becomes, skip_becomes, send_becomes}

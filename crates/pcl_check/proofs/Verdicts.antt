@@ -1,11 +1,11 @@
 -- Page texts by their begin and their body.
-use Rattle.std.proofs.Common.{◌≡◌, ℕ, ◌<◌, Bool, true, false, IsTrue, List, ◌++◌, length, take, Some, None, refl, sym, ap, subst, ◌∙◌, append_assoc, arith}
+use Rattle.std.proofs.Common.{◌≡◌, ℕ, ◌<◌, Bool, true, false, IsTrue, List, ◌++◌, length, take, Some, None, refl, sym, ap, ◌∙◌, append_assoc, arith}
 use Rattle.std.specs.Prelude.{◌↔◌}
 use Rattle.std.specs.List.{flat_map}
 use Rattle.std.proofs.lemmas.List.{take_all, append_cancel_left, append_assoc}
 use Rattle.pcl_base.specs.declared.dpi.Dpi.{Dpi}
 use Rattle.pcl_base.specs.declared.size.Size.{Size}
-use Rattle.pcl_base.specs.Size.{page_height, page_row_bytes, code_of, size_with_code}
+use Rattle.pcl_base.specs.Size.{page_height, page_row_bytes, code_of}
 use Rattle.pcl_bitmap.specs.Bitmap.{Picture}
 use Rattle.pcl_output.specs.Tokens.{token_bytes, start_bytes, end_bytes}
 use Rattle.pcl_output.specs.PageText.{IsPageText, bitmap_rows}

@@ -1,5 +1,4 @@
-use Rattle.std.proofs.Common.{◌≡◌, ℕ, Bool, List, length, sym, ap, subst, ◌∙◌, arith}
-use Rattle.std.specs.Prelude.{Option}
+use Rattle.std.proofs.Common.{◌≡◌, ℕ, Bool, List, length, ap, ◌∙◌, arith}
 use Rattle.pcl_base.specs.declared.dpi.Dpi.{Dpi}
 use Rattle.pcl_base.specs.declared.size.Size.{Size}
 use Rattle.pcl_base.specs.declared.method.Method.{Method}
@@ -9,9 +8,8 @@ use Rattle.pcl_bitmap.specs.declared.page.Page.{Page}
 use Rattle.pcl_output.specs.PageText.{bitmap_rows}
 use Rattle.pcl_output.specs.Table.{node_number}
 use Rattle.pcl_output.proofs.RowsFrom.{length_rows}
-use Rattle.pcl_output.specs.declared.node.Node.{Node}
-use Rattle.pcl_check.specs.Edges.{FindsBad, IsGoodNumber}
-use Rattle.pcl_check.specs.inner.EdgePasses.{Both, AreRunEnds, AreEnds, IsGoodBy, IsGoodIn, first_found}
+use Rattle.pcl_check.specs.Edges.{IsGoodNumber}
+use Rattle.pcl_check.specs.inner.EdgePasses.{AreRunEnds, AreEnds, IsGoodIn}
 use Rattle.pcl_base.proofs.PageBounds.{height_small}
 use Rattle.pcl_check.proofs.RunEnds.{ends_known}
 use Rattle.pcl_check.proofs.Found.{first_of_four, finds_too}
@@ -22,8 +20,7 @@ use Rattle.pcl_check.proofs.edges.first_bad.Goals as goal
 rows_of_page : (page : Page) → length (bitmap_rows page.bitmap) ≡ page_height page.size page.dpi
 rows_of_page page =
     let picture = page.bitmap in
-    length_rows (page_height picture.size picture.dpi) (page_row_bytes picture.size picture.dpi) picture.bytes
-    ∙ ap (λ (z : Size). page_height z picture.dpi) page.size_is ∙ ap (λ (d : Dpi). page_height page.size d) page.dpi_is
+    let count = length_rows (page_height picture.size picture.dpi) (page_row_bytes picture.size picture.dpi) picture.bytes in cc
 
 ends_of_page : (page : Page) {ends : List ℕ} → AreRunEnds (bitmap_rows page.bitmap) ends 0 → AreEnds ends (page_height page.size page.dpi)
 ends_of_page page are =

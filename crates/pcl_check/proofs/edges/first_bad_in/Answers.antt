@@ -1,11 +1,9 @@
-use Rattle.std.proofs.Common.{◌≡◌, ℕ, ◌-◌, true, false, Bool, length, sym, ap, subst, ◌∙◌, arith}
-use Rattle.std.specs.Prelude.{Option}
+use Rattle.std.proofs.Common.{◌≡◌, ℕ, ◌-◌, true, false, Bool, length, subst, arith}
 use Rattle.pcl_base.specs.declared.method.Method.{Method}
 use Rattle.pcl_base.specs.Size.{page_height}
 use Rattle.pcl_output.specs.Table.{node_number}
-use Rattle.pcl_output.specs.declared.node.Node.{Node}
 use Rattle.pcl_check.specs.Edges.{FindsBad, AreGoodSwitches}
-use Rattle.pcl_check.specs.inner.EdgePasses.{At, Both, IsGoodStart, IsGoodSending, AreGoodSkipsTo, IsGoodIn, first_found}
+use Rattle.pcl_check.specs.inner.EdgePasses.{At, IsGoodStart, IsGoodSending, AreGoodSkipsTo, IsGoodIn}
 use Rattle.pcl_check.proofs.Found.{first_of_four, finds_too}
 use Rattle.pcl_check.proofs.EdgesByRows.{InParts, good_of_parts, parts_of_good}
 use Rattle.pcl_check.proofs.edges.first_bad_in.Goals as goal

@@ -1,9 +1,9 @@
-use Rattle.std.proofs.Common.{◌≡◌, ℕ, ◌-◌, List, length, sym, ap, subst, ◌∙◌, arith}
+use Rattle.std.proofs.Common.{◌≡◌, ℕ, ◌-◌, List, length, subst, arith}
 use Rattle.std.specs.Prelude.{Option}
 use Rattle.pcl_check.specs.Places.{FindsPlace}
-use Rattle.pcl_check.specs.inner.PlacePasses.{IsNotUndercut, AreGoodReplacements, first_found_place}
+use Rattle.pcl_check.specs.inner.PlacePasses.{IsNotUndercut, AreGoodReplacements}
 use Rattle.pcl_check.proofs.PlacesFound.{And, first_of_four, finds_place_too}
-use Rattle.pcl_check.proofs.PlaceKinds.{replacements_by_windows, kept_starts}
+use Rattle.pcl_check.proofs.PlaceKinds.{AreKeptStarts, replacements_by_windows, kept_starts}
 use Rattle.pcl_check.proofs.places.first_bad_replacement.Goals as goal
 
 pub returns : goal.returns
@@ -21,15 +21,9 @@ returns c =
     λ cost most found is.
     subst (λ (n : ℕ). FindsPlace (Kept cost most) n found) last
     (subst (λ (wide : List ℕ). FindsPlace (IsNotUndercut wide sums ends cost most) (length wide - 1) found) c.widen.ensures is) in
-    finds_place_too (And (And (Kept 1 31) (Kept 2 286)) (And (Kept 3 541) (Kept 4 796))) (AreGoodReplacements old row numbers)
-    c.first_place-3.result
-    (λ place le kept.
-    replacements_by_windows c.requires.small c.requires.size c.fill_start_ends.ensures
-    c.fill_behind_starts.ensures (record { one = kept.0.0; two = kept.0.1; three = kept.1.0; four = kept.1.1 }))
-    (λ place le good.
-    let kept = kept_starts c.requires.same c.requires.size c.fill_start_ends.ensures
-    c.fill_behind_starts.ensures le good in
-    ((kept.one, kept.two), (kept.three, kept.four)))
+    finds_place_too (AreKeptStarts numbers sums ends) (AreGoodReplacements old row numbers) c.first_place-3.result
+    (λ place le. replacements_by_windows sums c.requires.small c.requires.size c.fill_start_ends.ensures c.fill_behind_starts.ensures)
+    (λ place le. kept_starts sums c.requires.same c.requires.size c.fill_start_ends.ensures c.fill_behind_starts.ensures le)
     (first_of_four (Kept 1 31) (Kept 2 286) (Kept 3 541) (Kept 4 796) (length row) c.first_undercut-one.result c.first_undercut-two.result
     c.first_undercut-three.result c.first_undercut-four.result
     (to 1 31 c.first_undercut-one.result c.first_undercut-one.ensures) (to 2 286 c.first_undercut-two.result c.first_undercut-two.ensures)

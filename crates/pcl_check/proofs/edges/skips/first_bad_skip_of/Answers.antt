@@ -1,4 +1,4 @@
-use Rattle.std.proofs.Common.{◌≡◌, ℕ, ◌+◌, ◌-◌, ◌≤◌, List, length, refl, sym, ap, subst, ◌∙◌, below_more, arith, ◌++◌}
+use Rattle.std.proofs.Common.{ℕ, ◌-◌, ◌≤◌, length, refl, below_more, arith}
 use Rattle.std.proofs.lemmas.Bool.{iff_false}
 use Rattle.pcl_output.specs.Table.{rest, node_number}
 use Rattle.pcl_check.specs.inner.EdgePasses.{AreGoodSkipsOf}

@@ -1,5 +1,4 @@
-use Rattle.std.proofs.Common.{◌≡◌, ℕ, ◌+◌, ◌-◌, ◌≤◌, List, length, refl, sym, ap, subst, ◌∙◌, below_more, arith, ◌++◌}
-use Rattle.std.specs.Prelude.{slice_index}
+use Rattle.std.proofs.Common.{ℕ, ◌-◌, ◌≤◌, length, refl, below_more, arith}
 use Rattle.std.proofs.lemmas.Bool.{iff_false}
 use Rattle.pcl_check.specs.inner.PlacePasses.{IsNotUndercut}
 use Rattle.pcl_check.proofs.StepWindows.{window_begins, window_next, least_below, least_reached}

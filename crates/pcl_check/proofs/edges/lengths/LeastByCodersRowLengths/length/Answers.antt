@@ -19,17 +19,9 @@ least_of_page : (page : Page) {method : Method} {seed row : List ℕ} {y least :
     → IsLeastLength method seed row least → IsLeastOfRow (page_row_bytes page.size page.dpi) (bitmap_rows page.bitmap) y method least
 least_of_page page {method} {seed} {row} {y} {least} lt s r is =
     let picture = page.bitmap in
-    let inside : y < page_height picture.size picture.dpi =
-    subst (λ (n : ℕ). y < n) (sym (ap (λ (z : Size). page_height z picture.dpi) page.size_is ∙ ap (λ (d : Dpi). page_height page.size d)
-    page.dpi_is)) lt in
-    let width : page_row_bytes picture.size picture.dpi ≡ page_row_bytes page.size page.dpi =
-    ap (λ (z : Size). page_row_bytes z picture.dpi) page.size_is ∙ ap (λ (d : Dpi). page_row_bytes page.size d) page.dpi_is in
-    let seed_is : seed ≡ row_above (page_row_bytes page.size page.dpi) (bitmap_rows picture) y =
-    s ∙ ap (λ (w : ℕ). row_above w (bitmap_rows picture) y) width in
-    let row_is : row ≡ row_at (bitmap_rows picture) y =
-    r ∙ sym (row_of_bytes y (page_height picture.size picture.dpi) (page_row_bytes picture.size picture.dpi) picture.bytes inside) in
-    subst (λ (above : List ℕ). IsLeastLength method above (row_at (bitmap_rows picture) y) least) seed_is
-    (subst (λ (bytes : List ℕ). IsLeastLength method seed bytes least) row_is is)
+    let inside : y < page_height picture.size picture.dpi = rw (page.size_is, page.dpi_is) lt in
+    let bytes = row_of_bytes y (page_height picture.size picture.dpi) (page_row_bytes picture.size picture.dpi) picture.bytes inside in
+    rw (sym page.size_is, sym page.dpi_is, sym s, bytes, sym r) is
 
 pub returns-clause-counts : goal.returns-clause-counts
 returns-clause-counts c =
