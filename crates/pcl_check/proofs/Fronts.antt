@@ -80,8 +80,7 @@ white_front size dpi zero rows are le white = refl
 white_front size dpi (suc count) [] are le white = absurd (omega arith)
 white_front size dpi (suc count) (row ∷ rows) are le white =
     let first : row ≡ replicate (page_row_bytes size dpi) 0 = white_is_zeros row white.0 ∙ ap (λ (n : ℕ). replicate n 0) are.0.0 in
-    let rest = white_front size dpi count rows are.1 (omega arith) white.1 in
-    ap (λ (r : List ℕ). r ∷ rows) first ∙ ap (λ (rs : List (List ℕ)). replicate (page_row_bytes size dpi) 0 ∷ rs) rest
+    let rest = white_front size dpi count rows are.1 (omega arith) white.1 in cc
 
 -- what is at the front, by the tokens
 front_by : {size : Size} {dpi : Dpi} {current : Method} {above : List ℕ} {left : ℕ} (digits : List ℕ) {byte : ℕ} {rest : List ℕ}
@@ -95,15 +94,15 @@ front_by digits are off (opening ∷ tokens) rows e n all p = absurd p
 front_by digits {byte} {rest} are off (method spelled next ends ∷ tokens) rows e n all p =
     let more = flat_map token_bytes tokens in
     let same = same_front [] more end_bytes are p.0.0 off (no_digit_77 ends)
-    (e ∙ ap (λ (l : List ℕ). ((spelled ++ l) ++ more) ++ end_bytes) (letter_is 77 ends)) in
+    (rw (letter_is 77 ends) at e) in
     is_method next ends same.1 (ap number_of same.0 ∙ p.0.1)
     (record { count = n; rows_are = all; tokens = tokens; spelled = same.2; prints = p.1 })
 front_by {size} {dpi} {current} {above} {left} digits {byte} {rest} are off (skip spelled count ends ∷ tokens) rows e n all p =
     let more = flat_map token_bytes tokens in
     let same = same_front [] more end_bytes are p.0.0 off (no_digit_89 ends)
-    (e ∙ ap (λ (l : List ℕ). ((spelled ++ l) ++ more) ++ end_bytes) (letter_is 89 ends)) in
+    (rw (letter_is 89 ends) at e) in
     let number : number_of digits ≡ count = ap number_of same.0 ∙ p.0.1 in
-    subst (λ (k : ℕ). Foremost size dpi current above left k byte rest rows) (sym number)
+    rw number
     (is_skip ends (drop count rows) same.1 p.1 (omega (arith, p.2)) (white_front size dpi count rows all p.2 p.3)
     (record {
       count = omega (arith, length-drop count rows, p.2);

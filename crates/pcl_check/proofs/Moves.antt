@@ -78,8 +78,7 @@ pub all_white : (size : Size) (dpi : Dpi) (rows : List (List ℕ)) → AllByRecu
 all_white size dpi [] are white = refl
 all_white size dpi (row ∷ rows) are white =
     let first : row ≡ replicate (page_row_bytes size dpi) 0 = white_is_zeros row white.0 ∙ ap (λ (n : ℕ). replicate n 0) are.0.0 in
-    ap (λ (r : List ℕ). r ∷ rows) first
-    ∙ ap (λ (rs : List (List ℕ)). replicate (page_row_bytes size dpi) 0 ∷ rs) (all_white size dpi rows are.1 white.1)
+    let rest = all_white size dpi rows are.1 white.1 in cc
 
 -- ---- a number and the byte after it at the front
 
@@ -99,8 +98,7 @@ front_at {digits} told printed =
 spelled_by : {text : List ℕ} (digits : List ℕ) {byte : ℕ} {rest : List ℕ} {sent : ℕ} (bytes tokens end : List ℕ)
     → text ≡ digits ++ byte ∷ rest
     → byte ≡ sent → rest ≡ bytes ++ (tokens ++ end) → text ≡ ((digits ++ (sent ∷ bytes)) ++ tokens) ++ end
-spelled_by digits {rest} {sent} bytes tokens end e b r =
-    e ∙ ap (λ (c : ℕ). digits ++ c ∷ rest) b ∙ ap (λ (more : List ℕ). digits ++ sent ∷ more) r ∙ sym (regroup digits sent bytes tokens end)
+spelled_by digits {sent = sent} bytes tokens end e b r = rw (e, b, r) (sym (regroup digits sent bytes tokens end))
 
 -- ---- a method
 
@@ -110,11 +108,7 @@ pub method_becomes : {size : Size} {dpi : Dpi} {left : LeftOver} {digits : List 
 unfolding PrintsRows
 method_becomes {size} {dpi} {left} {digits} {rest} {next} ends told b n = record {
   splits = λ rows printed. elim (front_at told printed) [
-    | is_method other last c m p ↦ (
-      rows,
-      refl,
-      rw (sym (same_method (sym m ∙ n)), sym (same_case 77 last ends (sym c ∙ b))) p,
-    )
+    | is_method other last c m p ↦ (rows, refl, rw (sym (same_method (sym m ∙ n)), sym (same_case 77 last ends (sym c ∙ b))) p)
     | is_skip last others c some few r p ↦ absurd (letters_77_89 ends last (sym b ∙ c))
     | is_send bytes more first others c m r some f row row_data p ↦ absurd (letters_77_87 ends (sym b ∙ c))
   ];
@@ -122,9 +116,7 @@ method_becomes {size} {dpi} {left} {digits} {rest} {next} ends told b n = record
     count = printed.count;
     rows_are = printed.rows_are;
     tokens = method digits next ends ∷ printed.tokens;
-    spelled = spelled_by digits [] (flat_map token_bytes printed.tokens) end_bytes told.text b
-        printed.spelled
-        ∙ ap (λ (l : List ℕ). ((digits ++ l) ++ flat_map token_bytes printed.tokens) ++ end_bytes) (sym (letter_is 77 ends));
+    spelled = rw (letter_is 77 ends) (spelled_by digits [] (flat_map token_bytes printed.tokens) end_bytes told.text b printed.spelled);
     prints = rw told.inside ((told.are_digits, n), printed.prints);
   };
 }
@@ -139,11 +131,7 @@ unfolding PrintsRows
 skip_becomes {size} {dpi} {left} {digits} {rest} ends told b some few = record {
   splits = λ rows printed. elim (front_at told printed) [
     | is_method other last c m p ↦ absurd (letters_77_89 last ends (sym c ∙ b))
-    | is_skip last others c positive within r p ↦ (
-      others,
-      r,
-      rw (sym (same_case 89 last ends (sym c ∙ b))) p,
-    )
+    | is_skip last others c positive within r p ↦ (others, r, rw (sym (same_case 89 last ends (sym c ∙ b))) p)
     | is_send bytes more first others c m r positive f row row_data p ↦ absurd (letters_89_87 ends (sym b ∙ c))
   ];
   joins = λ rows printed.
@@ -159,9 +147,7 @@ skip_becomes {size} {dpi} {left} {digits} {rest} ends told b some few = record {
         count = all;
         rows_are = white_before size dpi count rows printed.rows_are;
         tokens = skip digits count ends ∷ printed.tokens;
-        spelled = spelled_by digits [] (flat_map token_bytes printed.tokens) end_bytes told.text b
-            printed.spelled
-            ∙ ap (λ (l : List ℕ). ((digits ++ l) ++ flat_map token_bytes printed.tokens) ++ end_bytes) (sym (letter_is 89 ends));
+        spelled = rw (letter_is 89 ends) (spelled_by digits [] (flat_map token_bytes printed.tokens) end_bytes told.text b printed.spelled);
         prints = rw told.inside ((told.are_digits, refl), some, within, are_white, behind);
       };
 }
@@ -251,13 +237,11 @@ digits_only current above are (opening ∷ tokens) rows e p = p
 digits_only current above {text} are (method spelled next ends ∷ tokens) rows e p =
     let more = flat_map token_bytes tokens in
     no_split is_digit text spelled (more ++ end_bytes) are (no_digit_77 ends)
-    (e ∙ ap (λ (l : List ℕ). ((spelled ++ l) ++ more) ++ end_bytes) (letter_is 77 ends)
-    ∙ regroup spelled (letter_code 77 ends) [] more end_bytes)
+    (rw (letter_is 77 ends) at e ∙ regroup spelled (letter_code 77 ends) [] more end_bytes)
 digits_only current above {text} are (skip spelled count ends ∷ tokens) rows e p =
     let more = flat_map token_bytes tokens in
     no_split is_digit text spelled (more ++ end_bytes) are (no_digit_89 ends)
-    (e ∙ ap (λ (l : List ℕ). ((spelled ++ l) ++ more) ++ end_bytes) (letter_is 89 ends)
-    ∙ regroup spelled (letter_code 89 ends) [] more end_bytes)
+    (rw (letter_is 89 ends) at e ∙ regroup spelled (letter_code 89 ends) [] more end_bytes)
 digits_only current above {text} are (send spelled bytes ∷ tokens) rows e p =
     let more = flat_map token_bytes tokens in
     no_split is_digit text spelled (bytes ++ (more ++ end_bytes)) are refl (e ∙ regroup spelled 87 bytes more end_bytes)

@@ -1,6 +1,7 @@
 -- The values at some places.
-use Rattle.std.proofs.Common.{◌≡◌, ℕ, zero, suc, ◌+◌, ◌-◌, ◌<◌, [], ◌∷◌, ◌++◌, length, drop, refl, ap, ◌∙◌, arith}
+use Rattle.std.proofs.Common.{◌≡◌, ℕ, zero, suc, ◌+◌, ◌-◌, ◌<◌, ◌≤◌, List, [], ◌∷◌, ◌++◌, length, drop, refl, ap, ◌∙◌, arith, sym}
 use Rattle.std.specs.Prelude.{slice_index}
+use Rattle.std.proofs.lemmas.List.{append-nil, append_assoc}
 use Rattle.pcl_check.specs.inner.EdgePasses.{values}
 
 pub length_values : (value : ℕ → ℕ) (from count : ℕ) → length (values value from count) ≡ count
@@ -37,3 +38,16 @@ no_values value from none = ap (values value from) none
 pub values_more : (value : ℕ → ℕ) (from count : ℕ) → values value from (count + 1) ≡ values value from count ++ value (from + count) ∷ []
 unfolding values
 values_more value from count = values_joined value from count 1
+
+-- values put behind others, one after the other
+pub put_none : (value : ℕ → ℕ) (before : List ℕ) (from : ℕ) → before ≡ before ++ values value from (from - from)
+put_none value before from = rw (no_values value from {count = from - from} (omega arith)) (sym (append-nil before))
+
+pub put_more : (value : ℕ → ℕ) (before : List ℕ) {numbers new : List ℕ} {from place number : ℕ} → from ≤ place
+    → numbers ≡ before ++ values value from (place - from) → new ≡ numbers ++ number ∷ [] → number ≡ value place
+    → new ≡ before ++ values value from (place + 1 - from)
+put_more value before {from = from} {place} {number} order so_far put is =
+    let there : from + (place - from) ≡ place = omega arith in
+    let count : place - from + 1 ≡ place + 1 - from = omega arith in
+    let more = values_more value from (place - from) in
+    let joined = append_assoc before (values value from (place - from)) (number ∷ []) in cc

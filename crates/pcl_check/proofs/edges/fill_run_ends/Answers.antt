@@ -1,14 +1,11 @@
-use Rattle.std.proofs.Common.{◌≡◌, ◌+◌, ◌-◌, ◌<◌, ℕ, length, set, sym, ap, subst, ◌∙◌, arith}
+use Rattle.std.proofs.Common.{◌≡◌, ◌+◌, ◌-◌, ◌<◌, ℕ, length, sym, ◌∙◌, arith}
 use Rattle.std.proofs.lemmas.Bool.{iff_false}
 use Rattle.std.proofs.lemmas.List.Elements.{All-from_recursion, recursion_from_All}
-use Rattle.pcl_base.specs.declared.dpi.Dpi.{Dpi}
-use Rattle.pcl_base.specs.declared.size.Size.{Size}
 use Rattle.pcl_base.specs.Size.{page_height, page_row_bytes}
 use Rattle.pcl_output.specs.Tokens.{IsWhite}
 use Rattle.pcl_output.specs.Nodes.{row_at}
 use Rattle.pcl_output.specs.PageText.{bitmap_rows}
 use Rattle.pcl_output.proofs.RowsFrom.{length_rows, row_of_bytes}
-use Rattle.pcl_check.specs.inner.EdgePasses.{AreRunEnds}
 use Rattle.pcl_check.proofs.RunEnds.{ends_begin, ends_more, white_more, inked_more}
 use Rattle.pcl_check.proofs.edges.fill_run_ends.Goals as goal
 use Rattle.pcl_check.proofs.edges.fill_run_ends.Goals.{then-is_blank, else-is_blank}

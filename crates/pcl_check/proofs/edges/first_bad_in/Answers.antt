@@ -21,12 +21,10 @@ returns g c =
     let Switches : ℕ → Method → Bool → Type 0 = At method true (AreGoodSwitches number method) in
     let Sending : ℕ → Method → Bool → Type 0 = At method true (IsGoodSending last Counts number method) in
     let Skips : ℕ → Method → Bool → Type 0 = At method true (AreGoodSkipsTo ends number method) in
-    let start = subst (λ (n : ℕ). FindsBad Start n c.first_bad_start-outside.result) rows c.first_bad_start-outside.ensures in
-    let switch = subst (λ (n : ℕ). FindsBad Switches n c.first_bad_switch-switch.result) rows c.first_bad_switch-switch.ensures in
-    let skip = subst (λ (n : ℕ). FindsBad Skips n c.first_bad_skip-skip.result) rows c.first_bad_skip-skip.ensures in
     finds_too (InParts ends last Counts number method) (IsGoodIn ends last Counts number method) c.first_of-3.result
     (λ row current inside le. good_of_parts ends Counts number inside)
     (λ row current inside le. parts_of_good ends Counts number inside)
     (first_of_four Start Switches Sending Skips last c.first_bad_start-outside.result c.first_bad_switch-switch.result
-    c.first_bad_sending-sent.result c.first_bad_skip-skip.result start switch c.first_bad_sending-sent.ensures skip
+    c.first_bad_sending-sent.result c.first_bad_skip-skip.result (rw rows at c.first_bad_start-outside.ensures)
+    (rw rows at c.first_bad_switch-switch.ensures) c.first_bad_sending-sent.ensures (rw rows at c.first_bad_skip-skip.ensures)
     c.first_of.ensures c.first_of-2.ensures c.first_of-3.ensures)

@@ -12,10 +12,8 @@ returns c =
     let ends = c.fill_ends.new.ends in
     let size : length ends ≡ length numbers = omega (arith, c.fill_ends.auto.ends, c.requires.room) in
     let wide : length sums - 1 ≡ length numbers - 1 = omega (arith, c.add_places.auto.sums, c.requires.room) in
-    let found = subst (λ (n : ℕ). FindsPlace (IsNotUndercut sums sums ends 1 128) n c.first_undercut.result) wide
-    c.first_undercut.ensures in
     finds_place_too (IsNotUndercut sums sums ends 1 128) (AreGoodLiterals numbers) c.first_undercut.result
     (λ place le. literals_by_window numbers sums ends c.add_places.ensures size c.fill_ends.ensures)
     (λ place le.
     window_by_literals numbers sums ends c.add_places.ensures size c.fill_ends.ensures (omega (arith, le, c.requires.some)))
-    found
+    (rw wide at c.first_undercut.ensures)

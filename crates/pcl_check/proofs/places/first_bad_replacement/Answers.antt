@@ -15,18 +15,11 @@ returns c =
     let ends = c.fill_start_ends.new.ends in
     let last : length numbers - 1 ≡ length row = omega (arith, c.requires.size) in
     let Kept : ℕ → ℕ → ℕ → Type 0 = λ cost most. IsNotUndercut numbers sums ends cost most in
-    let to : (cost most : ℕ) (found : Option ℕ)
-    → FindsPlace (IsNotUndercut c.widen.new.wide sums ends cost most) (length c.widen.new.wide - 1) found
-    → FindsPlace (Kept cost most) (length row) found =
-    λ cost most found is.
-    subst (λ (n : ℕ). FindsPlace (Kept cost most) n found) last
-    (subst (λ (wide : List ℕ). FindsPlace (IsNotUndercut wide sums ends cost most) (length wide - 1) found) c.widen.ensures is) in
     finds_place_too (AreKeptStarts numbers sums ends) (AreGoodReplacements old row numbers) c.first_place-3.result
     (λ place le. replacements_by_windows sums c.requires.small c.requires.size c.fill_start_ends.ensures c.fill_behind_starts.ensures)
     (λ place le. kept_starts sums c.requires.same c.requires.size c.fill_start_ends.ensures c.fill_behind_starts.ensures le)
     (first_of_four (Kept 1 31) (Kept 2 286) (Kept 3 541) (Kept 4 796) (length row) c.first_undercut-one.result c.first_undercut-two.result
     c.first_undercut-three.result c.first_undercut-four.result
-    (to 1 31 c.first_undercut-one.result c.first_undercut-one.ensures) (to 2 286 c.first_undercut-two.result c.first_undercut-two.ensures)
-    (to 3 541 c.first_undercut-three.result c.first_undercut-three.ensures)
-    (to 4 796 c.first_undercut-four.result c.first_undercut-four.ensures)
+    (rw (c.widen.ensures, last) at c.first_undercut-one.ensures) (rw (c.widen.ensures, last) at c.first_undercut-two.ensures)
+    (rw (c.widen.ensures, last) at c.first_undercut-three.ensures) (rw (c.widen.ensures, last) at c.first_undercut-four.ensures)
     c.first_place.ensures c.first_place-2.ensures c.first_place-3.ensures)

@@ -9,53 +9,45 @@ use Rattle.pcl_check.proofs.places.first_bad_step.Goals as goal
 
 pub returns-in-Plain : goal.returns-in-Plain
 returns-in-Plain c =
-    let old = c.args.old.now in
-    let row = c.args.row.now in
     let numbers = c.args.numbers.now in
-    let found = c.first_bad_byte.result in
-    let last : length numbers - 1 ≡ length row = omega (arith, c.requires.size) in
-    subst (λ (m : Method). FindsPlace (AreGoodSteps m old row numbers) (length row) found) (sym c.in-Plain.is)
-    (finds_place_too (IsGoodByte numbers) (AreGoodSteps Plain old row numbers) found
+    let last : length numbers - 1 ≡ length c.args.row.now = omega (arith, c.requires.size) in
+    rw c.in-Plain.is
+    (finds_place_too (IsGoodByte numbers) (AreGoodSteps Plain c.args.old.now c.args.row.now numbers) c.first_bad_byte.result
     (λ place le. steps_plain numbers c.requires.same c.requires.size le)
-    (λ place le. bytes_of_steps old numbers c.requires.size)
-    (subst (λ (n : ℕ). FindsPlace (IsGoodByte numbers) n found) last c.first_bad_byte.ensures))
+    (λ place le. bytes_of_steps c.args.old.now numbers c.requires.size)
+    (rw last at c.first_bad_byte.ensures))
 
 pub returns-in-Runs : goal.returns-in-Runs
 returns-in-Runs c =
-    let old = c.args.old.now in
     let row = c.args.row.now in
     let numbers = c.args.numbers.now in
-    let found = c.first_bad_run.result in
-    subst (λ (m : Method). FindsPlace (AreGoodSteps m old row numbers) (length row) found) (sym c.in-Runs.is)
-    (finds_place_too (AreGoodRuns row numbers 256) (AreGoodSteps Runs old row numbers) found
+    rw c.in-Runs.is
+    (finds_place_too (AreGoodRuns row numbers 256) (AreGoodSteps Runs c.args.old.now row numbers) c.first_bad_run.result
     (λ place le. steps_runs numbers c.requires.same le)
-    (λ place le. runs_of_steps old numbers) c.first_bad_run.ensures)
+    (λ place le. runs_of_steps c.args.old.now numbers) c.first_bad_run.ensures)
 
 pub returns-in-Packed : goal.returns-in-Packed
 returns-in-Packed c =
-    let old = c.args.old.now in
     let row = c.args.row.now in
     let numbers = c.args.numbers.now in
     let one = c.first_bad_literal.result in
     let other = c.first_bad_run-in-Packed.result in
     let last : length numbers - 1 ≡ length row = omega (arith, c.requires.size) in
     let both = finds_both (AreGoodLiterals numbers) (AreGoodRuns row numbers 128) (length row) one other
-    (subst (λ (n : ℕ). FindsPlace (AreGoodLiterals numbers) n one) last c.first_bad_literal.ensures) c.first_bad_run-in-Packed.ensures in
-    subst (λ (m : Method). FindsPlace (AreGoodSteps m old row numbers) (length row) c.first_place.result) (sym c.in-Packed.is)
-    (subst (FindsPlace (AreGoodSteps Packed old row numbers) (length row)) (sym c.first_place.ensures)
-    (finds_place_too (And (AreGoodLiterals numbers) (AreGoodRuns row numbers 128)) (AreGoodSteps Packed old row numbers)
+    (rw last at c.first_bad_literal.ensures) c.first_bad_run-in-Packed.ensures in
+    rw (c.in-Packed.is, c.first_place.ensures)
+    (finds_place_too (And (AreGoodLiterals numbers) (AreGoodRuns row numbers 128)) (AreGoodSteps Packed c.args.old.now row numbers)
     (first_found_place one other)
     (λ place le good. steps_packed numbers c.requires.same c.requires.size le good.0 good.1)
     (λ place le good.
-    (literals_of_steps numbers c.requires.size good, repeats_of_steps numbers c.requires.size good)) both))
+    (literals_of_steps numbers c.requires.size good, repeats_of_steps numbers c.requires.size good)) both)
 
 pub returns-in-Delta : goal.returns-in-Delta
 returns-in-Delta c =
     let old = c.args.old.now in
     let row = c.args.row.now in
     let numbers = c.args.numbers.now in
-    let found = c.first_bad_replacement.result in
-    subst (λ (m : Method). FindsPlace (AreGoodSteps m old row numbers) (length row) found) (sym c.in-Delta.is)
-    (finds_place_too (AreGoodReplacements old row numbers) (AreGoodSteps Delta old row numbers) found
+    rw c.in-Delta.is
+    (finds_place_too (AreGoodReplacements old row numbers) (AreGoodSteps Delta old row numbers) c.first_bad_replacement.result
     (λ place le. steps_delta numbers c.requires.same le)
     (λ place le. replacements_of_steps numbers) c.first_bad_replacement.ensures)

@@ -1,4 +1,4 @@
-use Rattle.std.proofs.Common.{◌≡◌, ◌-◌, [], ℕ, List, replicate, sym, ap, subst, ◌∙◌, true, false, refl, arith}
+use Rattle.std.proofs.Common.{◌≡◌, ◌-◌, [], ℕ, List, replicate, sym, ap, ◌∙◌, true, false, refl, arith}
 use Rattle.std.proofs.lemmas.List.{take-replicate}
 use Rattle.pcl_base.proofs.PageBounds.{row_small}
 use Rattle.pcl_base.specs.Size.{page_height, page_row_bytes}
@@ -7,7 +7,7 @@ use Rattle.std.specs.Str.{bytes_eq}
 use Rattle.std.proofs.lemmas.Slice.Eq.{slice_eq-Decides}
 use Rattle.std.proofs.lemmas.Bool.Decides.{Decides-eqb}
 use Rattle.pcl_output.specs.Tokens.{end_bytes}
-use Rattle.pcl_check.specs.inner.Reading.{IsBodyVerdict, body_of, AreRowsAt}
+use Rattle.pcl_check.specs.inner.Reading.{body_of, AreRowsAt}
 use Rattle.pcl_check.proofs.Comparing.{both, neither, becomes_same, read_on, read_all, white_test}
 use Rattle.pcl_check.proofs.Fronts.{white_rows}
 use Rattle.pcl_check.proofs.Steps.{becomes_to}
@@ -32,7 +32,7 @@ loop-place-init c =
 pub returns-in_err-place : goal.returns-in_err-place
 returns-in_err-place c =
     let read = c.loop-place.invariant in
-    subst (IsBodyVerdict c.args.comparison.bitmap.now c.args.comparison.size c.args.text.now c.args.is_same) (sym c.from_residual.ensures)
+    rw c.from_residual.ensures
     (λ rows printed. let left = read.becomes.splits rows printed in c.in_err-place.ensures left.0 left.2)
 
 pub loop-place-preserved : goal.loop-place-preserved

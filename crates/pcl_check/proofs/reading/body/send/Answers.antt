@@ -1,6 +1,5 @@
-use Rattle.std.proofs.Common.{◌≡◌, ◌∷◌, [], take, drop, sym, subst, arith}
+use Rattle.std.proofs.Common.{◌≡◌, ◌∷◌, [], take, drop, arith}
 use Rattle.pcl_output.specs.PageText.{bitmap_rows}
-use Rattle.pcl_check.specs.inner.Reading.{IsStep}
 use Rattle.pcl_check.proofs.Comparing.{both, neither}
 use Rattle.pcl_check.proofs.Steps.{few_bytes, no_row, sent}
 use Rattle.pcl_check.proofs.reading.body.send.Goals as goal
@@ -8,8 +7,7 @@ use Rattle.pcl_check.proofs.reading.body.send.Goals.{then-place-height-via-then-
 
 pub returns-in_err-bytes : goal.returns-in_err-bytes
 returns-in_err-bytes c =
-    subst (λ result. IsStep c.args.comparison.bitmap.now c.args.comparison.size c.args.place c.args.above.now result c.args.above.now)
-    (sym c.from_residual.ensures)
+    rw c.from_residual.ensures
     (few_bytes c.args.comparison.bitmap.now c.args.place c.requires.inside
     c.requires.parameter c.requires.letter c.in_err-bytes.ensures)
 

@@ -1,7 +1,6 @@
-use Rattle.std.proofs.Common.{◌≡◌, Some, None, sym, subst, rules}
+use Rattle.std.proofs.Common.{◌≡◌, Some, None, rules}
 use Rattle.std.proofs.lemmas.Slice.Eq.{strip_prefix_is}
 use Rattle.std.proofs.lemmas.Bool.Decides.{Decides-eqb}
-use Rattle.pcl_check.specs.inner.Reading.{IsStep}
 use Rattle.pcl_check.proofs.Moves.{no_byte, no_letter}
 use Rattle.pcl_check.proofs.Outside.{opening_bytes, no_opening}
 use Rattle.pcl_check.proofs.Steps.{told, sequence_opened, neither_letter}
@@ -11,8 +10,7 @@ pub returns-in_err-text : goal.returns-in_err-text
 returns-in_err-text c =
     let picture = c.args.comparison.bitmap.now in
     let none = strip_prefix_is Decides-eqb c.args.place.text.now opening_bytes None c.in_err-text.ensures.cases in
-    subst (λ result. IsStep picture c.args.comparison.size c.args.place c.args.above.now result c.args.above.now)
-    (sym c.from_residual.ensures)
+    rw c.from_residual.ensures
     (λ rows printed. no_opening
     c.if-not-place.true none (c.requires.goes_on c.if-not-place.true) printed)
 
@@ -24,8 +22,7 @@ returns-then-not-place c =
 pub returns-in_err-parameter : goal.returns-in_err-parameter
 returns-in_err-parameter c =
     let picture = c.args.comparison.bitmap.now in
-    subst (λ result. IsStep picture c.args.comparison.size c.args.place c.args.above.now result c.args.above.now)
-    (sym c.from_residual-in_err-parameter.ensures)
+    rw c.from_residual-in_err-parameter.ensures
     (λ rows printed. no_byte
     c.if-not-place.false c.in_err-parameter.ensures printed)
 

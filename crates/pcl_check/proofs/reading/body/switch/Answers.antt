@@ -1,11 +1,10 @@
-use Rattle.std.proofs.Common.{sym, subst}
-use Rattle.pcl_check.specs.inner.Reading.{IsStep}
+use Rattle.std.proofs.Common.{sym}
 use Rattle.pcl_check.proofs.Steps.{no_switch, switched}
 use Rattle.pcl_check.proofs.reading.body.switch.Goals as goal
 
 pub returns-in_err-method : goal.returns-in_err-method
 returns-in_err-method c = λ picture size above within.
-    subst (λ result. IsStep picture size c.args.place above result above) (sym c.from_residual.ensures)
+    rw c.from_residual.ensures
     (no_switch picture c.args.place c.requires.inside c.requires.parameter c.requires.letter
     (sym c.in_err-method.ensures))
 

@@ -1,5 +1,4 @@
-use Rattle.std.proofs.Common.{◌≡◌, ◌∷◌, ◌++◌, ◌≤◌, ℕ, List, sym, subst, ◌∙◌, true, false, MatchOption}
-use Rattle.std.specs.Prelude.{decimal}
+use Rattle.std.proofs.Common.{◌≡◌, ◌∙◌, true, false}
 use Rattle.std.proofs.lemmas.Slice.Eq.{slice_eq-Decides}
 use Rattle.std.proofs.lemmas.Bool.Decides.{Decides-eqb}
 use Rattle.pcl_check.proofs.Decimals.{no_decimal, decimal_found}
@@ -8,9 +7,7 @@ use Rattle.pcl_check.proofs.reading.parameter.read_decimal.Goals.{else-is_shorte
 
 pub returns-in_err-parameter : goal.returns-in_err-parameter
 returns-in_err-parameter c =
-    subst (λ result. MatchOption result ((n : ℕ) (rest : List ℕ) → n ≤ 65535 → c.args.text.now ≡ decimal n ++ c.args.letter ∷ rest → ⊥)
-    (λ found. (c.args.text.now ≡ decimal found.0 ++ c.args.letter ∷ found.1.now) × (found.0 ≤ 65536)))
-    (sym c.from_residual.ensures)
+    rw c.from_residual.ensures
     (λ n rest le e. no_decimal n c.args.letter rest c.in_err-parameter.ensures c.requires e)
 
 pub returns-else-is_shortest : goal.returns-else-is_shortest

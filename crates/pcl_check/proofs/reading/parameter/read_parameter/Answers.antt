@@ -1,13 +1,10 @@
-use Rattle.std.proofs.Common.{take, drop, sym, ap, subst, ◌∙◌, MatchOption, ℕ}
-use Rattle.pcl_base.specs.Digits.{AreDigits}
-use Rattle.pcl_check.specs.inner.Reading.{IsParameter}
+use Rattle.std.proofs.Common.{take, drop, ap, ◌∙◌, ℕ}
 use Rattle.pcl_check.proofs.Decimals.{all_digits, digits_cut}
 use Rattle.pcl_check.proofs.reading.parameter.read_parameter.Goals as goal
 
 pub returns-in_err-letter : goal.returns-in_err-letter
 returns-in_err-letter c =
-    subst (λ result. MatchOption result (AreDigits c.args.text.now) (λ found. IsParameter c.args.text.now found))
-    (sym c.from_residual.ensures)
+    rw c.from_residual.ensures
     (all_digits c.args.text.now
     (c.split_at.ensures.back ∙ ap (λ (n : ℕ). drop n c.args.text.now) c.digit_count.ensures.count) c.in_err-letter.ensures.cases)
 

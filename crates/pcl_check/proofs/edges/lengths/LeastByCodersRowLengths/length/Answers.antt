@@ -1,12 +1,10 @@
-use Rattle.std.proofs.Common.{◌≡◌, ◌<◌, ℕ, List, sym, subst, ap, ◌∙◌}
-use Rattle.pcl_base.specs.declared.dpi.Dpi.{Dpi}
-use Rattle.pcl_base.specs.declared.size.Size.{Size}
+use Rattle.std.proofs.Common.{◌≡◌, ◌<◌, ℕ, List, sym}
 use Rattle.pcl_base.specs.declared.method.Method.{Method}
 use Rattle.pcl_base.specs.Size.{page_height, page_row_bytes}
 use Rattle.pcl_coders.specs.Coding.{IsLeastLength}
 use Rattle.pcl_bitmap.specs.Bitmap.{row_of}
 use Rattle.pcl_bitmap.specs.declared.page.Page.{Page}
-use Rattle.pcl_output.specs.Nodes.{row_at, row_above}
+use Rattle.pcl_output.specs.Nodes.{row_above}
 use Rattle.pcl_output.specs.PageText.{bitmap_rows}
 use Rattle.pcl_output.proofs.RowsFrom.{row_of_bytes}
 use Rattle.pcl_check.specs.Edges.{IsLeastOfRow}
