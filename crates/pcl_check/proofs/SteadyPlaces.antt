@@ -85,6 +85,10 @@ pub record AreFrontSums (numbers least : List ℕ) (end : ℕ) : Type 0 where
   pub inside : end < length numbers
   pub sums : AreLeastSums (take (end + 1) numbers) 8 least
 
+pub sums_of_front : {old row numbers least : List ℕ} {end : ℕ} → IsNeedEnd old row numbers end → length numbers ≡ length row + 1
+    → AreLeastSums (take (end + 1) numbers) 8 least → AreFrontSums numbers least end
+sums_of_front need size sums = record { none = need.none; inside = omega (arith, need.within, size); sums = sums }
+
 -- they are least sums of all numbers
 front_sums : {numbers least : List ℕ} {end : ℕ} (place stop : ℕ) → AreFrontSums numbers least end → place ≤ stop → stop < place + 8
     → place ≤ end → slice_index least place ≤ stop + slice_index numbers stop

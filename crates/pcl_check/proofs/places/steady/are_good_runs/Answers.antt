@@ -18,17 +18,9 @@ loop-place-preserved c =
     elim c.if-place-end.branch [
       | then-place-end+then-row-place w ↦
           let here : stop ≡ place + 1 = omega (arith, w.stop-is) in
-          let before : stop - 1 ≡ place = omega (arith, here) in (
-            omega (arith, here),
-            omega (arith, here, w.if-place-end.true),
-            λ lt e. w.if-row-place.true (ap (slice_index row) (sym before) ∙ e ∙ ap (slice_index row) here),
-          )
+          (omega (arith, here), omega (arith, here, w.if-place-end.true), grind (arith, here, w.if-row-place.true))
       | else-place-end w ↦
-          let same : c.loop-place.stop ≡ stop = omega (arith, w.stop-is) in (
-            omega (arith, same, c.loop-place.invariant.order),
-            omega (arith, same, c.loop-place.invariant.within),
-            subst (λ (n : ℕ). n < c.args.end → slice_index row (n - 1) ≢ slice_index row n) same c.loop-place.invariant.breaks,
-          )
+          rw w.stop-is (omega (arith, c.loop-place.invariant.order), c.loop-place.invariant.within, c.loop-place.invariant.breaks)
     ] in
     let kept : slice_index numbers place ≤ 2 + slice_index numbers (min stop (place + c.args.most)) =
     omega (arith, c.if-numbers-place.false, ap (slice_index numbers) c.min.ensures) in
