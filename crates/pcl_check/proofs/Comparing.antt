@@ -35,15 +35,11 @@ becomes_trans {size} {dpi} {a} {given} {more} first second = record {
         two.2,
       );
   joins = λ rows p.
-      subst (RestPrints size dpi a) (sym (append_assoc given more rows)) (first.joins (more ++ rows) (second.joins rows p));
+      rw (append_assoc given more rows) (first.joins (more ++ rows) (second.joins rows p));
 }
 
 pub becomes_same : {size : Size} {dpi : Dpi} {a b : LeftOver} → a ≡ b → GivesRows size dpi a [] b
-becomes_same {size} {dpi} e =
-    record {
-      splits = λ rows p. (rows, refl, subst (λ (z : LeftOver). RestPrints size dpi z rows) e p);
-      joins = λ rows p. subst (λ (z : LeftOver). RestPrints size dpi z rows) (sym e) p;
-    }
+becomes_same e = record { splits = λ rows p. (rows, refl, rw (sym e) p); joins = λ rows p. rw e p }
 
 -- a body read to some place, and the comparison so far
 pub record IsBodyReadTo (picture : Picture) (size : Size) (text : List ℕ) (may_be : Bool) (place : Place) (above : List ℕ) : Type 0 where

@@ -15,9 +15,8 @@ pub all_digits : (text : List ℕ) {behind : List ℕ} → behind ≡ drop (pref
 all_digits text {behind} e none =
     let front = front_split is_digit text in
     let no_more : drop (prefix_len is_digit text) text ≡ [] = sym e ∙ nil_from_length behind none in
-    let whole : text ≡ take (prefix_len is_digit text) text = front.joined
-    ∙ ap (λ (z : List ℕ). take (prefix_len is_digit text) text ++ z) no_more ∙ append-nil (take (prefix_len is_digit text) text) in
-    subst AreDigits (sym whole) front.pass
+    let all = append-nil (take (prefix_len is_digit text) text) in
+    let whole : text ≡ take (prefix_len is_digit text) text = cc in rw whole front.pass
 
 -- digits, and the byte after them
 pub record IsCutAt (text front : List ℕ) (byte : ℕ) (rest : List ℕ) : Type 0 where
@@ -27,16 +26,9 @@ pub record IsCutAt (text front : List ℕ) (byte : ℕ) (rest : List ℕ) : Type
 
 pub digits_cut : {text front behind : List ℕ} {byte : ℕ} {rest : List ℕ} → front ≡ take (prefix_len is_digit text) text
     → behind ≡ drop (prefix_len is_digit text) text → behind ≡ byte ∷ rest → IsCutAt text front byte rest
-digits_cut {text} {front} {byte} {rest} f b e =
+digits_cut {text} f b e =
     let split = front_split is_digit text in
-    let back : drop (prefix_len is_digit text) text ≡ byte ∷ rest = sym b ∙ e in
-    let stops : StopsAt is_digit (byte ∷ rest) = subst (StopsAt is_digit) back split.stops in
-    record {
-      are_digits = subst AreDigits (sym f) split.pass;
-      no_digit = stops;
-      spelled = split.joined
-          ∙ ap (λ (z : List ℕ). z ++ drop (prefix_len is_digit text) text) (sym f) ∙ ap (λ (z : List ℕ). front ++ z) back;
-    }
+    record { are_digits = rw f split.pass; no_digit = rw (sym b ∙ e) at split.stops; spelled = rw (f, sym e, b) split.joined }
 
 -- ---- decimals
 

@@ -179,11 +179,10 @@ feasible_good width {rows} number few is row current true within = record {
   sends = λ bytes inside least.
       let whole = least.attained in
       let s = spelled_cost bytes (length_small least) in
-      let spelled : IsSpelled (least_spelling bytes) (length whole.0) = subst (IsSpelled (least_spelling bytes)) (sym whole.2) s.0 in
       omega (
         arith,
         is.steps (node row current true) (send (least_spelling bytes) whole.0) (node (row + 1) current false)
-            (refl, spelled, inside, whole.1, refl),
+            (refl, rw whole.2 s.0, inside, whole.1, refl),
         cost_send (least_spelling bytes) whole.0,
         whole.2,
         s.1,

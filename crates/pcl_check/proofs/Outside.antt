@@ -83,7 +83,7 @@ pub end_prints : {size : Size} {dpi : Dpi} {left : LeftOver} → left.inside ≡
 unfolding PrintsRows
 end_prints {size} {dpi} {left} outside e = record {
   count = length-replicate left.rows (replicate (page_row_bytes size dpi) 0);
-  rows_are = subst (AllByRecursion (IsRowOf size dpi)) (append-nil (white_rows size dpi left.rows)) (white_before size dpi left.rows [] tt);
+  rows_are = rw (sym (append-nil (white_rows size dpi left.rows))) (white_before size dpi left.rows [] tt);
   tokens = [];
   spelled = e;
   prints = rw outside (rows_white size dpi left.rows);

@@ -29,27 +29,13 @@ copies_front wanted {e} r none gives =
           ∙ r.given_is,
     )
 
--- where an element that gives something leads
-next_number : {old row : List ℕ} (numbers : List ℕ) {method : Method} {place : ℕ} {e : Element} {next count : ℕ}
-    → Leads method old row place e next
-    → stop e ≡ count → slice_index numbers next ≡ slice_index numbers (place + count)
-next_number numbers l stops = ap (slice_index numbers) (omega (arith, l.next_is, stops))
-
 pub steps_plain : {old row : List ℕ} (numbers : List ℕ) {place : ℕ} → length old ≡ length row → length numbers ≡ length row + 1
     → place ≤ length row
     → IsGoodByte numbers place → AreGoodSteps Plain old row numbers place
 steps_plain {old} {row} numbers {place} same size le good = λ e next l.
     let s = plain_shape e.head l.element.head_is.method_is l.element.complete in
     let g = agrees_gives (drop place old) (omega (arith, length-drop place old, length-drop place row)) l.element l.agrees in
-    let one : stop e ≡ 1 = omega (arith, s.0, s.1.above, s.1.below) in
-    omega (
-      arith,
-      good (omega (arith, g.0, one, length-drop place row, size)),
-      s.1.bytes_are,
-      s.1.above,
-      s.1.below,
-      next_number numbers l one,
-    )
+    grind (arith, good, g.0, s.0, s.1.above, s.1.below, s.1.bytes_are, l.next_is, length-drop place row, size)
 
 pub steps_runs : {old row : List ℕ} (numbers : List ℕ) {place : ℕ} → length old ≡ length row → place ≤ length row
     → AreGoodRuns row numbers 256 place → AreGoodSteps Runs old row numbers place
@@ -58,13 +44,8 @@ steps_runs {old} {row} numbers {place} same le good = λ e next l.
     let s = runs_shape e.head l.element.head_is.method_is l.element.head_is.in_range l.element.complete in
     let g = agrees_gives (drop place old) (omega (arith, length-drop place old, length-drop place row)) l.element l.agrees in
     let f = copies_front wanted s.1 s.0 g.2 in
-    let stops : stop e ≡ s.1.count = omega (arith, s.0, f.0) in
-    omega (
-      arith,
-      good s.1.count s.1.byte (omega (arith, s.1.above)) s.1.below (omega (arith, g.0, stops, length-drop place row)) f.1,
-      s.1.bytes_are,
-      next_number numbers l stops,
-    )
+    let kept = good s.1.count s.1.byte (omega (arith, s.1.above)) s.1.below (omega (arith, g.0, s.0, f.0, length-drop place row)) f.1 in
+    grind (arith, kept, s.1.bytes_are, l.next_is, s.0, f.0)
 
 pub steps_packed : {old row : List ℕ} (numbers : List ℕ) {place : ℕ} → length old ≡ length row → length numbers ≡ length row + 1
     → place ≤ length row
@@ -74,28 +55,17 @@ steps_packed {old} {row} numbers {place} same size le literals runs = λ e next 
     let sizes : length (drop place old) ≡ length wanted = omega (arith, length-drop place old, length-drop place row) in
     let g = agrees_gives (drop place old) sizes l.element l.agrees in
     elim (cases_lt 0 (stop e)) [
-      | inr none ↦
-          let here : next ≡ place = omega (arith, l.next_is, none) in omega (arith, ap (slice_index numbers) here)
+      | inr none ↦ grind (arith, l.next_is)
       | inl some ↦
           let s = packed_shape e.head e.bytes l.element.head_is.method_is l.element.head_is.in_range l.element.complete some in
           elim s.1 [
             | inl r ↦
                 let f = copies_front wanted r s.0 g.2 in
-                let stops : stop e ≡ r.count = omega (arith, s.0, f.0) in
-                omega (
-                  arith,
-                  runs r.count r.byte (omega (arith, r.above)) r.below (omega (arith, g.0, stops, length-drop place row)) f.1,
-                  r.bytes_are,
-                  next_number numbers l stops,
-                )
+                let kept = runs r.count r.byte (omega (arith, r.above)) r.below (omega (arith, g.0, s.0, f.0, length-drop place row)) f.1 in
+                grind (arith, kept, r.bytes_are, l.next_is, s.0, f.0)
             | inr b ↦
-                let stops : stop e ≡ length (given e) = omega (arith, s.0) in
-                omega (
-                  arith,
-                  literals (length (given e)) (omega (arith, b.above)) b.below (omega (arith, g.0, stops, length-drop place row, size)),
-                  b.bytes_are,
-                  next_number numbers l stops,
-                )
+                let kept = literals (length (given e)) (omega (arith, b.above)) b.below
+                (omega (arith, g.0, s.0, length-drop place row, size)) in grind (arith, kept, b.bytes_are, l.next_is, s.0)
           ]
     ]
 
@@ -104,14 +74,8 @@ pub steps_delta : {old row : List ℕ} (numbers : List ℕ) {place : ℕ} → le
 steps_delta {old} {row} numbers {place} same le good = λ e next l.
     let s = delta_shape e.head l.element.head_is.method_is l.element.head_is.in_range l.element.complete in
     let g = agrees_gives (drop place old) (omega (arith, length-drop place old, length-drop place row)) l.element l.agrees in
-    let offset : ℕ = offset_of e.head in
-    let len : ℕ = length (given e) in
-    omega (
-      arith,
-      good offset len (omega (arith, s.above)) s.below (omega (arith, g.0, length-drop place row)) g.1,
-      s.bytes_are,
-      next_number numbers l refl,
-    )
+    let kept = good (offset_of e.head) (length (given e)) (omega (arith, s.above)) s.below (omega (arith, g.0, length-drop place row)) g.1 in
+    grind (arith, kept, s.bytes_are, l.next_is)
 
 -- ---- from elements to kinds
 
@@ -121,13 +85,8 @@ shape_kept : {method : Method} {old row : List ℕ} (numbers : List ℕ) {place 
     → slice_index numbers place ≤ bytes + slice_index numbers (place + shape_stop shape)
 shape_kept {row} numbers {place} {shape} is good =
     let e : Element = element_of shape (drop place row) in
-    let there : place + stop e ≡ place + shape_stop shape = ap (λ (n : ℕ). place + n) is.stop_is in
-    omega (
-      arith,
-      good e (place + stop e) (record { element = is.element; agrees = is.agrees; next_is = refl }),
-      is.bytes_are,
-      ap (slice_index numbers) there,
-    )
+    let kept = good e (place + stop e) (record { element = is.element; agrees = is.agrees; next_is = refl }) in
+    grind (arith, kept, is.bytes_are, is.stop_is)
 
 pub bytes_of_steps : (old : List ℕ) {row : List ℕ} (numbers : List ℕ) {place : ℕ} → length numbers ≡ length row + 1
     → AreGoodSteps Plain old row numbers place

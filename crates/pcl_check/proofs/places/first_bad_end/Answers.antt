@@ -19,7 +19,6 @@ pub loop-place-preserved-then-numbers-place-gt0 : goal.loop-place-preserved-then
 loop-place-preserved-then-numbers-place-gt0 c =
     let old = c.args.old.now in
     let row = c.args.row.now in
-    let numbers = c.args.numbers.now in
     let place : ℕ = c.loop-place.place - 1 in
     let within : place ≤ length row = omega (arith, c.loop-place.auto.place, c.requires.size) in
     let same : AreSameFrom old row place =
@@ -28,13 +27,11 @@ loop-place-preserved-then-numbers-place-gt0 c =
           same_before (c.loop-place.invariant.same (omega (arith, w.if-place-row.true))) c.loop-place-test.true
           w.if-old-place.false
       | else-place-row-via-else-place-row w ↦
-          let last : length row ≡ place = omega (arith, w.if-place-row.false, within) in
-          subst (AreSameFrom old row) last (same_past old row)
+          let last : place ≡ length row = omega (arith, w.if-place-row.false, within) in rw last (same_past old row)
     ] in
-    let end : Ends old row place = ends_by old row place c.requires.same same.same in
     record {
-      found = found_bad (IsGoodEnd old row numbers) within
-          (λ good. absurd (omega (arith, good end, c.if-numbers-place-gt0.true)));
+      found = found_bad (IsGoodEnd old row c.args.numbers.now) within
+          (λ good. absurd (omega (arith, good (ends_by old row place c.requires.same same.same), c.if-numbers-place-gt0.true)));
       same = λ _. same;
     }
 
@@ -42,7 +39,6 @@ pub loop-place-preserved : goal.loop-place-preserved
 loop-place-preserved c =
     let old = c.args.old.now in
     let row = c.args.row.now in
-    let numbers = c.args.numbers.now in
     let place : ℕ = c.loop-place.place - 1 in
     let within : place ≤ length row = omega (arith, c.loop-place.auto.place, c.requires.size) in
     let after : c.loop-place.place ≡ place + 1 = omega (arith, c.loop-place-test.true) in
@@ -52,14 +48,11 @@ loop-place-preserved c =
           same_before (c.loop-place.invariant.same (omega (arith, w.if-place-row.true))) c.loop-place-test.true
           w.if-old-place.false
       | else-place-row-via-else-place-row w ↦
-          let last : length row ≡ place = omega (arith, w.if-place-row.false, within) in
-          subst (AreSameFrom old row) last (same_past old row)
+          let last : place ≡ length row = omega (arith, w.if-place-row.false, within) in rw last (same_past old row)
     ] in
-    let none : slice_index numbers place ≡ 0 = omega (arith, c.if-numbers-place-gt0.false) in
     record {
-      found = found_good (IsGoodEnd old row numbers) (length row) c.loop-place.found (λ end. none)
-          (subst (λ (from : ℕ). FindsFrom (IsGoodEnd old row numbers) from (length row) c.loop-place.found) after
-          c.loop-place.invariant.found);
+      found = found_good (IsGoodEnd old row c.args.numbers.now) (length row) c.loop-place.found
+          (λ end. omega (arith, c.if-numbers-place-gt0.false)) (rw after at c.loop-place.invariant.found);
       same = λ _. same;
     }
 

@@ -11,7 +11,7 @@ use Rattle.pcl_check.proofs.places.steady.is_steady_table.Goals as goal
 good_for : {said method : Method} {old row numbers : List ℕ} {end place : ℕ} → said ≡ method → IsSteady numbers
     → IsNeedEnd old row numbers end → AreGoodSteps method old row numbers place → IsGoodFor said old row numbers place
 good_for {old} {row} {numbers} {place} is steady need steps =
-    subst (λ (m : Method). IsGoodFor m old row numbers place) (sym is) (record { ends = end_of_need place steady need; steps = steps })
+    rw is (record { ends = end_of_need place steady need; steps = steps })
 
 pub returns-in-Plain : goal.returns-in-Plain
 returns-in-Plain c said place le =

@@ -11,7 +11,7 @@ returns-then-is_whole c =
     c.has_clear_pads.result
     (record {
       whole = c.is_whole.ensures.0 c.if-is_whole.true;
-      decodes = subst (Decodes c.args.method c.args.above.now c.args.bytes.now) (sym c.copy_from_slice.ensures.after) c.decode.ensures;
+      decodes = rw c.copy_from_slice.ensures.after c.decode.ensures;
       fits = c.requires.fits;
       width = wide ∙ c.requires.above;
     })
