@@ -16,11 +16,11 @@ use Rattle.pcl_check.proofs.Outside.{end_only, end_prints}
 
 -- ---- tests that are joined
 
-pub both : (may test outcome : Bool) (P : Type 0) → (IsTrue test ↔ P) → may ≡ true → outcome ≡ test → IsTrue outcome ↔ (IsTrue may × P)
-both may test outcome P says m o = (λ yes. (m, says.0 (sym o ∙ yes)), λ h. o ∙ says.1 h.1)
+pub both : {may test outcome : Bool} {P : Type 0} → (IsTrue test ↔ P) → may ≡ true → outcome ≡ test → IsTrue outcome ↔ (IsTrue may × P)
+both says m o = (λ yes. (m, says.0 (sym o ∙ yes)), λ h. o ∙ says.1 h.1)
 
-pub neither : {may outcome : Bool} (P : Type 0) → may ≡ false → outcome ≡ may → IsTrue outcome ↔ (IsTrue may × P)
-neither {may} P m o = (λ yes. absurd cc, λ h. let yes : may ≡ true = h.0 in absurd cc)
+pub neither : {may outcome : Bool} {P : Type 0} → may ≡ false → outcome ≡ may → IsTrue outcome ↔ (IsTrue may × P)
+neither {may} m o = (λ yes. absurd cc, λ h. let yes : may ≡ true = h.0 in absurd cc)
 
 -- ---- moves one after the other
 

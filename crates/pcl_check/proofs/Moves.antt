@@ -1,5 +1,5 @@
 -- From what is left before a token to what is left after it.
-use Rattle.std.proofs.Common.{◌≡◌, ℕ, zero, suc, ◌-◌, ◌/◌, ◌%◌, ◌<◌, ◌≤◌, Bool, true, false, List, [], ◌∷◌, ◌++◌, length, take, drop, replicate, Some, refl, sym, ap, ◌∙◌, arith}
+use Rattle.std.proofs.Common.{◌≡◌, ◌≢◌, ℕ, zero, suc, ◌-◌, ◌/◌, ◌%◌, ◌<◌, ◌≤◌, Bool, true, false, List, [], ◌∷◌, ◌++◌, length, take, drop, replicate, Some, refl, sym, ap, ◌∙◌, arith}
 use Rattle.std.specs.Prelude.{not, slice_index}
 use Rattle.std.specs.List.{flat_map, AllByRecursion}
 use Rattle.std.proofs.lemmas.List.{length-append, length-replicate, take_at, drop_at}
@@ -88,7 +88,7 @@ pub record Told (left : LeftOver) (digits : List ℕ) (byte : ℕ) (rest : List 
   pub no_digit : is_digit byte ≡ false
   pub text : left.text ≡ digits ++ byte ∷ rest
 
-front_at : {size : Size} {dpi : Dpi} {left : LeftOver} {digits : List ℕ} {byte : ℕ} {rest : List ℕ} {rows : List (List ℕ)}
+pub front_at : {size : Size} {dpi : Dpi} {left : LeftOver} {digits : List ℕ} {byte : ℕ} {rest : List ℕ} {rows : List (List ℕ)}
     → Told left digits byte rest → RestPrints size dpi left rows
     → Foremost size dpi left.method left.above left.rows (number_of digits) byte rest rows
 front_at {digits} told printed =
@@ -184,27 +184,6 @@ send_becomes {size} {dpi} {left} {digits} {bytes} {more} {first} told b n parts 
 
 -- ---- what no token begins
 
--- a method that there is none of
-pub no_method : {size : Size} {dpi : Dpi} {left : LeftOver} {digits : List ℕ} {byte : ℕ} {rest : List ℕ} (ends : Bool)
-    {rows : List (List ℕ)}
-    → Told left digits byte rest → byte ≡ letter_code 77 ends → ((next : Method) → number_of digits ≡ method_code next → ⊥)
-    → RestPrints size dpi left rows → ⊥
-no_method ends told b none printed = elim (front_at told printed) [
-  | is_method other last c m p ↦ none other m
-  | is_skip last others c some few r p ↦ letters_77_89 ends last (sym b ∙ c)
-  | is_send bytes more first others c m r some f row row_data p ↦ letters_77_87 ends (sym b ∙ c)
-]
-
--- no row is skipped, or too many are
-pub no_skip : {size : Size} {dpi : Dpi} {left : LeftOver} {digits : List ℕ} {byte : ℕ} {rest : List ℕ} (ends : Bool) {rows : List (List ℕ)}
-    → Told left digits byte rest → byte ≡ letter_code 89 ends → (0 < number_of digits → number_of digits ≤ left.rows → ⊥)
-    → RestPrints size dpi left rows → ⊥
-no_skip ends told b none printed = elim (front_at told printed) [
-  | is_method other last c m p ↦ letters_77_89 last ends (sym c ∙ b)
-  | is_skip last others c some few r p ↦ none some few
-  | is_send bytes more first others c m r some f row row_data p ↦ letters_89_87 ends (sym b ∙ c)
-]
-
 -- what is sent isn't there, or paints no row of the size
 pub no_send : {size : Size} {dpi : Dpi} {left : LeftOver} {digits : List ℕ} {byte : ℕ} {rest : List ℕ} {rows : List (List ℕ)}
     → Told left digits byte rest → byte ≡ 87
@@ -219,13 +198,11 @@ no_send told b none printed = elim (front_at told printed) [
 
 -- no letter of the grammar
 pub no_letter : {size : Size} {dpi : Dpi} {left : LeftOver} {digits : List ℕ} {byte : ℕ} {rest : List ℕ} {rows : List (List ℕ)}
-    → Told left digits byte rest → ((ends : Bool) → byte ≡ letter_code 77 ends → ⊥) → ((ends : Bool) → byte ≡ letter_code 89 ends → ⊥)
-    → (byte ≡ 87 → ⊥)
-    → RestPrints size dpi left rows → ⊥
-no_letter told m y w printed = elim (front_at told printed) [
-  | is_method other last c n p ↦ m last c
-  | is_skip last others c some few r p ↦ y last c
-  | is_send bytes more first others c n r some f row row_data p ↦ w c
+    → Told left digits byte rest → byte ≢ 77 → byte ≢ 109 → byte ≢ 89 → byte ≢ 121 → byte ≢ 87 → RestPrints size dpi left rows → ⊥
+no_letter told no_switch no_last_switch no_skip no_last_skip no_sent printed = elim (front_at told printed) [
+  | is_method other ends c n p ↦ grind (arith, no_switch, no_last_switch)
+  | is_skip ends others c some few r p ↦ grind (arith, no_skip, no_last_skip)
+  | is_send bytes more first others c n r some f row row_data p ↦ no_sent c
 ]
 
 -- only digits are left inside a sequence

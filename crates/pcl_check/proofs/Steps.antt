@@ -19,9 +19,9 @@ use Rattle.pcl_output.proofs.TokenCosts.{method_small}
 use Rattle.pcl_check.specs.declared.reading.body.Place.{Place}
 use Rattle.pcl_check.specs.declared.reading.parameter.Parameter.{Parameter}
 use Rattle.pcl_check.specs.inner.Reading.{LeftOver, IsParameter, RestPrints, GivesRows, left_at, IsStep}
-use Rattle.pcl_check.proofs.Fronts.{letter_code, left_over, white_rows}
+use Rattle.pcl_check.proofs.Fronts.{letter_code, left_over, white_rows, is_method, is_skip, is_send}
 use Rattle.pcl_check.proofs.Outside.{opening_bytes, opening_becomes}
-use Rattle.pcl_check.proofs.Moves.{Told, with_code, no_method, no_skip, no_send, method_becomes, skip_becomes, send_becomes}
+use Rattle.pcl_check.proofs.Moves.{Told, front_at, letters_77_87, letters_77_89, letters_89_87, with_code, no_send, method_becomes, skip_becomes, send_becomes}
 
 pub told : (picture : Picture) (size : Size) (above : List ℕ) (place : Place) (parameter : Parameter) → place.inside ≡ true
     → IsParameter place.text.now parameter
@@ -50,14 +50,14 @@ pub no_switch : (picture : Picture) {size : Size} {above : List ℕ} (place : Pl
     → IsStep picture size place above None above
 no_switch picture {size} {above} place {parameter} inside is letter none = λ rows printed.
     let signed = cased letter in
-    no_method signed.0
-    (told picture size above place parameter inside is) signed.1
-    (λ next e.
-    let le = method_small next in
-    let number : parameter.number ≡ method_code next = omega (arith, is.number_is) in
-    let some : Some next ≡ None = sym (with_code next) ∙ ap method_with_code (sym number) ∙ none in
-    absurd cc)
-    printed
+    elim (front_at (told picture size above place parameter inside is) printed) [
+      | is_method next last c m p ↦
+          let le = method_small next in
+          let number : parameter.number ≡ method_code next = omega (arith, is.number_is, m) in
+          let coded = with_code next in cc
+      | is_skip last others c some few r p ↦ letters_77_89 signed.0 last (sym signed.1 ∙ c)
+      | is_send bytes more first others c m r some f row row_data p ↦ letters_77_87 signed.0 (sym signed.1 ∙ c)
+    ]
 
 pub switched : {picture : Picture} {size : Size} {above : List ℕ} {place : Place} {parameter : Parameter} {next : Method}
     → place.inside ≡ true → IsParameter place.text.now parameter → (parameter.letter ≡ 77) ⊎ (parameter.letter ≡ 109)
@@ -98,9 +98,11 @@ pub too_many : (picture : Picture) {size : Size} {above : List ℕ} (place : Pla
     → RestPrints size picture.dpi (left_at size picture.dpi place above) rows → ⊥
 too_many picture {size} {above} place {parameter} inside is letter none printed =
     let signed = cased letter in
-    no_skip signed.0
-    (told picture size above place parameter inside is) signed.1
-    (λ some few. none (omega (arith, is.number_is)) (omega (arith, is.number_is))) printed
+    elim (front_at (told picture size above place parameter inside is) printed) [
+      | is_method next last c m p ↦ letters_77_89 last signed.0 (sym c ∙ signed.1)
+      | is_skip last others c some few r p ↦ none (omega (arith, is.number_is, some)) (omega (arith, is.number_is, few))
+      | is_send bytes more first others c m r some f row row_data p ↦ letters_89_87 signed.0 (sym signed.1 ∙ c)
+    ]
 
 pub skipped : (picture : Picture) (size : Size) (above below : List ℕ) (place : Place) (parameter : Parameter) (is_same : Bool)
     → place.inside ≡ true → IsParameter place.text.now parameter → (parameter.letter ≡ 89) ⊎ (parameter.letter ≡ 121)
@@ -190,12 +192,7 @@ sent picture size above below place parameter bytes more is_same inside is lette
       omega (arith, shorter place.text.now parameter is, ap length parts, length-append bytes more.now),
     )
 
--- ---- outside a sequence, and what no letter is
-
-pub neither_letter : (capital byte : ℕ) → (byte ≡ capital → ⊥) → (byte ≡ capital + 32 → ⊥) → (ends : Bool)
-    → byte ≡ letter_code capital ends → ⊥
-neither_letter capital byte large small true e = large e
-neither_letter capital byte large small false e = small e
+-- ---- outside a sequence
 
 pub sequence_opened : {picture : Picture} {size : Size} {above : List ℕ} {place : Place} {rest : Bor (List ℕ)} → place.inside ≡ false
     → place.text.now ≡ opening_bytes ++ rest.now → place.row ≤ page_height size picture.dpi

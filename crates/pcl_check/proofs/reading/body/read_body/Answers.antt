@@ -49,23 +49,12 @@ ended text e = (slice_eq-Decides Decides-eqb text end_bytes (bytes_eq text end_b
 
 pub returns-then-place-2 : goal.returns-then-place-2
 returns-then-place-2 c =
-    let picture = c.args.comparison.bitmap.now in
-    let size = c.args.comparison.size in
     let place = c.loop-place.place in
-    let left : ℕ = page_height size picture.dpi - place.row in
-    read_all c.loop-place.invariant
-    c.if-place.false (ended place.text.now (sym c.ne.ensures ∙ c.if-ne.false))
-    (both place.is_same c.has_white_rows.result c.has_white_rows.result (AreRowsAt picture place.row (white_rows size picture.dpi left))
-    (white_test picture size place.row
-    (ap (λ (n : ℕ). n - place.row) c.height.ensures) c.has_white_rows.ensures)
-    c.if-place-2.true refl)
+    read_all c.loop-place.invariant c.if-place.false (ended place.text.now (sym c.ne.ensures ∙ c.if-ne.false))
+    (both (white_test c.args.comparison.bitmap.now c.args.comparison.size place.row
+    (ap (λ (n : ℕ). n - place.row) c.height.ensures) c.has_white_rows.ensures) c.if-place-2.true refl)
 
 pub returns-else-place-2 : goal.returns-else-place-2
 returns-else-place-2 c =
-    let picture = c.args.comparison.bitmap.now in
-    let size = c.args.comparison.size in
-    let place = c.loop-place.place in
-    let left : ℕ = page_height size picture.dpi - place.row in
-    read_all c.loop-place.invariant c.if-place.false
-    (ended place.text.now (sym c.ne.ensures ∙ c.if-ne.false))
-    (neither (AreRowsAt picture place.row (white_rows size picture.dpi left)) c.if-place-2.false refl)
+    read_all c.loop-place.invariant c.if-place.false (ended c.loop-place.place.text.now (sym c.ne.ensures ∙ c.if-ne.false))
+    (neither c.if-place-2.false refl)

@@ -32,8 +32,6 @@ returns c =
     (let off = c.if-place-height.false in omega (arith, c.height.ensures, c.requires.row)) c.in_ok-bytes.ensures.0 c.in_ok-bytes.ensures.1
     c.in_ok-bytes.ensures.2 row.0 row.1
     (elim c.if-place.branch [
-      | then-place w ↦ both place.is_same w.has_row.result c.if-place.result
-          (c.paint.new.above ∷ [] ≡ take 1 (drop place.row (bitmap_rows picture))) w.has_row.ensures w.if-place.true w.result-is
-      | else-place w ↦ neither
-          (c.paint.new.above ∷ [] ≡ take 1 (drop place.row (bitmap_rows picture))) w.if-place.false w.result-is
+      | then-place w ↦ both w.has_row.ensures w.if-place.true w.result-is
+      | else-place w ↦ neither w.if-place.false w.result-is
     ])

@@ -25,12 +25,6 @@ returns c =
     c.requires.parameter c.requires.letter (let some = c.if-count-eq0.false in omega arith) (omega (arith, few, c.height.ensures))
     (c.fill.ensures.after (λ y e. e))
     (elim c.if-place.branch [
-      | then-place w ↦ both place.is_same w.has_white_rows.result c.if-place.result
-          (white_rows c.args.comparison.size picture.dpi c.args.parameter.number
-          ≡ take c.args.parameter.number (drop place.row (bitmap_rows picture)))
-          w.has_white_rows.ensures w.if-place.true w.result-is
-      | else-place w ↦ neither
-          (white_rows c.args.comparison.size picture.dpi c.args.parameter.number
-          ≡ take c.args.parameter.number (drop place.row (bitmap_rows picture)))
-          w.if-place.false w.result-is
+      | then-place w ↦ both w.has_white_rows.ensures w.if-place.true w.result-is
+      | else-place w ↦ neither w.if-place.false w.result-is
     ])

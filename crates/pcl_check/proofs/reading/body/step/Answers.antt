@@ -3,16 +3,14 @@ use Rattle.std.proofs.lemmas.Slice.Eq.{strip_prefix_is}
 use Rattle.std.proofs.lemmas.Bool.Decides.{Decides-eqb}
 use Rattle.pcl_check.proofs.Moves.{no_byte, no_letter}
 use Rattle.pcl_check.proofs.Outside.{opening_bytes, no_opening}
-use Rattle.pcl_check.proofs.Steps.{told, sequence_opened, neither_letter}
+use Rattle.pcl_check.proofs.Steps.{told, sequence_opened}
 use Rattle.pcl_check.proofs.reading.body.step.Goals as goal
 
 pub returns-in_err-text : goal.returns-in_err-text
 returns-in_err-text c =
-    let picture = c.args.comparison.bitmap.now in
     let none = strip_prefix_is Decides-eqb c.args.place.text.now opening_bytes None c.in_err-text.ensures.cases in
     rw c.from_residual.ensures
-    (λ rows printed. no_opening
-    c.if-not-place.true none (c.requires.goes_on c.if-not-place.true) printed)
+    (λ rows printed. no_opening c.if-not-place.true none (c.requires.goes_on c.if-not-place.true) printed)
 
 pub returns-then-not-place : goal.returns-then-not-place
 returns-then-not-place c =
@@ -21,20 +19,12 @@ returns-then-not-place c =
 
 pub returns-in_err-parameter : goal.returns-in_err-parameter
 returns-in_err-parameter c =
-    let picture = c.args.comparison.bitmap.now in
     rw c.from_residual-in_err-parameter.ensures
-    (λ rows printed. no_byte
-    c.if-not-place.false c.in_err-parameter.ensures printed)
+    (λ rows printed. no_byte c.if-not-place.false c.in_err-parameter.ensures printed)
 
 pub returns-in_default : goal.returns-in_default
 returns-in_default c = λ rows printed.
-    let picture = c.args.comparison.bitmap.now in
-    let parameter = c.in_ok-parameter.parameter in
-    let a : parameter.letter ≡ 77 → ⊥ = search rules in
-    let b : parameter.letter ≡ 109 → ⊥ = search rules in
-    let d : parameter.letter ≡ 89 → ⊥ = search rules in
-    let e : parameter.letter ≡ 121 → ⊥ = search rules in
-    let f : parameter.letter ≡ 87 → ⊥ = search rules in
     no_letter
-    (told picture c.args.comparison.size c.args.above.now c.args.place parameter c.if-not-place.false c.in_ok-parameter.ensures)
-    (neither_letter 77 parameter.letter a b) (neither_letter 89 parameter.letter d e) f printed
+    (told c.args.comparison.bitmap.now c.args.comparison.size c.args.above.now c.args.place c.in_ok-parameter.parameter
+    c.if-not-place.false c.in_ok-parameter.ensures)
+    (search rules) (search rules) (search rules) (search rules) (search rules) printed
