@@ -1,37 +1,62 @@
-use Rattle.std.proofs.Common.{◌≡◌, ◌∷◌, [], take, drop, arith}
-use Rattle.pcl_output.specs.PageText.{bitmap_rows}
+use Rattle.std.proofs.Common.{◌≡◌, ◌∷◌, [], length, refl, sym, ap, ◌∙◌, arith}
+use Rattle.std.proofs.lemmas.List.{length-append}
+use Rattle.pcl_base.proofs.Lists.{same_fronts}
 use Rattle.pcl_check.proofs.Comparing.{both, neither}
-use Rattle.pcl_check.proofs.Steps.{few_bytes, no_row, sent}
+use Rattle.pcl_check.proofs.Moves.{no_send, send_becomes}
+use Rattle.pcl_check.proofs.Steps.{told, shorter, becomes_to}
 use Rattle.pcl_check.proofs.reading.body.send.Goals as goal
 use Rattle.pcl_check.proofs.reading.body.send.Goals.{then-place-height-via-then-place-height, then-place-height-via-else-place-height+then-not-paint, then-place, else-place}
 
 pub returns-in_err-bytes : goal.returns-in_err-bytes
 returns-in_err-bytes c =
     rw c.from_residual.ensures
-    (few_bytes c.args.comparison.bitmap.now c.args.place c.requires.inside
-    c.requires.parameter c.requires.letter c.in_err-bytes.ensures)
+    (λ rows printed. no_send
+    (told c.args.comparison.bitmap.now c.args.comparison.size c.args.above.now c.args.place c.args.parameter c.requires.inside
+    c.requires.parameter) c.requires.letter
+    (λ bytes more first n parts some row row_data.
+    let fits = row_data.fits in
+    omega (arith, c.in_err-bytes.ensures, c.requires.parameter.number_is, n, ap length parts, length-append bytes more))
+    printed)
 
 pub returns-then-place-height : goal.returns-then-place-height
 returns-then-place-height c = λ rows printed.
-    no_row c.args.comparison.bitmap.now c.args.place
-    c.in_ok-bytes.rest.now c.requires.inside c.requires.parameter c.requires.letter c.in_ok-bytes.ensures.0 c.in_ok-bytes.ensures.1
-    c.in_ok-bytes.ensures.2
-    (λ some other row row_data. elim c.then-place-height.branch [
+    no_send
+    (told c.args.comparison.bitmap.now c.args.comparison.size c.args.above.now c.args.place c.args.parameter c.requires.inside
+    c.requires.parameter) c.requires.letter
+    (λ sent behind first m joined some row row_data.
+    let parts = c.in_ok-bytes.ensures in
+    let same = same_fronts sent c.in_ok-bytes.bytes.now (omega (arith, c.requires.parameter.number_is, m, parts.0, parts.1))
+    (sym joined ∙ parts.2) in
+    elim c.then-place-height.branch [
       | then-place-height-via-then-place-height w ↦ let last = w.if-place-height.true in omega (arith, c.height.ensures)
-      | then-place-height-via-else-place-height+then-not-paint w ↦ w.if-not-paint.ensures other row row_data
+      | then-place-height-via-else-place-height+then-not-paint w ↦ w.if-not-paint.ensures first row (rw same.0 at row_data)
     ])
     printed
 
 pub returns : goal.returns
 returns c =
-    let picture = c.args.comparison.bitmap.now in
-    let place = c.args.place in
+    let is = c.requires.parameter in
+    let parts = c.in_ok-bytes.ensures in
     let row = c.if-not-paint.ensures in
-    sent picture c.args.comparison.size c.args.above.now c.paint.new.above place c.args.parameter c.in_ok-bytes.bytes.now c.in_ok-bytes.rest
-    c.if-place.result c.requires.inside c.requires.parameter c.requires.letter
-    (let off = c.if-place-height.false in omega (arith, c.height.ensures, c.requires.row)) c.in_ok-bytes.ensures.0 c.in_ok-bytes.ensures.1
-    c.in_ok-bytes.ensures.2 row.0 row.1
-    (elim c.if-place.branch [
-      | then-place w ↦ both w.has_row.ensures w.if-place.true w.result-is
-      | else-place w ↦ neither w.if-place.false w.result-is
-    ])
+    let off = c.if-place-height.false in (
+      record {
+        given = c.paint.new.above ∷ [];
+        becomes = becomes_to refl refl (omega arith)
+            (send_becomes
+            (told c.args.comparison.bitmap.now c.args.comparison.size c.args.above.now c.args.place c.args.parameter c.requires.inside is)
+            c.requires.letter (omega (arith, is.number_is, parts.0, parts.1)) parts.2 (omega (arith, c.height.ensures, c.requires.row))
+            row.0 row.1);
+        row_is = refl;
+        within = omega (arith, c.height.ensures, c.requires.row);
+        same = elim c.if-place.branch [
+          | then-place w ↦ both w.has_row.ensures w.if-place.true w.result-is
+          | else-place w ↦ neither w.if-place.false w.result-is
+        ];
+      },
+      omega (
+        arith,
+        shorter c.args.place.text.now c.args.parameter is,
+        ap length parts.2,
+        length-append c.in_ok-bytes.bytes.now c.in_ok-bytes.rest.now,
+      ),
+    )

@@ -1,30 +1,56 @@
-use Rattle.std.proofs.Common.{◌≡◌, take, drop, arith}
-use Rattle.pcl_output.specs.PageText.{bitmap_rows}
+use Rattle.std.proofs.Common.{◌≡◌, ℕ, List, length, replicate, sym, ◌∙◌, arith}
+use Rattle.std.proofs.lemmas.List.{length-replicate}
+use Rattle.pcl_base.specs.Digits.{number_of}
+use Rattle.pcl_base.specs.Size.{page_row_bytes}
+use Rattle.pcl_base.proofs.PageBounds.{height_small}
 use Rattle.pcl_check.proofs.Comparing.{both, neither}
-use Rattle.pcl_check.proofs.Fronts.{white_rows}
-use Rattle.pcl_check.proofs.Steps.{too_many, skipped}
+use Rattle.pcl_check.proofs.Fronts.{white_rows, is_method, is_skip, is_send}
+use Rattle.pcl_check.proofs.Moves.{front_at, letters_77_89, letters_89_87, skip_becomes}
+use Rattle.pcl_check.proofs.Steps.{told, shorter, cased, becomes_to}
 use Rattle.pcl_check.proofs.reading.body.skip.Goals as goal
 use Rattle.pcl_check.proofs.reading.body.skip.Goals.{then-count-eq0-via-then-count-eq0, then-count-eq0-via-else-count-eq0+then-count-height, then-place, else-place}
 
 pub returns-then-count-eq0 : goal.returns-then-count-eq0
 returns-then-count-eq0 c = λ rows printed.
-    too_many c.args.comparison.bitmap.now c.args.place c.requires.inside
-    c.requires.parameter c.requires.letter
-    (λ some few. elim c.then-count-eq0.branch [
-      | then-count-eq0-via-then-count-eq0 w ↦ let none = w.if-count-eq0.true in omega arith
-      | then-count-eq0-via-else-count-eq0+then-count-height w ↦ let many = w.if-count-height.true in omega (arith, w.height.ensures)
-    ])
-    printed
+    let is = c.requires.parameter in
+    let signed = cased c.requires.letter in
+    elim (front_at (told c.args.comparison.bitmap.now c.args.comparison.size c.args.above.now c.args.place c.args.parameter
+    c.requires.inside is) printed) [
+      | is_method next last b m p ↦ letters_77_89 last signed.0 (sym b ∙ signed.1)
+      | is_skip last others b some few r p ↦ elim c.then-count-eq0.branch [
+        | then-count-eq0-via-then-count-eq0 w ↦ let none = w.if-count-eq0.true in omega (arith, is.number_is, some)
+        | then-count-eq0-via-else-count-eq0+then-count-height w ↦ let many = w.if-count-height.true in
+            omega (arith, is.number_is, few, w.height.ensures)
+      ]
+      | is_send bytes more first others b m r some f row row_data p ↦ letters_89_87 signed.0 (sym signed.1 ∙ b)
+    ]
 
 pub returns : goal.returns
 returns c =
     let picture = c.args.comparison.bitmap.now in
-    let place = c.args.place in
+    let size = c.args.comparison.size in
+    let is = c.requires.parameter in
+    let count : ℕ = c.args.parameter.number in
+    let high = height_small size picture.dpi in
+    let some = c.if-count-eq0.false in
     let few = c.if-count-height.false in
-    skipped picture c.args.comparison.size c.args.above.now c.fill.new.self place c.args.parameter c.if-place.result c.requires.inside
-    c.requires.parameter c.requires.letter (let some = c.if-count-eq0.false in omega arith) (omega (arith, few, c.height.ensures))
-    (c.fill.ensures.after (λ y e. e))
-    (elim c.if-place.branch [
-      | then-place w ↦ both w.has_white_rows.ensures w.if-place.true w.result-is
-      | else-place w ↦ neither w.if-place.false w.result-is
-    ])
+    let signed = cased c.requires.letter in
+    let number : number_of c.args.parameter.digits.now ≡ count = omega (arith, is.number_is, few, c.height.ensures) in
+    let row : List ℕ = replicate (page_row_bytes size picture.dpi) 0 in
+    let many : length (white_rows size picture.dpi count) ≡ count = length-replicate count row in
+    let moved = skip_becomes {size = size} {dpi = picture.dpi} signed.0
+    (told picture size c.args.above.now c.args.place c.args.parameter c.requires.inside is) signed.1 (omega (arith, number))
+    (omega (arith, number, few, c.height.ensures)) in
+    let counted = rw number at moved in (
+      record {
+        given = white_rows size picture.dpi count;
+        becomes = becomes_to (sym signed.2) (sym (c.fill.ensures.after (λ y e. e))) (omega arith) counted;
+        row_is = omega (arith, many);
+        within = omega (arith, some, few, c.height.ensures);
+        same = rw many (elim c.if-place.branch [
+          | then-place w ↦ both w.has_white_rows.ensures w.if-place.true w.result-is
+          | else-place w ↦ neither w.if-place.false w.result-is
+        ]);
+      },
+      shorter c.args.place.text.now c.args.parameter is,
+    )

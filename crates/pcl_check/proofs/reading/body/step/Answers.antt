@@ -1,9 +1,10 @@
-use Rattle.std.proofs.Common.{◌≡◌, Some, None, rules}
+use Rattle.std.proofs.Common.{◌≡◌, Some, None, rules, [], length, refl, ap, arith}
+use Rattle.std.proofs.lemmas.List.{length-append}
 use Rattle.std.proofs.lemmas.Slice.Eq.{strip_prefix_is}
 use Rattle.std.proofs.lemmas.Bool.Decides.{Decides-eqb}
 use Rattle.pcl_check.proofs.Moves.{no_byte, no_letter}
-use Rattle.pcl_check.proofs.Outside.{opening_bytes, no_opening}
-use Rattle.pcl_check.proofs.Steps.{told, sequence_opened}
+use Rattle.pcl_check.proofs.Outside.{opening_bytes, opening_becomes, no_opening}
+use Rattle.pcl_check.proofs.Steps.{told}
 use Rattle.pcl_check.proofs.reading.body.step.Goals as goal
 
 pub returns-in_err-text : goal.returns-in_err-text
@@ -14,8 +15,16 @@ returns-in_err-text c =
 
 pub returns-then-not-place : goal.returns-then-not-place
 returns-then-not-place c =
-    sequence_opened c.if-not-place.true
-    (strip_prefix_is Decides-eqb c.args.place.text.now opening_bytes (Some c.in_ok-text.text) c.in_ok-text.ensures.cases) c.requires.row
+    let opened = strip_prefix_is Decides-eqb c.args.place.text.now opening_bytes (Some c.in_ok-text.text) c.in_ok-text.ensures.cases in (
+      record {
+        given = [];
+        becomes = opening_becomes c.if-not-place.true opened;
+        row_is = omega arith;
+        within = c.requires.row;
+        same = (λ yes. (yes, refl), λ h. h.0);
+      },
+      omega (arith, ap length opened, length-append opening_bytes c.in_ok-text.text.now),
+    )
 
 pub returns-in_err-parameter : goal.returns-in_err-parameter
 returns-in_err-parameter c =

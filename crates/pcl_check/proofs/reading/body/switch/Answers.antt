@@ -1,14 +1,39 @@
-use Rattle.std.proofs.Common.{sym}
-use Rattle.pcl_check.proofs.Steps.{no_switch, switched}
+use Rattle.std.proofs.Common.{◌≡◌, ℕ, [], refl, sym, ◌∙◌, arith}
+use Rattle.pcl_base.specs.Method.{method_code}
+use Rattle.pcl_base.specs.Digits.{number_of}
+use Rattle.pcl_output.proofs.TokenCosts.{method_small}
+use Rattle.pcl_check.proofs.Fronts.{is_method, is_skip, is_send}
+use Rattle.pcl_check.proofs.Moves.{front_at, letters_77_87, letters_77_89, with_code, method_becomes}
+use Rattle.pcl_check.proofs.Steps.{told, shorter, cased, of_code}
 use Rattle.pcl_check.proofs.reading.body.switch.Goals as goal
 
 pub returns-in_err-method : goal.returns-in_err-method
 returns-in_err-method c = λ picture size above within.
+    let signed = cased c.requires.letter in
     rw c.from_residual.ensures
-    (no_switch picture c.args.place c.requires.inside c.requires.parameter c.requires.letter
-    (sym c.in_err-method.ensures))
+    (λ rows printed. elim (front_at (told picture size above c.args.place c.args.parameter c.requires.inside c.requires.parameter) printed) [
+      | is_method next last b m p ↦
+          let le = method_small next in
+          let number : c.args.parameter.number ≡ method_code next = omega (arith, c.requires.parameter.number_is, m) in
+          let coded = with_code next in cc (c.in_err-method.ensures)
+      | is_skip last others b some few r p ↦ letters_77_89 signed.0 last (sym signed.1 ∙ b)
+      | is_send bytes more first others b m r some f row row_data p ↦ letters_77_87 signed.0 (sym signed.1 ∙ b)
+    ])
 
 pub returns : goal.returns
 returns c = λ picture size above within.
-    switched c.requires.inside c.requires.parameter c.requires.letter
-    (sym c.in_ok-method.ensures) within
+    let signed = cased c.requires.letter in
+    let number = of_code c.args.parameter.number (sym c.in_ok-method.ensures) in
+    let le = method_small c.in_ok-method.method in
+    let spelled : number_of c.args.parameter.digits.now ≡ method_code c.in_ok-method.method =
+    omega (arith, c.requires.parameter.number_is, number) in (
+      record {
+        given = [];
+        becomes = rw signed.2 (method_becomes signed.0
+            (told picture size above c.args.place c.args.parameter c.requires.inside c.requires.parameter) signed.1 spelled);
+        row_is = omega arith;
+        within = within;
+        same = (λ yes. (yes, refl), λ h. h.0);
+      },
+      shorter c.args.place.text.now c.args.parameter c.requires.parameter,
+    )
