@@ -1,12 +1,35 @@
-use Rattle.std.proofs.Common.{◌≡◌, ℕ, ◌-◌, true, false, Bool, length, subst, arith}
+use Rattle.std.proofs.Common.{◌≡◌, ℕ, ◌-◌, Bool, true, false, List, length, refl, sym, arith}
 use Rattle.pcl_base.specs.declared.method.Method.{Method}
+use Rattle.pcl_output.specs.declared.node.Node.{Node}
+use Rattle.pcl_check.specs.Edges.{AreGoodSwitches}
+use Rattle.pcl_check.specs.inner.EdgePasses.{At, Both, IsGoodStart, IsGoodSending, AreGoodSkipsTo, IsGoodIn}
 use Rattle.pcl_base.specs.Size.{page_height}
 use Rattle.pcl_output.specs.Table.{node_number}
-use Rattle.pcl_check.specs.Edges.{FindsBad, AreGoodSwitches}
-use Rattle.pcl_check.specs.inner.EdgePasses.{At, IsGoodStart, IsGoodSending, AreGoodSkipsTo, IsGoodIn}
 use Rattle.pcl_check.proofs.Found.{first_of_four, finds_too}
-use Rattle.pcl_check.proofs.EdgesByRows.{InParts, good_of_parts, parts_of_good}
 use Rattle.pcl_check.proofs.edges.first_bad_in.Goals as goal
+
+abbrev InParts : List ℕ → ℕ → (ℕ → Method → ℕ → Type 0) → (Node → ℕ) → Method → ℕ → Method → Bool → Type 0
+InParts ends last Counts number method =
+    Both (Both (At method false (IsGoodStart ends number method)) (At method true (AreGoodSwitches number method)))
+    (Both (At method true (IsGoodSending last Counts number method)) (At method true (AreGoodSkipsTo ends number method)))
+
+good_of_parts : (ends : List ℕ) {last : ℕ} (Counts : ℕ → Method → ℕ → Type 0) (number : Node → ℕ) {method : Method} {row : ℕ}
+    {current : Method} (inside : Bool) → InParts ends last Counts number method row current inside
+    → IsGoodIn ends last Counts number method row current inside
+good_of_parts ends Counts number false parts = λ same. rw same (parts.0.0 same refl)
+good_of_parts ends Counts number true parts = λ same. rw same (parts.0.1 same refl, parts.1.0 same refl, parts.1.1 same refl)
+
+parts_of_good : (ends : List ℕ) {last : ℕ} (Counts : ℕ → Method → ℕ → Type 0) (number : Node → ℕ) {method : Method} {row : ℕ}
+    {current : Method} (inside : Bool) → IsGoodIn ends last Counts number method row current inside
+    → InParts ends last Counts number method row current inside
+parts_of_good ends Counts number false good = (
+  (λ same here. rw (sym same) (good same), λ same here. absurd cc),
+  (λ same here. absurd cc, λ same here. absurd cc),
+)
+parts_of_good ends Counts number true good = (
+  (λ same here. absurd cc, λ same here. rw (sym same) (good same).0),
+  (λ same here. rw (sym same) (good same).1, λ same here. rw (sym same) (good same).2),
+)
 
 pub returns : goal.returns
 returns g c =

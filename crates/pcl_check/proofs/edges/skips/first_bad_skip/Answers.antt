@@ -1,10 +1,53 @@
-use Rattle.std.proofs.Common.{ℕ, ◌-◌, true, Bool, length}
+use Rattle.std.proofs.Common.{Bool, true, ℕ, ◌-◌, ◌^◌, ◌<◌, ◌≤◌, List, arith, length}
 use Rattle.pcl_base.specs.declared.method.Method.{Method}
+use Rattle.pcl_output.specs.declared.node.Node.{Node}
 use Rattle.pcl_output.specs.Table.{node_number}
-use Rattle.pcl_check.specs.inner.EdgePasses.{At, Both, AreGoodSkipsOf, AreGoodSkipsTo}
+use Rattle.pcl_output.proofs.DigitCounts.{count_is, count_le}
+use Rattle.pcl_check.specs.inner.EdgePasses.{At, Both, AreEnds, AreGoodSkipsOf, AreGoodSkipsTo}
 use Rattle.pcl_check.proofs.Found.{first_of_four, finds_too}
-use Rattle.pcl_check.proofs.SkipWindows.{AreGoodByDigits, by_digits, all_digits}
 use Rattle.pcl_check.proofs.edges.skips.first_bad_skip.Goals as goal
+
+-- counts of few digits, tried as if they had more
+short_skips : (ends : List ℕ) (number : Node → ℕ) {method : Method} {row : ℕ} (digits : ℕ) {most : ℕ} → most < 10 ^ digits → most ≤ 9999
+    → AreGoodSkipsTo ends number method row → AreGoodSkipsOf ends number method digits most row
+short_skips ends number digits short few good = λ count inside some le within.
+    omega (arith, good count inside some within, count_le digits count (omega (arith, short)) (omega arith))
+
+-- the four counts of digits
+abbrev AreGoodByDigits : List ℕ → (Node → ℕ) → Method → ℕ → Method → Bool → Type 0
+AreGoodByDigits ends number method =
+    Both (Both (At method true (AreGoodSkipsOf ends number method 1 9)) (At method true (AreGoodSkipsOf ends number method 2 99)))
+    (Both (At method true (AreGoodSkipsOf ends number method 3 999)) (At method true (AreGoodSkipsOf ends number method 4 9999)))
+
+by_digits : (ends : List ℕ) (number : Node → ℕ) (method : Method) {row : ℕ} {current : Method} {inside : Bool}
+    → At method true (AreGoodSkipsTo ends number method) row current inside → AreGoodByDigits ends number method row current inside
+by_digits ends number method good = (
+  (
+    λ same here. short_skips ends number 1 (omega arith) (omega arith) (good same here),
+    λ same here. short_skips ends number 2 (omega arith) (omega arith) (good same here),
+  ),
+  (
+    λ same here. short_skips ends number 3 (omega arith) (omega arith) (good same here),
+    λ same here. short_skips ends number 4 (omega arith) (omega arith) (good same here),
+  ),
+)
+
+all_digits : {ends : List ℕ} {last : ℕ} (number : Node → ℕ) (method : Method) {row : ℕ} {current : Method} {inside : Bool}
+    → AreEnds ends last → row ≤ last → AreGoodByDigits ends number method row current inside
+    → At method true (AreGoodSkipsTo ends number method) row current inside
+all_digits number method {row = row} are le good = λ same here count inside some within.
+    let few : count ≤ 9999 = omega (arith, are.within row le, are.few) in
+    grind (
+      arith,
+      good.0.0 same here count inside some,
+      good.0.1 same here count inside some,
+      good.1.0 same here count inside some,
+      good.1.1 same here count inside some,
+      count_is 0 count,
+      count_is 1 count,
+      count_is 2 count,
+      count_is 3 count,
+    )
 
 pub returns : goal.returns
 returns c =

@@ -1,12 +1,40 @@
-use Rattle.std.proofs.Common.{ℕ, ◌-◌, ◌≤◌, length, refl, below_more, arith}
-use Rattle.std.proofs.lemmas.Bool.{iff_false}
+use Rattle.std.proofs.Common.{◌≡◌, true, ℕ, ◌+◌, ◌-◌, ◌≤◌, List, ap, arith, length, refl, below_more}
+use Rattle.std.specs.Prelude.{not}
+use Rattle.pcl_base.specs.declared.method.Method.{Method}
+use Rattle.pcl_coders.specs.Windows.{IsLeastOf}
+use Rattle.pcl_output.specs.declared.node.Node.{Node}
 use Rattle.pcl_output.specs.Table.{rest, node_number}
+use Rattle.pcl_output.proofs.TokenCosts.{rest_below, best_end}
+use Rattle.pcl_check.specs.Edges.{number_at}
 use Rattle.pcl_check.specs.inner.EdgePasses.{AreGoodSkipsOf}
+use Rattle.pcl_check.proofs.StepWindows.{last_of, IsNextWindow, least_below, least_reached, window_begins, window_next}
+use Rattle.std.proofs.lemmas.Bool.{iff_false}
 use Rattle.pcl_check.proofs.Found.{first_at}
-use Rattle.pcl_check.proofs.StepWindows.{window_begins, window_next}
-use Rattle.pcl_check.proofs.SkipWindows.{skips_by_window, window_by_skips}
 use Rattle.pcl_check.proofs.edges.skips.first_bad_skip_of.Goals as goal
 use Rattle.pcl_check.proofs.edges.skips.first_bad_skip_of.Goals.{else-last-row-via-then-last-row+else-not-is_within, else-last-row-via-else-last-row}
+
+skips_by_window : {ends : List ℕ} (number : Node → ℕ) {method : Method} (digits : ℕ) {most : ℕ} {filled taken : List ℕ}
+    {row stop far least : ℕ} → IsNextWindow ends (λ y. rest number y method) most filled taken row stop far
+    → far ≡ last_of ends most row → IsLeastOf taken least
+    → number_at number row method true ≤ digits + 1 + least → AreGoodSkipsOf ends number method digits most row
+skips_by_window number {method = method} digits {row = row} next farthest is le = λ count inside some few within.
+    omega (arith, le, least_below next is (row + count) (omega arith) (omega (arith, farthest)), rest_below number (row + count) method inside)
+
+window_by_skips : {ends : List ℕ} (number : Node → ℕ) {method : Method} (digits : ℕ) {most : ℕ} {filled taken : List ℕ}
+    {row stop far least : ℕ} → IsNextWindow ends (λ y. rest number y method) most filled taken row stop far
+    → far ≡ last_of ends most row → IsLeastOf taken least
+    → AreGoodSkipsOf ends number method digits most row → number_at number row method true ≤ digits + 1 + least
+window_by_skips number {method = method} digits {row = row} next farthest is good =
+    let at = least_reached next is in
+    let best = best_end number at.0 method in
+    let there : row + (at.0 - row) ≡ at.0 = omega (arith, at.1) in
+    omega (
+      arith,
+      good (at.0 - row) (not best.0) (omega (arith, at.1)) (omega (arith, at.2, farthest)) (omega (arith, at.1, at.2, farthest)),
+      ap (λ (y : ℕ). number_at number y method (not best.0)) there,
+      best.1,
+      at.3,
+    )
 
 pub loop-row-init : goal.loop-row-init
 loop-row-init c = record {

@@ -1,7 +1,34 @@
-use Rattle.std.proofs.Common.{◌≡◌, length, sym, subst, ◌∙◌}
-use Rattle.pcl_rows.specs.Rows.{Decodes}
-use Rattle.pcl_check.proofs.Painted.{painted}
+use Rattle.std.proofs.Common.{◌≡◌, ℕ, ◌≤◌, Bool, true, false, IsTrue, List, length, refl, sym, subst, ◌∙◌}
+use Rattle.std.specs.Prelude.{◌↔◌}
+use Rattle.pcl_base.specs.declared.dpi.Dpi.{Dpi}
+use Rattle.pcl_base.specs.declared.method.Method.{Method}
+use Rattle.pcl_base.specs.declared.size.Size.{Size}
+use Rattle.pcl_base.specs.Size.{page_width, page_row_bytes}
+use Rattle.pcl_bitmap.specs.Bitmap.{dot_of_row}
+use Rattle.pcl_rows.specs.Rows.{Decodes, IsWhole}
+use Rattle.pcl_rows.proofs.Decoded.{decoded_is}
+use Rattle.pcl_check.specs.inner.Reading.{IsPaintedRow}
 use Rattle.pcl_check.proofs.reading.body.paint.Goals as goal
+
+abbrev HasClearPads : Size → Dpi → List ℕ → Type 0
+HasClearPads size dpi row = (x : ℕ) → page_width size dpi ≤ x → dot_of_row row x ≡ false
+
+-- whole data that makes a row
+record Makes (size : Size) (dpi : Dpi) (method : Method) (above bytes row : List ℕ) : Type 0 where
+  pub whole : IsWhole method bytes (length row)
+  pub decodes : Decodes method above bytes row
+  pub fits : length bytes ≤ 65535
+  pub width : length row ≡ page_row_bytes size dpi
+
+painted : (size : Size) (dpi : Dpi) (method : Method) (above bytes row : List ℕ) (clear : Bool)
+    → Makes size dpi method above bytes row → (IsTrue clear ↔ HasClearPads size dpi row)
+    → IsPaintedRow dpi size method above bytes clear row
+painted size dpi method above bytes row true makes pads =
+    ((makes.width, pads.0 refl), record { whole = makes.whole; decodes = makes.decodes; fits = makes.fits })
+painted size dpi method above bytes row false makes pads = λ other is made.
+    let same : other ≡ row = decoded_is method above bytes other made.decodes ∙ sym (decoded_is method above bytes row makes.decodes) in
+    let yes : false ≡ true = pads.1 (subst (HasClearPads size dpi) same is.1) in
+    cc
 
 pub returns-then-is_whole : goal.returns-then-is_whole
 returns-then-is_whole c =
