@@ -18,18 +18,6 @@ all_digits text {behind} e none =
     let all = append-nil (take (prefix_len is_digit text) text) in
     let whole : text ≡ take (prefix_len is_digit text) text = cc in rw whole front.pass
 
--- digits, and the byte after them
-pub record IsCutAt (text front : List ℕ) (byte : ℕ) (rest : List ℕ) : Type 0 where
-  pub are_digits : AreDigits front
-  pub no_digit : is_digit byte ≡ false
-  pub spelled : text ≡ front ++ byte ∷ rest
-
-pub digits_cut : {text front behind : List ℕ} {byte : ℕ} {rest : List ℕ} → front ≡ take (prefix_len is_digit text) text
-    → behind ≡ drop (prefix_len is_digit text) text → behind ≡ byte ∷ rest → IsCutAt text front byte rest
-digits_cut {text} f b e =
-    let split = front_split is_digit text in
-    record { are_digits = rw f split.pass; no_digit = rw (sym b ∙ e) at split.stops; spelled = rw (f, sym e, b) split.joined }
-
 -- ---- decimals
 
 pub decimal_digits : {n : ℕ} → n ≤ 65536 → AreDigits (decimal n)

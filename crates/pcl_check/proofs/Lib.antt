@@ -7,10 +7,8 @@ pub mod Comparing
 pub mod Steps
 pub mod Decimals
 pub mod Beginnings
-pub mod Verdicts
 pub mod Values
 pub mod Found
-pub mod RunEnds
 pub mod StepWindows
 pub mod GoodNumbers
 pub mod PlacesFound

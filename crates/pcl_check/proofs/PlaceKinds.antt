@@ -12,21 +12,6 @@ use Rattle.pcl_check.specs.inner.EdgePasses.{AreEnds}
 use Rattle.pcl_check.proofs.PlacesFound.{And}
 use Rattle.pcl_check.specs.inner.PlacePasses.{IsNotUndercut, AreGoodRuns, AreGoodLiterals, AreGoodReplacements, AreRunStops, AreStartEnds, ArePlaced, AreBehindStarts}
 
--- ---- where steps stop at the latest
-
--- it is known where each stop is behind its place and within the row, and none is before one of an earlier place
-ends_known : (row : List ℕ) {ends : List ℕ} → length row ≤ row_limit → length ends ≡ length row + 1
-    → slice_index ends (length row) ≡ length row
-    → ((place : ℕ) → place < length row → (place < slice_index ends place) × (slice_index ends place ≤ length row))
-    → ((place : ℕ) → place + 1 < length row → slice_index ends (place + 1) < slice_index ends place → ⊥) → AreEnds ends (length row)
-ends_known row {ends} small size last stops falls = record {
-  size = size;
-  few = omega arith;
-  above = λ place le. grind (arith, stops place, last);
-  within = λ place le. grind (arith, stops place, last);
-  grow = λ place inside. grind (arith, stops place, falls place, last);
-}
-
 -- ---- runs
 
 pub runs_by_window : {row : List ℕ} (numbers : List ℕ) {ends : List ℕ} {most place : ℕ} → AreRunStops row ends 0

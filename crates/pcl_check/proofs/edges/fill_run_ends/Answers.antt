@@ -1,14 +1,59 @@
-use Rattle.std.proofs.Common.{◌≡◌, ◌+◌, ◌-◌, ◌<◌, ℕ, length, sym, ◌∙◌, arith}
-use Rattle.std.proofs.lemmas.Bool.{iff_false}
-use Rattle.std.proofs.lemmas.List.Elements.{All-from_recursion, recursion_from_All}
-use Rattle.pcl_base.specs.Size.{page_height, page_row_bytes}
+use Rattle.std.proofs.Common.{◌≡◌, ℕ, ◌+◌, ◌-◌, ◌<◌, ◌≤◌, List, length, set, sym, ◌∙◌, inl, inr, arith}
+use Rattle.std.specs.Prelude.{slice_index}
+use Rattle.std.proofs.Math.ListN.{length-set}
+use Rattle.std.proofs.lemmas.Bool.{cases_eq, iff_false}
+use Rattle.std.proofs.lemmas.List.{get_or-set_same, get_or-set_other}
 use Rattle.pcl_output.specs.Tokens.{IsWhite}
 use Rattle.pcl_output.specs.Nodes.{row_at}
+use Rattle.pcl_output.specs.inner.WhiteRows.{IsWhiteRun}
+use Rattle.pcl_output.proofs.WhiteRows.{run_more, run_none, run_end}
+use Rattle.pcl_check.specs.inner.EdgePasses.{AreRunEnds}
+use Rattle.std.proofs.lemmas.List.Elements.{All-from_recursion, recursion_from_All}
+use Rattle.pcl_base.specs.Size.{page_height, page_row_bytes}
 use Rattle.pcl_output.specs.PageText.{bitmap_rows}
 use Rattle.pcl_output.proofs.RowsFrom.{length_rows, row_of_bytes}
-use Rattle.pcl_check.proofs.RunEnds.{ends_begin, ends_more, white_more, inked_more}
 use Rattle.pcl_check.proofs.edges.fill_run_ends.Goals as goal
 use Rattle.pcl_check.proofs.edges.fill_run_ends.Goals.{then-is_blank, else-is_blank}
+
+-- the end of the rows
+ends_begin : {rows : List (List ℕ)} (ends : List ℕ) {last : ℕ} → length rows ≡ last → length ends ≡ last + 1
+    → AreRunEnds rows (set ends last last) last
+ends_begin {rows} ends {last} count size =
+    let inside : last < length ends = omega arith in
+    let at : slice_index (set ends last last) last ≡ last = get_or-set_same ends last last 0 inside in
+    record {
+      size = omega (arith, length-set ends last last, count);
+      runs = λ row from within.
+          let same : row ≡ last = omega arith in
+          let none : last - last ≡ 0 = omega arith in
+          rw (same, at, none) (omega arith, run_end (sym count));
+    }
+
+-- a row more
+ends_more : {rows : List (List ℕ)} {ends : List ℕ} {row end : ℕ} → row < length rows → AreRunEnds rows ends (row + 1)
+    → row ≤ end → IsWhiteRun rows row (end - row) → AreRunEnds rows (set ends row end) row
+ends_more {rows} {ends} {row} {end} lt are order run =
+    let inside : row < length ends = omega (arith, are.size) in
+    let at : slice_index (set ends row end) row ≡ end = get_or-set_same ends row end 0 inside in
+    record {
+      size = length-set ends row end ∙ are.size;
+      runs = λ k from within.
+          elim (cases_eq row k) [
+            | inl same ↦ rw (sym same, at) (order, run)
+            | inr other ↦ rw (get_or-set_other ends row k end 0 (λ e. other (sym e))) (are.runs k (omega (arith, other)) within)
+          ];
+    }
+
+white_more : {rows : List (List ℕ)} {ends : List ℕ} {row : ℕ} → row < length rows → AreRunEnds rows ends (row + 1)
+    → IsWhite (row_at rows row)
+    → (row ≤ slice_index ends (row + 1)) × IsWhiteRun rows row (slice_index ends (row + 1) - row)
+white_more {rows} {ends} {row} lt are white =
+    let next = are.runs (row + 1) (omega arith) (omega arith) in
+    let count : slice_index ends (row + 1) - row ≡ slice_index ends (row + 1) - (row + 1) + 1 = omega (arith, next.0) in
+    (omega (arith, next.0), rw count (run_more lt next.1 white))
+
+inked_more : {rows : List (List ℕ)} {row : ℕ} → row < length rows → (IsWhite (row_at rows row) → ⊥) → IsWhiteRun rows row (row - row)
+inked_more {rows} {row} lt inked = let none : row - row ≡ 0 = omega arith in rw none (run_none lt inked)
 
 pub loop-row-init : goal.loop-row-init
 loop-row-init c =

@@ -1,21 +1,46 @@
-use Rattle.std.proofs.Common.{◌≡◌, ℕ, ◌-◌, ◌≤◌, Bool, true, false, List, length, drop, refl, inl, inr, arith}
+use Rattle.std.proofs.Common.{◌≡◌, ℕ, ◌+◌, ◌-◌, ◌<◌, ◌≤◌, List, length, sym, inl, inr, arith, Bool, true, false, drop, refl}
 use Rattle.std.specs.Prelude.{slice_index}
 use Rattle.std.proofs.lemmas.Bool.{cases_lt}
+use Rattle.pcl_output.proofs.WhiteRows.{white_below, white_front, skippable_within, white_to_end, ink_left}
+use Rattle.pcl_check.specs.inner.EdgePasses.{AreRunEnds, AreEnds, Both, IsGoodStart, AreGoodSkipsTo, IsGoodBy, IsGoodIn}
 use Rattle.pcl_base.specs.declared.method.Method.{Method}
 use Rattle.pcl_base.specs.declared.method.Method.TheVariants.{Plain, Runs, Packed, Delta}
 use Rattle.pcl_output.specs.declared.node.Node.{Node}
-use Rattle.pcl_output.proofs.WhiteRows.{white_front, skippable_within, white_to_end, ink_left}
 use Rattle.pcl_check.specs.Edges.{AreGoodSkips, IsGoodOutside, IsGoodNumber}
-use Rattle.pcl_check.specs.inner.EdgePasses.{Both, AreRunEnds, IsGoodStart, AreGoodSkipsTo, IsGoodBy, IsGoodIn, AreEnds}
 use Rattle.pcl_base.specs.Size.{page_height, page_row_bytes}
 use Rattle.pcl_bitmap.specs.declared.page.Page.{Page}
 use Rattle.pcl_output.specs.PageText.{bitmap_rows}
 use Rattle.pcl_output.specs.Table.{node_number}
 use Rattle.pcl_output.proofs.RowsFrom.{length_rows}
 use Rattle.pcl_base.proofs.PageBounds.{height_small}
-use Rattle.pcl_check.proofs.RunEnds.{ends_known}
 use Rattle.pcl_check.proofs.Found.{first_of_four, finds_too}
 use Rattle.pcl_check.proofs.edges.first_bad.Goals as goal
+
+-- the white rows from a row end no earlier where they begin a row later
+ends_grow : {rows : List (List ℕ)} {ends : List ℕ} (row : ℕ) → AreRunEnds rows ends 0 → row < length rows
+    → slice_index ends row ≤ slice_index ends (row + 1)
+ends_grow {rows} {ends} row are lt =
+    let here = are.runs row (omega arith) (omega arith) in
+    let next = are.runs (row + 1) (omega arith) (omega arith) in
+    let end : ℕ = slice_index ends row in
+    let after : ℕ = slice_index ends (row + 1) in
+    elim (cases_lt after end) [
+      | inr grows ↦ grows
+      | inl falls ↦
+          let there : row + (after - row) ≡ row + 1 + (after - (row + 1)) = omega (arith, next.0) in
+          let white = white_below rows row (after - row) here.1.white (omega (arith, next.0)) here.1.within in
+          absurd (next.1.longest (omega (arith, next.0, here.0, here.1.within)) (rw (sym there) white))
+    ]
+
+ends_known : {rows : List (List ℕ)} {ends : List ℕ} {last : ℕ} → length rows ≡ last → last ≤ 9999 → AreRunEnds rows ends 0
+    → AreEnds ends last
+ends_known count few are = record {
+  size = omega (arith, are.size, count);
+  few = few;
+  above = λ row le. (are.runs row (omega arith) (omega (arith, count))).0;
+  within = λ row le. let is = are.runs row (omega arith) (omega (arith, count)) in omega (arith, is.0, is.1.within, count);
+  grow = λ row lt. ends_grow row are (omega (arith, count));
+}
 
 outside_of_start : {rows : List (List ℕ)} {ends : List ℕ} {number : Node → ℕ} {method : Method} {row : ℕ} → AreRunEnds rows ends 0
     → row ≤ length rows → IsGoodStart ends number method row → IsGoodOutside rows number method row

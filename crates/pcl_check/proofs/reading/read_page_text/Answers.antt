@@ -1,12 +1,131 @@
-use Rattle.std.proofs.Common.{◌≡◌, ◌==◌, ℕ, Bool, true, false, sym, ap, ◌∙◌}
-use Rattle.pcl_bitmap.specs.declared.page.Page.{Page}
+use Rattle.std.proofs.Common.{◌≡◌, ℕ, ◌<◌, Bool, true, false, IsTrue, List, ◌++◌, length, take, Some, None, refl, sym, ap, ◌∙◌, append_assoc, arith, ◌==◌}
+use Rattle.std.specs.Prelude.{◌↔◌}
+use Rattle.std.specs.List.{flat_map}
+use Rattle.std.proofs.lemmas.List.{take_all, append_cancel_left, append_assoc}
+use Rattle.pcl_base.specs.declared.dpi.Dpi.{Dpi}
+use Rattle.pcl_base.specs.declared.size.Size.{Size}
+use Rattle.pcl_base.specs.Size.{page_height, page_row_bytes, code_of}
+use Rattle.pcl_bitmap.specs.Bitmap.{Picture}
+use Rattle.pcl_output.specs.Tokens.{token_bytes, start_bytes, end_bytes}
+use Rattle.pcl_output.specs.PageText.{IsPageText, bitmap_rows}
+use Rattle.pcl_output.proofs.RowsFrom.{length_rows}
 use Rattle.pcl_check.specs.declared.reading.start.Start.{Start}
-use Rattle.pcl_check.proofs.Verdicts.{MayBe, no_start, no_body, same_page, some_page, other_page}
+use Rattle.pcl_check.specs.inner.Reading.{IsStart, RestPrints, body_of, IsBodyVerdict, raster_start}
+use Rattle.pcl_check.specs.TextVerdicts.{IsSomePageText}
+use Rattle.pcl_check.proofs.Beginnings.{start_is, code_few, size_coded, size_read, same_size, IsSize}
+use Rattle.pcl_bitmap.specs.declared.page.Page.{Page}
 use Rattle.std.proofs.lemmas.Bool.Decides.{Decides-eqb}
 use Rattle.pcl_base.specs.contracts.size.Size.{the_type}
 use denote.Enum.Bare.{sameb, same_true, true_same}
 use Rattle.pcl_check.proofs.reading.read_page_text.Goals as goal
 use Rattle.pcl_check.proofs.reading.read_page_text.Goals.{then-eq, else-eq}
+
+printed_text : {dpi : Dpi} {size : Size} {copies : ℕ} {rows : List (List ℕ)} {text rest : List ℕ} → 0 < copies → copies < 100
+    → text ≡ start_bytes dpi copies size ++ rest → RestPrints size dpi (body_of size dpi rest) rows → IsPageText dpi size copies rows text
+printed_text {dpi} {size} {copies} some few e p = record {
+  some_copies = some;
+  few_copies = few;
+  count = p.count;
+  rows_are = p.rows_are;
+  tokens = p.tokens;
+  spelled = e ∙ ap (λ (z : List ℕ). start_bytes dpi copies size ++ z) p.spelled
+      ∙ sym (append_assoc (start_bytes dpi copies size) (flat_map token_bytes p.tokens) end_bytes);
+  prints = p.prints;
+}
+
+-- the body after the start of a page text
+text_body : {dpi : Dpi} {size : Size} {copies : ℕ} {rows : List (List ℕ)} {text : List ℕ} → IsPageText dpi size copies rows text
+    → (rest : List ℕ) × (text ≡ start_bytes dpi copies size ++ rest) × RestPrints size dpi (body_of size dpi rest) rows
+text_body {dpi} {size} {copies} is = (
+  flat_map token_bytes is.tokens ++ end_bytes,
+  is.spelled ∙ append_assoc (start_bytes dpi copies size) (flat_map token_bytes is.tokens) end_bytes,
+  record { count = is.count; rows_are = is.rows_are; tokens = is.tokens; spelled = refl; prints = is.prints },
+)
+
+-- a text begins in one way
+record IsSameStart (copies other : ℕ) (size other_size : Size) (rest behind : List ℕ) : Type 0 where
+  pub copies_is : copies ≡ other
+  pub size_is : size ≡ other_size
+  pub rest_is : rest ≡ behind
+
+one_start : (dpi : Dpi) {text : List ℕ} {copies other : ℕ} {size other_size : Size} {rest behind : List ℕ} → copies < 100 → other < 100
+    → text ≡ start_bytes dpi copies size ++ rest → text ≡ start_bytes dpi other other_size ++ behind
+    → IsSameStart copies other size other_size rest behind
+one_start dpi {text} {copies} {size = size} {other_size} {rest} {behind} few less e f =
+    let small = code_few size in
+    let read : IsSize text copies (code_of size) (raster_start size dpi ++ rest) =
+    record { few = omega arith; small = omega arith; text_is = e ∙ start_is dpi copies size rest } in
+    let found = size_read read (record { few = less; text_is = f }) in
+    let same = same_size read (size_coded size) (record { few = less; text_is = f }) in
+    record {
+      copies_is = found.copies_are;
+      size_is = sym same;
+      rest_is = append_cancel_left (raster_start size dpi) rest behind (rw same at found.more_is);
+    }
+
+-- ---- verdicts
+
+no_start : {dpi : Dpi} {text : List ℕ} → IsStart dpi text None → IsSomePageText dpi text → ⊥
+no_start none is =
+    let found = is.3 in
+    let body = text_body found in none is.1 is.0 body.0 found.some_copies found.few_copies body.1
+
+-- the body of a page text that begins so
+body_at : {dpi : Dpi} {text : List ℕ} (start : Start) {size : Size} {copies : ℕ} {rows : List (List ℕ)} → IsStart dpi text (Some start)
+    → IsPageText dpi size copies rows text
+    → (start.copies ≡ copies) × (start.size ≡ size) × RestPrints start.size dpi (body_of start.size dpi start.rest.now) rows
+body_at {dpi} start {size} {rows = rows} begun is =
+    let body = text_body is in
+    let same = one_start dpi begun.1 is.few_copies begun.2 body.1 in
+    (same.copies_is, same.size_is, rw (same.size_is, same.rest_is) body.2)
+
+no_body : (picture : Picture) {text : List ℕ} (start : Start) (may_be : Bool) → IsStart picture.dpi text (Some start)
+    → IsBodyVerdict picture start.size start.rest.now may_be None → IsSomePageText picture.dpi text → ⊥
+no_body picture start may_be begun none is =
+    none is.2 (body_at start begun is.3).2
+
+-- rows of a page's size that begin its rows are all of them
+whole_page : (picture : Picture) {rows : List (List ℕ)} → length rows ≡ page_height picture.size picture.dpi
+    → rows ≡ take (length rows) (bitmap_rows picture) → rows ≡ bitmap_rows picture
+whole_page picture {rows} n e =
+    let all = bitmap_rows picture in
+    let many : length all ≡ length rows =
+    length_rows (page_height picture.size picture.dpi) (page_row_bytes picture.size picture.dpi) picture.bytes ∙ sym n in
+    e ∙ ap (λ (k : ℕ). take k all) (sym many) ∙ take_all (length all) all (omega arith)
+
+-- whether the start is that of a page
+abbrev MayBe : Picture → ℕ → Start → Bool → Type 0
+MayBe picture copies start may_be = IsTrue may_be ↔ ((start.size ≡ picture.size) × (start.copies ≡ copies))
+
+same_page : {picture : Picture} {copies : ℕ} {text : List ℕ} (start : Start) {may_be : Bool} → IsStart picture.dpi text (Some start)
+    → MayBe picture copies start may_be → IsBodyVerdict picture start.size start.rest.now may_be (Some true)
+    → IsPageText picture.dpi picture.size copies (bitmap_rows picture) text
+same_page {picture} {copies} {text} start begun may only =
+    let same = only.same.0 refl in
+    let is = may.0 same.0 in
+    let count : length only.rows ≡ page_height picture.size picture.dpi =
+    only.printed.count ∙ ap (λ (z : Size). page_height z picture.dpi) is.0 in
+    rw (sym (whole_page picture count same.1), sym is.1, sym is.0) (printed_text begun.0 begun.1 begun.2 only.printed)
+
+some_page : {picture : Picture} {text : List ℕ} (start : Start) {may_be is_same : Bool} → IsStart picture.dpi text (Some start)
+    → IsBodyVerdict picture start.size start.rest.now may_be (Some is_same) → IsSomePageText picture.dpi text
+some_page start begun only = (
+  start.size,
+  start.copies,
+  only.rows,
+  printed_text begun.0 begun.1 begun.2 only.printed,
+)
+
+other_page : {picture : Picture} {copies : ℕ} {text : List ℕ} (start : Start) {may_be : Bool} → IsStart picture.dpi text (Some start)
+    → MayBe picture copies start may_be → IsBodyVerdict picture start.size start.rest.now may_be (Some false)
+    → IsPageText picture.dpi picture.size copies (bitmap_rows picture) text → ⊥
+other_page {picture} start begun may only is =
+    let all = bitmap_rows picture in
+    let body = body_at start begun is in
+    let same : all ≡ only.rows = only.only all body.2 in
+    let front : only.rows ≡ take (length only.rows) all = rw (sym same) (sym (take_all (length all) all (omega arith))) in
+    let yes : false ≡ true = only.same.1 (may.1 (body.1, body.0), front) in
+    cc
 
 -- the start is that of the page where size and copies are
 may_by_size : (page : Page) (start : Start) {test may_be : Bool} → test ≡ sameb the_type start.size page.size → test ≡ false → may_be ≡ test

@@ -1,5 +1,7 @@
-use Rattle.std.proofs.Common.{take, drop, ap, ◌∙◌, ℕ}
-use Rattle.pcl_check.proofs.Decimals.{all_digits, digits_cut}
+use Rattle.std.proofs.Common.{take, drop, sym, ap, ◌∙◌, ℕ}
+use Rattle.pcl_base.specs.Digits.{is_digit}
+use Rattle.pcl_base.proofs.Fronts.{front_split}
+use Rattle.pcl_check.proofs.Decimals.{all_digits}
 use Rattle.pcl_check.proofs.reading.parameter.read_parameter.Goals as goal
 
 pub returns-in_err-letter : goal.returns-in_err-letter
@@ -11,7 +13,13 @@ returns-in_err-letter c =
 pub returns : goal.returns
 returns c =
     let text = c.args.text.now in
-    let cut = digits_cut
-    (c.split_at.ensures.front ∙ ap (λ (n : ℕ). take n text) c.digit_count.ensures.count)
-    (c.split_at.ensures.back ∙ ap (λ (n : ℕ). drop n text) c.digit_count.ensures.count) c.in_ok-letter.ensures.cases.0 in
-    record { are_digits = cut.are_digits; no_digit = cut.no_digit; spelled = cut.spelled; number_is = c.number.ensures }
+    let split = front_split is_digit text in
+    let front = c.split_at.ensures.front ∙ ap (λ (n : ℕ). take n text) c.digit_count.ensures.count in
+    let behind = c.split_at.ensures.back ∙ ap (λ (n : ℕ). drop n text) c.digit_count.ensures.count in
+    let cut = c.in_ok-letter.ensures.cases.0 in
+    record {
+      are_digits = rw front split.pass;
+      no_digit = rw (sym behind ∙ cut) at split.stops;
+      spelled = rw (front, sym cut, behind) split.joined;
+      number_is = c.number.ensures;
+    }
