@@ -81,7 +81,3 @@ first_at Good within bad before = record {
   first = λ k current is_open first same here.
       before k (omega (arith, first, ap method_code same, ap inside_code here));
 }
-
-pub none_at : (Good : ℕ → Type 0) (last : ℕ) (method : Method) (inside : Bool) → ((k : ℕ) → k ≤ last → Good k)
-    → FindsBad (At method inside Good) last None
-none_at Good last method inside all = λ row current is_open le same here. all row le

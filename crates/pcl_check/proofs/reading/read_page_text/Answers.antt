@@ -65,11 +65,6 @@ one_start dpi {text} {copies} {size = size} {other_size} {rest} {behind} few les
 
 -- ---- verdicts
 
-no_start : {dpi : Dpi} {text : List ℕ} → IsStart dpi text None → IsSomePageText dpi text → ⊥
-no_start none is =
-    let found = is.3 in
-    let body = text_body found in none is.1 is.0 body.0 found.some_copies found.few_copies body.1
-
 -- the body of a page text that begins so
 body_at : {dpi : Dpi} {text : List ℕ} (start : Start) {size : Size} {copies : ℕ} {rows : List (List ℕ)} → IsStart dpi text (Some start)
     → IsPageText dpi size copies rows text
@@ -78,11 +73,6 @@ body_at {dpi} start {size} {rows = rows} begun is =
     let body = text_body is in
     let same = one_start dpi begun.1 is.few_copies begun.2 body.1 in
     (same.copies_is, same.size_is, rw (same.size_is, same.rest_is) body.2)
-
-no_body : (picture : Picture) {text : List ℕ} (start : Start) (may_be : Bool) → IsStart picture.dpi text (Some start)
-    → IsBodyVerdict picture start.size start.rest.now may_be None → IsSomePageText picture.dpi text → ⊥
-no_body picture start may_be begun none is =
-    none is.2 (body_at start begun is.3).2
 
 -- rows of a page's size that begin its rows are all of them
 whole_page : (picture : Picture) {rows : List (List ℕ)} → length rows ≡ page_height picture.size picture.dpi
@@ -106,15 +96,6 @@ same_page {picture} {copies} {text} start begun may only =
     let count : length only.rows ≡ page_height picture.size picture.dpi =
     only.printed.count ∙ ap (λ (z : Size). page_height z picture.dpi) is.0 in
     rw (sym (whole_page picture count same.1), sym is.1, sym is.0) (printed_text begun.0 begun.1 begun.2 only.printed)
-
-some_page : {picture : Picture} {text : List ℕ} (start : Start) {may_be is_same : Bool} → IsStart picture.dpi text (Some start)
-    → IsBodyVerdict picture start.size start.rest.now may_be (Some is_same) → IsSomePageText picture.dpi text
-some_page start begun only = (
-  start.size,
-  start.copies,
-  only.rows,
-  printed_text begun.0 begun.1 begun.2 only.printed,
-)
 
 other_page : {picture : Picture} {copies : ℕ} {text : List ℕ} (start : Start) {may_be : Bool} → IsStart picture.dpi text (Some start)
     → MayBe picture copies start may_be → IsBodyVerdict picture start.size start.rest.now may_be (Some false)
@@ -145,13 +126,14 @@ may_by_copies page start e t m = (
 )
 
 pub returns-in_default : goal.returns-in_default
-returns-in_default c = no_start c.in_default.ensures
+returns-in_default c = λ is.
+    let body = text_body is.3 in c.in_default.ensures is.1 is.0 body.0 is.3.some_copies is.3.few_copies body.1
 
 pub returns-in-None : goal.returns-in-None
 returns-in-None c =
     let page = c.args.page.now in
-    rw (sym page.dpi_is)
-    (no_body page.bitmap c.in-Some.start c.if-eq.is_same (rw (sym page.dpi_is) at c.in-Some.ensures) c.in-None.ensures)
+    let begun = rw (sym page.dpi_is) at c.in-Some.ensures in
+    rw (sym page.dpi_is) (λ is. c.in-None.ensures is.2 (body_at c.in-Some.start begun is.3).2)
 
 pub returns-in-Some-true : goal.returns-in-Some-true
 returns-in-Some-true c =
@@ -176,6 +158,6 @@ returns-in-Some-false c =
     ] in
     let only = rw c.in-Some-false.field-0-test at c.in-Some-false.ensures in
     let begun = rw (sym page.dpi_is) at c.in-Some.ensures in (
-      rw (sym page.dpi_is) (some_page start begun only),
+      rw (sym page.dpi_is) (start.size, start.copies, only.rows, printed_text begun.0 begun.1 begun.2 only.printed),
       λ is. other_page start begun may only (rw (sym page.size_is, sym page.dpi_is) at is),
     )
