@@ -50,11 +50,6 @@ pub sums_more : (numbers : List ℕ) {old new : List ℕ} {count : ℕ} → leng
 sums_more numbers {count = count} size sums takes = λ place stop after before inside.
     grind (arith, takes.here place, takes.behind place, sums place stop, sums (place + count) stop)
 
-pub literals_by_sums : (numbers least : List ℕ) (place : ℕ) → AreLeastSums numbers 128 least
-    → (place + 1 < length numbers → place + slice_index numbers place ≤ 1 + slice_index least (place + 1)) → AreGoodLiterals numbers place
-literals_by_sums numbers least place sums kept = λ count some few within.
-    omega (arith, kept (omega arith), sums (place + 1) (place + count) (omega arith) (omega arith) within)
-
 -- a literal that goes on where no more is needed
 pub literals_of_front : {numbers : List ℕ} {end : ℕ} (place : ℕ) → IsSteady numbers → slice_index numbers end ≡ 0 → end < length numbers
     → AreGoodLiterals (take (end + 1) numbers) place → AreGoodLiterals numbers place
@@ -71,10 +66,6 @@ literals_of_front {numbers} {end} place steady none inside good = λ count some 
     )
 
 -- ---- replacements
-
--- the bytes of commands by the least offset that they spell
-pub one_byte : (offset : ℕ) → 1 ≤ replacement_bytes offset
-one_byte offset = grind (arith, near_bytes offset, far_bytes offset)
 
 bytes_grow : (offset : ℕ) → replacement_bytes offset ≤ replacement_bytes (1 + offset)
 bytes_grow offset = grind (arith, near_bytes offset, far_bytes offset, near_bytes (1 + offset), far_bytes (1 + offset))
@@ -115,11 +106,6 @@ replacements_by_start old row {place = place} steady front order before differs 
       front_sums (far + 1) (far + len) front (omega arith) (omega arith) (omega (arith, k.2)),
       steady.falls (place + (offset + len)) (far + len) (omega (arith, k.1)),
     )
-
-pub replacements_past : (old row : List ℕ) {numbers : List ℕ} {end place : ℕ} → IsSteady numbers → slice_index numbers end ≡ 0 → end ≤ place
-    → AreGoodReplacements old row numbers place
-replacements_past old row {end = end} {place} steady none past = λ offset len some few within alike.
-    omega (arith, steady.falls end place past, none)
 
 -- ---- from a place to the one before
 
@@ -174,7 +160,7 @@ replacements_before {numbers = numbers} {place = place} front before falls next 
     omega (
       arith,
       replaced_here front before falls next len some few (omega arith),
-      one_byte 0,
+      near_bytes 0 (omega arith),
       ap (slice_index numbers) at,
     )
 replacements_before {old} {row} {numbers} {place = place} front before falls next (suc offset) len some few within alike =

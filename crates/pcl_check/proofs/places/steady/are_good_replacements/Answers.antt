@@ -3,7 +3,7 @@ use Rattle.std.specs.Prelude.{slice_index}
 use Rattle.std.proofs.lemmas.Bool.{cases_lt}
 use Rattle.pcl_check.specs.inner.PlacePasses.{AreGoodReplacements}
 use Rattle.pcl_check.proofs.PlacesFound.{from_before, down_to_first}
-use Rattle.pcl_check.proofs.SteadyPlaces.{sums_of_front, replacements_by_start, replacements_past, replacements_before}
+use Rattle.pcl_check.proofs.SteadyPlaces.{sums_of_front, replacements_by_start, replacements_before}
 use Rattle.pcl_check.proofs.places.steady.are_good_replacements.Goals as goal
 use Rattle.pcl_check.proofs.places.steady.are_good_replacements.Goals.{then-old-place, else-old-place}
 
@@ -44,4 +44,4 @@ returns-then-fall_by_starts c said =
     let front = sums_of_front c.requires.end c.requires.size c.fill_least_of_eight.ensures.sums in
     down_to_first (AreGoodReplacements c.args.old.now c.args.row.now c.args.numbers.now) c.args.end
     (λ k lt. replacements_before front lt (c.fall_by_starts.ensures c.if-fall_by_starts.true k lt))
-    (λ k past. replacements_past c.args.old.now c.args.row.now c.requires.steady front.none past)
+    (λ k past offset len some few within alike. omega (arith, c.requires.steady.falls c.args.end k past, front.none))
