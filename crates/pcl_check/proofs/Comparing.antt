@@ -10,7 +10,7 @@ use Rattle.pcl_bitmap.specs.Bitmap.{Picture}
 use Rattle.pcl_output.specs.Tokens.{end_bytes}
 use Rattle.pcl_output.specs.PageText.{bitmap_rows}
 use Rattle.pcl_check.specs.declared.reading.body.Place.{Place}
-use Rattle.pcl_check.specs.inner.Reading.{LeftOver, RestPrints, GivesRows, left_at, body_of, AreRowsAt, Advances, IsOnlyPrinted}
+use Rattle.pcl_check.specs.inner.Reading.{LeftOver, GivesRows, left_at, body_of, AreRowsAt, Advances, IsOnlyPrinted}
 use Rattle.pcl_check.proofs.Fronts.{white_rows}
 use Rattle.pcl_check.proofs.Outside.{end_only, end_prints}
 

@@ -8,7 +8,7 @@ use Rattle.pcl_base.specs.declared.method.Method.TheVariants.{Plain, Runs, Packe
 use Rattle.pcl_rows.specs.Heads.{offset_of}
 use Rattle.pcl_rows.specs.Elements.{Element, given, stop}
 use Rattle.pcl_coders.specs.declared.shape.Shape.{Shape}
-use Rattle.pcl_coders.specs.RowWalks.{Leads, IsRowTable}
+use Rattle.pcl_coders.specs.RowWalks.{IsRowTable}
 use Rattle.pcl_coders.specs.inner.Shape.{element_of, shape_stop}
 use Rattle.pcl_coders.proofs.Shapes.{IsRepeat, plain_shape, runs_shape, packed_shape, delta_shape}
 use Rattle.pcl_coders.proofs.Choices.{IsShapeElement, agrees_gives, byte_step, run_step, repeat_step, literal_step, replace_step}

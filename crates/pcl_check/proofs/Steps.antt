@@ -1,27 +1,18 @@
 -- Steps of the reader, from the contracts of what it calls.
-use Rattle.std.proofs.Common.{◌≡◌, ℕ, ◌+◌, ◌-◌, ◌<◌, ◌≤◌, ◌⊎◌, ◌==◌, Bool, true, false, IsTrue, List, [], ◌∷◌, ◌++◌, length, take, drop, replicate, Some, None, inl, inr, refl, sym, ap, ◌∙◌, arith}
-use Rattle.std.specs.Prelude.{not, ◌↔◌}
-use Rattle.std.specs.Borrow.{Bor}
-use Rattle.std.proofs.lemmas.List.{length-append, length-replicate}
+use Rattle.std.proofs.Common.{◌≡◌, ℕ, ◌+◌, ◌<◌, ◌⊎◌, ◌==◌, Bool, true, false, List, ◌∷◌, length, Some, inl, inr, sym, ap, arith}
+use Rattle.std.specs.Prelude.{not}
+use Rattle.std.proofs.lemmas.List.{length-append}
 use Rattle.std.proofs.lemmas.Bool.Decides.{nat_tests}
-use Rattle.pcl_base.proofs.Lists.{same_fronts}
 use Rattle.pcl_base.specs.declared.method.Method.{Method}
 use Rattle.pcl_base.specs.declared.dpi.Dpi.{Dpi}
 use Rattle.pcl_base.specs.declared.size.Size.{Size}
 use Rattle.pcl_base.specs.Method.{method_code, method_with_code}
-use Rattle.pcl_base.specs.Size.{page_height, page_row_bytes}
 use Rattle.pcl_bitmap.specs.Bitmap.{Picture}
-use Rattle.pcl_base.specs.Digits.{number_of}
-use Rattle.pcl_base.proofs.PageBounds.{height_small}
-use Rattle.pcl_output.specs.PageText.{IsRowOf, bitmap_rows}
-use Rattle.pcl_rows.specs.Rows.{IsRowData}
-use Rattle.pcl_output.proofs.TokenCosts.{method_small}
 use Rattle.pcl_check.specs.declared.reading.body.Place.{Place}
 use Rattle.pcl_check.specs.declared.reading.parameter.Parameter.{Parameter}
-use Rattle.pcl_check.specs.inner.Reading.{LeftOver, IsParameter, RestPrints, GivesRows, left_at, IsStep}
-use Rattle.pcl_check.proofs.Fronts.{letter_code, left_over, white_rows, is_method, is_skip, is_send}
-use Rattle.pcl_check.proofs.Outside.{opening_bytes, opening_becomes}
-use Rattle.pcl_check.proofs.Moves.{Told, front_at, letters_77_87, letters_77_89, letters_89_87, with_code, no_send, method_becomes, skip_becomes, send_becomes}
+use Rattle.pcl_check.specs.inner.Reading.{LeftOver, IsParameter, GivesRows, left_at}
+use Rattle.pcl_check.proofs.Fronts.{letter_code, left_over}
+use Rattle.pcl_check.proofs.Moves.{Told}
 
 pub told : (picture : Picture) (size : Size) (above : List ℕ) (place : Place) (parameter : Parameter) → place.inside ≡ true
     → IsParameter place.text.now parameter

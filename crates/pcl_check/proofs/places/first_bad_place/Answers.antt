@@ -1,8 +1,7 @@
-use Rattle.std.proofs.Common.{ℕ, List, length, sym, subst}
+use Rattle.std.proofs.Common.{ℕ, length}
 use Rattle.pcl_rows.specs.Rows.{base}
-use Rattle.pcl_check.specs.Places.{FindsPlace, IsGoodPlace}
+use Rattle.pcl_check.specs.Places.{IsGoodPlace}
 use Rattle.pcl_check.specs.inner.PlacePasses.{IsGoodEnd, AreGoodSteps, first_found_place}
-use Rattle.pcl_check.specs.inner.SteadyNumbers.{IsGoodFor}
 use Rattle.pcl_check.proofs.PlacesFound.{And, finds_both, finds_place_too}
 use Rattle.pcl_check.proofs.PlaceSteps.{table_of_good, finds_table}
 use Rattle.pcl_check.proofs.places.first_bad_place.Goals as goal

@@ -1,5 +1,4 @@
-use Rattle.std.proofs.Common.{◌≡◌, ℕ, ◌-◌, List, length, subst, arith}
-use Rattle.pcl_check.specs.Places.{FindsPlace}
+use Rattle.std.proofs.Common.{◌≡◌, ◌-◌, length, arith}
 use Rattle.pcl_check.specs.inner.PlacePasses.{IsNotUndercut, AreGoodRuns}
 use Rattle.pcl_check.proofs.PlacesFound.{finds_place_too}
 use Rattle.pcl_check.proofs.PlaceKinds.{runs_by_window, window_by_runs}

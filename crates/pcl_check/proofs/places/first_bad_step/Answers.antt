@@ -1,7 +1,5 @@
-use Rattle.std.proofs.Common.{◌≡◌, ℕ, ◌-◌, length, sym, subst, arith}
-use Rattle.pcl_base.specs.declared.method.Method.{Method}
+use Rattle.std.proofs.Common.{◌≡◌, ◌-◌, length, arith}
 use Rattle.pcl_base.specs.declared.method.Method.TheVariants.{Plain, Runs, Packed, Delta}
-use Rattle.pcl_check.specs.Places.{FindsPlace}
 use Rattle.pcl_check.specs.inner.PlacePasses.{IsGoodByte, AreGoodRuns, AreGoodLiterals, AreGoodReplacements, AreGoodSteps, first_found_place}
 use Rattle.pcl_check.proofs.PlacesFound.{And, finds_both, finds_place_too}
 use Rattle.pcl_check.proofs.PlaceSteps.{steps_plain, steps_runs, steps_packed, steps_delta, bytes_of_steps, runs_of_steps, literals_of_steps, repeats_of_steps, replacements_of_steps}

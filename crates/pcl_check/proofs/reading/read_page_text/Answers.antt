@@ -1,4 +1,4 @@
-use Rattle.std.proofs.Common.{◌≡◌, ℕ, ◌<◌, Bool, true, false, IsTrue, List, ◌++◌, length, take, Some, None, refl, sym, ap, ◌∙◌, append_assoc, arith, ◌==◌}
+use Rattle.std.proofs.Common.{◌≡◌, ℕ, ◌<◌, Bool, true, false, IsTrue, List, ◌++◌, length, take, Some, refl, sym, ap, ◌∙◌, append_assoc, arith, ◌==◌}
 use Rattle.std.specs.Prelude.{◌↔◌}
 use Rattle.std.specs.List.{flat_map}
 use Rattle.std.proofs.lemmas.List.{take_all, append_cancel_left, append_assoc}
@@ -11,7 +11,6 @@ use Rattle.pcl_output.specs.PageText.{IsPageText, bitmap_rows}
 use Rattle.pcl_output.proofs.RowsFrom.{length_rows}
 use Rattle.pcl_check.specs.declared.reading.start.Start.{Start}
 use Rattle.pcl_check.specs.inner.Reading.{IsStart, RestPrints, body_of, IsBodyVerdict, raster_start}
-use Rattle.pcl_check.specs.TextVerdicts.{IsSomePageText}
 use Rattle.pcl_check.proofs.Beginnings.{start_is, code_few, size_coded, size_read, same_size, IsSize}
 use Rattle.pcl_bitmap.specs.declared.page.Page.{Page}
 use Rattle.std.proofs.lemmas.Bool.Decides.{Decides-eqb}

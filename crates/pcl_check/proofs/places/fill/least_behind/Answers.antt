@@ -1,5 +1,4 @@
-use Rattle.std.proofs.Common.{◌≡◌, ℕ, ◌+◌, ◌-◌, subst, arith}
-use Rattle.pcl_coders.specs.inner.Choosing.{IsLeastLen}
+use Rattle.std.proofs.Common.{◌≡◌, ◌+◌, ◌-◌, arith}
 use Rattle.pcl_coders.proofs.Prefixes.{least_min_next}
 use Rattle.pcl_check.proofs.places.fill.least_behind.Goals as goal
 

@@ -1,4 +1,4 @@
-use Rattle.std.proofs.Common.{◌≡◌, ◌≢◌, ℕ, ◌+◌, ◌-◌, ◌<◌, ◌≤◌, min, sym, ap, subst, ◌∙◌, arith}
+use Rattle.std.proofs.Common.{◌≡◌, ◌≢◌, ℕ, ◌+◌, ◌-◌, ◌<◌, ◌≤◌, min, ap, arith}
 use Rattle.std.specs.Prelude.{slice_index}
 use Rattle.pcl_check.specs.inner.PlacePasses.{AreGoodRuns}
 use Rattle.pcl_check.specs.inner.SteadyNumbers.{FallsByRun}

@@ -1,4 +1,4 @@
-use Rattle.std.proofs.Common.{◌≡◌, ℕ, List, sym, subst, arith}
+use Rattle.std.proofs.Common.{◌≡◌, ℕ, List, arith}
 use Rattle.std.proofs.lemmas.Bool.{leb-true}
 use Rattle.pcl_base.specs.declared.method.Method.{Method}
 use Rattle.pcl_check.specs.inner.PlacePasses.{AreGoodSteps}

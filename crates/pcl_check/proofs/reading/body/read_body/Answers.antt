@@ -1,15 +1,14 @@
 use Rattle.std.proofs.Common.{◌≡◌, ◌-◌, [], ℕ, List, replicate, sym, ap, ◌∙◌, true, false, refl, arith}
 use Rattle.std.proofs.lemmas.List.{take-replicate}
 use Rattle.pcl_base.proofs.PageBounds.{row_small}
-use Rattle.pcl_base.specs.Size.{page_height, page_row_bytes}
+use Rattle.pcl_base.specs.Size.{page_row_bytes}
 use Rattle.std.specs.Prelude.{Bool, not}
 use Rattle.std.specs.Str.{bytes_eq}
 use Rattle.std.proofs.lemmas.Slice.Eq.{slice_eq-Decides}
 use Rattle.std.proofs.lemmas.Bool.Decides.{Decides-eqb}
 use Rattle.pcl_output.specs.Tokens.{end_bytes}
-use Rattle.pcl_check.specs.inner.Reading.{body_of, AreRowsAt}
+use Rattle.pcl_check.specs.inner.Reading.{body_of}
 use Rattle.pcl_check.proofs.Comparing.{both, neither, becomes_same, read_on, read_all, white_test}
-use Rattle.pcl_check.proofs.Fronts.{white_rows}
 use Rattle.pcl_check.proofs.Steps.{becomes_to}
 use Rattle.pcl_check.proofs.reading.body.read_body.Goals as goal
 

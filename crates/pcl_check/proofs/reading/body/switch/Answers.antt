@@ -1,4 +1,4 @@
-use Rattle.std.proofs.Common.{◌≡◌, ℕ, [], refl, sym, ◌∙◌, arith}
+use Rattle.std.proofs.Common.{◌≡◌, [], refl, sym, ◌∙◌, arith}
 use Rattle.pcl_base.specs.Method.{method_code}
 use Rattle.pcl_base.specs.Digits.{number_of}
 use Rattle.pcl_output.proofs.TokenCosts.{method_small}
