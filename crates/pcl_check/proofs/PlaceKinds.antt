@@ -93,7 +93,8 @@ start_cost numbers sums ends {place} offset kept small within =
     let stop : ℕ = place + offset + 1 in
     grind (arith, kept.0.0 stop, kept.0.1 stop, kept.1.0 stop, kept.1.1 stop, near_bytes offset, far_bytes offset)
 
-pub replacements_by_windows : {old row numbers : List ℕ} (sums : List ℕ) {ends : List ℕ} {place : ℕ} → length row ≤ row_limit → length numbers ≡ length row + 1
+pub replacements_by_windows : {old row numbers : List ℕ} (sums : List ℕ) {ends : List ℕ} {place : ℕ} → length row ≤ row_limit
+    → length numbers ≡ length row + 1
     → AreStartEnds old row ends 0 → AreBehindStarts numbers sums → AreKeptStarts numbers sums ends place
     → AreGoodReplacements old row numbers place
 replacements_by_windows {numbers = numbers} sums {ends} {place} small size are behind kept = λ offset len some few within alike.

@@ -74,7 +74,8 @@ pub steps_delta : {old row : List ℕ} (numbers : List ℕ) {place : ℕ} → le
 steps_delta {old} {row} numbers {place} same le good = λ e next l.
     let s = delta_shape e.head l.element.head_is.method_is l.element.head_is.in_range l.element.complete in
     let g = agrees_gives (drop place old) (omega (arith, length-drop place old, length-drop place row)) l.element l.agrees in
-    let kept = good (offset_of e.head) (length (given e)) (omega (arith, s.above)) s.below (omega (arith, g.0, length-drop place row)) g.1 in
+    let kept = good (offset_of e.head) (length (given e)) (omega (arith, s.above)) s.below
+    (omega (arith, g.0, length-drop place row)) g.1 in
     grind (arith, kept, s.bytes_are, l.next_is)
 
 -- ---- from elements to kinds

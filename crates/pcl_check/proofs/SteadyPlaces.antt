@@ -116,7 +116,11 @@ rest_kept : (row numbers : List ℕ) {most : ℕ} (place : ℕ) → AreGoodRuns 
 rest_kept row numbers place next zero byte few inside alike more = absurd (omega arith)
 rest_kept row numbers place next (suc rest) byte few inside alike more =
     let there : place + 1 + rest ≡ place + suc rest = omega arith in
-    omega (arith, next rest byte (omega arith) (omega arith) (omega arith) (rest_of_run row place rest alike), ap (slice_index numbers) there)
+    omega (
+      arith,
+      next rest byte (omega arith) (omega arith) (omega arith) (rest_of_run row place rest alike),
+      ap (slice_index numbers) there,
+    )
 
 -- a run of some bytes at the place before
 pub runs_before : {row numbers : List ℕ} {most place : ℕ} → IsSteady numbers → FallsByRun row numbers place

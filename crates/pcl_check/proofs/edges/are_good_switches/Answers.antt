@@ -36,7 +36,8 @@ returns-then-is_within c =
           omega (arith, c.number-number.ensures, c.is_within-then-is_within.ensures.0 is) in
           omega (
             arith,
-            within_rests number c.args.row n plain (omega (arith, other, others)) (omega (arith, other, others)) (omega (arith, other, others)) next,
+            within_rests number c.args.row n plain (omega (arith, other, others)) (omega (arith, other, others))
+                (omega (arith, other, others)) next,
             switching_is next,
             rest_below number c.args.row next inside,
           ),

@@ -18,7 +18,12 @@ skips_by_window : {ends : List ℕ} (number : Node → ℕ) {method : Method} (d
     → far ≡ last_of ends most row → IsLeastOf taken least
     → number_at number row method true ≤ digits + 1 + least → AreGoodSkipsOf ends number method digits most row
 skips_by_window number {method = method} digits {row = row} next farthest is le = λ count inside some few within.
-    omega (arith, le, least_below next is (row + count) (omega arith) (omega (arith, farthest)), rest_below number (row + count) method inside)
+    omega (
+      arith,
+      le,
+      least_below next is (row + count) (omega arith) (omega (arith, farthest)),
+      rest_below number (row + count) method inside,
+    )
 
 window_by_skips : {ends : List ℕ} (number : Node → ℕ) {method : Method} (digits : ℕ) {most : ℕ} {filled taken : List ℕ}
     {row stop far least : ℕ} → IsNextWindow ends (λ y. rest number y method) most filled taken row stop far

@@ -10,8 +10,9 @@ use Rattle.pcl_check.proofs.reading.body.switch.Goals as goal
 pub returns-in_err-method : goal.returns-in_err-method
 returns-in_err-method c = λ picture size above within.
     let signed = cased c.requires.letter in
+    let read = told picture size above c.args.place c.args.parameter c.requires.inside c.requires.parameter in
     rw c.from_residual.ensures
-    (λ rows printed. elim (front_at (told picture size above c.args.place c.args.parameter c.requires.inside c.requires.parameter) printed) [
+    (λ rows printed. elim (front_at read printed) [
       | is_method next last b m p ↦
           let le = method_small next in
           let number : c.args.parameter.number ≡ method_code next = omega (arith, c.requires.parameter.number_is, m) in
