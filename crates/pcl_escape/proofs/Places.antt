@@ -25,7 +25,6 @@ use Rattle.pcl_escape.specs.inner.Scan.{Reads, refuse, named_by, named_at, text_
 use Rattle.pcl_escape.proofs.Fields.{field_split}
 use Rattle.pcl_escape.proofs.Lines.{Lines, skipped, foreign, lines_split}
 use Rattle.pcl_escape.proofs.Starts.{before_rest_is}
-use Rattle.pcl_escape.proofs.Steps.{any_letter}
 
 -- the data of a command, if there is one
 abbrev pub data_of : Option Said → List ℕ
@@ -92,7 +91,7 @@ upper_case letter false g l = grind (arith, nat_tests)
 parameter_told : (prefix : Prefix) (letter : ℕ) → is_letter prefix letter ≡ true → IsTold (parameter_name prefix letter)
 parameter_told prefix letter l =
     letter_told prefix.parameterized prefix.group (if goes_on letter then letter - 32 else letter)
-    (upper_case letter (goes_on letter) refl (any_letter (is_last letter) (is_some prefix.group) (goes_on letter) l))
+    (upper_case letter (goes_on letter) refl (grind arith))
 
 checked_stands : (prefix : Prefix) (at letter : ℕ) (value : Value) (bytes : List ℕ) (checks : Result ℕ Kind)
     → IsTold (parameter_name prefix letter) → Stands (letter ∷ bytes) (checked_at prefix at letter value bytes checks)

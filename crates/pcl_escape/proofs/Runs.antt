@@ -11,7 +11,7 @@ use Rattle.pcl_escape.specs.inner.Scan.{Reads, with_front, and_then, outcome, ou
 use Rattle.pcl_escape.specs.Pieces.{Parameter, Piece, combined, IsPrefix, IsPiece, ArePieces, IsMiddle, IsEnd, parameter_bytes, spelling, command_of, parameter_commands, first_place, commands_from, commands_of, IsReading}
 use Rattle.pcl_escape.specs.Faults.{Fails, IsFault, IsFaultOf, IsUngrouped, in_parameter, FailsParameter, place_behind}
 use Rattle.pcl_escape.proofs.Fields.{and_parts}
-use Rattle.pcl_escape.proofs.Steps.{Inside, is_middle, is_end, is_wrong, grouped_step, inside_shorter}
+use Rattle.pcl_escape.proofs.Steps.{Inside, is_middle, is_end, is_wrong, is_inside, found_shorter, parameter_shorter, grouped_step}
 use Rattle.pcl_escape.proofs.Starts.{Outside, whole_piece, sequence, wrong, start_step}
 
 -- ---- what bytes are
@@ -182,7 +182,7 @@ start_shorter {reads} (whole_piece piece rest said is long gives) e =
     let joined = length-append (spelling piece) rest in
     rw (← same) (omega arith)
 start_shorter (sequence prefix more same is n inside) e =
-    let shorter = inside_shorter inside e in
+    let shorter = found_shorter (is_inside inside) e in
     let joined = length-append (prefix_bytes prefix) more in
     omega arith
 start_shorter (wrong f) e = absurd cc
@@ -234,7 +234,7 @@ reading_after {at} {bytes} {go_on} (sequence prefix more same is n inside) next 
     (rest_after inside
     (λ reads e. moved reads.inside (at + (length bytes - length reads.rest)) (first_place at prefix + (length more - length reads.rest))
     reads.rest (go_on reads)
-    (place_in at prefix more (inside_shorter inside e)) (next reads e)))
+    (place_in at prefix more (found_shorter (is_inside inside) e)) (next reads e)))
 reading_after (wrong {fault = refusal} f) next = failing f
 
 -- all steps together say what the bytes are
@@ -249,7 +249,7 @@ is_read (suc n) None at (byte ∷ bytes) h =
     is_read n reads.inside (at + (length (byte ∷ bytes) - length reads.rest)) reads.rest (omega arith))
 is_read (suc n) (Some prefix) at bytes h = λ g.
     rest_after (grouped_step g)
-    (λ reads e. let shorter = inside_shorter (grouped_step g) e in
+    (λ reads e. let shorter = parameter_shorter prefix at bytes e in
     is_read n reads.inside (at + (length bytes - length reads.rest)) reads.rest (omega arith))
 
 -- ---- what a whole job is

@@ -1,6 +1,6 @@
 -- What a step reads outside sequences: a whole piece, the first parameter of a sequence, or a fault.
-use Rattle.std.proofs.Common.{◌≡◌, ℕ, suc, ◌+◌, ◌-◌, ◌<◌, Bool, true, false, ◌==◌, ◌&&◌, if◌then◌else◌, IsTrue, is_some, List, [], ◌∷◌, ◌++◌, length, take, take_at, drop, Option, Some, None, Result, Ok, Err, refl, sym, ap, subst, subst₂, ◌∙◌, append_assoc, length-append, arith}
-use Rattle.std.proofs.lemmas.Bool.{eqb-true}
+use Rattle.std.proofs.Common.{◌≡◌, ℕ, suc, ◌+◌, ◌-◌, ◌<◌, Bool, true, false, ◌==◌, ◌&&◌, if◌then◌else◌, IsTrue, is_some, List, [], ◌∷◌, ◌++◌, length, take, take_at, drop, Option, Some, None, Result, Ok, Err, inl, inr, refl, sym, ap, subst, subst₂, ◌∙◌, append_assoc, length-append, arith}
+use Rattle.std.proofs.lemmas.Bool.{eqb-true, cases_Bool}
 use Rattle.std.proofs.lemmas.Bool.Decides.{nat_tests}
 use Rattle.std.specs.List.{prefix_len}
 use Rattle.std.proofs.lemmas.List.{nil_from_length}
@@ -25,7 +25,7 @@ use Rattle.pcl_escape.specs.Said.{Said}
 use Rattle.pcl_escape.specs.inner.Scan.{Reads, refuse, named_by, named_at, text_at, leaves, before_rest, skipped_by, with_lines, ungrouped_at, prefix_at, sequence_at, start_at, parameter_at, commands_said}
 use Rattle.pcl_escape.specs.Pieces.{Parameter, Piece, silent, control, text, two_character, exit, IsField, IsPrefix, IsNamed, IsNoText, IsRun, IsExit, IsPiece, parameter_bytes, spelling, bare_command, text_command, exit_command, commands_from}
 use Rattle.pcl_escape.specs.Faults.{Fails, unknown_control, lone_escape, no_sequence, unknown_two, no_group, bad_group, in_line, IsUngrouped, cut}
-use Rattle.pcl_escape.proofs.Fields.{and_parts}
+use Rattle.pcl_escape.proofs.Fields.{by_test}
 use Rattle.pcl_base.proofs.Fronts.{Pass, StopsAt, front_yes, front_split, front_again}
 use Rattle.pcl_escape.proofs.Lines.{Lines, skipped, foreign, lines_split, lines_again, foreign_again}
 use Rattle.pcl_escape.proofs.Checks.{exit_takes_none}
@@ -98,15 +98,7 @@ exit_parameter field = record { field = field; letter = 88 }
 -- the bytes of a universal exit with its lines, and what is after them
 pub exit_joined : (field : Spelled) (lines rest : List ℕ)
     → (field_bytes field ++ 88 ∷ lines) ++ rest ≡ parameter_bytes (exit_parameter field) ++ (lines ++ rest)
-exit_joined field lines rest = append_assoc (field_bytes field) (88 ∷ lines) rest ∙ sym (parameter_joined field 88 (lines ++ rest))
-
--- the lines of an exit begin after its letter
-exit_place : (at : ℕ) (field : Spelled) (bytes : List ℕ)
-    → (at + 2) + (length (parameter_bytes (exit_parameter field) ++ bytes) - length bytes) ≡ at + 3 + length (field_bytes field)
-exit_place at field bytes =
-    let whole = length-append (parameter_bytes (exit_parameter field)) bytes in
-    let own = length-append (field_bytes field) (88 ∷ []) in
-    omega arith
+exit_joined field lines rest = simp append_assoc
 
 -- an exit with these data
 abbrev exit_with : ℕ → Spelled → List ℕ → Said
@@ -123,47 +115,25 @@ exit_lines : {at : ℕ} (field : Spelled) {bytes : List ℕ} {read : Result (Lis
     → is_exit exit_name (field_value field) ≡ true → parameter_checks exit_name 88 (field_value field) 0 ≡ Ok 0
     → Lines (at + 3 + length (field_bytes field)) bytes read → Outside at (27 ∷ 37 ∷ (parameter_bytes (exit_parameter field) ++ bytes))
     (skipped_by bytes (Some (exit_command at field [])) read)
-exit_lines {at} field f x e (skipped lines rest each) =
-    subst₂ (λ (bs front : List ℕ). Outside at (27 ∷ 37 ∷ bs) (piece_reads (Some (exit_with at field front)) rest))
-    (exit_joined field (joined lines) rest) (sym (before_rest_is (joined lines) rest))
-    (whole_piece (exit field lines) rest (Some (exit_command at field lines))
-    (record { field_is = f; leaves = x; checks = e; lines_are = each }) (omega arith) refl)
-exit_lines {at} field f x e (foreign lines line rest each ends l p) =
-    subst (λ (bs : List ℕ). Outside at (27 ∷ 37 ∷ bs)
-    (refuse NotPcl (at + 3 + length (field_bytes field) + length (joined lines)) exit_name))
-    (sym (parameter_joined field 88 (joined lines ++ (line ++ rest))))
-    (wrong (in_line field lines line f x e each ends l p))
+exit_lines field f x e (skipped lines rest each) =
+    rw (before_rest_is (joined lines) rest, ← exit_joined field (joined lines) rest)
+    (whole_piece (exit field lines) rest _ (record { field_is = f; leaves = x; checks = e; lines_are = each }) (omega arith) refl)
+exit_lines field f x e (foreign lines line rest each ends l p) =
+    rw (parameter_joined field 88 (joined lines ++ (line ++ rest))) (wrong (in_line field lines line f x e each ends l p))
 
 -- what a step reads of the bytes of an exit and those after it
 exit_reads : (at : ℕ) (field : Spelled) (bytes : List ℕ) → is_exit exit_name (field_value field) ≡ true
     → with_lines (at + 2) (length (parameter_bytes (exit_parameter field) ++ bytes)) (end_reads percent at (exit_parameter field) [] bytes)
     ≡ skipped_by bytes (Some (exit_command at field [])) (lines_at (at + 3 + length (field_bytes field)) bytes)
-exit_reads at field bytes x = rw (x, exit_place at field bytes) refl
-
--- a last parameter of this name has no data
-exit_at : {at : ℕ} {field : Spelled} {sent : List ℕ} (rest : List ℕ) → IsLast percent (exit_parameter field) sent
-    → is_exit exit_name (field_value field) ≡ true → sent ≡ []
-    → Outside at (27 ∷ 37 ∷ (parameter_bytes (exit_parameter field) ++ (sent ++ rest)))
-    (with_lines (at + 2) (length (parameter_bytes (exit_parameter field) ++ (sent ++ rest)))
-    (end_reads percent at (exit_parameter field) sent rest))
-exit_at {at} {field} rest is x none =
-    let checks : parameter_checks exit_name 88 (field_value field) 0 ≡ Ok 0 =
-    subst (λ (bs : List ℕ). parameter_checks exit_name 88 (field_value field) (length bs) ≡ Ok (length bs)) none is.checks in
-    subst (λ (bs : List ℕ). Outside at (27 ∷ 37 ∷ (parameter_bytes (exit_parameter field) ++ (bs ++ rest)))
-    (with_lines (at + 2) (length (parameter_bytes (exit_parameter field) ++ (bs ++ rest)))
-    (end_reads percent at (exit_parameter field) bs rest))) (sym none)
-    (subst (Outside at (27 ∷ 37 ∷ (parameter_bytes (exit_parameter field) ++ rest))) (sym (exit_reads at field rest x))
-    (exit_lines field is.field x checks
-    (lines_split (suc (length rest)) (omega arith))))
+exit_reads at field bytes x =
+    let place : (at + 2) + (length (parameter_bytes (exit_parameter field) ++ bytes) - length bytes) ≡ at + 3 + length (field_bytes field) =
+    simp length-append (omega arith) in
+    rw (x, place) refl
 
 -- an exit's name is spelled with % and X
 exit_spelled : {byte letter : ℕ} (value : Value) → is_last letter ≡ true
     → is_exit (parameter_name (record { parameterized = byte; group = None }) letter) value ≡ true → (37 ≡ byte) × (88 ≡ letter)
-exit_spelled {byte} {letter} value l x =
-    let stops : goes_on letter ≡ false = last_stops letter l in
-    let named : ((37 == byte && 88 == letter) && is_exit exit_name value) ≡ true = rw stops at x in
-    let both = and_parts (37 == byte) (88 == letter) (and_parts (37 == byte && 88 == letter) (is_exit exit_name value) named).0 in
-    (eqb-true 37 byte both.0, eqb-true 88 letter both.1)
+exit_spelled {byte} {letter} value l x = (grind (arith, nat_tests), grind (arith, nat_tests))
 
 -- a leaving parameter of a sequence without a group character
 abbrev LeavesAt : ℕ → Spelled → List ℕ → List ℕ → ℕ → ℕ → Type 0
@@ -174,11 +144,15 @@ LeavesAt at field sent rest byte letter =
     → Outside at (27 ∷ byte ∷ (parameter_bytes parameter ++ (sent ++ rest)))
     (with_lines (at + 2) (length (parameter_bytes parameter ++ (sent ++ rest))) (end_reads prefix at parameter sent rest))
 
+-- it is an exit, which has no data
 leave_step : {at : ℕ} {field : Spelled} {sent : List ℕ} (rest : List ℕ) {byte letter : ℕ} → LeavesAt at field sent rest byte letter
 leave_step {at} {field} {sent} rest {letter} is x =
     let spelled = exit_spelled (field_value field) is.letter x in
-    let here : LeavesAt at field sent rest 37 88 = λ last leaving. exit_at rest last leaving
-    (nil_from_length sent (exit_takes_none 88 (field_value field) (length sent) last.checks)) in
+    let empty : LeavesAt at field [] rest 37 88 = λ last leaves. rw (exit_reads at field rest leaves)
+    (exit_lines field last.field leaves last.checks (lines_split (suc (length rest)) {bytes = rest} (omega arith))) in
+    let here : LeavesAt at field sent rest 37 88 = λ last leaves.
+    let none : sent ≡ [] = nil_from_length sent (exit_takes_none 88 (field_value field) (length sent) last.checks) in
+    subst (λ (bs : List ℕ). LeavesAt at field bs rest 37 88) (sym none) empty last leaves in
     subst₂ (LeavesAt at field sent rest) spelled.0 spelled.1 here is x
 
 -- ---- sequences without a group character
@@ -188,88 +162,50 @@ ungrouped_found : {at byte : ℕ} {bytes : List ℕ} {read : Result Reads Refusa
     → Found (record { parameterized = byte; group = None }) at bytes read
     → Outside at (27 ∷ byte ∷ bytes) (with_lines (at + 2) (length bytes) read)
 ungrouped_found u n (is_inside (is_middle parameter rest m)) = absurd (let never = m.letter in cc)
-ungrouped_found {at} {byte} {bytes} u n (is_inside (is_end parameter sent rest e)) =
-    let prefix : Prefix = record { parameterized = byte; group = None } in
-    rw e.stays (sequence prefix bytes (end_reads prefix at parameter sent rest) u n (is_end parameter sent rest e))
-ungrouped_found {byte} {bytes} {read} u n (is_inside (is_wrong f)) = sequence (record { parameterized = byte; group = None }) bytes read u n
-    (is_wrong f)
-ungrouped_found u n (is_leave parameter sent rest is x) = leave_step rest
-    is x
+ungrouped_found {byte} {bytes} u n (is_inside (is_end parameter sent rest e)) =
+    rw e.stays (sequence (record { parameterized = byte; group = None }) bytes _ u n (is_end parameter sent rest e))
+ungrouped_found {byte} {bytes} {read} u n (is_inside (is_wrong f)) =
+    sequence (record { parameterized = byte; group = None }) bytes read u n (is_wrong f)
+ungrouped_found u n (is_leave parameter sent rest is x) = leave_step rest is x
 
 ungrouped_step : {at byte : ℕ} {bytes : List ℕ} → is_ungrouped byte ≡ true → IsUngrouped None bytes
     → Outside at (27 ∷ byte ∷ bytes) (ungrouped_at at byte bytes)
 unfolding ungrouped_at
-ungrouped_step {byte} u n =
-    let prefix : Prefix = record { parameterized = byte; group = None } in
-    ungrouped_found u n (parameter_step)
+ungrouped_step u n = ungrouped_found u n parameter_step
 
 -- ---- sequences
 
--- the bytes ( ) % are parameterized characters
-ungrouped_is : (byte : ℕ) → is_ungrouped byte ≡ true → is_parameterized byte ≡ true
-ungrouped_is byte u = grind (arith, nat_tests)
-
--- by whether the third byte is a group character, or may be missing
-group_by : {at byte group : ℕ} {rest : List ℕ} (is may : Bool) → is_group group ≡ is → is_ungrouped byte ≡ may
-    → IsTrue (is_parameterized byte)
-    → Outside at (27 ∷ byte ∷ group ∷ rest)
-    (if is then parameter_at (record { parameterized = byte; group = Some group }) at rest else (if may then ungrouped_at at byte
-    (group ∷ rest) else refuse BadSequence at (One byte)))
-group_by {at} {byte} {group} {rest} true may g u p =
-    let prefix : Prefix = record { parameterized = byte; group = Some group } in
-    sequence prefix rest (parameter_at prefix at rest) (p, g) tt (grouped_step refl)
-group_by false true g u p = ungrouped_step u g
-group_by false false g u p = wrong (bad_group p u g)
-
--- nothing after the second byte
-none_behind_second : {at byte : ℕ} (may : Bool) → is_ungrouped byte ≡ may → IsTrue (is_parameterized byte)
-    → Outside at (27 ∷ byte ∷ []) (refuse Truncated at (One byte))
-none_behind_second {at} {byte} true u p =
-    let prefix : Prefix = record { parameterized = byte; group = None } in
-    let nothing : Spelled = record { sign = Absent; whole = []; fraction = None } in
-    sequence prefix [] (refuse Truncated at (One byte)) u tt (is_wrong (cut nothing (tt, tt)))
-none_behind_second false u p = wrong (no_group p u)
-
--- by whether there is a third byte
+-- a sequence, by what is behind its second byte
 prefix_step : {at byte : ℕ} (rest : List ℕ) → IsTrue (is_parameterized byte) → Outside at (27 ∷ byte ∷ rest) (prefix_at at byte rest)
 unfolding prefix_at
-prefix_step {byte} [] p = none_behind_second (is_ungrouped byte) refl p
-prefix_step {byte} (group ∷ rest) p = group_by (is_group group) (is_ungrouped byte) refl refl p
+prefix_step {at} {byte} [] p = elim (cases_Bool (is_ungrouped byte)) [
+  | inl u ↦
+      let nothing : Spelled = record { sign = Absent; whole = []; fraction = None } in
+      sequence (record { parameterized = byte; group = None }) [] (refuse Truncated at (One byte)) u tt (is_wrong (cut nothing (tt, tt)))
+  | inr u ↦ wrong (no_group p u)
+]
+prefix_step {at} {byte} (group ∷ rest) p =
+    let prefix : Prefix = record { parameterized = byte; group = Some group } in
+    by_test (Outside at (27 ∷ byte ∷ group ∷ rest)) (is_group group)
+    (λ g. sequence prefix rest (parameter_at prefix at rest) (p, g) tt (grouped_step refl))
+    (λ g. by_test (Outside at (27 ∷ byte ∷ group ∷ rest)) (is_ungrouped byte) (λ u. ungrouped_step u g) (λ u. wrong (bad_group p u g)))
 
--- a sequence, by what its second byte is
-sequence_by : {at byte : ℕ} {rest : List ℕ} (two parameterized : Bool) → is_two_character byte ≡ two
-    → is_parameterized byte ≡ parameterized
-    → Outside at (27 ∷ byte ∷ rest)
-    (if two then named_at at byte rest else (if parameterized then prefix_at at byte rest else refuse BadSequence at Empty))
-unfolding named_at
-sequence_by {byte} true parameterized t p = two_named (operation_of (One byte)) refl t
-sequence_by {rest} false true t p = prefix_step rest p
-sequence_by false false t p = wrong (no_sequence t p)
-
--- a sequence, by whether it has a second byte
+-- a sequence, by its second byte
 sequence_step : {at : ℕ} (rest : List ℕ) → Outside at (27 ∷ rest) (sequence_at at rest)
-unfolding sequence_at
+unfolding sequence_at named_at
 sequence_step [] = wrong lone_escape
-sequence_step (byte ∷ rest) = sequence_by (is_two_character byte) (is_parameterized byte) refl refl
-
--- bytes outside sequences, by what their first one is
-start_by : {at byte : ℕ} {rest : List ℕ} (quiet escape code : Bool) → is_silent byte ≡ quiet → (byte == 27) ≡ escape
-    → is_control byte ≡ code
-    → Outside at (byte ∷ rest)
-    (if quiet then piece_reads None rest else (if
-    escape then sequence_at at rest else (if code then named_at at byte rest else text_at at (byte ∷ rest))))
-unfolding named_at
-start_by {byte} {rest} true escape code s e c = whole_piece (silent byte) rest None s (omega arith) refl
-start_by {at} {byte} {rest} false true code s e c = subst (λ (b : ℕ). Outside at (b ∷ rest) (sequence_at at rest))
-    (sym (eqb-true byte 27 e))
-    (sequence_step rest)
-start_by {byte} false false true s e c = control_named (operation_of (One byte)) refl c s
-start_by false false false s e c = text_run (rw (s, c, e) refl)
+sequence_step {at} (byte ∷ rest) =
+    by_test (Outside at (27 ∷ byte ∷ rest)) (is_two_character byte) (λ t. two_named (operation_of (One byte)) refl t)
+    (λ t. by_test (Outside at (27 ∷ byte ∷ rest)) (is_parameterized byte) (λ p. prefix_step rest p) (λ p. wrong (no_sequence t p)))
 
 -- a step outside sequences reads what the bytes begin with
 pub start_step : {at byte : ℕ} {rest : List ℕ} → Outside at (byte ∷ rest) (start_at at (byte ∷ rest))
-unfolding start_at
-start_step {byte} = start_by (is_silent byte) (byte == 27) (is_control byte) refl refl refl
+unfolding start_at named_at
+start_step {at} {byte} {rest} =
+    by_test (Outside at (byte ∷ rest)) (is_silent byte) (λ s. whole_piece (silent byte) rest None s (omega arith) refl)
+    (λ s. by_test (Outside at (byte ∷ rest)) (byte == 27) (λ e. rw (eqb-true byte 27 e) (sequence_step rest))
+    (λ e. by_test (Outside at (byte ∷ rest)) (is_control byte) (λ c. control_named (operation_of (One byte)) refl c s)
+    (λ c. text_run (rw (s, c, e) refl))))
 
 -- ---- from the parts to the step
 
@@ -285,18 +221,6 @@ unknown_again : {at code : ℕ} (rest : List ℕ) (operation : Option Operation)
 unknown_again rest None s = refl
 unknown_again rest (Some operation) s = absurd cc
 
--- ESC is no control code
-control_apart : (code : ℕ) → is_control code ≡ true → (code == 27) ≡ false
-control_apart code c = grind (arith, nat_tests)
-
--- text is nothing else
-text_apart : (byte : ℕ) → is_text byte ≡ true → (is_silent byte ≡ false) × ((byte == 27) ≡ false) × (is_control byte ≡ false)
-text_apart byte t = (grind (arith, nat_tests), grind (arith, nat_tests), grind (arith, nat_tests))
-
--- a parameterized character begins no two-character sequence
-parameterized_apart : (byte : ℕ) → is_parameterized byte ≡ true → is_two_character byte ≡ false
-parameterized_apart byte p = grind (arith, nat_tests)
-
 -- a step reads a silent byte
 pub silent_again : (at byte : ℕ) {rest : List ℕ} → is_silent byte ≡ true → start_at at (byte ∷ rest) ≡ piece_reads None rest
 unfolding start_at
@@ -306,7 +230,7 @@ silent_again at byte s = rw s refl
 at_control : (at code : ℕ) (rest : List ℕ) → is_control code ≡ true → is_silent code ≡ false
     → start_at at (code ∷ rest) ≡ named_by (operation_of (One code)) at code rest
 unfolding start_at named_at
-at_control at code rest c s = rw (s, control_apart code c, c) refl
+at_control at code rest c s = grind (arith, nat_tests)
 
 -- a step at text reads its run
 at_text : {at : ℕ} (byte : ℕ) (rest : List ℕ) → is_text byte ≡ true
@@ -314,7 +238,7 @@ at_text : {at : ℕ} (byte : ℕ) (rest : List ℕ) → is_text byte ≡ true
     ≡ piece_reads (Some (text_command at (take (prefix_len is_text (byte ∷ rest)) (byte ∷ rest))))
     (drop (prefix_len is_text (byte ∷ rest)) (byte ∷ rest))
 unfolding start_at text_at
-at_text byte rest t = let apart = text_apart byte t in rw (apart.0, apart.1, apart.2) refl
+at_text byte rest t = grind (arith, nat_tests)
 
 -- a step at a two-character sequence looks at its name
 at_two : (at byte : ℕ) (rest : List ℕ) → is_two_character byte ≡ true
@@ -325,7 +249,7 @@ at_two at byte rest t = rw t refl
 -- a step at a parameterized character looks at the group character
 at_prefix : (at byte : ℕ) (rest : List ℕ) → is_parameterized byte ≡ true → start_at at (27 ∷ byte ∷ rest) ≡ prefix_at at byte rest
 unfolding start_at sequence_at
-at_prefix at byte rest p = rw (parameterized_apart byte p, p) refl
+at_prefix at byte rest p = grind (arith, nat_tests)
 
 -- a step reads a control code
 pub control_again : {at code : ℕ} {rest : List ℕ} → is_control code ≡ true → is_silent code ≡ false → IsNamed (One code)
@@ -347,29 +271,19 @@ two_again at byte rest t n = at_two at byte rest t ∙ named_again (operation_of
 
 -- ---- the first parameter of a sequence
 
--- a parameter begins with no group character
-digit_apart : (digit : ℕ) → is_digit digit ≡ true → is_group digit ≡ false
-digit_apart digit d = grind (arith, nat_tests)
-
-last_apart : (letter : ℕ) → is_last letter ≡ true → is_group letter ≡ false
-last_apart letter l = grind (arith, nat_tests)
-
-unsigned_apart : (whole : List ℕ) (fraction : Option (List ℕ)) (letter : ℕ) (rest : List ℕ) → Pass is_digit whole → is_last letter ≡ true
-    → IsUngrouped None (field_bytes (record { sign = Absent; whole = whole; fraction = fraction }) ++ letter ∷ rest)
-unsigned_apart [] None letter rest d l = last_apart letter l
-unsigned_apart [] (Some digits) letter rest d l = refl
-unsigned_apart (digit ∷ whole) fraction letter rest d l = digit_apart digit d.0
-
-signed_apart : (sign : Sign) (whole : List ℕ) (fraction : Option (List ℕ)) (letter : ℕ) (rest : List ℕ) → Pass is_digit whole
+-- a last parameter begins with no group character
+parts_apart : (sign : Sign) (whole : List ℕ) (fraction : Option (List ℕ)) (letter : ℕ) (rest : List ℕ) → Pass is_digit whole
     → is_last letter ≡ true
     → IsUngrouped None (field_bytes (record { sign = sign; whole = whole; fraction = fraction }) ++ letter ∷ rest)
-signed_apart Absent whole fraction letter rest d l = unsigned_apart whole fraction letter rest d l
-signed_apart Plus whole fraction letter rest d l = refl
-signed_apart Minus whole fraction letter rest d l = refl
+parts_apart Plus whole fraction letter rest d l = refl
+parts_apart Minus whole fraction letter rest d l = refl
+parts_apart Absent [] None letter rest d l = grind (arith, nat_tests)
+parts_apart Absent [] (Some digits) letter rest d l = refl
+parts_apart Absent (digit ∷ whole) fraction letter rest d l = let is : is_digit digit ≡ true = d.0 in grind (arith, nat_tests)
 
 pub field_apart : (field : Spelled) (letter : ℕ) (rest : List ℕ) → IsField field → is_last letter ≡ true
     → IsUngrouped None (field_bytes field ++ letter ∷ rest)
-field_apart field letter rest f l = signed_apart field.sign field.whole field.fraction letter rest f.0 l
+field_apart field letter rest f l = parts_apart field.sign field.whole field.fraction letter rest f.0 l
 
 -- what a step reads of the first parameter: as it would inside, and where there is no group character, with lines
 abbrev pub first_reads : ℕ → Prefix → List ℕ → Result Reads Refusal
@@ -381,8 +295,8 @@ first_by : (parameterized : ℕ) (group : Option ℕ) (at : ℕ) (bytes : List �
     → start_at at (27 ∷ (prefix_bytes (record { parameterized = parameterized; group = group }) ++ bytes))
     ≡ first_reads at (record { parameterized = parameterized; group = group }) bytes
 unfolding prefix_at ungrouped_at parameter_at field_at
-first_by parameterized None at [] p n = at_prefix at parameterized [] (ungrouped_is parameterized p)
-first_by parameterized None at (byte ∷ bytes) p n = at_prefix at parameterized (byte ∷ bytes) (ungrouped_is parameterized p)
+first_by parameterized None at [] p n = at_prefix at parameterized [] (grind (arith, nat_tests))
+first_by parameterized None at (byte ∷ bytes) p n = at_prefix at parameterized (byte ∷ bytes) (grind (arith, nat_tests))
     ∙ rw (n, p) refl
 first_by parameterized (Some group) at bytes p n = at_prefix at parameterized (group ∷ bytes) p.0 ∙ rw p.1 refl
 
@@ -390,34 +304,20 @@ pub first_again : (prefix : Prefix) (at : ℕ) (bytes : List ℕ) → IsPrefix p
     → start_at at (27 ∷ (prefix_bytes prefix ++ bytes)) ≡ first_reads at prefix bytes
 first_again prefix at bytes p n = first_by prefix.parameterized prefix.group at bytes p n
 
--- where it is no universal exit, nothing more is read
-abbrev Stays : Result Reads Refusal → Type 0
-Stays (Ok reads) = leaves reads.said ≡ false
-Stays (Err fault) = Unit {0}
-
-no_lines : (begin len : ℕ) (read : Result Reads Refusal) → Stays read → with_lines begin len read ≡ read
-no_lines begin len (Ok reads) s = rw s refl
-no_lines begin len (Err fault) s = refl
-
-first_stays : (grouped : Bool) (begin len : ℕ) {read : Result Reads Refusal} → Stays read
-    → (if grouped then read else with_lines begin len read) ≡ read
-first_stays true begin len s = refl
-first_stays false begin len {read} s = no_lines begin len read s
-
--- what stands inside a sequence is no universal exit
-inside_stays : {prefix : Prefix} {at : ℕ} {bytes : List ℕ} {read : Result Reads Refusal} → Inside prefix at bytes read → Stays read
-inside_stays (is_middle parameter rest m) = middle_stays m
-inside_stays (is_end parameter sent rest e) = e.stays
-inside_stays (is_wrong f) = tt
+-- what stands inside a sequence is no universal exit, after which more is read
+no_lines : {prefix : Prefix} {at : ℕ} {bytes : List ℕ} {read : Result Reads Refusal} (grouped : Bool) (begin len : ℕ)
+    → Inside prefix at bytes read → (if grouped then read else with_lines begin len read) ≡ read
+no_lines true begin len inside = refl
+no_lines false begin len (is_middle parameter rest m) = rw (middle_stays m) refl
+no_lines false begin len (is_end parameter sent rest e) = rw e.stays refl
+no_lines false begin len (is_wrong f) = refl
 
 -- a step reads the first parameter as it would inside
 pub inside_again : {prefix : Prefix} {at : ℕ} {bytes : List ℕ} {read : Result Reads Refusal} → IsPrefix prefix
     → IsUngrouped prefix.group bytes → Inside prefix at bytes read → parameter_at prefix at bytes ≡ read
     → start_at at (27 ∷ (prefix_bytes prefix ++ bytes)) ≡ read
 inside_again {prefix} {at} {bytes} p n inside e =
-    first_again prefix at bytes p n
-    ∙ ap (λ (r : Result Reads Refusal). if is_some prefix.group then r else with_lines (at + 2) (length bytes) r) e
-    ∙ first_stays (is_some prefix.group) (at + 2) (length bytes) (inside_stays inside)
+    first_again prefix at bytes p n ∙ rw e (no_lines (is_some prefix.group) (at + 2) (length bytes) inside)
 
 -- ---- universal exits
 
@@ -428,21 +328,18 @@ exit_first : (at : ℕ) (field : Spelled) (bytes : List ℕ) → IsField field �
     (lines_at (at + 3 + length (field_bytes field)) bytes)
 exit_first at field bytes f x e =
     let last : IsLast percent (exit_parameter field) [] = record { field = f; letter = refl; checks = e } in
-    let apart : IsUngrouped None (parameter_bytes (exit_parameter field) ++ bytes) =
-    subst (IsUngrouped None) (sym (parameter_joined field 88 bytes)) (field_apart field 88 bytes f refl) in
-    first_again percent at (parameter_bytes (exit_parameter field) ++ bytes) refl apart
-    ∙ ap (with_lines (at + 2) (length (parameter_bytes (exit_parameter field) ++ bytes)))
-    (last_again at bytes last)
-    ∙ exit_reads at field bytes x
+    first_again percent at (parameter_bytes (exit_parameter field) ++ bytes) refl
+    (rw (parameter_joined field 88 bytes) (field_apart field 88 bytes f refl)) ∙ rw (last_again at bytes last) (exit_reads at field bytes x)
 
 pub exit_again : {at : ℕ} {field : Spelled} {lines : List (List ℕ)} {rest : List ℕ} → IsExit field lines rest
     → start_at at (spelling (exit field lines) ++ rest) ≡ piece_reads (Some (exit_command at field lines)) rest
 exit_again {at} {field} {lines} {rest} is =
-    ap (λ (bs : List ℕ). start_at at (27 ∷ 37 ∷ bs)) (exit_joined field (joined lines) rest)
-    ∙ exit_first at field (joined lines ++ rest) is.field_is is.leaves is.checks
-    ∙ ap (skipped_by (joined lines ++ rest) (Some (exit_command at field [])))
-    (lines_again (at + 3 + length (field_bytes field)) is.lines_are)
-    ∙ ap (λ (front : List ℕ). piece_reads (Some (exit_with at field front)) rest) (before_rest_is (joined lines) rest)
+    rw (
+      exit_joined field (joined lines) rest,
+      exit_first at field (joined lines ++ rest) is.field_is is.leaves is.checks,
+      lines_again (at + 3 + length (field_bytes field)) is.lines_are,
+      before_rest_is (joined lines) rest,
+    ) refl
 
 -- a step finds a line that asks for another language
 pub in_line_again : (at : ℕ) (field : Spelled) (lines : List (List ℕ)) {line rest : List ℕ} → IsField field
@@ -451,10 +348,11 @@ pub in_line_again : (at : ℕ) (field : Spelled) (lines : List (List ℕ)) {line
     → start_at at (27 ∷ 37 ∷ (field_bytes field ++ 88 ∷ (joined lines ++ (line ++ rest))))
     ≡ Err (refusal NotPcl (at + 3 + length (field_bytes field) + length (joined lines)) exit_name)
 in_line_again at field lines {line} {rest} f x e each ends l p =
-    ap (λ (bs : List ℕ). start_at at (27 ∷ 37 ∷ bs)) (sym (parameter_joined field 88 (joined lines ++ (line ++ rest))))
-    ∙ exit_first at field (joined lines ++ (line ++ rest)) f x e
-    ∙ ap (skipped_by (joined lines ++ (line ++ rest)) (Some (exit_command at field [])))
-    (foreign_again lines (at + 3 + length (field_bytes field)) each ends l p)
+    rw (
+      ← parameter_joined field 88 (joined lines ++ (line ++ rest)),
+      exit_first at field (joined lines ++ (line ++ rest)) f x e,
+      foreign_again lines (at + 3 + length (field_bytes field)) each ends l p,
+    ) refl
 
 -- ---- faults
 

@@ -1,6 +1,5 @@
 -- What a step reads inside a sequence: a middle parameter, the last one with its data, or its first fault.
 use Rattle.std.proofs.Common.{◌≡◌, ℕ, Bool, true, false, ◌==◌, ◌&&◌, ◌||◌, ◌-◌, ◌<◌, if◌then◌else◌, is_some, is_none, IsTrue, List, [], ◌∷◌, ◌++◌, length, take, drop, Option, Some, None, Result, Ok, Err, refl, sym, ap, subst, subst₂, ◌∙◌, append_assoc, append-nil, length-append, length-take-le, take-append-drop, take_at, drop_at, arith}
-use Rattle.std.proofs.lemmas.Bool.{or_left, or_right}
 use Rattle.std.proofs.lemmas.Bool.Decides.{nat_tests}
 use Rattle.pcl_base.specs.declared.kind.Kind.{Kind}
 use Rattle.pcl_base.specs.declared.refusal.Refusal.{Refusal}
@@ -14,7 +13,7 @@ use Rattle.pcl_escape.specs.Checks.{parameter_checks, is_exit}
 use Rattle.pcl_escape.specs.inner.Scan.{Reads, letter_at, checked_at, parameter_at}
 use Rattle.pcl_escape.specs.Pieces.{Parameter, IsField, IsMiddle, IsEnd, PassesChecks, parameter_bytes, command_of}
 use Rattle.pcl_escape.specs.Faults.{FailsParameter, cut, no_letter, check, extends, is_bare}
-use Rattle.pcl_escape.proofs.Fields.{FieldStops, field_split, field_again, and_parts}
+use Rattle.pcl_escape.proofs.Fields.{by_test, FieldStops, field_split, field_again, and_parts}
 use Rattle.pcl_escape.proofs.Checks.{checks_take, none_behind}
 
 -- what a step reads of a middle parameter
@@ -48,33 +47,9 @@ pub data Found (prefix : Prefix) (at : ℕ) : List ℕ → Result Reads Refusal 
   is_leave : (parameter : Parameter) (bytes rest : List ℕ) → IsLast prefix parameter bytes → is_leaving prefix parameter ≡ true
       → Found prefix at (parameter_bytes parameter ++ (bytes ++ rest)) (end_reads prefix at parameter bytes rest)
 
--- ---- letters
-
--- a letter after which the sequence doesn't go on is a last one
-last_letter : (last grouped on : Bool) → (last || (grouped && on)) ≡ true → on ≡ false → last ≡ true
-last_letter true grouped on p q = refl
-last_letter false true true p q = absurd cc
-last_letter false true false p q = absurd cc
-last_letter false false on p q = absurd cc
-
--- another one stands in a sequence that may go on
-middle_letter : (last grouped on : Bool) → (last || (grouped && on)) ≡ true → last ≡ false → (grouped && on) ≡ true
-middle_letter true grouped on p q = absurd cc
-middle_letter false grouped on p q = p
-
--- a letter is one of the two
-pub any_letter : (last grouped on : Bool) → (last || (grouped && on)) ≡ true → (last || on) ≡ true
-any_letter true grouped on p = refl
-any_letter false true on p = p
-any_letter false false on p = absurd cc
-
 -- after a last letter the sequence doesn't go on
 pub last_stops : (letter : ℕ) → is_last letter ≡ true → goes_on letter ≡ false
 last_stops letter l = grind (arith, nat_tests)
-
--- where it goes on stands no last letter
-on_not_last : (letter : ℕ) → goes_on letter ≡ true → is_last letter ≡ false
-on_not_last letter g = grind (arith, nat_tests)
 
 -- ---- from the step to the parts
 
@@ -82,45 +57,6 @@ on_not_last letter g = grind (arith, nat_tests)
 pub parameter_joined : (field : Spelled) (letter : ℕ) (rest : List ℕ)
     → parameter_bytes (record { field = field; letter = letter }) ++ rest ≡ field_bytes field ++ letter ∷ rest
 parameter_joined field letter rest = append_assoc (field_bytes field) (letter ∷ []) rest
-
--- where the reading goes on after a parameter, by whether its letter is the last one
-checked_on : (prefix : Prefix) {at : ℕ} (letter : ℕ) {value : Value} (rest : List ℕ) (len : ℕ) {on : Bool} → goes_on letter ≡ on
-    → checked_at prefix at letter value rest (Ok len)
-    ≡ Ok record {
-      said = Some record { at = at; name = parameter_name prefix letter; value = value; bytes = take len rest };
-      rest =
-          drop len rest;
-      inside = if on then Some prefix else None;
-    }
-checked_on prefix {at} letter {value} rest len g =
-    ap (λ (b : Bool). Ok record {
-      said = Some record {
-        at = at;
-        name = parameter_name prefix letter;
-        value = value;
-        bytes =
-            take len rest;
-      };
-      rest = drop len rest;
-      inside = if b then Some prefix else None;
-    }) g
-
--- a letter after which the sequence goes on, with the checks passed, makes a middle parameter
-middle_step : {prefix : Prefix} {at : ℕ} (field : Spelled) (letter : ℕ) (rest : List ℕ) {len : ℕ} → IsField field
-    → IsTrue (is_letter prefix letter) → goes_on letter ≡ true
-    → parameter_checks (parameter_name prefix letter) letter (field_value field) (length rest) ≡ Ok len
-    → Found prefix at (field_bytes field ++ letter ∷ rest) (checked_at prefix at letter (field_value field) rest (Ok len))
-middle_step {prefix} {at} field letter rest {len} f l g e =
-    let nothing = none_behind (parameter_name prefix letter) letter (field_value field) (length rest) g e in
-    let again = (checks_take (parameter_name prefix letter) letter (field_value field) e).again 0 (omega arith) in
-    let passes : parameter_checks (parameter_name prefix letter) letter (field_value field) 0 ≡ Ok 0 = rw nothing at again in
-    let reads : checked_at prefix at letter (field_value field) rest (Ok len) ≡ middle_reads
-    prefix at (record { field = field; letter = letter }) rest =
-    ap (λ (n : ℕ). checked_at prefix at letter (field_value field) rest (Ok n)) nothing
-    ∙ checked_on prefix letter rest 0 g in
-    let on = middle_letter (is_last letter) (is_some prefix.group) (goes_on letter) l (on_not_last letter g) in
-    subst₂ (Found prefix at) (parameter_joined field letter rest) (sym reads)
-    (is_inside (is_middle (record { field = field; letter = letter }) rest (record { field = f; letter = on; checks = passes })))
 
 -- a last parameter, by whether it is a universal exit
 end_by : {prefix : Prefix} {at : ℕ} {parameter : Parameter} {bytes rest : List ℕ} (leave : Bool) → IsLast prefix parameter bytes
@@ -130,47 +66,44 @@ end_by {parameter} {bytes} {rest} true is l = is_leave parameter bytes rest is l
 end_by {parameter} {bytes} {rest} false is l =
     is_inside (is_end parameter bytes rest (record { field = is.field; letter = is.letter; checks = is.checks; stays = l }))
 
--- any other letter makes a last parameter, with its data
-end_step : {prefix : Prefix} {at : ℕ} (field : Spelled) (letter : ℕ) (rest : List ℕ) {len : ℕ} → IsField field
-    → IsTrue (is_letter prefix letter) → goes_on letter ≡ false
-    → parameter_checks (parameter_name prefix letter) letter (field_value field) (length rest) ≡ Ok len
-    → Found prefix at (field_bytes field ++ letter ∷ rest) (checked_at prefix at letter (field_value field) rest (Ok len))
-end_step {prefix} {at} field letter rest {len} f l g e =
-    let parameter : Parameter = record { field = field; letter = letter } in
-    let taken = checks_take (parameter_name prefix letter) letter (field_value field) e in
-    let long : length (take len rest) ≡ len = length-take-le len rest taken.fits in
-    let passes : parameter_checks (parameter_name prefix letter) letter (field_value field) (length (take len rest))
-    ≡ Ok (length (take len rest)) = rw long (taken.again len (omega arith)) in
-    let joined : parameter_bytes parameter ++ (take len rest ++ drop len rest) ≡ field_bytes field ++ letter ∷ rest =
-    ap (λ (bs : List ℕ). parameter_bytes parameter ++ bs) (take-append-drop len rest) ∙ parameter_joined field letter rest in
-    let last = last_letter (is_last letter) (is_some prefix.group) (goes_on letter) l g in
-    subst₂ (Found prefix at) joined (sym (checked_on prefix letter rest len g))
-    (end_by (is_leaving prefix parameter)
-    (record { field = f; letter = last; checks = passes }) refl)
-
--- the same two, and a failing check
-checked_step : {prefix : Prefix} {at : ℕ} (field : Spelled) (letter : ℕ) (rest : List ℕ) (on : Bool) (checks : Result ℕ Kind)
-    → IsField field → IsTrue (is_letter prefix letter) → goes_on letter ≡ on
+-- A letter with its checks: where these pass, one after which the sequence goes on makes a middle parameter, and any other one a last
+-- parameter, with its data.
+checked_step : {prefix : Prefix} {at : ℕ} (field : Spelled) (letter : ℕ) (rest : List ℕ) (checks : Result ℕ Kind)
+    → IsField field → IsTrue (is_letter prefix letter)
     → parameter_checks (parameter_name prefix letter) letter (field_value field) (length rest) ≡ checks
     → Found prefix at (field_bytes field ++ letter ∷ rest) (checked_at prefix at letter (field_value field) rest checks)
-checked_step field letter rest true (Ok len) f l g e = middle_step field letter rest f l g e
-checked_step field letter rest false (Ok len) f l g e = end_step field letter rest f l g e
-checked_step field letter rest on (Err kind) f l g e = is_inside (is_wrong (check field letter rest kind f l e))
-
--- after a field that stops stands a letter, or a byte that is none
-letter_step : {prefix : Prefix} {at : ℕ} (field : Spelled) (byte : ℕ) (rest : List ℕ) (letter : Bool) → IsField field
-    → extends field byte ≡ false → is_letter prefix byte ≡ letter
-    → Found prefix at (field_bytes field ++ byte ∷ rest) (letter_at prefix at field (byte ∷ rest))
-letter_step {prefix} field byte rest true f s l =
-    rw l (checked_step field byte rest (goes_on byte)
-    (parameter_checks (parameter_name prefix byte) byte (field_value field) (length rest)) f l refl refl)
-letter_step field byte rest false f s l = rw l (is_inside (is_wrong (no_letter field byte rest f s l)))
+checked_step field letter rest (Err kind) f l e = is_inside (is_wrong (check field letter rest kind f l e))
+checked_step {prefix} {at} field letter rest (Ok len) f l e =
+    let name = parameter_name prefix letter in
+    let parameter : Parameter = record { field = field; letter = letter } in
+    let taken = checks_take name letter (field_value field) e in
+    let reads : Option Prefix → Result Reads Refusal = λ inside. Ok record {
+      said = Some record { at = at; name = name; value = field_value field; bytes = take len rest };
+      rest = drop len rest;
+      inside = inside;
+    } in
+    by_test (λ inside. Found prefix at (field_bytes field ++ letter ∷ rest) (reads inside)) (goes_on letter)
+    (λ g.
+    let nothing : len ≡ 0 = none_behind name letter (field_value field) (length rest) g e in
+    let passes = rw nothing at (taken.again 0) in
+    rw (nothing, ← parameter_joined field letter rest)
+    (is_inside (is_middle parameter rest (record { field = f; letter = grind (arith, nat_tests); checks = passes (omega arith) }))))
+    (λ g.
+    let last : is_last letter ≡ true = grind (arith, nat_tests) in
+    let long : length (take len rest) ≡ len = length-take-le len rest taken.fits in
+    let ends : IsLast prefix parameter (take len rest) = record { field = f; letter = last; checks = rw long (taken.again len (omega arith)) } in
+    let joined : parameter_bytes parameter ++ (take len rest ++ drop len rest) ≡ field_bytes field ++ letter ∷ rest =
+    rw take-append-drop (parameter_joined field letter rest) in
+    rw (← joined) (end_by (is_leaving prefix parameter) ends refl))
 
 -- after a field that stops stands a byte, or nothing
 behind_field : {prefix : Prefix} {at : ℕ} (field : Spelled) (rest : List ℕ) → IsField field → FieldStops field rest
     → Found prefix at (field_bytes field ++ rest) (letter_at prefix at field rest)
 behind_field field [] f s = rw append-nil (is_inside (is_wrong (cut field f)))
-behind_field {prefix} field (byte ∷ rest) f s = letter_step field byte rest (is_letter prefix byte) f s refl
+behind_field {prefix} {at} field (byte ∷ rest) f s =
+    by_test (Found prefix at (field_bytes field ++ byte ∷ rest)) (is_letter prefix byte)
+    (λ l. checked_step field byte rest (parameter_checks (parameter_name prefix byte) byte (field_value field) (length rest)) f l refl)
+    (λ l. is_inside (is_wrong (no_letter field byte rest f s l)))
 
 -- a step reads what the bytes of a parameter begin with
 pub parameter_step : {prefix : Prefix} {at : ℕ} {bytes : List ℕ} → Found prefix at bytes (parameter_at prefix at bytes)
@@ -211,43 +144,28 @@ grouped_step g = inside_found g (parameter_step)
 
 -- a parameter has its letter
 pub parameter_long : (parameter : Parameter) → 0 < length (parameter_bytes parameter)
-parameter_long parameter = let e = length-append (field_bytes parameter.field) (parameter.letter ∷ []) in omega arith
+parameter_long parameter = simp length-append (omega arith)
 
 -- what is after a parameter is shorter
 rest_shorter : (parameter : Parameter) (sent rest : List ℕ) → length rest < length (parameter_bytes parameter ++ (sent ++ rest))
-rest_shorter parameter sent rest =
-    let joined = length-append (parameter_bytes parameter) (sent ++ rest) in
-    let behind = length-append sent rest in
-    let long = parameter_long parameter in
-    omega arith
+rest_shorter parameter sent rest = simp length-append (omega arith)
 
 -- each step inside a sequence takes a byte
-pub inside_shorter : {prefix : Prefix} {at : ℕ} {bytes : List ℕ} {read : Result Reads Refusal} {reads : Reads}
-    → Inside prefix at bytes read → read ≡ Ok reads → length reads.rest < length bytes
-inside_shorter {reads} (is_middle parameter rest is) e = let same : rest ≡ reads.rest = cc in
-    rw (← same) (rest_shorter parameter [] rest)
-inside_shorter {reads} (is_end parameter sent rest is) e = let same : rest ≡ reads.rest = cc in
-    rw (← same) (rest_shorter parameter sent rest)
-inside_shorter (is_wrong f) e = absurd cc
-
--- each parameter does
-found_shorter : {prefix : Prefix} {at : ℕ} {bytes : List ℕ} {read : Result Reads Refusal} {reads : Reads} → Found prefix at bytes read
-    → read ≡ Ok reads → length reads.rest < length bytes
-found_shorter (is_inside inside) e = inside_shorter inside e
-found_shorter {reads} (is_leave parameter sent rest is l) e = let same : rest ≡ reads.rest = cc in
-    rw (← same) (rest_shorter parameter sent rest)
+pub found_shorter : {prefix : Prefix} {at : ℕ} {bytes : List ℕ} {read : Result Reads Refusal} {reads : Reads}
+    → Found prefix at bytes read → read ≡ Ok reads → length reads.rest < length bytes
+found_shorter {reads} (is_inside (is_middle parameter rest is)) e =
+    let same : rest ≡ reads.rest = cc in rw (← same) (rest_shorter parameter [] rest)
+found_shorter {reads} (is_inside (is_end parameter sent rest is)) e =
+    let same : rest ≡ reads.rest = cc in rw (← same) (rest_shorter parameter sent rest)
+found_shorter (is_inside (is_wrong f)) e = absurd cc
+found_shorter {reads} (is_leave parameter sent rest is l) e =
+    let same : rest ≡ reads.rest = cc in rw (← same) (rest_shorter parameter sent rest)
 
 pub parameter_shorter : (prefix : Prefix) (at : ℕ) (bytes : List ℕ) {reads : Reads} → parameter_at prefix at bytes ≡ Ok reads
     → length reads.rest < length bytes
-parameter_shorter prefix at bytes e = found_shorter
-    (parameter_step) e
+parameter_shorter prefix at bytes e = found_shorter parameter_step e
 
 -- ---- from the parts to the step
-
--- a letter is no part of a field
-letter_ends : (byte : ℕ) (point bare : Bool) → (is_last byte || goes_on byte) ≡ true
-    → (is_digit byte || (byte == 46 && point) || ((byte == 43 || byte == 45) && bare)) ≡ false
-letter_ends byte point bare l = grind (arith, nat_tests)
 
 -- a step reads the field that is spelled
 field_behind : (prefix : Prefix) (at : ℕ) (field : Spelled) (rest : List ℕ) → IsField field → FieldStops field rest
@@ -260,35 +178,38 @@ checks_behind : (prefix : Prefix) (at : ℕ) (field : Spelled) (letter : ℕ) (r
     → IsTrue (is_letter prefix letter)
     → parameter_at prefix at (field_bytes field ++ letter ∷ rest) ≡ checked_at prefix at letter (field_value field) rest
     (parameter_checks (parameter_name prefix letter) letter (field_value field) (length rest))
-checks_behind prefix at field letter rest f l =
-    let any = any_letter (is_last letter) (is_some prefix.group) (goes_on letter) l in
-    field_behind prefix at field (letter ∷ rest) f (letter_ends letter (is_none field.fraction) (is_bare field) any) ∙ rw l refl
+checks_behind prefix at field letter rest f l = field_behind prefix at field (letter ∷ rest) f (grind (arith, nat_tests)) ∙ rw l refl
 
 -- a step reads a middle parameter
 pub middle_again : {prefix : Prefix} {at : ℕ} {parameter : Parameter} {rest : List ℕ} → IsMiddle prefix parameter
     → parameter_at prefix at (parameter_bytes parameter ++ rest) ≡ middle_reads prefix at parameter rest
 middle_again {prefix} {at} {parameter} {rest} m =
     let letter = parameter.letter in
-    let l : IsTrue (is_letter prefix letter) = or_right (is_last letter) (may_go_on prefix letter) m.letter in
-    let on : goes_on letter ≡ true = (and_parts (is_some prefix.group) (goes_on letter) m.letter).1 in
-    let again = (checks_take (parameter_name prefix letter) letter (field_value parameter.field) m.checks).again (length rest)
-    (omega arith) in
-    ap (parameter_at prefix at) (parameter_joined parameter.field letter rest) ∙ checks_behind prefix at parameter.field letter rest
-    m.field l ∙ rw (again, on) refl
+    let goes : (is_some prefix.group && goes_on letter) ≡ true = m.letter in
+    let on : goes_on letter ≡ true = grind arith in
+    let again = (checks_take (parameter_name prefix letter) letter (field_value parameter.field) m.checks).again (length rest) in
+    rw (
+      parameter_joined parameter.field letter rest,
+      checks_behind prefix at parameter.field letter rest m.field (grind arith),
+      again (omega arith),
+      on,
+    ) refl
 
 -- a step reads a last parameter and its data
 pub last_again : {prefix : Prefix} (at : ℕ) {parameter : Parameter} {bytes : List ℕ} (rest : List ℕ) → IsLast prefix parameter bytes
     → parameter_at prefix at (parameter_bytes parameter ++ (bytes ++ rest)) ≡ end_reads prefix at parameter bytes rest
 last_again {prefix} at {parameter} {bytes} rest m =
     let letter = parameter.letter in
-    let l : IsTrue (is_letter prefix letter) = or_left (is_last letter) (may_go_on prefix letter) m.letter in
-    let again = (checks_take (parameter_name prefix letter) letter (field_value parameter.field) m.checks).again (length (bytes ++ rest))
-    (omega (arith, length-append bytes rest)) in
-    let stops : goes_on letter ≡ false = last_stops letter m.letter in
-    let front : take (length bytes) (bytes ++ rest) ≡ bytes = take_at bytes rest (length bytes) refl in
-    let behind : drop (length bytes) (bytes ++ rest) ≡ rest = drop_at bytes rest (length bytes) refl in
-    ap (parameter_at prefix at) (parameter_joined parameter.field letter (bytes ++ rest))
-    ∙ checks_behind prefix at parameter.field letter (bytes ++ rest) m.field l ∙ rw (again, stops, front, behind) refl
+    let last : is_last letter ≡ true = m.letter in
+    let again = (checks_take (parameter_name prefix letter) letter (field_value parameter.field) m.checks).again (length (bytes ++ rest)) in
+    rw (
+      parameter_joined parameter.field letter (bytes ++ rest),
+      checks_behind prefix at parameter.field letter (bytes ++ rest) m.field (grind arith),
+      again (simp length-append (omega arith)),
+      last_stops letter last,
+      take_at bytes rest (length bytes) refl,
+      drop_at bytes rest (length bytes) refl,
+    ) refl
 
 pub end_again : {prefix : Prefix} {at : ℕ} {parameter : Parameter} {bytes rest : List ℕ} → IsEnd prefix parameter bytes
     → parameter_at prefix at (parameter_bytes parameter ++ (bytes ++ rest)) ≡ end_reads prefix at parameter bytes rest
