@@ -149,7 +149,8 @@ line_first : {place : ℕ} {line behind : List ℕ} {read : Result (List ℕ) �
 line_first {line} is none (skipped lines rest each) =
     rw (← append_assoc line (joined lines) rest) (skipped (line ∷ lines) rest (more_lines is none each))
 line_first {place} {line} is none (foreign lines last rest each ends l p) =
-    let further : (place + length line) + length (joined lines) ≡ place + length (line ++ joined lines) = simp length-append (omega arith) in
+    let further : (place + length line) + length (joined lines) ≡ place + length (line ++ joined lines) =
+    simp length-append (omega arith) in
     rw (further, ← append_assoc line (joined lines) (last ++ rest)) (foreign (line ∷ lines) last rest (is, none, each) ends l p)
 
 -- what the steps give says what the bytes are
@@ -188,7 +189,8 @@ others_again (line ∷ lines) zero place behind each h gives = absurd (omega ari
 others_again (line ∷ lines) (suc n) place behind each h gives =
     let has = line_has line each.0.0 in
     let long = simp length-append at h in
-    let further : (place + length line) + length (joined lines) ≡ place + length (line ++ joined lines) = simp length-append (omega arith) in
+    let further : (place + length line) + length (joined lines) ≡ place + length (line ++ joined lines) =
+    simp length-append (omega arith) in
     rw (append_assoc line (joined lines) behind, at_line n place each.0, each.1)
     (others_again lines n (place + length line) behind each.2 (simp length-append (omega arith)) (λ m fits. rw further (gives m fits)))
 

@@ -30,8 +30,7 @@ goes_on_inside (Some prefix) bytes e = tt
 pub step_shorter : (inside : Option Prefix) (at : ℕ) (bytes : List ℕ) {reads : Reads} → GoesOn inside bytes
     → step_at inside at bytes ≡ Ok reads → length reads.rest < length bytes
 step_shorter None at [] goes e = absurd goes
-step_shorter None at (byte ∷ bytes) goes e = start_shorter
-    (start_step) e
+step_shorter None at (byte ∷ bytes) goes e = start_shorter start_step e
 step_shorter (Some prefix) at bytes goes e = parameter_shorter prefix at bytes e
 
 -- the first step, and then the others
@@ -54,31 +53,19 @@ pub one_more : (front : List Said) (total : ℕ) (inside : Option Prefix) (rest 
 one_more front total inside rest reads h goes e =
     let shorter = step_shorter inside (total - length rest) rest goes e in
     let place : (total - length rest) + (length rest - length reads.rest) ≡ total - length reads.rest = omega arith in
-    let steps : outcome (suc (length reads.rest)) reads.inside (total - length reads.rest) reads.rest
-    ≡ outcome (length rest) reads.inside (total - length reads.rest) reads.rest =
-    enough (suc (length reads.rest)) (length rest) reads.inside (total - length reads.rest) reads.rest (omega arith) shorter in
-    let next : outcome (suc (length rest)) inside (total - length rest) rest ≡ with_front (commands_said reads.said)
-    (outcome (length rest) reads.inside (total - length reads.rest) reads.rest) =
-    first_step (length rest) inside (total - length rest) rest goes
-    ∙ ap (λ (r : Result Reads Refusal). and_then r (λ reads. outcome (length rest) reads.inside
-    ((total - length rest) + (length rest - length reads.rest)) reads.rest)) e
-    ∙ ap (λ (k : ℕ). with_front (commands_said reads.said) (outcome (length rest) reads.inside k reads.rest)) place in
-    ap (with_front (front ++ commands_said reads.said)) steps
-    ∙ sym (with_fronts front (commands_said reads.said) (outcome (length rest) reads.inside (total - length reads.rest) reads.rest))
-    ∙ ap (with_front front) (sym next)
+    let steps = enough (suc (length reads.rest)) (length rest) reads.inside (total - length reads.rest) reads.rest (omega arith) shorter in
+    rw (first_step (length rest) inside (total - length rest) rest goes, e, place, steps)
+    (sym (with_fronts front (commands_said reads.said) (outcome (length rest) reads.inside (total - length reads.rest) reads.rest)))
 
 -- a fault of a step is the job's
 pub stops_at : (front : List Said) (total : ℕ) (inside : Option Prefix) (rest : List ℕ) {fault : Refusal} → GoesOn inside rest
     → step_at inside (total - length rest) rest ≡ Err fault → so_far front total inside rest ≡ Err fault
-stops_at front total inside rest goes e =
-    ap (with_front front) (first_step (length rest) inside (total - length rest) rest goes
-    ∙ ap (λ (r : Result Reads Refusal). and_then r (λ reads. outcome (length rest) reads.inside
-    ((total - length rest) + (length rest - length reads.rest)) reads.rest)) e)
+stops_at front total inside rest goes e = rw (first_step (length rest) inside (total - length rest) rest goes, e) refl
 
 -- no bytes outside sequences give no commands
 all_done : (front : List Said) (total : ℕ) → so_far front total None [] ≡ Ok front
 unfolding outcome
-all_done front total = ap (λ (cs : List Said). Ok cs) (append-nil front)
+all_done front total = simp append-nil
 
 -- at the end all was read
 pub is_done : (front : List Said) (total : ℕ) (inside : Option Prefix) (rest : List ℕ) → true ≡ (length rest == 0) → false ≡ is_some inside

@@ -22,7 +22,7 @@ use Rattle.pcl_escape.specs.Items.{name_with, bytes_in}
 use Rattle.pcl_escape.specs.Said.{Said}
 use Rattle.pcl_escape.specs.inner.Fields.{field_at}
 use Rattle.pcl_escape.specs.inner.Scan.{Reads, refuse, named_by, named_at, text_at, checked_at, letter_at, parameter_at, leaves, skipped_by, with_lines, ungrouped_at, prefix_at, sequence_at, start_at, step_at, IsPlaced}
-use Rattle.pcl_escape.proofs.Fields.{field_split}
+use Rattle.pcl_escape.proofs.Fields.{by_test, field_split}
 use Rattle.pcl_escape.proofs.Lines.{Lines, skipped, foreign, lines_split}
 use Rattle.pcl_escape.proofs.Starts.{before_rest_is}
 
@@ -50,16 +50,10 @@ Stands bytes (Err fault) = Unit {0}
 further : (more bytes : List ℕ) (read : Result Reads Refusal) → Stands bytes read → Stands (more ++ bytes) read
 further more bytes (Ok reads) s = record {
   front = more ++ s.front;
-  joined = ap (λ (bs : List ℕ). more ++ bs) s.joined ∙ sym (append_assoc more s.front (data_of reads.said ++ reads.rest));
+  joined = simp append_assoc (let same = s.joined in cc);
   told = s.told;
 }
 further more bytes (Err fault) s = tt
-
--- whichever way a test goes
-either : (bytes : List ℕ) (test : Bool) (one other : Result Reads Refusal) → Stands bytes one → Stands bytes other
-    → Stands bytes (if test then one else other)
-either bytes true one other s t = s
-either bytes false one other s t = t
 
 -- ---- commands without a value
 
@@ -83,33 +77,20 @@ letter_told : (parameterized : ℕ) (group : Option ℕ) (letter : ℕ) → (let
 letter_told parameterized None letter n = rw n refl
 letter_told parameterized (Some group) letter n = rw n refl
 
-upper_case : (letter : ℕ) (on : Bool) → goes_on letter ≡ on → (is_last letter || on) ≡ true
-    → ((if on then letter - 32 else letter) == 0) ≡ false
-upper_case letter true g l = grind (arith, nat_tests)
-upper_case letter false g l = grind (arith, nat_tests)
-
 parameter_told : (prefix : Prefix) (letter : ℕ) → is_letter prefix letter ≡ true → IsTold (parameter_name prefix letter)
 parameter_told prefix letter l =
-    letter_told prefix.parameterized prefix.group (if goes_on letter then letter - 32 else letter)
-    (upper_case letter (goes_on letter) refl (grind arith))
+    letter_told prefix.parameterized prefix.group (if goes_on letter then letter - 32 else letter) (grind (arith, nat_tests))
 
 checked_stands : (prefix : Prefix) (at letter : ℕ) (value : Value) (bytes : List ℕ) (checks : Result ℕ Kind)
     → IsTold (parameter_name prefix letter) → Stands (letter ∷ bytes) (checked_at prefix at letter value bytes checks)
 checked_stands prefix at letter value bytes (Ok len) t =
-    record { front = letter ∷ []; joined = ap (λ (bs : List ℕ). letter ∷ bs) (sym (take-append-drop len bytes)); told = t }
+    record { front = letter ∷ []; joined = rw take-append-drop refl; told = t }
 checked_stands prefix at letter value bytes (Err kind) t = tt
-
-letter_by : (prefix : Prefix) (at letter : ℕ) (value : Value) (bytes : List ℕ) (checks : Result ℕ Kind) (is : Bool)
-    → is_letter prefix letter ≡ is
-    → Stands (letter ∷ bytes) (if is then checked_at prefix at letter value bytes checks else refuse BadSequence at (prefix_name prefix))
-letter_by prefix at letter value bytes checks true l = checked_stands prefix at letter value bytes checks (parameter_told prefix letter l)
-letter_by prefix at letter value bytes checks false l = tt
 
 letter_stands : (prefix : Prefix) (at : ℕ) (field : Spelled) (bytes : List ℕ) → Stands bytes (letter_at prefix at field bytes)
 letter_stands prefix at field [] = tt
-letter_stands prefix at field (letter ∷ bytes) =
-    letter_by prefix at letter (field_value field) bytes
-    (parameter_checks (parameter_name prefix letter) letter (field_value field) (length bytes)) (is_letter prefix letter) refl
+letter_stands prefix at field (letter ∷ bytes) = by_test (Stands (letter ∷ bytes)) (is_letter prefix letter)
+    (λ l. checked_stands prefix at letter (field_value field) bytes _ (parameter_told prefix letter l)) (λ l. tt)
 
 parameter_stands : (prefix : Prefix) (at : ℕ) (bytes : List ℕ) → Stands bytes (parameter_at prefix at bytes)
 unfolding parameter_at
@@ -123,23 +104,17 @@ parameter_stands prefix at bytes =
 -- the lines are the data
 skipped_stands : {place : ℕ} {bytes after : List ℕ} {read : Result (List ℕ) ℕ} (front : List ℕ) (said : Option Said)
     → bytes ≡ front ++ after → IfSome said (λ said. IsTold said.name) → Lines place after read → Stands bytes (skipped_by after said read)
-skipped_stands front None e t (skipped lines rest each) =
-    record { front = front ++ joined lines; joined = e ∙ sym (append_assoc front (joined lines) rest); told = tt }
-skipped_stands front (Some said) e t (skipped lines rest each) = record {
-  front = front;
-  joined = e ∙ ap (λ (bs : List ℕ). front ++ (bs ++ rest)) (sym (before_rest_is (joined lines) rest));
-  told = t;
-}
+skipped_stands front None e t (skipped lines rest each) = record { front = front ++ joined lines; joined = simp append_assoc e; told = tt }
+skipped_stands front (Some said) e t (skipped lines rest each) =
+    record { front = front; joined = rw (before_rest_is (joined lines) rest) e; told = t }
 skipped_stands front said e t (foreign lines line rest each ends l p) = tt
 
 lines_stand : (begin len : ℕ) (bytes : List ℕ) (read : Result Reads Refusal) → Stands bytes read
     → Stands bytes (with_lines begin len read)
-lines_stand begin len bytes (Ok reads) s =
-    either bytes (leaves reads.said) _ _
-    (skipped_stands (s.front ++ data_of reads.said) reads.said
-    (s.joined ∙ sym (append_assoc s.front (data_of reads.said) reads.rest)) s.told
+lines_stand begin len bytes (Ok reads) s = by_test (Stands bytes) (leaves reads.said)
+    (λ l. skipped_stands (s.front ++ data_of reads.said) reads.said (simp append_assoc s.joined) s.told
     (lines_split (suc (length reads.rest)) (omega arith)))
-    s
+    (λ l. s)
 lines_stand begin len bytes (Err fault) s = tt
 
 ungrouped_stands : (at parameterized : ℕ) (bytes : List ℕ) → Stands bytes (ungrouped_at at parameterized bytes)
@@ -155,25 +130,26 @@ unfolding prefix_at
 prefix_stands at parameterized [] = tt
 prefix_stands at parameterized (group ∷ bytes) =
     let prefix : Prefix = record { parameterized = parameterized; group = Some group } in
-    either (group ∷ bytes) (is_group group) _ _
-    (further (group ∷ []) bytes (parameter_at prefix at bytes) (parameter_stands prefix at bytes))
-    (either (group ∷ bytes) (is_ungrouped parameterized) _ _ (ungrouped_stands at parameterized (group ∷ bytes)) tt)
+    by_test (Stands (group ∷ bytes)) (is_group group)
+    (λ g. further (group ∷ []) bytes (parameter_at prefix at bytes) (parameter_stands prefix at bytes))
+    (λ g. by_test (Stands (group ∷ bytes)) (is_ungrouped parameterized)
+    (λ u. ungrouped_stands at parameterized (group ∷ bytes)) (λ u. tt))
 
 sequence_stands : (at : ℕ) (bytes : List ℕ) → Stands bytes (sequence_at at bytes)
 unfolding sequence_at
 sequence_stands at [] = tt
 sequence_stands at (byte ∷ bytes) =
-    either (byte ∷ bytes) (is_two_character byte) _ _ (code_stands at byte bytes)
-    (either (byte ∷ bytes) (is_parameterized byte) _ _
-    (further (byte ∷ []) bytes (prefix_at at byte bytes) (prefix_stands at byte bytes)) tt)
+    by_test (Stands (byte ∷ bytes)) (is_two_character byte) (λ t. code_stands at byte bytes)
+    (λ t. by_test (Stands (byte ∷ bytes)) (is_parameterized byte)
+    (λ p. further (byte ∷ []) bytes (prefix_at at byte bytes) (prefix_stands at byte bytes)) (λ p. tt))
 
 start_stands : (at : ℕ) (bytes : List ℕ) → Stands bytes (start_at at bytes)
 unfolding start_at
 start_stands at [] = record { front = []; joined = refl; told = tt }
 start_stands at (byte ∷ bytes) =
-    either (byte ∷ bytes) (is_silent byte) _ _ (record { front = byte ∷ []; joined = refl; told = tt })
-    (either (byte ∷ bytes) (byte == 27) _ _ (further (byte ∷ []) bytes (sequence_at at bytes) (sequence_stands at bytes))
-    (either (byte ∷ bytes) (is_control byte) _ _ (code_stands at byte bytes) (text_stands at (byte ∷ bytes))))
+    by_test (Stands (byte ∷ bytes)) (is_silent byte) (λ s. record { front = byte ∷ []; joined = refl; told = tt })
+    (λ s. by_test (Stands (byte ∷ bytes)) (byte == 27) (λ e. further (byte ∷ []) bytes (sequence_at at bytes) (sequence_stands at bytes))
+    (λ e. by_test (Stands (byte ∷ bytes)) (is_control byte) (λ c. code_stands at byte bytes) (λ c. text_stands at (byte ∷ bytes))))
 
 step_stands : (inside : Option Prefix) (at : ℕ) (bytes : List ℕ) → Stands bytes (step_at inside at bytes)
 step_stands None at bytes = start_stands at bytes
@@ -191,17 +167,11 @@ place_of_data : {job : List ℕ} (before rest : List ℕ) (said : Option Said) �
     → IfSome said (λ said. IsTold said.name) → IfSome said (IsPlaced job (length rest))
 place_of_data before rest None e t = tt
 place_of_data {job} before rest (Some said) e t =
-    let sent = said.bytes in
-    let whole : length job ≡ length before + (length sent + length rest) =
-    ap (λ (bs : List ℕ). length bs) e ∙ length-append before (sent ++ rest)
-    ∙ ap (λ (n : ℕ). length before + n) (length-append sent rest) in
-    let place : length job - length rest - length sent ≡ length before = omega (arith, whole) in
+    let whole = simp length-append at (ap length e) in
+    let place : length job - length rest - length said.bytes ≡ length before = omega arith in
     record {
-      within = omega (arith, whole);
-      bytes = ap (λ (bs : List ℕ). bytes_in bs (length job - length rest - length sent) (length sent)) e
-          ∙ ap (λ (n : ℕ). bytes_in (before ++ (sent ++ rest)) n (length sent)) place
-          ∙ ap (λ (bs : List ℕ). take (length sent) bs) (drop_at before (sent ++ rest) (length before) refl)
-          ∙ take_at sent rest (length sent) refl;
+      within = omega arith;
+      bytes = rw (place, e, drop_at before (said.bytes ++ rest) (length before) refl) (take_at said.bytes rest (length said.bytes) refl);
       name = t;
     }
 
@@ -209,12 +179,9 @@ place_of_data {job} before rest (Some said) e t =
 pub step_placed : {job bytes : List ℕ} (inside : Option Prefix) (at : ℕ) (reads : Reads) → IsEndOf job bytes
     → step_at inside at bytes ≡ Ok reads → IfSome reads.said (IsPlaced job (length reads.rest)) × IsEndOf job reads.rest
 step_placed {job} {bytes} inside at reads is e =
-    let s : StandsIn bytes reads = subst (λ (read : Result Reads Refusal). Stands bytes read) e (step_stands inside at bytes) in
+    let s : StandsIn bytes reads = rw e at (step_stands inside at bytes) in
     let whole : job ≡ (is.read ++ s.front) ++ (data_of reads.said ++ reads.rest) =
-    is.joined ∙ ap (λ (bs : List ℕ). is.read ++ bs) s.joined ∙ sym (append_assoc is.read s.front (data_of reads.said ++ reads.rest)) in (
+    simp append_assoc (let a = is.joined in let b = s.joined in cc) in (
       place_of_data (is.read ++ s.front) reads.rest reads.said whole s.told,
-      record {
-        read = (is.read ++ s.front) ++ data_of reads.said;
-        joined = whole ∙ sym (append_assoc (is.read ++ s.front) (data_of reads.said) reads.rest);
-      },
+      record { read = (is.read ++ s.front) ++ data_of reads.said; joined = rw append_assoc whole },
     )

@@ -91,7 +91,8 @@ checked_step {prefix} {at} field letter rest (Ok len) f l e =
     (λ g.
     let last : is_last letter ≡ true = grind (arith, nat_tests) in
     let long : length (take len rest) ≡ len = length-take-le len rest taken.fits in
-    let ends : IsLast prefix parameter (take len rest) = record { field = f; letter = last; checks = rw long (taken.again len (omega arith)) } in
+    let ends : IsLast prefix parameter (take len rest) =
+    record { field = f; letter = last; checks = rw long (taken.again len (omega arith)) } in
     let joined : parameter_bytes parameter ++ (take len rest ++ drop len rest) ≡ field_bytes field ++ letter ∷ rest =
     rw take-append-drop (parameter_joined field letter rest) in
     rw (← joined) (end_by (is_leaving prefix parameter) ends refl))
