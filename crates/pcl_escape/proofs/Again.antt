@@ -7,11 +7,13 @@ use Rattle.pcl_escape.specs.Letter.{prefix_bytes}
 use Rattle.pcl_escape.specs.Field.{field_bytes}
 use Rattle.pcl_escape.specs.Exit.{joined}
 use Rattle.pcl_escape.specs.Said.{Said}
-use Rattle.pcl_escape.specs.inner.Scan.{Reads, start_at, parameter_at, commands_said, with_front, and_then, outcome, outcome_of}
+use Rattle.pcl_base.specs.Operation.{operation_of}
+use Rattle.pcl_base.specs.declared.name.Name.TheVariants.{One}
+use Rattle.pcl_escape.specs.inner.Scan.{Reads, start_at, sequence_at, prefix_at, parameter_at, commands_said, with_front, and_then, outcome, outcome_of}
 use Rattle.pcl_escape.specs.Pieces.{Parameter, Piece, silent, control, text, two_character, combined, exit, IsPrefix, IsPiece, ArePieces, IsMiddle, IsEnd, IsReading, parameter_bytes, spelling, command_of, parameter_commands, first_place, commands_from, commands_of}
 use Rattle.pcl_escape.specs.Faults.{Fails, unknown_control, lone_escape, no_sequence, unknown_two, no_group, bad_group, in_parameter, in_line, IsUngrouped, FailsParameter, place_behind, IsFault}
 use Rattle.pcl_escape.proofs.Steps.{Inside, is_inside, found_shorter, is_middle, is_end, is_wrong, middle_reads, end_reads, parameter_shorter, parameter_long, parameter_joined, middle_again, end_again, fault_again}
-use Rattle.pcl_escape.proofs.Starts.{piece_reads, silent_again, control_again, text_again, two_again, inside_again, field_apart, exit_again, in_line_again, unknown_control_again, lone_escape_again, no_sequence_again, unknown_two_again, no_group_again, bad_group_again, start_step}
+use Rattle.pcl_escape.proofs.Starts.{piece_reads, named_again, unknown_again, at_control, at_two, at_prefix, text_again, inside_again, field_apart, exit_again, in_line_again, start_step}
 use Rattle.pcl_escape.proofs.Runs.{Last, no_more, first_fault, sequence_bytes, place_from, place_from_more, place_in_sequence, place_prefixed, grouped_any, middle_grouped, place_of, place_further, place_in, with_fronts, no_front, start_shorter}
 
 -- ---- any number of steps that is enough
@@ -176,14 +178,15 @@ piece_on piece {n} at {rest} long e h gives =
 piece_again : (piece : Piece) (n at : ℕ) (bytes : List ℕ) {read : Result (List Said) Refusal} → IsPiece piece bytes
     → length (spelling piece ++ bytes) < n → Gives (at + length (spelling piece)) bytes read
     → outcome n None at (spelling piece ++ bytes) ≡ with_front (commands_from at piece) read
+unfolding start_at
 piece_again piece zero at bytes is h gives = absurd (omega arith)
-piece_again (silent byte) (suc n) at bytes is h gives = piece_on (silent byte) at (omega arith) (silent_again at byte is) h gives
+piece_again (silent byte) (suc n) at bytes is h gives = piece_on (silent byte) at {said = None} (omega arith) (rw is refl) h gives
 piece_again (control code) (suc n) at bytes is h gives =
-    piece_on (control code) at (omega arith) (control_again is.0 is.1 is.2) h gives
+    piece_on (control code) at (omega arith) (at_control at code bytes is.0 is.1 ∙ named_again (operation_of (One code)) is.2) h gives
 piece_again (text []) (suc n) at bytes is h gives = absurd is
 piece_again (text (byte ∷ more)) (suc n) at bytes is h gives = piece_on (text (byte ∷ more)) at (omega arith) (text_again is) h gives
 piece_again (two_character byte) (suc n) at bytes is h gives =
-    piece_on (two_character byte) at (omega arith) (two_again at byte bytes is.0 is.1) h gives
+    piece_on (two_character byte) at (omega arith) (at_two at byte bytes is.0 ∙ named_again (operation_of (One byte)) is.1) h gives
 piece_again (combined prefix middle end sent) (suc n) at bytes is h gives =
     let long = simp length-append at h in
     rw (append_assoc (prefix_bytes prefix) (sequence_bytes middle end sent) bytes, whole_on n at middle bytes is.0 is.1 is.2)
@@ -191,28 +194,23 @@ piece_again (combined prefix middle end sent) (suc n) at bytes is h gives =
     (rw (← place_prefixed at prefix (sequence_bytes middle end sent)) at gives))
 piece_again (exit field lines) (suc n) at bytes is h gives = piece_on (exit field lines) at (omega arith) (exit_again is) h gives
 
--- a first step that fails ends the reading
-at_once : (n at byte : ℕ) (rest : List ℕ) {refusal : Refusal} → start_at at (byte ∷ rest) ≡ Err refusal
-    → outcome (suc n) None at (byte ∷ rest) ≡ Err refusal
-unfolding outcome
-at_once n at byte rest e = rw e refl
-
 -- the fault at a place outside sequences is found
 fault_found : {n at : ℕ} {bytes : List ℕ} {refusal : Refusal} → Fails at bytes refusal → length bytes < suc n
     → outcome (suc n) None at bytes ≡ Err refusal
-fault_found {n} {at} (unknown_control {code = code} {bytes = rest} c s o) h = at_once n at code rest (unknown_control_again rest c s o)
-fault_found {n} {at} lone_escape h = at_once n at 27 [] lone_escape_again
-fault_found {n} {at} (no_sequence {byte = byte} {bytes = rest} t p) h = at_once n at 27 (byte ∷ rest) (no_sequence_again byte rest t p)
-fault_found {n} {at} (unknown_two {byte = byte} {bytes = rest} t o) h = at_once n at 27 (byte ∷ rest) (unknown_two_again rest t o)
-fault_found {n} {at} (no_group {byte = byte} p u) h = at_once n at 27 (byte ∷ []) (no_group_again p)
-fault_found {n} {at} (bad_group {byte = byte} {group = group} {bytes = rest} p u g) h =
-    at_once n at 27 (byte ∷ group ∷ rest) (bad_group_again group rest p u g)
+unfolding outcome start_at sequence_at prefix_at
+fault_found {at} (unknown_control {code = code} {bytes = rest} c s o) h =
+    rw (at_control at code rest c s, unknown_again rest (operation_of (One code)) o) refl
+fault_found lone_escape h = refl
+fault_found (no_sequence t p) h = rw (t, p) refl
+fault_found {at} (unknown_two {byte = byte} {bytes = rest} t o) h =
+    rw (at_two at byte rest t, unknown_again rest (operation_of (One byte)) o) refl
+fault_found {at} (no_group {byte = byte} p u) h = rw (at_prefix at byte [] p) refl
+fault_found {at} (bad_group {byte = byte} {group = group} {bytes = rest} p u g) h = rw (at_prefix at byte (group ∷ rest) p, g, u) refl
 fault_found {n} {at} (in_parameter prefix middle is apart each f) h =
     let long = simp length-append at h in
     rw (broken_on n at middle is apart each f) (broken_again middle n at (first_place at prefix) each
     (rw (← place_in_sequence at prefix middle) at f) (simp length-append (omega arith)))
-fault_found {n} {at} (in_line {bytes = rest} field lines line f x e each ends l p) h =
-    at_once n at 27 (37 ∷ (field_bytes field ++ 88 ∷ (joined lines ++ (line ++ rest)))) (in_line_again at field lines f x e each ends l p)
+fault_found {at} (in_line field lines line f x e each ends l p) h = rw (in_line_again at field lines f x e each ends l p) refl
 
 -- what stands after the last piece is read so
 last_again : (n : ℕ) {at : ℕ} {behind : List ℕ} {last : Result (List Said) Refusal} → Last at behind last → length behind < n

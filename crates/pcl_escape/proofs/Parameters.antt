@@ -1,5 +1,5 @@
 -- What a step of the code reads inside a sequence, by what it found: no letter, a fault of the checks, or a parameter.
-use Rattle.std.proofs.Common.{◌≡◌, ℕ, ◌+◌, ◌-◌, Bool, true, false, if◌then◌else◌, List, [], ◌∷◌, length, take, drop, Option, Some, None, Result, Ok, Err, refl, sym, ap, subst, ◌∙◌}
+use Rattle.std.proofs.Common.{◌≡◌, ℕ, ◌+◌, ◌-◌, Bool, true, false, if◌then◌else◌, List, [], ◌∷◌, length, take, drop, Option, Some, None, Result, Ok, Err, refl, sym, ap, subst, ◌∙◌, arith}
 use Rattle.std.specs.Bool.{then_some}
 use Rattle.pcl_base.specs.declared.kind.Kind.{Kind}
 use Rattle.pcl_base.specs.declared.kind.Kind.TheVariants.{Truncated, BadSequence, ValueRange, NotPcl}
@@ -59,11 +59,6 @@ checks_behind : {prefix : Prefix} (at : ℕ) (bytes : List ℕ) {field : Spelled
     ≡ checked_at prefix at letter (field_value field) after (parameter_checks name letter (field_value field) (length after))
 checks_behind {prefix} at bytes is = behind_field prefix at bytes is.front ∙ rw (← is.ends, is.named) refl
 
--- a value that isn't given is out of range
-not_given : (value : Value) (within : Bool) → None ≡ (if within then Some value else None) → within ≡ false
-not_given value true e = absurd cc
-not_given value false e = refl
-
 -- a value that is given is in range, and the field's
 given : {value read : Value} (within : Bool) → Some read ≡ (if within then Some value else None) → (within ≡ true) × (read ≡ value)
 given true e = (refl, cc)
@@ -75,8 +70,7 @@ pub range_behind : {prefix : Prefix} (at : ℕ) (bytes : List ℕ) {field : Spel
     → None ≡ (if in_range (field_value field) then Some (field_value field) else None)
     → parameter_at prefix at bytes ≡ Err (refusal ValueRange at name)
 unfolding parameter_checks
-range_behind at bytes {field} is v =
-    checks_behind at bytes is ∙ rw (not_given (field_value field) (in_range (field_value field)) v, is.named) refl
+range_behind at bytes is v = grind (arith, checks_behind at bytes is, is.named)
 
 -- the checks of a value in range are those of the operation
 operation_behind : {prefix : Prefix} (at : ℕ) (bytes : List ℕ) {field : Spelled} {letter : ℕ} {after : List ℕ} {name : Name} {value : Value}
@@ -111,7 +105,7 @@ pub data_behind : {prefix : Prefix} (at : ℕ) (bytes : List ℕ) {field : Spell
     → parameter_at prefix at bytes
     ≡ Ok record { said = Some record { at = at; name = name; value = value; bytes = sent }; rest = rest; inside = inside }
 data_behind {prefix} at bytes {letter = letter} is v e d r i =
-    let on = i ∙ some_if (goes_on letter) prefix in operation_behind at bytes is v e ∙ rw (is.named, d, r, on) refl
+    operation_behind at bytes is v e ∙ rw (is.named, d, r, i, some_if (goes_on letter) prefix) refl
 
 -- a line after a universal exit that asks for another language
 pub exit_refused : (at parameterized : ℕ) (bytes : List ℕ) {step : Reads} {said : Said} {place : ℕ}

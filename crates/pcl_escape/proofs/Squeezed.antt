@@ -12,10 +12,7 @@ use Rattle.pcl_escape.specs.Exit.{is_white_space, squeezed, names_language, name
 
 -- a byte after the line says what it says alone
 squeezed_more : (line : List ℕ) (byte : ℕ) → squeezed (line ++ byte ∷ []) ≡ squeezed line ++ squeezed (byte ∷ [])
-squeezed_more line byte =
-    ap (map to_ascii_uppercase) (filter-append (λ (byte : ℕ). not (is_white_space byte)) line (byte ∷ []))
-    ∙ map-append to_ascii_uppercase (filter (λ (byte : ℕ). not (is_white_space byte)) line)
-    (filter (λ (byte : ℕ). not (is_white_space byte)) (byte ∷ []))
+squeezed_more line byte = simp (filter-append, map-append)
 
 -- ---- one byte more of the line
 

@@ -210,24 +210,19 @@ start_step {at} {byte} {rest} =
 -- ---- from the parts to the step
 
 -- a name that is performed gives its command
-named_again : {at code : ℕ} {rest : List ℕ} (operation : Option Operation) → is_some operation ≡ true
+pub named_again : {at code : ℕ} {rest : List ℕ} (operation : Option Operation) → is_some operation ≡ true
     → named_by operation at code rest ≡ piece_reads (Some (bare_command at code)) rest
 named_again None s = absurd cc
 named_again (Some operation) s = refl
 
 -- a name that isn't performed is refused
-unknown_again : {at code : ℕ} (rest : List ℕ) (operation : Option Operation) → is_some operation ≡ false
+pub unknown_again : {at code : ℕ} (rest : List ℕ) (operation : Option Operation) → is_some operation ≡ false
     → named_by operation at code rest ≡ refuse UnsupportedCommand at (One code)
 unknown_again rest None s = refl
 unknown_again rest (Some operation) s = absurd cc
 
--- a step reads a silent byte
-pub silent_again : (at byte : ℕ) {rest : List ℕ} → is_silent byte ≡ true → start_at at (byte ∷ rest) ≡ piece_reads None rest
-unfolding start_at
-silent_again at byte s = rw s refl
-
 -- a step at a control code looks at its name
-at_control : (at code : ℕ) (rest : List ℕ) → is_control code ≡ true → is_silent code ≡ false
+pub at_control : (at code : ℕ) (rest : List ℕ) → is_control code ≡ true → is_silent code ≡ false
     → start_at at (code ∷ rest) ≡ named_by (operation_of (One code)) at code rest
 unfolding start_at named_at
 at_control at code rest c s = grind (arith, nat_tests)
@@ -241,20 +236,15 @@ unfolding start_at text_at
 at_text byte rest t = grind (arith, nat_tests)
 
 -- a step at a two-character sequence looks at its name
-at_two : (at byte : ℕ) (rest : List ℕ) → is_two_character byte ≡ true
+pub at_two : (at byte : ℕ) (rest : List ℕ) → is_two_character byte ≡ true
     → start_at at (27 ∷ byte ∷ rest) ≡ named_by (operation_of (One byte)) at byte rest
 unfolding start_at sequence_at named_at
 at_two at byte rest t = rw t refl
 
 -- a step at a parameterized character looks at the group character
-at_prefix : (at byte : ℕ) (rest : List ℕ) → is_parameterized byte ≡ true → start_at at (27 ∷ byte ∷ rest) ≡ prefix_at at byte rest
+pub at_prefix : (at byte : ℕ) (rest : List ℕ) → is_parameterized byte ≡ true → start_at at (27 ∷ byte ∷ rest) ≡ prefix_at at byte rest
 unfolding start_at sequence_at
 at_prefix at byte rest p = grind (arith, nat_tests)
-
--- a step reads a control code
-pub control_again : {at code : ℕ} {rest : List ℕ} → is_control code ≡ true → is_silent code ≡ false → IsNamed (One code)
-    → start_at at (code ∷ rest) ≡ piece_reads (Some (bare_command at code)) rest
-control_again {at} {code} {rest} c s n = at_control at code rest c s ∙ named_again (operation_of (One code)) n
 
 -- a step reads a run of text
 pub text_again : {at byte : ℕ} {more rest : List ℕ} → IsRun (byte ∷ more) rest
@@ -263,11 +253,6 @@ text_again {at} {byte} {more} {rest} is =
     let reads : List ℕ × List ℕ → Result Reads Refusal = λ parts. piece_reads (Some (text_command at parts.0)) parts.1 in
     at_text byte (more ++ rest) is.0.0
     ∙ ap reads (front_again is_text (byte ∷ more) rest is.0 (text_stops rest is.1))
-
--- a step reads a two-character sequence
-pub two_again : (at byte : ℕ) (rest : List ℕ) → is_two_character byte ≡ true → IsNamed (One byte)
-    → start_at at (27 ∷ byte ∷ rest) ≡ piece_reads (Some (bare_command at byte)) rest
-two_again at byte rest t n = at_two at byte rest t ∙ named_again (operation_of (One byte)) n
 
 -- ---- the first parameter of a sequence
 
@@ -353,37 +338,3 @@ in_line_again at field lines {line} {rest} f x e each ends l p =
       exit_first at field (joined lines ++ (line ++ rest)) f x e,
       foreign_again lines (at + 3 + length (field_bytes field)) each ends l p,
     ) refl
-
--- ---- faults
-
--- a step refuses a control code that isn't performed
-pub unknown_control_again : {at code : ℕ} (rest : List ℕ) → is_control code ≡ true → is_silent code ≡ false
-    → is_some (operation_of (One code)) ≡ false → start_at at (code ∷ rest) ≡ Err (refusal UnsupportedCommand at (One code))
-unknown_control_again {at} {code} rest c s n = at_control at code rest c s ∙ unknown_again rest (operation_of (One code)) n
-
--- a step refuses an ESC with nothing after it
-pub lone_escape_again : {at : ℕ} → start_at at (27 ∷ []) ≡ Err (refusal Truncated at Empty)
-unfolding start_at sequence_at
-lone_escape_again = refl
-
--- a step refuses an ESC with no second byte of a sequence after it
-pub no_sequence_again : {at : ℕ} (byte : ℕ) (rest : List ℕ) → is_two_character byte ≡ false → is_parameterized byte ≡ false
-    → start_at at (27 ∷ byte ∷ rest) ≡ Err (refusal BadSequence at Empty)
-unfolding start_at sequence_at
-no_sequence_again byte rest t p = rw (t, p) refl
-
--- a step refuses a two-character sequence that isn't performed
-pub unknown_two_again : {at byte : ℕ} (rest : List ℕ) → is_two_character byte ≡ true → is_some (operation_of (One byte)) ≡ false
-    → start_at at (27 ∷ byte ∷ rest) ≡ Err (refusal UnsupportedCommand at (One byte))
-unknown_two_again {at} {byte} rest t n = at_two at byte rest t ∙ unknown_again rest (operation_of (One byte)) n
-
--- a step refuses a sequence that ends before its group character
-pub no_group_again : {at byte : ℕ} → is_parameterized byte ≡ true → start_at at (27 ∷ byte ∷ []) ≡ Err (refusal Truncated at (One byte))
-unfolding prefix_at
-no_group_again {at} {byte} p = at_prefix at byte [] p
-
--- a step refuses a sequence with another byte in place of the group character
-pub bad_group_again : {at byte : ℕ} (group : ℕ) (rest : List ℕ) → is_parameterized byte ≡ true → is_ungrouped byte ≡ false
-    → is_group group ≡ false → start_at at (27 ∷ byte ∷ group ∷ rest) ≡ Err (refusal BadSequence at (One byte))
-unfolding prefix_at
-bad_group_again {at} {byte} group rest p u g = at_prefix at byte (group ∷ rest) p ∙ rw (g, u) refl

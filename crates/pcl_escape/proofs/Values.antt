@@ -1,6 +1,6 @@
 -- The value of a field of the code, whose digits before the point are read up to a limit.
 use Rattle.std.proofs.Common.{◌≡◌, ℕ, ◌+◌, ◌*◌, ◌≤◌, min, Bool, true, false, nat_le, if◌then◌else◌, List, [], Option, Some, None, refl, ◌∙◌, arith}
-use Rattle.std.proofs.lemmas.Bool.{leb-true, leb-false, lt-leb}
+use Rattle.std.proofs.lemmas.Bool.Decides.{nat_tests}
 use Rattle.std.specs.Bool.{then_some}
 use Rattle.std.specs.Borrow.{Bor}
 use Rattle.std.specs.Option.{unwrap_or}
@@ -20,25 +20,17 @@ reach Plus = omega arith
 reach Minus = omega arith
 
 -- the number up to the limit gives the same value where that is in range, and none where it isn't
-cut_value : (within : Bool) (sign : Sign) (n t : ℕ) → nat_le (n * 10000 + t) (greatest_parts sign) ≡ within
+cut_value : (sign : Sign) (n t : ℕ)
     → then_some {T = Value} (nat_le (min n 65536 * 10000 + t) (greatest_parts sign)) (value_with sign (min n 65536) t)
     ≡ (if in_range (value_with sign n t) then Some (value_with sign n t) else None)
-cut_value true sign n t e =
-    let limit = reach sign in
-    let below : n * 10000 + t ≤ greatest_parts sign = leb-true (n * 10000 + t) (greatest_parts sign) e in
-    let whole : min n 65536 ≡ n = omega arith in
-    rw (whole, e) refl
-cut_value false sign n t e =
-    let limit = reach sign in
-    let above = leb-false (n * 10000 + t) (greatest_parts sign) e in
-    rw (lt-leb (min n 65536 * 10000 + t) (greatest_parts sign) (omega arith), e) refl
+cut_value sign n t = let limit = reach sign in grind (arith, nat_tests)
 
 -- the same of numbers that are known by equations
 pub value_read : {value : Option Value} (sign : Sign) (n t : ℕ) {number digits greatest : ℕ}
     → value ≡ then_some {T = Value} (nat_le (number * 10000 + digits) greatest) (value_with sign number digits) → number ≡ min n 65536
     → digits ≡ t → greatest ≡ greatest_parts sign
     → value ≡ (if in_range (value_with sign n t) then Some (value_with sign n t) else None)
-value_read sign n t v e d g = v ∙ rw (e, d, g) (cut_value (nat_le (n * 10000 + t) (greatest_parts sign)) sign n t refl)
+value_read sign n t v e d g = v ∙ rw (e, d, g) (cut_value sign n t)
 
 -- the digits after the point, none where there is no point
 pub fraction_read : (fraction : Option (Bor (List ℕ))) (none : Bor (List ℕ)) → none.now ≡ []
