@@ -1,9 +1,10 @@
 -- How many data bytes a command takes, by the whole part that the code has as a signed number.
-use Rattle.std.proofs.Common.{◌≡◌, ℕ, zero, suc, ℤ, pos, nat_abs, int_lt, ◌≤◌, ◌<◌, ◌≢◌, true, false, ◌&&◌, nat_lt, Option, Some, Ok, Err, refl, sym, ap, ◌∙◌}
+use Rattle.std.proofs.Common.{◌≡◌, ℕ, zero, suc, ℤ, pos, nat_abs, int_lt, ◌≤◌, ◌<◌, ◌≢◌, true, false, ◌&&◌, nat_lt, if◌then◌else◌, Option, Some, Result, Ok, Err, refl, sym, ap, ◌∙◌}
 use Rattle.std.proofs.lemmas.Bool.{ne_eqb, lt-ltb, le-ltb}
 use Rattle.std.proofs.lemmas.Int.{to_z-of_z}
 use Rattle.std.specs.Int.{w32, cast_signed, cast_unsigned}
 use Rattle.std.specs.Int.Signed.{mag}
+use Rattle.pcl_base.specs.declared.kind.Kind.{Kind}
 use Rattle.pcl_base.specs.declared.kind.Kind.TheVariants.{Truncated, BadSequence}
 use Rattle.pcl_base.specs.declared.operation.Operation.{Operation}
 use Rattle.pcl_base.specs.declared.value.Sign.{Sign}
@@ -40,22 +41,11 @@ counts value {y} {z} fits a b e =
     (ap (λ (x : ℤ). int_lt x (pos 0)) (sym same ∙ ap through_bits (b ∙ sym a)) ∙ e) in
     record { not_below = parts.0; whole = parts.1 ∙ ap nat_abs (sym same) }
 
--- the checks of a command that takes data
-pub takes : {named : Option Operation} {operation : Operation} (letter : ℕ) (value : Value) (left : ℕ) → Some operation ≡ named
-    → takes_data operation ≡ true → operation_checks named letter value left ≡ data_checks letter value left
-takes {operation} letter value left e t =
-    ap (λ (o : Option Operation). operation_checks o letter value left) (sym e) ∙ rw t refl
+-- the checks of a value that counts bytes, of which there are as many as are left
+abbrev pub counted_checks : ℕ → ℕ → ℕ → Result ℕ Kind
+counted_checks letter n left = if goes_on letter then Err BadSequence else (if nat_lt left n then Err Truncated else Ok n)
 
--- a middle parameter can't count bytes
-pub middle_counts : {value : Value} {n : ℕ} (letter left : ℕ) → Counts value n → n ≢ 0 → true ≡ goes_on letter
-    → data_checks letter value left ≡ Err BadSequence
-middle_counts {n = n} letter left c some on = rw (c.not_below, c.whole, ne_eqb n 0 some, ← on) refl
-
--- a last one counts no more than there are
-pub end_short : {value : Value} {n : ℕ} (letter left : ℕ) → Counts value n → n ≢ 0 → false ≡ goes_on letter → left < n
-    → data_checks letter value left ≡ Err Truncated
-end_short {n = n} letter left c some on h = rw (c.not_below, c.whole, ne_eqb n 0 some, ← on, lt-ltb left n h) refl
-
-pub end_counts : {value : Value} {n : ℕ} (letter left : ℕ) → Counts value n → n ≢ 0 → false ≡ goes_on letter → n ≤ left
-    → data_checks letter value left ≡ Ok n
-end_counts {n = n} letter left c some on h = rw (c.not_below, c.whole, ne_eqb n 0 some, ← on, le-ltb left n h) refl
+-- they are the checks of a command that takes data
+pub counted : {named : Option Operation} {operation : Operation} {value : Value} {n : ℕ} (letter left : ℕ) → Some operation ≡ named
+    → takes_data operation ≡ true → Counts value n → n ≢ 0 → operation_checks named letter value left ≡ counted_checks letter n left
+counted {n = n} letter left e t c some = rw (← e, t, c.not_below, c.whole, ne_eqb n 0 some) refl

@@ -250,11 +250,6 @@ pub at_asking_line : (place : ℕ) {bytes line behind : List ℕ} {pcl : Bool} �
 unfolding lines_from
 at_asking_line place cut l p = rw (← cut.job, ← cut.line_is, ← l, ← p, cut.behind_is) refl
 
--- a place after two parts, counted from the end
-pub place_later : (place : ℕ) {all rest behind : ℕ} → rest ≤ all → behind ≤ rest
-    → (place + (all - rest)) + (rest - behind) ≡ place + (all - behind)
-place_later place h k = omega arith
-
 -- what stands after lines is no longer than what stands before them
 skipped_within : {place : ℕ} {bytes rest : List ℕ} {read : Result (List ℕ) ℕ} → Lines place bytes read → read ≡ Ok rest
     → length rest ≤ length bytes

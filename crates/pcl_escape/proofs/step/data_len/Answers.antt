@@ -1,24 +1,34 @@
-use Rattle.std.proofs.Common.{sym, ◌∙◌, arith}
-use Rattle.pcl_escape.proofs.Data.{counts, takes, middle_counts, end_short, end_counts}
+use Rattle.std.proofs.Common.{◌≡◌, ◌≢◌, nat_abs, refl, sym, arith}
+use Rattle.std.proofs.lemmas.Bool.{lt-ltb, le-ltb}
+use Rattle.pcl_base.specs.Operation.{operation_of}
+use Rattle.pcl_escape.specs.Checks.{operation_checks}
+use Rattle.pcl_escape.proofs.Data.{through_bits, counts, counted, counted_checks}
 use Rattle.pcl_escape.proofs.step.data_len.Goals as goal
+use Rattle.pcl_escape.proofs.step.data_len.Goals.{After-whole-in-Some-3}
+
+-- where the whole part isn't 0, it counts bytes
+checks : (c : After-whole-in-Some-3) → nat_abs (through_bits c.whole-in-Some-3.result) ≢ 0
+    → operation_checks (operation_of c.args.name) c.args.letter c.args.value c.args.left
+    ≡ counted_checks c.args.letter (nat_abs (through_bits c.whole-in-Some-3.result)) c.args.left
+checks c some = counted c.args.letter c.args.left c.in-Some.ensures (sym c.if-not-takes_data.ensures)
+    (counts c.args.value c.whole-in-Some-3.type_inv c.whole.ensures c.whole-in-Some-3.ensures c.if-whole-lt0.false) some
 
 pub returns-in_default-clause-checks : goal.returns-in_default-clause-checks
 returns-in_default-clause-checks c =
-    let a = c.args in
-    let n = counts a.value c.whole-in-Some-3.type_inv c.whole.ensures c.whole-in-Some-3.ensures c.if-whole-lt0.false in
-    sym (takes a.letter a.value a.left c.in-Some.ensures (sym c.if-not-takes_data.ensures)
-    ∙ middle_counts a.letter a.left n (omega arith) c.if-goes_on.ensures)
+    rw (checks (goal.at.returns-in_default-clause-checks c).After-whole-in-Some-3 (omega arith), ← c.if-goes_on.ensures) refl
 
 pub returns-in_default-2-clause-checks : goal.returns-in_default-2-clause-checks
 returns-in_default-2-clause-checks c =
-    let a = c.args in
-    let n = counts a.value c.whole-in-Some-3.type_inv c.whole.ensures c.whole-in-Some-3.ensures c.if-whole-lt0.false in
-    sym (takes a.letter a.value a.left c.in-Some.ensures (sym c.if-not-takes_data.ensures)
-    ∙ end_short a.letter a.left n (omega arith) c.if-goes_on.ensures c.if-left-len.true)
+    rw (
+      checks (goal.at.returns-in_default-2-clause-checks c).After-whole-in-Some-3 (omega arith),
+      ← c.if-goes_on.ensures,
+      lt-ltb _ _ c.if-left-len.true,
+    ) refl
 
 pub returns-in_default-3-clause-checks : goal.returns-in_default-3-clause-checks
 returns-in_default-3-clause-checks c =
-    let a = c.args in
-    let n = counts a.value c.whole-in-Some-3.type_inv c.whole.ensures c.whole-in-Some-3.ensures c.if-whole-lt0.false in
-    sym (takes a.letter a.value a.left c.in-Some.ensures (sym c.if-not-takes_data.ensures)
-    ∙ end_counts a.letter a.left n (omega arith) c.if-goes_on.ensures c.if-left-len.false)
+    rw (
+      checks (goal.at.returns-in_default-3-clause-checks c).After-whole-in-Some-3 (omega arith),
+      ← c.if-goes_on.ensures,
+      le-ltb _ _ c.if-left-len.false,
+    ) refl
