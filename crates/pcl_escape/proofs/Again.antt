@@ -12,7 +12,7 @@ use Rattle.pcl_base.specs.declared.name.Name.TheVariants.{One}
 use Rattle.pcl_escape.specs.inner.Scan.{Reads, start_at, sequence_at, prefix_at, parameter_at, commands_said, with_front, and_then, outcome, outcome_of}
 use Rattle.pcl_escape.specs.Pieces.{Parameter, Piece, silent, control, text, two_character, combined, exit, IsPrefix, IsPiece, ArePieces, IsMiddle, IsEnd, IsReading, parameter_bytes, spelling, command_of, parameter_commands, first_place, commands_from, commands_of}
 use Rattle.pcl_escape.specs.Faults.{Fails, unknown_control, lone_escape, no_sequence, unknown_two, no_group, bad_group, in_parameter, in_line, IsUngrouped, FailsParameter, place_behind, IsFault}
-use Rattle.pcl_escape.proofs.Steps.{Inside, is_inside, found_shorter, is_middle, is_end, is_wrong, middle_reads, end_reads, parameter_shorter, parameter_long, parameter_joined, middle_again, end_again, fault_again}
+use Rattle.pcl_escape.proofs.Steps.{Inside, is_inside, found_shorter, is_middle, is_end, is_wrong, parameter_shorter, parameter_joined, inside_reads}
 use Rattle.pcl_escape.proofs.Starts.{piece_reads, named_again, unknown_again, at_control, at_two, at_prefix, text_again, inside_again, field_apart, exit_again, in_line_again, start_step}
 use Rattle.pcl_escape.proofs.Runs.{Last, no_more, first_fault, sequence_bytes, place_from, place_from_more, place_in_sequence, place_prefixed, grouped_any, middle_grouped, place_of, place_further, place_in, with_fronts, no_front, start_shorter}
 
@@ -55,29 +55,30 @@ middle_on : (n : ℕ) {prefix : Prefix} (at begin : ℕ) {parameter : Parameter}
     ≡ with_front (command_of prefix at parameter [] ∷ [])
     (steps_in n prefix (begin + length (parameter_bytes parameter)) (begin + length (parameter_bytes parameter)) rest)
 unfolding outcome
-middle_on n at begin {parameter} rest is = rw (middle_again is, place_of begin (parameter_bytes parameter) rest) refl
+middle_on n at begin {parameter} rest is = rw (inside_reads (is_middle parameter rest is), place_of begin (parameter_bytes parameter) rest) refl
 
 -- the steps from a whole rest of a sequence on
 whole_again : (middle : List Parameter) (n : ℕ) {prefix : Prefix} (at begin : ℕ) {end : Parameter} {sent : List ℕ} (behind : List ℕ)
     {read : Result (List Said) Refusal} → AllByRecursion (IsMiddle prefix) middle → IsEnd prefix end sent
-    → length (sequence_bytes middle end sent ++ behind) ≤ n → Gives (begin + length (sequence_bytes middle end sent)) behind read
-    → steps_in n prefix at begin (sequence_bytes middle end sent ++ behind) ≡ with_front
-    (parameter_commands prefix at begin middle end sent) read
+    → length (flat_map parameter_bytes middle ++ (parameter_bytes end ++ (sent ++ behind))) ≤ n
+    → Gives (begin + length (sequence_bytes middle end sent)) behind read
+    → steps_in n prefix at begin (flat_map parameter_bytes middle ++ (parameter_bytes end ++ (sent ++ behind)))
+    ≡ with_front (parameter_commands prefix at begin middle end sent) read
 whole_again [] n at begin {end} {sent} behind each is h gives =
     let long = simp length-append at h in
     let place : begin + (length (parameter_bytes end ++ (sent ++ behind)) - length behind) ≡ begin + length (parameter_bytes end ++ sent) =
     simp length-append (omega arith) in
-    rw (append_assoc (parameter_bytes end) sent behind, end_again is, place, gives n (omega arith)) refl
+    rw (inside_reads (is_end end sent behind is), place, gives n (omega arith)) refl
 whole_again (parameter ∷ middle) zero at begin behind each is h gives = absurd (let long = simp length-append at h in omega arith)
 whole_again (parameter ∷ middle) (suc n) {prefix} at begin {end} {sent} behind {read} each is h gives =
     let next = begin + length (parameter_bytes parameter) in
     let long = simp length-append at h in
     let place : begin + length (sequence_bytes (parameter ∷ middle) end sent) ≡ next + length (sequence_bytes middle end sent) =
     simp length-append (omega arith) in
+    let rest = parameter_bytes end ++ (sent ++ behind) in
     rw (
-      append_assoc (parameter_bytes parameter) (flat_map parameter_bytes middle) (parameter_bytes end ++ sent),
-      append_assoc (parameter_bytes parameter) (sequence_bytes middle end sent) behind,
-      middle_on n at begin (sequence_bytes middle end sent ++ behind) each.0,
+      append_assoc (parameter_bytes parameter) (flat_map parameter_bytes middle) rest,
+      middle_on n at begin (flat_map parameter_bytes middle ++ rest) each.0,
       whole_again middle n next next behind each.1 is (simp length-append (omega arith)) (rw place at gives),
     )
     (with_fronts (command_of prefix at parameter [] ∷ []) (parameter_commands prefix next next middle end sent) read)
@@ -87,7 +88,7 @@ broken_again : (middle : List Parameter) (n : ℕ) {prefix : Prefix} (at begin :
     → AllByRecursion (IsMiddle prefix) middle → FailsParameter prefix (place_from at begin middle) bytes refusal
     → length (flat_map parameter_bytes middle ++ bytes) ≤ n → steps_in n prefix at begin (flat_map parameter_bytes middle ++ bytes)
     ≡ Err refusal
-broken_again [] n at begin each f h = rw (fault_again f) refl
+broken_again [] n at begin each f h = rw (inside_reads (is_wrong f)) refl
 broken_again (parameter ∷ middle) zero at begin each f h = absurd (let long = simp length-append at h in omega arith)
 broken_again (parameter ∷ middle) (suc n) at begin {bytes} each f h =
     let next = begin + length (parameter_bytes parameter) in
@@ -99,56 +100,29 @@ broken_again (parameter ∷ middle) (suc n) at begin {bytes} each f h =
     ) refl
 
 -- the steps from ESC on are those from the first parameter on, whose command has the place of ESC
-first_on : (n : ℕ) (prefix : Prefix) (at : ℕ) (bytes : List ℕ) (read : Result Reads Refusal) → IsPrefix prefix
-    → IsUngrouped prefix.group bytes → Inside prefix at bytes read → parameter_at prefix at bytes ≡ read
+first_on : (n : ℕ) (prefix : Prefix) (at : ℕ) (bytes : List ℕ) {read : Result Reads Refusal} → IsPrefix prefix
+    → IsUngrouped prefix.group bytes → Inside prefix at bytes read
     → outcome (suc n) None at (27 ∷ (prefix_bytes prefix ++ bytes)) ≡ steps_in n prefix at (first_place at prefix) bytes
 unfolding outcome
-first_on n prefix at bytes read is apart inside e = rw (inside_again is apart inside e, e)
+first_on n prefix at bytes {read} is apart inside = rw (inside_again is apart inside, inside_reads inside)
     (after_same read _ _ (λ reads f. rw (place_in at prefix bytes (found_shorter (is_inside inside) f)) refl))
-
--- the same where the first one is a middle parameter
-middle_first_on : (n : ℕ) {prefix : Prefix} (at : ℕ) {parameter : Parameter} (rest : List ℕ) → IsPrefix prefix → IsMiddle prefix parameter
-    → outcome (suc n) None at (27 ∷ (prefix_bytes prefix ++ (parameter_bytes parameter ++ rest)))
-    ≡ steps_in n prefix at (first_place at prefix) (parameter_bytes parameter ++ rest)
-middle_first_on n {prefix} at {parameter} rest is m =
-    first_on n prefix at (parameter_bytes parameter ++ rest) (middle_reads prefix at parameter rest) is
-    (grouped_any prefix.group (parameter_bytes parameter ++ rest) (middle_grouped m)) (is_middle parameter rest m) (middle_again m)
 
 -- what holds where there is no group character holds where there may be one
 ungrouped_front : (group : Option ℕ) (bytes : List ℕ) → IsUngrouped None bytes → IsUngrouped group bytes
 ungrouped_front None bytes n = n
 ungrouped_front (Some group) bytes n = tt
 
--- a sequence begins with a middle parameter or its last one
-whole_on : (n : ℕ) {prefix : Prefix} (at : ℕ) (middle : List Parameter) {end : Parameter} {sent : List ℕ} (behind : List ℕ)
-    → IsPrefix prefix
-    → AllByRecursion (IsMiddle prefix) middle → IsEnd prefix end sent
-    → outcome (suc n) None at (27 ∷ (prefix_bytes prefix ++ (sequence_bytes middle end sent ++ behind)))
-    ≡ steps_in n prefix at (first_place at prefix) (sequence_bytes middle end sent ++ behind)
-whole_on n {prefix} at [] {end} {sent} behind is each last =
-    let apart = field_apart end.field end.letter (sent ++ behind) last.field last.letter in
-    rw (append_assoc (parameter_bytes end) sent behind)
-    (first_on n prefix at (parameter_bytes end ++ (sent ++ behind)) (end_reads prefix at end sent behind) is
-    (ungrouped_front prefix.group _ (rw (parameter_joined end.field end.letter (sent ++ behind)) apart))
-    (is_end end sent behind last) (end_again last))
-whole_on n at (parameter ∷ middle) {end} {sent} behind is each last =
-    rw (
-      append_assoc (parameter_bytes parameter) (flat_map parameter_bytes middle) (parameter_bytes end ++ sent),
-      append_assoc (parameter_bytes parameter) (sequence_bytes middle end sent) behind,
-    )
-    (middle_first_on n at (sequence_bytes middle end sent ++ behind) is each.0)
-
--- so does one in which a parameter fails, or it begins with that
-broken_on : (n : ℕ) {prefix : Prefix} (at : ℕ) (middle : List Parameter) {bytes : List ℕ} {refusal : Refusal} → IsPrefix prefix
-    → IsUngrouped prefix.group bytes → AllByRecursion (IsMiddle prefix) middle
-    → FailsParameter prefix (place_behind at prefix middle) bytes refusal
+-- a sequence begins with a middle parameter, or with what is behind these
+sequence_on : (n : ℕ) {prefix : Prefix} (at : ℕ) (middle : List Parameter) {bytes : List ℕ} {read : Result Reads Refusal} → IsPrefix prefix
+    → IsUngrouped prefix.group bytes → AllByRecursion (IsMiddle prefix) middle → Inside prefix (place_behind at prefix middle) bytes read
     → outcome (suc n) None at (27 ∷ (prefix_bytes prefix ++ (flat_map parameter_bytes middle ++ bytes)))
     ≡ steps_in n prefix at (first_place at prefix) (flat_map parameter_bytes middle ++ bytes)
-broken_on n {prefix} at [] {bytes} {refusal} is apart each f =
-    first_on n prefix at bytes (Err refusal) is apart (is_wrong f) (fault_again f)
-broken_on n at (parameter ∷ middle) {bytes} is apart each f =
+sequence_on n {prefix} at [] {bytes} is apart each inside = first_on n prefix at bytes is apart inside
+sequence_on n {prefix} at (parameter ∷ middle) {bytes} is apart each inside =
+    let rest = flat_map parameter_bytes middle ++ bytes in
     rw (append_assoc (parameter_bytes parameter) (flat_map parameter_bytes middle) bytes)
-    (middle_first_on n at (flat_map parameter_bytes middle ++ bytes) is each.0)
+    (first_on n prefix at (parameter_bytes parameter ++ rest) is
+    (grouped_any prefix.group (parameter_bytes parameter ++ rest) (middle_grouped each.0)) (is_middle parameter rest each.0))
 
 -- ---- pieces
 
@@ -189,7 +163,15 @@ piece_again (two_character byte) (suc n) at bytes is h gives =
     piece_on (two_character byte) at (omega arith) (at_two at byte bytes is.0 ∙ named_again (operation_of (One byte)) is.1) h gives
 piece_again (combined prefix middle end sent) (suc n) at bytes is h gives =
     let long = simp length-append at h in
-    rw (append_assoc (prefix_bytes prefix) (sequence_bytes middle end sent) bytes, whole_on n at middle bytes is.0 is.1 is.2)
+    let apart = field_apart end.field end.letter (sent ++ bytes) is.2.field is.2.letter in
+    rw (
+      append_assoc (prefix_bytes prefix) (sequence_bytes middle end sent) bytes,
+      append_assoc (flat_map parameter_bytes middle) (parameter_bytes end ++ sent) bytes,
+      append_assoc (parameter_bytes end) sent bytes,
+      sequence_on n at middle is.0
+          (ungrouped_front prefix.group _ (rw (parameter_joined end.field end.letter (sent ++ bytes)) apart)) is.1
+          (is_end end sent bytes is.2),
+    )
     (whole_again middle n at (first_place at prefix) bytes is.1 is.2 (simp length-append (omega arith))
     (rw (← place_prefixed at prefix (sequence_bytes middle end sent)) at gives))
 piece_again (exit field lines) (suc n) at bytes is h gives = piece_on (exit field lines) at (omega arith) (exit_again is) h gives
@@ -208,7 +190,7 @@ fault_found {at} (no_group {byte = byte} p u) h = rw (at_prefix at byte [] p) re
 fault_found {at} (bad_group {byte = byte} {group = group} {bytes = rest} p u g) h = rw (at_prefix at byte (group ∷ rest) p, g, u) refl
 fault_found {n} {at} (in_parameter prefix middle is apart each f) h =
     let long = simp length-append at h in
-    rw (broken_on n at middle is apart each f) (broken_again middle n at (first_place at prefix) each
+    rw (sequence_on n at middle is apart each (is_wrong f)) (broken_again middle n at (first_place at prefix) each
     (rw (← place_in_sequence at prefix middle) at f) (simp length-append (omega arith)))
 fault_found {at} (in_line field lines line f x e each ends l p) h = rw (in_line_again at field lines f x e each ends l p) refl
 

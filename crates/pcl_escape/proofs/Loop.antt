@@ -62,18 +62,10 @@ pub stops_at : (front : List Said) (total : ℕ) (inside : Option Prefix) (rest 
     → step_at inside (total - length rest) rest ≡ Err fault → so_far front total inside rest ≡ Err fault
 stops_at front total inside rest goes e = rw (first_step (length rest) inside (total - length rest) rest goes, e) refl
 
--- no bytes outside sequences give no commands
-all_done : (front : List Said) (total : ℕ) → so_far front total None [] ≡ Ok front
-unfolding outcome
-all_done front total = simp append-nil
-
 -- at the end all was read
 pub is_done : (front : List Said) (total : ℕ) (inside : Option Prefix) (rest : List ℕ) → true ≡ (length rest == 0) → false ≡ is_some inside
     → so_far front total inside rest ≡ Ok front
-is_done front total None [] e i = all_done front total
-is_done front total None (byte ∷ rest) e i = let z : suc (length rest) ≡ 0 = eqb-true (suc (length rest)) 0 (sym e) in absurd (omega arith)
+unfolding outcome
+is_done front total None [] e i = simp append-nil
+is_done front total None (byte ∷ rest) e i = let z = eqb-true (suc (length rest)) 0 (sym e) in absurd (omega arith)
 is_done front total (Some prefix) rest e i = absurd cc
-
--- the place of the rest and its bytes fit where all bytes do
-pub place_fits : (total rest : ℕ) → rest ≤ total → total ≤ 18446744073709551615 → (total - rest) + rest ≤ 18446744073709551615
-place_fits total rest h f = omega arith

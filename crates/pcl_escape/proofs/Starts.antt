@@ -29,7 +29,7 @@ use Rattle.pcl_escape.proofs.Fields.{by_test}
 use Rattle.pcl_base.proofs.Fronts.{Pass, StopsAt, front_yes, front_split, front_again}
 use Rattle.pcl_escape.proofs.Lines.{Lines, skipped, foreign, lines_split, lines_again, foreign_again}
 use Rattle.pcl_escape.proofs.Checks.{exit_takes_none}
-use Rattle.pcl_escape.proofs.Steps.{Inside, is_middle, is_end, is_wrong, Found, is_inside, is_leave, IsLast, is_leaving, end_reads, parameter_step, grouped_step, parameter_joined, last_stops, last_again, middle_stays}
+use Rattle.pcl_escape.proofs.Steps.{Inside, is_middle, is_end, is_wrong, Found, is_inside, is_leave, IsLast, is_leaving, end_reads, parameter_step, grouped_step, parameter_joined, last_stops, last_again, middle_stays, inside_reads}
 
 -- what a step reads of a whole piece, which gives a command or none
 abbrev pub piece_reads : Option Said → List ℕ → Result Reads Refusal
@@ -299,10 +299,10 @@ no_lines false begin len (is_wrong f) = refl
 
 -- a step reads the first parameter as it would inside
 pub inside_again : {prefix : Prefix} {at : ℕ} {bytes : List ℕ} {read : Result Reads Refusal} → IsPrefix prefix
-    → IsUngrouped prefix.group bytes → Inside prefix at bytes read → parameter_at prefix at bytes ≡ read
+    → IsUngrouped prefix.group bytes → Inside prefix at bytes read
     → start_at at (27 ∷ (prefix_bytes prefix ++ bytes)) ≡ read
-inside_again {prefix} {at} {bytes} p n inside e =
-    first_again prefix at bytes p n ∙ rw e (no_lines (is_some prefix.group) (at + 2) (length bytes) inside)
+inside_again {prefix} {at} {bytes} p n inside =
+    first_again prefix at bytes p n ∙ rw (inside_reads inside) (no_lines (is_some prefix.group) (at + 2) (length bytes) inside)
 
 -- ---- universal exits
 

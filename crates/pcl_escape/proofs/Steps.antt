@@ -182,7 +182,7 @@ checks_behind : (prefix : Prefix) (at : ℕ) (field : Spelled) (letter : ℕ) (r
 checks_behind prefix at field letter rest f l = field_behind prefix at field (letter ∷ rest) f (grind (arith, nat_tests)) ∙ rw l refl
 
 -- a step reads a middle parameter
-pub middle_again : {prefix : Prefix} {at : ℕ} {parameter : Parameter} {rest : List ℕ} → IsMiddle prefix parameter
+middle_again : {prefix : Prefix} {at : ℕ} {parameter : Parameter} {rest : List ℕ} → IsMiddle prefix parameter
     → parameter_at prefix at (parameter_bytes parameter ++ rest) ≡ middle_reads prefix at parameter rest
 middle_again {prefix} {at} {parameter} {rest} m =
     let letter = parameter.letter in
@@ -212,15 +212,18 @@ last_again {prefix} at {parameter} {bytes} rest m =
       drop_at bytes rest (length bytes) refl,
     ) refl
 
-pub end_again : {prefix : Prefix} {at : ℕ} {parameter : Parameter} {bytes rest : List ℕ} → IsEnd prefix parameter bytes
-    → parameter_at prefix at (parameter_bytes parameter ++ (bytes ++ rest)) ≡ end_reads prefix at parameter bytes rest
-end_again {prefix} {at} {parameter} {bytes} {rest} m = last_again at rest
-    (record { field = m.field; letter = m.letter; checks = m.checks })
-
 -- a step finds the fault of a parameter
-pub fault_again : {prefix : Prefix} {at : ℕ} {bytes : List ℕ} {fault : Refusal} → FailsParameter prefix at bytes fault
+fault_again : {prefix : Prefix} {at : ℕ} {bytes : List ℕ} {fault : Refusal} → FailsParameter prefix at bytes fault
     → parameter_at prefix at bytes ≡ Err fault
 fault_again {prefix} {at} (cut field f) = ap (parameter_at prefix at) (sym (append-nil (field_bytes field)))
     ∙ field_behind prefix at field [] f tt
 fault_again {prefix} {at} (no_letter field byte rest f s l) = field_behind prefix at field (byte ∷ rest) f s ∙ rw l refl
 fault_again {prefix} {at} (check field letter rest kind f l e) = checks_behind prefix at field letter rest f l ∙ rw e refl
+
+-- a step reads what the bytes begin with
+pub inside_reads : {prefix : Prefix} {at : ℕ} {bytes : List ℕ} {read : Result Reads Refusal} → Inside prefix at bytes read
+    → parameter_at prefix at bytes ≡ read
+inside_reads (is_middle parameter rest m) = middle_again m
+inside_reads {at} (is_end parameter sent rest m) =
+    last_again at rest (record { field = m.field; letter = m.letter; checks = m.checks })
+inside_reads (is_wrong f) = fault_again f

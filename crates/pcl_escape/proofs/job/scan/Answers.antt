@@ -1,6 +1,6 @@
 use Rattle.std.proofs.Common.{◌-◌, length, arith, refl, sym, ap, ◌∙◌}
 use Rattle.pcl_escape.specs.inner.Scan.{step_view}
-use Rattle.pcl_escape.proofs.Loop.{GoesOn, goes_on_bytes, goes_on_inside, step_shorter, so_far, one_more, stops_at, is_done, place_fits}
+use Rattle.pcl_escape.proofs.Loop.{GoesOn, goes_on_bytes, goes_on_inside, step_shorter, so_far, one_more, stops_at, is_done}
 use Rattle.pcl_escape.proofs.Places.{step_placed}
 use Rattle.pcl_escape.proofs.job.scan.Given.{Over}
 use Rattle.pcl_escape.proofs.job.scan.Goals as goal
@@ -53,5 +53,4 @@ returns g c = sym c.loop-inside.invariant.same ∙ is_done (g.S.CommandStore.kep
     (length c.args.job.now) c.loop-inside.inside c.loop-inside.rest.now c.if-not-is_empty.ensures c.if-is_some.ensures
 
 pub read_step-requires : goal.read_step-requires
-read_step-requires g c =
-    place_fits (length c.args.job.now) (length c.loop-inside.rest.now) c.loop-inside.invariant.within (omega arith)
+read_step-requires g c = let within = c.loop-inside.invariant.within in omega arith
