@@ -1,20 +1,21 @@
-use Rattle.std.proofs.Common.{List, ℕ, sym, ap, ◌∙◌}
+use Rattle.std.proofs.Common.{◌≡◌, false, refl, sym, ap, ◌∙◌, length, arith}
 use Rattle.std.specs.Bool.{then_some}
 use Rattle.pcl_escape.specs.declared.step.Prefix.{Prefix}
-use Rattle.pcl_escape.specs.Field.{spelled}
-use Rattle.pcl_escape.proofs.Parameters.{IsLettered, gives_fault, gives_cut, nothing_behind, no_letter_behind, range_behind, fault_behind, data_behind}
+use Rattle.pcl_escape.specs.Checks.{parameter_checks}
+use Rattle.pcl_escape.specs.Field.{spelled, field_value, in_range}
+use Rattle.pcl_escape.specs.inner.Scan.{parameter_at, checked_at}
+use Rattle.pcl_escape.proofs.Parameters.{gives_cut, nothing_behind, not_given, given, some_if}
 use Rattle.pcl_escape.proofs.step.read_parameter.Goals as goal
 use Rattle.pcl_escape.proofs.step.read_parameter.Goals.{After-parameter_name-name}
 
--- a letter was found after the field
-lettered : (c : After-parameter_name-name)
-    → IsLettered c.args.prefix c.args.bytes.now (spelled c.read_field.result.0) c.in-Some.field-0-0.now c.in-Some.after.now
-    c.parameter_name-name.result
-lettered c = record {
-  front = ap (λ (rest : List ℕ). (spelled c.read_field.result.0, rest)) (sym c.in-Some.ensures.cases.0) ∙ c.read_field.ensures;
-  ends = c.if-not-is_letter.ensures;
-  named = c.parameter_name-name.ensures;
-}
+-- a letter was found after the field, and then come the checks
+checked : (c : After-parameter_name-name) → parameter_at c.args.prefix c.args.at c.args.bytes.now
+    ≡ checked_at c.args.prefix c.args.at c.in-Some.field-0-0.now (field_value (spelled c.read_field.result.0)) c.in-Some.after.now
+    (parameter_checks c.parameter_name-name.result c.in-Some.field-0-0.now (field_value (spelled c.read_field.result.0))
+    (length c.in-Some.after.now))
+unfolding parameter_at
+checked c =
+    rw (← c.read_field.ensures, c.in-Some.ensures.cases.0, ← c.if-not-is_letter.ensures, c.parameter_name-name.ensures) refl
 
 pub returns-in_default : goal.returns-in_default
 returns-in_default c =
@@ -23,23 +24,52 @@ returns-in_default c =
     search (gives_cut, cut)
 
 pub returns-then-not-is_letter : goal.returns-then-not-is_letter
-returns-then-not-is_letter c =
-    let front = ap (λ (rest : List ℕ). (spelled c.read_field.result.0, rest)) (sym c.in-Some.ensures.cases.0) ∙ c.read_field.ensures in
-    gives_fault c.refused-then-not-is_letter.ensures (no_letter_behind c.args.prefix c.args.at c.args.bytes.now front
-    c.if-not-is_letter.ensures c.name-then-not-is_letter.ensures)
+unfolding parameter_at
+returns-then-not-is_letter c = rw (
+  c.refused-then-not-is_letter.ensures,
+  ← c.read_field.ensures,
+  c.in-Some.ensures.cases.0,
+  ← c.if-not-is_letter.ensures,
+  c.name-then-not-is_letter.ensures,
+) refl
 
 pub returns-in_default-value : goal.returns-in_default-value
+unfolding parameter_checks
 returns-in_default-value c =
-    let is = lettered (goal.at.returns-in_default-value c).After-parameter_name-name in
-    gives_fault c.refused-in_default-value.ensures (range_behind c.args.at c.args.bytes.now is c.in_default-value.ensures)
+    let out : in_range (field_value (spelled c.read_field.result.0)) ≡ false = not_given _ _ c.in_default-value.ensures in
+    rw (
+      c.refused-in_default-value.ensures,
+      checked (goal.at.returns-in_default-value c).After-parameter_name-name,
+      out,
+      c.parameter_name-name.ensures,
+    ) refl
 
 pub returns-in-Err : goal.returns-in-Err
+unfolding parameter_checks
 returns-in-Err c =
-    let is = lettered (goal.at.returns-in-Err c).After-parameter_name-name in
-    gives_fault c.refused-in-Err.ensures (fault_behind c.args.at c.args.bytes.now is c.in-Some-value.ensures c.in-Err.ensures.checks)
+    let g = given (in_range (field_value (spelled c.read_field.result.0))) c.in-Some-value.ensures in
+    rw (
+      c.refused-in-Err.ensures,
+      checked (goal.at.returns-in-Err c).After-parameter_name-name,
+      g.0,
+      ← g.1,
+      ← c.in-Err.ensures.checks,
+      c.parameter_name-name.ensures,
+    ) refl
 
 pub returns : goal.returns
+unfolding parameter_checks
 returns c =
-    let is = lettered (goal.at.returns c).After-parameter_name-name in
-    data_behind c.args.at c.args.bytes.now is c.in-Some-value.ensures c.in-Ok.ensures.checks c.split_at.ensures.front
-    c.split_at.ensures.back (c.then_some.ensures ∙ ap (λ on. then_some {T = Prefix} on c.args.prefix) c.goes_on.ensures)
+    let g = given (in_range (field_value (spelled c.read_field.result.0))) c.in-Some-value.ensures in
+    rw (
+      checked (goal.at.returns c).After-parameter_name-name,
+      g.0,
+      ← g.1,
+      ← c.in-Ok.ensures.checks,
+      c.parameter_name-name.ensures,
+      c.split_at.ensures.front,
+      c.split_at.ensures.back,
+      c.then_some.ensures,
+      c.goes_on.ensures,
+      some_if,
+    ) refl

@@ -1,7 +1,7 @@
 use Rattle.std.proofs.Common.{ap, arith}
 use Rattle.pcl_escape.specs.inner.Scan.{said_of}
 use Rattle.pcl_escape.proofs.Lines.{lines_within}
-use Rattle.pcl_escape.proofs.Parameters.{gives_fault, exit_refused}
+use Rattle.pcl_escape.proofs.Parameters.{exit_refused}
 use Rattle.pcl_escape.proofs.Steps.{parameter_shorter}
 use Rattle.pcl_escape.proofs.step.read_ungrouped.Goals as goal
 
@@ -14,7 +14,7 @@ skip_lines-requires c =
     let shorter = parameter_shorter _ c.args.at c.args.bytes.now c.in_ok-step.ensures in omega arith
 
 pub returns-in-Err : goal.returns-in-Err
-returns-in-Err c = gives_fault c.refused.ensures (exit_refused c.args.at c.args.parameterized c.args.bytes.now c.in_ok-step.ensures
+returns-in-Err c = rw c.refused.ensures (exit_refused c.args.at c.args.parameterized c.args.bytes.now c.in_ok-step.ensures
     (ap said_of c.in-Some.is) c.if-is_exit.ensures c.in-Err.ensures)
 
 pub with_lines-requires : goal.with_lines-requires
