@@ -1,5 +1,6 @@
 -- The checks of a parameter look at the bytes after it only to see whether they are enough.
-use Rattle.std.proofs.Common.{◌≡◌, ℕ, ◌≤◌, Bool, true, false, ◌==◌, nat_lt, if◌then◌else◌, Option, Some, None, Result, Ok, Err, refl, sym, ap, ◌∙◌, arith}
+use Rattle.std.proofs.Common.{◌≡◌, ℕ, ◌≤◌, Bool, true, false, ◌==◌, nat_lt, if◌then◌else◌, Option, Some, None, inl, inr, Result, Ok, Err, refl, sym, ap, ◌∙◌, arith}
+use Rattle.std.proofs.lemmas.Bool.{cases_Bool}
 use Rattle.std.proofs.lemmas.Bool.Decides.{nat_tests}
 use Rattle.pcl_base.specs.declared.name.Name.{Name}
 use Rattle.pcl_base.specs.declared.kind.Kind.{Kind}
@@ -24,18 +25,16 @@ operation_takes None letter value e = absurd cc
 operation_takes (Some operation) letter value e =
     record { fits = grind (arith, nat_tests); again = λ more h. grind (arith, nat_tests) }
 
--- all checks, by the outcome of the range's
-ranged_takes : (ranged : Bool) (operation : Option Operation) (letter : ℕ) (value : Value) {left len : ℕ}
-    → (if ranged then operation_checks operation letter value left else Err ValueRange) ≡ Ok len
-    → Take (λ more. if ranged then operation_checks operation letter value more else Err ValueRange) left len
-ranged_takes true operation letter value e = operation_takes operation letter value e
-ranged_takes false operation letter value e = absurd cc
-
 -- what the checks of a parameter took, they take of any bytes that are enough
 pub checks_take : (name : Name) (letter : ℕ) (value : Value) {left len : ℕ} → parameter_checks name letter value left ≡ Ok len
     → Take (parameter_checks name letter value) left len
 unfolding parameter_checks
-checks_take name letter value e = ranged_takes (in_range value) (operation_of name) letter value e
+checks_take name letter value e = elim (cases_Bool (in_range value)) [
+  | inl r ↦
+      let taken = operation_takes (operation_of name) letter value (rw r at e) in
+      record { fits = taken.fits; again = λ more h. rw r (taken.again more h) }
+  | inr r ↦ absurd (let none = rw r at e in cc)
+]
 
 -- ---- after a parameter that isn't the last there are no data
 

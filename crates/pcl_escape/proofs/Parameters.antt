@@ -44,11 +44,3 @@ given false e = absurd cc
 pub some_if : (on : Bool) (prefix : Prefix) → then_some {T = Prefix} on prefix ≡ (if on then Some prefix else None)
 some_if true prefix = refl
 some_if false prefix = refl
-
--- a line after a universal exit that asks for another language
-pub exit_refused : (at parameterized : ℕ) (bytes : List ℕ) {step : Reads} {said : Said} {place : ℕ}
-    → parameter_at (record { parameterized = parameterized; group = None }) at bytes ≡ Ok step → step.said ≡ Some said
-    → true ≡ is_exit said.name said.value → lines_at (at + 2 + (length bytes - length step.rest)) step.rest ≡ Err place
-    → ungrouped_at at parameterized bytes ≡ Err (refusal NotPcl place exit_name)
-unfolding ungrouped_at
-exit_refused at parameterized bytes e s x l = rw (e, s, ← x, l) refl

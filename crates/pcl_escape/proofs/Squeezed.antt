@@ -18,19 +18,19 @@ squeezed_more line byte = simp (filter-append, map-append)
 
 pub blank_step : {front : List ℕ} (line : List ℕ) (byte : ℕ) → front ≡ take 22 (squeezed line) → true ≡ is_white_space byte
     → front ≡ take 22 (squeezed (line ++ byte ∷ []))
-blank_step line byte so_far e = so_far ∙ ap (take 22) (sym (squeezed_more line byte ∙ rw (sym e) (append-nil (squeezed line))))
+blank_step line byte so_far e = rw (so_far, squeezed_more line byte, ← e) (simp append-nil)
 
 -- a byte that says something, in upper case
 squeezed_other : (line : List ℕ) (byte : ℕ) → false ≡ is_white_space byte
     → squeezed (line ++ byte ∷ []) ≡ squeezed line ++ to_ascii_uppercase byte ∷ []
-squeezed_other line byte e = squeezed_more line byte ∙ rw (sym e) refl
+squeezed_other line byte e = rw (squeezed_more line byte, ← e) refl
 
 pub full_step : {front : List ℕ} (line : List ℕ) (byte : ℕ) → front ≡ take 22 (squeezed line) → false ≡ is_white_space byte
     → true ≡ (length front == 22)
     → front ≡ take 22 (squeezed (line ++ byte ∷ []))
-full_step {front} line byte so_far e full =
-    let long : length (take 22 (squeezed line)) ≡ 22 = ap length (sym so_far) ∙ eqb-true (length front) 22 (sym full) in
-    so_far ∙ full_front 22 (squeezed line) (to_ascii_uppercase byte) long ∙ ap (take 22) (sym (squeezed_other line byte e))
+full_step line byte so_far e full =
+    let long = rw so_far at (eqb-true _ 22 (sym full)) in
+    rw (so_far, squeezed_other line byte e) (full_front 22 (squeezed line) (to_ascii_uppercase byte) long)
 
 -- a front that isn't full has room
 has_room : {n m : ℕ} → false ≡ (n == m) → n ≤ m → n < m
@@ -40,10 +40,8 @@ pub push_step : {front : List ℕ} (line : List ℕ) (byte : ℕ) → front ≡ 
     → false ≡ (length front == 22)
     → length front ≤ 22 → front ++ to_ascii_uppercase byte ∷ [] ≡ take 22 (squeezed (line ++ byte ∷ []))
 push_step line byte so_far e other within =
-    let room = has_room other within in
-    let short : length (take 22 (squeezed line)) < 22 = let same = ap length so_far in omega arith in
-    ap (λ (bs : List ℕ). bs ++ to_ascii_uppercase byte ∷ []) so_far ∙ longer_front 22 (squeezed line) (to_ascii_uppercase byte) short
-    ∙ ap (take 22) (sym (squeezed_other line byte e))
+    let short : length (take 22 (squeezed line)) < 22 = rw so_far at (has_room other within) in
+    rw (so_far, squeezed_other line byte e) (longer_front 22 (squeezed line) (to_ascii_uppercase byte) short)
 
 -- ---- what the front tells
 
@@ -63,20 +61,11 @@ front_begins (c ∷ word) zero said h = absurd (omega arith)
 front_begins (c ∷ word) (suc n) [] h = refl
 front_begins (c ∷ word) (suc n) (first ∷ said) h = ap (λ (b : Bool). nat_eq c first && b) (front_begins word n said (omega arith))
 
-pub front_names_language : (line : List ℕ) → starts_with nat_eq (take 22 (squeezed line)) (codes "@PJLENTERLANGUAGE=")
-    ≡ names_language line
-front_names_language line = front_begins (codes "@PJLENTERLANGUAGE=") 22 (squeezed line) (omega arith)
-
-pub front_names_pcl : (line : List ℕ) → bytes_eq (take 22 (squeezed line)) (codes "@PJLENTERLANGUAGE=PCL") ≡ names_pcl line
-front_names_pcl line = front_is (codes "@PJLENTERLANGUAGE=PCL") 22 (squeezed line) (omega arith)
-
--- the same of a slice that holds the front
+-- a slice that holds the front
 pub slice_names_language : {b : Bool} {slice front : List ℕ} (line : List ℕ) → b ≡ starts_with nat_eq slice (codes "@PJLENTERLANGUAGE=")
     → slice ≡ front → front ≡ take 22 (squeezed line) → b ≡ names_language line
-slice_names_language line e s f = e ∙ ap (λ (bs : List ℕ). starts_with nat_eq bs (codes "@PJLENTERLANGUAGE=")) (s ∙ f)
-    ∙ front_names_language line
+slice_names_language line e s f = rw (e, s, f) (front_begins (codes "@PJLENTERLANGUAGE=") 22 (squeezed line) (omega arith))
 
 pub slice_names_pcl : {b : Bool} {slice front : List ℕ} (line : List ℕ) → b ≡ bytes_eq slice (codes "@PJLENTERLANGUAGE=PCL") → slice ≡ front
     → front ≡ take 22 (squeezed line) → b ≡ names_pcl line
-slice_names_pcl line e s f = e ∙ ap (λ (bs : List ℕ). bytes_eq bs (codes "@PJLENTERLANGUAGE=PCL")) (s ∙ f)
-    ∙ front_names_pcl line
+slice_names_pcl line e s f = rw (e, s, f) (front_is (codes "@PJLENTERLANGUAGE=PCL") 22 (squeezed line) (omega arith))

@@ -1,5 +1,6 @@
 -- What a step reads inside a sequence: a middle parameter, the last one with its data, or its first fault.
-use Rattle.std.proofs.Common.{◌≡◌, ℕ, Bool, true, false, ◌==◌, ◌&&◌, ◌||◌, ◌-◌, ◌<◌, if◌then◌else◌, is_some, is_none, IsTrue, List, [], ◌∷◌, ◌++◌, length, take, drop, Option, Some, None, Result, Ok, Err, refl, sym, ap, subst, subst₂, ◌∙◌, append_assoc, append-nil, length-append, length-take-le, take-append-drop, take_at, drop_at, arith}
+use Rattle.std.proofs.Common.{◌≡◌, ℕ, Bool, true, false, ◌==◌, ◌&&◌, ◌||◌, ◌-◌, ◌<◌, if◌then◌else◌, is_some, is_none, IsTrue, List, [], ◌∷◌, ◌++◌, length, take, drop, Option, Some, None, inl, inr, Result, Ok, Err, refl, sym, ap, subst, subst₂, ◌∙◌, append_assoc, append-nil, length-append, length-take-le, take-append-drop, take_at, drop_at, arith}
+use Rattle.std.proofs.lemmas.Bool.{cases_Bool}
 use Rattle.std.proofs.lemmas.Bool.Decides.{nat_tests}
 use Rattle.pcl_base.specs.declared.kind.Kind.{Kind}
 use Rattle.pcl_base.specs.declared.refusal.Refusal.{Refusal}
@@ -58,14 +59,6 @@ pub parameter_joined : (field : Spelled) (letter : ℕ) (rest : List ℕ)
     → parameter_bytes (record { field = field; letter = letter }) ++ rest ≡ field_bytes field ++ letter ∷ rest
 parameter_joined field letter rest = append_assoc (field_bytes field) (letter ∷ []) rest
 
--- a last parameter, by whether it is a universal exit
-end_by : {prefix : Prefix} {at : ℕ} {parameter : Parameter} {bytes rest : List ℕ} (leave : Bool) → IsLast prefix parameter bytes
-    → is_leaving prefix parameter ≡ leave
-    → Found prefix at (parameter_bytes parameter ++ (bytes ++ rest)) (end_reads prefix at parameter bytes rest)
-end_by {parameter} {bytes} {rest} true is l = is_leave parameter bytes rest is l
-end_by {parameter} {bytes} {rest} false is l =
-    is_inside (is_end parameter bytes rest (record { field = is.field; letter = is.letter; checks = is.checks; stays = l }))
-
 -- A letter with its checks: where these pass, one after which the sequence goes on makes a middle parameter, and any other one a last
 -- parameter, with its data.
 checked_step : {prefix : Prefix} {at : ℕ} (field : Spelled) (letter : ℕ) (rest : List ℕ) (checks : Result ℕ Kind)
@@ -95,7 +88,11 @@ checked_step {prefix} {at} field letter rest (Ok len) f l e =
     record { field = f; letter = last; checks = rw long (taken.again len (omega arith)) } in
     let joined : parameter_bytes parameter ++ (take len rest ++ drop len rest) ≡ field_bytes field ++ letter ∷ rest =
     rw take-append-drop (parameter_joined field letter rest) in
-    rw (← joined) (end_by (is_leaving prefix parameter) ends refl))
+    rw (← joined) (elim (cases_Bool (is_leaving prefix parameter)) [
+      | inl l ↦ is_leave parameter (take len rest) (drop len rest) ends l
+      | inr l ↦
+          is_inside (is_end parameter (take len rest) (drop len rest) (record { field = f; letter = last; checks = ends.checks; stays = l }))
+    ]))
 
 -- after a field that stops stands a byte, or nothing
 behind_field : {prefix : Prefix} {at : ℕ} (field : Spelled) (rest : List ℕ) → IsField field → FieldStops field rest

@@ -1,7 +1,6 @@
-use Rattle.std.proofs.Common.{ap, arith}
-use Rattle.pcl_escape.specs.inner.Scan.{said_of}
+use Rattle.std.proofs.Common.{refl, ap, arith}
+use Rattle.pcl_escape.specs.inner.Scan.{said_of, ungrouped_at}
 use Rattle.pcl_escape.proofs.Lines.{lines_within}
-use Rattle.pcl_escape.proofs.Parameters.{exit_refused}
 use Rattle.pcl_escape.proofs.Steps.{parameter_shorter}
 use Rattle.pcl_escape.proofs.step.read_ungrouped.Goals as goal
 
@@ -14,8 +13,9 @@ skip_lines-requires c =
     let shorter = parameter_shorter _ c.args.at c.args.bytes.now c.in_ok-step.ensures in omega arith
 
 pub returns-in-Err : goal.returns-in-Err
-returns-in-Err c = rw c.refused.ensures (exit_refused c.args.at c.args.parameterized c.args.bytes.now c.in_ok-step.ensures
-    (ap said_of c.in-Some.is) c.if-is_exit.ensures c.in-Err.ensures)
+unfolding ungrouped_at
+returns-in-Err c =
+    rw (c.refused.ensures, c.in_ok-step.ensures, ap said_of c.in-Some.is, ← c.if-is_exit.ensures, c.in-Err.ensures) refl
 
 pub with_lines-requires : goal.with_lines-requires
 with_lines-requires c = lines_within _ c.in_ok-step.step.rest.now c.in-Ok.rest.now c.in-Ok.ensures
