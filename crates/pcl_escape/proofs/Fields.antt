@@ -33,14 +33,10 @@ and_parts a b p = (grind arith, grind arith)
 
 -- ---- signs
 
--- the byte is a sign
-abbrev pub is_sign : ℕ → Bool
-is_sign byte = eqb byte 43 || eqb byte 45
-
 -- the bytes don't begin with a sign
 abbrev pub NoSign : List ℕ → Type 0
 NoSign [] = Unit {0}
-NoSign (byte ∷ bytes) = is_sign byte ≡ false
+NoSign (byte ∷ bytes) = (eqb byte 43 || eqb byte 45) ≡ false
 
 -- a sign or none at the front, and what is after it
 record IsSignFront (bytes : List ℕ) (parts : Sign × List ℕ) : Type 0 where

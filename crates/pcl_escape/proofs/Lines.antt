@@ -79,15 +79,10 @@ found_again {line} (inr (same, none)) = rw same (whole_again line none)
 
 -- ---- one step
 
--- lines_from, by the outcomes of its tests; next is what comes after a line that asks for no language
-abbrev by_tests : Bool → Bool → Bool → ℕ → List ℕ → List ℕ → Result (List ℕ) ℕ → Result (List ℕ) ℕ
-by_tests job language pcl place bytes behind next =
-    if not job then Ok bytes else (if not language then next else (if pcl then Ok behind else Err place))
-
 -- the step at a line
 at_line : {line behind : List ℕ} (more place : ℕ) → IsLine line behind
-    → lines_from (suc more) place (line ++ behind) ≡ by_tests true (names_language line) (names_pcl line) place (line ++ behind) behind
-    (lines_from more (place + length line) behind)
+    → lines_from (suc more) place (line ++ behind) ≡ (if not (names_language line) then lines_from more (place + length line) behind
+    else (if names_pcl line then Ok behind else Err place))
 unfolding lines_from
 at_line {line} {behind} more place is =
     rw (
@@ -113,15 +108,6 @@ lines_enough (suc n) (suc m) place bytes h k = elim (cases_Bool (is_job_line byt
       rw (lines_enough n m (place + line_len bytes) (drop (line_len bytes) bytes) (omega arith) (omega arith)) refl
   | inr e ↦ rw e refl
 ]
-
--- after a line that asks for no language, the next ones come
-pub next_line : (place : ℕ) (bytes : List ℕ) → is_job_line bytes ≡ true → names_language (take (line_len bytes) bytes) ≡ false
-    → lines_at place bytes ≡ lines_at (place + line_len bytes) (drop (line_len bytes) bytes)
-unfolding lines_from
-next_line place bytes e l =
-    let shorter = behind_shorter bytes e in
-    rw (e, l) (lines_enough (length bytes) (suc (length (drop (line_len bytes) bytes))) (place + line_len bytes)
-    (drop (line_len bytes) bytes) shorter (omega arith))
 
 -- ---- from the steps to the lines
 
@@ -238,11 +224,15 @@ pub record IsCut (bytes line behind : List ℕ) : Type 0 where
 -- a line that asks for no language is skipped
 pub at_other_line : (place : ℕ) {bytes line behind : List ℕ} → IsCut bytes line behind → false ≡ names_language line
     → lines_at place bytes ≡ lines_at (place + (length bytes - length behind)) behind
+unfolding lines_from
 at_other_line place {bytes} {behind} cut l =
     let within = line_within bytes in
+    let shorter = behind_shorter bytes (sym cut.job) in
+    let none : names_language (take (line_len bytes) bytes) ≡ false = rw (← cut.line_is) (sym l) in
     let long : length behind ≡ length bytes - line_len bytes = ap length cut.behind_is ∙ length-drop (line_len bytes) bytes in
     let len : length bytes - length behind ≡ line_len bytes = omega arith in
-    rw (len, cut.behind_is) (next_line place bytes (sym cut.job) (rw (← cut.line_is) (sym l)))
+    rw (len, cut.behind_is, ← cut.job, none) (lines_enough (length bytes) (suc (length (drop (line_len bytes) bytes)))
+    (place + line_len bytes) (drop (line_len bytes) bytes) shorter (omega arith))
 
 -- one that asks for a language ends the skipping
 pub at_asking_line : (place : ℕ) {bytes line behind : List ℕ} {pcl : Bool} → IsCut bytes line behind → true ≡ names_language line

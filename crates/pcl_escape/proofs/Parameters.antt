@@ -18,11 +18,6 @@ use Rattle.pcl_escape.specs.inner.Lines.{lines_at}
 use Rattle.pcl_escape.specs.Said.{Said}
 use Rattle.pcl_escape.specs.inner.Scan.{Reads, Gives, letter_at, checked_at, parameter_at, with_lines, ungrouped_at}
 
--- a fault that is returned, with a name, is one that a step finds
-pub gives_cut : {given : Result Progress Refusal} {reads : Result Reads Refusal} {at : ℕ} {name known : Name}
-    → given ≡ Err (refusal Truncated at name) → name ≡ known → reads ≡ Err (refusal Truncated at known) → Gives given reads
-gives_cut e n f = rw (e, n) f
-
 -- nothing is after the field at the front
 pub nothing_behind : (prefix : Prefix) (at : ℕ) (bytes : List ℕ) {field : Spelled} (rest : List ℕ) → (field, rest) ≡ field_at bytes
     → length rest ≡ 0 → parameter_at prefix at bytes ≡ Err (refusal Truncated at (prefix_name prefix))

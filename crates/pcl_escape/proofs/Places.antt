@@ -65,10 +65,6 @@ code_stands : (at code : ℕ) (rest : List ℕ) → Stands (code ∷ rest) (name
 unfolding named_at
 code_stands at code rest = named_stands at code rest (operation_of (One code))
 
-text_stands : (at : ℕ) (bytes : List ℕ) → Stands bytes (text_at at bytes)
-unfolding text_at
-text_stands at bytes = record { front = []; joined = (front_split is_text bytes).joined; told = refl }
-
 -- ---- parameters
 
 -- the letter of a name is no zero
@@ -117,23 +113,17 @@ lines_stand begin len bytes (Ok reads) s = by_test (Stands bytes) (leaves reads.
     (λ l. s)
 lines_stand begin len bytes (Err fault) s = tt
 
-ungrouped_stands : (at parameterized : ℕ) (bytes : List ℕ) → Stands bytes (ungrouped_at at parameterized bytes)
-unfolding ungrouped_at
-ungrouped_stands at parameterized bytes =
-    let prefix : Prefix = record { parameterized = parameterized; group = None } in
-    lines_stand (at + 2) (length bytes) bytes (parameter_at prefix at bytes) (parameter_stands prefix at bytes)
-
 -- ---- all steps
 
 prefix_stands : (at parameterized : ℕ) (bytes : List ℕ) → Stands bytes (prefix_at at parameterized bytes)
-unfolding prefix_at
+unfolding prefix_at ungrouped_at
 prefix_stands at parameterized [] = tt
 prefix_stands at parameterized (group ∷ bytes) =
     let prefix : Prefix = record { parameterized = parameterized; group = Some group } in
     by_test (Stands (group ∷ bytes)) (is_group group)
     (λ g. further (group ∷ []) bytes (parameter_at prefix at bytes) (parameter_stands prefix at bytes))
     (λ g. by_test (Stands (group ∷ bytes)) (is_ungrouped parameterized)
-    (λ u. ungrouped_stands at parameterized (group ∷ bytes)) (λ u. tt))
+    (λ u. lines_stand (at + 2) (length (group ∷ bytes)) (group ∷ bytes) _ (parameter_stands _ at (group ∷ bytes))) (λ u. tt))
 
 sequence_stands : (at : ℕ) (bytes : List ℕ) → Stands bytes (sequence_at at bytes)
 unfolding sequence_at
@@ -144,12 +134,13 @@ sequence_stands at (byte ∷ bytes) =
     (λ p. further (byte ∷ []) bytes (prefix_at at byte bytes) (prefix_stands at byte bytes)) (λ p. tt))
 
 start_stands : (at : ℕ) (bytes : List ℕ) → Stands bytes (start_at at bytes)
-unfolding start_at
+unfolding start_at text_at
 start_stands at [] = record { front = []; joined = refl; told = tt }
 start_stands at (byte ∷ bytes) =
     by_test (Stands (byte ∷ bytes)) (is_silent byte) (λ s. record { front = byte ∷ []; joined = refl; told = tt })
     (λ s. by_test (Stands (byte ∷ bytes)) (byte == 27) (λ e. further (byte ∷ []) bytes (sequence_at at bytes) (sequence_stands at bytes))
-    (λ e. by_test (Stands (byte ∷ bytes)) (is_control byte) (λ c. code_stands at byte bytes) (λ c. text_stands at (byte ∷ bytes))))
+    (λ e. by_test (Stands (byte ∷ bytes)) (is_control byte) (λ c. code_stands at byte bytes)
+    (λ c. record { front = []; joined = (front_split is_text (byte ∷ bytes)).joined; told = refl })))
 
 step_stands : (inside : Option Prefix) (at : ℕ) (bytes : List ℕ) → Stands bytes (step_at inside at bytes)
 step_stands None at bytes = start_stands at bytes

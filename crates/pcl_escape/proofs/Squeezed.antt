@@ -32,15 +32,12 @@ full_step line byte so_far e full =
     let long = rw so_far at (eqb-true _ 22 (sym full)) in
     rw (so_far, squeezed_other line byte e) (full_front 22 (squeezed line) (to_ascii_uppercase byte) long)
 
--- a front that isn't full has room
-has_room : {n m : ℕ} → false ≡ (n == m) → n ≤ m → n < m
-has_room e h = grind (arith, nat_tests)
-
 pub push_step : {front : List ℕ} (line : List ℕ) (byte : ℕ) → front ≡ take 22 (squeezed line) → false ≡ is_white_space byte
     → false ≡ (length front == 22)
     → length front ≤ 22 → front ++ to_ascii_uppercase byte ∷ [] ≡ take 22 (squeezed (line ++ byte ∷ []))
-push_step line byte so_far e other within =
-    let short : length (take 22 (squeezed line)) < 22 = rw so_far at (has_room other within) in
+push_step {front} line byte so_far e other within =
+    let room : length front < 22 = grind (arith, nat_tests) in
+    let short = rw so_far at room in
     rw (so_far, squeezed_other line byte e) (longer_front 22 (squeezed line) (to_ascii_uppercase byte) short)
 
 -- ---- what the front tells

@@ -29,7 +29,7 @@ use Rattle.pcl_escape.proofs.Fields.{by_test}
 use Rattle.pcl_base.proofs.Fronts.{Pass, StopsAt, front_yes, front_split, front_again}
 use Rattle.pcl_escape.proofs.Lines.{Lines, skipped, foreign, lines_split, lines_again, foreign_again}
 use Rattle.pcl_escape.proofs.Checks.{exit_takes_none}
-use Rattle.pcl_escape.proofs.Steps.{Inside, is_middle, is_end, is_wrong, Found, is_inside, is_leave, IsLast, is_leaving, end_reads, parameter_step, grouped_step, parameter_joined, last_stops, last_again, middle_stays, inside_reads}
+use Rattle.pcl_escape.proofs.Steps.{Inside, is_middle, is_end, is_wrong, Found, is_inside, is_leave, IsLast, is_leaving, end_reads, parameter_step, grouped_step, parameter_joined, last_again, middle_stays, inside_reads}
 
 -- what a step reads of a whole piece, which gives a command or none
 abbrev pub piece_reads : Option Said → List ℕ → Result Reads Refusal
@@ -100,10 +100,6 @@ pub exit_joined : (field : Spelled) (lines rest : List ℕ)
     → (field_bytes field ++ 88 ∷ lines) ++ rest ≡ parameter_bytes (exit_parameter field) ++ (lines ++ rest)
 exit_joined field lines rest = simp append_assoc
 
--- an exit with these data
-abbrev exit_with : ℕ → Spelled → List ℕ → Said
-exit_with at field bytes = record (exit_command at field []) { bytes = bytes }
-
 -- what stands before the rest
 pub before_rest_is : (front rest : List ℕ) → before_rest (front ++ rest) rest ≡ front
 before_rest_is front rest =
@@ -168,16 +164,11 @@ ungrouped_found {byte} {bytes} {read} u n (is_inside (is_wrong f)) =
     sequence (record { parameterized = byte; group = None }) bytes read u n (is_wrong f)
 ungrouped_found u n (is_leave parameter sent rest is x) = leave_step rest is x
 
-ungrouped_step : {at byte : ℕ} {bytes : List ℕ} → is_ungrouped byte ≡ true → IsUngrouped None bytes
-    → Outside at (27 ∷ byte ∷ bytes) (ungrouped_at at byte bytes)
-unfolding ungrouped_at
-ungrouped_step u n = ungrouped_found u n parameter_step
-
 -- ---- sequences
 
 -- a sequence, by what is behind its second byte
 prefix_step : {at byte : ℕ} (rest : List ℕ) → IsTrue (is_parameterized byte) → Outside at (27 ∷ byte ∷ rest) (prefix_at at byte rest)
-unfolding prefix_at
+unfolding prefix_at ungrouped_at
 prefix_step {at} {byte} [] p = elim (cases_Bool (is_ungrouped byte)) [
   | inl u ↦
       let nothing : Spelled = record { sign = Absent; whole = []; fraction = None } in
@@ -188,7 +179,7 @@ prefix_step {at} {byte} (group ∷ rest) p =
     let prefix : Prefix = record { parameterized = byte; group = Some group } in
     by_test (Outside at (27 ∷ byte ∷ group ∷ rest)) (is_group group)
     (λ g. sequence prefix rest (parameter_at prefix at rest) (p, g) tt (grouped_step refl))
-    (λ g. by_test (Outside at (27 ∷ byte ∷ group ∷ rest)) (is_ungrouped byte) (λ u. ungrouped_step u g) (λ u. wrong (bad_group p u g)))
+    (λ g. by_test (Outside at (27 ∷ byte ∷ group ∷ rest)) (is_ungrouped byte) (λ u. ungrouped_found u g parameter_step) (λ u. wrong (bad_group p u g)))
 
 -- a sequence, by its second byte
 sequence_step : {at : ℕ} (rest : List ℕ) → Outside at (27 ∷ rest) (sequence_at at rest)

@@ -48,10 +48,6 @@ pub data Found (prefix : Prefix) (at : ℕ) : List ℕ → Result Reads Refusal 
   is_leave : (parameter : Parameter) (bytes rest : List ℕ) → IsLast prefix parameter bytes → is_leaving prefix parameter ≡ true
       → Found prefix at (parameter_bytes parameter ++ (bytes ++ rest)) (end_reads prefix at parameter bytes rest)
 
--- after a last letter the sequence doesn't go on
-pub last_stops : (letter : ℕ) → is_last letter ≡ true → goes_on letter ≡ false
-last_stops letter l = grind (arith, nat_tests)
-
 -- ---- from the step to the parts
 
 -- a parameter's bytes and what is after them, split after the field
@@ -140,10 +136,6 @@ grouped_step g = inside_found g (parameter_step)
 
 -- ---- each step goes on
 
--- a parameter has its letter
-pub parameter_long : (parameter : Parameter) → 0 < length (parameter_bytes parameter)
-parameter_long parameter = simp length-append (omega arith)
-
 -- what is after a parameter is shorter
 rest_shorter : (parameter : Parameter) (sent rest : List ℕ) → length rest < length (parameter_bytes parameter ++ (sent ++ rest))
 rest_shorter parameter sent rest = simp length-append (omega arith)
@@ -199,12 +191,13 @@ pub last_again : {prefix : Prefix} (at : ℕ) {parameter : Parameter} {bytes : L
 last_again {prefix} at {parameter} {bytes} rest m =
     let letter = parameter.letter in
     let last : is_last letter ≡ true = m.letter in
+    let stops : goes_on letter ≡ false = grind (arith, nat_tests) in
     let again = (checks_take (parameter_name prefix letter) letter (field_value parameter.field) m.checks).again (length (bytes ++ rest)) in
     rw (
       parameter_joined parameter.field letter (bytes ++ rest),
       checks_behind prefix at parameter.field letter (bytes ++ rest) m.field (grind arith),
       again (simp length-append (omega arith)),
-      last_stops letter last,
+      stops,
       take_at bytes rest (length bytes) refl,
       drop_at bytes rest (length bytes) refl,
     ) refl

@@ -4,7 +4,7 @@ use Rattle.pcl_escape.specs.declared.step.Prefix.{Prefix}
 use Rattle.pcl_escape.specs.Checks.{parameter_checks}
 use Rattle.pcl_escape.specs.Field.{spelled, field_value, in_range}
 use Rattle.pcl_escape.specs.inner.Scan.{parameter_at, checked_at}
-use Rattle.pcl_escape.proofs.Parameters.{gives_cut, nothing_behind, not_given, given, some_if}
+use Rattle.pcl_escape.proofs.Parameters.{nothing_behind, not_given, given, some_if}
 use Rattle.pcl_escape.proofs.step.read_parameter.Goals as goal
 use Rattle.pcl_escape.proofs.step.read_parameter.Goals.{After-parameter_name-name}
 
@@ -18,10 +18,8 @@ checked c =
     rw (← c.read_field.ensures, c.in-Some.ensures.cases.0, ← c.if-not-is_letter.ensures, c.parameter_name-name.ensures) refl
 
 pub returns-in_default : goal.returns-in_default
-returns-in_default c =
-    let cut = nothing_behind c.args.prefix c.args.at c.args.bytes.now c.read_field.result.1.now c.read_field.ensures
-    c.in_default.ensures.cases in
-    search (gives_cut, cut)
+returns-in_default c = rw (c.refused.ensures, c.name.ensures)
+    (nothing_behind c.args.prefix c.args.at c.args.bytes.now c.read_field.result.1.now c.read_field.ensures c.in_default.ensures.cases)
 
 pub returns-then-not-is_letter : goal.returns-then-not-is_letter
 unfolding parameter_at
