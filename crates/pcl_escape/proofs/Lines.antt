@@ -45,9 +45,9 @@ word_in_line : (word bytes : List ℕ) → HasNoFeed word → bytes_eq word (tak
 word_in_line [] bytes none e = refl
 word_in_line (c ∷ word) [] none e = absurd cc
 word_in_line (c ∷ word) (byte ∷ bytes) none e =
-    let both = and_parts (nat_eq c byte) (bytes_eq word (take (length word) bytes)) e in
-    let other : (byte == 10) ≡ false = subst (λ (b : ℕ). (b == 10) ≡ false) (eqb-true c byte both.0) none.0 in
-    rw (other, both.0) (word_in_line word bytes none.1 both.1)
+    let same : nat_eq c byte ≡ true = grind arith in
+    let other = rw (eqb-true c byte same) at none.0 in
+    rw (other, same) (word_in_line word bytes none.1 (grind arith))
 
 -- a word at the front of a line is at the front of what it begins
 word_before : (word line behind : List ℕ) → bytes_eq word (take (length word) line) ≡ true
@@ -55,8 +55,7 @@ word_before : (word line behind : List ℕ) → bytes_eq word (take (length word
 word_before [] line behind e = refl
 word_before (c ∷ word) [] behind e = absurd cc
 word_before (c ∷ word) (byte ∷ line) behind e =
-    let both = and_parts (nat_eq c byte) (bytes_eq word (take (length word) line)) e in
-    rw both.0 (word_before word line behind both.1)
+    let same : nat_eq c byte ≡ true = grind arith in rw same (word_before word line behind (grind arith))
 
 -- the line at the front is a line
 line_is : (bytes : List ℕ) → is_job_line bytes ≡ true → IsLine (take (line_len bytes) bytes) (drop (line_len bytes) bytes)

@@ -170,21 +170,6 @@ checks_behind : (prefix : Prefix) (at : ℕ) (field : Spelled) (letter : ℕ) (r
     (parameter_checks (parameter_name prefix letter) letter (field_value field) (length rest))
 checks_behind prefix at field letter rest f l = field_behind prefix at field (letter ∷ rest) f (grind (arith, nat_tests)) ∙ rw l refl
 
--- a step reads a middle parameter
-middle_again : {prefix : Prefix} {at : ℕ} {parameter : Parameter} {rest : List ℕ} → IsMiddle prefix parameter
-    → parameter_at prefix at (parameter_bytes parameter ++ rest) ≡ middle_reads prefix at parameter rest
-middle_again {prefix} {at} {parameter} {rest} m =
-    let letter = parameter.letter in
-    let goes : (is_some prefix.group && goes_on letter) ≡ true = m.letter in
-    let on : goes_on letter ≡ true = grind arith in
-    let again = (checks_take (parameter_name prefix letter) letter (field_value parameter.field) m.checks).again (length rest) in
-    rw (
-      parameter_joined parameter.field letter rest,
-      checks_behind prefix at parameter.field letter rest m.field (grind arith),
-      again (omega arith),
-      on,
-    ) refl
-
 -- a step reads a last parameter and its data
 pub last_again : {prefix : Prefix} (at : ℕ) {parameter : Parameter} {bytes : List ℕ} (rest : List ℕ) → IsLast prefix parameter bytes
     → parameter_at prefix at (parameter_bytes parameter ++ (bytes ++ rest)) ≡ end_reads prefix at parameter bytes rest
@@ -202,18 +187,23 @@ last_again {prefix} at {parameter} {bytes} rest m =
       drop_at bytes rest (length bytes) refl,
     ) refl
 
--- a step finds the fault of a parameter
-fault_again : {prefix : Prefix} {at : ℕ} {bytes : List ℕ} {fault : Refusal} → FailsParameter prefix at bytes fault
-    → parameter_at prefix at bytes ≡ Err fault
-fault_again {prefix} {at} (cut field f) = ap (parameter_at prefix at) (sym (append-nil (field_bytes field)))
-    ∙ field_behind prefix at field [] f tt
-fault_again {prefix} {at} (no_letter field byte rest f s l) = field_behind prefix at field (byte ∷ rest) f s ∙ rw l refl
-fault_again {prefix} {at} (check field letter rest kind f l e) = checks_behind prefix at field letter rest f l ∙ rw e refl
-
 -- a step reads what the bytes begin with
 pub inside_reads : {prefix : Prefix} {at : ℕ} {bytes : List ℕ} {read : Result Reads Refusal} → Inside prefix at bytes read
     → parameter_at prefix at bytes ≡ read
-inside_reads (is_middle parameter rest m) = middle_again m
+inside_reads {prefix} {at} (is_middle parameter rest m) =
+    let letter = parameter.letter in
+    let goes : (is_some prefix.group && goes_on letter) ≡ true = m.letter in
+    let on : goes_on letter ≡ true = grind arith in
+    let again = (checks_take (parameter_name prefix letter) letter (field_value parameter.field) m.checks).again (length rest) in
+    rw (
+      parameter_joined parameter.field letter rest,
+      checks_behind prefix at parameter.field letter rest m.field (grind arith),
+      again (omega arith),
+      on,
+    ) refl
 inside_reads {at} (is_end parameter sent rest m) =
     last_again at rest (record { field = m.field; letter = m.letter; checks = m.checks })
-inside_reads (is_wrong f) = fault_again f
+inside_reads {prefix} {at} (is_wrong (cut field f)) = simp append-nil at (field_behind prefix at field [] f tt)
+inside_reads {prefix} {at} (is_wrong (no_letter field byte rest f s l)) = field_behind prefix at field (byte ∷ rest) f s ∙ rw l refl
+inside_reads {prefix} {at} (is_wrong (check field letter rest kind f l e)) =
+    checks_behind prefix at field letter rest f l ∙ rw e refl

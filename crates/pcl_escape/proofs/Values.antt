@@ -20,17 +20,11 @@ reach Plus = omega arith
 reach Minus = omega arith
 
 -- the number up to the limit gives the same value where that is in range, and none where it isn't
-cut_value : (sign : Sign) (n t : ℕ)
-    → then_some {T = Value} (nat_le (min n 65536 * 10000 + t) (greatest_parts sign)) (value_with sign (min n 65536) t)
-    ≡ (if in_range (value_with sign n t) then Some (value_with sign n t) else None)
-cut_value sign n t = let limit = reach sign in grind (arith, nat_tests)
-
--- the same of numbers that are known by equations
 pub value_read : {value : Option Value} (sign : Sign) (n t : ℕ) {number digits greatest : ℕ}
     → value ≡ then_some {T = Value} (nat_le (number * 10000 + digits) greatest) (value_with sign number digits) → number ≡ min n 65536
     → digits ≡ t → greatest ≡ greatest_parts sign
     → value ≡ (if in_range (value_with sign n t) then Some (value_with sign n t) else None)
-value_read sign n t v e d g = v ∙ rw (e, d, g) (cut_value sign n t)
+value_read sign n t v e d g = let limit = reach sign in rw (v, e, d, g) (grind (arith, nat_tests))
 
 -- the digits after the point, none where there is no point
 pub fraction_read : (fraction : Option (Bor (List ℕ))) (none : Bor (List ℕ)) → none.now ≡ []
