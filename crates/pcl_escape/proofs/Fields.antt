@@ -27,10 +27,6 @@ pub by_test : {A : Type 0} (P : A → Type 0) (test : Bool) {one other : A} → 
 by_test P true p q = p refl
 by_test P false p q = q refl
 
--- where two tests hold both, each does
-pub and_parts : (a b : Bool) → (a && b) ≡ true → (a ≡ true) × (b ≡ true)
-and_parts a b p = (grind arith, grind arith)
-
 -- ---- signs
 
 -- the bytes don't begin with a sign

@@ -6,7 +6,7 @@ use Rattle.std.proofs.lemmas.Grind.{flat_map-append}
 use Rattle.std.specs.Str.{bytes_eq}
 use Rattle.pcl_escape.specs.Exit.{is_job_line, names_language, names_pcl, HasNoFeed, IsLine, joined, AreOtherLines, AreLines, to_other_bytes, to_pcl}
 use Rattle.pcl_escape.specs.inner.Lines.{line_len, lines_from, lines_at}
-use Rattle.pcl_escape.proofs.Fields.{by_test, and_parts}
+use Rattle.pcl_escape.proofs.Fields.{by_test}
 
 -- ---- one line
 

@@ -57,13 +57,12 @@ further more bytes (Err fault) s = tt
 
 -- ---- commands without a value
 
-named_stands : (at code : ℕ) (rest : List ℕ) (operation : Option Operation) → Stands (code ∷ rest) (named_by operation at code rest)
-named_stands at code rest None = tt
-named_stands at code rest (Some operation) = record { front = code ∷ []; joined = refl; told = refl }
-
 code_stands : (at code : ℕ) (rest : List ℕ) → Stands (code ∷ rest) (named_at at code rest)
 unfolding named_at
-code_stands at code rest = named_stands at code rest (operation_of (One code))
+code_stands at code rest = elim (operation_of (One code)) as (λ operation. Stands (code ∷ rest) (named_by operation at code rest)) [
+  | None ↦ tt
+  | Some operation ↦ record { front = code ∷ []; joined = refl; told = refl }
+]
 
 -- ---- parameters
 

@@ -47,21 +47,17 @@ pub data Outside (at : ℕ) : List ℕ → Result Reads Refusal → Type 0 where
 
 -- ---- names
 
--- a control code, by whether its name is performed
-control_named : {at code : ℕ} {rest : List ℕ} (operation : Option Operation) → operation_of (One code) ≡ operation
-    → IsTrue (is_control code) → is_silent code ≡ false
-    → Outside at (code ∷ rest) (named_by operation at code rest)
-control_named None o c s = wrong (unknown_control c s (ap (λ (x : Option Operation). is_some x) o))
-control_named {at} {code} {rest} (Some operation) o c s =
-    whole_piece (control code) rest (Some (bare_command at code)) (c, s, ap (λ (x : Option Operation). is_some x) o) (omega arith) refl
+-- a name that is performed gives its command
+pub named_again : {at code : ℕ} {rest : List ℕ} (operation : Option Operation) → is_some operation ≡ true
+    → named_by operation at code rest ≡ piece_reads (Some (bare_command at code)) rest
+named_again None s = absurd cc
+named_again (Some operation) s = refl
 
--- a two-character sequence, by whether its name is performed
-two_named : {at byte : ℕ} {rest : List ℕ} (operation : Option Operation) → operation_of (One byte) ≡ operation
-    → IsTrue (is_two_character byte)
-    → Outside at (27 ∷ byte ∷ rest) (named_by operation at byte rest)
-two_named None o t = wrong (unknown_two t (ap (λ (x : Option Operation). is_some x) o))
-two_named {at} {byte} {rest} (Some operation) o t =
-    whole_piece (two_character byte) rest (Some (bare_command at byte)) (t, ap (λ (x : Option Operation). is_some x) o) (omega arith) refl
+-- a name that isn't performed is refused
+pub unknown_again : {at code : ℕ} (rest : List ℕ) (operation : Option Operation) → is_some operation ≡ false
+    → named_by operation at code rest ≡ refuse UnsupportedCommand at (One code)
+unknown_again rest None s = refl
+unknown_again rest (Some operation) s = absurd cc
 
 -- ---- text
 
@@ -186,7 +182,11 @@ sequence_step : {at : ℕ} (rest : List ℕ) → Outside at (27 ∷ rest) (seque
 unfolding sequence_at named_at
 sequence_step [] = wrong lone_escape
 sequence_step {at} (byte ∷ rest) =
-    by_test (Outside at (27 ∷ byte ∷ rest)) (is_two_character byte) (λ t. two_named (operation_of (One byte)) refl t)
+    by_test (Outside at (27 ∷ byte ∷ rest)) (is_two_character byte) (λ t. elim (cases_Bool (is_some (operation_of (One byte)))) [
+      | inl n ↦ rw (named_again (operation_of (One byte)) n)
+          (whole_piece (two_character byte) rest (Some (bare_command at byte)) (t, n) (omega arith) refl)
+      | inr n ↦ rw (unknown_again rest (operation_of (One byte)) n) (wrong (unknown_two t n))
+    ])
     (λ t. by_test (Outside at (27 ∷ byte ∷ rest)) (is_parameterized byte) (λ p. prefix_step rest p) (λ p. wrong (no_sequence t p)))
 
 -- a step outside sequences reads what the bytes begin with
@@ -195,22 +195,14 @@ unfolding start_at named_at
 start_step {at} {byte} {rest} =
     by_test (Outside at (byte ∷ rest)) (is_silent byte) (λ s. whole_piece (silent byte) rest None s (omega arith) refl)
     (λ s. by_test (Outside at (byte ∷ rest)) (byte == 27) (λ e. rw (eqb-true byte 27 e) (sequence_step rest))
-    (λ e. by_test (Outside at (byte ∷ rest)) (is_control byte) (λ c. control_named (operation_of (One byte)) refl c s)
+    (λ e. by_test (Outside at (byte ∷ rest)) (is_control byte) (λ c. elim (cases_Bool (is_some (operation_of (One byte)))) [
+      | inl n ↦ rw (named_again (operation_of (One byte)) n)
+          (whole_piece (control byte) rest (Some (bare_command at byte)) (c, s, n) (omega arith) refl)
+      | inr n ↦ rw (unknown_again rest (operation_of (One byte)) n) (wrong (unknown_control c s n))
+    ])
     (λ c. text_run (rw (s, c, e) refl))))
 
 -- ---- from the parts to the step
-
--- a name that is performed gives its command
-pub named_again : {at code : ℕ} {rest : List ℕ} (operation : Option Operation) → is_some operation ≡ true
-    → named_by operation at code rest ≡ piece_reads (Some (bare_command at code)) rest
-named_again None s = absurd cc
-named_again (Some operation) s = refl
-
--- a name that isn't performed is refused
-pub unknown_again : {at code : ℕ} (rest : List ℕ) (operation : Option Operation) → is_some operation ≡ false
-    → named_by operation at code rest ≡ refuse UnsupportedCommand at (One code)
-unknown_again rest None s = refl
-unknown_again rest (Some operation) s = absurd cc
 
 -- a step at a control code looks at its name
 pub at_control : (at code : ℕ) (rest : List ℕ) → is_control code ≡ true → is_silent code ≡ false

@@ -14,7 +14,7 @@ use Rattle.pcl_escape.specs.Checks.{parameter_checks, is_exit}
 use Rattle.pcl_escape.specs.inner.Scan.{Reads, letter_at, checked_at, parameter_at}
 use Rattle.pcl_escape.specs.Pieces.{Parameter, IsField, IsMiddle, IsEnd, PassesChecks, parameter_bytes, command_of}
 use Rattle.pcl_escape.specs.Faults.{FailsParameter, cut, no_letter, check, extends, is_bare}
-use Rattle.pcl_escape.proofs.Fields.{by_test, FieldStops, field_split, field_again, and_parts}
+use Rattle.pcl_escape.proofs.Fields.{by_test, FieldStops, field_split, field_again}
 use Rattle.pcl_escape.proofs.Checks.{checks_take, none_behind}
 
 -- what a step reads of a middle parameter
@@ -126,9 +126,9 @@ inside_found {prefix} g (is_leave parameter sent rest is l) =
 -- a middle parameter is none
 pub middle_stays : {prefix : Prefix} {parameter : Parameter} → IsMiddle prefix parameter → is_leaving prefix parameter ≡ false
 middle_stays {prefix} {parameter} m =
+    let goes : (is_some prefix.group && goes_on parameter.letter) ≡ true = m.letter in
     grouped_stays prefix.parameterized prefix.group (if goes_on parameter.letter then parameter.letter - 32 else parameter.letter)
-    (field_value parameter.field)
-    (and_parts (is_some prefix.group) (goes_on parameter.letter) m.letter).0
+    (field_value parameter.field) (grind arith)
 
 pub grouped_step : {prefix : Prefix} {at : ℕ} {bytes : List ℕ} → is_some prefix.group ≡ true
     → Inside prefix at bytes (parameter_at prefix at bytes)
