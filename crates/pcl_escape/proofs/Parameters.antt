@@ -1,22 +1,14 @@
 -- What a step of the code reads inside a sequence, by what it found: no letter, a fault of the checks, or a parameter.
-use Rattle.std.proofs.Common.{◌≡◌, ℕ, ◌+◌, ◌-◌, Bool, true, false, if◌then◌else◌, List, [], ◌∷◌, length, take, drop, Option, Some, None, Result, Ok, Err, refl, sym, ap, subst, ◌∙◌, arith}
+use Rattle.std.proofs.Common.{◌≡◌, ℕ, Bool, true, false, if◌then◌else◌, List, [], ◌∷◌, length, Some, None, Err, refl}
 use Rattle.std.specs.Bool.{then_some}
-use Rattle.pcl_base.specs.declared.kind.Kind.{Kind}
-use Rattle.pcl_base.specs.declared.kind.Kind.TheVariants.{Truncated, BadSequence, ValueRange, NotPcl}
-use Rattle.pcl_base.specs.declared.name.Name.{Name}
-use Rattle.pcl_base.specs.declared.refusal.Refusal.{Refusal}
+use Rattle.pcl_base.specs.declared.kind.Kind.TheVariants.{Truncated}
 use Rattle.pcl_base.specs.declared.value.Value.{Value}
-use Rattle.pcl_base.specs.Operation.{operation_of}
 use Rattle.pcl_base.specs.Refusal.{refusal}
 use Rattle.pcl_escape.specs.declared.step.Prefix.{Prefix}
-use Rattle.pcl_escape.specs.declared.step.Progress.{Progress}
-use Rattle.pcl_escape.specs.Letter.{goes_on, is_letter, prefix_name, parameter_name}
-use Rattle.pcl_escape.specs.Field.{Spelled, field_value, in_range}
+use Rattle.pcl_escape.specs.Letter.{prefix_name}
+use Rattle.pcl_escape.specs.Field.{Spelled}
 use Rattle.pcl_escape.specs.inner.Fields.{field_at}
-use Rattle.pcl_escape.specs.Checks.{operation_checks, parameter_checks, exit_name, is_exit}
-use Rattle.pcl_escape.specs.inner.Lines.{lines_at}
-use Rattle.pcl_escape.specs.Said.{Said}
-use Rattle.pcl_escape.specs.inner.Scan.{Reads, Gives, letter_at, checked_at, parameter_at, with_lines, ungrouped_at}
+use Rattle.pcl_escape.specs.inner.Scan.{parameter_at}
 
 -- nothing is after the field at the front
 pub nothing_behind : (prefix : Prefix) (at : ℕ) (bytes : List ℕ) {field : Spelled} (rest : List ℕ) → (field, rest) ≡ field_at bytes

@@ -1,6 +1,4 @@
-use Rattle.std.proofs.Common.{◌≡◌, false, refl, sym, ap, ◌∙◌, length, arith}
-use Rattle.std.specs.Bool.{then_some}
-use Rattle.pcl_escape.specs.declared.step.Prefix.{Prefix}
+use Rattle.std.proofs.Common.{◌≡◌, false, refl, length}
 use Rattle.pcl_escape.specs.Checks.{parameter_checks}
 use Rattle.pcl_escape.specs.Field.{spelled, field_value, in_range}
 use Rattle.pcl_escape.specs.inner.Scan.{parameter_at, checked_at}
