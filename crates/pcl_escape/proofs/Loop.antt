@@ -1,5 +1,5 @@
 -- The steps of the loop: each takes the front off the reading.
-use Rattle.std.proofs.Common.{◌≡◌, ℕ, suc, ◌+◌, ◌-◌, ◌<◌, ◌≤◌, true, false, ◌==◌, is_some, List, [], ◌∷◌, ◌++◌, length, Option, Some, None, Result, Ok, Err, refl, sym, append-nil, eqb-true, arith}
+use Rattle.std.proofs.Common.{◌≡◌, ℕ, suc, ◌+◌, ◌-◌, ◌<◌, ◌≤◌, true, false, ◌==◌, ◌&&◌, not, is_some, List, [], ◌∷◌, ◌++◌, length, Option, Some, None, Result, Ok, Err, refl, sym, append-nil, eqb-true, arith}
 use Rattle.pcl_base.specs.declared.refusal.Refusal.{Refusal}
 use Rattle.pcl_escape.specs.declared.step.Prefix.{Prefix}
 use Rattle.pcl_escape.specs.Said.{Said}
@@ -9,27 +9,14 @@ use Rattle.pcl_escape.proofs.Starts.{start_step}
 use Rattle.pcl_escape.proofs.Runs.{with_fronts, start_shorter}
 use Rattle.pcl_escape.proofs.Again.{enough}
 
--- there is more to read
+-- there is more to read: bytes are left, or a sequence goes on
 abbrev pub GoesOn : Option Prefix → List ℕ → Type 0
-GoesOn None [] = ⊥
-GoesOn None (byte ∷ bytes) = Unit {0}
-GoesOn (Some prefix) bytes = Unit {0}
-
--- with bytes left there is more to read
-pub goes_on_bytes : (inside : Option Prefix) (bytes : List ℕ) → false ≡ (length bytes == 0) → GoesOn inside bytes
-goes_on_bytes None [] e = absurd cc
-goes_on_bytes None (byte ∷ bytes) e = tt
-goes_on_bytes (Some prefix) bytes e = tt
-
--- inside a sequence there is more to read
-pub goes_on_inside : (inside : Option Prefix) (bytes : List ℕ) → true ≡ is_some inside → GoesOn inside bytes
-goes_on_inside None bytes e = absurd cc
-goes_on_inside (Some prefix) bytes e = tt
+GoesOn inside bytes = (length bytes == 0 && not (is_some inside)) ≡ false
 
 -- a step takes a byte
 pub step_shorter : (inside : Option Prefix) (at : ℕ) (bytes : List ℕ) {reads : Reads} → GoesOn inside bytes
     → step_at inside at bytes ≡ Ok reads → length reads.rest < length bytes
-step_shorter None at [] goes e = absurd goes
+step_shorter None at [] goes e = absurd cc
 step_shorter None at (byte ∷ bytes) goes e = start_shorter start_step e
 step_shorter (Some prefix) at bytes goes e = parameter_shorter prefix at bytes e
 
@@ -38,7 +25,7 @@ first_step : (n : ℕ) (inside : Option Prefix) (at : ℕ) (bytes : List ℕ) �
     → outcome (suc n) inside at bytes ≡ and_then (step_at inside at bytes)
     (λ reads. outcome n reads.inside (at + (length bytes - length reads.rest)) reads.rest)
 unfolding outcome
-first_step n None at [] goes = absurd goes
+first_step n None at [] goes = absurd cc
 first_step n None at (byte ∷ bytes) goes = refl
 first_step n (Some prefix) at bytes goes = refl
 

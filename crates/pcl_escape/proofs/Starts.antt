@@ -253,39 +253,37 @@ pub field_apart : (field : Spelled) (letter : ℕ) (rest : List ℕ) → IsField
     → IsUngrouped None (field_bytes field ++ letter ∷ rest)
 field_apart field letter rest f l = parts_apart field.sign field.whole field.fraction letter rest f.0 l
 
--- what a step reads of the first parameter: as it would inside, and where there is no group character, with lines
-abbrev pub first_reads : ℕ → Prefix → List ℕ → Result Reads Refusal
-first_reads at prefix bytes = if is_some prefix.group then parameter_at prefix at bytes else with_lines (at + 2) (length bytes)
-    (parameter_at prefix at bytes)
-
-first_by : (parameterized : ℕ) (group : Option ℕ) (at : ℕ) (bytes : List ℕ)
-    → IsPrefix (record { parameterized = parameterized; group = group }) → IsUngrouped group bytes
-    → start_at at (27 ∷ (prefix_bytes (record { parameterized = parameterized; group = group }) ++ bytes))
-    ≡ first_reads at (record { parameterized = parameterized; group = group }) bytes
+-- a step reads the parameter of a sequence without a group character, and then lines
+ungrouped_again : (at parameterized : ℕ) (bytes : List ℕ) → is_ungrouped parameterized ≡ true → IsUngrouped None bytes
+    → start_at at (27 ∷ parameterized ∷ bytes)
+    ≡ with_lines (at + 2) (length bytes) (parameter_at (record { parameterized = parameterized; group = None }) at bytes)
 unfolding prefix_at ungrouped_at parameter_at field_at
-first_by parameterized None at [] p n = at_prefix at parameterized [] (grind (arith, nat_tests))
-first_by parameterized None at (byte ∷ bytes) p n = at_prefix at parameterized (byte ∷ bytes) (grind (arith, nat_tests))
-    ∙ rw (n, p) refl
-first_by parameterized (Some group) at bytes p n = at_prefix at parameterized (group ∷ bytes) p.0 ∙ rw p.1 refl
-
-pub first_again : (prefix : Prefix) (at : ℕ) (bytes : List ℕ) → IsPrefix prefix → IsUngrouped prefix.group bytes
-    → start_at at (27 ∷ (prefix_bytes prefix ++ bytes)) ≡ first_reads at prefix bytes
-first_again prefix at bytes p n = first_by prefix.parameterized prefix.group at bytes p n
+ungrouped_again at parameterized [] p n = at_prefix at parameterized [] (grind (arith, nat_tests))
+ungrouped_again at parameterized (byte ∷ bytes) p n =
+    at_prefix at parameterized (byte ∷ bytes) (grind (arith, nat_tests)) ∙ rw (n, p) refl
 
 -- what stands inside a sequence is no universal exit, after which more is read
-no_lines : {prefix : Prefix} {at : ℕ} {bytes : List ℕ} {read : Result Reads Refusal} (grouped : Bool) (begin len : ℕ)
-    → Inside prefix at bytes read → (if grouped then read else with_lines begin len read) ≡ read
-no_lines true begin len inside = refl
-no_lines false begin len (is_middle parameter rest m) = rw (middle_stays m) refl
-no_lines false begin len (is_end parameter sent rest e) = rw e.stays refl
-no_lines false begin len (is_wrong f) = refl
+no_lines : {prefix : Prefix} {at : ℕ} {bytes : List ℕ} {read : Result Reads Refusal} (begin len : ℕ)
+    → Inside prefix at bytes read → with_lines begin len read ≡ read
+no_lines begin len (is_middle parameter rest m) = rw (middle_stays m) refl
+no_lines begin len (is_end parameter sent rest e) = rw e.stays refl
+no_lines begin len (is_wrong f) = refl
+
+inside_by : (parameterized : ℕ) (group : Option ℕ) {at : ℕ} {bytes : List ℕ} {read : Result Reads Refusal}
+    → IsPrefix (record { parameterized = parameterized; group = group }) → IsUngrouped group bytes
+    → Inside (record { parameterized = parameterized; group = group }) at bytes read
+    → start_at at (27 ∷ (prefix_bytes (record { parameterized = parameterized; group = group }) ++ bytes)) ≡ read
+unfolding prefix_at
+inside_by parameterized None {at} {bytes} p n inside =
+    ungrouped_again at parameterized bytes p n ∙ rw (inside_reads inside) (no_lines (at + 2) (length bytes) inside)
+inside_by parameterized (Some group) {at} {bytes} p n inside =
+    at_prefix at parameterized (group ∷ bytes) p.0 ∙ rw p.1 (inside_reads inside)
 
 -- a step reads the first parameter as it would inside
 pub inside_again : {prefix : Prefix} {at : ℕ} {bytes : List ℕ} {read : Result Reads Refusal} → IsPrefix prefix
     → IsUngrouped prefix.group bytes → Inside prefix at bytes read
     → start_at at (27 ∷ (prefix_bytes prefix ++ bytes)) ≡ read
-inside_again {prefix} {at} {bytes} p n inside =
-    first_again prefix at bytes p n ∙ rw (inside_reads inside) (no_lines (is_some prefix.group) (at + 2) (length bytes) inside)
+inside_again {prefix} p n inside = inside_by prefix.parameterized prefix.group p n inside
 
 -- ---- universal exits
 
@@ -296,7 +294,7 @@ exit_first : (at : ℕ) (field : Spelled) (bytes : List ℕ) → IsField field �
     (lines_at (at + 3 + length (field_bytes field)) bytes)
 exit_first at field bytes f x e =
     let last : IsLast percent (exit_parameter field) [] = record { field = f; letter = refl; checks = e } in
-    first_again percent at (parameter_bytes (exit_parameter field) ++ bytes) refl
+    ungrouped_again at 37 (parameter_bytes (exit_parameter field) ++ bytes) refl
     (rw (parameter_joined field 88 bytes) (field_apart field 88 bytes f refl)) ∙ rw (last_again at bytes last) (exit_reads at field bytes x)
 
 pub exit_again : {at : ℕ} {field : Spelled} {lines : List (List ℕ)} {rest : List ℕ} → IsExit field lines rest

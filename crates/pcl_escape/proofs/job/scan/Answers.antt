@@ -1,6 +1,6 @@
 use Rattle.std.proofs.Common.{◌-◌, length, arith, refl, sym, ap, ◌∙◌}
 use Rattle.pcl_escape.specs.inner.Scan.{step_view}
-use Rattle.pcl_escape.proofs.Loop.{GoesOn, goes_on_bytes, goes_on_inside, step_shorter, so_far, one_more, stops_at, is_done}
+use Rattle.pcl_escape.proofs.Loop.{GoesOn, step_shorter, so_far, one_more, stops_at, is_done}
 use Rattle.pcl_escape.proofs.Places.{step_placed}
 use Rattle.pcl_escape.proofs.job.scan.Given.{Over}
 use Rattle.pcl_escape.proofs.job.scan.Goals as goal
@@ -9,9 +9,8 @@ use Rattle.pcl_escape.proofs.job.scan.Goals.{After-read_step, then-not-is_empty,
 -- what the loop's test says
 more_to_read : (g : Over) (c : After-read_step g) → GoesOn c.loop-inside.inside c.loop-inside.rest.now
 more_to_read g c = elim c.if-not-is_empty.branch [
-  | then-not-is_empty w ↦ goes_on_bytes _ _ w.if-not-is_empty.ensures
-  | else-not-is_empty+then-is_some w ↦ goes_on_inside _ _
-      w.if-is_some.ensures
+  | then-not-is_empty w ↦ rw (← w.if-not-is_empty.ensures) refl
+  | else-not-is_empty+then-is_some w ↦ rw (← w.if-not-is_empty.ensures, ← w.if-is_some.ensures) refl
 ]
 
 pub returns-in-Err : goal.returns-in-Err
