@@ -4,14 +4,16 @@ use Rattle.std.specs.List.{flat_map, AllByRecursion}
 use Rattle.pcl_base.specs.declared.refusal.Refusal.{Refusal}
 use Rattle.pcl_escape.specs.declared.step.Prefix.{Prefix}
 use Rattle.pcl_escape.specs.Letter.{prefix_bytes}
+use Rattle.pcl_escape.specs.Exit.{joined}
 use Rattle.pcl_escape.specs.Said.{Said}
 use Rattle.pcl_base.specs.Operation.{operation_of}
 use Rattle.pcl_base.specs.declared.name.Name.TheVariants.{One}
 use Rattle.pcl_escape.specs.inner.Scan.{Reads, start_at, sequence_at, prefix_at, parameter_at, commands_said, with_front, and_then, outcome, outcome_of}
 use Rattle.pcl_escape.specs.Pieces.{Parameter, Piece, silent, control, text, two_character, combined, exit, IsPrefix, IsPiece, ArePieces, IsMiddle, IsEnd, IsReading, parameter_bytes, spelling, command_of, parameter_commands, first_place, commands_from, commands_of}
 use Rattle.pcl_escape.specs.Faults.{Fails, unknown_control, lone_escape, no_sequence, unknown_two, no_group, bad_group, in_parameter, in_line, IsUngrouped, FailsParameter, place_behind, IsFault}
+use Rattle.pcl_escape.proofs.Lines.{foreign}
 use Rattle.pcl_escape.proofs.Steps.{Inside, is_inside, found_shorter, is_middle, is_end, is_wrong, parameter_shorter, parameter_joined, inside_reads}
-use Rattle.pcl_escape.proofs.Starts.{piece_reads, named_again, unknown_again, at_control, at_two, at_prefix, text_again, inside_again, field_apart, exit_again, in_line_again, start_step}
+use Rattle.pcl_escape.proofs.Starts.{piece_reads, named_again, unknown_again, at_control, at_two, at_prefix, text_again, inside_again, field_apart, exit_first, exit_again, start_step}
 use Rattle.pcl_escape.proofs.Runs.{Last, no_more, first_fault, sequence_bytes, place_from, place_from_more, place_in_sequence, place_prefixed, grouped_any, middle_grouped, place_of, place_further, place_in, with_fronts, no_front, start_shorter}
 
 -- ---- any number of steps that is enough
@@ -190,7 +192,9 @@ fault_found {n} {at} (in_parameter prefix middle is apart each f) h =
     let long = simp length-append at h in
     rw (sequence_on n at middle is apart each (is_wrong f)) (broken_again middle n at (first_place at prefix) each
     (rw (← place_in_sequence at prefix middle) at f) (simp length-append (omega arith)))
-fault_found {at} (in_line field lines line f x e each ends l p) h = rw (in_line_again at field lines f x e each ends l p) refl
+fault_found {at} (in_line {bytes = rest} field lines line f x e each ends l p) h =
+    let bytes = joined lines ++ (line ++ rest) in
+    rw (← parameter_joined field 88 bytes, exit_first at field bytes f x e (foreign lines line rest each ends l p)) refl
 
 -- what stands after the last piece is read so
 last_again : (n : ℕ) {at : ℕ} {behind : List ℕ} {last : Result (List Said) Refusal} → Last at behind last → length behind < n

@@ -191,20 +191,15 @@ asking_line : (m place : ℕ) {line behind : List ℕ} {pcl : Bool} → length (
 asking_line zero place h is l p = absurd (omega arith)
 asking_line (suc m) place h is l p = at_line m place is ∙ rw (l, p) refl
 
--- lines are skipped
-pub lines_again : {all : List (List ℕ)} (place : ℕ) {rest : List ℕ} → AreLines all rest → lines_at place (joined all ++ rest) ≡ Ok rest
-lines_again place {rest} (to_other_bytes lines each e) =
+-- lines are skipped, and one that asks for another language is found
+pub lines_again : {place : ℕ} {bytes : List ℕ} {read : Result (List ℕ) ℕ} → Lines place bytes read → lines_at place bytes ≡ read
+lines_again {place} (skipped all rest (to_other_bytes lines each e)) =
     others_again lines (suc (length (joined lines ++ rest))) place rest each (omega arith)
     (λ m fits. other_bytes m (place + length (joined lines)) fits e)
-lines_again place {rest} (to_pcl lines line each ends l p) =
+lines_again {place} (skipped all rest (to_pcl lines line each ends l p)) =
     rw (last_joined lines line rest) (others_again lines (suc (length (joined lines ++ (line ++ rest)))) place (line ++ rest) each
     (omega arith) (λ m fits. asking_line m (place + length (joined lines)) fits ends l p))
-
--- a line that asks for another language is found
-pub foreign_again : (lines : List (List ℕ)) (place : ℕ) {line rest : List ℕ} → AreOtherLines lines (line ++ rest) → IsLine line rest
-    → IsTrue (names_language line) → names_pcl line ≡ false
-    → lines_at place (joined lines ++ (line ++ rest)) ≡ Err (place + length (joined lines))
-foreign_again lines place {line} {rest} each ends l p =
+lines_again {place} (foreign lines line rest each ends l p) =
     others_again lines (suc (length (joined lines ++ (line ++ rest)))) place (line ++ rest) each
     (omega arith) (λ m fits. asking_line m (place + length (joined lines)) fits ends l p)
 

@@ -27,7 +27,7 @@ use Rattle.pcl_escape.specs.Pieces.{Parameter, Piece, silent, control, text, two
 use Rattle.pcl_escape.specs.Faults.{Fails, unknown_control, lone_escape, no_sequence, unknown_two, no_group, bad_group, in_line, IsUngrouped, cut}
 use Rattle.pcl_escape.proofs.Fields.{by_test}
 use Rattle.pcl_base.proofs.Fronts.{Pass, StopsAt, front_yes, front_split, front_again}
-use Rattle.pcl_escape.proofs.Lines.{Lines, skipped, foreign, lines_split, lines_again, foreign_again}
+use Rattle.pcl_escape.proofs.Lines.{Lines, skipped, foreign, lines_split, lines_again}
 use Rattle.pcl_escape.proofs.Checks.{exit_takes_none}
 use Rattle.pcl_escape.proofs.Steps.{Inside, is_middle, is_end, is_wrong, Found, is_inside, is_leave, IsLast, is_leaving, end_reads, parameter_step, grouped_step, parameter_joined, last_again, middle_stays, inside_reads}
 
@@ -288,34 +288,21 @@ inside_again {prefix} p n inside = inside_by prefix.parameterized prefix.group p
 -- ---- universal exits
 
 -- a step reads a universal exit and then its lines
-exit_first : (at : ℕ) (field : Spelled) (bytes : List ℕ) → IsField field → is_exit exit_name (field_value field) ≡ true
-    → parameter_checks exit_name 88 (field_value field) 0 ≡ Ok 0
-    → start_at at (27 ∷ 37 ∷ (parameter_bytes (exit_parameter field) ++ bytes)) ≡ skipped_by bytes (Some (exit_command at field []))
-    (lines_at (at + 3 + length (field_bytes field)) bytes)
-exit_first at field bytes f x e =
+pub exit_first : (at : ℕ) (field : Spelled) (bytes : List ℕ) {read : Result (List ℕ) ℕ} → IsField field
+    → is_exit exit_name (field_value field) ≡ true → parameter_checks exit_name 88 (field_value field) 0 ≡ Ok 0
+    → Lines (at + 3 + length (field_bytes field)) bytes read
+    → start_at at (27 ∷ 37 ∷ (parameter_bytes (exit_parameter field) ++ bytes)) ≡ skipped_by bytes (Some (exit_command at field [])) read
+exit_first at field bytes f x e lines =
     let last : IsLast percent (exit_parameter field) [] = record { field = f; letter = refl; checks = e } in
     ungrouped_again at 37 (parameter_bytes (exit_parameter field) ++ bytes) refl
-    (rw (parameter_joined field 88 bytes) (field_apart field 88 bytes f refl)) ∙ rw (last_again at bytes last) (exit_reads at field bytes x)
+    (rw (parameter_joined field 88 bytes) (field_apart field 88 bytes f refl))
+    ∙ rw (last_again at bytes last, exit_reads at field bytes x, lines_again lines) refl
 
 pub exit_again : {at : ℕ} {field : Spelled} {lines : List (List ℕ)} {rest : List ℕ} → IsExit field lines rest
     → start_at at (spelling (exit field lines) ++ rest) ≡ piece_reads (Some (exit_command at field lines)) rest
 exit_again {at} {field} {lines} {rest} is =
     rw (
       exit_joined field (joined lines) rest,
-      exit_first at field (joined lines ++ rest) is.field_is is.leaves is.checks,
-      lines_again (at + 3 + length (field_bytes field)) is.lines_are,
+      exit_first at field (joined lines ++ rest) is.field_is is.leaves is.checks (skipped lines rest is.lines_are),
       before_rest_is (joined lines) rest,
-    ) refl
-
--- a step finds a line that asks for another language
-pub in_line_again : (at : ℕ) (field : Spelled) (lines : List (List ℕ)) {line rest : List ℕ} → IsField field
-    → is_exit exit_name (field_value field) ≡ true → parameter_checks exit_name 88 (field_value field) 0 ≡ Ok 0
-    → AreOtherLines lines (line ++ rest) → IsLine line rest → IsTrue (names_language line) → names_pcl line ≡ false
-    → start_at at (27 ∷ 37 ∷ (field_bytes field ++ 88 ∷ (joined lines ++ (line ++ rest))))
-    ≡ Err (refusal NotPcl (at + 3 + length (field_bytes field) + length (joined lines)) exit_name)
-in_line_again at field lines {line} {rest} f x e each ends l p =
-    rw (
-      ← parameter_joined field 88 (joined lines ++ (line ++ rest)),
-      exit_first at field (joined lines ++ (line ++ rest)) f x e,
-      foreign_again lines (at + 3 + length (field_bytes field)) each ends l p,
     ) refl
