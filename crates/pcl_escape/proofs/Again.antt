@@ -1,5 +1,6 @@
 -- All steps, the other way: bytes that are whole pieces are read as these, and the first fault is found.
-use Rattle.std.proofs.Common.{◌≡◌, ℕ, zero, suc, ◌+◌, ◌-◌, ◌<◌, ◌≤◌, List, [], ◌∷◌, ◌++◌, length, Option, Some, None, Result, Ok, Err, refl, sym, ap, ◌∙◌, append_assoc, append-nil, length-append, add-zero, zero-add, arith}
+use Rattle.std.proofs.Common.{◌≡◌, true, false, ◌==◌, ◌&&◌, not, is_some, ℕ, zero, suc, ◌+◌, ◌-◌, ◌<◌, ◌≤◌, List, [], ◌∷◌, ◌++◌, length, Option, Some, None, Result, Ok, Err, refl, sym, ap, ◌∙◌, append_assoc, append-nil, length-append, add-zero, zero-add, arith}
+use Rattle.std.proofs.lemmas.Bool.Decides.{nat_tests}
 use Rattle.std.specs.List.{flat_map, AllByRecursion}
 use Rattle.pcl_base.specs.declared.refusal.Refusal.{Refusal}
 use Rattle.pcl_escape.specs.declared.step.Prefix.{Prefix}
@@ -8,7 +9,7 @@ use Rattle.pcl_escape.specs.Exit.{joined}
 use Rattle.pcl_escape.specs.Said.{Said}
 use Rattle.pcl_base.specs.Operation.{operation_of}
 use Rattle.pcl_base.specs.declared.name.Name.TheVariants.{One}
-use Rattle.pcl_escape.specs.inner.Scan.{Reads, start_at, sequence_at, prefix_at, parameter_at, commands_said, with_front, and_then, outcome, outcome_of}
+use Rattle.pcl_escape.specs.inner.Scan.{Reads, step_at, start_at, sequence_at, prefix_at, parameter_at, commands_said, with_front, and_then, outcome, outcome_of}
 use Rattle.pcl_escape.specs.Pieces.{Parameter, Piece, silent, control, text, two_character, combined, exit, IsPrefix, IsPiece, ArePieces, IsMiddle, IsEnd, IsReading, parameter_bytes, spelling, command_of, parameter_commands, first_place, commands_from, commands_of}
 use Rattle.pcl_escape.specs.Faults.{Fails, unknown_control, lone_escape, no_sequence, unknown_two, no_group, bad_group, in_parameter, in_line, IsUngrouped, FailsParameter, place_behind, IsFault}
 use Rattle.pcl_escape.proofs.Lines.{foreign}
@@ -126,13 +127,18 @@ sequence_on n {prefix} at (parameter ∷ middle) {bytes} is apart each inside =
 
 -- ---- pieces
 
--- the steps from a byte on: one step, and the steps after it
-start_on : (n at : ℕ) (bytes : List ℕ) → 0 < length bytes
-    → outcome (suc n) None at bytes ≡ and_then (start_at at bytes)
+-- there is more to read: bytes are left, or a sequence goes on
+abbrev pub GoesOn : Option Prefix → List ℕ → Type 0
+GoesOn inside bytes = (length bytes == 0 && not (is_some inside)) ≡ false
+
+-- the first step, and then the others
+pub first_step : (n : ℕ) (inside : Option Prefix) (at : ℕ) (bytes : List ℕ) → GoesOn inside bytes
+    → outcome (suc n) inside at bytes ≡ and_then (step_at inside at bytes)
     (λ reads. outcome n reads.inside (at + (length bytes - length reads.rest)) reads.rest)
 unfolding outcome
-start_on n at [] h = absurd (omega arith)
-start_on n at (byte ∷ bytes) h = refl
+first_step n None at [] goes = absurd cc
+first_step n None at (byte ∷ bytes) goes = refl
+first_step n (Some prefix) at bytes goes = refl
 
 -- the steps from a piece on that one step reads
 piece_on : (piece : Piece) {n : ℕ} (at : ℕ) {rest : List ℕ} {said : Option Said} {read : Result (List Said) Refusal}
@@ -141,8 +147,9 @@ piece_on : (piece : Piece) {n : ℕ} (at : ℕ) {rest : List ℕ} {said : Option
     → outcome (suc n) None at (spelling piece ++ rest) ≡ with_front (commands_said said) read
 piece_on piece {n} at {rest} long e h gives =
     let fits = simp length-append at h in
+    let some : 0 < length (spelling piece ++ rest) = simp length-append (omega arith) in
     rw (
-      start_on n at (spelling piece ++ rest) (simp length-append (omega arith)),
+      first_step n None at (spelling piece ++ rest) (grind (arith, nat_tests)),
       e,
       place_of at (spelling piece) rest,
       gives n (omega arith),

@@ -7,11 +7,7 @@ use Rattle.pcl_escape.specs.inner.Scan.{Reads, step_at, commands_said, with_fron
 use Rattle.pcl_escape.proofs.Steps.{parameter_shorter}
 use Rattle.pcl_escape.proofs.Starts.{start_step}
 use Rattle.pcl_escape.proofs.Runs.{with_fronts, start_shorter}
-use Rattle.pcl_escape.proofs.Again.{enough}
-
--- there is more to read: bytes are left, or a sequence goes on
-abbrev pub GoesOn : Option Prefix → List ℕ → Type 0
-GoesOn inside bytes = (length bytes == 0 && not (is_some inside)) ≡ false
+use Rattle.pcl_escape.proofs.Again.{GoesOn, first_step, enough}
 
 -- a step takes a byte
 pub step_shorter : (inside : Option Prefix) (at : ℕ) (bytes : List ℕ) {reads : Reads} → GoesOn inside bytes
@@ -19,15 +15,6 @@ pub step_shorter : (inside : Option Prefix) (at : ℕ) (bytes : List ℕ) {reads
 step_shorter None at [] goes e = absurd cc
 step_shorter None at (byte ∷ bytes) goes e = start_shorter start_step e
 step_shorter (Some prefix) at bytes goes e = parameter_shorter prefix at bytes e
-
--- the first step, and then the others
-first_step : (n : ℕ) (inside : Option Prefix) (at : ℕ) (bytes : List ℕ) → GoesOn inside bytes
-    → outcome (suc n) inside at bytes ≡ and_then (step_at inside at bytes)
-    (λ reads. outcome n reads.inside (at + (length bytes - length reads.rest)) reads.rest)
-unfolding outcome
-first_step n None at [] goes = absurd cc
-first_step n None at (byte ∷ bytes) goes = refl
-first_step n (Some prefix) at bytes goes = refl
 
 -- what was read before, and what is still read of the rest of so many bytes
 abbrev pub so_far : List Said → ℕ → Option Prefix → List ℕ → Result (List Said) Refusal

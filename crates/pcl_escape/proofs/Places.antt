@@ -64,14 +64,14 @@ code_stands at code rest = elim (operation_of (One code)) as (λ operation. Stan
 -- ---- parameters
 
 -- the letter of a name is no zero
-letter_told : (parameterized : ℕ) (group : Option ℕ) (letter : ℕ) → (letter == 0) ≡ false
-    → IsTold (name_with_letter parameterized group letter)
-letter_told parameterized None letter n = rw n refl
-letter_told parameterized (Some group) letter n = rw n refl
-
 parameter_told : (prefix : Prefix) (letter : ℕ) → is_letter prefix letter ≡ true → IsTold (parameter_name prefix letter)
 parameter_told prefix letter l =
-    letter_told prefix.parameterized prefix.group (if goes_on letter then letter - 32 else letter) (grind (arith, nat_tests))
+    let upper_case = if goes_on letter then letter - 32 else letter in
+    let some : (upper_case == 0) ≡ false = grind (arith, nat_tests) in
+    elim prefix.group as (λ group. IsTold (name_with_letter prefix.parameterized group upper_case)) [
+      | None ↦ rw some refl
+      | Some group ↦ rw some refl
+    ]
 
 checked_stands : (prefix : Prefix) (at letter : ℕ) (value : Value) (bytes : List ℕ) (checks : Result ℕ Kind)
     → IsTold (parameter_name prefix letter) → Stands (letter ∷ bytes) (checked_at prefix at letter value bytes checks)

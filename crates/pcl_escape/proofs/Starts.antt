@@ -122,11 +122,6 @@ exit_reads at field bytes x =
     simp length-append (omega arith) in
     rw (x, place) refl
 
--- an exit's name is spelled with % and X
-exit_spelled : {byte letter : ℕ} (value : Value) → is_last letter ≡ true
-    → is_exit (parameter_name (record { parameterized = byte; group = None }) letter) value ≡ true → (37 ≡ byte) × (88 ≡ letter)
-exit_spelled {byte} {letter} value l x = (grind (arith, nat_tests), grind (arith, nat_tests))
-
 -- a leaving parameter of a sequence without a group character
 abbrev LeavesAt : ℕ → Spelled → List ℕ → List ℕ → ℕ → ℕ → Type 0
 LeavesAt at field sent rest byte letter =
@@ -138,14 +133,16 @@ LeavesAt at field sent rest byte letter =
 
 -- it is an exit, which has no data
 leave_step : {at : ℕ} {field : Spelled} {sent : List ℕ} (rest : List ℕ) {byte letter : ℕ} → LeavesAt at field sent rest byte letter
-leave_step {at} {field} {sent} rest {letter} is x =
-    let spelled = exit_spelled (field_value field) is.letter x in
+leave_step {at} {field} {sent} rest {byte} {letter} is x =
+    let last : is_last letter ≡ true = is.letter in
+    let percent_is : 37 ≡ byte = grind (arith, nat_tests) in
+    let letter_is : 88 ≡ letter = grind (arith, nat_tests) in
     let empty : LeavesAt at field [] rest 37 88 = λ last leaves. rw (exit_reads at field rest leaves)
     (exit_lines field last.field leaves last.checks (lines_split (suc (length rest)) {bytes = rest} (omega arith))) in
     let here : LeavesAt at field sent rest 37 88 = λ last leaves.
     let none : sent ≡ [] = nil_from_length sent (exit_takes_none 88 (field_value field) (length sent) last.checks) in
     subst (λ (bs : List ℕ). LeavesAt at field bs rest 37 88) (sym none) empty last leaves in
-    subst₂ (LeavesAt at field sent rest) spelled.0 spelled.1 here is x
+    subst₂ (LeavesAt at field sent rest) percent_is letter_is here is x
 
 -- ---- sequences without a group character
 

@@ -1,6 +1,7 @@
 use Rattle.std.proofs.Common.{◌-◌, length, arith, refl, sym, ap, ◌∙◌}
 use Rattle.pcl_escape.specs.inner.Scan.{step_view}
-use Rattle.pcl_escape.proofs.Loop.{GoesOn, step_shorter, so_far, one_more, stops_at, is_done}
+use Rattle.pcl_escape.proofs.Again.{GoesOn}
+use Rattle.pcl_escape.proofs.Loop.{step_shorter, so_far, one_more, stops_at, is_done}
 use Rattle.pcl_escape.proofs.Places.{step_placed}
 use Rattle.pcl_escape.proofs.job.scan.Given.{Over}
 use Rattle.pcl_escape.proofs.job.scan.Goals as goal
