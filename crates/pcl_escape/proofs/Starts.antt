@@ -1,25 +1,23 @@
 -- What a step reads outside sequences: a whole piece, the first parameter of a sequence, or a fault.
-use Rattle.std.proofs.Common.{◌≡◌, ℕ, suc, ◌+◌, ◌-◌, ◌<◌, Bool, true, false, ◌==◌, if◌then◌else◌, IsTrue, is_some, List, [], ◌∷◌, ◌++◌, length, take, take_at, drop, Option, Some, None, Result, Ok, Err, inl, inr, refl, sym, ap, subst, subst₂, ◌∙◌, append_assoc, length-append, arith}
+use Rattle.std.proofs.Common.{◌≡◌, ℕ, suc, ◌+◌, ◌-◌, ◌<◌, true, false, ◌==◌, IsTrue, is_some, List, [], ◌∷◌, ◌++◌, length, take, take_at, drop, Option, Some, None, Result, Ok, Err, inl, inr, refl, sym, ap, subst, subst₂, ◌∙◌, append_assoc, length-append, arith}
 use Rattle.std.proofs.lemmas.Bool.{eqb-true, cases_Bool}
 use Rattle.std.proofs.lemmas.Bool.Decides.{nat_tests}
 use Rattle.std.specs.List.{prefix_len}
 use Rattle.std.proofs.lemmas.List.{nil_from_length}
 use Rattle.pcl_base.specs.declared.name.Name.TheVariants.{One}
-use Rattle.pcl_base.specs.declared.kind.Kind.TheVariants.{Truncated, UnsupportedCommand, NotPcl}
+use Rattle.pcl_base.specs.declared.kind.Kind.TheVariants.{Truncated, UnsupportedCommand}
 use Rattle.pcl_base.specs.declared.operation.Operation.{Operation}
 use Rattle.pcl_base.specs.declared.refusal.Refusal.{Refusal}
 use Rattle.pcl_base.specs.declared.value.Sign.{Sign}
 use Rattle.pcl_base.specs.declared.value.Sign.TheVariants.{Absent, Plus, Minus}
-use Rattle.pcl_base.specs.declared.value.Value.{Value}
 use Rattle.pcl_base.specs.Operation.{operation_of}
-use Rattle.pcl_base.specs.Refusal.{refusal}
 use Rattle.pcl_escape.specs.declared.step.Prefix.{Prefix}
-use Rattle.pcl_escape.specs.Letter.{is_silent, is_control, is_text, is_two_character, is_parameterized, is_ungrouped, is_group, is_last, parameter_name, prefix_bytes}
+use Rattle.pcl_escape.specs.Letter.{is_silent, is_control, is_text, is_two_character, is_parameterized, is_ungrouped, is_group, is_last, prefix_bytes}
 use Rattle.pcl_escape.specs.Field.{Spelled, field_bytes, field_value}
 use Rattle.pcl_base.specs.Digits.{is_digit}
 use Rattle.pcl_escape.specs.inner.Fields.{field_at}
 use Rattle.pcl_escape.specs.Checks.{exit_name, is_exit, parameter_checks}
-use Rattle.pcl_escape.specs.Exit.{joined, IsLine, AreOtherLines, names_language, names_pcl}
+use Rattle.pcl_escape.specs.Exit.{joined}
 use Rattle.pcl_escape.specs.inner.Lines.{lines_at}
 use Rattle.pcl_escape.specs.Said.{Said}
 use Rattle.pcl_escape.specs.inner.Scan.{Reads, refuse, named_by, named_at, text_at, before_rest, skipped_by, with_lines, ungrouped_at, prefix_at, sequence_at, start_at, parameter_at, commands_said}
