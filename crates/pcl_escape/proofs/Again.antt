@@ -56,7 +56,8 @@ middle_on : (n : ℕ) {prefix : Prefix} (at begin : ℕ) {parameter : Parameter}
     ≡ with_front (command_of prefix at parameter [] ∷ [])
     (steps_in n prefix (begin + length (parameter_bytes parameter)) (begin + length (parameter_bytes parameter)) rest)
 unfolding outcome
-middle_on n at begin {parameter} rest is = rw (inside_reads (is_middle parameter rest is), place_of begin (parameter_bytes parameter) rest) refl
+middle_on n at begin {parameter} rest is =
+    rw (inside_reads (is_middle parameter rest is), place_of begin (parameter_bytes parameter) rest) refl
 
 -- the steps from a whole rest of a sequence on
 whole_again : (middle : List Parameter) (n : ℕ) {prefix : Prefix} (at begin : ℕ) {end : Parameter} {sent : List ℕ} (behind : List ℕ)
@@ -67,7 +68,8 @@ whole_again : (middle : List Parameter) (n : ℕ) {prefix : Prefix} (at begin : 
     ≡ with_front (parameter_commands prefix at begin middle end sent) read
 whole_again [] n at begin {end} {sent} behind each is h gives =
     let long = simp length-append at h in
-    let place : begin + (length (parameter_bytes end ++ (sent ++ behind)) - length behind) ≡ begin + length (parameter_bytes end ++ sent) =
+    let place : begin + (length (parameter_bytes end ++ (sent ++ behind)) - length behind)
+    ≡ begin + length (parameter_bytes end ++ sent) =
     simp length-append (omega arith) in
     rw (inside_reads (is_end end sent behind is), place, gives n (omega arith)) refl
 whole_again (parameter ∷ middle) zero at begin behind each is h gives = absurd (let long = simp length-append at h in omega arith)

@@ -170,7 +170,8 @@ prefix_step {at} {byte} (group ∷ rest) p =
     let prefix : Prefix = record { parameterized = byte; group = Some group } in
     by_test (Outside at (27 ∷ byte ∷ group ∷ rest)) (is_group group)
     (λ g. sequence prefix rest (parameter_at prefix at rest) (p, g) tt (grouped_step refl))
-    (λ g. by_test (Outside at (27 ∷ byte ∷ group ∷ rest)) (is_ungrouped byte) (λ u. ungrouped_found u g parameter_step) (λ u. wrong (bad_group p u g)))
+    (λ g. by_test (Outside at (27 ∷ byte ∷ group ∷ rest)) (is_ungrouped byte) (λ u. ungrouped_found u g parameter_step)
+    (λ u. wrong (bad_group p u g)))
 
 -- a sequence, by its second byte
 sequence_step : {at : ℕ} (rest : List ℕ) → Outside at (27 ∷ rest) (sequence_at at rest)

@@ -86,7 +86,8 @@ checked_step {prefix} {at} field letter rest (Ok len) f l e =
     rw (← joined) (elim (cases_Bool (is_leaving prefix parameter)) [
       | inl l ↦ is_leave parameter (take len rest) (drop len rest) ends l
       | inr l ↦
-          is_inside (is_end parameter (take len rest) (drop len rest) (record { field = f; letter = last; checks = ends.checks; stays = l }))
+          is_inside (is_end parameter (take len rest) (drop len rest)
+          (record { field = f; letter = last; checks = ends.checks; stays = l }))
     ]))
 
 -- after a field that stops stands a byte, or nothing
