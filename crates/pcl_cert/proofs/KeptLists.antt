@@ -1,5 +1,5 @@
 -- Lists that are put one after the other, and the tables that they stand for.
-use Rattle.std.proofs.Common.{◌≡◌, ℕ, zero, suc, ◌+◌, ◌-◌, ◌*◌, ◌^◌, ◌<◌, ◌≤◌, false, List, [], ◌∷◌, ◌++◌, length, take, drop, get_or, set, replicate, refl, sym, ap, subst, ◌∙◌, append_assoc, arith, inl, inr}
+use Rattle.std.proofs.Common.{◌≡◌, ℕ, zero, suc, ◌+◌, ◌-◌, ◌*◌, ◌^◌, ◌<◌, ◌≤◌, true, false, List, [], ◌∷◌, ◌++◌, length, take, drop, get_or, set, replicate, refl, sym, ap, subst, ◌∙◌, append_assoc, arith, inl, inr}
 use Rattle.std.specs.Prelude.{nat_eq}
 use Rattle.std.specs.Int.{w16, from_be_bytes, to_be_bytes}
 use Rattle.std.specs.List.{flat_map, AllByRecursion}
@@ -26,20 +26,14 @@ use Rattle.pcl_output.proofs.TokenCosts.{method_small}
 use Rattle.pcl_cert.specs.declared.listing.Lists.{Lists}
 use Rattle.pcl_cert.specs.inner.Listing.{IsTrimmed, HasListMore, HasRowMore, HoldsRows, HoldsRowsOf, AreWhole, listed}
 use Rattle.pcl_cert.proofs.FieldsRead.{two_bytes}
+use Rattle.pcl_cert.proofs.Lists.{all_both}
 use Rattle.pcl_cert.proofs.Numbers.{numbers_of_front}
 use Rattle.pcl_cert.proofs.ListsSpelled.{numbers_again, text_len}
 
 -- ---- tables of lists
 
 pub table_length : (n : ℕ) (list : List ℕ) → length (table_of n list) ≡ n
-table_length n list =
-    let zero_number : ℕ = 0 in
-    omega (
-      arith,
-      length-take n (list ++ replicate n zero_number),
-      length-append list (replicate n zero_number),
-      length-replicate n zero_number,
-    )
+table_length n list = omega (arith, length-take {A = ℕ}, length-append {A = ℕ}, length-replicate {A = ℕ})
 
 pub table_number : {n : ℕ} (list : List ℕ) {k : ℕ} → k < n → get_or (table_of n list) k 0 ≡ get_or list k 0
 table_number {n} list {k} lt =
@@ -53,16 +47,11 @@ table_number {n} list {k} lt =
 
 -- ---- numbers without the zeros at their end
 
-end_of_front : (numbers : List ℕ) (len : ℕ) → 0 < len → len ≤ length numbers
-    → ends_in_zero (take len numbers) ≡ nat_eq (get_or numbers (len - 1) 0) 0
-end_of_front [] len some within = absurd (omega arith)
-end_of_front (n ∷ numbers) zero some within = absurd (omega arith)
-end_of_front (n ∷ numbers) (suc zero) some within = refl
-end_of_front (n ∷ []) (suc (suc len)) some within = absurd (omega arith)
-end_of_front (n ∷ m ∷ numbers) (suc (suc len)) some within =
-    let place : suc (suc len - 1) ≡ suc (suc len) - 1 = omega arith in
-    end_of_front (m ∷ numbers) (suc len) (omega arith) (omega arith)
-    ∙ ap (λ (k : ℕ). nat_eq (get_or (n ∷ m ∷ numbers) k 0) 0) place
+end_of_front : (numbers : List ℕ) (k : ℕ) → k < length numbers → ends_in_zero (take (suc k) numbers) ≡ nat_eq (get_or numbers k 0) 0
+end_of_front [] k within = absurd (omega arith)
+end_of_front (n ∷ numbers) zero within = refl
+end_of_front (n ∷ []) (suc k) within = absurd (omega arith)
+end_of_front (n ∷ m ∷ numbers) (suc k) within = end_of_front (m ∷ numbers) k (omega arith)
 
 pub trimmed_is : {numbers : List ℕ} {len : ℕ} → len ≤ length numbers
     → ((k : ℕ) → len ≤ k → k < length numbers → get_or numbers k 0 ≡ 0) → (0 < len → nat_eq (get_or numbers (len - 1) 0) 0 ≡ false)
@@ -73,10 +62,10 @@ trimmed_is {numbers} {len} within zeros ends = record {
   front = refl;
   zeros = zeros;
   ends = elim (cases_lt 0 len) [
-    | inl some ↦ end_of_front numbers len some within ∙ ends some
-    | inr none ↦
-        let no : len ≡ 0 = omega arith in
-        ap (λ (n : ℕ). ends_in_zero (take n numbers)) no
+    | inl some ↦
+        let last : len ≡ suc (len - 1) = omega arith in
+        ap (λ (n : ℕ). ends_in_zero (take n numbers)) last ∙ end_of_front numbers (len - 1) (omega arith) ∙ ends some
+    | inr none ↦ let no : len ≡ 0 = omega arith in rw no refl
   ];
 }
 
@@ -106,15 +95,11 @@ list_stays {bytes} {more} {start} is =
     let list : List ℕ = drop start bytes in
     let room : 2 + 2 * count_of list ≤ length list = omega (arith, is.whole, length-drop start bytes) in
     let moved : drop start (bytes ++ more) ≡ list ++ more = drop-append-le start bytes more (omega (arith, is.whole)) in
-    let counted : count_of (list ++ more) ≡ count_of list =
-    ap (from_be_bytes w16) (take-append-le 2 list more (omega (arith, room))) in
     record {
-      same = ap list_from moved
-          ∙ ap (λ (n : ℕ). numbers_from n (drop 2 (list ++ more))) counted
-          ∙ ap (numbers_from (count_of list)) (drop-append-le 2 list more (omega (arith, room)))
-          ∙ numbers_stay (count_of list) (drop 2 list) more (omega (arith, room, length-drop 2 list));
+      same = rw (moved, take-append-le 2 list more (omega (arith, room)), drop-append-le 2 list more (omega (arith, room)))
+          (numbers_stay (count_of list) (drop 2 list) more (omega (arith, room, length-drop 2 list)));
       whole = record {
-        whole = omega (arith, ap count_of moved, counted, is.whole, length-append bytes more);
+        whole = rw (moved, take-append-le 2 list more (omega (arith, room))) (omega (arith, is.whole, length-append bytes more));
       };
     }
 
@@ -122,31 +107,21 @@ lists_stay : (bytes more starts : List ℕ) → AllByRecursion (IsListAt bytes) 
     → (lists_within (bytes ++ more) starts ≡ lists_within bytes starts) × AllByRecursion (IsListAt (bytes ++ more)) starts
 lists_stay bytes more [] whole = (refl, tt)
 lists_stay bytes more (start ∷ starts) whole =
-    let first = list_stays whole.0 in
-    let others = lists_stay bytes more starts whole.1 in (
-      ap (λ (list : List ℕ). list ∷ lists_within (bytes ++ more) starts) first.same
-          ∙ ap (λ (lists : List (List ℕ)). list_from (drop start bytes) ∷ lists) others.0,
-      (first.whole, others.1),
-    )
+    let first = list_stays {more = more} whole.0 in
+    let others = lists_stay bytes more starts whole.1 in
+    (rw (first.same, others.0) refl, (first.whole, others.1))
 
 list_at_front : {list : List ℕ} → length list < 2 ^ 16 → AllByRecursion (λ n. n < 2 ^ 16) list
     → (count_of (list_bytes list) ≡ length list) × (list_from (list_bytes list) ≡ list)
 list_at_front {list} few small =
-    let text : List ℕ = flat_map (to_be_bytes w16) list in
-    let count : count_of (list_bytes list) ≡ length list = two_bytes.again (length list) few in (
-      count,
-      ap (λ (n : ℕ). numbers_from n text) count ∙ ap (numbers_from (length list)) (sym (append-nil text)) ∙ numbers_again list [] small,
-    )
+    let count : count_of (list_bytes list) ≡ length list = two_bytes.again (length list) few in
+    (count, rw count (rw append-nil at (numbers_again list [] small)))
 
 small_front : (numbers : List ℕ) (len : ℕ) → ((k : ℕ) → get_or numbers k 0 < 2 ^ 16) → AllByRecursion (λ n. n < 2 ^ 16) (take len numbers)
 small_front [] zero small = tt
 small_front [] (suc len) small = tt
 small_front (n ∷ numbers) zero small = tt
 small_front (n ∷ numbers) (suc len) small = (small 0, small_front numbers len (λ k. small (suc k)))
-
-all_and_one : {X : Type 0} (P : X → Type 0) (xs : List X) {x : X} → AllByRecursion P xs → P x → AllByRecursion P (xs ++ x ∷ [])
-all_and_one P [] all one = (one, tt)
-all_and_one P (y ∷ xs) {x} all one = (all.0, all_and_one P xs all.1 one)
 
 pub list_more : {old new : Lists} {numbers list : List ℕ} → AreWhole old → length numbers < 2 ^ 16
     → ((k : ℕ) → get_or numbers k 0 < 2 ^ 16) → IsTrimmed numbers list → new.bytes.items ≡ old.bytes.items ++ list_bytes list
@@ -156,31 +131,26 @@ list_more {old} {new} {numbers} {list} whole few small is bytes_are starts_are =
     let text : List ℕ = list_bytes list in
     let start : ℕ = length bytes in
     let size : length list ≤ length numbers = omega (arith, ap length is.front, length-take is.len numbers) in
-    let small_list : AllByRecursion (λ n. n < 2 ^ 16) list =
-    subst (AllByRecursion (λ n. n < 2 ^ 16)) (sym is.front) (small_front numbers is.len small) in
+    let small_list : AllByRecursion (λ n. n < 2 ^ 16) list = rw is.front (small_front numbers is.len small) in
     let at_front = list_at_front (omega (arith, size, few)) small_list in
     let there : drop start (bytes ++ text) ≡ text = drop_at bytes text start refl in
     let stay = lists_stay bytes text old.starts.items whole in
     let text_size : length text ≡ 2 + 2 * length list =
-    omega (
-      arith,
-      length-append (to_be_bytes w16 (length list)) (flat_map (to_be_bytes w16) list),
-      two_bytes.len
-          (length list),
-      text_len list,
-    ) in
+    omega (arith, length-append (to_be_bytes w16 (length list)) (flat_map (to_be_bytes w16) list), two_bytes.len (length list), text_len list) in
     record {
       list = list;
       trimmed = is;
       small = small_list;
-      lists = ap (λ (b : List ℕ). lists_within b new.starts.items) bytes_are ∙ ap (lists_within (bytes ++ text)) starts_are
-          ∙ map_push (λ (s : ℕ). list_from (drop s (bytes ++ text))) old.starts.items start
-          ∙ ap (λ (lists : List (List ℕ)). lists ++ list_from (drop start (bytes ++ text)) ∷ []) stay.0
-          ∙ ap (λ (l : List ℕ). lists_within bytes old.starts.items ++ l ∷ []) (ap list_from there ∙ at_front.1);
-      whole = subst (λ (b : List ℕ). AllByRecursion (IsListAt b) new.starts.items) (sym bytes_are)
-          (subst (AllByRecursion (IsListAt (bytes ++ text))) (sym starts_are)
-          (all_and_one (IsListAt (bytes ++ text)) old.starts.items stay.1
-          (record { whole = omega (arith, ap count_of there, at_front.0, length-append bytes text, text_size) })));
+      lists = rw (
+        bytes_are,
+        starts_are,
+        map_push (λ (s : ℕ). list_from (drop s (bytes ++ text))) old.starts.items start,
+        stay.0,
+        there,
+        at_front.1,
+      ) refl;
+      whole = rw (bytes_are, starts_are) (all_both (IsListAt (bytes ++ text)) old.starts.items (start ∷ []) stay.1
+          (record { whole = rw there (omega (arith, at_front.0, length-append bytes text, text_size)) }, tt));
     }
 
 -- ---- a row's list more
@@ -203,24 +173,18 @@ row_more {method} {seed} {row} {numbers} same least more =
       is_list = record {
         short = elim (cases_lt width is.len) [
           | inl full ↦
-              let all : is.len ≡ width + 1 = omega (arith, is.within, size) in
-              let before : is.len - 1 ≡ width = omega (arith, all) in
-              absurd (true≢false (sym (ap (λ (n : ℕ). nat_eq n 0) (ap (λ (k : ℕ). get_or numbers k 0) before ∙ last))
-              ∙ sym (end_of_front numbers is.len (omega (arith, all)) is.within) ∙ ap ends_in_zero (sym is.front) ∙ is.ends))
+              let all : is.len ≡ suc width = omega (arith, is.within, size) in
+              let ends : ends_in_zero list ≡ true = rw (is.front, all) (end_of_front numbers width (omega (arith, size)) ∙ rw last refl) in
+              absurd cc
           | inr shorter ↦ omega (arith, len_is, shorter)
         ];
         small = more.small;
         ends = is.ends;
       };
-      least = subst (IsLeastTable method seed row)
-          (sym (ap (λ (n : ℕ). table_of n list) (sym size) ∙ table_of_trimmed is)) least;
+      least = rw (← size, table_of_trimmed is) least;
     }
 
 -- ---- rows
-
-all_both : {X : Type 0} (P : X → Type 0) (xs ys : List X) → AllByRecursion P xs → AllByRecursion P ys → AllByRecursion P (xs ++ ys)
-all_both P [] ys all others = others
-all_both P (x ∷ xs) ys all others = (all.0, all_both P xs ys all.1 others)
 
 -- the lists of a row are put after the others, one after the other
 pub record HasFourMore (seed row : List ℕ) (old new : Lists) : Type 0 where
@@ -236,11 +200,7 @@ abbrev four_lists : {seed row : List ℕ} {old new : Lists} → HasFourMore seed
 four_lists more = more.plain.list ∷ more.runs.list ∷ more.packed.list ∷ more.delta.list ∷ []
 
 four_listed : {seed row : List ℕ} {old new : Lists} (more : HasFourMore seed row old new) → listed new ≡ listed old ++ four_lists more
-four_listed more =
-    more.delta.lists ∙ ap (λ (l : List (List ℕ)). l ++ more.delta.list ∷ []) (more.packed.lists
-    ∙ ap (λ (l : List (List ℕ)). l ++ more.packed.list ∷ []) (more.runs.lists
-    ∙ ap (λ (l : List (List ℕ)). l ++ more.runs.list ∷ []) more.plain.lists))
-    ∙ simp append_assoc
+four_listed more = rw (more.delta.lists, more.packed.lists, more.runs.lists, more.plain.lists) (simp append_assoc)
 
 four_least : {seed row : List ℕ} {old new : Lists} (more : HasFourMore seed row old new) (method : Method)
     → IsLeastTable method seed row (table_of (length row + 1) (get_or (four_lists more) (method_code method) []))
@@ -259,35 +219,25 @@ one_row_more {width} {rows} {done} {old} {new} holds wide more =
     let four : List (List ℕ) = four_lists more in
     let all : listed new ≡ listed old ++ four = four_listed more in
     let before : length (listed old) ≡ 4 * done = listed_length old ∙ holds.size in
-    let row : List ℕ = row_at rows done in
     record {
       size = omega (arith, sym (listed_length new), ap length all, length-append (listed old) four, before);
       whole = more.delta.whole;
-      lists_are = subst (AllByRecursion (IsList width)) (sym all) (all_both (IsList width) (listed old) four holds.lists_are (
+      lists_are = rw all (all_both (IsList width) (listed old) four holds.lists_are (
           subst (λ (n : ℕ). AllByRecursion (IsList n) four) wide
           (more.plain.is_list, (more.runs.is_list, (more.packed.is_list, (more.delta.is_list, tt))))));
-      least = λ y method lt. subst (λ (lists : List (List ℕ)). IsLeastTable method (row_above width rows y) (row_at rows y)
-          (table_of (width + 1) (get_or lists (4 * y + method_code method) []))) (sym all) (elim (cases_lt y done) [
-            | inl earlier ↦
-                let kept : get_or (listed old ++ four) (4 * y + method_code method) [] ≡ get_or (listed old)
-                (4 * y + method_code method) [] =
-                get_or_append_left (listed old) four [] (4 * y + method_code method)
-                (omega (arith, before, earlier, method_small method)) in
-                subst (λ (list : List ℕ). IsLeastTable method (row_above width rows y) (row_at rows y) (table_of (width + 1) list))
-                (sym kept) (holds.least y method earlier)
-            | inr le ↦
-                let last : done ≡ y = omega (arith, le, lt) in
-                let place : 4 * y + method_code method - 4 * done ≡ method_code method = omega (arith, last) in
-                let mine : get_or (listed old ++ four) (4 * y + method_code method) [] ≡ get_or four (method_code method) [] =
-                get_or-append_right (listed old) four (4 * done) (4 * y + method_code method) [] before (omega (arith, last))
-                ∙ ap (λ (k : ℕ). get_or four k []) place in
-                subst (λ (list : List ℕ). IsLeastTable method (row_above width rows y) (row_at rows y) (table_of (width + 1) list))
-                (sym mine) (subst (λ (z : ℕ). IsLeastTable method (row_above width rows z) (row_at rows z)
-                (table_of (width + 1) (get_or four (method_code method) []))) last
-                (subst (λ (n : ℕ). IsLeastTable method (row_above width rows done) row
-                (table_of (n + 1) (get_or four (method_code method) [])))
-                wide (four_least more method)))
-          ]);
+      least = λ y method lt. rw all (elim (cases_lt y done) [
+        | inl earlier ↦
+            let code = method_small method in
+            rw (get_or_append_left (listed old) four [] (4 * y + method_code method) (omega (arith, before))) (holds.least y method earlier)
+        | inr le ↦
+            let last : y ≡ done = omega arith in
+            let place : 4 * y + method_code method - 4 * done ≡ method_code method = omega arith in
+            rw (
+              get_or-append_right (listed old) four (4 * done) (4 * y + method_code method) [] before (omega arith),
+              place,
+              last,
+            ) (rw wide at (four_least more method))
+      ]);
     }
 
 -- all rows are there

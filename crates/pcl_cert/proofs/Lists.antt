@@ -13,7 +13,7 @@ use Rattle.pcl_cert.specs.CertificateFields.{ends_in_zero}
 use Rattle.pcl_cert.specs.ReadingCertificates.{Fails, behind, uint_at, list_at, lists_at}
 use Rattle.pcl_cert.proofs.FieldsRead.{step_ok, passed, same_ok}
 use Rattle.pcl_cert.proofs.Numbers.{numbers_of_front}
-use Rattle.pcl_cert.proofs.Loops.{Stands, begins, goes_on}
+use Rattle.pcl_cert.proofs.Loops.{Stands, fails_same, goes_on}
 use Rattle.pcl_cert.proofs.PagesRead.{lists_are_many}
 
 -- where a loop stands that has read so many lists: the rest of the bytes, and where the lists begin
@@ -31,17 +31,9 @@ pub behind_ok : {X : Type 0} (read : Result (X × List ℕ) CertFault) (rest : L
 behind_ok (Ok x) rest e = (x.0, ap (λ (bytes : List ℕ). Ok (x.0, bytes)) (same_ok e))
 behind_ok (Err fault) rest e = absurd cc
 
-behind_err : {X : Type 0} (fault : CertFault) (read : Result (X × List ℕ) CertFault) → behind read ≡ Err fault → read ≡ Err fault
-behind_err fault (Ok x) e = absurd cc
-behind_err fault (Err other) e = cc
-
 pub behind_fails : {X : Type 0} (fault : CertFault) (read : Result (X × List ℕ) CertFault) → Fails fault (behind read) → Fails fault read
-behind_fails Memory read e = tt
-behind_fails BadMagic read e = behind_err BadMagic read e
-behind_fails Short read e = behind_err Short read e
-behind_fails Extra read e = behind_err Extra read e
-behind_fails Rows read e = behind_err Rows read e
-behind_fails Places read e = behind_err Places read e
+behind_fails fault (Ok x) = fails_same fault (λ e. absurd cc)
+behind_fails fault (Err other) = fails_same fault (λ e. cc)
 
 behind_either : (b : Bool) (numbers rest : List ℕ)
     → behind (if b then Err Places else Ok (numbers, rest)) ≡ (if b then Err Places else Ok rest)
@@ -105,9 +97,9 @@ list_found {most} {bytes} e =
 
 -- ---- many lists
 
-all_and_one : {X : Type 0} (P : X → Type 0) (xs : List X) {x : X} → AllByRecursion P xs → P x → AllByRecursion P (xs ++ x ∷ [])
-all_and_one P [] all one = (one, tt)
-all_and_one P (y ∷ xs) {x} all one = (all.0, all_and_one P xs all.1 one)
+pub all_both : {X : Type 0} (P : X → Type 0) (xs ys : List X) → AllByRecursion P xs → AllByRecursion P ys → AllByRecursion P (xs ++ ys)
+all_both P [] ys all others = others
+all_both P (x ∷ xs) ys all others = (all.0, all_both P xs ys all.1 others)
 
 -- one list more was read
 pub next_list : {count most done : ℕ} {bytes rest starts : List ℕ} (numbers after : List ℕ)
@@ -116,21 +108,16 @@ pub next_list : {count most done : ℕ} {bytes rest starts : List ℕ} (numbers 
 next_list {count} {most} {done} {bytes} {rest} {starts} numbers after lt read stands =
     let start : ℕ = length bytes - length rest in
     let found = list_found read in
-    let there : length (drop start bytes) ≡ length rest = ap length (sym stands.suffix) in
-    let is_list : list_from (drop start bytes) ≡ numbers = ap list_from (sym stands.suffix) ∙ sym found.numbers_are in
-    let counted : count_of (drop start bytes) ≡ count_of rest = ap count_of (sym stands.suffix) in
     let taken : length after ≡ length rest - (2 + 2 * count_of rest) =
     ap length found.rest_is ∙ length-drop (2 + 2 * count_of rest) rest in
     let place : start + (2 + 2 * count_of rest) ≡ length bytes - length after = omega (arith, taken, found.whole, stands.within) in
     record {
-      read = subst (λ (lists : List (List ℕ)). Stands (λ n. lists_at n most) count (done + 1) bytes after lists)
-          (sym (map_push (λ (s : ℕ). list_from (drop s bytes)) starts start
-          ∙ ap (λ (list : List ℕ). lists_within bytes starts ++ list ∷ []) is_list))
-          (goes_on numbers after (lists_are_many most) lt read stands.read);
-      suffix = found.rest_is ∙ ap (drop (2 + 2 * count_of rest)) stands.suffix
-          ∙ drop-drop (2 + 2 * count_of rest) start bytes ∙ ap (λ (k : ℕ). drop k bytes) place;
+      read = rw (map_push (λ (s : ℕ). list_from (drop s bytes)) starts start, ← stands.suffix, ← found.numbers_are)
+          (goes_on (lists_are_many most) stands.read numbers after lt read);
+      suffix = rw (← place) (found.rest_is ∙ ap (drop (2 + 2 * count_of rest)) stands.suffix
+          ∙ drop-drop (2 + 2 * count_of rest) start bytes);
       within = omega (arith, taken, stands.within);
-      whole = all_and_one (IsListAt bytes) starts stands.whole
-          (record { whole = omega (arith, counted, found.whole, stands.within) });
+      whole = all_both (IsListAt bytes) starts (start ∷ []) stands.whole
+          (record { whole = rw (← stands.suffix) (omega (arith, found.whole, stands.within)) }, tt);
       many = omega (arith, length-append starts (start ∷ []), stands.many);
     }

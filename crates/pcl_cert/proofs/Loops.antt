@@ -35,47 +35,32 @@ unread (Err fault) = refl
 pub begins : {X : Type 0} {many : ℕ → Reader (List X)} {count : ℕ} {bytes : List ℕ} → Stands many count 0 bytes bytes []
 begins {many} {count} {bytes} =
     let all : count - 0 ≡ count = omega arith in
-    record { so_far = ap (λ (n : ℕ). behind_front [] (many n bytes)) all ∙ unread (many count bytes) }
+    record { so_far = rw all (unread (many count bytes)) }
 
-one_more : {X : Type 0} {one : Reader X} {many : ℕ → Reader (List X)} {count done : ℕ} {bytes rest : List ℕ} {front : List X}
-    → IsMany one many → done < count → Stands many count done bytes rest front
-    → behind_front front (one rest >>= λ first. many (count - (done + 1)) first.1 >>= λ others. Ok (first.0 ∷ others.0, others.1))
-    ≡ many count bytes
-one_more {many} {count} {done} {rest} {front} is lt stands =
-    let left : suc (count - (done + 1)) ≡ count - done = omega arith in
-    ap (behind_front front) (sym (is.more (count - (done + 1)) rest) ∙ ap (λ (n : ℕ). many n rest) left) ∙ stands.so_far
+-- what fails with a fault where another thing does, unless memory ran out
+pub fails_same : {X Y : Type 0} (fault : CertFault) {read : Result X CertFault} {later : Result Y CertFault}
+    → (read ≡ Err fault → later ≡ Err fault) → Fails fault read → Fails fault later
+fails_same Memory same e = tt
+fails_same BadMagic same e = same e
+fails_same Short same e = same e
+fails_same Extra same e = same e
+fails_same Rows same e = same e
+fails_same Places same e = same e
 
-pub goes_on : {X : Type 0} {one : Reader X} {many : ℕ → Reader (List X)} {count done : ℕ} {bytes rest : List ℕ} {front : List X}
-    (x : X) (after : List ℕ) → IsMany one many → done < count → one rest ≡ Ok (x, after) → Stands many count done bytes rest front
-    → Stands many count (done + 1) bytes after (front ++ x ∷ [])
-goes_on {X} {many} {count} {done} {front} x after is lt read stands = record {
-  so_far = sym (regrouped front x (many (count - (done + 1)) after))
-      ∙ ap (λ (r : Result (X × List ℕ) CertFault). behind_front front
-      (r >>= λ first. many (count - (done + 1)) first.1 >>= λ others. Ok (first.0 ∷ others.0, others.1))) (sym read)
-      ∙ one_more is lt stands;
-}
+module _ {X : Type 0} {one : Reader X} {many : ℕ → Reader (List X)} {count done : ℕ} {bytes rest : List ℕ} {front : List X}
+    (is : IsMany one many) (stands : Stands many count done bytes rest front) where
+  pub goes_on : (x : X) (after : List ℕ) → done < count → one rest ≡ Ok (x, after)
+      → Stands many count (done + 1) bytes after (front ++ x ∷ [])
+  goes_on x after lt read =
+      let left : count - done ≡ suc (count - (done + 1)) = omega arith in
+      record { so_far = sym (regrouped front x (many (count - (done + 1)) after)) ∙ (rw (left, is.more, read) at stands.so_far) }
 
-pub stops : {X : Type 0} {one : Reader X} {many : ℕ → Reader (List X)} {count done : ℕ} {bytes rest : List ℕ} {front : List X}
-    (fault : CertFault) → IsMany one many → done < count → one rest ≡ Err fault → Stands many count done bytes rest front
-    → many count bytes ≡ Err fault
-stops {X} {many} {count} {done} {front} fault is lt read stands =
-    sym (ap (λ (r : Result (X × List ℕ) CertFault). behind_front front
-    (r >>= λ first. many (count - (done + 1)) first.1 >>= λ others. Ok (first.0 ∷ others.0, others.1))) (sym read)
-    ∙ one_more is lt stands)
+  pub fails : (fault : CertFault) → done < count → Fails fault (one rest) → Fails fault (many count bytes)
+  fails fault lt =
+      let left : count - done ≡ suc (count - (done + 1)) = omega arith in
+      fails_same fault (λ read. sym (rw (left, is.more, read) at stands.so_far))
 
-pub fails : {X : Type 0} {one : Reader X} {many : ℕ → Reader (List X)} {count done : ℕ} {bytes rest : List ℕ} {front : List X}
-    (fault : CertFault) → IsMany one many → done < count → Fails fault (one rest) → Stands many count done bytes rest front
-    → Fails fault (many count bytes)
-fails Memory is lt read stands = tt
-fails BadMagic is lt read stands = stops BadMagic is lt read stands
-fails Short is lt read stands = stops Short is lt read stands
-fails Extra is lt read stands = stops Extra is lt read stands
-fails Rows is lt read stands = stops Rows is lt read stands
-fails Places is lt read stands = stops Places is lt read stands
-
-pub ends : {X : Type 0} {one : Reader X} {many : ℕ → Reader (List X)} {count done : ℕ} {bytes rest : List ℕ} {front : List X}
-    → IsMany one many → count ≤ done → Stands many count done bytes rest front → many count bytes ≡ Ok (front, rest)
-ends {X} {many} {count} {done} {rest} {front} is le stands =
-    let none : count - done ≡ 0 = omega arith in
-    sym (sym (ap (λ (all : List X). Ok (all, rest)) (append-nil front))
-    ∙ ap (behind_front front) (sym (is.none rest) ∙ ap (λ (n : ℕ). many n rest) (sym none)) ∙ stands.so_far)
+  pub ends : count ≤ done → many count bytes ≡ Ok (front, rest)
+  ends le =
+      let none : count - done ≡ 0 = omega arith in
+      sym (rw (none, is.none, append-nil) at stands.so_far)

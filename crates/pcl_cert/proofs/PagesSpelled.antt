@@ -46,12 +46,8 @@ pairs_spell = record {
       let b = step_ok (uint_at w32 a.0.1) a.2 in
       let outside = four.found bytes a.0 are a.1 in
       let inside = four.found a.0.1 b.0 outside.0.rest_are b.1 in
-      subst (λ (y : (ℕ × ℕ) × List ℕ). Splits bytes (both_bytes y.0) y.1 × AreBoth y.0) (same_ok b.2)
-      (splits_both outside.0 inside.0, (outside.1, inside.1));
-  again = λ p rest fits.
-      let joined : both_bytes p ++ rest ≡ to_be_bytes w32 p.0 ++ (to_be_bytes w32 p.1 ++ rest) =
-      append_assoc (to_be_bytes w32 p.0) (to_be_bytes w32 p.1) rest in
-      ap pair_at joined ∙ rw (four.again p.0 (to_be_bytes w32 p.1 ++ rest) fits.0, four.again p.1 rest fits.1) refl;
+      rw (← same_ok b.2) (splits_both outside.0 inside.0, (outside.1, inside.1));
+  again = λ p rest fits. rw (four.again p.0 (to_be_bytes w32 p.1 ++ rest) fits.0, four.again p.1 rest fits.1) refl;
 }
 
 row_spells : Spells row_numbers_at row_bytes AreSmall
@@ -66,26 +62,17 @@ row_spells = record {
       let b = pairs_spell.found plain.0.1 runs.0 a.0.rest_are runs.1 in
       let c = pairs_spell.found runs.0.1 packed.0 b.0.rest_are packed.1 in
       let d = pairs_spell.found packed.0.1 delta.0 c.0.rest_are delta.1 in
-      let made : RowNumbers × List ℕ = (
-        record {
-          outside = record { plain = plain.0.0.0; runs = runs.0.0.0; packed = packed.0.0.0; delta = delta.0.0.0 };
-          inside = record { plain = plain.0.0.1; runs = runs.0.0.1; packed = packed.0.0.1; delta = delta.0.0.1 };
-        },
-        delta.0.1,
-      ) in
-      subst (λ (y : RowNumbers × List ℕ). Splits bytes (row_bytes y.0) y.1 × AreSmall y.0) (same_ok delta.2)
-      (splits_both a.0 (splits_both b.0 (splits_both c.0 d.0)), (a.1.0, a.1.1, b.1.0, b.1.1, c.1.0, c.1.1, d.1.0, d.1.1));
+      rw (← same_ok delta.2) (
+        splits_both a.0 (splits_both b.0 (splits_both c.0 d.0)),
+        (a.1.0, a.1.1, b.1.0, b.1.1, c.1.0, c.1.1, d.1.0, d.1.1),
+      );
   again = λ n rest fits.
       let plain : ℕ × ℕ = (n.outside.plain, n.inside.plain) in
       let runs : ℕ × ℕ = (n.outside.runs, n.inside.runs) in
       let packed : ℕ × ℕ = (n.outside.packed, n.inside.packed) in
       let delta : ℕ × ℕ = (n.outside.delta, n.inside.delta) in
       let last : List ℕ = both_bytes delta ++ rest in
-      let joined : row_bytes n ++ rest ≡ both_bytes plain ++ (both_bytes runs ++ (both_bytes packed ++ last)) =
-      append_assoc (both_bytes plain) (both_bytes runs ++ (both_bytes packed ++ both_bytes delta)) rest
-      ∙ ap (λ (t : List ℕ). both_bytes plain ++ t) (append_assoc (both_bytes runs) (both_bytes packed ++ both_bytes delta) rest
-      ∙ ap (λ (t : List ℕ). both_bytes runs ++ t) (append_assoc (both_bytes packed) (both_bytes delta) rest)) in
-      ap row_numbers_at joined ∙ rw (
+      rw (
         pairs_spell.again plain (both_bytes runs ++ (both_bytes packed ++ last)) (fits.0, fits.1),
         pairs_spell.again runs (both_bytes packed ++ last) (fits.2, fits.3),
         pairs_spell.again packed last (fits.4, fits.5),
@@ -102,35 +89,18 @@ two : Spells (uint_at w16) (to_be_bytes w16) (λ n. n < 2 ^ 16)
 two = number_spells two_bytes
 
 -- a size is found by its height, and has it
-first_or_other : (b : Bool) {first size : Size} (other : Option Size) → sized (if b then Some first else other) ≡ Ok size
-    → ((b ≡ true) × (first ≡ size)) ⊎ (sized other ≡ Ok size)
-first_or_other true other e = inl (refl, same_ok e)
-first_or_other false other e = inr e
-
-size_or_other : (dpi : Dpi) {rows : ℕ} (first : Size) {size : Size} (other : Option Size)
-    → sized (if rows == page_height first dpi then Some first else other) ≡ Ok size
-    → (page_height size dpi ≡ rows) ⊎ (sized other ≡ Ok size)
-size_or_other dpi {rows} first other e =
-    elim (first_or_other (eqb rows (page_height first dpi)) other e) [
-      | inl is ↦ inl (ap (λ (s : Size). page_height s dpi) (sym is.1) ∙ sym (eqb-true _ _ is.0))
-      | inr later ↦ inr later
-    ]
+size_or_other : (test : Bool) (dpi : Dpi) {rows : ℕ} (first : Size) {size : Size} (other : Option Size)
+    → (test ≡ true → page_height first dpi ≡ rows) → (sized other ≡ Ok size → page_height size dpi ≡ rows)
+    → sized (if test then Some first else other) ≡ Ok size → page_height size dpi ≡ rows
+size_or_other true dpi first other is later e = rw (← same_ok e) (is refl)
+size_or_other false dpi first other is later e = later e
 
 size_found : (dpi : Dpi) {rows : ℕ} {size : Size} → sized (size_with_height dpi rows) ≡ Ok size → page_height size dpi ≡ rows
-size_found dpi e =
-    elim (size_or_other dpi Executive _ e) [
-      | inl is ↦ is
-      | inr e ↦ elim (size_or_other dpi Letter _ e) [
-        | inl is ↦ is
-        | inr e ↦ elim (size_or_other dpi Legal _ e) [
-          | inl is ↦ is
-          | inr e ↦ elim (size_or_other dpi A4 _ e) [
-            | inl is ↦ is
-            | inr e ↦ absurd cc
-          ]
-        ]
-      ]
-    ]
+size_found dpi =
+    size_or_other _ dpi Executive _ (λ is. sym (eqb-true _ _ is)) (
+    size_or_other _ dpi Letter _ (λ is. sym (eqb-true _ _ is)) (
+    size_or_other _ dpi Legal _ (λ is. sym (eqb-true _ _ is)) (
+    size_or_other _ dpi A4 _ (λ is. sym (eqb-true _ _ is)) (λ e. absurd cc))))
 
 size_again : (dpi : Dpi) (size : Size) → size_with_height dpi (page_height size dpi) ≡ Some size
 size_again Dpi300 Executive = refl
@@ -160,17 +130,14 @@ proof_spells {dpi} {format} = record {
       let c = (table_spells (rows.0.0 + 1)).found rows.0.1 table.0 b.0.rest_are table.1 in
       let d = (places_spell format rows.0.0 (row_bytes_small size.0 dpi)).found table.0.1
       places.0 c.0.rest_are places.1 in
-      let made : PageProof × List ℕ = (record { text_len = text_len.0.0; table = table.0.0; places = places.0.0 }, places.0.1) in
       let rows_are : rows.0.0 ≡ rows_in table.0.0 = omega (arith, c.1.0) in
-      subst (λ (y : PageProof × List ℕ). Splits bytes (proof_bytes y.0) y.1 × IsProof dpi format y.0) (same_ok places.2) (
-        subst (λ (n : ℕ). Splits bytes (to_be_bytes w32 text_len.0.0 ++ to_be_bytes w16 n ++ table_bytes table.0.0 ++
-            lists_bytes places.0.0) places.0.1)
-            rows_are (splits_both a.0 (splits_both b.0 (splits_both c.0 d.0))),
+      rw (← same_ok places.2) (
+        rw (← rows_are) (splits_both a.0 (splits_both b.0 (splits_both c.0 d.0))),
         record {
           fits = record {
             size = size.0;
             height = omega (arith, c.1.0, height);
-            lists = subst (λ (n : ℕ). HasLists format n (page_row_bytes size.0 dpi) places.0.0) (sym height) d.1;
+            lists = rw height d.1;
           };
           text_len = a.1;
           numbers = c.1.1;
@@ -182,16 +149,11 @@ proof_spells {dpi} {format} = record {
       let small : rows < 2 ^ 16 = omega (arith, height, height_small is.fits.size dpi) in
       let lists : List ℕ = lists_bytes proof.places ++ rest in
       let table : List ℕ = table_bytes proof.table ++ lists in
-      let joined : proof_bytes proof ++ rest ≡ to_be_bytes w32 proof.text_len ++ (to_be_bytes w16 rows ++ table) =
-      append_assoc (to_be_bytes w32 proof.text_len) (to_be_bytes w16 rows ++ table_bytes proof.table ++ lists_bytes proof.places) rest
-      ∙ ap (λ (t : List ℕ). to_be_bytes w32 proof.text_len ++ t)
-      (append_assoc (to_be_bytes w16 rows) (table_bytes proof.table ++ lists_bytes proof.places) rest
-      ∙ ap (λ (t : List ℕ). to_be_bytes w16 rows ++ t) (append_assoc (table_bytes proof.table) (lists_bytes proof.places) rest)) in
       let found : size_with_height dpi rows ≡ Some is.fits.size = ap (size_with_height dpi) (sym height) ∙ size_again dpi is.fits.size in
       let count : length proof.table ≡ rows + 1 = omega (arith, is.fits.height) in
-      let has : HasLists format rows (page_row_bytes is.fits.size dpi) proof.places =
-      subst (λ (n : ℕ). HasLists format n (page_row_bytes is.fits.size dpi) proof.places) height is.fits.lists in
-      ap (proof_at dpi format) joined ∙ rw (
+      let has : HasLists format rows (page_row_bytes is.fits.size dpi) proof.places = rw (← height) is.fits.lists in
+      rw (
+        append_assoc (table_bytes proof.table) (lists_bytes proof.places) rest,
         four.again proof.text_len (to_be_bytes w16 rows ++ table) is.text_len,
         two.again rows table small,
         found,
@@ -212,10 +174,7 @@ which_format false false e = absurd cc
 begins_with : {format : Format} {bytes : List ℕ} {x : Format × List ℕ} → AreBytes bytes → magic format ≡ take 8 bytes
     → (format, drop 8 bytes) ≡ x → Splits bytes (magic x.0) x.1
 begins_with {bytes} are is made =
-    subst (λ (y : Format × List ℕ). Splits bytes (magic y.0) y.1) made (record {
-      joined = sym (take-append-drop 8 bytes) ∙ ap (λ (t : List ℕ). t ++ drop 8 bytes) (sym is);
-      rest_are = rest_bytes 8 bytes are;
-    })
+    rw (← made) (record { joined = rw is (sym (take-append-drop 8 bytes)); rest_are = rest_bytes 8 bytes are })
 
 format_found : {bytes : List ℕ} {x : Format × List ℕ} → AreBytes bytes → format_at bytes ≡ Ok x → Splits bytes (magic x.0) x.1
 format_found {bytes} are e =
@@ -241,14 +200,9 @@ certificate_found dpi {bytes} are e =
     let c = pages.found count.0.1 proofs.0 b.0.rest_are proofs.1 in
     let end = ended (eqb (length proofs.0.1) 0) Extra proofs.2 in
     let none : proofs.0.1 ≡ [] = nil_from_length proofs.0.1 (eqb-true _ _ end.0) in
-    let text : List ℕ = to_be_bytes w32 count.0.0 ++ flat_map proof_bytes proofs.0.0 in
-    let all : bytes ≡ magic format.0.0 ++ text =
-    (splits_both a (splits_both b.0 c.0)).joined ∙ ap (λ (t : List ℕ). (magic format.0.0 ++ text) ++ t) none
-    ∙ append-nil (magic format.0.0 ++ text) in
-    subst (λ (y : Format × List PageProof). AreProofs dpi y.0 y.1 × (bytes ≡ certificate_bytes y.0 y.1)) end.1 (
+    rw (← end.1) (
       (omega (arith, c.1.0, b.1), c.1.1),
-      all ∙ sym (append_assoc (magic format.0.0) (to_be_bytes w32 count.0.0) (flat_map proof_bytes proofs.0.0))
-          ∙ ap (λ (n : ℕ). magic format.0.0 ++ to_be_bytes w32 n ++ flat_map proof_bytes proofs.0.0) (sym c.1.0),
+      rw c.1.0 ((splits_both (splits_both a b.0) c.0).joined ∙ rw (none, append-nil) refl),
     )
 
 pages_again : (dpi : Dpi) (format : Format) {proofs : List PageProof} → AreProofs dpi format proofs

@@ -10,8 +10,8 @@ pub returns-in_err-rest : goal.returns-in_err-rest
 returns-in_err-rest c =
     let p = err_from_is_err_and c.from_residual-in_err-rest.result c.from_residual-in_err-rest.ensures.1 in
     let fault = c.in_err-rest.field-0.0 in
-    rw (p.1, p.2) (fails fault (lists_are_many c.args.most) c.loop-test.true
-    (behind_fails fault (list_at c.args.most c.loop.rest.now) c.in_err-rest.ensures) c.loop.invariant.read)
+    rw (p.1, p.2) (fails (lists_are_many c.args.most) c.loop.invariant.read fault c.loop-test.true
+    (behind_fails fault (list_at c.args.most c.loop.rest.now) c.in_err-rest.ensures))
 
 pub loop-preserved : goal.loop-preserved
 loop-preserved c =
@@ -23,4 +23,4 @@ pub within-requires-clause-rows : goal.within-requires-clause-rows
 within-requires-clause-rows c = (c.args.rows, c.requires, omega (arith, c.loop.invariant.many, c.loop-test.false, c.loop.auto.counter-end))
 
 pub returns : goal.returns
-returns c = rw c.within.ensures (ends (lists_are_many c.args.most) c.loop-test.false c.loop.invariant.read)
+returns c = rw c.within.ensures (ends (lists_are_many c.args.most) c.loop.invariant.read c.loop-test.false)
