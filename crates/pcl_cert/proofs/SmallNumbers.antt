@@ -44,61 +44,60 @@ plain_row {seed} {row} codable =
 
 -- ---- numbers of nodes
 
-sent_plain : {width : ℕ} {rows : List (List ℕ)} {number : Node → ℕ} → AreOfWidth width rows → width ≤ row_limit
-    → IsFeasible (Leads width rows) (Ends rows) cost number → (row : ℕ) → row < length rows
-    → number (node row Plain true) ≤ 65541 + number (node (row + 1) Plain false)
-sent_plain {width} {rows} are narrow feasible row within =
-    let bytes : List ℕ = row_at rows row in
-    let long : length bytes ≡ width = row_width rows row are within in
-    let codable : IsCodable (row_above width rows row) bytes = record {
-      same_size = above_width rows row are (omega arith) ∙ sym long;
-      small = omega (arith, long);
-    } in
-    let s = spelled_cost (length bytes) (omega (arith, long)) in
-    omega (
-      arith,
-      feasible.steps (node row Plain true) (send (least_spelling (length bytes)) bytes) (node (row + 1) Plain false)
-          (refl, s.0, within, plain_row codable, refl),
-      cost_send (least_spelling (length bytes)) bytes,
-      s.1,
-      row_cost_small (length bytes) (omega (arith, long)),
-    )
+module _ {width : ℕ} {rows : List (List ℕ)} {number : Node → ℕ} (are : AreOfWidth width rows) (narrow : width ≤ row_limit)
+    (feasible : IsFeasible (Leads width rows) (Ends rows) cost number) where
+  sent_plain : (row : ℕ) → row < length rows
+      → number (node row Plain true) ≤ 65541 + number (node (row + 1) Plain false)
+  sent_plain row within =
+      let bytes : List ℕ = row_at rows row in
+      let long : length bytes ≡ width = row_width rows row are within in
+      let codable : IsCodable (row_above width rows row) bytes = record {
+        same_size = above_width rows row are (omega arith) ∙ sym long;
+        small = omega (arith, long);
+      } in
+      let s = spelled_cost (length bytes) (omega (arith, long)) in
+      omega (
+        arith,
+        feasible.steps (node row Plain true) (send (least_spelling (length bytes)) bytes) (node (row + 1) Plain false)
+            (refl, s.0, within, plain_row codable, refl),
+        cost_send (least_spelling (length bytes)) bytes,
+        s.1,
+        row_cost_small (length bytes) (omega (arith, long)),
+      )
 
--- outside a sequence, where so many rows are left
-outside_small : {width : ℕ} {rows : List (List ℕ)} {number : Node → ℕ} → AreOfWidth width rows → width ≤ row_limit
-    → IsFeasible (Leads width rows) (Ends rows) cost number → (left row : ℕ) (current : Method) → row + left ≡ length rows
-    → number (node row current false) ≤ 65546 * left
-outside_small {rows} are narrow feasible zero row current all =
-    omega (
-      arith,
-      feasible.ends (node row current false)
-          (refl, subst AreWhite (sym (drop_all row rows (omega (arith, all)))) tt),
-    )
-outside_small are narrow feasible (suc left) row current all =
-    let s = spelled_cost (method_code Plain) (omega (arith, method_small Plain)) in
-    omega (
-      arith,
-      feasible.steps (node row current false) opening (node row current true) (refl, refl),
-      cost_opening,
-      feasible.steps (node row current true) (method (least_spelling 0) Plain false) (node row Plain true) (refl, s.0, refl),
-      cost_method (least_spelling 0) Plain false,
-      sent_plain are narrow feasible row (omega (arith, all)),
-      outside_small are narrow feasible left (row + 1) Plain (omega (arith, all)),
-    )
+  -- outside a sequence, where so many rows are left
+  outside_small : (left row : ℕ) (current : Method) → row + left ≡ length rows
+      → number (node row current false) ≤ 65546 * left
+  outside_small zero row current all =
+      omega (
+        arith,
+        feasible.ends (node row current false)
+            (refl, subst AreWhite (sym (drop_all row rows (omega (arith, all)))) tt),
+      )
+  outside_small (suc left) row current all =
+      let s = spelled_cost (method_code Plain) (omega (arith, method_small Plain)) in
+      omega (
+        arith,
+        feasible.steps (node row current false) opening (node row current true) (refl, refl),
+        cost_opening,
+        feasible.steps (node row current true) (method (least_spelling 0) Plain false) (node row Plain true) (refl, s.0, refl),
+        cost_method (least_spelling 0) Plain false,
+        sent_plain row (omega (arith, all)),
+        outside_small left (row + 1) Plain (omega (arith, all)),
+      )
 
-pub number_small : {width : ℕ} {rows : List (List ℕ)} {number : Node → ℕ} → AreOfWidth width rows → width ≤ row_limit → length rows ≤ 9999
-    → IsFeasible (Leads width rows) (Ends rows) cost number → (row : ℕ) (current : Method) (is_open : Bool) → row ≤ length rows
-    → number (node row current is_open) ≤ 655394455
-number_small {rows} are narrow few feasible row current false within =
-    omega (arith, outside_small are narrow feasible (length rows - row) row current (omega arith))
-number_small {rows} are narrow few feasible row current true within =
-    let s = spelled_cost (method_code Plain) (omega (arith, method_small Plain)) in
-    omega (
-      arith,
-      feasible.steps (node row current true) (method (least_spelling 0) Plain true) (node row Plain false) (refl, s.0, refl),
-      cost_method (least_spelling 0) Plain true,
-      outside_small are narrow feasible (length rows - row) row Plain (omega arith),
-    )
+  pub number_small : length rows ≤ 9999 → (row : ℕ) (current : Method) (is_open : Bool) → row ≤ length rows
+      → number (node row current is_open) ≤ 655394455
+  number_small few row current false within =
+      omega (arith, outside_small (length rows - row) row current (omega arith))
+  number_small few row current true within =
+      let s = spelled_cost (method_code Plain) (omega (arith, method_small Plain)) in
+      omega (
+        arith,
+        feasible.steps (node row current true) (method (least_spelling 0) Plain true) (node row Plain false) (refl, s.0, refl),
+        cost_method (least_spelling 0) Plain true,
+        outside_small (length rows - row) row Plain (omega arith),
+      )
 
 -- ---- numbers of a table
 
@@ -110,17 +109,8 @@ each_small (numbers ∷ table) small = (small 0 (omega arith), each_small table 
 pub numbers_small : {width : ℕ} {rows : List (List ℕ)} (table : List RowNumbers) → AreOfWidth width rows → width ≤ row_limit
     → length rows ≤ 9999 → length table ≡ length rows + 1
     → IsFeasible (Leads width rows) (Ends rows) cost (node_number table) → AllByRecursion AreSmall table
-numbers_small {rows} table are narrow few size feasible =
+numbers_small table are narrow few size feasible =
     each_small table (λ row within.
-    let le : row ≤ length rows = omega (arith, size) in
     let at : (current : Method) (is_open : Bool) → node_number table (node row current is_open) < 2 ^ 32 =
-    λ current is_open. omega (arith, number_small are narrow few feasible row current is_open le) in (
-      at Plain false,
-      at Plain true,
-      at Runs false,
-      at Runs true,
-      at Packed false,
-      at Packed true,
-      at Delta false,
-      at Delta true,
-    ))
+    λ current is_open. omega (arith, number_small are narrow feasible few row current is_open (omega (arith, size))) in
+    (at Plain false, at Plain true, at Runs false, at Runs true, at Packed false, at Packed true, at Delta false, at Delta true))

@@ -1,5 +1,5 @@
 -- A table of a page is answered Proved on a least text, and can be written as a certificate.
-use Rattle.std.proofs.Common.{◌≡◌, ℕ, ◌+◌, ◌*◌, ◌<◌, ◌≤◌, inl, inr, true, false, List, Option, Some, None, length, sym, ap, subst, ◌∙◌, arith}
+use Rattle.std.proofs.Common.{◌≡◌, ℕ, ◌+◌, ◌*◌, ◌<◌, ◌≤◌, inl, inr, true, false, List, Option, Some, None, length, get_or, refl, sym, ap, subst, ◌∙◌, arith}
 use Rattle.std.specs.Prelude.{decimal}
 use Rattle.std.proofs.lemmas.Bool.{cases_lt}
 use Rattle.pcl_base.specs.Limits.{row_limit}
@@ -29,19 +29,12 @@ use Rattle.pcl_cert.specs.PageTables.{table_of, AreLeastTablesOf}
 use Rattle.pcl_cert.specs.Certificates.{IsProof, HasLists}
 use Rattle.pcl_cert.specs.Checking.{Tables, AreLeastOf, HasLeastLists, AreOfPage, ArePlacesGood, AreEdgesGood, IsVerdict}
 use Rattle.pcl_cert.proofs.FixedParts.{one_digit, two_digits, fixed_length}
-use Rattle.pcl_cert.proofs.ProvedLeast.{number_first}
+use Rattle.pcl_cert.proofs.KeptLists.{table_number}
+use Rattle.pcl_cert.proofs.ProvedLeast.{rows_of, width_of, few_rows, row_wide, above_wide}
+use Rattle.pcl_cert.proofs.RowPlaces.{good_places}
 use Rattle.pcl_cert.proofs.SmallNumbers.{number_small, numbers_small}
 
 -- ---- the text
-
--- a least text has its fixed part and the number of the first node
-text_length : (page : Page) {text : List ℕ} {table : List RowNumbers} → IsTableOf page table → PrintsPage page text
-    → IsLeastText page.dpi page.size page.copies (bitmap_rows page.bitmap) (length text)
-    → length text ≡ fixed_bytes page.dpi page.size page.copies + node_number table start
-text_length page {text} {table} is_of printed least =
-    let other = text_of_least page.dpi page.size page.copies (bitmap_rows page.bitmap) (node_number table start)
-    printed.some_copies printed.few_copies printed.count printed.rows_are is_of.least in
-    omega (arith, other.shortest text printed, least.shortest other.attained.0 other.attained.1, other.attained.2)
 
 few_digits : (n : ℕ) → n < 100 → length (decimal n) ≤ 2
 few_digits n few =
@@ -50,112 +43,96 @@ few_digits n few =
       | inr le ↦ omega (arith, two_digits le few)
     ]
 
-fixed_small : (page : Page) {text : List ℕ} → PrintsPage page text → fixed_bytes page.dpi page.size page.copies ≤ 40
-fixed_small page printed =
-    omega (
-      arith,
-      fixed_length page.dpi page.size page.copies,
-      few_digits page.copies printed.few_copies,
-      few_digits (code_of page.size) (code_few page.size),
-    )
+module _ (page : Page) {text : List ℕ} {table : List RowNumbers} (is_of : IsTableOf page table) (printed : PrintsPage page text) where
+  -- a least text has its fixed part and the number of the first node
+  text_length : IsLeastText page.dpi page.size page.copies (rows_of page) (length text)
+      → length text ≡ fixed_bytes page.dpi page.size page.copies + node_number table start
+  text_length least =
+      let other = text_of_least page.dpi page.size page.copies (rows_of page) (node_number table start)
+      printed.some_copies printed.few_copies printed.count printed.rows_are is_of.least in
+      omega (arith, other.shortest text printed, least.shortest other.attained.0 other.attained.1, other.attained.2)
 
--- ---- the tables
+  -- ---- the tables
 
-of_page : (page : Page) {text : List ℕ} {table : List RowNumbers} (tables : Tables) → IsTableOf page table → PrintsPage page text
-    → AreLeastOf page tables → AreOfPage page table tables
-of_page page None is_of printed least = is_of.size ∙ ap (λ (n : ℕ). n + 1) printed.count
-of_page page (Some lists) is_of printed least =
-    (is_of.size ∙ ap (λ (n : ℕ). n + 1) printed.count, least.size ∙ ap (λ (n : ℕ). 4 * n) printed.count)
+  of_page : (tables : Tables) → AreLeastOf page tables → AreOfPage page table tables
+  of_page None least = omega (arith, is_of.size, printed.count)
+  of_page (Some lists) least = (omega (arith, is_of.size, printed.count), omega (arith, least.size, printed.count))
 
-places_good : (page : Page) {text : List ℕ} (tables : Tables) → PrintsPage page text → AreLeastOf page tables → ArePlacesGood page tables
-places_good page None printed least = tt
-places_good page (Some lists) printed least = λ row method place within in_row.
-    let feasible = (least.least row method (omega (arith, printed.count))).table_is.feasible in
-    record { steps = λ e next leads. feasible.steps place e next leads; ends = λ ends. feasible.ends place ends }
+  places_good : (tables : Tables) → AreLeastOf page tables → ArePlacesGood page tables
+  places_good None least = tt
+  places_good (Some lists) least = λ row method place within in_row.
+      good_places (least.least row method (omega (arith, printed.count))).table_is
 
--- the length that a row is counted with is the least one
-first_least : (page : Page) {text : List ℕ} {lists : List (List ℕ)} → PrintsPage page text → AreLeastTablesOf page lists
-    → {row : ℕ} {method : Method} {bytes : ℕ} → row < length (bitmap_rows page.bitmap) → bytes ≡ number_at_place lists row method 0
-    → IsLeastOfRow (page_row_bytes page.size page.dpi) (bitmap_rows page.bitmap) row method bytes
-first_least page {lists} printed least {row} {method} within counted =
-    let width : ℕ = page_row_bytes page.size page.dpi in
-    let rows = bitmap_rows page.bitmap in
-    let are = widths page.size page.dpi rows printed.rows_are in
-    let long = row_width rows row are within in
-    let codable : IsCodable (row_above width rows row) (row_at rows row) = record {
-      same_size = above_width rows row are (omega arith) ∙ sym long;
-      small = omega (arith, long, row_small page.size page.dpi);
-    } in
-    subst (IsLeastLength method (row_above width rows row) (row_at rows row)) (number_first width (list_of lists row method) ∙ sym counted)
-    (first_is_least method (row_above width rows row) (row_at rows row) (table_of (width + 1) (list_of lists row method)) codable
-    (least.least row method within))
+  -- the length that a row is counted with is the least one
+  first_least : {lists : List (List ℕ)} → AreLeastTablesOf page lists → {row : ℕ} {method : Method} {bytes : ℕ}
+      → row < length (rows_of page) → bytes ≡ number_at_place lists row method 0
+      → IsLeastOfRow (width_of page) (rows_of page) row method bytes
+  first_least {lists} least {row} {method} within counted =
+      let above : List ℕ = row_above (width_of page) (rows_of page) row in
+      let list : List ℕ = list_of lists row method in
+      let first : get_or (table_of (width_of page + 1) list) 0 0 ≡ get_or list 0 0 = table_number list (omega arith) in
+      let codable : IsCodable above (row_at (rows_of page) row) = record {
+        same_size = above_wide page printed within;
+        small = omega (arith, row_wide page printed within, row_small page.size page.dpi);
+      } in
+      rw (counted, ← first) (first_is_least method above (row_at (rows_of page) row) (table_of (width_of page + 1) list) codable
+      (least.least row method within))
 
-good_of : (page : Page) {text : List ℕ} {table : List RowNumbers} → IsTableOf page table → PrintsPage page text
-    → AreGoodNumbers (bitmap_rows page.bitmap) (IsLeastOfRow (page_row_bytes page.size page.dpi) (bitmap_rows page.bitmap))
-    (node_number table)
-good_of page {table} is_of printed =
-    feasible_good (page_row_bytes page.size page.dpi) (node_number table)
-    (omega (arith, printed.count, height_small page.size page.dpi)) is_of.feasible
+  good_numbers : AreGoodNumbers (rows_of page) (IsLeastOfRow (width_of page) (rows_of page)) (node_number table)
+  good_numbers = feasible_good (width_of page) (node_number table) (omega (arith, few_rows page printed)) is_of.feasible
 
-edges_good : (page : Page) {text : List ℕ} {table : List RowNumbers} (tables : Tables) → IsTableOf page table → PrintsPage page text
-    → AreLeastOf page tables → AreEdgesGood page table tables
-edges_good page {text} {table} None is_of printed least row method inside within =
-    good_of page is_of printed row method inside (omega (arith, printed.count))
-edges_good page {text} {table} (Some lists) is_of printed least row method false within =
-    good_of page is_of printed row method false (omega (arith, printed.count))
-edges_good page {text} {table} (Some lists) is_of printed least row method true within =
-    let good = good_of page is_of printed row method true (omega (arith, printed.count)) in
-    record {
-      switches = good.switches;
-      skips = good.skips;
-      sends = λ bytes inside counted. good.sends bytes inside
-          (first_least page printed least inside counted);
-    }
+  edges_good : (tables : Tables) → AreLeastOf page tables → AreEdgesGood page table tables
+  edges_good None least row method inside within = good_numbers row method inside (omega (arith, printed.count))
+  edges_good (Some lists) least row method false within = good_numbers row method false (omega (arith, printed.count))
+  edges_good (Some lists) least row method true within =
+      let good = good_numbers row method true (omega (arith, printed.count)) in
+      record {
+        switches = good.switches;
+        skips = good.skips;
+        sends = λ bytes inside counted. good.sends bytes inside (first_least least inside counted);
+      }
 
--- ---- the verdict
+  -- ---- what a certificate says of it
+
+  lists_of : (format : Format) (places : Option (List (List ℕ))) → HasLeastLists page format places
+      → HasLists format (page_height page.size page.dpi) (width_of page) places
+  lists_of One places has = has
+  lists_of Two None has = has
+  lists_of Two (Some lists) has = (omega (arith, has.size, printed.count), has.lists_are)
 
 pub table_proved : (page : Page) (text : List ℕ) (table : List RowNumbers) (tables : Tables) → IsTableOf page table → PrintsPage page text
-    → IsLeastText page.dpi page.size page.copies (bitmap_rows page.bitmap) (length text) → AreLeastOf page tables
+    → IsLeastText page.dpi page.size page.copies (rows_of page) (length text) → AreLeastOf page tables
     → IsVerdict page text table tables verdicts.Proved
 table_proved page text table tables is_of printed short least = (
   printed,
-  of_page page tables is_of printed least,
-  places_good page tables printed least,
-  edges_good page tables is_of printed least,
+  of_page page is_of printed tables least,
+  places_good page is_of printed tables least,
+  edges_good page is_of printed tables least,
   text_length page is_of printed short,
 )
 
--- ---- what a certificate says of it
-
-lists_of : (page : Page) {text : List ℕ} (format : Format) (places : Option (List (List ℕ))) → PrintsPage page text
-    → HasLeastLists page format places
-    → HasLists format (page_height page.size page.dpi) (page_row_bytes page.size page.dpi) places
-lists_of page One places printed has = has
-lists_of page Two None printed has = has
-lists_of page Two (Some lists) printed has = (has.size ∙ ap (λ (n : ℕ). 4 * n) printed.count, has.lists_are)
-
 pub table_certified : (page : Page) (text : List ℕ) (table : List RowNumbers) (format : Format) (places : Option (List (List ℕ)))
     → IsTableOf page table → PrintsPage page text
-    → IsLeastText page.dpi page.size page.copies (bitmap_rows page.bitmap) (length text) → HasLeastLists page format places
+    → IsLeastText page.dpi page.size page.copies (rows_of page) (length text) → HasLeastLists page format places
     → IsProof page.dpi format record { text_len = length text; table = table; places = places }
 table_certified page text table format places is_of printed short has =
-    let width : ℕ = page_row_bytes page.size page.dpi in
-    let rows = bitmap_rows page.bitmap in
-    let are = widths page.size page.dpi rows printed.rows_are in
-    let narrow : width ≤ row_limit = row_small page.size page.dpi in
-    let few : length rows ≤ 9999 = omega (arith, printed.count, height_small page.size page.dpi) in
+    let are = widths page.size page.dpi (rows_of page) printed.rows_are in
+    let narrow : width_of page ≤ row_limit = row_small page.size page.dpi in
+    let few = few_rows page printed in
     record {
       fits = record {
         size = page.size;
-        height = is_of.size ∙ ap (λ (n : ℕ). n + 1) printed.count;
-        lists = lists_of page format places printed has;
+        height = omega (arith, is_of.size, printed.count);
+        lists = lists_of page is_of printed format places has;
       };
       text_len =
           omega (
             arith,
             text_length page is_of printed short,
-            fixed_small page printed,
-            number_small are narrow few is_of.feasible 0 start.method false (omega arith),
+            fixed_length page.dpi page.size page.copies,
+            few_digits page.copies printed.few_copies,
+            few_digits (code_of page.size) (code_few page.size),
+            number_small are narrow is_of.feasible few 0 start.method false (omega arith),
           );
       numbers = numbers_small table are narrow few is_of.size is_of.feasible;
     }
