@@ -79,27 +79,3 @@ pub front_spelled : {w : Width} {limit : ℕ} → IsNumberWidth w limit → (byt
     → to_be_bytes w (from_be_bytes w (take (byte_len w) bytes)) ≡ take (byte_len w) bytes
 front_spelled {w} is bytes are long =
     is.spelled (take (byte_len w) bytes) (omega (arith, length-take (byte_len w) bytes)) (front_bytes (byte_len w) bytes are)
-
-pub number_found : {w : Width} {limit : ℕ} → IsNumberWidth w limit → {bytes : List ℕ} {n : ℕ} {rest : List ℕ} → AreBytes bytes
-    → uint_at w bytes ≡ Ok (n, rest) → Splits bytes (to_be_bytes w n) rest × (n < limit)
-number_found {w} {limit} is {bytes} {n} {rest} are e =
-    let front : List ℕ = take (byte_len w) bytes in
-    let read : ℕ × List ℕ = (from_be_bytes w front, drop (byte_len w) bytes) in
-    let test = passed (ltb (length bytes) (byte_len w)) Short e in
-    let long : byte_len w ≤ length bytes = ltb-false _ _ test.0 in
-    let made : read ≡ (n, rest) = same_ok test.1 in
-    subst (λ (x : ℕ × List ℕ). Splits bytes (to_be_bytes w x.0) x.1 × (x.0 < limit)) made (
-      record {
-        joined = sym (ap (λ (t : List ℕ). t ++ drop (byte_len w) bytes) (front_spelled is bytes are long)
-            ∙ take-append-drop (byte_len w) bytes);
-        rest_are = rest_bytes (byte_len w) bytes are;
-      },
-      is.below front (front_bytes (byte_len w) bytes are),
-    )
-
-pub number_again : {w : Width} {limit : ℕ} → IsNumberWidth w limit → (n : ℕ) (rest : List ℕ) → n < limit
-    → uint_at w (to_be_bytes w n ++ rest) ≡ Ok (n, rest)
-number_again {w} is n rest lt =
-    let text : List ℕ = to_be_bytes w n in
-    let long : ltb (length (text ++ rest)) (byte_len w) ≡ false = le-ltb _ _ (omega (arith, length-append text rest, is.len n)) in
-    rw (long, take_at text rest (byte_len w) (is.len n), drop_at text rest (byte_len w) (is.len n), is.again n lt) refl

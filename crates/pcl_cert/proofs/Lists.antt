@@ -10,7 +10,7 @@ use Rattle.std.specs.Prelude.{nat_lt, if◌then◌else◌}
 use Rattle.pcl_cert.specs.declared.fault.CertFault.{CertFault}
 use Rattle.pcl_cert.specs.declared.fault.CertFault.TheVariants.{BadMagic, Short, Extra, Rows, Places, Memory}
 use Rattle.pcl_cert.specs.CertificateFields.{ends_in_zero}
-use Rattle.pcl_cert.specs.ReadingCertificates.{Fails, behind, uint_at, list_at, lists_at}
+use Rattle.pcl_cert.specs.ReadingCertificates.{Fails, behind, uint_at, list_behind, list_at, lists_at}
 use Rattle.pcl_cert.proofs.FieldsRead.{step_ok, passed, same_ok}
 use Rattle.pcl_cert.proofs.Numbers.{numbers_of_front}
 use Rattle.pcl_cert.proofs.Loops.{Stands, fails_same, goes_on}
@@ -60,40 +60,24 @@ pub record IsFound (most : ℕ) (bytes : List ℕ) (numbers rest : List ℕ) : T
   pub few : count_of bytes ≤ most
   pub ends : ends_in_zero numbers ≡ false
 
-abbrev end_of_list : ℕ × List ℕ → Result (List ℕ × List ℕ) CertFault
-end_of_list count =
-    if ends_in_zero (numbers_from count.0 count.1) then Err Places
-    else Ok (numbers_from count.0 count.1, drop (2 * count.0) count.1)
-
-found_at : {most : ℕ} {bytes : List ℕ} {count : ℕ} {behind_count numbers rest : List ℕ} → count_of bytes ≡ count →
-    drop 2 bytes ≡ behind_count
-    → 2 ≤ length bytes → 2 * count ≤ length behind_count → numbers_from count behind_count ≡ numbers
-    → drop (2 * count) behind_count ≡ rest → count ≤ most → ends_in_zero (numbers_from count behind_count) ≡ false
-    → IsFound most bytes numbers rest
-found_at {bytes} {count} counted behind_it two long numbers_are rest_is few ends = record {
-  numbers_are = sym numbers_are ∙ ap (numbers_from count) (sym behind_it) ∙ ap (λ (n : ℕ). numbers_from n (drop 2 bytes)) (sym counted);
-  whole = omega (arith, counted, ap length behind_it, length-drop 2 bytes);
-  rest_is = sym rest_is ∙ ap (drop (2 * count)) (sym behind_it) ∙ ap (λ (n : ℕ). drop (2 * n) (drop 2 bytes)) (sym counted)
-      ∙ drop-drop (2 * count_of bytes) 2 bytes;
-  few = omega (arith, counted, few);
-  ends = ap ends_in_zero (sym numbers_are) ∙ ends;
-}
-
 pub list_found : {most : ℕ} {bytes numbers rest : List ℕ} → list_at most bytes ≡ Ok (numbers, rest)
     → IsFound most bytes numbers rest
 unfolding list_at
-list_found {most} {bytes} e =
-    let first = step_ok (uint_at w16 bytes) e in
-    let count = first.0 in
-    let read = passed (nat_lt (length bytes) 2) Short first.1 in
-    let count_is = same_ok read.1 in
-    let few = passed (nat_lt most count.0) Places first.2 in
-    let there = passed (nat_lt (length count.1) (2 * count.0)) Short few.1 in
-    let ends = passed (ends_in_zero (numbers_from count.0 count.1)) Places there.1 in
+list_found {most} {bytes} {numbers} {rest} e =
+    let long = (passed (nat_lt (length bytes) 2) Short (step_ok (uint_at w16 bytes) e).1).0 in
+    let read : list_behind most (count_of bytes, drop 2 bytes) ≡ Ok (numbers, rest) = rw long at e in
+    let few = passed (nat_lt most (count_of bytes)) Places read in
+    let there = passed (nat_lt (length (drop 2 bytes)) (2 * count_of bytes)) Short few.1 in
+    let ends = passed (ends_in_zero (list_from bytes)) Places there.1 in
     let made = same_ok ends.1 in
-    found_at (ap (λ (x : ℕ × List ℕ). x.0) count_is) (ap (λ (x : ℕ × List ℕ). x.1) count_is)
-    (ltb-false _ _ read.0) (ltb-false _ _ there.0) (ap (λ (x : List ℕ × List ℕ). x.0) made) (ap (λ (x : List ℕ × List ℕ). x.1) made)
-    (ltb-false _ _ few.0) ends.0
+    let numbers_are : numbers ≡ list_from bytes = sym (ap (λ (x : List ℕ × List ℕ). x.0) made) in
+    record {
+      numbers_are = numbers_are;
+      whole = omega (arith, ltb-false _ _ long, ltb-false _ _ there.0, length-drop 2 bytes);
+      rest_is = sym (ap (λ (x : List ℕ × List ℕ). x.1) made) ∙ drop-drop (2 * count_of bytes) 2 bytes;
+      few = ltb-false _ _ few.0;
+      ends = rw numbers_are ends.0;
+    }
 
 -- ---- many lists
 

@@ -12,11 +12,11 @@ use Rattle.pcl_cert.specs.Certificates.{IsList, list_bytes, lists_bytes, HasList
 use Rattle.pcl_cert.specs.RowTables.{numbers_from}
 use Rattle.pcl_cert.specs.TablesModel.{count_of}
 use Rattle.pcl_cert.specs.ReadingCertificates.{list_at, lists_at, places_at}
-use Rattle.pcl_cert.proofs.FieldsRead.{AreBytes, rest_bytes, front_bytes, Splits, step_ok, same_ok, two_bytes, number_again}
+use Rattle.pcl_cert.proofs.FieldsRead.{AreBytes, rest_bytes, front_bytes, Splits, step_ok, same_ok, two_bytes}
 use Rattle.pcl_cert.proofs.Numbers.{length_numbers, list_spelled}
 use Rattle.pcl_cert.proofs.Lists.{list_found}
 use Rattle.pcl_cert.proofs.PagesRead.{lists_are_many}
-use Rattle.pcl_cert.proofs.Spelled.{Spells, many_spell}
+use Rattle.pcl_cert.proofs.Spelled.{Spells, number_spells, many_spell}
 
 -- ---- numbers
 
@@ -28,28 +28,13 @@ numbers_small (suc n) bytes are =
 
 pub text_len : (numbers : List ℕ) → length (flat_map (to_be_bytes w16) numbers) ≡ 2 * length numbers
 text_len [] = refl
-text_len (n ∷ numbers) =
-    let text : List ℕ = flat_map (to_be_bytes w16) numbers in
-    omega (
-      arith,
-      ap length (flat_map-cons (to_be_bytes w16) n numbers),
-      length-append (to_be_bytes w16 n) text,
-      two_bytes.len n,
-      text_len numbers,
-    )
+text_len (n ∷ numbers) = omega (arith, ap length (flat_map-cons (to_be_bytes w16) n numbers), text_len numbers)
 
 pub numbers_again : (numbers rest : List ℕ) → AllByRecursion (λ k. k < 2 ^ 16) numbers
     → numbers_from (length numbers) (flat_map (to_be_bytes w16) numbers ++ rest) ≡ numbers
 unfolding numbers_from
 numbers_again [] rest small = refl
-numbers_again (n ∷ numbers) rest small =
-    let text : List ℕ = flat_map (to_be_bytes w16) numbers ++ rest in
-    let joined : flat_map (to_be_bytes w16) (n ∷ numbers) ++ rest ≡ to_be_bytes w16 n ++ text =
-    ap (λ (t : List ℕ). t ++ rest) (flat_map-cons (to_be_bytes w16) n numbers)
-    ∙ append_assoc (to_be_bytes w16 n) (flat_map (to_be_bytes w16) numbers) rest in
-    ap (numbers_from (suc (length numbers))) joined
-    ∙ ap (λ (k : ℕ). k ∷ numbers_from (length numbers) text) (two_bytes.again n small.0)
-    ∙ ap (λ (others : List ℕ). n ∷ others) (numbers_again numbers rest small.1)
+numbers_again (n ∷ numbers) rest small = rw (two_bytes.again n small.0, numbers_again numbers rest small.1) refl
 
 -- ---- one list
 
@@ -59,13 +44,11 @@ unfolding list_at
 list_again {most} {numbers} {rest} few is =
     let count : ℕ = length numbers in
     let text : List ℕ = flat_map (to_be_bytes w16) numbers in
-    let joined : list_bytes numbers ++ rest ≡ to_be_bytes w16 count ++ (text ++ rest) = append_assoc (to_be_bytes w16 count) text rest in
     let short : nat_lt most count ≡ false = le-ltb _ _ is.short in
     let there : nat_lt (length (text ++ rest)) (2 * count) ≡ false =
     le-ltb _ _ (omega (arith, length-append text rest, text_len numbers)) in
-    ap (list_at most) joined
-    ∙ rw (
-      number_again two_bytes count (text ++ rest) (omega (arith, is.short)),
+    rw (
+      (number_spells two_bytes).again count (text ++ rest) (omega (arith, is.short)),
       short,
       there,
       numbers_again numbers rest is.small,
@@ -80,15 +63,13 @@ list_spells few = record {
       let text : list_bytes x.0 ≡ take (2 + 2 * count_of bytes) bytes =
       ap list_bytes found.numbers_are ∙ list_spelled bytes are found.whole in (
         record {
-          joined = sym (take-append-drop (2 + 2 * count_of bytes) bytes) ∙ ap
-              (λ (t : List ℕ). t ++ drop (2 + 2 * count_of bytes) bytes) (sym text)
-              ∙ ap (λ (t : List ℕ). list_bytes x.0 ++ t) (sym found.rest_is);
-          rest_are = subst AreBytes (sym found.rest_is) (rest_bytes (2 + 2 * count_of bytes) bytes are);
+          joined = rw found.rest_is (sym (ap (λ (t : List ℕ). t ++ drop (2 + 2 * count_of bytes) bytes) text
+              ∙ take-append-drop (2 + 2 * count_of bytes) bytes));
+          rest_are = rw found.rest_is (rest_bytes (2 + 2 * count_of bytes) bytes are);
         },
         record {
           short = omega (arith, found.few, ap length found.numbers_are, length_numbers (count_of bytes) (drop 2 bytes));
-          small = subst (AllByRecursion (λ k. k < 2 ^ 16)) (sym found.numbers_are)
-              (numbers_small (count_of bytes) (drop 2 bytes) (rest_bytes 2 bytes are));
+          small = rw found.numbers_are (numbers_small (count_of bytes) (drop 2 bytes) (rest_bytes 2 bytes are));
           ends = found.ends;
         },
       );
@@ -102,26 +83,21 @@ two_again : (rows : ℕ) {most : ℕ} → most < 2 ^ 16 → (places : Option (Li
 unfolding places_at
 two_again rows few None rest is = absurd is
 two_again rows {most} few (Some lists) rest is =
-    let spell = many_spell (4 * rows) (lists_are_many most) (list_spells few) in
+    let spell = many_spell (lists_are_many most) (list_spells few) (4 * rows) in
     rw (spell.again lists rest is) refl
 
 pub places_spell : (format : Format) (rows : ℕ) {most : ℕ} → most < 2 ^ 16
     → Spells (places_at format rows most) lists_bytes (HasLists format rows most)
 unfolding places_at
 places_spell One rows {most} few = record {
-  found = λ bytes x are e.
-      subst (λ (y : Option (List (List ℕ)) × List ℕ). Splits bytes (lists_bytes y.0) y.1 × HasLists One rows most y.0)
-      (same_ok e) (record { joined = refl; rest_are = are }, refl);
-  again = λ places rest is. ap (λ (p : Option (List (List ℕ))). places_at One rows most (lists_bytes p ++ rest)) is
-      ∙ ap (λ (p : Option (List (List ℕ))). Ok (p, rest)) (sym is);
+  found = λ bytes x are e. rw (← same_ok e) (record { joined = refl; rest_are = are }, refl);
+  again = λ places rest is. rw is refl;
 }
 places_spell Two rows {most} few =
-    let lists = many_spell (4 * rows) (lists_are_many most) (list_spells few) in
+    let lists = many_spell (lists_are_many most) (list_spells few) (4 * rows) in
     record {
       found = λ bytes x are e.
           let a = step_ok (lists_at (4 * rows) most bytes) e in
-          let found = lists.found bytes a.0 are a.1 in
-          subst (λ (y : Option (List (List ℕ)) × List ℕ). Splits bytes (lists_bytes y.0) y.1 × HasLists Two rows most y.0)
-          (same_ok a.2) found;
+          rw (← same_ok a.2) (lists.found bytes a.0 are a.1);
       again = two_again rows few;
     }

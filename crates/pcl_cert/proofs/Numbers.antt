@@ -27,21 +27,19 @@ numbers_of_front (suc n) bytes =
     rw (first, others, numbers_of_front n (drop 2 bytes)) refl
 
 -- the last of the numbers
-pub last_of_numbers : (n : ℕ) (bytes : List ℕ)
+last_of_numbers : (n : ℕ) (bytes : List ℕ)
     → ends_in_zero (numbers_from (suc n) bytes) ≡ nat_eq (from_be_bytes w16 (take 2 (drop (2 * n) bytes))) 0
 unfolding numbers_from
 last_of_numbers zero bytes = refl
 last_of_numbers (suc n) bytes =
     let place : 2 + 2 * n ≡ 2 * suc n = omega arith in
-    last_of_numbers n (drop 2 bytes)
-    ∙ ap (λ (rest : List ℕ). nat_eq (from_be_bytes w16 (take 2 rest)) 0) (drop-drop (2 * n) 2 bytes ∙ ap (λ (k : ℕ). drop k bytes) place)
+    rw (← place, ← drop-drop (2 * n) 2 bytes) (last_of_numbers n (drop 2 bytes))
 
 pub end_of_numbers : (count : ℕ) (bytes : List ℕ) → 0 < count
     → ends_in_zero (numbers_from count bytes) ≡ nat_eq (from_be_bytes w16 (take 2 (drop (2 * (count - 1)) bytes))) 0
 end_of_numbers zero bytes some = absurd (omega arith)
 end_of_numbers (suc n) bytes some =
-    let before : n ≡ suc n - 1 = omega arith in
-    last_of_numbers n bytes ∙ ap (λ (k : ℕ). nat_eq (from_be_bytes w16 (take 2 (drop (2 * k) bytes))) 0) before
+    let before : suc n - 1 ≡ n = omega arith in rw before (last_of_numbers n bytes)
 
 pub no_numbers_end : (count : ℕ) (bytes : List ℕ) → count ≡ 0 → false ≡ ends_in_zero (numbers_from count bytes)
 unfolding numbers_from
@@ -56,8 +54,7 @@ number_within zero k bytes lt = absurd (omega arith)
 number_within (suc n) zero bytes lt = refl
 number_within (suc n) (suc k) bytes lt =
     let place : 2 + 2 * k ≡ 2 * suc k = omega arith in
-    number_within n k (drop 2 bytes) (omega arith)
-    ∙ ap (λ (rest : List ℕ). from_be_bytes w16 (take 2 rest)) (drop-drop (2 * k) 2 bytes ∙ ap (λ (m : ℕ). drop m bytes) place)
+    rw (← place, ← drop-drop (2 * k) 2 bytes) (number_within n k (drop 2 bytes) (omega arith))
 
 -- ---- the bytes that spell them
 

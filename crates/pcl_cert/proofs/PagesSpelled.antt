@@ -81,7 +81,7 @@ row_spells = record {
 }
 
 pub table_spells : (n : ℕ) → Spells (table_at n) table_bytes (λ table. (length table ≡ n) × AllByRecursion AreSmall table)
-table_spells n = many_spell n tables_are_many row_spells
+table_spells n = many_spell tables_are_many row_spells n
 
 -- ---- pages
 
@@ -196,7 +196,7 @@ certificate_found dpi {bytes} are e =
     let proofs = step_ok (proofs_at count.0.0 dpi format.0.0 count.0.1) count.2 in
     let a = format_found are format.1 in
     let b = four.found format.0.1 count.0 a.rest_are count.1 in
-    let pages = many_spell count.0.0 (proofs_are_many dpi format.0.0) (proof_spells) in
+    let pages = many_spell (proofs_are_many dpi format.0.0) proof_spells count.0.0 in
     let c = pages.found count.0.1 proofs.0 b.0.rest_are proofs.1 in
     let end = ended (eqb (length proofs.0.1) 0) Extra proofs.2 in
     let none : proofs.0.1 ≡ [] = nil_from_length proofs.0.1 (eqb-true _ _ end.0) in
@@ -209,7 +209,7 @@ pages_again : (dpi : Dpi) (format : Format) {proofs : List PageProof} → ArePro
     → proofs_at (length proofs) dpi format (flat_map proof_bytes proofs) ≡ Ok (proofs, [])
 pages_again dpi format {proofs} are =
     ap (proofs_at (length proofs) dpi format) (sym (append-nil (flat_map proof_bytes proofs)))
-    ∙ (many_spell (length proofs) (proofs_are_many dpi format) (proof_spells)).again proofs [] (refl, are.1)
+    ∙ (many_spell (proofs_are_many dpi format) proof_spells (length proofs)).again proofs [] (refl, are.1)
 
 pub certificate_again : (dpi : Dpi) (format : Format) {proofs : List PageProof} → AreProofs dpi format proofs
     → certificate_at dpi (certificate_bytes format proofs) ≡ Ok (format, proofs)

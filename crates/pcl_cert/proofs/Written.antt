@@ -17,17 +17,12 @@ use Rattle.pcl_cert.proofs.Numbers.{length_numbers, number_within}
 
 -- ---- pages
 
-proof_at_index : {dpi : Dpi} {format : Format} (proofs : List PageProof) (i : ℕ) (d : PageProof)
+pub proof_is : {dpi : Dpi} {format : Format} (proofs : List PageProof) (i : ℕ) (d : PageProof)
     → AllByRecursion (FitsFormat dpi format) (proofs_in format proofs) → i < length proofs
     → FitsFormat dpi format (proof_in format (get_or proofs i d))
-proof_at_index [] i d are lt = absurd (omega arith)
-proof_at_index (proof ∷ proofs) zero d are lt = are.0
-proof_at_index (proof ∷ proofs) (suc i) d are lt = proof_at_index proofs i d are.1 (omega arith)
-
-pub proof_is : {dpi : Dpi} {format : Format} (proofs : List PageProof) {i : ℕ} (d : PageProof) → FitFormat dpi format
-    (proofs_in format proofs)
-    → i < length proofs → FitsFormat dpi format (proof_in format (get_or proofs i d))
-proof_is proofs {i} d are lt = proof_at_index proofs i d are.1 lt
+proof_is [] i d are lt = absurd (omega arith)
+proof_is (proof ∷ proofs) zero d are lt = are.0
+proof_is (proof ∷ proofs) (suc i) d are lt = proof_is proofs i d are.1 (omega arith)
 
 -- ---- numbers of lists
 
@@ -45,17 +40,19 @@ pub number_there : (bytes starts : List ℕ) {k start place : ℕ} → k < lengt
 number_there bytes starts {k} {start} {place} lt is within =
     let list : List ℕ = drop start bytes in
     let from_start : start + (2 + 2 * place) ≡ start + 2 + 2 * place = omega arith in
-    ap (λ (numbers : List ℕ). get_or numbers place 0) (listed_number bytes starts k lt is)
-    ∙ number_within (count_of list) place (drop 2 list) within
-    ∙ ap (λ (rest : List ℕ). from_be_bytes w16 (take 2 rest))
-    (drop-drop (2 * place) 2 list ∙ drop-drop (2 + 2 * place) start bytes ∙ ap (λ (m : ℕ). drop m bytes) from_start)
+    rw (
+      listed_number bytes starts k lt is,
+      number_within (count_of list) place (drop 2 list) within,
+      drop-drop (2 * place) 2 list,
+      drop-drop (2 + 2 * place) start bytes,
+      from_start,
+    ) refl
 
 pub number_past : (bytes starts : List ℕ) {k start place : ℕ} → k < length starts → start ≡ get_or starts k start
     → count_of (drop start bytes) ≤ place → get_or (get_or (lists_within bytes starts) k []) place 0 ≡ 0
 number_past bytes starts {k} {start} {place} lt is past =
     let list : List ℕ = drop start bytes in
-    ap (λ (numbers : List ℕ). get_or numbers place 0) (listed_number bytes starts k lt is)
-    ∙ get_or_past (list_from list) place 0 (omega (arith, length_numbers (count_of list) (drop 2 list)))
+    rw (listed_number bytes starts k lt is) (get_or_past (list_from list) place 0 (omega (arith, length_numbers (count_of list) (drop 2 list))))
 
 -- a list of row tables is whole
 pub list_there : {bytes : List ℕ} (starts : List ℕ) (k : ℕ) → AllByRecursion (IsListAt bytes) starts → k < length starts
@@ -76,9 +73,7 @@ pub list_kept : {self : List (List ℕ)} (bytes starts : List ℕ) (row : ℕ) (
     → 4 * row + 4 ≤ length self → code ≡ method_code method → start ≡ get_or starts (4 * row + code) start
     → list_of self row method ≡ list_from (drop start bytes)
 list_kept bytes starts row method {code} view there is at =
-    ap (λ (lists : List (List ℕ)). list_of lists row method) view
-    ∙ ap (λ (c : ℕ). get_or (lists_within bytes starts) (4 * row + c) []) (sym is)
-    ∙ listed_number bytes starts (4 * row + code) (list_within bytes starts row method view there is) at
+    rw (view, ← is, listed_number bytes starts (4 * row + code) (list_within bytes starts row method view there is) at) refl
 
 -- ---- proofs of pages in the format that they were read in
 
