@@ -1,5 +1,5 @@
 -- Reading row tables: where the lists stand in the bytes.
-use Rattle.std.proofs.Common.{◌≡◌, ℕ, ◌+◌, ◌-◌, ◌*◌, ◌<◌, ◌≤◌, Bool, true, false, List, [], ◌∷◌, ◌++◌, length, take, drop, Result, Ok, Err, refl, sym, ap, subst, ◌∙◌, arith}
+use Rattle.std.proofs.Common.{◌≡◌, ℕ, ◌+◌, ◌-◌, ◌*◌, ◌<◌, ◌≤◌, Bool, true, false, List, [], ◌∷◌, ◌++◌, length, take, drop, Result, Ok, Err, refl, sym, ap, ◌∙◌, arith}
 use Rattle.std.specs.Int.{w16}
 use Rattle.std.specs.List.{AllByRecursion}
 use Rattle.pcl_cert.specs.RowTables.{numbers_from}
@@ -8,7 +8,7 @@ use Rattle.std.proofs.lemmas.Bool.{ltb-false, le-ltb}
 use Rattle.std.proofs.lemmas.List.{drop-drop, length-drop, length-append, map_push}
 use Rattle.std.specs.Prelude.{nat_lt, if◌then◌else◌}
 use Rattle.pcl_cert.specs.declared.fault.CertFault.{CertFault}
-use Rattle.pcl_cert.specs.declared.fault.CertFault.TheVariants.{BadMagic, Short, Extra, Rows, Places, Memory}
+use Rattle.pcl_cert.specs.declared.fault.CertFault.TheVariants.{Short, Places}
 use Rattle.pcl_cert.specs.CertificateFields.{ends_in_zero}
 use Rattle.pcl_cert.specs.ReadingCertificates.{Fails, behind, uint_at, list_behind, list_at, lists_at}
 use Rattle.pcl_cert.proofs.FieldsRead.{step_ok, passed, same_ok}

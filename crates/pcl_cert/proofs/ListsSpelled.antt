@@ -1,5 +1,5 @@
 -- Lists of row tables: whatever is read is spelled so, and what is spelled is read.
-use Rattle.std.proofs.Common.{◌≡◌, ℕ, zero, suc, ◌+◌, ◌*◌, ◌^◌, ◌<◌, false, List, [], ◌∷◌, ◌++◌, length, take, drop, Option, Some, None, Ok, refl, sym, ap, subst, ◌∙◌, append_assoc, arith}
+use Rattle.std.proofs.Common.{◌≡◌, ℕ, zero, suc, ◌+◌, ◌*◌, ◌^◌, ◌<◌, false, List, [], ◌∷◌, ◌++◌, length, take, drop, Option, Some, None, Ok, refl, sym, ap, ◌∙◌, arith}
 use Rattle.std.specs.Int.{w16, to_be_bytes}
 use Rattle.std.specs.List.{flat_map, AllByRecursion}
 use Rattle.std.specs.Prelude.{nat_lt}
@@ -12,7 +12,7 @@ use Rattle.pcl_cert.specs.Certificates.{IsList, list_bytes, lists_bytes, HasList
 use Rattle.pcl_cert.specs.RowTables.{numbers_from}
 use Rattle.pcl_cert.specs.TablesModel.{count_of}
 use Rattle.pcl_cert.specs.ReadingCertificates.{list_at, lists_at, places_at}
-use Rattle.pcl_cert.proofs.FieldsRead.{AreBytes, rest_bytes, front_bytes, Splits, step_ok, same_ok, two_bytes}
+use Rattle.pcl_cert.proofs.FieldsRead.{AreBytes, rest_bytes, front_bytes, step_ok, same_ok, two_bytes}
 use Rattle.pcl_cert.proofs.Numbers.{length_numbers, list_spelled}
 use Rattle.pcl_cert.proofs.Lists.{list_found}
 use Rattle.pcl_cert.proofs.PagesRead.{lists_are_many}

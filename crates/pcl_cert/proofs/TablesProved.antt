@@ -1,25 +1,23 @@
 -- A table of a page is answered Proved on a least text, and can be written as a certificate.
-use Rattle.std.proofs.Common.{◌≡◌, ℕ, ◌+◌, ◌*◌, ◌<◌, ◌≤◌, inl, inr, true, false, List, Option, Some, None, length, get_or, refl, sym, ap, subst, ◌∙◌, arith}
+use Rattle.std.proofs.Common.{◌≡◌, ℕ, ◌+◌, ◌<◌, ◌≤◌, inl, inr, true, false, List, Option, Some, None, length, get_or, arith}
 use Rattle.std.specs.Prelude.{decimal}
 use Rattle.std.proofs.lemmas.Bool.{cases_lt}
 use Rattle.pcl_base.specs.Limits.{row_limit}
 use Rattle.pcl_base.specs.declared.method.Method.{Method}
-use Rattle.pcl_base.specs.Size.{page_height, page_row_bytes, code_of}
+use Rattle.pcl_base.specs.Size.{page_height, code_of}
 use Rattle.pcl_bitmap.specs.declared.page.Page.{Page}
-use Rattle.pcl_coders.specs.Coding.{IsCodable, IsLeastLength}
+use Rattle.pcl_coders.specs.Coding.{IsCodable}
 use Rattle.pcl_coders.proofs.Filling.{first_is_least}
-use Rattle.pcl_output.specs.PageText.{PrintsPage, bitmap_rows}
+use Rattle.pcl_output.specs.PageText.{PrintsPage}
 use Rattle.pcl_output.specs.LeastTexts.{IsLeastText, fixed_bytes}
 use Rattle.pcl_output.specs.PageTables.{IsTableOf}
 use Rattle.pcl_output.specs.declared.table.RowNumbers.{RowNumbers}
 use Rattle.pcl_output.specs.Nodes.{start, row_at, row_above}
 use Rattle.pcl_output.specs.Table.{node_number}
 use Rattle.pcl_output.proofs.Texts.{widths, text_of_least}
-use Rattle.pcl_output.proofs.Walking.{row_width, above_width}
 use Rattle.pcl_base.proofs.PageBounds.{row_small}
 use Rattle.pcl_check.specs.Edges.{AreGoodNumbers, IsLeastOfRow}
 use Rattle.pcl_check.proofs.GoodNumbers.{feasible_good}
-use Rattle.pcl_base.proofs.PageBounds.{height_small}
 use Rattle.pcl_check.proofs.Beginnings.{code_few}
 use Rattle.pcl_cert.specs.declared.check.Verdict.TheVariants as verdicts
 use Rattle.pcl_cert.specs.declared.format.Format.{Format}

@@ -1,6 +1,4 @@
-use Rattle.std.proofs.Common.{◌≡◌, ◌*◌, ap, ◌∙◌, true, false, take, drop, List, ℕ, Ok, Err, arith}
-use Rattle.std.specs.Prelude.{if◌then◌else◌}
-use Rattle.pcl_cert.specs.declared.fault.CertFault.TheVariants.{Places}
+use Rattle.std.proofs.Common.{◌≡◌, ◌*◌, ◌∙◌, true, false, take, drop, List, ℕ, arith, refl}
 use Rattle.pcl_cert.specs.CertificateFields.{ends_in_zero}
 use Rattle.pcl_cert.specs.RowTables.{numbers_from}
 use Rattle.pcl_cert.proofs.Lists.{list_checked}
@@ -11,8 +9,7 @@ returns-then-ends_in_zero c =
     let count : ℕ = c.in_ok-count.count in
     let rest : List ℕ = c.in_ok-count.rest.now in
     let ends : ends_in_zero (numbers_from count (take (2 * count) rest)) ≡ true = cc in
-    list_checked c.args.bytes.now c.in_ok-count.ensures (omega arith) (omega arith)
-    ∙ ap (λ b. if b then Err Places else Ok (drop (2 * count) rest)) ends
+    list_checked c.args.bytes.now c.in_ok-count.ensures (omega arith) (omega arith) ∙ rw ends refl
 
 pub returns : goal.returns
 returns c =
@@ -20,5 +17,4 @@ returns c =
     let rest : List ℕ = c.in_ok-count.rest.now in
     let ends : ends_in_zero (numbers_from count (take (2 * count) rest)) ≡ false = cc in
     let back : drop (2 * count) rest ≡ c.split_at.result.1.now = cc in
-    list_checked c.args.bytes.now c.in_ok-count.ensures (omega arith) (omega arith)
-    ∙ ap (λ b. if b then Err Places else Ok (drop (2 * count) rest)) ends ∙ ap (λ bytes. Ok bytes) back
+    list_checked c.args.bytes.now c.in_ok-count.ensures (omega arith) (omega arith) ∙ rw (ends, back) refl

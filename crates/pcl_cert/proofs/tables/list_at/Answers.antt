@@ -1,4 +1,4 @@
-use Rattle.std.proofs.Common.{◌≡◌, ◌+◌, ◌-◌, ◌*◌, ◌≤◌, ℕ, List, ap, sym, ◌∙◌, drop, take, length, arith}
+use Rattle.std.proofs.Common.{◌≡◌, ◌+◌, ◌-◌, ◌*◌, ◌≤◌, ℕ, List, sym, drop, length, arith}
 use Rattle.std.proofs.lemmas.List.{length-drop}
 use Rattle.pcl_cert.specs.TablesModel.{count_of}
 use Rattle.pcl_cert.proofs.FieldsRead.{rest_bytes}
@@ -11,5 +11,4 @@ returns c =
     let whole : 2 + 2 * count_of bytes ≤ length bytes = omega (arith, c.requires.whole, length-drop c.args.start c.args.bytes.now) in
     let len : c.args.start + 2 + 2 * c.from-numbers.result - c.args.start ≡ 2 + 2 * count_of bytes =
     omega (arith, c.from-numbers.ensures, c.word.ensures) in
-    ap (λ (n : ℕ). take n bytes) len
-    ∙ sym (list_spelled bytes (rest_bytes c.args.start c.args.bytes.now (λ i. omega (arith, c.type_inv.bytes i))) whole)
+    rw len (sym (list_spelled bytes (rest_bytes c.args.start c.args.bytes.now (λ i. omega (arith, c.type_inv.bytes i))) whole))

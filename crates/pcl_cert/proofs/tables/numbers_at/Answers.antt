@@ -1,6 +1,5 @@
-use Rattle.std.proofs.Common.{◌≡◌, ◌+◌, ◌-◌, ◌*◌, ◌/◌, ℕ, List, length, take, drop, sym, ap, ◌∙◌, arith}
+use Rattle.std.proofs.Common.{◌≡◌, ◌+◌, ◌-◌, ◌*◌, ◌/◌, ℕ, List, length, take, drop, arith, refl}
 use Rattle.std.proofs.lemmas.List.{length-drop, length-take-le, drop-drop}
-use Rattle.pcl_cert.specs.RowTables.{numbers_from}
 use Rattle.pcl_cert.specs.TablesModel.{count_of}
 use Rattle.pcl_cert.proofs.Numbers.{numbers_of_front}
 use Rattle.pcl_cert.proofs.tables.numbers_at.Goals as goal
@@ -15,7 +14,4 @@ returns-clause-numbers c =
     let size : length (take (2 * count) rest) ≡ 2 * count =
     length-take-le (2 * count) rest (omega (arith, c.requires.whole, length-drop (start + 2) bytes)) in
     let half : length (take (2 * count) rest) / 2 ≡ count = omega (arith, size) in
-    ap (λ (n : ℕ). numbers_from (length (take n rest) / 2) (take n rest)) len
-    ∙ ap (λ (n : ℕ). numbers_from n (take (2 * count) rest)) half
-    ∙ numbers_of_front count rest
-    ∙ ap (numbers_from count) (sym (drop-drop 2 start bytes))
+    rw (len, half, numbers_of_front count rest, drop-drop 2 start bytes) refl

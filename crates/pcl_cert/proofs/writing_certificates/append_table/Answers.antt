@@ -1,4 +1,4 @@
-use Rattle.std.proofs.Common.{◌++◌, take, ap, sym, ◌∙◌, append_assoc, arith}
+use Rattle.std.proofs.Common.{take, append_assoc, arith, length, ◌<◌}
 use Rattle.pcl_base.proofs.Lists.{flat_more, front_stays}
 use Rattle.pcl_output.specs.Table.{no_numbers}
 use Rattle.pcl_cert.specs.Certificates.{row_bytes, table_bytes}
@@ -11,7 +11,6 @@ returns-in_err-append_row-clause-front c =
 
 pub loop-row-preserved : goal.loop-row-preserved
 loop-row-preserved c =
-    rw (c.in_ok-append_row.ensures.ok, c.loop-row.invariant, c.row.ensures) (
-    append_assoc c.args.out.now.items (table_bytes (take c.loop-row.row c.args.table.now)) _
-    ∙ ap (λ text. c.args.out.now.items ++ text)
-    (sym (flat_more row_bytes c.args.table.now no_numbers (omega (arith, c.loop-row-test.true, c.rows-row-end.ensures)))))
+    let lt : c.loop-row.row < length c.args.table.now = omega (arith, c.loop-row-test.true, c.rows-row-end.ensures) in
+    rw (c.in_ok-append_row.ensures.ok, c.loop-row.invariant, c.row.ensures, flat_more row_bytes c.args.table.now no_numbers lt)
+    (append_assoc c.args.out.now.items (table_bytes (take c.loop-row.row c.args.table.now)) _)

@@ -1,7 +1,5 @@
-use Rattle.std.proofs.Common.{◌≡◌, ◌+◌, ◌<◌, ℕ, List, length, sym, ap, subst, ◌∙◌, arith}
+use Rattle.std.proofs.Common.{◌≡◌, ◌+◌, ◌<◌, ℕ, List, length, sym, ◌∙◌, arith, refl}
 use Rattle.std.proofs.lemmas.List.{length-take-le, length-replicate}
-use Rattle.pcl_base.specs.declared.dpi.Dpi.{Dpi}
-use Rattle.pcl_base.specs.declared.size.Size.{Size}
 use Rattle.pcl_base.specs.declared.method.Method.{Method}
 use Rattle.pcl_base.specs.Size.{page_height, page_row_bytes}
 use Rattle.pcl_bitmap.specs.Bitmap.{row_of}
@@ -11,19 +9,11 @@ use Rattle.pcl_output.specs.Nodes.{row_above}
 use Rattle.pcl_output.proofs.RowsFrom.{row_of_bytes}
 use Rattle.pcl_base.proofs.PageBounds.{row_small}
 use Rattle.pcl_cert.specs.RowTables.{list_of}
-use Rattle.pcl_check.specs.Places.{FindsPlace}
-use Rattle.pcl_cert.specs.Checking.{IsGoodInTables}
 use Rattle.pcl_cert.specs.PageTables.{table_of}
 use Rattle.pcl_cert.proofs.RowPlaces.{IsRowOfTables, none_bad, some_bad}
 use Rattle.pcl_cert.proofs.check.places.first_bad_in_table.Goals as goal
 
--- a bitmap has its page's size and resolution
-heights : (page : Page) → page_height page.bitmap.size page.bitmap.dpi ≡ page_height page.size page.dpi
-heights page = ap (λ (z : Size). page_height z page.bitmap.dpi) page.size_is ∙ ap (λ (d : Dpi). page_height page.size d) page.dpi_is
-
-widths : (page : Page) → page_row_bytes page.bitmap.size page.bitmap.dpi ≡ page_row_bytes page.size page.dpi
-widths page = ap (λ (z : Size). page_row_bytes z page.bitmap.dpi) page.size_is ∙ ap (λ (d : Dpi). page_row_bytes page.size d) page.dpi_is
-
+-- what is found of a row, where a bitmap has its page's size and resolution
 of_page : (page : Page) {lists : List (List ℕ)} {row : ℕ} {method : Method} {seed bytes numbers : List ℕ} {count : ℕ}
     → row < page_height page.size page.dpi
     → seed ≡ row_above (page_row_bytes page.bitmap.size page.bitmap.dpi) (bitmap_rows page.bitmap) row
@@ -31,15 +21,15 @@ of_page : (page : Page) {lists : List (List ℕ)} {row : ℕ} {method : Method} 
     → numbers ≡ table_of count (list_of lists row method) → count ≡ length bytes + 1
     → IsRowOfTables page lists row method seed bytes numbers
 of_page page {lists} {row} {method} {count} lt s b w n e =
-    let wide = widths page in
-    let high = heights page in
     let height : ℕ = page_height page.bitmap.size page.bitmap.dpi in
     let width : ℕ = page_row_bytes page.bitmap.size page.bitmap.dpi in
+    let wide : width ≡ page_row_bytes page.size page.dpi = rw (page.size_is, page.dpi_is) refl in
+    let high : height ≡ page_height page.size page.dpi = rw (page.size_is, page.dpi_is) refl in
+    let same : count ≡ page_row_bytes page.size page.dpi + 1 = omega (arith, wide, w, e) in
     record {
-      seed_is = s ∙ ap (λ (k : ℕ). row_above k (bitmap_rows page.bitmap) row) wide;
+      seed_is = rw (← wide) s;
       bytes_are = b ∙ sym (row_of_bytes row height width page.bitmap.bytes (omega (arith, high, lt)));
-      numbers_are = n ∙ (let same : count ≡ page_row_bytes page.size page.dpi + 1 = omega (arith, wide, w, e) in
-          ap (λ (k : ℕ). table_of k (list_of lists row method)) same);
+      numbers_are = rw (← same) n;
       width = w ∙ wide;
     }
 
@@ -50,9 +40,7 @@ returns-in_err-place c =
     c.copy_table.ensures
     (length-take-le _ _ (let small = row_small page.bitmap.size page.bitmap.dpi in
     omega (arith, c.row-bytes.ensures.len, small, length-replicate {A = ℕ} 601 0))) in
-    subst (FindsPlace (IsGoodInTables page c.args.tables.now c.args.row c.args.method) (page_row_bytes page.size page.dpi))
-    (sym c.from_residual.ensures)
-    (none_bad is c.in_err-place.ensures)
+    rw c.from_residual.ensures (none_bad is c.in_err-place.ensures)
 
 pub returns : goal.returns
 returns c =
