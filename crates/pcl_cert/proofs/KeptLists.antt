@@ -135,8 +135,7 @@ list_more {old} {new} {numbers} {list} whole few small is bytes_are starts_are =
     let at_front = list_at_front (omega (arith, size, few)) small_list in
     let there : drop start (bytes ++ text) ≡ text = drop_at bytes text start refl in
     let stay = lists_stay bytes text old.starts.items whole in
-    let text_size : length text ≡ 2 + 2 * length list =
-    omega (arith, length-append (to_be_bytes w16 (length list)) (flat_map (to_be_bytes w16) list), two_bytes.len (length list), text_len list) in
+    let text_size : length text ≡ 2 + 2 * length list = omega (arith, text_len list) in
     record {
       list = list;
       trimmed = is;

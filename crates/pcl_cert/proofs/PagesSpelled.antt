@@ -207,8 +207,7 @@ certificate_found dpi {bytes} are e =
 pages_again : (dpi : Dpi) (format : Format) {proofs : List PageProof} → AreProofs dpi format proofs
     → proofs_at (length proofs) dpi format (flat_map proof_bytes proofs) ≡ Ok (proofs, [])
 pages_again dpi format {proofs} are =
-    ap (proofs_at (length proofs) dpi format) (sym (append-nil (flat_map proof_bytes proofs)))
-    ∙ (many_spell (proofs_are_many dpi format) proof_spells (length proofs)).again proofs [] (refl, are.1)
+    rw append-nil at ((many_spell (proofs_are_many dpi format) proof_spells (length proofs)).again proofs [] (refl, are.1))
 
 pub certificate_again : (dpi : Dpi) (format : Format) {proofs : List PageProof} → AreProofs dpi format proofs
     → certificate_at dpi (certificate_bytes format proofs) ≡ Ok (format, proofs)

@@ -73,7 +73,8 @@ module _ (page : Page) {text : List ℕ} (printed : PrintsPage page text) where
       let first : get_or numbers 0 0 ≡ get_or list 0 0 = table_number list (omega arith) in
       omega (
         arith,
-        first_bounds method (row_above (width_of page) (rows_of page) row) (row_at (rows_of page) row) numbers whole (above_wide lt) good has,
+        first_bounds method (row_above (width_of page) (rows_of page) row) (row_at (rows_of page) row) numbers whole
+            (above_wide lt) good has,
         first,
       )
 

@@ -52,7 +52,8 @@ pub number_past : (bytes starts : List ℕ) {k start place : ℕ} → k < length
     → count_of (drop start bytes) ≤ place → get_or (get_or (lists_within bytes starts) k []) place 0 ≡ 0
 number_past bytes starts {k} {start} {place} lt is past =
     let list : List ℕ = drop start bytes in
-    rw (listed_number bytes starts k lt is) (get_or_past (list_from list) place 0 (omega (arith, length_numbers (count_of list) (drop 2 list))))
+    rw (listed_number bytes starts k lt is)
+    (get_or_past (list_from list) place 0 (omega (arith, length_numbers (count_of list) (drop 2 list))))
 
 -- a list of row tables is whole
 pub list_there : {bytes : List ℕ} (starts : List ℕ) (k : ℕ) → AllByRecursion (IsListAt bytes) starts → k < length starts

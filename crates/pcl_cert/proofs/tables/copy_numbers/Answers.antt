@@ -14,8 +14,7 @@ number_more list out {place} {number} inside same is k lt =
     elim (cases_lt k place) [
       | inl before ↦ get_or-set_other out place k number 0 (λ e. absurd (omega arith)) ∙ same k before
       | inr at ↦
-          let here : place ≡ k = omega arith in
-          subst (λ (n : ℕ). get_or (set out place number) n 0 ≡ get_or list n 0) here (get_or-set_same out place number 0 inside ∙ is)
+          let here : k ≡ place = omega arith in rw here (get_or-set_same out place number 0 inside ∙ is)
     ]
 
 pub loop-place-preserved : goal.loop-place-preserved

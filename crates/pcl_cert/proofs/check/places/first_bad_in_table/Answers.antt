@@ -1,4 +1,4 @@
-use Rattle.std.proofs.Common.{◌≡◌, ◌+◌, ◌<◌, ℕ, List, length, sym, ◌∙◌, arith, refl}
+use Rattle.std.proofs.Common.{◌≡◌, ◌+◌, ◌<◌, ℕ, List, length, sym, ◌∙◌, arith, refl, take, replicate, ◌≤◌}
 use Rattle.std.proofs.lemmas.List.{length-take-le, length-replicate}
 use Rattle.pcl_base.specs.declared.method.Method.{Method}
 use Rattle.pcl_base.specs.Size.{page_height, page_row_bytes}
@@ -14,18 +14,20 @@ use Rattle.pcl_cert.proofs.RowPlaces.{IsRowOfTables, none_bad, some_bad}
 use Rattle.pcl_cert.proofs.check.places.first_bad_in_table.Goals as goal
 
 -- what is found of a row, where a bitmap has its page's size and resolution
-of_page : (page : Page) {lists : List (List ℕ)} {row : ℕ} {method : Method} {seed bytes numbers : List ℕ} {count : ℕ}
+of_page : (page : Page) {lists : List (List ℕ)} {row : ℕ} {method : Method} {seed bytes numbers : List ℕ}
     → row < page_height page.size page.dpi
     → seed ≡ row_above (page_row_bytes page.bitmap.size page.bitmap.dpi) (bitmap_rows page.bitmap) row
     → bytes ≡ row_of page.bitmap row → length bytes ≡ page_row_bytes page.bitmap.size page.bitmap.dpi
-    → numbers ≡ table_of count (list_of lists row method) → count ≡ length bytes + 1
+    → numbers ≡ table_of (length {A = ℕ} (take (length bytes + 1) (replicate 601 0))) (list_of lists row method)
     → IsRowOfTables page lists row method seed bytes numbers
-of_page page {lists} {row} {method} {count} lt s b w n e =
+of_page page {lists} {row} {method} {bytes = bytes} lt s b w n =
     let height : ℕ = page_height page.bitmap.size page.bitmap.dpi in
     let width : ℕ = page_row_bytes page.bitmap.size page.bitmap.dpi in
     let wide : width ≡ page_row_bytes page.size page.dpi = rw (page.size_is, page.dpi_is) refl in
     let high : height ≡ page_height page.size page.dpi = rw (page.size_is, page.dpi_is) refl in
-    let same : count ≡ page_row_bytes page.size page.dpi + 1 = omega (arith, wide, w, e) in
+    let fits : length bytes + 1 ≤ 601 = omega (arith, w, row_small page.bitmap.size page.bitmap.dpi) in
+    let count = length-take-le {A = ℕ} (length bytes + 1) (replicate 601 0) (omega (arith, fits, length-replicate {A = ℕ} 601 0)) in
+    let same : length {A = ℕ} (take (length bytes + 1) (replicate 601 0)) ≡ page_row_bytes page.size page.dpi + 1 = omega (arith, wide, w, count) in
     record {
       seed_is = rw (← wide) s;
       bytes_are = b ∙ sym (row_of_bytes row height width page.bitmap.bytes (omega (arith, high, lt)));
@@ -37,16 +39,12 @@ pub returns-in_err-place : goal.returns-in_err-place
 returns-in_err-place c =
     let page = c.args.page.now in
     let is = of_page page c.requires.row c.row_above-seed.ensures.row c.row-bytes.ensures.bytes c.row-bytes.ensures.len
-    c.copy_table.ensures
-    (length-take-le _ _ (let small = row_small page.bitmap.size page.bitmap.dpi in
-    omega (arith, c.row-bytes.ensures.len, small, length-replicate {A = ℕ} 601 0))) in
+    c.copy_table.ensures in
     rw c.from_residual.ensures (none_bad is c.in_err-place.ensures)
 
 pub returns : goal.returns
 returns c =
     let page = c.args.page.now in
     let is = of_page page c.requires.row c.row_above-seed.ensures.row c.row-bytes.ensures.bytes c.row-bytes.ensures.len
-    c.copy_table.ensures
-    (length-take-le _ _ (let small = row_small page.bitmap.size page.bitmap.dpi in
-    omega (arith, c.row-bytes.ensures.len, small, length-replicate {A = ℕ} 601 0))) in
+    c.copy_table.ensures in
     some_bad is c.in_ok-place.ensures
