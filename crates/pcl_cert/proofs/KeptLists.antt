@@ -1,8 +1,7 @@
 -- Lists that are put one after the other, and the tables that they stand for.
 use Rattle.std.proofs.Common.{◌≡◌, ℕ, zero, suc, ◌+◌, ◌-◌, ◌*◌, ◌^◌, ◌<◌, ◌≤◌, true, false, List, [], ◌∷◌, ◌++◌, length, take, drop, get_or, replicate, refl, sym, ap, subst, ◌∙◌, append_assoc, arith, inl, inr}
 use Rattle.std.specs.Prelude.{nat_eq}
-use Rattle.std.specs.Int.{w16, to_be_bytes}
-use Rattle.std.specs.List.{flat_map, AllByRecursion}
+use Rattle.std.specs.List.{AllByRecursion}
 use Rattle.std.proofs.lemmas.Bool.{cases_lt}
 use Rattle.std.proofs.lemmas.List.{ext_get_or, get_or_append_left, get_or-append_right, get_or-replicate, get_or_past, get_or-take, length-append, length-replicate, length-take, length-drop, drop_at, append-nil, take-append-le, drop-append-le, map_push, length-map}
 use Rattle.std.proofs.Math.ListN.{drop_of_length-le}
