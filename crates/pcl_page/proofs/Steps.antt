@@ -26,7 +26,7 @@ use Rattle.pcl_page.specs.Delivering.{Hands}
 use Rattle.pcl_page.specs.inner.Reflecting.{IsIn, IsEjected, Takes, Draws, HandsMore, IsTurned, IsTried}
 use Rattle.pcl_env.specs.declared.asked.Asked.{Asked}
 use Rattle.pcl_page.specs.Asks.{with_page, asks_of}
-use Rattle.pcl_page.proofs.Turns.{holds_same, painted_same, prepared_page, with_settings, asked_page, pages_fit, pages_past, handed_sheet}
+use Rattle.pcl_page.proofs.Turns.{holds_same, painted_same, prepared_page, with_settings, pages_fit, pages_past, handed_sheet}
 use Rattle.pcl_page.proofs.Keeping.{drawn_keeps}
 
 -- ---- a command
@@ -42,12 +42,12 @@ pub counted_in : {dpi : Dpi} {s : Situation} {old new : Performer} → IsIn dpi 
     → new.page ≡ old.page → new.is_marked ≡ old.is_marked → new.ejected ≡ old.ejected → new.performed ≡ old.performed + 1
     → new.asks ≡ old.asks → new.fonts ≡ old.fonts → IsIn dpi (counted s) new
 counted_in i e r b m j p a f = record {
-  settings = e ∙ i.settings;
-  raster = r ∙ i.raster;
-  marked = m ∙ i.marked;
-  ejected = j ∙ i.ejected;
-  performed = p ∙ ap (λ (n : ℕ). n + 1) i.performed;
-  asks = ap asks_of a ∙ i.asks;
+  settings = cc;
+  raster = cc;
+  marked = cc;
+  ejected = cc;
+  performed = cc;
+  asks = cc;
   fonts = holds_same i.fonts f refl;
   painted = painted_same i.painted (ap (λ (q : Page). q.bitmap) b) refl;
 }
@@ -58,9 +58,7 @@ pub tried_as : (dpi : Dpi) (command : Said) {operation : Option Operation} (s : 
     → tried dpi command s ≡ (after_named dpi operation command (counted s) |> within_page_limit)
 tried_as dpi command s few named =
     let under : nat_le command_limit s.performed ≡ false = grind (arith, nat_tests) in
-    ap (λ (b : Bool). cond b (Err TooManyCommands) (Ok (counted s)) |> after_named dpi (operation_of command.name) command
-    |> within_page_limit) under
-    ∙ ap (λ (o : Option Operation). after_named dpi o command (counted s) |> within_page_limit) named
+    rw (under, named) refl
 
 -- what is known of a command that isn't ignored, at the turn of the page
 pub record AtTurn (dpi : Dpi) (operation : Operation) (command : Said) (s : Situation) (old : Performer) : Type 0 where
@@ -72,7 +70,7 @@ pub record AtTurn (dpi : Dpi) (operation : Operation) (command : Said) (s : Situ
 -- ---- commands that are refused where they draw
 
 pub only_stays : (s : Settings) {done : Settings × Effect} → stays s ≡ Some done → done.1 ≡ Stay
-only_stays s {done} e = let same : ◌≡◌ {A = Settings × Effect} (s, Stay) done = cc in ap (λ (d : Settings × Effect). d.1) (sym same)
+only_stays s {done} e = let same : ◌≡◌ {A = Settings × Effect} (s, Stay) done = cc in rw (← same) refl
 
 taken_stays : (below : Bool) (s : Settings) {done : Settings × Effect} → cond below None (stays s) ≡ Some done → done.1 ≡ Stay
 taken_stays true s e = absurd cc
@@ -91,7 +89,7 @@ refused_stays dpi PrintText command m settings s e o = taken_stays (is_below_zer
 refused_stays dpi other command m settings s e o = absurd cc
 
 pub stays_pages : (done : Settings × Effect) (s : Situation) → done.1 ≡ Stay → (turned done.0 done.1 s).pages ≡ s.pages
-stays_pages done s e = ap (λ (effect : Effect). (turned done.0 effect s).pages) e
+stays_pages done s e = rw e refl
 
 pub no_more : (pages more : List Sheet) → pages ≡ pages ++ more → more ≡ []
 no_more pages [] e = refl
@@ -120,14 +118,11 @@ module _ {S : Type 0} (takes : S → Page → S → Type 0) (dpi : Dpi) (operati
       → IsTried takes dpi command s (Ok operation) new sink sink
   unfolding after
   tried_ignored old new sink i few fit named e now =
-      let ignored : is_ignored operation s ≡ true =
-      ap (λ (r : Option Raster). is_some r && is_ignored_in_raster operation) (sym i.raster) ∙ e in (
+      let ignored : is_ignored operation s ≡ true = cc in (
         counted s,
         named,
         tried_as dpi command s (omega (arith, few, i.performed)) named
-            ∙ ap (λ (b : Bool). cond b (Ok (counted s)) (taken dpi operation command.value before |> drawn_on dpi operation command)
-            |> within_page_limit) ignored
-            ∙ ap (λ (why : Option Kind). unless_refused why (counted s)) (pages_fit (counted s) (omega (arith, i.ejected))),
+            ∙ rw (ignored, pages_fit (counted s) (omega (arith, i.ejected))) refl,
         now,
         ([], sym (append-nil s.pages), refl),
       )
@@ -137,25 +132,19 @@ module _ {S : Type 0} (takes : S → Page → S → Type 0) (dpi : Dpi) (operati
       → tried dpi command s ≡ (turned_by o before |> drawn_on dpi operation command |> within_page_limit)
   unfolding after
   tried_at a is =
-      let ignored : is_ignored operation s ≡ false =
-      ap (λ (r : Option Raster). is_some r && is_ignored_in_raster operation) (sym a.is_in.raster) ∙ a.performed in
-      tried_as dpi command s (omega (arith, a.few, a.is_in.performed)) a.named
-      ∙ ap (λ (b : Bool). cond b (Ok (counted s)) (taken dpi operation command.value before |> drawn_on dpi operation command)
-      |> within_page_limit) ignored
-      ∙ ap (λ (p : Outcome). turned_by p before |> drawn_on dpi operation command |> within_page_limit) is
+      let ignored : is_ignored operation s ≡ false = cc (a.is_in.raster, a.performed) in
+      tried_as dpi command s (omega (arith, a.few, a.is_in.performed)) a.named ∙ rw (ignored, is) refl
 
   -- by why it isn't drawn, if it isn't
   tried_by : (now : Situation) {why : Option Kind}
       → tried dpi command s ≡ (drawn_on dpi operation command now |> within_page_limit) → draw_refusal operation command now ≡ why
       → tried dpi command s ≡ (unless_refused why (drawn dpi operation command now) |> within_page_limit)
-  tried_by now is e = is ∙ ap (λ (o : Option Kind). unless_refused o (drawn dpi operation command now) |> within_page_limit) e
+  tried_by now is e = is ∙ rw e refl
 
   -- what is drawn hands over no page
   drawn_fits : (now : Situation) {past : Option Kind} → page_refusal now ≡ past
       → within_page_limit (drawn dpi operation command now) ≡ unless_refused past (drawn dpi operation command now)
-  drawn_fits now e =
-      ap (λ (why : Option Kind). unless_refused why (drawn dpi operation command now))
-      (ap (λ (ps : List Sheet). cond (nat_le (length ps) page_limit) None (Some TooManyPages)) (drawn_pages dpi operation command now) ∙ e)
+  drawn_fits now e = rw (drawn_pages dpi operation command now, e) refl
 
   -- the page was turned: what holds before anything is drawn, and what then is the situation after the command
   pub record IsGone (now : Situation) (sink later : S) : Type 0 where
@@ -172,14 +161,12 @@ module _ {S : Type 0} (takes : S → Page → S → Type 0) (dpi : Dpi) (operati
     fits = fits;
     handed = (
       h.0,
-      drawn_pages dpi operation command (turned_with done) ∙ h.1
-          ∙ ap (λ (ps : List Sheet). ps ++ h.0) (prepared_pages dpi (ends_raster operation) (counted s)),
+      cc (drawn_pages dpi operation command (turned_with done), h.1, prepared_pages dpi (ends_raster operation) (counted s)),
       h.2,
     );
     quiet = λ kind e.
         let stay = refused_stays dpi operation command (is_marked before) before.settings (turned_with done) e is in
-        subst (λ (more : List Sheet). Hands takes dpi more sink later)
-        (no_more before.pages h.0 (sym (stays_pages done before stay) ∙ h.1)) h.2;
+        rw (no_more before.pages h.0 (sym (stays_pages done before stay) ∙ h.1)) at h.2;
   }
 
   -- nothing is refused where it is drawn
@@ -202,15 +189,13 @@ module _ {S : Type 0} (takes : S → Page → S → Type 0) (dpi : Dpi) (operati
       let stay = refused_stays dpi operation command (is_marked before) before.settings (turned_with done) e is in
       let pages : (turned_with done).pages ≡ s.pages =
       stays_pages done before stay ∙ prepared_pages dpi (ends_raster operation) (counted s) in
-      let fits : page_refusal (turned_with done) ≡ None =
-      ap (λ (ps : List Sheet). cond (nat_le (length ps) page_limit) None (Some TooManyPages)) pages
-      ∙ pages_fit s (omega (arith, a.is_in.ejected, old.few_pages)) in
+      let fits : page_refusal (turned_with done) ≡ None = rw pages (pages_fit s (omega (arith, a.is_in.ejected, old.few_pages))) in
       absurd cc
 
   turn_refused : {old : Performer} (new : Performer) (sink later : S) (kind : Kind) (o : Outcome) → AtTurn dpi operation command s old
       → set_to ≡ o → IsTurned takes dpi o before (Err (Refused kind)) new sink later
       → IsTried takes dpi command s (Err (Refused kind)) new sink later
-  turn_refused new sink later kind None a is t = (tried_at a is ∙ ap (λ (k : Kind). Err k) (sym t.0), t.1)
+  turn_refused new sink later kind None a is t = (rw t.0 (tried_at a is), t.1)
   turn_refused new sink later kind (Some done) a is t =
       let free : draw_refusal operation command (turned_with done) ≡ None =
       past_why (draw_refusal operation command (turned_with done)) a is t.0 refl in
@@ -272,13 +257,6 @@ sheet_below : (dpi : Dpi) (raster : Option Raster) (s : Situation)
 sheet_below dpi None s = refl
 sheet_below dpi (Some r) s = refl
 
-end_turned : (dpi : Dpi) (s : Situation) {marked : Bool} → is_marked s ≡ marked
-    → at_end dpi s
-    ≡ without_temporary (cond marked (turned_page defaults (end_raster dpi s)) (with_settings defaults (end_raster dpi s)))
-end_turned dpi s e =
-    ap (λ (b : Bool).
-    without_temporary (cond b (turned_page defaults (end_raster dpi s)) (with_settings defaults (end_raster dpi s)))) e
-
 -- nor what it is asked with
 asked_below : (dpi : Dpi) (raster : Option Raster) (s : Settings) → (settings_below dpi raster s).asked ≡ s.asked
 asked_below dpi None s = refl
@@ -296,14 +274,13 @@ pub end_marked : {S : Type 0} (takes : S → Page → S → Type 0) (dpi : Dpi) 
     → EndsAt takes dpi s (at_end dpi s) new sink later
 end_marked takes dpi s copies asked old new sink later i m few c a e t =
     let end = end_raster dpi s in
-    let is = end_turned dpi s (sym i.marked ∙ m) in
+    let is : is_marked s ≡ true = cc in
     let count = length-append s.pages (sheet_of end ∷ []) in
-    let shows = subst (λ (sheet : Sheet). Shows dpi t.0 sheet) (sym (sheet_below dpi s.raster s))
-    (handed_sheet i refl c t.1) in
-    subst (λ (z : Situation). EndsAt takes dpi s z new sink later) (sym is) (
+    let shows : Shows dpi t.0 (sheet_of end) = rw (sheet_below dpi s.raster s) (handed_sheet i refl c t.1) in
+    rw is (
       pages_fit (without_temporary (turned_page defaults end)) (omega (arith, i.ejected, count)),
       (sheet_of end ∷ [], refl, (t.0, later, shows, t.2, refl)),
-      e.asks ∙ asked_page old i a refl ∙ ap (λ (one : Asked). with_page one s.asks) (sym (asked_below dpi s.raster s.settings)),
+      cc (asked_below dpi s.raster s.settings),
     )
 
 pub end_unmarked : {S : Type 0} (takes : S → Page → S → Type 0) (dpi : Dpi) (s : Situation) (old : Performer) (sink later : S)
@@ -311,10 +288,9 @@ pub end_unmarked : {S : Type 0} (takes : S → Page → S → Type 0) (dpi : Dpi
     → old.is_marked ≡ false → old.ejected ≤ 256 → later ≡ sink
     → EndsAt takes dpi s (at_end dpi s) old sink later
 end_unmarked takes dpi s old sink later i m few same =
-    let end = end_raster dpi s in
-    subst (λ (z : Situation). EndsAt takes dpi s z old sink later)
-    (sym (end_turned dpi s (sym i.marked ∙ m))) (
-      pages_fit (without_temporary (with_settings defaults end)) (omega (arith, i.ejected)),
+    let is : is_marked s ≡ false = cc in
+    rw is (
+      pages_fit (without_temporary (with_settings defaults (end_raster dpi s))) (omega (arith, i.ejected)),
       ([], sym (append-nil s.pages), same),
       i.asks,
     )
@@ -324,5 +300,5 @@ pub end_past : {dpi : Dpi} {s : Situation} {old : Performer} → IsIn dpi s old 
 end_past {dpi} {s} i m many =
     let end = end_raster dpi s in
     let count = length-append s.pages (sheet_of end ∷ []) in
-    ap (λ (z : Situation). page_refusal z) (end_turned dpi s (sym i.marked ∙ m))
-    ∙ pages_past (without_temporary (turned_page defaults end)) (omega (arith, i.ejected, count))
+    let is : is_marked s ≡ true = cc in
+    rw is (pages_past (without_temporary (turned_page defaults end)) (omega (arith, i.ejected, count)))
