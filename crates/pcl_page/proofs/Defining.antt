@@ -24,9 +24,7 @@ command_inside : (dpi : Dpi) (place : ℕ) (command : Said) (s : Situation) {kee
     → keeping_of (operation_of command.name) command.value ≡ keeping
     → after_command dpi place command s ≡ defining dpi place keeping command s
 command_inside dpi place command s e k =
-    ap (λ (b : Bool). cond b (defining dpi place (keeping_of (operation_of command.name) command.value) command s)
-    (counting dpi place command s)) e
-    ∙ ap (λ (kept : Keeping). defining dpi place kept command s) k
+    rw (e, k) refl
 
 abbrev runs_none : Situation → Option Run
 runs_none later = None
@@ -37,28 +35,13 @@ run_inside command s e =
 
 -- what ends a definition is its end
 control_ends : (action : Option Action) → control_keeping action ≡ Ends → action ≡ Some End
-control_ends (Some Begin) e = absurd cc
 control_ends (Some End) e = refl
-control_ends (Some Execute) e = absurd cc
-control_ends (Some Call) e = absurd cc
-control_ends (Some (Control what)) e = absurd cc
-control_ends None e = absurd cc
+control_ends other e = absurd cc
 
 pub ends_is : (operation : Option Operation) (value : Value) → keeping_of operation value ≡ Ends
     → (operation ≡ Some ControlMacros) × (action_of value ≡ Some End)
-ends_is (Some Reset) value e = absurd cc
-ends_is (Some UniversalExit) value e = absurd cc
 ends_is (Some ControlMacros) value e = (refl, control_ends (action_of value) e)
 ends_is other value e = absurd cc
-
--- the same outcome and the same macro that runs, said otherwise
-stepped_as : {S : Type 0} (takes : S → Page → S → Type 0) (dpi : Dpi) (outcome other : Result Situation Kind)
-    (run_after run_other : Situation → Option Run) (s : Situation) (result : Result (Unit {0}) CallFault) (old new : Interpreter)
-    (sink later : S) → other ≡ outcome → run_other ≡ run_after → IsStepped takes dpi outcome run_after s result old new sink later
-    → IsStepped takes dpi other run_other s result old new sink later
-stepped_as takes dpi outcome other run_after run_other s result old new sink later o r step =
-    subst (λ (p : Result Situation Kind). IsStepped takes dpi p run_other s result old new sink later) (sym o)
-    (subst (λ (f : Situation → Option Run). IsStepped takes dpi outcome f s result old new sink later) (sym r) step)
 
 -- a command that is kept changes nothing, and runs no macro
 pub stepped_kept : {S : Type 0} (takes : S → Page → S → Type 0) (dpi : Dpi) (place : ℕ) (command : Said) (s : Situation)
@@ -66,9 +49,8 @@ pub stepped_kept : {S : Type 0} (takes : S → Page → S → Type 0) (dpi : Dpi
     → keeping_of (operation_of command.name) command.value ≡ Kept
     → IsStepped takes dpi (after_command dpi place command s) (run_of command s) s (Ok tt) old old sink sink
 stepped_kept takes dpi place command s old sink at some kept =
-    let begun : is_some s.begun ≡ true = ap (λ (b : Option Begun). is_some b) (sym at.begun) ∙ some in
-    stepped_as takes dpi (Ok s) (after_command dpi place command s) runs_none (run_of command s) s (Ok tt) old old sink sink
-    (command_inside dpi place command s begun kept) (run_inside command s begun)
+    let begun : is_some s.begun ≡ true = cc in
+    rw (begun, kept)
     (s, refl, at, (sym (append-nil old.running.items), tt), ([], sym (append-nil s.pages), refl))
 
 pub stepped_ending : {S : Type 0} (takes : S → Page → S → Type 0) (dpi : Dpi) (place : ℕ) (command : Said) (s : Situation)
@@ -77,11 +59,10 @@ pub stepped_ending : {S : Type 0} (takes : S → Page → S → Type 0) (dpi : D
     → IsStepped takes dpi (counting dpi place command s) (run_from (operation_of command.name) command.value) s result old new sink later
     → IsStepped takes dpi (after_command dpi place command s) (run_of command s) s result old new sink later
 stepped_ending takes dpi place command s result old new sink later at some ends step =
-    let begun : is_some s.begun ≡ true = ap (λ (b : Option Begun). is_some b) (sym at.begun) ∙ some in
+    let begun : is_some s.begun ≡ true = cc in
     let is = ends_is (operation_of command.name) command.value ends in
     let runs : run_from (operation_of command.name) command.value ≡ runs_none =
     ap (λ (o : Option Operation). λ (t : Situation). run_from o command.value t) is.0
     ∙ ap (λ (a : Option Action). λ (t : Situation). run_by a t) is.1 in
-    stepped_as takes dpi (counting dpi place command s) (after_command dpi place command s)
-    (run_from (operation_of command.name) command.value) (run_of command s) s result old new sink later
-    (command_inside dpi place command s begun ends) (run_inside command s begun ∙ sym runs) step
+    let same : run_of command s ≡ run_from (operation_of command.name) command.value = run_inside command s begun ∙ sym runs in
+    rw (command_inside dpi place command s begun ends, same) step

@@ -57,8 +57,7 @@ rest_next dpi end all place command commands s =
 -- no macro runs before the command
 pub begun_alone : (dpi : Dpi) (all : List Said) (place : ℕ) (command : Said) (s : Situation) {running : List Running} → running ≡ []
     → begun_among dpi all place command running s ≡ next_step dpi all place command s
-begun_alone dpi all place command s e =
-    ap (λ (rs : List Running). begun_among dpi all place command rs s) e ∙ then_done
+begun_alone dpi all place command s e = rw e then_done
 
 -- ---- how far the performing has come
 
@@ -70,29 +69,20 @@ pub record IsReached {S : Type 0} (takes : S → Page → S → Type 0) (dpi : D
   pub handed : Hands takes dpi situation.pages old now
   pub same : rest situation ≡ whole
 
--- a performance that has ended in a refusal
-then_refused : {why : Option Refusal} {reason : Refusal} {s : Situation} (f : Situation → Performance) → why ≡ Some reason
-    → unless why s f ≡ record { situation = s; refusal = Some reason }
-then_refused {s} f e = ap (λ (o : Option Refusal). unless o s f) e
-
 module _ {S : Type 0} (takes : S → Page → S → Type 0) (dpi : Dpi) (all : List Said) (whole : Performance) where
   -- it stopped on the way
   stopped_on : (first : Performance) (f : Situation → Performance) (s : Situation) (last : Interpreter) (old now then : S)
       (fault : JobFault) → Hands takes dpi s.pages old now → then_on first f ≡ whole → Grows f
       → GoesOn takes dpi all first s (Err fault) last now then → HandsOver takes dpi whole (Err fault) old then
   stopped_on first f s last old now then (Refused why) h e g on =
-      let is : whole ≡ record { situation = first.situation; refusal = Some why } = sym e ∙ then_refused f on.0 in
-      subst (λ (p : Performance). HandsOver takes dpi p (Err (Refused why)) old then) (sym is)
-      (refl, hands_further takes dpi s first.situation old now then h on.1)
+      let is : whole ≡ record { situation = first.situation; refusal = Some why } = sym e ∙ rw on.0 refl in
+      rw is (refl, hands_further takes dpi s first.situation old now then h on.1)
   stopped_on first f s last old now then Memory h e g on =
       let o = then_grows first first.situation f (stays_there first.situation) g in
-      subst (λ (p : Performance). HandsOver takes dpi p (Err Memory) old then) e (
+      rw (← e) (
         s.pages ++ on.0,
         on.1 ++ o.0,
-        o.1 ∙ ap (λ (ps : List Sheet). ps ++ o.0) on.2
-            ∙ (append_assoc s.pages (on.0 ++ on.1) o.0
-            ∙ ap (λ (ps : List Sheet). s.pages ++ ps) (append_assoc on.0 on.1 o.0)
-            ∙ sym (append_assoc s.pages on.0 (on.1 ++ o.0))),
+        rw (o.1, on.2) (simp append_assoc),
         hands_append takes dpi s.pages on.0 old now then h on.3,
       )
 
@@ -181,25 +171,18 @@ pub end_reached : {S : Type 0} (takes : S → Page → S → Type 0) (dpi : Dpi)
 end_reached takes dpi end all whole place interpreter new old now then (Ok unit) r step =
     let s = r.situation in
     let d = step dpi s r.is_at in
-    let ends : whole ≡ done (at_end dpi s) = sym r.same ∙ ap (λ (why : Option Kind). ended dpi end why s) d.0 in
-    subst (λ (p : Performance). HandsOver takes dpi p (Ok unit) old then × IsAsking p (Ok unit) new) (sym ends)
-    ((refl, hands_further takes dpi s (at_end dpi s) old now then r.handed d.1), d.2)
+    let ends : whole ≡ done (at_end dpi s) = sym r.same ∙ rw d.0 refl in
+    rw ends ((refl, hands_further takes dpi s (at_end dpi s) old now then r.handed d.1), d.2)
 end_reached {S} takes dpi end all whole place interpreter new old now then (Err (Refused why)) r step =
     let s = r.situation in
     let d = step dpi s r.is_at in
     let stops : whole ≡ record { situation = s; refusal = Some (refusal d.0 end Empty) } =
-    sym r.same ∙ ap (λ (o : Option Kind). ended dpi end o s) d.1 in (
-      subst (λ (p : Performance). HandsOver takes dpi p (Err (Refused why)) old then) (sym stops)
-          (ap (λ (f : Refusal). Some f) (sym d.2), subst (λ (x : S). Hands takes dpi s.pages old x) (sym d.3) r.handed),
-      tt,
-    )
+    sym r.same ∙ rw d.1 refl in
+    (rw (stops, d.2, d.3) (refl, r.handed), tt)
 end_reached {S} takes dpi end all whole place interpreter new old now then (Err Memory) r step =
     let s = r.situation in
-    let o = end_grows dpi end s in (
-      subst (λ (p : Performance). HandsOver takes dpi p (Err Memory) old then) r.same
-          (s.pages, o.0, o.1, subst (λ (x : S). Hands takes dpi s.pages old x) (sym (step dpi s r.is_at)) r.handed),
-      tt,
-    )
+    let o = end_grows dpi end s in
+    (rw (← r.same, step dpi s r.is_at) (s.pages, o.0, o.1, r.handed), tt)
 
 -- of a job that is not read nothing is delivered
 pub undelivered : {S : Type 0} (takes : S → Page → S → Type 0) (dpi : Dpi) (job : List ℕ) (fault : JobFault) {old new : S}
@@ -252,10 +235,10 @@ show_more (first ∷ pages) (one ∷ sheets) a s = (a.0, show_more pages sheets 
 -- a copy shows what the page shows
 copy_shows : {dpi : Dpi} {page copy : Page} {sheet : Sheet} → Shows dpi page sheet → IsSamePage page copy → Shows dpi copy sheet
 copy_shows s c = record {
-  size = c.size ∙ s.size;
-  resolution = c.resolution ∙ s.resolution;
-  copies = c.copies ∙ s.copies;
-  dots = λ x y wide high. ap (λ (b : Picture). dot b x y) c.bitmap ∙ s.dots x y wide high;
+  size = cc;
+  resolution = cc;
+  copies = cc;
+  dots = λ x y wide high. rw c.bitmap (s.dots x y wide high);
 }
 
 -- what a sink does that keeps copies
@@ -264,10 +247,9 @@ KeepsCopy old page new = (copy : Page) × (new ≡ old ++ copy ∷ []) × IsSame
 
 pub all_shown : (dpi : Dpi) {front old : List Page} (new : List Page) (before sheets : List Sheet) → old ≡ front → AllShow dpi front before
     → Hands KeepsCopy dpi sheets old new → AllShow dpi new (before ++ sheets)
-all_shown dpi new before [] e s h = rw append-nil (subst (λ (pages : List Page). AllShow dpi pages before) (sym (h ∙ e)) s)
+all_shown dpi new before [] e s h = rw (append-nil, h, e) s
 all_shown dpi {front} new before (sheet ∷ sheets) e s h =
     let copy = h.3.0 in
     let shown =
-    all_shown dpi new (before ++ sheet ∷ []) sheets (h.3.1 ∙ ap (λ (pages : List Page). pages ++ copy ∷ []) e)
-    (show_more front before s (copy_shows h.2 h.3.2)) h.4 in
-    subst (λ (all : List Sheet). AllShow dpi new all) (append_assoc before (sheet ∷ []) sheets) shown
+    all_shown dpi new (before ++ sheet ∷ []) sheets (rw e at h.3.1) (show_more front before s (copy_shows h.2 h.3.2)) h.4 in
+    rw (append_assoc before (sheet ∷ []) sheets) at shown

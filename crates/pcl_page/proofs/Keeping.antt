@@ -1,5 +1,5 @@
 -- What a command leaves alone.
-use Rattle.std.proofs.Common.{◌≡◌, ℕ, ◌<◌, Bool, true, false, cond, nat_le, List, [], ◌∷◌, ◌++◌, Option, Some, None, Result, Ok, Err, refl, sym, ap, subst, ◌∙◌, append-nil, arith}
+use Rattle.std.proofs.Common.{◌≡◌, ℕ, ◌<◌, Bool, true, false, cond, nat_le, List, [], ◌∷◌, ◌++◌, Option, Some, None, Result, Ok, Err, refl, sym, ap, subst, ◌∙◌, append-nil, arith, rules}
 use Rattle.std.proofs.lemmas.Bool.Decides.{nat_tests}
 use Rattle.pcl_base.specs.declared.dpi.Dpi.{Dpi}
 use Rattle.pcl_base.specs.declared.kind.Kind.{Kind}
@@ -29,53 +29,48 @@ pub record KeepsCounts (s other : Situation) : Type 0 where
   pub begun : other.begun ≡ s.begun
 
 font_keeps : (bytes : List ℕ) {s : Situation} → KeepsCounts s (with_font bytes s)
-font_keeps [] = record { pages = refl; performed = refl; macros = refl; begun = refl }
-font_keeps (byte ∷ bytes) = record { pages = refl; performed = refl; macros = refl; begun = refl }
+font_keeps [] = search rules
+font_keeps (byte ∷ bytes) = search rules
 
 character_keeps : (bytes : List ℕ) {s : Situation} → KeepsCounts s (with_character bytes s)
-character_keeps [] = record { pages = refl; performed = refl; macros = refl; begun = refl }
-character_keeps (byte ∷ bytes) = record { pages = refl; performed = refl; macros = refl; begun = refl }
+character_keeps [] = search rules
+character_keeps (byte ∷ bytes) = search rules
 
 controlled_keeps : (what : Option FontControl) {s : Situation} → KeepsCounts s (fonts_controlled what s)
-controlled_keeps None = record { pages = refl; performed = refl; macros = refl; begun = refl }
-controlled_keeps (Some what) = record { pages = refl; performed = refl; macros = refl; begun = refl }
+controlled_keeps None = search rules
+controlled_keeps (Some what) = search rules
 
 filled_keeps : (dpi : Dpi) (ink : Option Ink) {s : Situation} → KeepsCounts s (filled_with dpi ink s)
-filled_keeps dpi None = record { pages = refl; performed = refl; macros = refl; begun = refl }
-filled_keeps dpi (Some ink) = record { pages = refl; performed = refl; macros = refl; begun = refl }
+filled_keeps dpi None = search rules
+filled_keeps dpi (Some ink) = search rules
 
 code_keeps : (dpi : Dpi) (proportional : Bool) (c : Option Character) (code : ℕ) {s : Situation}
     → KeepsCounts s (code_printed dpi proportional c code s)
-code_keeps dpi proportional None code = record { pages = refl; performed = refl; macros = refl; begun = refl }
-code_keeps dpi proportional (Some c) code = record { pages = refl; performed = refl; macros = refl; begun = refl }
+code_keeps dpi proportional None code = search rules
+code_keeps dpi proportional (Some c) code = search rules
 
 codes_keep : (dpi : Dpi) (proportional : Bool) (characters : ℕ → Option Character) (codes : List ℕ) {s : Situation}
     → KeepsCounts s (codes_printed dpi proportional characters codes s)
-codes_keep dpi proportional characters [] = record { pages = refl; performed = refl; macros = refl; begun = refl }
-codes_keep dpi proportional characters (code ∷ codes) =
-    let one = code_keeps dpi proportional (characters code) code in
-    let more = codes_keep dpi proportional characters codes in
-    record {
-      pages = more.pages ∙ one.pages;
-      performed = more.performed ∙ one.performed;
-      macros = more.macros ∙ one.macros;
-      begun = more.begun ∙ one.begun;
-    }
+codes_keep dpi proportional characters [] = search rules
+codes_keep dpi proportional characters (code ∷ codes) {s} =
+    let one = code_keeps dpi proportional (characters code) code {s = s} in
+    let more = codes_keep dpi proportional characters codes {s = code_printed dpi proportional (characters code) code s} in
+    record { pages = cc; performed = cc; macros = cc; begun = cc }
 
 pub drawn_keeps : (dpi : Dpi) (operation : Operation) (command : Said) {s : Situation} → KeepsCounts s (drawn dpi operation command s)
-drawn_keeps dpi Reset command = record { pages = refl; performed = refl; macros = refl; begun = refl }
-drawn_keeps dpi UniversalExit command = record { pages = refl; performed = refl; macros = refl; begun = refl }
+drawn_keeps dpi Reset command = search rules
+drawn_keeps dpi UniversalExit command = search rules
 drawn_keeps dpi ControlFonts command = controlled_keeps (control_of command.value)
 drawn_keeps dpi DownloadFont command = font_keeps command.bytes
 drawn_keeps dpi DownloadCharacter command = character_keeps command.bytes
-drawn_keeps dpi (SelectFont side) command = record { pages = refl; performed = refl; macros = refl; begun = refl }
+drawn_keeps dpi (SelectFont side) command = search rules
 drawn_keeps dpi PrintText command {s} =
     codes_keep dpi (is_proportional (font_now s)) (prints s.fonts (font_in_use s.settings)) command.bytes
 drawn_keeps dpi FillRectangle command = filled_keeps dpi (ink_of command.value)
-drawn_keeps dpi StartRaster command = record { pages = refl; performed = refl; macros = refl; begun = refl }
-drawn_keeps dpi RasterOffset command = record { pages = refl; performed = refl; macros = refl; begun = refl }
-drawn_keeps dpi RasterRow command = record { pages = refl; performed = refl; macros = refl; begun = refl }
-drawn_keeps dpi other command = record { pages = refl; performed = refl; macros = refl; begun = refl }
+drawn_keeps dpi StartRaster command = search rules
+drawn_keeps dpi RasterOffset command = search rules
+drawn_keeps dpi RasterRow command = search rules
+drawn_keeps dpi other command = search rules
 
 -- ---- pages that are added
 
@@ -88,13 +83,7 @@ pub record Adds (s later : Situation) : Type 0 where
   pub begun : later.begun ≡ s.begun
 
 adds_none : {s later : Situation} → later ≡ s → Adds s later
-adds_none {s} e = record {
-  more = [];
-  pages = ap (λ (z : Situation). z.pages) e ∙ sym (append-nil s.pages);
-  performed = ap (λ (z : Situation). z.performed) e;
-  macros = ap (λ (z : Situation). z.macros) e;
-  begun = ap (λ (z : Situation). z.begun) e;
-}
+adds_none {s} e = rw e (record { more = []; pages = sym (append-nil s.pages); performed = refl; macros = refl; begun = refl })
 
 adds_turned : (settings : Settings) (effect : Effect) (s : Situation) (test : Bool) → ejects effect (is_marked s) ≡ test
     → Adds s (turned settings effect s)
@@ -118,32 +107,20 @@ unless_from (Some kind) e = absurd cc
 adds_drawn : (dpi : Dpi) (operation : Operation) (command : Said) {s now later : Situation} → Adds s now
     → drawn_on dpi operation command now ≡ Ok later → Adds s later
 adds_drawn dpi operation command {s} {now} t e =
-    let k = drawn_keeps dpi operation command in
-    subst (λ (z : Situation). Adds s z) (sym (unless_from (draw_refusal operation command now) e))
-    (record {
-      more = t.more;
-      pages = k.pages ∙ t.pages;
-      performed = k.performed ∙ t.performed;
-      macros = k.macros ∙ t.macros;
-      begun = k.begun ∙ t.begun;
-    })
+    let k = drawn_keeps dpi operation command {s = now} in
+    rw (unless_from (draw_refusal operation command now) e)
+    (record { more = t.more; pages = cc; performed = cc; macros = cc; begun = cc })
 
 adds_taken : (o : Outcome) {s later : Situation} → turned_by o s ≡ Ok later → Adds s later
 adds_taken None e = absurd cc
 adds_taken (Some done) {s} {later} e =
     let same : turned done.0 done.1 s ≡ later = cc in
-    subst (λ (z : Situation). Adds s z) same (adds_turned done.0 done.1 s (ejects done.1 (is_marked s)) refl)
+    rw (← same) (adds_turned done.0 done.1 s (ejects done.1 (is_marked s)) refl)
 
 adds_prepared : (dpi : Dpi) (ends : Bool) (s later : Situation) → Adds (cond ends (end_raster dpi s) s) later → Adds s later
 adds_prepared dpi ends s later a =
     let k = prepared_page dpi ends s in
-    record {
-      more = a.more;
-      pages = a.pages ∙ ap (λ (ps : List Sheet). ps ++ a.more) k.pages;
-      performed = a.performed ∙ k.performed;
-      macros = a.macros ∙ k.macros;
-      begun = a.begun ∙ k.begun;
-    }
+    record { more = a.more; pages = cc; performed = cc; macros = cc; begun = cc }
 
 adds_by : (dpi : Dpi) (operation : Operation) (command : Said) (s : Situation) {later : Situation} (ignored : Bool)
     → cond ignored (Ok s) (taken dpi operation command.value (prepared dpi operation s) |> drawn_on dpi operation command) ≡ Ok later
@@ -185,8 +162,7 @@ is_counted dpi command s {later} e =
     let p = then_from (counted_in_limit s |> named) within_page_limit e in
     let c = then_from (counted_in_limit s) named p.1 in
     let one = limit_from (nat_le command_limit s.performed) refl c.1 in
-    let is : named (counted s) ≡ Ok later =
-    ap named (sym one.0) ∙ c.2 ∙ ap (λ (z : Situation). Ok z) (sym (unless_from (page_refusal p.0) p.2)) in
+    let is : named (counted s) ≡ Ok later = cc (one.0, c.2, unless_from (page_refusal p.0) p.2) in
     record { few = one.1; after_is = is; adds = adds_named dpi (operation_of command.name) command (counted s) is }
 
 -- the end of the input

@@ -31,12 +31,12 @@ use Rattle.pcl_page.proofs.Turns.{painted_same, holds_same, drawn_in}
 pub event_in : {dpi : Dpi} {event : FontEvent} {s : Situation} {old new : Performer} → IsIn dpi s old → HasEvent event old new
     → IsIn dpi (with_event event s) new
 event_in i h = record {
-  settings = h.settings ∙ i.settings;
-  raster = h.raster ∙ i.raster;
-  marked = h.marked ∙ i.marked;
-  ejected = h.ejected ∙ i.ejected;
-  performed = h.performed ∙ i.performed;
-  asks = ap asks_of h.asks ∙ i.asks;
+  settings = cc;
+  raster = cc;
+  marked = cc;
+  ejected = cc;
+  performed = cc;
+  asks = cc;
   fonts = holds_after h.follows i.fonts;
   painted = painted_same i.painted h.bitmap refl;
 }
@@ -45,41 +45,29 @@ pub settings_in : {dpi : Dpi} {settings : Settings} {s : Situation} {old new : P
     → IsIn dpi (record s { settings = settings }) new
 settings_in {settings} i h = record {
   settings = h.settings_are;
-  raster = h.raster ∙ i.raster;
-  marked = h.marked ∙ i.marked;
-  ejected = h.ejected ∙ i.ejected;
-  performed = h.performed ∙ i.performed;
-  asks = ap asks_of h.asks ∙ i.asks;
+  raster = cc;
+  marked = cc;
+  ejected = cc;
+  performed = cc;
+  asks = cc;
   fonts = holds_same i.fonts h.fonts refl;
-  painted = painted_same i.painted h.bitmap (h.size ∙ ap (λ (t : Settings). t.size) i.settings);
+  painted = painted_same i.painted h.bitmap (cc (h.size, i.settings));
 }
 
 -- ---- rectangles and rows
 
--- the row that goes to a raster, by what is set and the raster
-abbrev row_drawn : List ℕ → Situation → Settings → Raster → Situation
-row_drawn bytes s t r =
-    let row = row_sent t.method bytes r in record s { raster = Some (with_row row r); marks = row_mark row r ∷ s.marks }
-
 pub row_in : {dpi : Dpi} {s : Situation} {old new : Performer} (command : Said) → IsIn dpi s old → IsSent dpi command.bytes old new
     → IsIn dpi (with_row_in dpi command (raster_for_row dpi s.raster s.settings) s) new
-row_in {dpi} {s} {old} {new} command i m =
-    let bytes = command.bytes in
-    let raster : m.raster ≡ raster_for_row dpi s.raster s.settings =
-    m.raster_is ∙ ap (λ (r : Option Raster). raster_for_row dpi r old.environment) i.raster
-    ∙ ap (λ (t : Settings). raster_for_row dpi s.raster t) i.settings in
-    subst (λ (r : Raster). IsIn dpi (row_drawn bytes s s.settings r) new) raster
-    (subst (λ (t : Settings). IsIn dpi (row_drawn bytes s t m.raster) new) i.settings
-    (drawn_in i m.drawn m.sent))
+row_in {dpi} {s} command i m =
+    let raster : m.raster ≡ raster_for_row dpi s.raster s.settings = cc in
+    rw (raster, i.settings) at (drawn_in i m.drawn m.sent)
 
 -- ---- one code
 
 -- a character is drawn at the cursor
 cursor_drawn : {dpi : Dpi} {here : Printed} {old new : Performer} (c : Character) → IsAtCursor dpi here old.environment
     → IsDrawn (character_at dpi c here.x here.y) old new → IsDrawn (character_mark dpi c old.environment) old new
-cursor_drawn {dpi} {here} {old} {new} c at d =
-    subst (λ (y : ℕ). IsDrawn (character_at dpi c (dot_at dpi old.environment.cursor.x) y) old new) at.y
-    (subst (λ (x : ℕ). IsDrawn (character_at dpi c x here.y) old new) at.x d)
+cursor_drawn c at d = rw (at.x, at.y) at d
 
 pub character_printed : {dpi : Dpi} {here : Printed} {s : Situation} {old middle new : Performer} (proportional : Bool) (c : Character)
     (code : ℕ) → IsIn dpi s old → IsAtCursor dpi here old.environment → IsDrawn (character_at dpi c here.x here.y) old middle
@@ -87,10 +75,8 @@ pub character_printed : {dpi : Dpi} {here : Printed} {s : Situation} {old middle
     → IsIn dpi (code_printed dpi proportional (Some c) code s) new
 character_printed {dpi} {s} {middle} {new} proportional c code i at d r h =
     let inked : IsIn dpi (record s { marks = character_mark dpi c s.settings ∷ s.marks }) middle =
-    subst (λ (t : Settings). IsIn dpi (record s { marks = character_mark dpi c t ∷ s.marks }) middle) i.settings
-    (drawn_in i (cursor_drawn c at d) (r ∙ i.raster)) in
-    settings_in inked
-    (subst (λ (t : Settings). HasSettings (behind_character proportional c t) middle new) inked.settings h)
+    let drawn = drawn_in i (cursor_drawn c at d) (r ∙ i.raster) in rw i.settings at drawn in
+    settings_in inked (subst (λ (t : Settings). HasSettings (behind_character proportional c t) middle new) inked.settings h)
 
 pub blank_printed : {dpi : Dpi} {s : Situation} {old new : Performer} (proportional : Bool) (code : ℕ) → IsIn dpi s old
     → HasSettings (behind_blank code old.environment) old new → IsIn dpi (code_printed dpi proportional None code s) new
@@ -104,12 +90,7 @@ pub inked_by : {mark : Mark} {old new : Performer} → mark.ink ≡ Black → Is
 inked_by {mark} {old} {new} black d = record {
   marked = d.marked;
   black = λ x y wide high covers.
-      d.dots x y
-      (subst (λ (z : Dpi). x < page_width old.page.bitmap.size z) d.resolution
-      (subst (λ (z : Size). x < page_width z new.page.bitmap.dpi) d.size wide))
-      (subst (λ (z : Dpi). y < page_height old.page.bitmap.size z) d.resolution
-      (subst (λ (z : Size). y < page_height z new.page.bitmap.dpi) d.size high))
-      ∙ ap (λ (b : Bool). cond b (is_black_ink mark.ink) (dot old.page.bitmap x y)) covers ∙ ap is_black_ink black;
+      d.dots x y (rw (d.size, d.resolution) at wide) (rw (d.size, d.resolution) at high) ∙ rw (covers, black) refl;
 }
 
 black_again : (covers is_black : Bool) → (covers ≡ true → is_black ≡ true) → is_black ≡ cond covers true is_black
@@ -129,16 +110,14 @@ drawn_again {mark} {performer} black i =
       size = refl;
       resolution = refl;
       dots = λ x y wide high.
-          black_again (mark.covers x y) (dot bitmap x y) (i.black x y wide high)
-          ∙ ap (λ (k : Ink). cond (mark.covers x y) (is_black_ink k) (dot bitmap x y)) (sym black);
+          rw black (black_again (mark.covers x y) (dot bitmap x y) (i.black x y wide high));
     }
 
 pub inked_still : {mark : Mark} {settings : Settings} {old new : Performer} → IsInked mark old → HasSettings settings old new
     → IsInked mark new
 inked_still {mark} i h = record {
   marked = h.marked ∙ i.marked;
-  black = subst (λ (b : Picture). (x y : ℕ) → x < page_width b.size b.dpi → y < page_height b.size b.dpi → mark.covers x y ≡ true
-      → dot b x y ≡ true) (sym h.bitmap) i.black;
+  black = rw h.bitmap i.black;
 }
 
 pub last_still : (dpi : Dpi) (characters : ℕ → Option Character) (last : Option Printed) {settings : Settings} {old new : Performer}
@@ -185,49 +164,38 @@ pub inked_last : {dpi : Dpi} {proportional : Bool} {s : Situation} {codes rest :
     (last : Option Printed) (here : Printed) (p : IsPrintedTo dpi proportional s codes rest performer)
     → IsLastInked dpi (prints s.fonts (font_in_use s.settings)) last performer → last ≡ Some here
     → Some c ≡ prints s.fonts (font_in_use s.settings) here.code → IsInked (character_at dpi c here.x here.y) performer
-inked_last {dpi} {s} {performer} {c} last here p i same e =
-    let now : IsLastInked dpi (prints s.fonts (font_in_use s.settings)) (Some here) performer =
-    subst (λ (o : Option Printed). IsLastInked dpi (prints s.fonts (font_in_use s.settings)) o performer) same i in
-    now c (sym e)
+inked_last {c} last here p i same e = (rw same at i) c (sym e)
 
 -- what was inked is the one character of its code
 pub last_now : (dpi : Dpi) {performer : Performer} {c : Character} (characters : ℕ → Option Character) (here : Printed)
     → Some c ≡ characters here.code → IsInked (character_at dpi c here.x here.y) performer
     → IsLastInked dpi characters (Some here) performer
 last_now dpi {performer} {c} characters here e i = λ other is.
-    let same : c ≡ other = let both : Some c ≡ Some other = e ∙ is in cc in
-    subst (λ (d : Character). IsInked (character_at dpi d here.x here.y) performer) same i
+    let same : c ≡ other = cc in rw same at i
 
 -- the character of a code is that of the beginning
 pub same_character : {dpi : Dpi} {proportional : Bool} {s : Situation} {codes rest : List ℕ} {performer : Performer}
     (p : IsPrintedTo dpi proportional s codes rest performer) (code : ℕ) (c : Option Character)
     → c ≡ prints p.now.fonts (font_in_use p.now.settings) code → c ≡ prints s.fonts (font_in_use s.settings) code
-same_character {s} p code c e =
-    e ∙ ap (λ (es : List FontEvent). prints es (font_in_use p.now.settings) code) p.fonts
-    ∙ ap (λ (id : Option ℕ). prints s.fonts id code) p.in_use
+same_character p code c e = rw (p.fonts, p.in_use) at e
 
 pub code_done : {dpi : Dpi} {proportional : Bool} {s : Situation} {codes rest : List ℕ} {performer later : Performer} (code : ℕ)
     (c : Option Character) (p : IsPrintedTo dpi proportional s codes (code ∷ rest) performer)
     → c ≡ prints p.now.fonts (font_in_use p.now.settings) code → IsIn dpi (code_printed dpi proportional c code p.now) later
     → IsPrintedTo dpi proportional s codes rest later
-code_done {dpi} {proportional} {s} {rest} code c p e i =
-    let characters = prints s.fonts (font_in_use s.settings) in
+code_done {dpi} {proportional} code c p e i =
     record {
       now = code_printed dpi proportional c code p.now;
       is_in = i;
       fonts = code_fonts dpi proportional c code p.now ∙ p.fonts;
       in_use = code_use dpi proportional c code p.now ∙ p.in_use;
-      left = ap (λ (o : Option Character). codes_printed dpi proportional characters rest (code_printed dpi proportional o code p.now))
-          (same_character p code c e) ∙ p.left;
+      left = rw (same_character p code c e) p.left;
     }
 
 pub all_done : {dpi : Dpi} {proportional : Bool} {s : Situation} {codes rest : List ℕ} {performer : Performer}
     → IsPrintedTo dpi proportional s codes rest performer → rest ≡ []
     → IsIn dpi (codes_printed dpi proportional (prints s.fonts (font_in_use s.settings)) codes s) performer
-all_done {dpi} {proportional} {s} {performer} p e =
-    let characters = prints s.fonts (font_in_use s.settings) in
-    subst (λ (z : Situation). IsIn dpi z performer)
-    (sym (ap (λ (cs : List ℕ). codes_printed dpi proportional characters cs p.now) e) ∙ p.left) p.is_in
+all_done p e = rw (rw e at p.left) at p.is_in
 
 -- ---- with a font and without
 
@@ -237,15 +205,13 @@ no_font (Some font) e = absurd cc
 
 pub text_refused : (codes : List ℕ) (font : Option Font) → None ≡ info_of font → are_spaces codes ≡ false
     → text_refusal codes font ≡ Some NoFont
-text_refused codes font e blank =
-    ap (text_refusal codes) (no_font font e) ∙ ap (λ (b : Bool). cond b None (Some NoFont)) blank
+text_refused codes font e blank = rw (no_font font e, blank) refl
 
 pub text_blank : (codes : List ℕ) (font : Option Font) → None ≡ info_of font → are_spaces codes ≡ true → text_refusal codes font ≡ None
-text_blank codes font e blank =
-    ap (text_refusal codes) (no_font font e) ∙ ap (λ (b : Bool). cond b None (Some NoFont)) blank
+text_blank codes font e blank = rw (no_font font e, blank) refl
 
 pub blank_advance : (font : Option Font) → None ≡ info_of font → is_proportional font ≡ false
-blank_advance font e = ap is_proportional (no_font font e)
+blank_advance font e = rw (no_font font e) refl
 
 pub text_taken : (codes : List ℕ) (font : Option Font) {info : FontInfo} → Some info ≡ info_of font → text_refusal codes font ≡ None
 text_taken codes None e = absurd cc
@@ -254,10 +220,8 @@ text_taken codes (Some font) e = refl
 pub text_advance : (font : Option Font) {info : FontInfo} → Some info ≡ info_of font → is_proportional font ≡ info.proportional
 text_advance None e = absurd cc
 text_advance (Some font) {info} e =
-    let same : info ≡ record { proportional = font.proportional; pitch = font.pitch } = cc in
-    ap (λ (i : FontInfo). i.proportional) (sym same)
+    let same : info ≡ record { proportional = font.proportional; pitch = font.pitch } = cc in rw same refl
 
 pub printed_as : {dpi : Dpi} {one other : Bool} {new : Performer} (characters : ℕ → Option Character) (codes : List ℕ) (s : Situation)
     → other ≡ one → IsIn dpi (codes_printed dpi one characters codes s) new → IsIn dpi (codes_printed dpi other characters codes s) new
-printed_as {dpi} {new} characters codes s e i =
-    subst (λ (b : Bool). IsIn dpi (codes_printed dpi b characters codes s) new) (sym e) i
+printed_as characters codes s e i = rw e i

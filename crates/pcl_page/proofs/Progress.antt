@@ -36,7 +36,7 @@ stepped_on takes dpi all place command s old new sink later t = (
   t.0,
   t.2,
   t.4,
-  ap (λ (rs : List Running). resumed macro_limit dpi all rs t.0) t.3.0
+  rw t.3.0 refl
       ∙ begun_entered dpi all place command old.running.items s (run_of command s t.0) t.1 refl t.3.1,
 )
 
@@ -46,8 +46,7 @@ stopped_there : {S : Type 0} (takes : S → Page → S → Type 0) (dpi : Dpi) (
     → why ≡ refusal kind command.at command.name → HandsMore takes dpi s now sink later
     → GoesOn takes dpi all whole s (Err (job.Refused why)) new sink later
 stopped_there takes dpi all whole command kind s now why new sink later e w h =
-    subst (λ (p : Performance). GoesOn takes dpi all p s (Err (job.Refused why)) new sink later) (sym e)
-    (ap (λ (r : Refusal). Some r) (sym w), h)
+    rw (e, w) (refl, h)
 
 pub stepped_stops : {S : Type 0} (takes : S → Page → S → Type 0) (dpi : Dpi) (all : List Said) (place : ℕ) (command : Said)
     (kind : Kind) (s : Situation) (why : Refusal) (old new : Interpreter) (sink later : S)
@@ -59,8 +58,7 @@ stepped_stops takes dpi all place command kind s why old new sink later t w =
       | inl r ↦ stopped_there takes dpi all (begun_among dpi all place command old.running.items s) command kind s s why new sink later
           (begun_refused dpi all place command old.running.items r.0) w (no_pages takes dpi s s sink later refl r.1)
       | inr r ↦ stopped_there takes dpi all (begun_among dpi all place command old.running.items s) command kind s r.0 why new sink later
-          (begun_deep dpi all place command old.running.items s r.2 r.3 r.4
-          ∙ ap (λ (k : Kind). stopped k command r.0) (sym r.5)) w r.6
+          (rw r.5 (begun_deep dpi all place command old.running.items s r.2 r.3 r.4)) w r.6
     ]
 
 pub stepped_short : {S : Type 0} (takes : S → Page → S → Type 0) (dpi : Dpi) (all : List Said) (place : ℕ) (command : Said)
@@ -79,7 +77,7 @@ stepped_short takes dpi all place command s old new sink later t =
 
 pub got_there : (all : List Said) (i : ℕ) {command : Said} → slice_get all i ≡ Some command → drop i all ≡ command ∷ drop (suc i) all
 got_there [] i got = absurd cc
-got_there (first ∷ all) zero got = let same : first ≡ _ = cc in ap (λ (c : Said). c ∷ all) same
+got_there (first ∷ all) zero got = cc
 got_there (first ∷ all) (suc i) got = got_there all i got
 
 pub past_end : (all : List Said) (i : ℕ) → slice_get all i ≡ None → drop i all ≡ []
@@ -90,8 +88,7 @@ past_end (first ∷ all) (suc i) past = past_end all i past
 
 taken_next : (n place end : ℕ) {command : Said} (rest : List Said) → end - place ≡ suc n → end - (place + 1) ≡ n
     → take (end - place) (command ∷ rest) ≡ command ∷ take (end - (place + 1)) rest
-taken_next n place end {command} rest e f =
-    ap (λ (m : ℕ). take m (command ∷ rest)) e ∙ ap (λ (m : ℕ). command ∷ take m rest) (sym f)
+taken_next n place end rest e f = rw (e, f) refl
 
 -- the macro with one command less
 abbrev pub advanced : Running → Running
@@ -102,8 +99,7 @@ left_next : (all : List Said) (newest : Running) {command : Said} → slice_get 
     → commands_left all (run_in newest) ≡ command ∷ commands_left all (run_in (advanced newest))
 left_next all newest {command} got lt =
     let plus : suc newest.next ≡ newest.next + 1 = omega arith in
-    ap (λ (rest : List Said). take (newest.end - newest.next) rest) (got_there all newest.next got)
-    ∙ ap (λ (n : ℕ). take (newest.end - newest.next) (command ∷ drop n all)) plus
+    rw (got_there all newest.next got, plus) refl
     ∙ taken_next (newest.end - (newest.next + 1)) newest.next newest.end (drop (newest.next + 1) all) (omega arith) refl
 
 rest_next : (levels : ℕ) (dpi : Dpi) (all : List Said) (newest : Running) {command : Said} (s : Situation)
@@ -112,8 +108,7 @@ rest_next : (levels : ℕ) (dpi : Dpi) (all : List Said) (newest : Running) {com
     ≡ then_on (step dpi (runs levels dpi all) newest.next command s) (rest_of levels dpi all (run_in (advanced newest)))
 rest_next levels dpi all newest {command} s got lt =
     let one = step dpi (runs levels dpi all) in
-    ap (λ (cs : List Said). then_on (in_order one newest.next cs s) (λ later. done (macro_ended dpi newest.saved later)))
-    (left_next all newest got lt)
+    rw (left_next all newest got lt) refl
     ∙ then_assoc (one newest.next command s)
     (in_order one (newest.next + 1) (commands_left all (run_in (advanced newest)))) (λ later. done (macro_ended dpi newest.saved later))
 
@@ -124,12 +119,11 @@ next_of_macro dpi all older newest {command} s few got lt =
     let k = 2 - length older in
     let one = step dpi (runs k dpi all) newest.next command s in
     let levels : macro_limit - length (older ++ advanced newest ∷ []) ≡ k = omega (arith, length-append older (advanced newest ∷ [])) in
-    ap (λ (n : ℕ). then_on (step dpi (runs n dpi all) newest.next command s)
-    (resumed macro_limit dpi all (older ++ advanced newest ∷ []))) levels
+    rw levels refl
     ∙ then_same one
     (λ t. pushed dpi all older (advanced newest) t few)
     ∙ sym (pushed dpi all older newest s few
-    ∙ ap (λ (p : Performance). then_on p (resumed macro_limit dpi all older)) (rest_next k dpi all newest s got lt)
+    ∙ rw (rest_next k dpi all newest s got lt) refl
     ∙ then_assoc one (rest_of k dpi all (run_in (advanced newest))) (resumed macro_limit dpi all older))
 
 -- a macro has no command left
@@ -139,10 +133,8 @@ HasEnded all newest = (slice_get all newest.next ≡ None) ⊎ (newest.end ≤ n
 -- the end of a macro
 none_left : (all : List Said) (newest : Running) → HasEnded all newest → commands_left all (run_in newest) ≡ []
 none_left all newest e = elim e [
-  | inl past ↦ ap (λ (rest : List Said). take (newest.end - newest.next) rest) (past_end all newest.next past)
-      ∙ take_none (newest.end - newest.next)
-  | inr le ↦ let zero_left : newest.end - newest.next ≡ 0 = omega arith in
-      ap (λ (n : ℕ). take n (drop newest.next all)) zero_left
+  | inl past ↦ rw (past_end all newest.next past) (take_none (newest.end - newest.next))
+  | inr le ↦ let zero_left : newest.end - newest.next ≡ 0 = omega arith in rw zero_left refl
 ]
   where
     take_none : (n : ℕ) → take {A = Said} n [] ≡ []
@@ -154,16 +146,15 @@ pub end_of_macro : (dpi : Dpi) (all : List Said) (older : List Running) (newest 
     → resumed macro_limit dpi all older (macro_ended dpi newest.saved s) ≡ resumed macro_limit dpi all (older ++ newest ∷ []) s
 end_of_macro dpi all older newest s few e =
     sym (pushed dpi all older newest s few
-    ∙ ap (λ (cs : List Said). then_on (then_on (in_order (step dpi (runs (2 - length older) dpi all)) newest.next cs s)
-    (λ later. done (macro_ended dpi newest.saved later))) (resumed macro_limit dpi all older)) (none_left all newest e))
+    ∙ rw (none_left all newest e) refl)
 
 -- the same interpreter but for the macros that run
 pub at_running : {dpi : Dpi} {s : Situation} {old new : Interpreter} → new.performer ≡ old.performer → new.macros ≡ old.macros
     → IsAt dpi s old → IsAt dpi s new
 at_running {dpi} {s} p m at = record {
-  is_in = subst (λ (q : Performer). IsIn dpi s q) (sym p) at.is_in;
-  macros = subst (λ (t : MacroTable). Holds t s.macros) (sym m) at.macros;
-  begun = ap (λ (t : MacroTable). t.begun) m ∙ at.begun;
+  is_in = rw p at.is_in;
+  macros = rw m at.macros;
+  begun = cc;
 }
 
 -- the end of a macro leaves the pages
@@ -202,14 +193,10 @@ stepped_work dpi place count command s later old new at e there run =
     ap (left_in count) run ∙ left_append count old.running.items (entered (run_of command s later)) in
     elim (command_counts dpi place command s later e) [
       | inl kept ↦
-          let none : run_of command s later ≡ None =
-          ap (λ (b : Bool). cond b None (run_from (operation_of command.name) command.value later)) kept.1 in
-          let same : new.performer.performed ≡ old.performer.performed =
-          there.is_in.performed ∙ ap (λ (z : Situation). z.performed) kept.0 ∙ sym at.is_in.performed in
-          let running : left_in count new.running.items ≡ left_in count old.running.items =
-          all ∙ ap (λ (r : Option Run). left_in count old.running.items + left_in count (entered r)) none ∙ omega arith in
-          subst (λ (n : ℕ). work_left count n new.running.items ≤ work_left count old.performer.performed old.running.items) (sym same)
-          (omega (arith, running))
+          let none : run_of command s later ≡ None = rw kept.1 refl in
+          let same : new.performer.performed ≡ old.performer.performed = cc (there.is_in.performed, at.is_in.performed) in
+          let running : left_in count new.running.items ≡ left_in count old.running.items = rw none at all ∙ omega arith in
+          rw same (omega (arith, running))
       | inr counts ↦
           fewer_left old.performer.performed new.performer.performed count (left_in count old.running.items)
           (left_in count new.running.items) (omega (arith, counts.few, at.is_in.performed))
@@ -239,8 +226,7 @@ pub command_goes : {S : Type 0} (takes : S → Page → S → Type 0) (dpi : Dpi
 command_goes takes dpi all older pushed_on newest command s result last sink later few got lt push g =
     goes_to takes dpi all (begun_among dpi all newest.next command pushed_on s)
     (resumed macro_limit dpi all (older ++ newest ∷ []) s) s result last sink later
-    (ap (λ (rs : List Running). begun_among dpi all newest.next command rs s) push
-    ∙ next_of_macro dpi all older newest s few got lt) g
+    (rw push (next_of_macro dpi all older newest s few got lt)) g
 
 -- the end of the newest macro
 pub end_goes : {S : Type 0} (takes : S → Page → S → Type 0) (dpi : Dpi) (all : List Said) (old last : Interpreter)
@@ -252,8 +238,7 @@ end_goes takes dpi all old last newest s sink few e at run =
       then,
       at,
       no_pages takes dpi s then sink sink (left_pages dpi newest.saved s) refl,
-      ap (λ (r : ArrayVec Running). resumed macro_limit dpi all r.items then) run
-          ∙ end_of_macro dpi all old.running.items newest s few e,
+      rw run (end_of_macro dpi all old.running.items newest s few e),
     )
 
 -- ---- all macros that run
@@ -277,7 +262,7 @@ macro_goes takes dpi all whole s result before middle last newest old then new b
     let g = f now (at_running p m b.1) in
     goes_from takes dpi all whole s now result last old then new b.2
     (goes_to takes dpi all (resumed macro_limit dpi all (middle.running.items ++ newest ∷ []) now) whole now result last then new
-    (ap (λ (rs : List Running). resumed macro_limit dpi all rs now) (sym off) ∙ b.3) g)
+    (rw off at b.3) g)
 
 pub macro_on : {S : Type 0} (takes : S → Page → S → Type 0) (dpi : Dpi) (all : List Said) (whole : Performance) (s : Situation)
     (before middle last : Interpreter) (newest : Running) (old then new : S)

@@ -23,7 +23,7 @@ module _ {S : Type 0} (takes : S → Page → S → Type 0) (dpi : Dpi) where
   pub hands_further : (before now : Situation) (old middle new : S) → Hands takes dpi before.pages old middle
       → HandsMore takes dpi before now middle new → Hands takes dpi now.pages old new
   hands_further before now old middle new h k =
-      subst (λ (pages : List Sheet). Hands takes dpi pages old new) (sym k.1) (hands_append before.pages k.0 old middle new h k.2)
+      rw k.1 (hands_append before.pages k.0 old middle new h k.2)
 
   -- no page more
   pub no_pages : (s now : Situation) (old new : S) → now.pages ≡ s.pages → new ≡ old → HandsMore takes dpi s now old new
@@ -33,7 +33,7 @@ module _ {S : Type 0} (takes : S → Page → S → Type 0) (dpi : Dpi) where
       → HandsMore takes dpi middle now then new → HandsMore takes dpi s now old new
   more_on s middle now old then new h k = (
     h.0 ++ k.0,
-    k.1 ∙ ap (λ (ps : List Sheet). ps ++ k.0) h.1 ∙ append_assoc s.pages h.0 k.0,
+    rw (k.1, h.1) (append_assoc s.pages h.0 k.0),
     hands_append h.0 k.0 old then new h.2 k.2,
   )
 
@@ -42,8 +42,7 @@ module _ {S : Type 0} (takes : S → Page → S → Type 0) (dpi : Dpi) where
   first_on s middle now old then new h k = (
     h.0 ++ k.0,
     k.1,
-    k.2 ∙ ap (λ (ps : List Sheet). ps ++ (k.0 ++ k.1)) h.1 ∙ append_assoc s.pages h.0 (k.0 ++ k.1)
-        ∙ ap (λ (ps : List Sheet). s.pages ++ ps) (sym (append_assoc h.0 k.0 k.1)),
+    rw (k.2, h.1) (simp append_assoc),
     hands_append h.0 k.0 old then new h.2 k.3,
   )
 
@@ -55,7 +54,7 @@ pub stays_there : (s : Situation) → Onward s s
 stays_there s = ([], sym (append-nil s.pages))
 
 pub onward_on : (s middle now : Situation) → Onward s middle → Onward middle now → Onward s now
-onward_on s middle now a b = (a.0 ++ b.0, b.1 ∙ ap (λ (ps : List Sheet). ps ++ b.0) a.1 ∙ append_assoc s.pages a.0 b.0)
+onward_on s middle now a b = (a.0 ++ b.0, rw (b.1, a.1) (append_assoc s.pages a.0 b.0))
 
 module _ {S : Type 0} (takes : S → Page → S → Type 0) (dpi : Dpi) where
   -- the pages up to a situation are the first of those that there will be
@@ -64,7 +63,7 @@ module _ {S : Type 0} (takes : S → Page → S → Type 0) (dpi : Dpi) where
   first_of_more s middle now old new h o = (
     h.0,
     o.0,
-    o.1 ∙ ap (λ (ps : List Sheet). ps ++ o.0) h.1 ∙ append_assoc s.pages h.0 o.0,
+    rw (o.1, h.1) (append_assoc s.pages h.0 o.0),
     h.2,
   )
 
@@ -86,4 +85,4 @@ module _ {S : Type 0} (takes : S → Page → S → Type 0) (dpi : Dpi) where
   pub goes_to : (all : List Said) (whole other : Performance) (s : Situation) (result : Result (Unit {0}) JobFault) (last : Interpreter)
       (old new : S) → whole ≡ other → GoesOn takes dpi all whole s result last old new → GoesOn takes dpi all other s result last old new
   goes_to all whole other s result last old new e g =
-      subst (λ (p : Performance). GoesOn takes dpi all p s result last old new) e g
+      rw e at g
