@@ -48,7 +48,7 @@ runs_none later = None
 -- what is done to macros comes after the rest
 counting_is : (dpi : Dpi) (place : ℕ) (command : Said) (s : Situation) {o : Result Situation Kind} → tried dpi command s ≡ o
     → counting dpi place command s ≡ (o |> managed place (operation_of command.name) command.value)
-counting_is dpi place command s e = ap (λ (o : Result Situation Kind). o |> managed place (operation_of command.name) command.value) e
+counting_is dpi place command s e = rw e refl
 
 -- a macro control lets the page stay
 control_outcome : (dpi : Dpi) (value : Value) (m : Bool) (s : Settings) {done : Settings × Effect}
@@ -61,12 +61,12 @@ control_turned : (dpi : Dpi) (value : Value) (o : Outcome) (s : Situation) {late
 control_turned dpi value None s is e = absurd cc
 control_turned dpi value (Some done) s {later} is e =
     let same : turned done.0 done.1 s ≡ later = cc in
-    ap (λ (z : Situation). z.pages) (sym same) ∙ stays_pages done s (control_outcome dpi value (is_marked s) s.settings is)
+    rw (← same) (stays_pages done s (control_outcome dpi value (is_marked s) s.settings is))
 
 control_by : (dpi : Dpi) (command : Said) (s : Situation) {later : Situation} (ignored : Bool)
     → cond ignored (Ok s) (taken dpi ControlMacros command.value (prepared dpi ControlMacros s) |> drawn_on dpi ControlMacros command)
     ≡ Ok later → later.pages ≡ s.pages
-control_by dpi command s {later} true e = let same : s ≡ later = cc in ap (λ (z : Situation). z.pages) (sym same)
+control_by dpi command s {later} true e = let same : s ≡ later = cc in rw (← same) refl
 control_by dpi command s {later} false e =
     let before = prepared dpi ControlMacros s in
     let t = then_from (taken dpi ControlMacros command.value before) (drawn_on dpi ControlMacros command) e in
@@ -82,18 +82,15 @@ unfolding after
 unmanaged_pages dpi place (Some ControlMacros) command s e m = control_by dpi command s (is_ignored ControlMacros s) e
 unmanaged_pages dpi place other command s e m = absurd cc
 
-same_sink : {S : Type 0} (takes : S → Page → S → Type 0) (dpi : Dpi) (s now : Situation) (sink later : S) → now.pages ≡ s.pages
-    → HandsMore takes dpi s now sink later → later ≡ sink
-same_sink takes dpi s now sink later e h =
-    subst (λ (more : List Sheet). Hands takes dpi more sink later)
-    (no_more s.pages h.0 (sym e ∙ h.1)) h.2
+module _ {S : Type 0} (takes : S → Page → S → Type 0) (dpi : Dpi) (s now : Situation) (sink later : S) where
+  same_sink : now.pages ≡ s.pages → HandsMore takes dpi s now sink later → later ≡ sink
+  same_sink e h = rw (no_more s.pages h.0 (sym e ∙ h.1)) at h.2
 
-more_same : {S : Type 0} (takes : S → Page → S → Type 0) (dpi : Dpi) (s now then : Situation) (sink later : S) → then.pages ≡ now.pages
-    → HandsMore takes dpi s now sink later → HandsMore takes dpi s then sink later
-more_same takes dpi s now then sink later e h = (h.0, e ∙ h.1, h.2)
+  more_same : (then : Situation) → then.pages ≡ now.pages → HandsMore takes dpi s now sink later → HandsMore takes dpi s then sink later
+  more_same then e h = (h.0, e ∙ h.1, h.2)
 
 items_same : (old new : Interpreter) → new.running ≡ old.running → new.running.items ≡ old.running.items
-items_same old new e = ap (λ (r : ArrayVec Running). r.items) e
+items_same old new e = rw e refl
 
 -- the performer performed the command, and nothing was done to macros yet
 pub at_tried : {dpi : Dpi} (command : Said) {s now : Situation} {old middle : Interpreter} → IsAt dpi s old
@@ -102,167 +99,128 @@ at_tried {dpi} command {s} {now} {middle} at e i same =
     let a = (is_counted dpi command s e).adds in
     record {
       is_in = i;
-      macros = subst (λ (events : List MacroEvent). Holds middle.macros events) (sym a.macros)
-          (subst (λ (t : MacroTable). Holds t s.macros) (sym same) at.macros);
-      begun = ap (λ (t : MacroTable). t.begun) same ∙ at.begun ∙ sym a.begun;
+      macros = rw (same, a.macros) at.macros;
+      begun = cc;
     }
 
--- what is refused for macros leaves the sink as it was
-unmanaged_sink : {S : Type 0} (takes : S → Page → S → Type 0) (dpi : Dpi) (place : ℕ) (command : Said) (s now : Situation) (sink later : S)
-    {kind : Kind} → tried dpi command s ≡ Ok now → managed place (operation_of command.name) command.value now ≡ Err kind
-    → HandsMore takes dpi s now sink later → later ≡ sink
-unmanaged_sink takes dpi place command s now sink later t e h =
-    same_sink takes dpi s now sink later
-    (unmanaged_pages dpi place (operation_of command.name) command (counted s) (is_counted dpi command s t).after_is e) h
+-- a command, and what it does to macros
+module _ {S : Type 0} (takes : S → Page → S → Type 0) (dpi : Dpi) (place : ℕ) (command : Said) (s : Situation) where
+  -- what is done to macros after the rest
+  abbrev managed_by : Situation → Result Situation Kind
+  managed_by = managed place (operation_of command.name) command.value
 
-pub counted_stepped : {S : Type 0} (takes : S → Page → S → Type 0) (dpi : Dpi) (place : ℕ) (command : Said) (operation : Operation)
-    (s : Situation) (old middle new : Interpreter) (sink later : S) (result : Result (Unit {0}) CallFault)
-    → IsAt dpi s old → IsTried takes dpi command s (Ok operation) middle.performer sink later
-    → middle.macros ≡ old.macros → middle.running ≡ old.running
-    → ((t : Situation) → IsAt dpi t middle
-    → IsActed dpi (managed place (Some operation) command.value t) (run_from (Some operation) command.value) result middle new)
-    → IsStepped takes dpi (counting dpi place command s) (run_from (operation_of command.name) command.value) s result old new sink later
-counted_stepped takes dpi place command operation s old middle new sink later result at t same run f =
-    stepped_by result (subst (λ (o : Option Operation).
-    IsActed dpi (managed place o command.value t.0) (run_from o command.value) result middle new) (sym t.1)
-    (f t.0 (at_tried command at t.2 t.3 same)))
-  where
-    stepped_by : (result : Result (Unit {0}) CallFault)
-        → IsActed dpi (managed place (operation_of command.name) command.value t.0) (run_from (operation_of command.name) command.value)
-        result middle new
-        → IsStepped takes dpi (counting dpi place command s) (run_from (operation_of command.name) command.value) s result old new
-        sink later
-    stepped_by (Ok unit) a = (
-      a.0,
-      counting_is dpi place command s t.2 ∙ a.1,
-      a.2,
-      subst (λ (rs : List Running). Enters (run_from (operation_of command.name) command.value a.0) rs new.running.items)
-          (items_same old middle run) a.3,
-      more_same takes dpi s t.0 a.0 sink later (managed_acts place (operation_of command.name) command.value a.1).pages t.4,
-    )
-    stepped_by (Err (Refused kind)) a =
-        elim a [
-          | inl e ↦ inl (counting_is dpi place command s t.2 ∙ e, unmanaged_sink takes dpi place command s t.0 sink later t.2 e t.4)
-          | inr a ↦ inr (
-            a.0,
-            a.1,
-            counting_is dpi place command s t.2 ∙ a.2,
-            a.3,
-            ap (λ (rs : List Running). length rs) (sym (items_same old middle run)) ∙ a.4,
-            a.5,
-            more_same takes dpi s t.0 a.0 sink later (managed_acts place (operation_of command.name) command.value a.2).pages t.4,
-          )
-        ]
-    stepped_by (Err Memory) a = inr (
-      a.0,
-      counting_is dpi place command s t.2 ∙ a.1,
-      more_same takes dpi s t.0 a.0 sink later (managed_acts place (operation_of command.name) command.value a.1).pages t.4,
-    )
+  -- the macro that then runs
+  abbrev runs_by : Situation → Option Run
+  runs_by = run_from (operation_of command.name) command.value
 
--- the performer refused it, or memory ran out there
-pub counted_untried : {S : Type 0} (takes : S → Page → S → Type 0) (dpi : Dpi) (place : ℕ) (command : Said) (s : Situation)
-    (old new : Interpreter) (sink later : S) (fault : CallFault) → IsTried takes dpi command s (Err fault) new.performer sink later
-    → IsStepped takes dpi (counting dpi place command s) (run_from (operation_of command.name) command.value) s
-    (Err fault) old new sink later
-counted_untried takes dpi place command s old new sink later (Refused kind) t = inl (counting_is dpi place command s t.0, t.1)
-counted_untried takes dpi place command s old new sink later Memory t =
-    elim t [
-      | inl same ↦ inl same
-      | inr d ↦ short_by (managed place (operation_of command.name) command.value d.0) d refl
-    ]
-  where
-    short_by : (o : Result Situation Kind) → (d : (now : Situation) × (tried dpi command s ≡ Ok now) × HandsMore takes dpi s now sink later)
-        → managed place (operation_of command.name) command.value d.0 ≡ o
-        → IsStepped takes dpi (counting dpi place command s) (run_from (operation_of command.name) command.value) s (Err Memory) old new
-        sink later
-    short_by (Ok now) d m = inr (
-      now,
-      counting_is dpi place command s d.1 ∙ m,
-      more_same takes dpi s d.0 now sink later (managed_acts place (operation_of command.name) command.value m).pages d.2,
-    )
-    short_by (Err kind) d m = inl (unmanaged_sink takes dpi place command s d.0 sink later d.1 m d.2)
+  -- what is refused for macros leaves the sink as it was
+  unmanaged_sink : (now : Situation) (sink later : S) {kind : Kind} → tried dpi command s ≡ Ok now → managed_by now ≡ Err kind
+      → HandsMore takes dpi s now sink later → later ≡ sink
+  unmanaged_sink now sink later t e h =
+      same_sink takes dpi s now sink later
+      (unmanaged_pages dpi place (operation_of command.name) command (counted s) (is_counted dpi command s t).after_is e) h
+
+  managed_more : (now then : Situation) (sink later : S) → managed_by now ≡ Ok then → HandsMore takes dpi s now sink later
+      → HandsMore takes dpi s then sink later
+  managed_more now then sink later m h =
+      more_same takes dpi s now sink later then (managed_acts place (operation_of command.name) command.value m).pages h
+
+  stepped_by : (old middle new : Interpreter) (sink later : S) (result : Result (Unit {0}) CallFault) (now : Situation)
+      → middle.running ≡ old.running → tried dpi command s ≡ Ok now → HandsMore takes dpi s now sink later
+      → IsActed dpi (managed_by now) runs_by result middle new
+      → IsStepped takes dpi (counting dpi place command s) runs_by s result old new sink later
+  stepped_by old middle new sink later (Ok unit) now run t h a =
+      (a.0, rw t a.1, a.2, rw run at a.3, managed_more now a.0 sink later a.1 h)
+  stepped_by old middle new sink later (Err (Refused kind)) now run t h a =
+      elim a [
+        | inl e ↦ inl (rw t e, unmanaged_sink now sink later t e h)
+        | inr a ↦ inr (a.0, a.1, rw t a.2, a.3, rw run at a.4, a.5, managed_more now a.0 sink later a.2 h)
+      ]
+  stepped_by old middle new sink later (Err Memory) now run t h a = inr (a.0, rw t a.1, managed_more now a.0 sink later a.1 h)
+
+  pub counted_stepped : (operation : Operation) (old middle new : Interpreter) (sink later : S) (result : Result (Unit {0}) CallFault)
+      → IsAt dpi s old → IsTried takes dpi command s (Ok operation) middle.performer sink later
+      → middle.macros ≡ old.macros → middle.running ≡ old.running
+      → ((t : Situation) → IsAt dpi t middle
+      → IsActed dpi (managed place (Some operation) command.value t) (run_from (Some operation) command.value) result middle new)
+      → IsStepped takes dpi (counting dpi place command s) runs_by s result old new sink later
+  counted_stepped operation old middle new sink later result at t same run f =
+      stepped_by old middle new sink later result t.0 run t.2 t.4 (rw t.1 (f t.0 (at_tried command at t.2 t.3 same)))
+
+  -- the performer refused it, or memory ran out there
+  pub counted_untried : (old new : Interpreter) (sink later : S) (fault : CallFault)
+      → IsTried takes dpi command s (Err fault) new.performer sink later
+      → IsStepped takes dpi (counting dpi place command s) runs_by s (Err fault) old new sink later
+  counted_untried old new sink later (Refused kind) t = inl (rw t.0 refl, t.1)
+  counted_untried old new sink later Memory t =
+      elim t [
+        | inl same ↦ inl same
+        | inr d ↦ short_by (managed_by d.0) d refl
+      ]
+    where
+      short_by : (o : Result Situation Kind)
+          → (d : (now : Situation) × (tried dpi command s ≡ Ok now) × HandsMore takes dpi s now sink later) → managed_by d.0 ≡ o
+          → IsStepped takes dpi (counting dpi place command s) runs_by s (Err Memory) old new sink later
+      short_by (Ok now) d m = inr (now, rw d.1 m, managed_more d.0 now sink later m d.2)
+      short_by (Err kind) d m = inl (unmanaged_sink d.0 sink later d.1 m d.2)
 
 -- ---- what is done to macros
+
+-- the performer is where it was, whatever became of macros
+in_macros : {dpi : Dpi} {events : List MacroEvent} {begun : Option Begun} {s : Situation} {old new : Performer} → new ≡ old
+    → IsIn dpi s old → IsIn dpi (record s { macros = events; begun = begun }) new
+in_macros same i = rw same (record {
+  settings = i.settings;
+  raster = i.raster;
+  marked = i.marked;
+  ejected = i.ejected;
+  performed = i.performed;
+  asks = i.asks;
+  fonts = i.fonts;
+  painted = i.painted;
+})
 
 -- one event more
 pub event_done : {dpi : Dpi} {event : MacroEvent} {s : Situation} {old new : Interpreter} → IsAt dpi s old
     → new.performer ≡ old.performer → Controls old.macros new.macros event → IsAt dpi (record s { macros = event ∷ s.macros }) new
-event_done {dpi} {event} {s} {old} {new} at same c = record {
-  is_in = subst (λ (p : Performer). IsIn dpi (record s { macros = event ∷ s.macros }) p) (sym same) (in_same at.is_in);
+event_done {event} {s} {old} {new} at same c = record {
+  is_in = in_macros same at.is_in;
   macros = holds_after old.macros new.macros event s.macros c.0 at.macros;
   begun = c.1 ∙ at.begun;
 }
-  where
-    in_same : IsIn dpi s old.performer → IsIn dpi (record s { macros = event ∷ s.macros }) old.performer
-    in_same i = record {
-      settings = i.settings;
-      raster = i.raster;
-      marked = i.marked;
-      ejected = i.ejected;
-      performed = i.performed;
-      asks = i.asks;
-      fonts = i.fonts;
-      painted = i.painted;
-    }
+
+-- no macro begins to run
+idle_still : (old new : Interpreter) → new.running ≡ old.running → Enters None old.running.items new.running.items
+idle_still old new run = (rw run (sym (append-nil old.running.items)), tt)
 
 pub control_acted : {dpi : Dpi} {what : MacroControl} {id : ℕ} (place : ℕ) {s : Situation} {old new : Interpreter} → IsAt dpi s old
     → id ≡ old.performer.environment.macro_id → new.performer ≡ old.performer → new.running ≡ old.running
     → Controls old.macros new.macros (control what id)
     → IsActed dpi (acted place (Some (Control what)) s) (run_by (Some (Control what))) (Ok tt) old new
 control_acted {what} {id} place {s} {old} {new} at i same run c =
-    let id_is : id ≡ s.settings.macro_id = i ∙ ap (λ (t : Settings). t.macro_id) at.is_in.settings in (
-      record s { macros = control what s.settings.macro_id ∷ s.macros },
-      refl,
-      event_done at same
-          (subst (λ (n : ℕ). Controls old.macros new.macros (control what n)) id_is c),
-      (items_same old new run ∙ sym (append-nil old.running.items), tt),
-    )
+    let id_is : id ≡ s.settings.macro_id = cc (i, at.is_in.settings) in
+    (record s { macros = control what s.settings.macro_id ∷ s.macros }, refl, event_done at same (rw id_is at c), idle_still old new run)
 
 pub reset_acted : {dpi : Dpi} {s : Situation} {old new : Interpreter} → IsAt dpi s old
     → new.performer ≡ old.performer → new.running ≡ old.running → Controls old.macros new.macros (control Temporary 0)
     → IsActed dpi (Ok (record s { macros = control Temporary 0 ∷ s.macros })) runs_none (Ok tt) old new
-reset_acted {s} {old} {new} at same run c = (
-  record s { macros = control Temporary 0 ∷ s.macros },
-  refl,
-  event_done at same c,
-  (items_same old new run ∙ sym (append-nil old.running.items), tt),
-)
+reset_acted {s} {old} {new} at same run c =
+    (record s { macros = control Temporary 0 ∷ s.macros }, refl, event_done at same c, idle_still old new run)
 
 -- a definition begins
 pub begin_acted : {dpi : Dpi} {id : ℕ} (place : ℕ) {s : Situation} {old new : Interpreter} → IsAt dpi s old
     → id ≡ old.performer.environment.macro_id → new.performer ≡ old.performer → new.running ≡ old.running
     → new.macros ≡ record old.macros { begun = Some (record { id = id; from = place + 1 }) }
     → IsActed dpi (acted place (Some Begin) s) (run_by (Some Begin)) (Ok tt) old new
-begin_acted {dpi} {id} place {s} {old} {new} at i same run m =
-    let id_is : id ≡ s.settings.macro_id = i ∙ ap (λ (t : Settings). t.macro_id) at.is_in.settings in (
+begin_acted {id} place {s} {old} {new} at i same run m =
+    let id_is : id ≡ s.settings.macro_id = cc (i, at.is_in.settings) in (
       record s { begun = Some (record { id = s.settings.macro_id; from = place + 1 }) },
       refl,
-      record {
-        is_in = subst (λ (p : Performer). IsIn dpi (record s { begun = Some (record { id = s.settings.macro_id; from = place + 1 }) }) p)
-            (sym same) (in_same at.is_in);
-        macros = λ q. ap (λ (t : MacroTable). macro_at t q) m ∙ at.macros q;
-        begun = ap (λ (t : MacroTable). t.begun) m ∙ ap (λ (n : ℕ). Some (record { id = n; from = place + 1 })) id_is;
-      },
-      (items_same old new run ∙ sym (append-nil old.running.items), tt),
+      record { is_in = in_macros same at.is_in; macros = rw m at.macros; begun = rw (m, id_is) refl },
+      idle_still old new run,
     )
-  where
-    in_same : {b : Option Begun} → IsIn dpi s old.performer → IsIn dpi (record s { begun = b }) old.performer
-    in_same i = record {
-      settings = i.settings;
-      raster = i.raster;
-      marked = i.marked;
-      ejected = i.ejected;
-      performed = i.performed;
-      asks = i.asks;
-      fonts = i.fonts;
-      painted = i.painted;
-    }
 
 -- a definition ends, or there is none
-ended_is : {place : ℕ} {begun : Option Begun} (s : Situation) {d : Begun} → begun ≡ Some d
-    → definition_ended place begun s ≡ Ok (record s { macros = defined d.id d.from place ∷ s.macros; begun = None })
-ended_is {place} s e = ap (λ (b : Option Begun). definition_ended place b s) e
-
 begun_some : (begun : Option Begun) → is_some begun ≡ true → (d : Begun) × (begun ≡ Some d)
 begun_some None e = absurd cc
 begun_some (Some d) e = (d, refl)
@@ -275,49 +233,31 @@ pub end_acted : {dpi : Dpi} (place : ℕ) {s : Situation} {old : Interpreter} (n
     → IsAt dpi s old
     → new.performer ≡ old.performer → new.running ≡ old.running → HasEnd place result old.macros new.macros
     → IsActed dpi (acted place (Some End) s) (run_by (Some End)) result old new
-end_acted {dpi} place {s} {old} new (Ok unit) at same run h =
+end_acted place {s} {old} new (Ok unit) at same run h =
     let d = h.0 in
-    let later = record s { macros = defined d.id d.from place ∷ s.macros; begun = None } in (
-      later,
-      ended_is s (sym at.begun ∙ h.1),
+    let some : s.begun ≡ Some d = sym at.begun ∙ h.1 in (
+      record s { macros = defined d.id d.from place ∷ s.macros; begun = None },
+      rw some refl,
       record {
-        is_in = subst (λ (p : Performer). IsIn dpi later p) (sym same) (record {
-          settings = at.is_in.settings;
-          raster = at.is_in.raster;
-          marked = at.is_in.marked;
-          ejected = at.is_in.ejected;
-          performed = at.is_in.performed;
-          asks = at.is_in.asks;
-          fonts = at.is_in.fonts;
-          painted = at.is_in.painted;
-        });
+        is_in = in_macros same at.is_in;
         macros = holds_after old.macros new.macros (defined d.id d.from place) s.macros h.2 at.macros;
         begun = h.3;
       },
-      (items_same old new run ∙ sym (append-nil old.running.items), tt),
+      idle_still old new run,
     )
 end_acted place {s} new (Err (Refused kind)) at same run h =
-    let none : s.begun ≡ None = begun_none s.begun (ap (λ (b : Option Begun). is_some b) (sym at.begun) ∙ h.0) in
-    inl (ap (λ (b : Option Begun). definition_ended place b s) none ∙ ap (λ (k : Kind). Err k) (sym h.1))
+    let none : s.begun ≡ None = begun_none s.begun (rw at.begun at h.0) in inl (rw (none, h.1) refl)
 end_acted place {s} new (Err Memory) at same run h =
-    let d = begun_some s.begun (ap (λ (b : Option Begun). is_some b) (sym at.begun) ∙ h.0) in
-    (record s { macros = defined d.0.id d.0.from place ∷ s.macros; begun = None }, ended_is s d.1)
+    let d = begun_some s.begun (rw at.begun at h.0) in
+    (record s { macros = defined d.0.id d.0.from place ∷ s.macros; begun = None }, ap (λ (b : Option Begun). definition_ended place b s) d.1)
 
 -- a macro begins to run
 pub enter_acted : {dpi : Dpi} (run_after : Situation → Option Run) (run : Option Run) {s : Situation} {old : Interpreter}
     (new : Interpreter)
     (result : Result (Unit {0}) CallFault) → IsAt dpi s old → run ≡ run_after s → IsEntered run result old new
     → IsActed dpi (Ok s) run_after result old new
-enter_acted {dpi} run_after run {s} {old} new (Ok unit) at e h = (
-  s,
-  refl,
-  record {
-    is_in = subst (λ (p : Performer). IsIn dpi s p) (sym h.1) at.is_in;
-    macros = subst (λ (t : MacroTable). Holds t s.macros) (sym h.2) at.macros;
-    begun = ap (λ (t : MacroTable). t.begun) h.2 ∙ at.begun;
-  },
-  subst (λ (r : Option Run). Enters r old.running.items new.running.items) e h.0,
-)
+enter_acted run_after run {s} new (Ok unit) at e h =
+    (s, refl, record { is_in = rw h.1 at.is_in; macros = rw h.2 at.macros; begun = rw h.2 at.begun }, rw e at h.0)
 enter_acted run_after None new (Err fault) at e h = absurd h
 enter_acted run_after (Some run) {s} new (Err (Refused kind)) at e h = inr (s, run, refl, sym e, h.0, h.1)
 enter_acted run_after (Some run) new (Err Memory) at e h = absurd h
@@ -325,8 +265,7 @@ enter_acted run_after (Some run) new (Err Memory) at e h = absurd h
 -- the macro that is meant
 macro_found : {dpi : Dpi} {id : ℕ} {s : Situation} {old : Interpreter} → IsAt dpi s old → id ≡ old.performer.environment.macro_id
     → macro_at old.macros id ≡ macro_now s
-macro_found {id} {s} at i =
-    at.macros id ∙ ap (λ (n : ℕ). body_after s.macros n) (i ∙ ap (λ (t : Settings). t.macro_id) at.is_in.settings)
+macro_found {id} at i = at.macros id ∙ cc (i, at.is_in.settings)
 
 pub execute_acted : {dpi : Dpi} {id : ℕ} {s : Situation} {old : Interpreter} (new : Interpreter) (result : Result (Unit {0}) CallFault)
     → IsAt dpi s old
@@ -334,7 +273,7 @@ pub execute_acted : {dpi : Dpi} {id : ℕ} {s : Situation} {old : Interpreter} (
     → IsActed dpi (Ok s) (run_by (Some Execute)) result old new
 execute_acted {id} {old} new result at i h =
     enter_acted (run_by (Some Execute)) (option_map (run_with None) (macro_at old.macros id)) new result at
-    (ap (λ (o : Option MacroBody). option_map (run_with None) o) (macro_found at i)) h
+    (rw (macro_found at i) refl) h
 
 pub call_acted : {dpi : Dpi} {id : ℕ} {saved : Settings} {s : Situation} {old : Interpreter} (new : Interpreter)
     (result : Result (Unit {0}) CallFault)
@@ -342,25 +281,19 @@ pub call_acted : {dpi : Dpi} {id : ℕ} {saved : Settings} {s : Situation} {old 
     → IsEntered (option_map (run_with (Some saved)) (macro_at old.macros id)) result old new
     → IsActed dpi (Ok s) (run_by (Some Call)) result old new
 call_acted {id} {saved} {s} {old} new result at i k h =
-    let same : saved ≡ kept s.settings = k ∙ ap (λ (t : Settings). kept t) at.is_in.settings in
+    let same : saved ≡ kept s.settings = rw at.is_in.settings at k in
     enter_acted (run_by (Some Call)) (option_map (run_with (Some saved)) (macro_at old.macros id)) new result at
-    (ap (λ (o : Option MacroBody). option_map (run_with (Some saved)) o) (macro_found at i)
-    ∙ ap (λ (t : Settings). option_map (run_with (Some t)) (macro_now s)) same) h
+    (rw (macro_found at i, same) refl) h
 
 -- ---- the end
 
 pub ends_outside : {S : Type 0} (takes : S → Page → S → Type 0) (dpi : Dpi) (end : ℕ) (s : Situation) (old : Interpreter)
     (new : Performer) (result : Result (Unit {0}) JobFault) (sink later : S) → IsAt dpi s old → is_begun old.macros ≡ false
     → EndDone takes dpi end s result new sink later → InterpreterEnds takes dpi end s result new sink later
-ends_outside {S} takes dpi end s old new result sink later at none d =
-    ends_by takes dpi end s result new sink later (ap (λ (b : Option Begun). is_some b) (sym at.begun) ∙ none) d
+ends_outside takes dpi end s old new result sink later at none d = ends_by result (rw at.begun at none) d
   where
-    refusal_is : (dpi : Dpi) (s : Situation) → is_some s.begun ≡ false → end_refusal dpi s ≡ page_refusal (at_end dpi s)
-    refusal_is dpi s e = ap (λ (b : Bool). cond b (Some MacroOpen) (page_refusal (at_end dpi s))) e
-
-    ends_by : {S : Type 0} (takes : S → Page → S → Type 0) (dpi : Dpi) (end : ℕ) (s : Situation) (result : Result (Unit {0}) JobFault)
-        (new : Performer) (sink later : S) → is_some s.begun ≡ false → EndDone takes dpi end s result new sink later
+    ends_by : (result : Result (Unit {0}) JobFault) → is_some s.begun ≡ false → EndDone takes dpi end s result new sink later
         → InterpreterEnds takes dpi end s result new sink later
-    ends_by takes dpi end s (Ok unit) new sink later e d = (refusal_is dpi s e ∙ d.0, d.1, d.2)
-    ends_by takes dpi end s (Err (job.Refused why)) new sink later e d = (d.0, refusal_is dpi s e ∙ d.1, d.2, d.3)
-    ends_by takes dpi end s (Err job.Memory) new sink later e d = d
+    ends_by (Ok unit) e d = (rw e d.0, d.1, d.2)
+    ends_by (Err (job.Refused why)) e d = (d.0, rw e d.1, d.2, d.3)
+    ends_by (Err job.Memory) e d = d

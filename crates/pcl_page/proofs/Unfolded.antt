@@ -67,7 +67,7 @@ pushed_deep : (k : ℕ) (dpi : Dpi) (all : List Said) (older : List Running) (ne
     ≡ then_on (rest_of k dpi all (run_in newest) s) (resumed (deep older k) dpi all older)
 pushed_deep k dpi all [] newest s = sym (then_done)
 pushed_deep k dpi all (running ∷ older) newest s =
-    ap (λ (p : Performance). then_on p (rest_of (deep older k) dpi all (run_in running))) (pushed_deep k dpi all older newest s)
+    rw (pushed_deep k dpi all older newest s) refl
     ∙ then_assoc (rest_of k dpi all (run_in newest) s) (resumed (deep older k) dpi all older)
     (rest_of (deep older k) dpi all (run_in running))
 
@@ -77,24 +77,20 @@ pub pushed : (dpi : Dpi) (all : List Said) (older : List Running) (newest : Runn
     ≡ then_on (rest_of (2 - length older) dpi all (run_in newest) s) (resumed macro_limit dpi all older)
 pushed dpi all older newest s few =
     let levels : deep older (2 - length older) ≡ 3 = deep_is older (2 - length older) ∙ omega arith in
-    subst (λ (n : ℕ). resumed n dpi all (older ++ newest ∷ []) s
-    ≡ then_on (rest_of (2 - length older) dpi all (run_in newest) s) (resumed n dpi all older)) levels
-    (pushed_deep (2 - length older) dpi all older newest s)
+    rw levels at (pushed_deep (2 - length older) dpi all older newest s)
 
 -- ---- a command
 
 stepped : (dpi : Dpi) (f : Said → Run → Situation → Performance) (place : ℕ) (command : Said) (s : Situation) {o : Result Situation Kind}
     → after_command dpi place command s ≡ o
     → step dpi f place command s ≡ then_on (concluded command s o) (λ later. and_run (f command) (run_of command s later) later)
-stepped dpi f place command s e =
-    ap (λ (p : Result Situation Kind). then_on (concluded command s p) (λ later. and_run (f command) (run_of command s later) later)) e
+stepped dpi f place command s e = rw e refl
 
 -- one that is refused
 pub begun_refused : (dpi : Dpi) (all : List Said) (place : ℕ) (command : Said) (running : List Running) {s : Situation} {kind : Kind}
     → after_command dpi place command s ≡ Err kind → begun_among dpi all place command running s ≡ stopped kind command s
 begun_refused dpi all place command running {s} e =
-    ap (λ (p : Performance). then_on p (resumed macro_limit dpi all running))
-    (stepped dpi (runs (macro_limit - length running) dpi all) place command s e)
+    rw e refl
 
 begun_run : (dpi : Dpi) (all : List Said) (place : ℕ) (command : Said) (running : List Running) (s : Situation) {later : Situation}
     {run : Option Run}
@@ -102,9 +98,7 @@ begun_run : (dpi : Dpi) (all : List Said) (place : ℕ) (command : Said) (runnin
     → begun_among dpi all place command running s
     ≡ then_on (and_run (runs (macro_limit - length running) dpi all command) run later) (resumed macro_limit dpi all running)
 begun_run dpi all place command running s {later} e r =
-    let f = runs (macro_limit - length running) dpi all in
-    ap (λ (p : Performance). then_on p (resumed macro_limit dpi all running)) (stepped dpi f place command s e)
-    ∙ ap (λ (o : Option Run). then_on (and_run (f command) o later) (resumed macro_limit dpi all running)) r
+    rw (e, r) refl
 
 -- one that would run a macro too deep
 pub begun_deep : (dpi : Dpi) (all : List Said) (place : ℕ) (command : Said) (running : List Running) (s : Situation) {later : Situation}
@@ -113,8 +107,7 @@ pub begun_deep : (dpi : Dpi) (all : List Said) (place : ℕ) (command : Said) (r
     → begun_among dpi all place command running s ≡ stopped MacroDepth command later
 begun_deep dpi all place command running s {later} {run} e r full =
     let levels : macro_limit - length running ≡ 0 = omega (arith, full) in
-    begun_run dpi all place command running s e r
-    ∙ ap (λ (n : ℕ). then_on (runs n dpi all command run later) (resumed macro_limit dpi all running)) levels
+    begun_run dpi all place command running s e r ∙ rw levels refl
 
 -- one that runs a macro, or none
 pub begun_entered : (dpi : Dpi) (all : List Said) (place : ℕ) (command : Said) (running : List Running) (s : Situation) {later : Situation}
@@ -122,15 +115,13 @@ pub begun_entered : (dpi : Dpi) (all : List Said) (place : ℕ) (command : Said)
     → HasLevel run running
     → resumed macro_limit dpi all (running ++ entered run) later ≡ begun_among dpi all place command running s
 begun_entered dpi all place command running s {later} None e r few =
-    ap (λ (rs : List Running). resumed macro_limit dpi all rs later) (append-nil running)
-    ∙ sym (begun_run dpi all place command running s e r)
+    rw append-nil refl ∙ sym (begun_run dpi all place command running s e r)
 begun_entered dpi all place command running s {later} (Some run) e r few =
     let newest : Running = record { next = run.next; end = run.end; saved = run.saved } in
     let fits : length running < 3 = few in
     let levels : macro_limit - length running ≡ suc (2 - length running) = omega arith in
     pushed dpi all running newest later fits
-    ∙ sym (begun_run dpi all place command running s e r
-    ∙ ap (λ (n : ℕ). then_on (runs n dpi all command run later) (resumed macro_limit dpi all running)) levels)
+    ∙ sym (begun_run dpi all place command running s e r ∙ rw levels refl)
 
 -- ---- what a command adds
 
@@ -148,13 +139,11 @@ pub record ActsOnMacros (s later : Situation) : Type 0 where
 ended_acts : (place : ℕ) (begun : Option Begun) {s later : Situation} → definition_ended place begun s ≡ Ok later → ActsOnMacros s later
 ended_acts place None e = absurd cc
 ended_acts place (Some d) {s} {later} e =
-    let same : record s { macros = defined d.id d.from place ∷ s.macros; begun = None } ≡ later = cc in record {
-      pages = ap (λ (z : Situation). z.pages) (sym same);
-      performed = ap (λ (z : Situation). z.performed) (sym same);
-    }
+    let same : record s { macros = defined d.id d.from place ∷ s.macros; begun = None } ≡ later = cc in
+    rw (← same) (record { pages = refl; performed = refl })
 
 same_acts : {s now later : Situation} → ActsOnMacros s now → ◌≡◌ {A = Result Situation Kind} (Ok now) (Ok later) → ActsOnMacros s later
-same_acts {s} {now} {later} a e = let same : now ≡ later = cc in subst (λ (z : Situation). ActsOnMacros s z) same a
+same_acts {s} {now} {later} a e = let same : now ≡ later = cc in rw same at a
 
 acted_acts : (place : ℕ) (action : Option Action) {s later : Situation} → acted place action s ≡ Ok later → ActsOnMacros s later
 acted_acts place None e = absurd cc
@@ -200,7 +189,7 @@ command_counts dpi place command s later e = command_by dpi place command (is_so
 
 kept_onward : {s later : Situation} → KeptOrCounts s later → Onward s later
 kept_onward {s} k = elim k [
-  | inl same ↦ subst (λ (z : Situation). Onward s z) (sym same.0) (stays_there s)
+  | inl same ↦ rw same.0 (stays_there s)
   | inr counts ↦ counts.onward
 ]
 
@@ -283,8 +272,7 @@ pub begun_after : (dpi : Dpi) (all : List Said) (place : ℕ) (command : Said) (
     → after_command dpi place command s ≡ Ok later → Onward later (begun_among dpi all place command running s).situation
 begun_after dpi all place command running s {later} e =
     let f = runs (macro_limit - length running) dpi all in
-    subst (λ (p : Performance). Onward later p.situation)
-    (sym (begun_run dpi all place command running s e refl))
+    rw e
     (then_grows (and_run (f command) (run_of command s later) later) later (resumed macro_limit dpi all running)
     (run_grows (f command) (run_of command s later) (runs_grow (macro_limit - length running) dpi all command) later)
     (resumed_grow macro_limit dpi all running))

@@ -26,14 +26,10 @@ pub returns-in-Err-Refused-clause-done : goal.returns-in-Err-Refused-clause-done
 returns-in-Err-Refused-clause-done g c = λ all s at.
     stepped_stops g.S.PageSink.takes c.args.dpi all c.args.place (view c.args.command.now) c.in-Err-Refused.kind s c.new.result
     c.args.self.now c.try_command.new.self c.args.sink.now c.try_command.new.sink
-    (subst (λ (f : CallFault). IsStepped g.S.PageSink.takes c.args.dpi (after_command c.args.dpi c.args.place (view c.args.command.now) s)
-    (run_of (view c.args.command.now) s) s (Err f) c.args.self.now c.try_command.new.self c.args.sink.now c.try_command.new.sink)
-    c.in-Err-Refused.field-0-is (c.in-Err-Refused.ensures s at)) c.new.ensures
+    (rw c.in-Err-Refused.field-0-is at (c.in-Err-Refused.ensures s at)) c.new.ensures
 
 pub returns-in-Err-Memory-clause-done : goal.returns-in-Err-Memory-clause-done
 returns-in-Err-Memory-clause-done g c = λ all s at.
     stepped_short g.S.PageSink.takes c.args.dpi all c.args.place (view c.args.command.now) s c.args.self.now c.try_command.new.self
     c.args.sink.now c.try_command.new.sink
-    (subst (λ (f : CallFault). IsStepped g.S.PageSink.takes c.args.dpi (after_command c.args.dpi c.args.place (view c.args.command.now) s)
-    (run_of (view c.args.command.now) s) s (Err f) c.args.self.now c.try_command.new.self c.args.sink.now c.try_command.new.sink)
-    c.in-Err-Memory.field-0-is (c.in-Err-Memory.ensures s at))
+    (rw c.in-Err-Memory.field-0-is at (c.in-Err-Memory.ensures s at))

@@ -13,7 +13,7 @@ returns-in_err-operation g c = λ s at.
 
 pub returns : goal.returns
 returns g c = λ s at.
-    counted_stepped g.S.PageSink.takes c.args.dpi c.args.place (view c.args.command.now) c.in_ok-operation.operation s c.args.self.now
+    counted_stepped g.S.PageSink.takes c.args.dpi c.args.place (view c.args.command.now) s c.in_ok-operation.operation c.args.self.now
     (record { performer = c.try_command.new.self; macros = c.args.self.now.macros; running = c.args.self.now.running }) c.manage.new.self
     c.args.sink.now c.try_command.new.sink c.manage.result at (c.in_ok-operation.ensures s at.is_in) refl refl
     (λ t there. c.manage.ensures c.args.dpi t there)
