@@ -3,6 +3,7 @@ use Rattle.std.proofs.Common.{◌≡◌, ℕ, zero, suc, ◌+◌, ◌-◌, ◌*�
 use Rattle.std.specs.Prelude.{◌⊎◌, slice_get}
 use Rattle.arrayvec.specs.ArrayVec.{ArrayVec}
 use Rattle.pcl_base.specs.declared.dpi.Dpi.{Dpi}
+use Rattle.pcl_base.specs.declared.fault.CallFault.{CallFault}
 use Rattle.pcl_base.specs.declared.fault.CallFault.TheVariants as call
 use Rattle.pcl_base.specs.declared.fault.JobFault.{JobFault}
 use Rattle.pcl_base.specs.declared.fault.JobFault.TheVariants as job
@@ -28,50 +29,47 @@ use Rattle.pcl_page.proofs.Unfolded.{then_assoc, then_same, pushed, begun_refuse
 
 -- ---- a command
 
-pub stepped_on : {S : Type 0} (takes : S → Page → S → Type 0) (dpi : Dpi) (all : List Said) (place : ℕ) (command : Said) (s : Situation)
-    (old new : Interpreter) (sink later : S)
-    → IsStepped takes dpi (after_command dpi place command s) (run_of command s) s (Ok tt) old new sink later
-    → GoesOn takes dpi all (begun_among dpi all place command old.running.items s) s (Ok tt) new sink later
-stepped_on takes dpi all place command s old new sink later t = (
-  t.0,
-  t.2,
-  t.4,
-  rw t.3.0 refl
-      ∙ begun_entered dpi all place command old.running.items s (run_of command s t.0) t.1 refl t.3.1,
-)
+module _ {S : Type 0} (takes : S → Page → S → Type 0) (dpi : Dpi) (all : List Said) (place : ℕ) (command : Said) (s : Situation)
+    (old new : Interpreter) (sink later : S) where
+  -- the command, among the macros that run
+  abbrev among : Performance
+  among = begun_among dpi all place command old.running.items s
 
--- it ends with the refusal of the command
-stopped_there : {S : Type 0} (takes : S → Page → S → Type 0) (dpi : Dpi) (all : List Said) (whole : Performance) (command : Said)
-    (kind : Kind) (s now : Situation) (why : Refusal) (new : Interpreter) (sink later : S) → whole ≡ stopped kind command now
-    → why ≡ refusal kind command.at command.name → HandsMore takes dpi s now sink later
-    → GoesOn takes dpi all whole s (Err (job.Refused why)) new sink later
-stopped_there takes dpi all whole command kind s now why new sink later e w h =
-    rw (e, w) (refl, h)
+  -- the command was performed, with this result
+  abbrev HasResult : Result (Unit {0}) CallFault → Type 0
+  HasResult result = IsStepped takes dpi (after_command dpi place command s) (run_of command s) s result old new sink later
 
-pub stepped_stops : {S : Type 0} (takes : S → Page → S → Type 0) (dpi : Dpi) (all : List Said) (place : ℕ) (command : Said)
-    (kind : Kind) (s : Situation) (why : Refusal) (old new : Interpreter) (sink later : S)
-    → IsStepped takes dpi (after_command dpi place command s) (run_of command s) s (Err (call.Refused kind)) old new sink later
-    → why ≡ refusal kind command.at command.name
-    → GoesOn takes dpi all (begun_among dpi all place command old.running.items s) s (Err (job.Refused why)) new sink later
-stepped_stops takes dpi all place command kind s why old new sink later t w =
-    elim t [
-      | inl r ↦ stopped_there takes dpi all (begun_among dpi all place command old.running.items s) command kind s s why new sink later
-          (begun_refused dpi all place command old.running.items r.0) w (no_pages takes dpi s s sink later refl r.1)
-      | inr r ↦ stopped_there takes dpi all (begun_among dpi all place command old.running.items s) command kind s r.0 why new sink later
-          (rw r.5 (begun_deep dpi all place command old.running.items s r.2 r.3 r.4)) w r.6
-    ]
+  pub stepped_on : HasResult (Ok tt) → GoesOn takes dpi all among s (Ok tt) new sink later
+  stepped_on t = (
+    t.0,
+    t.2,
+    t.4,
+    rw t.3.0 refl ∙ begun_entered dpi all place command old.running.items s (run_of command s t.0) t.1 refl t.3.1,
+  )
 
-pub stepped_short : {S : Type 0} (takes : S → Page → S → Type 0) (dpi : Dpi) (all : List Said) (place : ℕ) (command : Said)
-    (s : Situation) (old new : Interpreter) (sink later : S)
-    → IsStepped takes dpi (after_command dpi place command s) (run_of command s) s (Err call.Memory) old new sink later
-    → GoesOn takes dpi all (begun_among dpi all place command old.running.items s) s (Err job.Memory) new sink later
-stepped_short takes dpi all place command s old new sink later t =
-    let whole = (begun_among dpi all place command old.running.items s).situation in
-    elim t [
-      | inl same ↦ none_of_more takes dpi s whole sink later same (begun_grow dpi all place command old.running.items s)
-      | inr d ↦ first_of_more takes dpi s d.0 whole sink later d.2
-          (begun_after dpi all place command old.running.items s d.1)
-    ]
+  -- it ends with the refusal of the command
+  stopped_there : (whole : Performance) (kind : Kind) (now : Situation) (why : Refusal) → whole ≡ stopped kind command now
+      → why ≡ refusal kind command.at command.name → HandsMore takes dpi s now sink later
+      → GoesOn takes dpi all whole s (Err (job.Refused why)) new sink later
+  stopped_there whole kind now why e w h = rw (e, w) (refl, h)
+
+  pub stepped_stops : (kind : Kind) (why : Refusal) → HasResult (Err (call.Refused kind)) → why ≡ refusal kind command.at command.name
+      → GoesOn takes dpi all among s (Err (job.Refused why)) new sink later
+  stepped_stops kind why t w =
+      elim t [
+        | inl r ↦ stopped_there among kind s why (begun_refused dpi all place command old.running.items s r.0) w
+            (no_pages takes dpi s s sink later refl r.1)
+        | inr r ↦ stopped_there among kind r.0 why
+            (rw r.5 (begun_deep dpi all place command old.running.items s r.2 r.3 r.4)) w r.6
+      ]
+
+  pub stepped_short : HasResult (Err call.Memory) → GoesOn takes dpi all among s (Err job.Memory) new sink later
+  stepped_short t =
+      elim t [
+        | inl same ↦ none_of_more takes dpi s among.situation sink later same (begun_grow dpi all place command old.running.items s)
+        | inr d ↦ first_of_more takes dpi s d.0 among.situation sink later d.2
+            (begun_after dpi all place command old.running.items s d.1)
+      ]
 
 -- ---- the next command of a macro
 
@@ -250,7 +248,7 @@ GoesBack {S} takes dpi all whole s new old_sink new_sink =
     × (resumed macro_limit dpi all new.running.items now ≡ whole)
 
 -- the newest macro is taken off, and goes on
-macro_goes : {S : Type 0} (takes : S → Page → S → Type 0) (dpi : Dpi) (all : List Said) (whole : Performance) (s : Situation)
+pub macro_goes : {S : Type 0} (takes : S → Page → S → Type 0) (dpi : Dpi) (all : List Said) (whole : Performance) (s : Situation)
     (result : Result (Unit {0}) JobFault) (before middle last : Interpreter) (newest : Running) (old then new : S)
     → (b : GoesBack takes dpi all whole s before old then) → before.running.items ≡ middle.running.items ++ newest ∷ []
     → middle.performer ≡ before.performer → middle.macros ≡ before.macros
@@ -263,26 +261,6 @@ macro_goes takes dpi all whole s result before middle last newest old then new b
     goes_from takes dpi all whole s now result last old then new b.2
     (goes_to takes dpi all (resumed macro_limit dpi all (middle.running.items ++ newest ∷ []) now) whole now result last then new
     (rw off at b.3) g)
-
-pub macro_on : {S : Type 0} (takes : S → Page → S → Type 0) (dpi : Dpi) (all : List Said) (whole : Performance) (s : Situation)
-    (before middle last : Interpreter) (newest : Running) (old then new : S)
-    → (b : GoesBack takes dpi all whole s before old then) → before.running.items ≡ middle.running.items ++ newest ∷ []
-    → middle.performer ≡ before.performer → middle.macros ≡ before.macros
-    → ((now : Situation) → IsAt dpi now middle
-    → GoesOn takes dpi all (resumed macro_limit dpi all (middle.running.items ++ newest ∷ []) now) now (Ok tt) last then new)
-    → GoesBack takes dpi all whole s last old new
-macro_on takes dpi all whole s before middle last newest old then new b off p m f =
-    macro_goes takes dpi all whole s (Ok tt) before middle last newest old then new b off p m f
-
-pub macro_fault : {S : Type 0} (takes : S → Page → S → Type 0) (dpi : Dpi) (all : List Said) (whole : Performance) (s : Situation)
-    (fault : JobFault) (before middle last : Interpreter) (newest : Running) (old then new : S)
-    → (b : GoesBack takes dpi all whole s before old then) → before.running.items ≡ middle.running.items ++ newest ∷ []
-    → middle.performer ≡ before.performer → middle.macros ≡ before.macros
-    → ((now : Situation) → IsAt dpi now middle
-    → GoesOn takes dpi all (resumed macro_limit dpi all (middle.running.items ++ newest ∷ []) now) now (Err fault) last then new)
-    → GoesOn takes dpi all whole s (Err fault) last old new
-macro_fault takes dpi all whole s fault before middle last newest old then new b off p m f =
-    macro_goes takes dpi all whole s (Err fault) before middle last newest old then new b off p m f
 
 -- as many macros run as may
 pub enters_few : (run : Option Run) (old : List Running) {new : List Running} → Enters run old new → length old ≤ 3 → length new ≤ 3

@@ -81,47 +81,32 @@ pushed dpi all older newest s few =
 
 -- ---- a command
 
-stepped : (dpi : Dpi) (f : Said → Run → Situation → Performance) (place : ℕ) (command : Said) (s : Situation) {o : Result Situation Kind}
-    → after_command dpi place command s ≡ o
-    → step dpi f place command s ≡ then_on (concluded command s o) (λ later. and_run (f command) (run_of command s later) later)
-stepped dpi f place command s e = rw e refl
+module _ (dpi : Dpi) (all : List Said) (place : ℕ) (command : Said) (running : List Running) (s : Situation) where
+  -- the command, among macros that run
+  abbrev among : Performance
+  among = begun_among dpi all place command running s
 
--- one that is refused
-pub begun_refused : (dpi : Dpi) (all : List Said) (place : ℕ) (command : Said) (running : List Running) {s : Situation} {kind : Kind}
-    → after_command dpi place command s ≡ Err kind → begun_among dpi all place command running s ≡ stopped kind command s
-begun_refused dpi all place command running {s} e =
-    rw e refl
+  -- one that is refused
+  pub begun_refused : {kind : Kind} → after_command dpi place command s ≡ Err kind → among ≡ stopped kind command s
+  begun_refused e = rw e refl
 
-begun_run : (dpi : Dpi) (all : List Said) (place : ℕ) (command : Said) (running : List Running) (s : Situation) {later : Situation}
-    {run : Option Run}
-    → after_command dpi place command s ≡ Ok later → run_of command s later ≡ run
-    → begun_among dpi all place command running s
-    ≡ then_on (and_run (runs (macro_limit - length running) dpi all command) run later) (resumed macro_limit dpi all running)
-begun_run dpi all place command running s {later} e r =
-    rw (e, r) refl
+  begun_run : {later : Situation} {run : Option Run} → after_command dpi place command s ≡ Ok later → run_of command s later ≡ run
+      → among ≡ then_on (and_run (runs (macro_limit - length running) dpi all command) run later) (resumed macro_limit dpi all running)
+  begun_run e r = rw (e, r) refl
 
--- one that would run a macro too deep
-pub begun_deep : (dpi : Dpi) (all : List Said) (place : ℕ) (command : Said) (running : List Running) (s : Situation) {later : Situation}
-    {run : Run}
-    → after_command dpi place command s ≡ Ok later → run_of command s later ≡ Some run → length running ≡ 3
-    → begun_among dpi all place command running s ≡ stopped MacroDepth command later
-begun_deep dpi all place command running s {later} {run} e r full =
-    let levels : macro_limit - length running ≡ 0 = omega (arith, full) in
-    begun_run dpi all place command running s e r ∙ rw levels refl
+  -- one that would run a macro too deep
+  pub begun_deep : {later : Situation} {run : Run} → after_command dpi place command s ≡ Ok later → run_of command s later ≡ Some run
+      → length running ≡ 3 → among ≡ stopped MacroDepth command later
+  begun_deep e r full = let levels : macro_limit - length running ≡ 0 = omega (arith, full) in begun_run e r ∙ rw levels refl
 
--- one that runs a macro, or none
-pub begun_entered : (dpi : Dpi) (all : List Said) (place : ℕ) (command : Said) (running : List Running) (s : Situation) {later : Situation}
-    (run : Option Run) → after_command dpi place command s ≡ Ok later → run_of command s later ≡ run
-    → HasLevel run running
-    → resumed macro_limit dpi all (running ++ entered run) later ≡ begun_among dpi all place command running s
-begun_entered dpi all place command running s {later} None e r few =
-    rw append-nil refl ∙ sym (begun_run dpi all place command running s e r)
-begun_entered dpi all place command running s {later} (Some run) e r few =
-    let newest : Running = record { next = run.next; end = run.end; saved = run.saved } in
-    let fits : length running < 3 = few in
-    let levels : macro_limit - length running ≡ suc (2 - length running) = omega arith in
-    pushed dpi all running newest later fits
-    ∙ sym (begun_run dpi all place command running s e r ∙ rw levels refl)
+  -- one that runs a macro, or none
+  pub begun_entered : {later : Situation} (run : Option Run) → after_command dpi place command s ≡ Ok later → run_of command s later ≡ run
+      → HasLevel run running → resumed macro_limit dpi all (running ++ entered run) later ≡ among
+  begun_entered None e r few = rw append-nil refl ∙ sym (begun_run e r)
+  begun_entered {later} (Some run) e r few =
+      let levels : macro_limit - length running ≡ suc (2 - length running) = omega arith in
+      pushed dpi all running (record { next = run.next; end = run.end; saved = run.saved }) later few
+      ∙ sym (begun_run e r ∙ rw levels refl)
 
 -- ---- what a command adds
 
@@ -187,15 +172,13 @@ pub command_counts : (dpi : Dpi) (place : ℕ) (command : Said) (s later : Situa
     → KeptOrCounts s later
 command_counts dpi place command s later e = command_by dpi place command (is_some s.begun) refl e
 
-kept_onward : {s later : Situation} → KeptOrCounts s later → Onward s later
-kept_onward {s} k = elim k [
-  | inl same ↦ rw same.0 (stays_there s)
-  | inr counts ↦ counts.onward
-]
-
-pub command_onward : (dpi : Dpi) (place : ℕ) (command : Said) (s later : Situation) → after_command dpi place command s ≡ Ok later
+command_onward : (dpi : Dpi) (place : ℕ) (command : Said) (s later : Situation) → after_command dpi place command s ≡ Ok later
     → Onward s later
-command_onward dpi place command s later e = kept_onward (command_counts dpi place command s later e)
+command_onward dpi place command s later e =
+    elim (command_counts dpi place command s later e) [
+      | inl same ↦ rw same.0 (stays_there s)
+      | inr counts ↦ counts.onward
+    ]
 
 -- ---- performances only add pages
 
@@ -238,12 +221,17 @@ left_grows : (dpi : Dpi) (saved : Option Settings) → Grows (λ later. done (ma
 left_grows dpi None = stays_there
 left_grows dpi (Some settings) = stays_there
 
-runs_grow : (levels : ℕ) (dpi : Dpi) (all : List Said) (command : Said) (run : Run) → Grows (runs levels dpi all command run)
-runs_grow zero dpi all command run = stays_there
-runs_grow (suc levels) dpi all command run = λ s.
+-- what a macro has left
+rest_grows : (levels : ℕ) (dpi : Dpi) (all : List Said) (run : Run) → ((command : Said) (r : Run) → Grows (runs levels dpi all command r))
+    → Grows (rest_of levels dpi all run)
+rest_grows levels dpi all run g = λ s.
     then_grows (in_order (step dpi (runs levels dpi all)) run.next (commands_left all run) s) s
     (λ later. done (macro_ended dpi run.saved later))
-    (order_grows dpi (runs levels dpi all) run.next (commands_left all run) (runs_grow levels dpi all) s) (left_grows dpi run.saved)
+    (order_grows dpi (runs levels dpi all) run.next (commands_left all run) g s) (left_grows dpi run.saved)
+
+runs_grow : (levels : ℕ) (dpi : Dpi) (all : List Said) (command : Said) (run : Run) → Grows (runs levels dpi all command run)
+runs_grow zero dpi all command run = stays_there
+runs_grow (suc levels) dpi all command run = rest_grows levels dpi all run (runs_grow levels dpi all)
 
 pub all_grow : (dpi : Dpi) (all : List Said) (place : ℕ) (commands : List Said)
     → Grows (in_order (step dpi (runs macro_limit dpi all)) place commands)
@@ -254,11 +242,7 @@ resumed_grow levels dpi all [] = stays_there
 resumed_grow zero dpi all (running ∷ newer) = stays_there
 resumed_grow (suc levels) dpi all (running ∷ newer) = λ s.
     then_grows (resumed levels dpi all newer s) s (rest_of levels dpi all (run_in running)) (resumed_grow levels dpi all newer s)
-    (λ t.
-    then_grows (in_order (step dpi (runs levels dpi all)) running.next (commands_left all (run_in running)) t) t
-    (λ later. done (macro_ended dpi running.saved later))
-    (order_grows dpi (runs levels dpi all) running.next (commands_left all (run_in running)) (runs_grow levels dpi all) t)
-    (left_grows dpi running.saved))
+    (rest_grows levels dpi all (run_in running) (runs_grow levels dpi all))
 
 pub begun_grow : (dpi : Dpi) (all : List Said) (place : ℕ) (command : Said) (running : List Running)
     → Grows (begun_among dpi all place command running)

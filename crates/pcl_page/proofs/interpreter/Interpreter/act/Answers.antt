@@ -16,12 +16,6 @@ returns-in-Begin c = λ dpi s at. rw c.in-Begin.is
     (begin_acted c.args.place at
     c.macro_id-id.ensures refl refl c.begin.ensures)
 
-pub returns-in-End : goal.returns-in-End
-returns-in-End c = λ dpi s at. rw c.in-End.is
-    (end_acted c.args.place
-    (record { performer = c.args.self.now.performer; macros = c.end.new.self; running = c.args.self.now.running }) c.end.result at refl refl
-    c.end.ensures)
-
 pub returns-in-Control : goal.returns-in-Control
 returns-in-Control c = λ dpi s at. rw c.in-Control.is
     (control_acted c.args.place at

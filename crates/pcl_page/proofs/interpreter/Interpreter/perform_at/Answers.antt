@@ -24,8 +24,8 @@ returns-in-Ok-clause-few g c =
 
 pub returns-in-Err-Refused-clause-done : goal.returns-in-Err-Refused-clause-done
 returns-in-Err-Refused-clause-done g c = λ all s at.
-    stepped_stops g.S.PageSink.takes c.args.dpi all c.args.place (view c.args.command.now) c.in-Err-Refused.kind s c.new.result
-    c.args.self.now c.try_command.new.self c.args.sink.now c.try_command.new.sink
+    stepped_stops g.S.PageSink.takes c.args.dpi all c.args.place (view c.args.command.now) s c.args.self.now c.try_command.new.self
+    c.args.sink.now c.try_command.new.sink c.in-Err-Refused.kind c.new.result
     (rw c.in-Err-Refused.field-0-is at (c.in-Err-Refused.ensures s at)) c.new.ensures
 
 pub returns-in-Err-Memory-clause-done : goal.returns-in-Err-Memory-clause-done

@@ -9,14 +9,8 @@ returns-in-DownloadFont c = λ s i. rw c.in-DownloadFont.is (c.download_font.ens
 pub returns-in-DownloadCharacter : goal.returns-in-DownloadCharacter
 returns-in-DownloadCharacter c = λ s i. rw c.in-DownloadCharacter.is (c.download_character.ensures c.args.dpi s i)
 
-pub returns-in-PrintText : goal.returns-in-PrintText
-returns-in-PrintText c = λ s i. rw c.in-PrintText.is (c.print_text.ensures s i)
-
 pub returns-in-ControlFonts : goal.returns-in-ControlFonts
 returns-in-ControlFonts c = λ s i. rw c.in-ControlFonts.is (c.control_fonts.ensures c.args.dpi s i)
-
-pub returns-in-Reset : goal.returns-in-Reset
-returns-in-Reset c = λ s i. rw c.in-Reset.is (refl, event_in i c.delete_temporary_fonts.ensures)
 
 pub returns-in_ok-leave-in-UniversalExit : goal.returns-in_ok-leave-in-UniversalExit
 returns-in_ok-leave-in-UniversalExit c = λ s i. rw c.in-UniversalExit.is (refl, c.in_ok-leave-in-UniversalExit.ensures c.args.dpi s i)
@@ -24,13 +18,6 @@ returns-in_ok-leave-in-UniversalExit c = λ s i. rw c.in-UniversalExit.is (refl,
 pub returns-in-SelectFont : goal.returns-in-SelectFont
 returns-in-SelectFont c = λ s i. rw c.in-SelectFont.is (refl, settings_in i (c.select_font.ensures c.args.dpi s i))
 
-pub returns-in-FillRectangle : goal.returns-in-FillRectangle
-returns-in-FillRectangle c = λ s i. rw c.in-FillRectangle.is (c.fill_rectangle.ensures s i)
-
 pub returns-in_ok-send_row-in-RasterRow : goal.returns-in_ok-send_row-in-RasterRow
 returns-in_ok-send_row-in-RasterRow c = λ s i. rw c.in-RasterRow.is
     (refl, row_in (view c.args.command.now) i c.in_ok-send_row-in-RasterRow.ensures)
-
--- each other command by itself
-pub returns-in_default : goal.returns-in_default
-returns-in_default c = search rules depth 2

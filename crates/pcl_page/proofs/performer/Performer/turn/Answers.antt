@@ -41,7 +41,7 @@ returns-clause-turned g c = λ s i.
     elim c.if-ejects.branch [
       | then-ejects+else-self-ge-PAGE_LIMIT+in_ok-eject w ↦
           let f : IsFollowed w.eject.new.self c.follow_size.new.self =
-          subst (λ (p : Performer). IsFollowed p c.follow_size.new.self) w.self-is c.in_ok-follow_size.ensures in
+          rw w.self-is at c.in_ok-follow_size.ensures in
           rw w.sink-is
           (turned_ejects g.S.PageSink.takes c.args.dpi c.args.operation c.args.value c.in-Ok.effect s c.copies-copies.result
           c.args.self.now w.eject.new.self c.follow_size.new.self c.args.sink.now w.eject.new.sink
@@ -64,17 +64,9 @@ returns-clause-turned g c = λ s i.
           })
           f)
       | else-ejects w ↦
-          let env : c.if-ejects.self.environment ≡ c.apply.new.self = ap (λ (p : Performer). p.environment) w.self-is in
-          let a = subst (λ (e : Settings). Answers
-          (outcome c.args.dpi c.args.operation c.args.value c.args.self.now.is_marked c.args.self.now.environment) (Ok c.in-Ok.effect)
-          c.args.self.now.environment e)
-          (sym env) c.in-Ok.ensures in
           turned_stays g.S.PageSink.takes c.args.dpi c.args.operation c.args.value c.in-Ok.effect s c.args.self.now c.if-ejects.self
           c.follow_size.new.self c.args.sink.now c.if-ejects.sink
-          i a (sym c.ejects.ensures ∙ w.if-ejects.false) c.args.self.now.few_pages
-          (ap (λ (p : Performer). p.page.bitmap) w.self-is) (ap (λ (p : Performer). p.is_marked) w.self-is)
-          (ap (λ (p : Performer). p.ejected) w.self-is)
-          (ap (λ (p : Performer). p.performed) w.self-is) (ap (λ (p : Performer). p.asks) w.self-is)
-          (ap (λ (p : Performer). p.raster) w.self-is)
-          (ap (λ (p : Performer). p.fonts) w.self-is) c.in_ok-follow_size.ensures w.sink-is
+          i (rw w.self-is c.in-Ok.ensures) (sym c.ejects.ensures ∙ w.if-ejects.false) c.args.self.now.few_pages
+          (rw w.self-is refl) (rw w.self-is refl) (rw w.self-is refl) (rw w.self-is refl) (rw w.self-is refl) (rw w.self-is refl)
+          (rw w.self-is refl) c.in_ok-follow_size.ensures w.sink-is
     ]
