@@ -220,37 +220,6 @@ begin_acted {id} place {s} {old} {new} at i same run m =
       idle_still old new run,
     )
 
--- a definition ends, or there is none
-begun_some : (begun : Option Begun) → is_some begun ≡ true → (d : Begun) × (begun ≡ Some d)
-begun_some None e = absurd cc
-begun_some (Some d) e = (d, refl)
-
-begun_none : (begun : Option Begun) → is_some begun ≡ false → begun ≡ None
-begun_none None e = refl
-begun_none (Some d) e = absurd cc
-
-pub end_acted : {dpi : Dpi} (place : ℕ) {s : Situation} {old : Interpreter} (new : Interpreter) (result : Result (Unit {0}) CallFault)
-    → IsAt dpi s old
-    → new.performer ≡ old.performer → new.running ≡ old.running → HasEnd place result old.macros new.macros
-    → IsActed dpi (acted place (Some End) s) (run_by (Some End)) result old new
-end_acted place {s} {old} new (Ok unit) at same run h =
-    let d = h.0 in
-    let some : s.begun ≡ Some d = sym at.begun ∙ h.1 in (
-      record s { macros = defined d.id d.from place ∷ s.macros; begun = None },
-      rw some refl,
-      record {
-        is_in = in_macros same at.is_in;
-        macros = holds_after old.macros new.macros (defined d.id d.from place) s.macros h.2 at.macros;
-        begun = h.3;
-      },
-      idle_still old new run,
-    )
-end_acted place {s} new (Err (Refused kind)) at same run h =
-    let none : s.begun ≡ None = begun_none s.begun (rw at.begun at h.0) in inl (rw (none, h.1) refl)
-end_acted place {s} new (Err Memory) at same run h =
-    let d = begun_some s.begun (rw at.begun at h.0) in
-    (record s { macros = defined d.0.id d.0.from place ∷ s.macros; begun = None }, ap (λ (b : Option Begun). definition_ended place b s) d.1)
-
 -- a macro begins to run
 pub enter_acted : {dpi : Dpi} (run_after : Situation → Option Run) (run : Option Run) {s : Situation} {old : Interpreter}
     (new : Interpreter)

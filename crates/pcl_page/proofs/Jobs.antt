@@ -184,34 +184,6 @@ end_reached {S} takes dpi end all whole place interpreter new old now then (Err 
     let o = end_grows dpi end s in
     (rw (← r.same, step dpi s r.is_at) (s.pages, o.0, o.1, r.handed), tt)
 
--- of a job that is not read nothing is delivered
-pub undelivered : {S : Type 0} (takes : S → Page → S → Type 0) (dpi : Dpi) (job : List ℕ) (fault : JobFault) {old new : S}
-    → IsFaultOf job fault → new ≡ old → Delivers takes dpi job (Err fault) old new
-undelivered takes dpi job (Refused refusal) is same = inl (is, same)
-undelivered takes dpi job Memory is same = inl same
-
--- what is performed of a job that is read is delivered
-pub delivered : {S : Type 0} (takes : S → Page → S → Type 0) (dpi : Dpi) (job : List ℕ) (commands : List Said)
-    (result : Result (Unit {0}) JobFault) (old new : S) → IsReading job commands
-    → HandsOver takes dpi (performance_of dpi job commands) result old new → Delivers takes dpi job result old new
-delivered takes dpi job commands (Ok unit) old new reading handed =
-    record { commands = commands; reading = reading; handed = handed }
-delivered takes dpi job commands (Err (Refused why)) old new reading handed =
-    inr (record { commands = commands; reading = reading; handed = handed })
-delivered takes dpi job commands (Err Memory) old new reading handed =
-    inr (record { commands = commands; reading = reading; handed = handed })
-
--- what is asked is handed on beside the pages
-pub delivered_asked : {S : Type 0} (takes : S → Page → S → Type 0) (dpi : Dpi) (job : List ℕ) (commands : List Said)
-    (result : Result AsksOfCode JobFault) (old new : S) → IsReading job commands
-    → HandsOverAsked takes dpi (performance_of dpi job commands) result old new → DeliversAsked takes dpi job result old new
-delivered_asked takes dpi job commands (Ok asks) old new reading handed = (
-  delivered takes dpi job commands (Ok tt) old new reading handed.0,
-  record { commands = commands; reading = reading; accepted = handed.0.0; asked = handed.1 },
-)
-delivered_asked takes dpi job commands (Err fault) old new reading handed =
-    delivered takes dpi job commands (Err fault) old new reading handed
-
 -- ---- pages that were kept
 
 -- the pages of an accepted job that was performed

@@ -58,18 +58,12 @@ codes_keep dpi proportional characters (code ∷ codes) {s} =
     record { pages = cc; performed = cc; macros = cc; begun = cc }
 
 pub drawn_keeps : (dpi : Dpi) (operation : Operation) (command : Said) {s : Situation} → KeepsCounts s (drawn dpi operation command s)
-drawn_keeps dpi Reset command = search rules
-drawn_keeps dpi UniversalExit command = search rules
 drawn_keeps dpi ControlFonts command = controlled_keeps (control_of command.value)
 drawn_keeps dpi DownloadFont command = font_keeps command.bytes
 drawn_keeps dpi DownloadCharacter command = character_keeps command.bytes
-drawn_keeps dpi (SelectFont side) command = search rules
 drawn_keeps dpi PrintText command {s} =
     codes_keep dpi (is_proportional (font_now s)) (prints s.fonts (font_in_use s.settings)) command.bytes
 drawn_keeps dpi FillRectangle command = filled_keeps dpi (ink_of command.value)
-drawn_keeps dpi StartRaster command = search rules
-drawn_keeps dpi RasterOffset command = search rules
-drawn_keeps dpi RasterRow command = search rules
 drawn_keeps dpi other command = search rules
 
 -- ---- pages that are added

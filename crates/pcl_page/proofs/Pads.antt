@@ -9,7 +9,7 @@ use Rattle.pcl_page.specs.Raster.{first_bits, cleared_past}
 pub whole_byte : (width byte : ℕ) → 8 ≤ width → first_bits width byte ≡ byte
 whole_byte width byte le =
     let none : 8 - width ≡ 0 = omega arith in
-    ap (λ (n : ℕ). byte / 2 ^ n * 2 ^ n) none ∙ (let one : byte / 1 * 1 ≡ byte = omega arith in one)
+    let one : byte / 1 * 1 ≡ byte = omega arith in rw none one
 
 -- a row that is as wide as its bytes
 pub cleared_whole : (row : List ℕ) {width : ℕ} → width ≡ 8 * length row → row ≡ cleared_past width row
@@ -41,5 +41,4 @@ pub cleared_last : (row : List ℕ) (width : ℕ) → length row ≡ (width + 7)
 cleared_last row width long some =
     let small : 2 ^ (8 - width % 8) ≤ 2 ^ 7 = pow_mono {i = 8 - width % 8} {j = 7} (omega arith) in
     let step : 1 * 2 ^ (8 - width % 8) % 256 ≡ 2 ^ (8 - width % 8) = omega (arith, small) in
-    ap (λ (n : ℕ). set row (length row - 1) (get_or row (length row - 1) 0 - get_or row (length row - 1) 0 % n)) step
-    ∙ cleared_at row (length row - 1) (omega arith) (omega arith) some (omega arith)
+    rw step (cleared_at row (length row - 1) (omega arith) (omega arith) some (omega arith))

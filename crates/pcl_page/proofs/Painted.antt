@@ -18,13 +18,9 @@ pub painted_dot : (r : Raster) {row sent : List ℕ} {place : ℕ} (x y : ℕ) (
     → after ≡ (raster_dot r.left place r.scale r.width sent x y || before)
     → is_below_height r.height r.rows ≡ true → place ≡ r.top + r.rows * r.scale → sent ≡ row
     → after ≡ ((row_mark row r).covers x y || before)
-painted_dot r {row} {sent} x y before e below p s =
-    e ∙ ap (λ (n : ℕ). raster_dot r.left n r.scale r.width sent x y || before) p
-    ∙ ap (λ (bs : List ℕ). raster_dot r.left (r.top + r.rows * r.scale) r.scale r.width bs x y || before) s
-    ∙ ap (λ (b : Bool). (b && raster_dot r.left (r.top + r.rows * r.scale) r.scale r.width row x y) || before) (sym below)
+painted_dot r x y before e below p s = rw (e, p, s, below) refl
 
 -- a row past the height
 pub unpainted_dot : (r : Raster) (row : List ℕ) (x y : ℕ) {before : Bool} → is_below_height r.height r.rows ≡ false
     → before ≡ ((row_mark row r).covers x y || before)
-unpainted_dot r row x y {before} below =
-    ap (λ (b : Bool). (b && raster_dot r.left (r.top + r.rows * r.scale) r.scale r.width row x y) || before) (sym below)
+unpainted_dot r row x y below = rw below refl

@@ -84,10 +84,6 @@ past_end [] (suc i) past = refl
 past_end (first ∷ all) zero past = absurd cc
 past_end (first ∷ all) (suc i) past = past_end all i past
 
-taken_next : (n place end : ℕ) {command : Said} (rest : List Said) → end - place ≡ suc n → end - (place + 1) ≡ n
-    → take (end - place) (command ∷ rest) ≡ command ∷ take (end - (place + 1)) rest
-taken_next n place end rest e f = rw (e, f) refl
-
 -- the macro with one command less
 abbrev pub advanced : Running → Running
 advanced newest = record { next = newest.next + 1; end = newest.end; saved = newest.saved }
@@ -97,8 +93,8 @@ left_next : (all : List Said) (newest : Running) {command : Said} → slice_get 
     → commands_left all (run_in newest) ≡ command ∷ commands_left all (run_in (advanced newest))
 left_next all newest {command} got lt =
     let plus : suc newest.next ≡ newest.next + 1 = omega arith in
-    rw (got_there all newest.next got, plus) refl
-    ∙ taken_next (newest.end - (newest.next + 1)) newest.next newest.end (drop (newest.next + 1) all) (omega arith) refl
+    let one_less : newest.end - newest.next ≡ suc (newest.end - (newest.next + 1)) = omega arith in
+    rw (got_there all newest.next got, plus, one_less) refl
 
 rest_next : (levels : ℕ) (dpi : Dpi) (all : List Said) (newest : Running) {command : Said} (s : Situation)
     → slice_get all newest.next ≡ Some command → newest.next < newest.end

@@ -132,15 +132,11 @@ same_acts {s} {now} {later} a e = let same : now ≡ later = cc in rw same at a
 
 acted_acts : (place : ℕ) (action : Option Action) {s later : Situation} → acted place action s ≡ Ok later → ActsOnMacros s later
 acted_acts place None e = absurd cc
-acted_acts place (Some Begin) e = same_acts (record { pages = refl; performed = refl }) e
 acted_acts place (Some End) {s} e = ended_acts place s.begun e
-acted_acts place (Some (Control what)) e = same_acts (record { pages = refl; performed = refl }) e
 acted_acts place other e = same_acts (record { pages = refl; performed = refl }) e
 
 pub managed_acts : (place : ℕ) (operation : Option Operation) (value : Value) {s later : Situation}
     → managed place operation value s ≡ Ok later → ActsOnMacros s later
-managed_acts place (Some Reset) value e = same_acts (record { pages = refl; performed = refl }) e
-managed_acts place (Some UniversalExit) value e = same_acts (record { pages = refl; performed = refl }) e
 managed_acts place (Some ControlMacros) value e = acted_acts place (action_of value) e
 managed_acts place other value e = same_acts (record { pages = refl; performed = refl }) e
 

@@ -9,19 +9,17 @@ use Rattle.pcl_page.proofs.job.one_meaning.Goals as goal
 
 pub returns-clause-pages : goal.returns-clause-pages
 returns-clause-pages c = λ dpi job pages others p q.
-    p.ejected ∙ ap (λ (commands : List Said). pages_of (performance_of dpi job commands))
-    (c.one_outcome.ensures.reading job p.commands q.commands p.reading q.reading) ∙ sym q.ejected
+    let same = c.one_outcome.ensures.reading job p.commands q.commands p.reading q.reading in
+    p.ejected ∙ rw same (sym q.ejected)
 
 pub returns-clause-asks : goal.returns-clause-asks
 returns-clause-asks c = λ dpi job asks others p q.
-    p.asked ∙ ap (λ (commands : List Said). asks_among (performance_of dpi job commands))
-    (c.one_outcome.ensures.reading job p.commands q.commands p.reading q.reading) ∙ sym q.asked
+    let same = c.one_outcome.ensures.reading job p.commands q.commands p.reading q.reading in
+    p.asked ∙ rw same (sym q.asked)
 
 same_stop : {dpi : Dpi} {job : List ℕ} {refusal other : Refusal} (p : IsStopped dpi job refusal) (q : IsStopped dpi job other)
     → p.commands ≡ q.commands → refusal ≡ other
-same_stop {dpi} {job} {refusal} {other} p q e =
-    let s : Some refusal ≡ Some other =
-    sym p.refused ∙ ap (λ (commands : List Said). (performance_of dpi job commands).refusal) e ∙ q.refused in cc
+same_stop p q e = let s = rw e at p.refused in let t = q.refused in cc
 
 pub returns-clause-refusal : goal.returns-clause-refusal
 returns-clause-refusal c = λ dpi job refusal other p q.
@@ -41,7 +39,6 @@ returns-clause-apart c = λ dpi job pages refusal p r.
     elim r [
       | inl f ↦ c.one_outcome.ensures.apart job p.commands refusal p.reading f
       | inr s ↦
-          let e = ap (λ (commands : List Said). (performance_of dpi job commands).refusal)
-          (c.one_outcome.ensures.reading job p.commands s.commands p.reading s.reading) in
-          let n = sym p.accepted ∙ e ∙ s.refused in absurd cc
+          let same = c.one_outcome.ensures.reading job p.commands s.commands p.reading s.reading in
+          let n = rw same at p.accepted in let t = s.refused in absurd cc
     ]

@@ -1,5 +1,5 @@
 use Rattle.std.proofs.Common.{refl}
-use Rattle.pcl_page.proofs.Interpreted.{begin_acted, control_acted, execute_acted, call_acted, end_acted}
+use Rattle.pcl_page.proofs.Interpreted.{begin_acted, control_acted, execute_acted, call_acted}
 use Rattle.pcl_page.proofs.interpreter.Interpreter.act.Goals as goal
 
 pub returns-in-Execute : goal.returns-in-Execute

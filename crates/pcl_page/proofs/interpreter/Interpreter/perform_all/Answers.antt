@@ -10,18 +10,15 @@ use Rattle.pcl_page.proofs.interpreter.Interpreter.perform_all.Goals as goal
 
 -- the next command and those after it
 next_is : (all : List Said) (i : ℕ) {command : Said} → Some command ≡ slice_get all i → drop i all ≡ command ∷ drop (i + 1) all
-next_is all i {command} got =
-    let plus : suc i ≡ i + 1 = omega arith in
-    got_there all i (sym got) ∙ ap (λ (n : ℕ). command ∷ drop n all) plus
+next_is all i got =
+    let plus : suc i ≡ i + 1 = omega arith in rw plus at (got_there all i (sym got))
 
 pub loop-command-preserved : goal.loop-command-preserved
 loop-command-preserved g c =
     let all = g.L.CommandList.commands c.args.commands.now in
     let whole = performance c.args.dpi c.args.end all in
     let next = next_is all c.loop-command.place c.in-Some.ensures.command in
-    let r = subst (λ (rest : List Said). IsReached g.S.PageSink.takes c.args.dpi whole
-    (rest_of_job c.args.dpi c.args.end all c.loop-command.place rest) c.loop-command.self c.args.sink.now c.loop-command.sink) next
-    c.loop-command.invariant in
+    let r = rw next at c.loop-command.invariant in
     let b = has_begun g.S.PageSink.takes c.args.dpi c.args.end all whole c.loop-command.place _ _ c.loop-command.self
     c.perform_at.new.self c.args.sink.now c.loop-command.sink c.perform_at.new.sink r
     (c.in_ok-perform_at.ensures.done all r.situation r.is_at) in
@@ -34,9 +31,7 @@ returns-in_err-perform_at g c =
     let all = g.L.CommandList.commands c.args.commands.now in
     let whole = performance c.args.dpi c.args.end all in
     let next = next_is all c.loop-command.place c.in-Some.ensures.command in
-    let r = subst (λ (rest : List Said). IsReached g.S.PageSink.takes c.args.dpi whole
-    (rest_of_job c.args.dpi c.args.end all c.loop-command.place rest) c.loop-command.self c.args.sink.now c.loop-command.sink) next
-    c.loop-command.invariant in
+    let r = rw next at c.loop-command.invariant in
     let p = err_from_is_err_and c.from_residual.result c.from_residual.ensures.1 in
     rw (p.1, p.2) (
       command_stopped g.S.PageSink.takes c.args.dpi c.args.end all whole c.loop-command.place _ _ c.loop-command.self
@@ -55,9 +50,7 @@ returns-in_err-run_macros g c =
     let all = g.L.CommandList.commands c.args.commands.now in
     let whole = performance c.args.dpi c.args.end all in
     let next = next_is all c.loop-command.place c.in-Some.ensures.command in
-    let r = subst (λ (rest : List Said). IsReached g.S.PageSink.takes c.args.dpi whole
-    (rest_of_job c.args.dpi c.args.end all c.loop-command.place rest) c.loop-command.self c.args.sink.now c.loop-command.sink) next
-    c.loop-command.invariant in
+    let r = rw next at c.loop-command.invariant in
     let b = has_begun g.S.PageSink.takes c.args.dpi c.args.end all whole c.loop-command.place _ _ c.loop-command.self
     c.perform_at.new.self c.args.sink.now c.loop-command.sink c.perform_at.new.sink r
     (c.in_ok-perform_at.ensures.done all r.situation r.is_at) in
@@ -76,9 +69,7 @@ returns g c =
     let done : drop c.loop-command.place all ≡ [] = past_end all c.loop-command.place (sym c.in_default.ensures.command) in
     end_reached g.S.PageSink.takes c.args.dpi c.args.end all whole c.loop-command.place c.loop-command.self c.finish.new.self.performer
     c.args.sink.now c.loop-command.sink c.finish.new.sink c.finish.result
-    (subst (λ (rest : List Said). IsReached g.S.PageSink.takes c.args.dpi whole
-    (rest_of_job c.args.dpi c.args.end all c.loop-command.place rest) c.loop-command.self c.args.sink.now c.loop-command.sink) done
-    c.loop-command.invariant)
+    (rw done at c.loop-command.invariant)
     (λ dpi s at. c.finish.ensures dpi s at)
 
 pub loop-command-smaller : goal.loop-command-smaller

@@ -11,16 +11,14 @@ use Rattle.pcl_page.proofs.performer.Performer.prepare.Goals.{in-Some, in_defaul
 -- below the last row the cursor stands at the raster's left end
 put_below : (dpi : Dpi) (s : Settings) (r : Raster) {new : Settings} {x y : ℕ} → new ≡ put (record { x = x; y = y }) s
     → x ≡ r.left * units_per_dot dpi → y ≡ (r.top + r.rows * r.scale) * units_per_dot dpi → new ≡ settings_below dpi (Some r) s
-put_below dpi s r {y} e across down =
-    e ∙ ap (λ (n : ℕ). put (record { x = n; y = y }) s) across
-    ∙ ap (λ (n : ℕ). put (record { x = r.left * units_per_dot dpi; y = n }) s) down
+put_below dpi s r e across down = rw (e, across, down) refl
 
 pub returns : goal.returns
 returns c =
     let dpi = c.args.dpi in
     let old = c.args.self.now in
     let new = c.match-self.self in
-    let ends : true ≡ ends_raster c.args.operation = sym c.if-not-ends_raster.false ∙ c.ends_raster.ensures in
+    let ends : ends_raster c.args.operation ≡ true = sym (sym c.if-not-ends_raster.false ∙ c.ends_raster.ensures) in
     let settings : new.1.0 ≡ settings_below dpi old.raster old.environment = elim c.match-self.branch [
       | in-Some w ↦ rw (w.self-is, w.in-Some.is)
           (put_below dpi old.environment w.in-Some.raster w.move_to.ensures w.below-x.ensures.0 w.below-x.ensures.1)
@@ -33,8 +31,8 @@ returns c =
       | in_default w ↦ rw w.self-is (refl, refl, refl, refl, refl, refl)
     ] in
     record {
-      settings = settings ∙ ap (λ (b : Bool). cond b (settings_below dpi old.raster old.environment) old.environment) ends;
-      raster = ap (λ (b : Bool). cond b None old.raster) ends;
+      settings = rw ends settings;
+      raster = rw ends refl;
       fonts = kept.0;
       bitmap = ap (λ (p : Page). p.bitmap) kept.1;
       marked = kept.2;

@@ -19,7 +19,7 @@ loop-code-preserved c = λ s i.
     let characters = prints s.fonts (font_in_use s.settings) in
     let next = next_is c.args.codes.now 0 c.loop-code-test.true in
     let so_far = c.loop-code.invariant s i in
-    let p = subst (λ (rest : List ℕ). IsPrintedTo c.args.dpi c.args.proportional s c.args.codes.now rest c.loop-code.self) next so_far.0 in
+    let p = rw next at so_far.0 in
     let found = c.glyph.ensures c.args.dpi p.now p.is_in in
     elim c.match-glyph.branch [
       | in-Some w ↦

@@ -23,8 +23,7 @@ returns c =
     record {
       raster = raster;
       raster_is = is;
-      sent = ap (λ (r : Raster). Some r) c.send.ensures.raster
-          ∙ ap (λ (m : Method). Some (with_row (row_sent m c.args.bytes.now raster) raster)) method;
+      sent = rw c.send.ensures.raster (rw method refl);
       drawn = record {
         settings = refl;
         marked = refl;
@@ -35,8 +34,7 @@ returns c =
         size = c.send.ensures.size;
         resolution = c.send.ensures.dpi;
         dots = λ x y wide high.
-            c.send.ensures.dots x y wide high
-            ∙ ap (λ (m : Method). (row_mark (row_sent m c.args.bytes.now raster) raster).covers x y || dot old.page.bitmap x y) method
+            (rw method at (c.send.ensures.dots x y wide high))
             ∙ or_is ((row_mark (row_sent old.environment.method c.args.bytes.now raster) raster).covers x y) (dot old.page.bitmap x y);
       };
     }

@@ -38,8 +38,7 @@ draw-requires g c =
     let same = c.in_ok-turn.ensures.rest in
     let now = c.turn.new.self in
     let few : rows_in now.raster ≤ rows_in old.raster =
-    subst (λ (r : Option Raster). rows_in r ≤ rows_in old.raster) (sym (same.1 ∙ p.raster))
-    (rows_left (ends_raster c.in-Some.operation) old.raster) in
+    rw (same.1, p.raster) (rows_left (ends_raster c.in-Some.operation) old.raster) in
     record { rows = row_room (rows_in now.raster) old.performed now.performed few old.few_rows (same.0 ∙ p.performed) }
 
 pub returns-then-is_ignored : goal.returns-then-is_ignored
