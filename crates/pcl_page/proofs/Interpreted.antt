@@ -1,15 +1,13 @@
 -- The interpreter follows the situation, command by command.
-use Rattle.std.proofs.Common.{◌≡◌, ℕ, ◌+◌, Bool, true, false, cond, List, ◌∷◌, length, Option, Some, None, Result, Ok, Err, refl, sym, ap, subst, ◌∙◌, append-nil, inl, inr}
+use Rattle.std.proofs.Common.{◌≡◌, ℕ, ◌+◌, Bool, true, false, cond, List, ◌∷◌, Option, Some, None, Result, Ok, Err, refl, sym, ap, ◌∙◌, append-nil, inl, inr}
 use Rattle.std.specs.Prelude.{is_some}
 use Rattle.std.specs.Option.{option_map}
-use Rattle.arrayvec.specs.ArrayVec.{ArrayVec}
 use Rattle.pcl_base.specs.declared.dpi.Dpi.{Dpi}
 use Rattle.pcl_base.specs.declared.fault.CallFault.{CallFault}
 use Rattle.pcl_base.specs.declared.fault.CallFault.TheVariants.{Refused, Memory}
 use Rattle.pcl_base.specs.declared.fault.JobFault.{JobFault}
 use Rattle.pcl_base.specs.declared.fault.JobFault.TheVariants as job
 use Rattle.pcl_base.specs.declared.kind.Kind.{Kind}
-use Rattle.pcl_base.specs.declared.kind.Kind.TheVariants.{MacroOpen}
 use Rattle.pcl_base.specs.declared.operation.Operation.{Operation}
 use Rattle.pcl_base.specs.declared.operation.Operation.TheVariants.{ControlMacros}
 use Rattle.pcl_base.specs.declared.value.Value.{Value}
@@ -21,18 +19,15 @@ use Rattle.pcl_env.specs.Outcome.{Outcome, outcome}
 use Rattle.pcl_escape.specs.Said.{Said}
 use Rattle.pcl_macros.specs.declared.table.MacroControl.{MacroControl}
 use Rattle.pcl_macros.specs.declared.table.MacroControl.TheVariants.{Temporary}
-use Rattle.pcl_macros.specs.History.{MacroEvent, MacroBody, defined, control, body_after}
-use Rattle.pcl_macros.specs.Table.{MacroTable, Begun, Holds, Controls, HasEnd, macro_at, is_begun}
+use Rattle.pcl_macros.specs.History.{MacroEvent, control}
+use Rattle.pcl_macros.specs.Table.{Begun, Controls, macro_at, is_begun}
 use Rattle.pcl_macros.proofs.Histories.{holds_after}
 use Rattle.pcl_bitmap.specs.declared.page.Page.{Page}
 use Rattle.pcl_page.specs.declared.performer.Performer.{Performer}
 use Rattle.pcl_page.specs.declared.interpreter.Interpreter.{Interpreter}
-use Rattle.pcl_page.specs.declared.interpreter.Running.{Running}
-use Rattle.pcl_page.specs.declared.macros.Action.TheVariants.{Begin, End, Execute, Call, Control}
-use Rattle.pcl_page.specs.Situation.{Sheet, Situation, ◌|>◌, is_marked, turned, turned_by, drawn_on, taken, counted, prepared, is_ignored, after, after_named, tried, at_end, page_refusal}
-use Rattle.pcl_page.specs.Macros.{Run, definition_ended, acted, managed, counting, run_by, run_from, run_with, macro_now}
-use Rattle.pcl_page.specs.Performing.{end_refusal}
-use Rattle.pcl_page.specs.Delivering.{Hands}
+use Rattle.pcl_page.specs.declared.macros.Action.TheVariants.{Begin, Execute, Call, Control}
+use Rattle.pcl_page.specs.Situation.{Situation, ◌|>◌, is_marked, turned, turned_by, drawn_on, taken, counted, prepared, is_ignored, after, after_named, tried}
+use Rattle.pcl_page.specs.Macros.{Run, acted, managed, counting, run_by, run_from, run_with, macro_now}
 use Rattle.pcl_page.specs.inner.Reflecting.{IsIn, HandsMore, IsTried, EndDone}
 use Rattle.pcl_page.specs.inner.Unfolding.{IsAt, Enters, IsStepped, IsActed, IsEntered, InterpreterEnds}
 use Rattle.pcl_page.proofs.Keeping.{then_from, is_counted}

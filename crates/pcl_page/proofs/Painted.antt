@@ -1,5 +1,5 @@
 -- What is inked: black over what was there, and a row that was decoded and painted.
-use Rattle.std.proofs.Common.{◌≡◌, ℕ, ◌+◌, ◌*◌, Bool, true, false, cond, ◌||◌, ◌&&◌, List, ◌++◌, length, take, drop, refl, sym, ap, ◌∙◌}
+use Rattle.std.proofs.Common.{◌≡◌, ℕ, ◌+◌, ◌*◌, Bool, true, false, cond, ◌||◌, List, ◌++◌, length, take, drop, refl}
 use Rattle.std.proofs.lemmas.List.{take_at}
 use Rattle.pcl_bitmap.specs.Dots.{raster_dot}
 use Rattle.pcl_page.specs.Raster.{Raster, row_mark, is_below_height}

@@ -1,16 +1,12 @@
 -- What is drawn, text and fonts: the performer follows the situation.
-use Rattle.std.proofs.Common.{◌≡◌, ℕ, suc, ◌+◌, ◌-◌, ◌<◌, Bool, true, false, cond, List, [], ◌∷◌, Option, Some, None, ℤ, pos, negsuc, refl, sym, ap, subst, ◌∙◌}
+use Rattle.std.proofs.Common.{◌≡◌, ℕ, suc, ◌+◌, ◌-◌, Bool, true, false, cond, List, [], ◌∷◌, Option, Some, None, ℤ, pos, negsuc, refl, sym, subst, ◌∙◌}
 use Rattle.std.specs.Prelude.{◌==◌}
 use Rattle.pcl_base.specs.declared.dpi.Dpi.{Dpi}
 use Rattle.pcl_base.specs.declared.operation.Side.{Side}
 use Rattle.pcl_base.specs.declared.operation.Side.TheVariants.{Primary, Secondary}
 use Rattle.pcl_base.specs.declared.kind.Kind.TheVariants.{NoFont}
-use Rattle.pcl_base.specs.declared.size.Size.{Size}
-use Rattle.pcl_base.specs.Size.{page_width, page_height}
-use Rattle.pcl_bitmap.specs.declared.ink.Ink.{Ink}
 use Rattle.pcl_bitmap.specs.declared.ink.Ink.TheVariants.{Black}
-use Rattle.pcl_bitmap.specs.Bitmap.{Picture, dot}
-use Rattle.pcl_bitmap.specs.Dots.{is_black_ink}
+use Rattle.pcl_bitmap.specs.Bitmap.{dot}
 use Rattle.pcl_escape.specs.Said.{Said}
 use Rattle.pcl_fonts.specs.Fields.{Font, Character}
 use Rattle.pcl_fonts.specs.declared.header.FontInfo.{FontInfo}
@@ -20,11 +16,9 @@ use Rattle.pcl_fonts.proofs.Histories.{holds_after}
 use Rattle.pcl_env.specs.Settings.{Settings, put_x, advance, font_of, font_in_use}
 use Rattle.pcl_page.specs.declared.performer.Performer.{Performer}
 use Rattle.pcl_page.specs.declared.text.Printed.{Printed}
-use Rattle.pcl_page.specs.Asks.{asks_of}
-use Rattle.pcl_page.specs.Marks.{Mark, dot_at}
+use Rattle.pcl_page.specs.Marks.{Mark}
 use Rattle.pcl_page.specs.Text.{prints, character_mark, are_spaces, is_proportional, text_refusal, behind_character, behind_blank}
-use Rattle.pcl_page.specs.Raster.{Raster, row_sent, with_row, row_mark}
-use Rattle.pcl_page.specs.Situation.{Situation, with_event, with_row_in, raster_for_row, rectangle_mark, filled_with, code_printed, codes_printed}
+use Rattle.pcl_page.specs.Situation.{Situation, with_event, with_row_in, raster_for_row, code_printed, codes_printed}
 use Rattle.pcl_page.specs.inner.Reflecting.{character_at, IsIn, IsDrawn, IsInked, IsAtCursor, IsLastInked, IsSent, HasEvent, HasSettings}
 use Rattle.pcl_page.proofs.Turns.{painted_same, holds_same, drawn_in}
 

@@ -1,7 +1,6 @@
 -- How far commands and macros bring a performance, and how much work they leave.
-use Rattle.std.proofs.Common.{◌≡◌, ℕ, zero, suc, ◌+◌, ◌-◌, ◌*◌, ◌<◌, ◌≤◌, Bool, cond, List, [], ◌∷◌, ◌++◌, length, take, drop, Option, Some, None, Result, Ok, Err, refl, sym, ap, subst, ◌∙◌, length-append, suc-mul, arith, inl, inr}
+use Rattle.std.proofs.Common.{◌≡◌, ℕ, zero, suc, ◌+◌, ◌-◌, ◌*◌, ◌<◌, ◌≤◌, List, [], ◌∷◌, ◌++◌, length, take, drop, Option, Some, None, Result, Ok, Err, refl, sym, ap, ◌∙◌, length-append, suc-mul, arith, inl, inr}
 use Rattle.std.specs.Prelude.{◌⊎◌, slice_get}
-use Rattle.arrayvec.specs.ArrayVec.{ArrayVec}
 use Rattle.pcl_base.specs.declared.dpi.Dpi.{Dpi}
 use Rattle.pcl_base.specs.declared.fault.CallFault.{CallFault}
 use Rattle.pcl_base.specs.declared.fault.CallFault.TheVariants as call
@@ -10,19 +9,16 @@ use Rattle.pcl_base.specs.declared.fault.JobFault.TheVariants as job
 use Rattle.pcl_base.specs.declared.kind.Kind.{Kind}
 use Rattle.pcl_base.specs.declared.refusal.Refusal.{Refusal}
 use Rattle.pcl_base.specs.Limits.{macro_limit}
-use Rattle.pcl_base.specs.Operation.{operation_of}
 use Rattle.pcl_base.specs.Refusal.{refusal}
 use Rattle.pcl_env.specs.Settings.{Settings}
-use Rattle.pcl_macros.specs.Table.{MacroTable, Holds}
 use Rattle.pcl_escape.specs.Said.{Said}
 use Rattle.pcl_bitmap.specs.declared.page.Page.{Page}
-use Rattle.pcl_page.specs.declared.performer.Performer.{Performer}
 use Rattle.pcl_page.specs.declared.interpreter.Interpreter.{Interpreter}
 use Rattle.pcl_page.specs.declared.interpreter.Running.{Running}
 use Rattle.pcl_page.specs.Situation.{Situation}
-use Rattle.pcl_page.specs.Macros.{Run, after_command, run_from, run_of, macro_ended}
+use Rattle.pcl_page.specs.Macros.{Run, after_command, run_of, macro_ended}
 use Rattle.pcl_page.specs.Performing.{Performance, done, stopped, then_on, in_order, step, commands_left, runs}
-use Rattle.pcl_page.specs.inner.Reflecting.{IsIn, HandsMore}
+use Rattle.pcl_page.specs.inner.Reflecting.{HandsMore}
 use Rattle.pcl_page.specs.inner.Unfolding.{IsAt, run_in, entered, Enters, rest_of, resumed, begun_among, left_in, work_left, GoesOn, IsStepped}
 use Rattle.pcl_page.proofs.Sinks.{no_pages, first_of_more, none_of_more, goes_from, goes_to}
 use Rattle.pcl_page.proofs.Unfolded.{then_assoc, then_same, pushed, begun_refused, begun_deep, begun_entered, command_counts, begun_grow, begun_after}

@@ -1,9 +1,6 @@
-use Rattle.std.proofs.Common.{◌≡◌, ◌∙◌, List, ℕ, Some, sym, ap, inl, inr}
+use Rattle.std.proofs.Common.{◌≡◌, ◌∙◌, List, ℕ, sym, inl, inr}
 use Rattle.pcl_base.specs.declared.dpi.Dpi.{Dpi}
 use Rattle.pcl_base.specs.declared.refusal.Refusal.{Refusal}
-use Rattle.pcl_escape.specs.Said.{Said}
-use Rattle.pcl_page.specs.Performing.{pages_of, asks_among}
-use Rattle.pcl_page.specs.Jobs.{performance_of}
 use Rattle.pcl_page.specs.Delivering.{IsStopped}
 use Rattle.pcl_page.proofs.job.one_meaning.Goals as goal
 

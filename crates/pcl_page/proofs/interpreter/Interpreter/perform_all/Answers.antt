@@ -1,10 +1,10 @@
-use Rattle.std.proofs.Common.{◌≡◌, ◌∷◌, ◌+◌, suc, [], List, ℕ, Some, drop, refl, sym, ap, subst, ◌∙◌, arith}
+use Rattle.std.proofs.Common.{◌≡◌, ◌∷◌, ◌+◌, suc, [], List, ℕ, Some, drop, refl, sym, arith}
 use Rattle.std.specs.Prelude.{slice_get}
 use Rattle.std.proofs.lemmas.Option.{slice_get_within}
 use Rattle.std.proofs.lemmas.Result.{err_from_is_err_and}
 use Rattle.pcl_escape.specs.Said.{Said}
 use Rattle.pcl_page.specs.Performing.{performance}
-use Rattle.pcl_page.proofs.Jobs.{IsReached, rest_of_job, command_stopped, has_begun, macros_stopped, macros_reached, end_reached}
+use Rattle.pcl_page.proofs.Jobs.{command_stopped, has_begun, macros_stopped, macros_reached, end_reached}
 use Rattle.pcl_page.proofs.Progress.{got_there, past_end}
 use Rattle.pcl_page.proofs.interpreter.Interpreter.perform_all.Goals as goal
 

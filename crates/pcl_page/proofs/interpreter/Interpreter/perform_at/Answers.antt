@@ -1,8 +1,5 @@
-use Rattle.std.proofs.Common.{Err, subst}
-use Rattle.pcl_base.specs.declared.fault.CallFault.{CallFault}
 use Rattle.pcl_escape.specs.Said.{view}
-use Rattle.pcl_page.specs.Macros.{after_command, run_of}
-use Rattle.pcl_page.specs.inner.Unfolding.{IsStepped}
+use Rattle.pcl_page.specs.Macros.{run_of}
 use Rattle.pcl_page.proofs.Progress.{stepped_on, stepped_stops, stepped_short, stepped_work, enters_few}
 use Rattle.pcl_page.proofs.interpreter.Interpreter.perform_at.Goals as goal
 

@@ -1,4 +1,4 @@
-use Rattle.std.proofs.Common.{Ok, Err, refl, arith}
+use Rattle.std.proofs.Common.{Ok, Err, refl}
 use Rattle.std.proofs.lemmas.Result.{err_from_is_err_and}
 use Rattle.pcl_base.specs.Limits.{macro_limit}
 use Rattle.pcl_page.specs.declared.interpreter.Interpreter.{Interpreter}

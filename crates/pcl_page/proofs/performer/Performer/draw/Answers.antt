@@ -1,6 +1,6 @@
-use Rattle.std.proofs.Common.{rules, refl}
+use Rattle.std.proofs.Common.{refl}
 use Rattle.pcl_escape.specs.Said.{view}
-use Rattle.pcl_page.proofs.Printed.{event_in, settings_in, row_in}
+use Rattle.pcl_page.proofs.Printed.{settings_in, row_in}
 use Rattle.pcl_page.proofs.performer.Performer.draw.Goals as goal
 
 pub returns-in-DownloadFont : goal.returns-in-DownloadFont

@@ -1,7 +1,4 @@
-use Rattle.std.proofs.Common.{◌≡◌, ◌∙◌, ◌/◌, ℕ, cond, refl, ap}
-use Rattle.std.specs.Int.{div_ceil}
-use Rattle.pcl_bitmap.specs.Bitmap.{dot}
-use Rattle.pcl_bitmap.specs.Dots.{rectangle_dot, is_black_ink}
+use Rattle.std.proofs.Common.{◌≡◌, ◌/◌, refl}
 use Rattle.pcl_page.specs.Marks.{dot_at, dots_of}
 use Rattle.pcl_page.proofs.performer.Performer.ink_rectangle.Goals as goal
 

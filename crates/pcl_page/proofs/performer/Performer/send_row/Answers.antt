@@ -1,7 +1,6 @@
-use Rattle.std.proofs.Common.{◌≡◌, ◌∙◌, Option, Some, refl, sym, ap, ◌||◌}
-use Rattle.pcl_base.specs.declared.method.Method.{Method}
+use Rattle.std.proofs.Common.{◌≡◌, ◌∙◌, Option, refl, sym, ap}
 use Rattle.pcl_bitmap.specs.Bitmap.{dot}
-use Rattle.pcl_page.specs.Raster.{Raster, row_sent, with_row, row_mark}
+use Rattle.pcl_page.specs.Raster.{Raster, row_sent, row_mark}
 use Rattle.pcl_page.specs.Situation.{raster_for_row}
 use Rattle.pcl_page.proofs.Painted.{or_is}
 use Rattle.pcl_page.proofs.performer.Performer.send_row.Goals as goal

@@ -1,8 +1,5 @@
-use Rattle.std.proofs.Common.{◌≡◌, ◌∙◌, Ok, refl, sym, ap, subst, arith}
+use Rattle.std.proofs.Common.{◌∙◌, refl, sym, arith}
 use Rattle.std.proofs.lemmas.Result.{err_from_is_err_and}
-use Rattle.pcl_env.specs.Settings.{Settings}
-use Rattle.pcl_env.specs.Outcome.{outcome, Answers}
-use Rattle.pcl_page.specs.declared.performer.Performer.{Performer}
 use Rattle.pcl_page.specs.inner.Reflecting.{IsFollowed}
 use Rattle.pcl_page.proofs.Turns.{turned_stays, turned_ejects, turned_short, turned_memory}
 use Rattle.pcl_page.proofs.performer.Performer.turn.Goals as goal
