@@ -20,7 +20,7 @@ use Rattle.pcl_page.specs.Marks.{Mark}
 use Rattle.pcl_page.specs.Text.{prints, character_mark, are_spaces, is_proportional, text_refusal, behind_character, behind_blank}
 use Rattle.pcl_page.specs.Situation.{Situation, with_event, with_row_in, raster_for_row, code_printed, codes_printed}
 use Rattle.pcl_page.specs.inner.Reflecting.{character_at, IsIn, IsDrawn, IsInked, IsAtCursor, IsLastInked, IsSent, HasEvent, HasSettings}
-use Rattle.pcl_page.proofs.Turns.{painted_same, holds_same, drawn_in}
+use Rattle.pcl_page.proofs.Turns.{drawn_in}
 
 pub event_in : {dpi : Dpi} {event : FontEvent} {s : Situation} {old new : Performer} → IsIn dpi s old → HasEvent event old new
     → IsIn dpi (with_event event s) new
@@ -32,20 +32,20 @@ event_in i h = record {
   performed = cc;
   asks = cc;
   fonts = holds_after h.follows i.fonts;
-  painted = painted_same i.painted h.bitmap refl;
+  painted = rw h.bitmap i.painted;
 }
 
 pub settings_in : {dpi : Dpi} {settings : Settings} {s : Situation} {old new : Performer} → IsIn dpi s old → HasSettings settings old new
     → IsIn dpi (record s { settings = settings }) new
-settings_in {settings} i h = record {
+settings_in {settings} {s} i h = record {
   settings = h.settings_are;
   raster = cc;
   marked = cc;
   ejected = cc;
   performed = cc;
   asks = cc;
-  fonts = holds_same i.fonts h.fonts refl;
-  painted = painted_same i.painted h.bitmap (cc (h.size, i.settings));
+  fonts = rw h.fonts i.fonts;
+  painted = let size : settings.size ≡ s.settings.size = cc (h.size, i.settings) in rw (h.bitmap, size) i.painted;
 }
 
 -- ---- rectangles and rows

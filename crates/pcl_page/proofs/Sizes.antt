@@ -1,6 +1,6 @@
 -- A command that lets the page stay keeps its size.
 use Rattle.std.specs.Prelude.{◌==◌, ◌&&◌, ◌*◌, ◌/◌, if◌then◌else◌, max, nat_lt, nat_le, length}
-use Rattle.std.proofs.Common.{◌≡◌, ℕ, ◌+◌, Bool, true, false, cond, List, [], ◌∷◌, Option, Some, None, refl, subst}
+use Rattle.std.proofs.Common.{◌≡◌, ℕ, ◌+◌, Bool, true, false, cond, List, [], ◌∷◌, Option, Some, None, refl, subst, rules}
 use Rattle.pcl_base.specs.declared.dpi.Dpi.{Dpi}
 use Rattle.pcl_base.specs.declared.method.Method.{Method}
 use Rattle.pcl_base.specs.declared.operation.Asking.TheVariants.{PaperSource, SheetSide}
@@ -104,58 +104,32 @@ method_keeps (Some method) {s} = stay_keeps s (record s { method = method }) ref
 keeps : (dpi : Dpi) (operation : Operation) (value : Value) (marked : Bool) (s : Settings)
     → KeepsSize s (outcome dpi operation value marked s)
 unfolding outcome
-keeps dpi Reset v m s = marked_keeps
 keeps dpi UniversalExit v m s = if_keeps (is_minus v.sign && whole_of v == 12345) (marked_keeps) (none_keeps)
-keeps dpi ClearMargins v m s = stay_keeps s _ refl
 keeps dpi HalfLineFeed v m s = feed_keeps (s.vmi / 2) s refl
-keeps dpi HorizontalTab v m s = stay_keeps s _ refl
 keeps dpi LineFeed v m s = feed_keeps s.vmi (before_feed s) (if_size s.feed_returns (return_carriage s) s refl refl)
-keeps dpi FormFeed v m s = eject_keeps
 keeps dpi CarriageReturn v m s =
     if_keeps s.return_feeds (feed_keeps s.vmi (return_carriage s) refl) (stay_keeps s (return_carriage s) refl)
-keeps dpi (Shift side) v m s = stay_keeps s _ refl
 keeps dpi PageSize v m s = by_count_keeps v s (λ n. set_size (size_with_code n) s) (λ n. size_keeps (size_with_code n))
 keeps dpi Copies v m s =
     by_count_keeps v s (λ n. stays_if (nat_le 1 n && nat_le n copies_limit) (record s { copies = n })) (λ n. stays_if_keeps _ s _ refl)
-keeps dpi VerticalMotionIndex v m s = from_zero_keeps v s _ refl
-keeps dpi LineSpacing v m s = one_of_keeps line_spacings v s _ refl
 keeps dpi TopMargin v m s = from_zero_keeps v s (set_top (whole_of v * s.vmi) m s) (top_size (whole_of v * s.vmi) m s)
 keeps dpi TextLength v m s =
     by_count_keeps v s (λ n. stays_if (nat_le 1 n) (set_bottom (s.top + n * s.vmi) s))
     (λ n. stays_if_keeps (nat_le 1 n) s (set_bottom (s.top + n * s.vmi) s) (bottom_size (s.top + n * s.vmi) s))
-keeps dpi PerforationSkip v m s = up_to_keeps 1 v s _ refl
 keeps dpi OnlyZero v m s = stays_if_keeps (whole_of v == 0) s s refl
 keeps dpi (Ask PaperSource) v m s = marked_keeps
 keeps dpi (Ask SheetSide) v m s = marked_keeps
 keeps dpi (Ask other) v m s = stay_keeps s _ refl
-keeps dpi UnitOfMeasure v m s = one_of_keeps units_of_measure v s _ refl
-keeps dpi HorizontalMotionIndex v m s = from_zero_keeps v s _ refl
-keeps dpi LineTermination v m s = up_to_keeps 3 v s _ refl
 keeps dpi LeftMargin v m s = from_zero_keeps v s (set_left (whole_of v * s.hmi) s) (left_size (whole_of v * s.hmi) s)
 keeps dpi (Move axis unit) v m s = stay_keeps s (move_along axis unit v s) (axis_size axis unit v s)
 keeps dpi CursorStack v m s =
     up_to_keeps 1 v s (if whole_of v == 0 then push s else pop s)
     (if_size (whole_of v == 0) (push s) (pop s) (push_size s) (pop_size s.stack s))
-keeps dpi MacroId v m s = up_to_keeps id_limit v s _ refl
 keeps dpi (RectangleSize axis unit) v m s =
     from_zero_keeps v s (set_rectangle axis (scaled_by (unit_of axis unit s) v) s)
     (rectangle_size axis (scaled_by (unit_of axis unit s) v) s)
-keeps dpi FontId v m s = up_to_keeps id_limit v s _ refl
-keeps dpi CharacterCode v m s = up_to_keeps 255 v s _ refl
-keeps dpi DownloadFont v m s = from_zero_keeps v s s refl
-keeps dpi DownloadCharacter v m s = from_zero_keeps v s s refl
-keeps dpi (SelectFont side) v m s = from_zero_keeps v s s refl
-keeps dpi PrintText v m s = from_zero_keeps v s s refl
-keeps dpi RasterResolution v m s = one_of_keeps (resolutions dpi) v s _ refl
-keeps dpi RasterWidth v m s = from_zero_keeps v s _ refl
-keeps dpi RasterHeight v m s = from_zero_keeps v s _ refl
-keeps dpi RasterPresentation v m s = one_of_keeps (0 ∷ 3 ∷ []) v s s refl
-keeps dpi StartRaster v m s = up_to_keeps 1 v s s refl
-keeps dpi EndRasterResetMethod v m s = stay_keeps s _ refl
 keeps dpi RasterMethod v m s = by_count_keeps v s (λ n. set_method (method_with_code n) s) (λ n. method_keeps (method_with_code n))
-keeps dpi RasterOffset v m s = from_zero_keeps v s s refl
-keeps dpi RasterRow v m s = from_zero_keeps v s s refl
-keeps dpi other v m s = stay_keeps s _ refl
+keeps dpi other v m s = search (from_zero_keeps, up_to_keeps, one_of_keeps, marked_keeps, eject_keeps, stay_keeps, rules)
 
 pub size_kept : (dpi : Dpi) (operation : Operation) (value : Value) (marked : Bool) (s : Settings) {settings : Settings}
     → outcome dpi operation value marked s ≡ Some (settings, Stay)

@@ -25,7 +25,7 @@ use Rattle.pcl_page.specs.Performing.{Shows}
 use Rattle.pcl_page.specs.inner.Reflecting.{IsIn, IsEjected, Takes, Draws, HandsMore, IsTurned, IsTried}
 use Rattle.pcl_env.specs.declared.asked.Asked.{Asked}
 use Rattle.pcl_page.specs.Asks.{asks_of}
-use Rattle.pcl_page.proofs.Turns.{holds_same, painted_same, prepared_page, with_settings, pages_fit, pages_past, handed_sheet}
+use Rattle.pcl_page.proofs.Turns.{prepared_page, with_settings, pages_fit, pages_past, handed_sheet}
 use Rattle.pcl_page.proofs.Keeping.{drawn_keeps}
 
 -- ---- a command
@@ -47,8 +47,8 @@ counted_in i e r b m j p a f = record {
   ejected = cc;
   performed = cc;
   asks = cc;
-  fonts = holds_same i.fonts f refl;
-  painted = painted_same i.painted (ap (λ (q : Page). q.bitmap) b) refl;
+  fonts = rw f i.fonts;
+  painted = rw b i.painted;
 }
 
 -- a command that is not past the limit, by its operation

@@ -27,17 +27,6 @@ use Rattle.pcl_page.proofs.Sizes.{size_kept}
 
 -- ---- pages
 
--- the same bitmap, of the same size, shows the same marks
-pub painted_same : {dpi : Dpi} {size other : Size} {marks : List Mark} {old new : Picture} → IsPainted dpi size marks old → new ≡ old
-    → other ≡ size
-    → IsPainted dpi other marks new
-painted_same p e s = rw (e, s) p
-
--- the same fonts hold the same events
-pub holds_same : {table other : FontTable} {events later : List FontEvent} → Holds table events → other ≡ table → later ≡ events
-    → Holds other later
-holds_same h t e = rw (t, e) h
-
 -- ---- the end of a raster
 
 size_below : (dpi : Dpi) (raster : Option Raster) (s : Settings) → (settings_below dpi raster s).size ≡ s.size
@@ -74,8 +63,8 @@ prepared_in {dpi} {operation} {s} {old} {new} i p =
       ejected = cc;
       performed = cc;
       asks = cc;
-      fonts = holds_same i.fonts p.fonts k.fonts;
-      painted = rw k.marks (painted_same i.painted p.bitmap k.size);
+      fonts = rw (p.fonts, k.fonts) i.fonts;
+      painted = rw (k.marks, p.bitmap, k.size) i.painted;
     }
 
 -- ---- the outcome of a command
@@ -122,7 +111,7 @@ followed_page operation value Eject i o e b env f = absurd cc
 followed_page {dpi} operation value {s} {settings} Stay {middle} i o e b env f =
     let kept : settings.size ≡ s.settings.size = size_kept dpi operation value (is_marked s) s.settings o in
     let before : middle.page.bitmap.size ≡ middle.environment.size = cc (i.painted.size_is, kept) in
-    painted_same i.painted (f.same before ∙ b) kept
+    rw (f.same before, b, kept) i.painted
 followed_page {dpi} operation value {s} {settings} EjectMarked {new} i o e b env f =
     let none = unmarked s.marks e in
     let size : new.page.bitmap.size ≡ settings.size = cc in
@@ -185,7 +174,7 @@ module _ {S : Type 0} (takes : S → Page → S → Type 0) (dpi : Dpi) (operati
           ejected = cc;
           performed = cc;
           asks = cc;
-          fonts = holds_same i.fonts (f.fonts ∙ t) refl;
+          fonts = rw (f.fonts, t) i.fonts;
           painted = followed_page operation value d.0.1 i o no b d.3 f;
         },
         pages_fit (with_settings d.0.0 s) (omega (arith, i.ejected)),
@@ -244,7 +233,7 @@ module _ {S : Type 0} (takes : S → Page → S → Type 0) (dpi : Dpi) (operati
           ejected = omega (arith, f.ejected, e.is_ejected.ejected, e.ejected, i.ejected, count);
           performed = cc;
           asks = cc;
-          fonts = holds_same i.fonts (f.fonts ∙ e.is_ejected.fonts ∙ e.fonts) refl;
+          fonts = rw (f.fonts, e.is_ejected.fonts, e.fonts) i.fonts;
           painted = white_painted size resolution (f.white e.is_ejected.white);
         },
         h.0,
@@ -272,7 +261,7 @@ drawn_in {dpi} {mark} {raster} {s} {old} i d r =
       ejected = cc;
       performed = cc;
       asks = cc;
-      fonts = holds_same i.fonts d.fonts refl;
+      fonts = rw d.fonts i.fonts;
       painted = record {
         size_is = cc;
         dpi_is = cc;

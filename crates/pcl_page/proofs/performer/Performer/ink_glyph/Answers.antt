@@ -18,11 +18,9 @@ returns-clause-drawn c =
     let fits_x : FitsSigned w32 c.right_of-x.result = search rules in
     let fits_y : FitsSigned w32 c.above-y.result = search rules in
     let left : to_z w32 (of_z w32 c.right_of-x.result) ≡ pos here.x +ℤ g.left *ℤ pos (fineness dpi) =
-    to_z-of_z w32 c.right_of-x.result fits_x ∙ c.right_of-x.ensures
-    ∙ ap (λ (z : ℤ). pos here.x +ℤ z *ℤ pos (fineness dpi)) (to_z-of_z w16 g.left fits_left) in
+    to_z-of_z w32 c.right_of-x.result fits_x ∙ c.right_of-x.ensures ∙ rw (to_z-of_z w16 g.left fits_left) refl in
     let top : to_z w32 (of_z w32 c.above-y.result) ≡ pos here.y -ℤ g.top *ℤ pos (fineness dpi) =
-    to_z-of_z w32 c.above-y.result fits_y ∙ c.above-y.ensures
-    ∙ ap (λ (z : ℤ). pos here.y -ℤ z *ℤ pos (fineness dpi)) (to_z-of_z w16 g.top fits_top) in
+    to_z-of_z w32 c.above-y.result fits_y ∙ c.above-y.ensures ∙ rw (to_z-of_z w16 g.top fits_top) refl in
     record {
       settings = refl;
       marked = refl;
@@ -33,14 +31,7 @@ returns-clause-drawn c =
       size = c.blit.ensures.size;
       resolution = c.blit.ensures.dpi;
       dots = λ x y wide high.
-          c.blit.ensures.dots x y wide high
-          ∙ ap (λ (z : ℤ). pattern_dot z (to_z w32 (of_z w32 c.above-y.result)) c.fineness-scale.result g.width g.height
-          g.rows.now x y || dot old x y) left
-          ∙ ap (λ (z : ℤ). pattern_dot (pos here.x +ℤ g.left *ℤ pos (fineness dpi)) z c.fineness-scale.result g.width
-          g.height g.rows.now x y || dot old x y) top
-          ∙ ap (λ (n : ℕ). pattern_dot (pos here.x +ℤ g.left *ℤ pos (fineness dpi))
-          (pos here.y -ℤ g.top *ℤ pos (fineness dpi)) n g.width g.height g.rows.now x y || dot old x y)
-          c.fineness-scale.ensures.value
+          (rw (left, top, c.fineness-scale.ensures.value) at (c.blit.ensures.dots x y wide high))
           ∙ or_is (pattern_dot (pos here.x +ℤ g.left *ℤ pos (fineness dpi))
           (pos here.y -ℤ g.top *ℤ pos (fineness dpi)) (fineness dpi) g.width g.height g.rows.now x y) (dot old x y);
     }
