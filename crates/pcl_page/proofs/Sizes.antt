@@ -8,16 +8,16 @@ use Rattle.pcl_base.specs.declared.operation.Axis.{Axis}
 use Rattle.pcl_base.specs.declared.operation.Axis.TheVariants.{Horizontal, Vertical}
 use Rattle.pcl_base.specs.declared.operation.Unit.{Unit as Measure}
 use Rattle.pcl_base.specs.declared.operation.Operation.{Operation}
-use Rattle.pcl_base.specs.declared.operation.Operation.TheVariants.{Reset, UniversalExit, ClearMargins, HalfLineFeed, HorizontalTab, LineFeed, FormFeed, CarriageReturn, Shift, PageSize, Copies, VerticalMotionIndex, LineSpacing, TopMargin, TextLength, PerforationSkip, OnlyZero, Ask, UnitOfMeasure, HorizontalMotionIndex, LineTermination, LeftMargin, Move, CursorStack, MacroId, RectangleSize, FontId, CharacterCode, DownloadFont, DownloadCharacter, SelectFont, PrintText, RasterResolution, RasterWidth, RasterHeight, RasterPresentation, StartRaster, EndRasterResetMethod, RasterMethod, RasterOffset, RasterRow}
+use Rattle.pcl_base.specs.declared.operation.Operation.TheVariants.{UniversalExit, HalfLineFeed, LineFeed, CarriageReturn, PageSize, Copies, TopMargin, TextLength, OnlyZero, Ask, LeftMargin, Move, CursorStack, RectangleSize, RasterMethod}
 use Rattle.pcl_base.specs.declared.size.Size.{Size}
 use Rattle.pcl_base.specs.declared.value.Value.{Value}
-use Rattle.pcl_base.specs.Limits.{copies_limit, id_limit, stack_limit}
+use Rattle.pcl_base.specs.Limits.{copies_limit, stack_limit}
 use Rattle.pcl_base.specs.Size.{size_with_code, units_wide, units_high}
 use Rattle.pcl_base.specs.Method.{method_with_code}
 use Rattle.pcl_base.specs.Value.{whole_of, is_minus, is_below_zero, scaled_by}
 use Rattle.pcl_env.specs.declared.effect.Effect.TheVariants.{Stay, Eject, EjectMarked}
 use Rattle.pcl_env.specs.Settings.{Position, Settings, put_x, put_y}
-use Rattle.pcl_env.specs.Outcome.{Outcome, stays, stays_if, by_count, from_zero, up_to, one_of, set_top, set_bottom, set_left, before_feed, return_carriage, feed_limit, feed, move_along, push, pop, popped, set_size, set_rectangle, set_method, unit_of, is_one_of, line_spacings, units_of_measure, resolutions, outcome}
+use Rattle.pcl_env.specs.Outcome.{Outcome, stays, stays_if, by_count, from_zero, up_to, one_of, set_top, set_bottom, set_left, before_feed, return_carriage, feed_limit, feed, move_along, push, pop, popped, set_size, set_rectangle, set_method, unit_of, is_one_of, outcome}
 
 -- where the page stays, the size does
 abbrev Keeps : Settings → Outcome → Type 0

@@ -8,8 +8,6 @@ use Rattle.pcl_base.specs.declared.operation.Operation.{Operation}
 use Rattle.pcl_base.specs.declared.size.Size.{Size}
 use Rattle.pcl_base.specs.declared.value.Value.{Value}
 use Rattle.pcl_bitmap.specs.Bitmap.{Picture}
-use Rattle.pcl_fonts.specs.History.{FontEvent}
-use Rattle.pcl_fonts.specs.Table.{FontTable, Holds}
 use Rattle.pcl_env.specs.declared.effect.Effect.{Effect}
 use Rattle.pcl_env.specs.declared.effect.Effect.TheVariants.{Stay, Eject, EjectMarked}
 use Rattle.pcl_env.specs.declared.effect.Unsupported.{Unsupported}
