@@ -1,5 +1,5 @@
 -- Rows of bits at which rows differ, painted one by one.
-use Rattle.std.proofs.Common.{◌≡◌, ℕ, zero, suc, ◌+◌, ◌-◌, ◌/◌, ◌%◌, ◌<◌, ◌≤◌, Bool, true, false, ◌&&◌, ◌||◌, nat_eq, List, length, refl, sym, ap, ◌∙◌, inl, inr, arith}
+use Rattle.std.proofs.Common.{◌≡◌, ℕ, zero, suc, ◌+◌, ◌-◌, ◌/◌, ◌%◌, ◌<◌, Bool, true, false, ◌&&◌, ◌||◌, nat_eq, List, length, refl, sym, ap, ◌∙◌, inl, inr, arith}
 use Rattle.std.specs.Prelude.{slice_index, nat_lt, nat_le}
 use Rattle.std.specs.Int.{bit_at}
 use Rattle.std.specs.Int.Bits.{bit_xor}
@@ -10,9 +10,9 @@ use Rattle.std.proofs.lemmas.Nat.Bits.{bit_at_xor, bit_at-lt}
 use Rattle.pcl_base.specs.declared.dpi.Dpi.{Dpi}
 use Rattle.pcl_base.specs.declared.size.Size.{Size}
 use Rattle.pcl_base.specs.Size.{page_width, page_height}
-use Rattle.pcl_bitmap.specs.Bitmap.{Picture, bit_of_byte, dot_of_row, dot, blank_picture}
+use Rattle.pcl_bitmap.specs.Bitmap.{Picture, bit_of_byte, dot_of_row, dot}
 use Rattle.pcl_bitmap.specs.Dots.{raster_dot}
-use Rattle.pcl_same.specs.DifferingDots.{differ, IsDifference}
+use Rattle.pcl_same.specs.DifferingDots.{differ}
 
 or_false : (b : Bool) → (b || false) ≡ b
 or_false true = refl
