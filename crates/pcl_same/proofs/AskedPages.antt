@@ -5,22 +5,18 @@ use Rattle.pcl_base.specs.declared.dpi.Dpi.{Dpi}
 use Rattle.pcl_base.specs.declared.kind.Kind.{Kind}
 use Rattle.pcl_base.specs.declared.kind.Kind.TheVariants.{TooManyCommands}
 use Rattle.pcl_base.specs.declared.operation.Operation.{Operation}
-use Rattle.pcl_base.specs.declared.operation.Operation.TheVariants.{Reset, UniversalExit, FillRectangle, ControlFonts, DownloadFont, DownloadCharacter, SelectFont, PrintText, StartRaster, RasterOffset, RasterRow, ControlMacros}
-use Rattle.pcl_base.specs.declared.refusal.Refusal.{Refusal}
+use Rattle.pcl_base.specs.declared.operation.Operation.TheVariants.{FillRectangle, ControlFonts, DownloadFont, DownloadCharacter, PrintText, ControlMacros}
 use Rattle.pcl_base.specs.declared.value.Value.{Value}
 use Rattle.pcl_base.specs.Limits.{command_limit, macro_limit}
 use Rattle.pcl_base.specs.Operation.{operation_of}
 use Rattle.pcl_env.specs.declared.effect.Effect.{Effect}
 use Rattle.pcl_env.specs.declared.effect.Effect.TheVariants.{EjectMarked}
 use Rattle.pcl_env.specs.Settings.{Settings, defaults, font_in_use}
-use Rattle.pcl_env.specs.Outcome.{Outcome, outcome}
+use Rattle.pcl_env.specs.Outcome.{outcome}
 use Rattle.pcl_escape.specs.Said.{Said}
-use Rattle.pcl_bitmap.specs.declared.ink.Ink.{Ink}
-use Rattle.pcl_fonts.specs.declared.fonts.FontControl.{FontControl}
 use Rattle.pcl_fonts.specs.Fields.{Character}
-use Rattle.pcl_macros.specs.Table.{Begun}
 use Rattle.pcl_page.specs.declared.macros.Action.{Action}
-use Rattle.pcl_page.specs.declared.macros.Action.TheVariants.{Begin, End, Control}
+use Rattle.pcl_page.specs.declared.macros.Action.TheVariants.{End}
 use Rattle.pcl_page.specs.declared.macros.Keeping.{Keeping}
 use Rattle.pcl_page.specs.declared.macros.Keeping.TheVariants.{Kept, Ends, Refused}
 use Rattle.pcl_page.specs.Asks.{Asks}
@@ -28,7 +24,7 @@ use Rattle.pcl_page.specs.Jobs.{HasPages, HasAsks, performance_of}
 use Rattle.pcl_page.specs.Macros.{Run, action_of, keeping_of, definition_ended, acted, managed, counting, defining, after_command, run_of, macro_ended}
 use Rattle.pcl_page.specs.Performing.{Performance, done, unless, then_on, in_order, concluded, and_run, step, commands_left, runs, after_all, end_refusal, ended, after_end, performance, pages_of}
 use Rattle.pcl_page.specs.Raster.{ends_raster}
-use Rattle.pcl_page.specs.Situation.{Sheet, Situation, at_begin, ink_of, filled_with, fonts_controlled, with_font, with_character, font_now, code_printed, codes_printed, drawn, draw_refusal, unless_refused, ◌|>◌, end_raster, is_marked, ejects, sheet_of, turned_page, turned, turned_by, drawn_on, taken, counted, counted_in_limit, prepared, is_ignored, after, after_named, page_refusal, within_page_limit, tried}
+use Rattle.pcl_page.specs.Situation.{Sheet, Situation, at_begin, ink_of, filled_with, fonts_controlled, with_font, with_character, font_now, code_printed, codes_printed, drawn, draw_refusal, unless_refused, ◌|>◌, end_raster, is_marked, ejects, turned_page, turned, turned_by, drawn_on, counted, counted_in_limit, prepared, is_ignored, after, after_named, page_refusal, within_page_limit, tried}
 use Rattle.pcl_page.specs.Text.{control_of, is_proportional, prints}
 
 -- as many pages were ejected as what they were asked with is known
@@ -40,206 +36,151 @@ abbrev EachOf : Result Situation Kind → Type 0
 EachOf (Ok s) = Each s
 EachOf (Err kind) = Unit {0}
 
-each_of_both : (test : Bool) (a b : Situation) → Each a → Each b → Each (cond test a b)
-each_of_both true a b p q = p
-each_of_both false a b p q = q
+-- neither a change nor a command alters that
+abbrev Stays : (Situation → Situation) → Type 0
+Stays f = (s : Situation) → Each s → Each (f s)
 
-each_of_results : (test : Bool) (a b : Result Situation Kind) → EachOf a → EachOf b → EachOf (cond test a b)
-each_of_results true a b p q = p
-each_of_results false a b p q = q
+abbrev StaysOf : (Situation → Result Situation Kind) → Type 0
+StaysOf f = (s : Situation) → Each s → EachOf (f s)
 
--- ---- what is drawn
+one_of_both : {A : Type 0} (P : A → Type 0) (test : Bool) (a b : A) → P a → P b → P (cond test a b)
+one_of_both P true a b p q = p
+one_of_both P false a b p q = q
 
-drawn_code : (dpi : Dpi) (proportional : Bool) (c : Option Character) (code : ℕ) (s : Situation) → Each s
-    → Each (code_printed dpi proportional c code s)
-drawn_code dpi proportional None code s e = e
-drawn_code dpi proportional (Some c) code s e = e
+unless_each : (why : Option Kind) → StaysOf (unless_refused why)
+unless_each None = λ s e. e
+unless_each (Some kind) = λ s e. tt
 
-drawn_codes : (dpi : Dpi) (proportional : Bool) (characters : ℕ → Option Character) (codes : List ℕ) (s : Situation) → Each s
-    → Each (codes_printed dpi proportional characters codes s)
-drawn_codes dpi proportional characters [] s e = e
-drawn_codes dpi proportional characters (code ∷ codes) s e =
-    drawn_codes dpi proportional characters codes (code_printed dpi proportional (characters code) code s)
-    (drawn_code dpi proportional (characters code) code s e)
-
-drawn_font : (bytes : List ℕ) (s : Situation) → Each s → Each (with_font bytes s)
-drawn_font [] s e = e
-drawn_font (byte ∷ bytes) s e = e
-
-drawn_character : (bytes : List ℕ) (s : Situation) → Each s → Each (with_character bytes s)
-drawn_character [] s e = e
-drawn_character (byte ∷ bytes) s e = e
-
-controlled_each : (what : Option FontControl) (s : Situation) → Each s → Each (fonts_controlled what s)
-controlled_each None s e = e
-controlled_each (Some what) s e = e
-
-filled_each : (dpi : Dpi) (ink : Option Ink) (s : Situation) → Each s → Each (filled_with dpi ink s)
-filled_each dpi None s e = e
-filled_each dpi (Some ink) s e = e
-
-drawn_each : (dpi : Dpi) (operation : Operation) (command : Said) (s : Situation) → Each s → Each (drawn dpi operation command s)
-drawn_each dpi Reset command s e = e
-drawn_each dpi UniversalExit command s e = e
-drawn_each dpi ControlFonts command s e = controlled_each (control_of command.value) s e
-drawn_each dpi DownloadFont command s e = drawn_font command.bytes s e
-drawn_each dpi DownloadCharacter command s e = drawn_character command.bytes s e
-drawn_each dpi (SelectFont side) command s e = e
-drawn_each dpi PrintText command s e =
-    drawn_codes dpi (is_proportional (font_now s)) (prints s.fonts (font_in_use s.settings)) command.bytes s e
-drawn_each dpi FillRectangle command s e = filled_each dpi (ink_of command.value) s e
-drawn_each dpi StartRaster command s e = e
-drawn_each dpi RasterOffset command s e = e
-drawn_each dpi RasterRow command s e = e
-drawn_each dpi other command s e = e
-
--- ---- a command
-
-page_each : (settings : Settings) (s : Situation) → Each s → Each (turned_page settings s)
-page_each settings s e =
-    let asked = length-append s.asks.pages (s.settings.asked ∷ []) in
-    let pages = length-append s.pages (sheet_of s ∷ []) in
-    omega (arith, asked, pages, e)
-
-turned_each : (settings : Settings) (effect : Effect) (s : Situation) → Each s → Each (turned settings effect s)
-turned_each settings effect s e =
-    each_of_both (ejects effect (is_marked s)) (turned_page settings s) (record s { settings = settings }) (page_each settings s e) e
-
-unless_each : (why : Option Kind) (s : Situation) → Each s → EachOf (unless_refused why s)
-unless_each None s e = e
-unless_each (Some kind) s e = tt
-
-then_each_of : (o : Result Situation Kind) (next : Situation → Result Situation Kind) → EachOf o
-    → ((s : Situation) → Each s → EachOf (next s)) → EachOf (o |> next)
+then_each_of : (o : Result Situation Kind) (next : Situation → Result Situation Kind) → EachOf o → StaysOf next → EachOf (o |> next)
 then_each_of (Err kind) next e f = tt
 then_each_of (Ok s) next e f = f s e
 
-turned_by_each : (o : Outcome) (s : Situation) → Each s → EachOf (turned_by o s)
-turned_by_each None s e = tt
-turned_by_each (Some done) s e = turned_each done.0 done.1 s e
+turned_each : (settings : Settings) (effect : Effect) → Stays (turned settings effect)
+turned_each settings effect = λ s e.
+    one_of_both Each (ejects effect (is_marked s)) (turned_page settings s) (record s { settings = settings })
+    (simp length-append (omega arith)) e
 
-drawn_on_each : (dpi : Dpi) (operation : Operation) (command : Said) (s : Situation) → Each s → EachOf (drawn_on dpi operation command s)
-drawn_on_each dpi operation command s e =
-    unless_each (draw_refusal operation command s) (drawn dpi operation command s) (drawn_each dpi operation command s e)
+module _ (dpi : Dpi) where
+  -- ---- what is drawn
 
-after_each : (dpi : Dpi) (operation : Operation) (command : Said) (s : Situation) → Each s → EachOf (after dpi operation command s)
-unfolding after
-after_each dpi operation command s e =
-    let before = prepared dpi operation s in
-    let led = taken dpi operation command.value before in
-    each_of_results (is_ignored operation s) (Ok s) (led |> drawn_on dpi operation command) e
-    (then_each_of led (drawn_on dpi operation command)
-    (turned_by_each (outcome dpi operation command.value (is_marked before) before.settings) before
-    (each_of_both (ends_raster operation) (end_raster dpi s) s e e))
-    (drawn_on_each dpi operation command))
+  drawn_codes : (proportional : Bool) (characters : ℕ → Option Character) (codes : List ℕ)
+      → Stays (codes_printed dpi proportional characters codes)
+  drawn_codes proportional characters [] = λ s e. e
+  drawn_codes proportional characters (code ∷ codes) = λ s e.
+      drawn_codes proportional characters codes (code_printed dpi proportional (characters code) code s)
+      (elim (characters code) as (λ c. Each (code_printed dpi proportional c code s)) [ None ↦ e | Some c ↦ e ])
 
-named_each : (dpi : Dpi) (operation : Option Operation) (command : Said) (s : Situation) → Each s
-    → EachOf (after_named dpi operation command s)
-named_each dpi None command s e = tt
-named_each dpi (Some operation) command s e = after_each dpi operation command s e
+  drawn_each : (operation : Operation) (command : Said) → Stays (drawn dpi operation command)
+  drawn_each ControlFonts command = λ s e.
+      elim (control_of command.value) as (λ what. Each (fonts_controlled what s)) [ None ↦ e | Some what ↦ e ]
+  drawn_each DownloadFont command = λ s e. elim command.bytes as (λ bytes. Each (with_font bytes s)) [ [] ↦ e | byte ∷ bytes ↦ e ]
+  drawn_each DownloadCharacter command = λ s e.
+      elim command.bytes as (λ bytes. Each (with_character bytes s)) [ [] ↦ e | byte ∷ bytes ↦ e ]
+  drawn_each PrintText command = λ s e.
+      drawn_codes (is_proportional (font_now s)) (prints s.fonts (font_in_use s.settings)) command.bytes s e
+  drawn_each FillRectangle command = λ s e.
+      elim (ink_of command.value) as (λ ink. Each (filled_with dpi ink s)) [ None ↦ e | Some ink ↦ e ]
+  drawn_each other command = λ s e. e
 
-tried_each : (dpi : Dpi) (command : Said) (s : Situation) → Each s → EachOf (tried dpi command s)
-tried_each dpi command s e =
-    let named = after_named dpi (operation_of command.name) command in
-    then_each_of (counted_in_limit s |> named) within_page_limit
-    (then_each_of (counted_in_limit s) named
-    (each_of_results (nat_le command_limit s.performed) (Err TooManyCommands) (Ok (counted s)) tt e)
-    (named_each dpi (operation_of command.name) command)) (λ now each. unless_each (page_refusal now) now each)
+  -- ---- a command
 
--- ---- what it does to macros
+  after_each : (operation : Operation) (command : Said) → StaysOf (after dpi operation command)
+  unfolding after
+  after_each operation command = λ s e.
+      let before = prepared dpi operation s in
+      let done = outcome dpi operation command.value (is_marked before) before.settings in
+      one_of_both EachOf (is_ignored operation s) (Ok s) (turned_by done before |> drawn_on dpi operation command) e
+      (then_each_of (turned_by done before) (drawn_on dpi operation command)
+      (elim done as (λ o. EachOf (turned_by o before)) [
+        | None ↦ tt
+        | Some to ↦ turned_each to.0 to.1 before (one_of_both Each (ends_raster operation) (end_raster dpi s) s e e)
+      ])
+      (λ now each. unless_each (draw_refusal operation command now) (drawn dpi operation command now)
+      (drawn_each operation command now each)))
 
-ended_each : (place : ℕ) (begun : Option Begun) (s : Situation) → Each s → EachOf (definition_ended place begun s)
-ended_each place None s e = tt
-ended_each place (Some d) s e = e
+  named_each : (operation : Option Operation) (command : Said) → StaysOf (after_named dpi operation command)
+  named_each None command = λ s e. tt
+  named_each (Some operation) command = after_each operation command
 
-acted_each : (place : ℕ) (action : Option Action) (s : Situation) → Each s → EachOf (acted place action s)
-acted_each place None s e = tt
-acted_each place (Some Begin) s e = e
-acted_each place (Some End) s e = ended_each place s.begun s e
-acted_each place (Some (Control what)) s e = e
-acted_each place other s e = e
+  tried_each : (command : Said) → StaysOf (tried dpi command)
+  tried_each command = λ s e.
+      let named = after_named dpi (operation_of command.name) command in
+      then_each_of (counted_in_limit s |> named) within_page_limit
+      (then_each_of (counted_in_limit s) named
+      (one_of_both EachOf (nat_le command_limit s.performed) (Err TooManyCommands) (Ok (counted s)) tt e)
+      (named_each (operation_of command.name) command)) (λ now each. unless_each (page_refusal now) now each)
 
-managed_each : (place : ℕ) (operation : Option Operation) (value : Value) (s : Situation) → Each s
-    → EachOf (managed place operation value s)
-managed_each place (Some Reset) value s e = e
-managed_each place (Some UniversalExit) value s e = e
-managed_each place (Some ControlMacros) value s e = acted_each place (action_of value) s e
-managed_each place other value s e = e
+  -- ---- what it does to macros
 
-counting_each : (dpi : Dpi) (place : ℕ) (command : Said) (s : Situation) → Each s → EachOf (counting dpi place command s)
-counting_each dpi place command s e =
-    then_each_of (tried dpi command s) (managed place (operation_of command.name) command.value) (tried_each dpi command s e)
-    (managed_each place (operation_of command.name) command.value)
+  acted_each : (place : ℕ) (action : Option Action) → StaysOf (acted place action)
+  acted_each place None = λ s e. tt
+  acted_each place (Some End) = λ s e. elim s.begun as (λ begun. EachOf (definition_ended place begun s)) [ None ↦ tt | Some d ↦ e ]
+  acted_each place other = λ s e. e
 
-defining_each : (dpi : Dpi) (place : ℕ) (keeping : Keeping) (command : Said) (s : Situation) → Each s
-    → EachOf (defining dpi place keeping command s)
-defining_each dpi place Kept command s e = e
-defining_each dpi place Ends command s e = counting_each dpi place command s e
-defining_each dpi place (Refused kind) command s e = tt
+  managed_each : (place : ℕ) (operation : Option Operation) (value : Value) → StaysOf (managed place operation value)
+  managed_each place (Some ControlMacros) value = acted_each place (action_of value)
+  managed_each place other value = λ s e. e
 
-command_each : (dpi : Dpi) (place : ℕ) (command : Said) (s : Situation) → Each s → EachOf (after_command dpi place command s)
-command_each dpi place command s e =
-    let keeping = keeping_of (operation_of command.name) command.value in
-    each_of_results (is_some s.begun) (defining dpi place keeping command s) (counting dpi place command s)
-    (defining_each dpi place keeping command s e) (counting_each dpi place command s e)
+  counting_each : (place : ℕ) (command : Said) → StaysOf (counting dpi place command)
+  counting_each place command = λ s e.
+      then_each_of (tried dpi command s) (managed place (operation_of command.name) command.value) (tried_each command s e)
+      (managed_each place (operation_of command.name) command.value)
 
--- ---- performances
+  defining_each : (place : ℕ) (keeping : Keeping) (command : Said) → StaysOf (defining dpi place keeping command)
+  defining_each place Kept command = λ s e. e
+  defining_each place Ends command = counting_each place command
+  defining_each place (Refused kind) command = λ s e. tt
 
-abbrev EachAfter : (Situation → Performance) → Type 0
-EachAfter f = (s : Situation) → Each s → Each (f s).situation
+  command_each : (place : ℕ) (command : Said) → StaysOf (after_command dpi place command)
+  command_each place command = λ s e.
+      let keeping = keeping_of (operation_of command.name) command.value in
+      one_of_both EachOf (is_some s.begun) (defining dpi place keeping command s) (counting dpi place command s)
+      (defining_each place keeping command s e) (counting_each place command s e)
 
-on_each : (why : Option Refusal) (s : Situation) (next : Situation → Performance) → Each s → EachAfter next
-    → Each (unless why s next).situation
-on_each None s next e f = f s e
-on_each (Some why) s next e f = e
+  -- ---- performances
 
-then_each : (first : Performance) (next : Situation → Performance) → Each first.situation → EachAfter next
-    → Each (then_on first next).situation
-then_each first next e f = on_each first.refusal first.situation next e f
+  abbrev EachAfter : (Situation → Performance) → Type 0
+  EachAfter f = (s : Situation) → Each s → Each (f s).situation
 
-concluded_each : (command : Said) (s : Situation) (o : Result Situation Kind) → Each s → EachOf o → Each (concluded command s o).situation
-concluded_each command s (Ok later) e f = f
-concluded_each command s (Err kind) e f = e
+  then_each : (first : Performance) (next : Situation → Performance) → Each first.situation → EachAfter next
+      → Each (then_on first next).situation
+  then_each first next e f =
+      elim first.refusal as (λ why. Each (unless why first.situation next).situation) [ None ↦ f first.situation e | Some why ↦ e ]
 
-run_each : (f : Run → Situation → Performance) (run : Option Run) → ((r : Run) → EachAfter (f r)) → EachAfter (and_run f run)
-run_each f None g = λ s e. e
-run_each f (Some run) g = g run
+  module _ (f : Said → Run → Situation → Performance) (g : (command : Said) (run : Run) → EachAfter (f command run)) where
+    step_each : (place : ℕ) (command : Said) → EachAfter (step dpi f place command)
+    step_each place command = λ s e.
+        then_each (concluded command s (after_command dpi place command s)) (λ later. and_run (f command) (run_of command s later) later)
+        (elim (after_command dpi place command s) as (λ o. EachOf o → Each (concluded command s o).situation) [
+          | Ok later ↦ λ each. each
+          | Err kind ↦ λ each. e
+        ] (command_each place command s e))
+        (λ later each. elim (run_of command s later) as (λ run. Each (and_run (f command) run later).situation) [
+          | None ↦ each
+          | Some run ↦ g command run later each
+        ])
 
-step_each : (dpi : Dpi) (f : Said → Run → Situation → Performance) (place : ℕ) (command : Said)
-    → ((c : Said) (r : Run) → EachAfter (f c r)) → EachAfter (step dpi f place command)
-step_each dpi f place command g = λ s e.
-    then_each (concluded command s (after_command dpi place command s)) (λ later. and_run (f command) (run_of command s later) later)
-    (concluded_each command s (after_command dpi place command s) e (command_each dpi place command s e))
-    (λ later each. run_each (f command) (run_of command s later) (g command) later each)
+    order_each : (place : ℕ) (commands : List Said) → EachAfter (in_order (step dpi f) place commands)
+    order_each place [] = λ s e. e
+    order_each place (command ∷ commands) = λ s e.
+        then_each (step dpi f place command s) (in_order (step dpi f) (place + 1) commands) (step_each place command s e)
+        (order_each (place + 1) commands)
 
-order_each : (f : ℕ → Said → Situation → Performance) → ((place : ℕ) (command : Said) → EachAfter (f place command))
-    → (place : ℕ) (commands : List Said) → EachAfter (in_order f place commands)
-order_each f g place [] = λ s e. e
-order_each f g place (command ∷ commands) = λ s e.
-    then_each (f place command s) (in_order f (place + 1) commands) (g place command s e) (order_each f g (place + 1) commands)
+  runs_each : (levels : ℕ) (all : List Said) (command : Said) (run : Run) → EachAfter (runs levels dpi all command run)
+  runs_each zero all command run = λ s e. e
+  runs_each (suc levels) all command run = λ s e.
+      then_each (in_order (step dpi (runs levels dpi all)) run.next (commands_left all run) s) (λ later. done (macro_ended dpi run.saved later))
+      (order_each (runs levels dpi all) (runs_each levels all) run.next (commands_left all run) s e)
+      (λ later each. elim run.saved as (λ saved. Each (macro_ended dpi saved later)) [ None ↦ each | Some saved ↦ each ])
 
-left_each : (dpi : Dpi) (saved : Option Settings) (s : Situation) → Each s → Each (macro_ended dpi saved s)
-left_each dpi None s e = e
-left_each dpi (Some saved) s e = e
-
-runs_each : (levels : ℕ) (dpi : Dpi) (all : List Said) (command : Said) (run : Run) → EachAfter (runs levels dpi all command run)
-runs_each zero dpi all command run = λ s e. e
-runs_each (suc levels) dpi all command run = λ s e.
-    let steps = step dpi (runs levels dpi all) in
-    then_each (in_order steps run.next (commands_left all run) s) (λ later. done (macro_ended dpi run.saved later))
-    (order_each steps (λ place c. step_each dpi (runs levels dpi all) place c (runs_each levels dpi all)) run.next (commands_left all run) s
-    e) (λ later each. left_each dpi run.saved later each)
-
-ended_job_each : (dpi : Dpi) (end : ℕ) (why : Option Kind) → EachAfter (ended dpi end why)
-ended_job_each dpi end None = λ s e. turned_each defaults EjectMarked (end_raster dpi s) e
-ended_job_each dpi end (Some kind) = λ s e. e
-
-performed_each : (dpi : Dpi) (end : ℕ) (commands : List Said) → Each (performance dpi end commands).situation
-performed_each dpi end commands =
-    let steps = step dpi (runs macro_limit dpi commands) in
-    then_each (after_all dpi commands 0 commands at_begin) (after_end dpi end)
-    (order_each steps (λ place c. step_each dpi (runs macro_limit dpi commands) place c (runs_each macro_limit dpi commands)) 0 commands
-    at_begin refl) (λ s e. ended_job_each dpi end (end_refusal dpi s) s e)
+  performed_each : (end : ℕ) (commands : List Said) → Each (performance dpi end commands).situation
+  performed_each end commands =
+      then_each (after_all dpi commands 0 commands at_begin) (after_end dpi end)
+      (order_each (runs macro_limit dpi commands) (runs_each macro_limit commands) 0 commands at_begin refl)
+      (λ s e. elim (end_refusal dpi s) as (λ why. Each (ended dpi end why s).situation) [
+        | None ↦ turned_each defaults EjectMarked (end_raster dpi s) e
+        | Some kind ↦ e
+      ])
 
 -- ---- jobs
 
