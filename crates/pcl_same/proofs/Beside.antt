@@ -1,20 +1,15 @@
 -- What the two sinks hold that took the pages of the jobs.
-use Rattle.std.proofs.Common.{◌≡◌, ℕ, ◌<◌, ◌≤◌, get_or, List, [], ◌∷◌, ◌++◌, length, drop, Bool, Option, sym, ap, subst, ◌∙◌, append_assoc, append-nil}
+use Rattle.std.proofs.Common.{◌≡◌, ℕ, ◌<◌, ◌≤◌, get_or, List, [], ◌∷◌, ◌++◌, length, drop, Option, refl, sym, ap, subst, ◌∙◌, append_assoc, append-nil}
 use Rattle.std.proofs.lemmas.List.{length-append, drop-drop, drop_all}
 use Rattle.std.proofs.Math.Seq.{drop-cons}
 use Rattle.pcl_base.specs.declared.dpi.Dpi.{Dpi}
-use Rattle.pcl_base.specs.declared.size.Size.{Size}
-use Rattle.pcl_base.specs.Size.{page_width, page_height}
-use Rattle.pcl_bitmap.specs.Bitmap.{dot}
 use Rattle.pcl_bitmap.specs.declared.page.Page.{Page}
 use Rattle.pcl_page.specs.Situation.{Sheet}
 use Rattle.pcl_page.specs.Delivering.{Hands}
 use Rattle.pcl_same.specs.declared.comparison.Difference.{Difference}
-use Rattle.pcl_same.specs.declared.comparison.PagesDifference.{PagesDifference}
 use Rattle.pcl_same.specs.declared.keeping.KeptPage.{KeptPage}
-use Rattle.pcl_same.specs.Differing.{IsFirstDot}
 use Rattle.pcl_same.specs.Kept.{KeepAll}
-use Rattle.pcl_same.specs.inner.Pages.{KeepsMore, Compared, IsFound, IsFoundNext, ComparesNext, FindAll, IsConcluded}
+use Rattle.pcl_same.specs.inner.Pages.{KeepsMore, Compared, IsFound, IsFoundNext, ComparesNext, FindAll}
 
 -- ---- the first job
 
@@ -26,7 +21,7 @@ kept_on dpi (sheet ∷ sheets) old new h =
     let kept = h.3.0 in
     let rest = kept_on dpi sheets h.1 new h.4 in (
       kept ∷ rest.0,
-      rest.1 ∙ ap (λ (front : List KeptPage). front ++ rest.0) h.3.1 ∙ append_assoc old (kept ∷ []) rest.0,
+      cc (rest.1, h.3.1, append_assoc old (kept ∷ []) rest.0),
       (h.0, h.2, h.3.2, rest.2),
     )
 
@@ -45,14 +40,6 @@ record FindsMore (dpi : Dpi) (sheets : List Sheet) (old new : Compared) : Type 0
   found : new.found ≡ old.found ++ more
   find : FindAll dpi (drop (length old.found) old.kept) sheets more
 
--- the kept pages that are left after one more
-left_after : (old mid : Compared) (next : Option Difference) → mid.kept ≡ old.kept → mid.found ≡ old.found ++ next ∷ []
-    → drop (length mid.found) mid.kept ≡ drop 1 (drop (length old.found) old.kept)
-left_after old mid next k f =
-    ap (drop (length mid.found)) k
-    ∙ ap (λ (n : ℕ). drop n old.kept) (ap length f ∙ length-append old.found (next ∷ []))
-    ∙ sym (drop-drop 1 (length old.found) old.kept)
-
 finds_on : (dpi : Dpi) (sheets : List Sheet) (old new : Compared) → Hands ComparesNext dpi sheets old new → FindsMore dpi sheets old new
 finds_on dpi [] old new h = record {
   kept = ap (λ (c : Compared). c.kept) h;
@@ -63,17 +50,17 @@ finds_on dpi [] old new h = record {
 finds_on dpi (sheet ∷ sheets) old new h =
     let took = h.3 in
     let rest = finds_on dpi sheets h.1 new h.4 in
+    let left : drop (length h.1.found) h.1.kept ≡ drop 1 (drop (length old.found) old.kept) =
+    rw (took.kept, took.found, length-append old.found (took.next ∷ []), drop-drop 1 (length old.found) old.kept) refl in
     record {
-      kept = rest.kept ∙ took.kept;
+      kept = cc;
       more = took.next ∷ rest.more;
-      found = rest.found ∙ ap (λ (front : List (Option Difference)). front ++ rest.more) took.found
-          ∙ append_assoc old.found (took.next ∷ []) rest.more;
+      found = cc (rest.found, took.found, append_assoc old.found (took.next ∷ []) rest.more);
       find = (
         h.0,
         h.2,
         took.is,
-        subst (λ (kept : List KeptPage). FindAll dpi kept sheets rest.more)
-            (left_after old h.1 took.next took.kept took.found) rest.find,
+        subst (λ (kept : List KeptPage). FindAll dpi kept sheets rest.more) left rest.find,
       );
     }
 
@@ -96,47 +83,19 @@ found_all dpi sheets {kept} {old} {new} k none h =
 
 -- ---- one page
 
--- bitmaps of pages have the pages' sizes and resolutions
-pub dots_of_pages : (page : Page) {other : ℕ → ℕ → Bool} {x y : ℕ}
-    → IsFirstDot (page_width page.bitmap.size page.bitmap.dpi) (page_height page.bitmap.size page.bitmap.dpi) (dot page.bitmap) other x y
-    → IsFirstDot (page_width page.size page.dpi) (page_height page.size page.dpi) (dot page.bitmap) other x y
-dots_of_pages page {other} {x} {y} first =
-    subst (λ (r : Dpi). IsFirstDot (page_width page.size r) (page_height page.size r) (dot page.bitmap) other x y) page.dpi_is
-    (subst (λ (z : Size). IsFirstDot (page_width z page.bitmap.dpi) (page_height z page.bitmap.dpi) (dot page.bitmap) other x y)
-    page.size_is first)
-
 -- what is found of a page, by the kept one of its number
 pub found_there : (page : Page) (next : Option Difference) (kept : List KeptPage) {n : ℕ} (one : KeptPage) → n < length kept
     → one ≡ get_or kept n one → IsFound one page next → IsFoundNext (drop n kept) page next
-found_there page next kept {n} one lt same found =
-    subst (λ (left : List KeptPage). IsFoundNext left page next) (sym (drop-cons kept n one lt))
-    (subst (λ (k : KeptPage). IsFound k page next) same found)
+found_there page next kept {n} one lt same found = rw (drop-cons kept n one lt, ← same) found
 
 -- and where there is none
 pub found_past : (page : Page) (next : Option Difference) (kept : List KeptPage) {n : ℕ} → length kept ≤ n
     → IsFoundNext (drop n kept) page next
-found_past page next kept {n} past =
-    subst (λ (left : List KeptPage). IsFoundNext left page next) (sym (drop_all n kept past)) tt
+found_past page next kept {n} past = rw (drop_all n kept past) tt
 
 -- a page is compared
 pub compares : {old : Compared} {page : Page} {kept new_kept : List KeptPage} {found same_found new_found : List (Option Difference)}
     (next : Option Difference)
     → record { kept = kept; found = found } ≡ old → new_kept ≡ kept → same_found ≡ found → new_found ≡ same_found ++ next ∷ []
     → IsFoundNext (drop (length found) kept) page next → ComparesNext old page (record { kept = new_kept; found = new_found })
-compares {old} {page} {kept} {new_kept} {found} {same_found} {new_found} next view k s f is =
-    subst (λ (from : Compared). ComparesNext from page (record { kept = new_kept; found = new_found })) view
-    (record {
-      kept = k;
-      next = next;
-      found = f ∙ ap (λ (front : List (Option Difference)). front ++ next ∷ []) s;
-      is = is;
-    })
-
--- ---- the conclusion
-
-pub concluded : {count count' : ℕ} {found found' : List (Option Difference)} (result : Option PagesDifference)
-    → count ≡ count' → found ≡ found'
-    → IsConcluded count found result → IsConcluded count' found' result
-concluded {count} {count'} {found} {found'} result c f is =
-    subst (λ (n : ℕ). IsConcluded n found' result) c
-    (subst (λ (xs : List (Option Difference)). IsConcluded count xs result) f is)
+compares next view k s f is = rw (← view) (record { kept = k; next = next; found = rw (← s) f; is = is })

@@ -1,6 +1,6 @@
 -- Rows kept as row data, and rows beside them.
-use Rattle.std.proofs.Common.{◌≡◌, ℕ, zero, suc, ◌+◌, ◌-◌, ◌<◌, ◌≤◌, List, [], ◌∷◌, ◌++◌, length, take, drop, replicate, false, sym, ap, subst, ◌∙◌, inl, inr, add-one, arith}
-use Rattle.std.specs.Prelude.{slice_index, slice_range}
+use Rattle.std.proofs.Common.{◌≡◌, ℕ, zero, suc, ◌+◌, ◌-◌, ◌<◌, ◌≤◌, List, [], ◌∷◌, ◌++◌, length, take, drop, replicate, false, refl, sym, ap, ◌∙◌, inl, inr, add-one, arith}
+use Rattle.std.specs.Prelude.{slice_index}
 use Rattle.std.proofs.lemmas.Bool.{cases_lt}
 use Rattle.std.proofs.lemmas.List.{length-append, length-drop, get_or_append_left, get_or_push, take-append-le, drop-append-le, take-replicate}
 use Rattle.std.proofs.Math.Seq.{take-append_seam, drop-append_seam, take-length}
@@ -44,10 +44,12 @@ piece_stays bytes more starts next {k} lt is =
     let b : ℕ = slice_index starts (k + 1) in
     let first : slice_index (starts ++ next ∷ []) k ≡ a = get_or_append_left starts (next ∷ []) 0 k (omega arith) in
     let second : slice_index (starts ++ next ∷ []) (k + 1) ≡ b = get_or_append_left starts (next ∷ []) 0 (k + 1) lt in
-    ap (λ n. slice_range (bytes ++ more) n (slice_index (starts ++ next ∷ []) (k + 1))) first
-    ∙ ap (slice_range (bytes ++ more) a) second
-    ∙ ap (take (b - a)) (drop-append-le a bytes more (omega (arith, is.order, is.within)))
-    ∙ take-append-le (b - a) (drop a bytes) more (omega (arith, length-drop a bytes, is.order, is.within))
+    rw (
+      first,
+      second,
+      drop-append-le a bytes more (omega (arith, is.within)),
+      take-append-le (b - a) (drop a bytes) more (omega (arith, length-drop a bytes, is.within)),
+    ) refl
 
 piece_is_stays : (bytes more starts : List ℕ) (next : ℕ) {k : ℕ} → k + 1 < length starts → IsPiece bytes starts k
     → IsPiece (bytes ++ more) (starts ++ next ∷ []) k
@@ -56,8 +58,8 @@ piece_is_stays bytes more starts next {k} lt is =
     let second : slice_index (starts ++ next ∷ []) (k + 1) ≡ slice_index starts (k + 1) =
     get_or_append_left starts (next ∷ []) 0 (k + 1) lt in
     record {
-      order = omega (arith, first, second, is.order);
-      within = omega (arith, second, is.within, length-append bytes more);
+      order = omega arith;
+      within = omega (arith, length-append bytes more);
     }
 
 -- the last piece is what came last
@@ -74,11 +76,8 @@ last_piece bytes more starts count size last =
     let second : slice_index (starts ++ end ∷ []) (count + 1) ≡ end = get_or_push starts end 0 (count + 1) size in
     let long : end - length bytes ≡ length more = omega (arith, length-append bytes more) in
     record {
-      is = record { order = omega (arith, first, second, length-append bytes more); within = omega (arith, second) };
-      same = ap (λ n. slice_range (bytes ++ more) n (slice_index (starts ++ end ∷ []) (count + 1))) first
-          ∙ ap (slice_range (bytes ++ more) (length bytes)) second
-          ∙ ap (take (end - length bytes)) (drop-append_seam bytes more)
-          ∙ ap (λ n. take n more) long ∙ take-length more;
+      is = record { order = omega (arith, length-append bytes more); within = omega arith };
+      same = rw (first, second, drop-append_seam bytes more, long, take-length more) refl;
     }
 
 row_more : {p : Picture} (bytes starts : List ℕ) {count : ℕ} (more : List ℕ) → KeepsRows p bytes starts count → MakesRow p count more
@@ -93,19 +92,14 @@ row_more {p} bytes starts {count} more keeps makes =
           elim (cases_lt k count) [
             | inl before ↦ piece_is_stays bytes more starts end (omega (arith, keeps.starts_are)) (keeps.pieces k before)
             | inr at ↦
-                let here : count ≡ k = omega arith in
-                subst (IsPiece (bytes ++ more) (starts ++ end ∷ [])) here last.is
+                let here : count ≡ k = omega arith in rw (← here) last.is
           ];
       rows = λ k lt.
           elim (cases_lt k count) [
             | inl before ↦
-                subst (MakesRow p k)
-                (sym (piece_stays bytes more starts end (omega (arith, keeps.starts_are)) (keeps.pieces k before)))
-                (keeps.rows k before)
+                rw (piece_stays bytes more starts end (omega (arith, keeps.starts_are)) (keeps.pieces k before)) (keeps.rows k before)
             | inr at ↦
-                let here : count ≡ k = omega arith in
-                subst (λ (n : ℕ). MakesRow p n (piece (bytes ++ more) (starts ++ end ∷ []) n)) here
-                (subst (MakesRow p count) (sym last.same) makes)
+                let here : count ≡ k = omega arith in rw (← here, last.same) makes
           ];
     }
 
@@ -113,16 +107,13 @@ pub more_kept : {p : Picture} {bytes starts new_bytes new_starts : List ℕ} {co
     → new_bytes ≡ bytes ++ more → new_starts ≡ starts ++ length new_bytes ∷ [] → MakesRow p count more
     → KeepsRows p new_bytes new_starts (count + 1)
 more_kept {p} {bytes} {starts} {new_bytes} {new_starts} {count} more keeps b s makes =
-    let starts_are : new_starts ≡ starts ++ length (bytes ++ more) ∷ [] = s ∙ ap (λ (bs : List ℕ). starts ++ length bs ∷ []) b in
-    subst (λ (ss : List ℕ). KeepsRows p new_bytes ss (count + 1)) (sym starts_are)
-    (subst (λ (bs : List ℕ). KeepsRows p bs (starts ++ length (bytes ++ more) ∷ []) (count + 1)) (sym b)
-    (row_more bytes starts more keeps makes))
+    rw (s, b) (row_more bytes starts more keeps makes)
 
 -- ---- all rows
 
 pub height_is : (p : Picture) {size : Size} {dpi : Dpi} {height : ℕ} → height ≡ page_height size dpi → size ≡ p.size → dpi ≡ p.dpi
     → height ≡ page_height p.size p.dpi
-height_is p {size} {dpi} h s d = h ∙ ap (λ (z : Size). page_height z dpi) s ∙ ap (page_height p.size) d
+height_is p h s d = rw (← s, ← d) h
 
 -- ---- the row above
 
@@ -135,15 +126,13 @@ white_above p =
 pub next_above : (p : Picture) (y : ℕ) {n : ℕ} {row copied : List ℕ} (rest : List ℕ) → row ≡ row_of p y → copied ≡ row → length row ≡ n
     → take n (copied ++ rest) ≡ row_above p (y + 1)
 next_above p y {n} {row} {copied} rest is same long =
-    ap (λ (k : ℕ). take k (copied ++ rest)) (sym (ap length same ∙ long)) ∙ take-append_seam copied rest ∙ same ∙ is
-    ∙ ap (row_above p) (sym (add-one y))
+    rw (← long, ← same, add-one) (take-append_seam copied rest ∙ same ∙ is)
 
 -- data that was written over the front of a buffer
 pub written_over : (p : Picture) (y : ℕ) {n : ℕ} (buffer : List ℕ) {row bytes : List ℕ} → take n buffer ≡ row_above p y → length row ≡ n
     → row ≡ row_of p y → Decodes Delta (take (length row) buffer) bytes row → MakesRow p y bytes
 written_over p y {n} buffer {row} {bytes} above long is d =
-    subst (Decodes Delta (row_above p y) bytes) is
-    (subst (λ (seed : List ℕ). Decodes Delta seed bytes row) (ap (λ (k : ℕ). take k buffer) long ∙ above) d)
+    rw (← is, ← above, ← long) d
 
 -- ---- two bitmaps beside the same row data
 
@@ -152,8 +141,7 @@ pub decoded_over : (p : Picture) (y : ℕ) {n : ℕ} (buffer row : List ℕ) {by
     → length row ≡ n
     → bytes ≡ held → Decodes Delta (take (length row) buffer) bytes made → Decodes Delta (row_above p y) held made
 decoded_over p y {n} buffer row {bytes} {held} {made} above long is d =
-    subst (λ (b : List ℕ). Decodes Delta (row_above p y) b made) is
-    (subst (λ (seed : List ℕ). Decodes Delta seed bytes made) (ap (λ (k : ℕ). take k buffer) long ∙ above) d)
+    rw (← is, ← above, ← long) d
 
 -- one row more is made
 pub makes_more : (p : Picture) (held : KeptBitmap) {y : ℕ} {made : List ℕ} → ((k : ℕ) → k < y → MakesRow p k (data_of held k))
@@ -163,13 +151,12 @@ makes_more p held {y} before d is k lt =
       | inl less ↦ before k less
       | inr at ↦
           let here : y ≡ k = omega arith in
-          subst (λ (n : ℕ). MakesRow p n (data_of held n)) here
-          (subst (Decodes Delta (row_above p y) (data_of held y)) is d)
+          rw (← here, ← is) d
     ]
 
 made_same : {one other bytes row row' : List ℕ} → one ≡ other → Decodes Delta one bytes row → Decodes Delta other bytes row' → row ≡ row'
 made_same {one} {other} {bytes} {row} {row'} same a b =
-    one_row Delta bytes other row row' (subst (λ (seed : List ℕ). Decodes Delta seed bytes row) same a) b
+    one_row Delta bytes other row row' (rw same at a) b
 
 -- two bitmaps of one size and resolution, and row data that makes the rows of the one, and the first rows of the other
 pub record AreBeside (kept other : Picture) (held : KeptBitmap) (count : ℕ) : Type 0 where
@@ -192,12 +179,12 @@ beside keeps s d within makes = record {
 
 white_same : (p q : Picture) → p.size ≡ q.size → p.dpi ≡ q.dpi → row_above p 0 ≡ row_above q 0
 white_same p q s d =
-    ap (λ (z : Size). replicate (page_row_bytes z p.dpi) 0) s ∙ ap (λ (r : Dpi). replicate (page_row_bytes q.size r) 0) d
+    rw (s, d) refl
 
 same_height : {kept other : Picture} {held : KeptBitmap} {count : ℕ} → AreBeside kept other held count
     → page_height kept.size kept.dpi ≡ page_height other.size other.dpi
 same_height {kept} {other} b =
-    ap (λ (z : Size). page_height z kept.dpi) b.size ∙ ap (λ (r : Dpi). page_height other.size r) b.resolution
+    rw (b.size, b.resolution) refl
 
 rows_same : {kept other : Picture} {held : KeptBitmap} {count : ℕ} → AreBeside kept other held count → (k : ℕ) → k < count
     → row_of kept k ≡ row_of other k
@@ -228,7 +215,7 @@ pub row_differs : {kept other : Picture} {held : KeptBitmap} {y x : ℕ} {made r
 row_differs {kept} {other} {held} {y} {x} {made} {row} is_kept b down decoded row_is pads first =
     let made_is : made ≡ row_of kept y = sym (made_same (above_same y b) (b.keeps.rows y (omega (arith, down, same_height b))) decoded) in
     let width : page_width kept.size kept.dpi ≡ page_width other.size other.dpi =
-    ap (λ (z : Size). page_width z kept.dpi) b.size ∙ ap (λ (r : Dpi). page_width other.size r) b.resolution in
+    rw (b.size, b.resolution) refl in
     let of_made : (px : ℕ) → dot kept px y ≡ dot_of_row made px = λ px. ap (λ (bytes : List ℕ). dot_of_row bytes px) (sym made_is) in
     let of_row : (px : ℕ) → dot other px y ≡ dot_of_row row px = λ px. ap (λ (bytes : List ℕ). dot_of_row bytes px) (sym row_is) in
     record {

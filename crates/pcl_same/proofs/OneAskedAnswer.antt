@@ -61,8 +61,7 @@ one_setting one other d e p q =
     (λ lt. q.differ (q.first ∙ p.same_before e.setting lt ∙ sym q.second))) in
     let first : d.first ≡ e.first = p.first ∙ ap (λ (s : Asking). setting_of s one) setting ∙ sym q.first in
     let second : d.second ≡ e.second = p.second ∙ ap (λ (s : Asking). setting_of s other) setting ∙ sym q.second in
-    let same : ◌≡◌ {A = SettingDifference} (record { setting = d.setting; first = d.first; second = d.second })
-    (record { setting = e.setting; first = e.first; second = e.second }) = cc in same
+    λ i. record { setting = setting i; first = first i; second = second i }
 
 settings_differ : (one other : Asked) (d : SettingDifference) → one ≡ other → IsFirstSetting one other d → ⊥
 settings_differ one other d same p = p.differ (p.first ∙ ap (setting_of d.setting) same ∙ sym p.second)

@@ -2,7 +2,7 @@ use Rattle.std.proofs.Common.{◌≡◌, length, ap, ◌∙◌, arith}
 use Rattle.pcl_page.proofs.Jobs.{accepted_pages, has_pages}
 use Rattle.pcl_same.specs.inner.Pages.{Compared}
 use Rattle.pcl_same.proofs.Answered.{beside_kept}
-use Rattle.pcl_same.proofs.Beside.{found_all, concluded}
+use Rattle.pcl_same.proofs.Beside.{found_all}
 use Rattle.pcl_same.proofs.comparing.compare_kept.Goals as goal
 
 pub returns : goal.returns
@@ -12,6 +12,6 @@ returns c = λ first kept.
     let all = found_all c.args.dpi (accepted_pages h) c.deref.ensures.value c.new.ensures.items h.handed.1 in
     beside_kept c.one_meaning.ensures.pages kept (has_pages h) c.in_ok-asks.ensures.1 c.pages_difference-pages.result
     c.perform_asked.new.sink.found all.find
-    (concluded c.pages_difference-pages.result count
-    (c.deref-2.ensures.value ∙ ap (λ (s : Compared). s.found) c.comparer.view_is) c.pages_difference-pages.ensures) c.conclude.result
+    (rw (count, c.deref-2.ensures.value ∙ ap (λ (s : Compared). s.found) c.comparer.view_is) at c.pages_difference-pages.ensures)
+    c.conclude.result
     c.conclude.ensures.pages c.conclude.ensures.asks

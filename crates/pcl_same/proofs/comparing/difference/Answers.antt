@@ -1,5 +1,4 @@
 use Rattle.std.proofs.Common.{◌≡◌, sym, ◌∙◌, rules}
-use Rattle.pcl_same.proofs.Beside.{dots_of_pages}
 use Rattle.pcl_same.proofs.comparing.difference.Goals as goal
 
 pub returns : goal.returns
@@ -8,5 +7,5 @@ returns c = λ page keeps same.
     let copies : c.args.kept.now.copies ≡ c.args.page.now.copies = search rules in (
       sym page.size_is ∙ sym keeps.bitmap.size ∙ size,
       sym keeps.copies ∙ copies,
-      dots_of_pages page (c.in_ok-x.ensures page.bitmap page.picture keeps.bitmap),
+      rw (← page.size_is, ← page.dpi_is) (c.in_ok-x.ensures page.bitmap page.picture keeps.bitmap),
     )
