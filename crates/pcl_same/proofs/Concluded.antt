@@ -1,5 +1,5 @@
 -- What is concluded of what was found of the pages.
-use Rattle.std.proofs.Common.{◌≡◌, ℕ, suc, ◌+◌, ◌<◌, List, [], ◌∷◌, ◌++◌, length, take, drop, get_or, Option, Some, None, sym, ap, subst, ◌∙◌, arith}
+use Rattle.std.proofs.Common.{◌≡◌, ℕ, suc, ◌+◌, ◌<◌, List, [], ◌∷◌, ◌++◌, length, take, drop, get_or, Option, Some, None, refl, arith}
 use Rattle.std.specs.List.{AllByRecursion}
 use Rattle.std.proofs.lemmas.List.{take_more, take-append-drop, length-take-le}
 use Rattle.std.proofs.Math.Seq.{drop-cons}
@@ -15,16 +15,14 @@ more_alike (first ∷ found) all one = (all.0, more_alike found all.1 one)
 pub next_alike : (found : List (Option Difference)) {n : ℕ} → n < length found → AllByRecursion IsAlike (take n found)
     → get_or found n None ≡ None → AllByRecursion IsAlike (take (n + 1) found)
 next_alike found {n} lt all none =
-    subst (AllByRecursion IsAlike) (sym (take_more found n None lt)) (more_alike (take n found) all none)
+    rw (take_more found n None lt) (more_alike (take n found) all none)
 
 pub first_found : (found : List (Option Difference)) {n : ℕ} {difference : Difference} → n < length found
     → AllByRecursion IsAlike (take n found) → get_or found n None ≡ Some difference → IsFirstFound found (n + 1) difference
 first_found found {n} {difference} lt all some = record {
   before = take n found;
   after = drop (suc n) found;
-  found_are = sym (take-append-drop n found)
-      ∙ ap (λ (rest : List (Option Difference)). take n found ++ rest)
-      (drop-cons found n None lt ∙ ap (λ (one : Option Difference). one ∷ drop (suc n) found) some);
+  found_are = rw (← some, ← drop-cons found n None lt, take-append-drop n found) refl;
   alike_before = all;
-  counted = ap (λ (k : ℕ). k + 1) (sym (length-take-le n found (omega arith)));
+  counted = omega (arith, length-take-le n found (omega arith));
 }

@@ -1,9 +1,9 @@
 -- Rows of bits at which rows differ, painted one by one.
-use Rattle.std.proofs.Common.{◌≡◌, ℕ, zero, suc, ◌+◌, ◌-◌, ◌/◌, ◌%◌, ◌<◌, Bool, true, false, ◌&&◌, ◌||◌, nat_eq, List, length, refl, sym, ap, ◌∙◌, inl, inr, arith}
-use Rattle.std.specs.Prelude.{slice_index, nat_lt, nat_le}
+use Rattle.std.proofs.Common.{◌≡◌, ℕ, zero, suc, ◌+◌, ◌-◌, ◌/◌, ◌%◌, ◌<◌, Bool, true, false, ◌&&◌, ◌||◌, nat_eq, List, length, refl, ap, ◌∙◌, inl, inr, arith}
+use Rattle.std.specs.Prelude.{slice_index, nat_lt}
 use Rattle.std.specs.Int.{bit_at}
 use Rattle.std.specs.Int.Bits.{bit_xor}
-use Rattle.std.proofs.lemmas.Bool.{cases_lt, and_left, and_right, le-leb, lt-leb, le-ltb, lt-ltb}
+use Rattle.std.proofs.lemmas.Bool.{cases_lt, le-ltb, lt-ltb}
 use Rattle.std.proofs.lemmas.Bool.Decides.{nat_tests}
 use Rattle.std.proofs.lemmas.List.{get_or_past}
 use Rattle.std.proofs.lemmas.Nat.Bits.{bit_at_xor, bit_at-lt}
@@ -25,13 +25,11 @@ parity zero zero p q = refl
 parity zero (suc zero) p q = refl
 parity (suc zero) zero p q = refl
 parity (suc zero) (suc zero) p q = refl
-parity zero (suc (suc v)) p q = absurd (omega arith)
-parity (suc zero) (suc (suc v)) p q = absurd (omega arith)
-parity (suc (suc u)) v p q = absurd (omega arith)
+parity u v p q = absurd (omega arith)
 
 xor_bit : (a b k : ℕ) → bit_of_byte (bit_xor a b) k ≡ differ (bit_of_byte a k) (bit_of_byte b k)
 xor_bit a b k =
-    ap (λ n. nat_eq n 1) (bit_at_xor a b (7 - k)) ∙ parity (bit_at a (7 - k)) (bit_at b (7 - k)) (bit_at-lt a (7 - k)) (bit_at-lt b (7 - k))
+    rw (bit_at_xor a b (7 - k)) (parity (bit_at a (7 - k)) (bit_at b (7 - k)) (bit_at-lt a (7 - k)) (bit_at-lt b (7 - k)))
 
 -- bytes past the ends of rows are 0
 xor_byte : (one other bits : List ℕ) → length other ≡ length one → length bits ≡ length one
@@ -41,18 +39,14 @@ xor_byte one other bits p q h k =
     elim (cases_lt k (length one)) [
       | inl within ↦ h k within
       | inr past ↦
-          let b : slice_index bits k ≡ 0 = get_or_past bits k 0 (omega (arith, q, past)) in
-          let o : slice_index one k ≡ 0 = get_or_past one k 0 past in
-          let t : slice_index other k ≡ 0 = get_or_past other k 0 (omega (arith, p, past)) in
-          b ∙ ap (bit_xor 0) (sym t) ∙ ap (λ n. bit_xor n (slice_index other k)) (sym o)
+          rw (get_or_past bits k 0 (omega (arith, q)), get_or_past one k 0 past, get_or_past other k 0 (omega (arith, p))) refl
     ]
 
 pub row_of_bits : (one other bits : List ℕ) → length other ≡ length one → length bits ≡ length one
     → ((k : ℕ) → k < length one → slice_index bits k ≡ bit_xor (slice_index one k) (slice_index other k))
     → (x : ℕ) → dot_of_row bits x ≡ differ (dot_of_row one x) (dot_of_row other x)
 row_of_bits one other bits p q h x =
-    ap (λ n. bit_of_byte n (x % 8)) (xor_byte one other bits p q h (x / 8))
-    ∙ xor_bit (slice_index one (x / 8)) (slice_index other (x / 8)) (x % 8)
+    rw (xor_byte one other bits p q h (x / 8)) (xor_bit (slice_index one (x / 8)) (slice_index other (x / 8)) (x % 8))
 
 -- ---- the rows of an image
 
@@ -65,54 +59,13 @@ pub record DrawnAbove (one other image : Picture) (y : ℕ) : Type 0 where
 
 -- a row of bits paints its own row, and no other
 row_here : (y width px : ℕ) (bits : List ℕ) → px < width → raster_dot 0 y 1 width bits px y ≡ dot_of_row bits px
-row_here y width px bits across =
-    let first : nat_le 0 px ≡ true = le-leb 0 px (omega arith) in
-    let row : nat_le y y ≡ true = le-leb y y (omega arith) in
-    let none : (y - y) / 1 ≡ 0 = omega arith in
-    let place : (px - 0) / 1 ≡ px = omega arith in
-    let within : nat_lt px width ≡ true = lt-ltb px width across in
-    rw (first, row, none, place, within) refl
+row_here y width px bits across = grind (arith, nat_tests)
 
 row_below : (y width px py : ℕ) (bits : List ℕ) → py < y → raster_dot 0 y 1 width bits px py ≡ false
-row_below y width px py bits less =
-    and_left _ _ (and_left _ _ (and_left _ _ (and_right (nat_le 0 px) (nat_le y py) (lt-leb y py less))))
+row_below y width px py bits less = grind (arith, nat_tests)
 
 row_above : (y width px py : ℕ) (bits : List ℕ) → y < py → raster_dot 0 y 1 width bits px py ≡ false
-row_above y width px py bits more =
-    let other : nat_eq ((py - y) / 1) 0 ≡ false = grind (arith, nat_tests) in
-    and_left _ _ (and_left _ _ (and_right (nat_le 0 px && nat_le y py) (nat_eq ((py - y) / 1) 0) other))
-
-next_row : (one other old new : Picture) (y : ℕ) {width : ℕ} (bits : List ℕ) → DrawnAbove one other old y
-    → width ≡ page_width one.size one.dpi
-    → ((x : ℕ) → dot_of_row bits x ≡ differ (dot one x y) (dot other x y))
-    → ((px py : ℕ) → px < page_width old.size old.dpi → py < page_height old.size old.dpi
-    → dot new px py ≡ (raster_dot 0 y 1 width bits px py || dot old px py))
-    → (px py : ℕ) → px < page_width one.size one.dpi → py < page_height one.size one.dpi
-    → dot new px py ≡ (nat_lt py (y + 1) && differ (dot one px py) (dot other px py))
-next_row one other old new y {width} bits drawn w row painted px py across down =
-    let in_old : px < page_width old.size old.dpi = rw (drawn.size, drawn.resolution) across in
-    let above_old : py < page_height old.size old.dpi = rw (drawn.size, drawn.resolution) down in
-    let here = painted px py in_old above_old in
-    let before = drawn.dots px py across down in
-    elim (cases_lt py y) [
-      | inl above ↦
-          here ∙ ap (λ (b : Bool). b || dot old px py) (row_below y width px py bits above) ∙ before
-          ∙ ap (λ (b : Bool). b && differ (dot one px py) (dot other px py)) (lt-ltb py y above ∙ sym (lt-ltb py (y + 1) (omega arith)))
-      | inr at ↦ elim (cases_lt y py) [
-        | inl below ↦
-            here ∙ ap (λ (b : Bool). b || dot old px py) (row_above y width px py bits below) ∙ before
-            ∙ ap (λ (b : Bool). b && differ (dot one px py) (dot other px py)) (le-ltb py y at ∙ sym (le-ltb py (y + 1) (omega arith)))
-        | inr same ↦
-            let is : py ≡ y = omega arith in
-            let white : dot old px py ≡ false = before ∙ and_left (nat_lt py y) _ (le-ltb py y at) in
-            let drawn_row : raster_dot 0 y 1 width bits px py ≡ differ (dot one px py) (dot other px py) =
-            ap (λ (n : ℕ). raster_dot 0 y 1 width bits px n) is ∙ row_here y width px bits (omega (arith, w)) ∙ row px
-            ∙ ap (λ (n : ℕ). differ (dot one px n) (dot other px n)) (sym is) in
-            here ∙ ap (λ (b : Bool). raster_dot 0 y 1 width bits px py || b) white
-            ∙ or_false (raster_dot 0 y 1 width bits px py) ∙ drawn_row
-            ∙ sym (ap (λ (b : Bool). b && differ (dot one px py) (dot other px py)) (lt-ltb py (y + 1) (omega arith)))
-      ]
-    ]
+row_above y width px py bits more = grind (arith, nat_tests)
 
 pub more_drawn : (one other old : Picture) (y : ℕ) {new : Picture} {width : ℕ} (bits : List ℕ) → DrawnAbove one other old y
     → new.size ≡ old.size → new.dpi ≡ old.dpi → width ≡ page_width one.size one.dpi
@@ -120,10 +73,23 @@ pub more_drawn : (one other old : Picture) (y : ℕ) {new : Picture} {width : �
     → ((px py : ℕ) → px < page_width old.size old.dpi → py < page_height old.size old.dpi
     → dot new px py ≡ (raster_dot 0 y 1 width bits px py || dot old px py))
     → DrawnAbove one other new (y + 1)
-more_drawn one other old y {new} bits drawn s r w row painted = record {
+more_drawn one other old y {new} {width} bits drawn s r w row painted = record {
   size = s ∙ drawn.size;
   resolution = r ∙ drawn.resolution;
-  dots = next_row one other old new y bits drawn w row painted;
+  dots = λ px py across down.
+      let here = painted px py (rw (drawn.size, drawn.resolution) across) (rw (drawn.size, drawn.resolution) down) in
+      let before = drawn.dots px py across down in
+      elim (cases_lt py y) [
+        | inl above ↦ rw (here, row_below y width px py bits above, before, lt-ltb py y above, lt-ltb py (y + 1) (omega arith)) refl
+        | inr at ↦ elim (cases_lt y py) [
+          | inl below ↦ rw (here, row_above y width px py bits below, before, le-ltb py y at, le-ltb py (y + 1) (omega arith)) refl
+          | inr same ↦
+              let is : py ≡ y = omega arith in
+              let drawn_row : raster_dot 0 y 1 width bits px py ≡ differ (dot one px py) (dot other px py) =
+              rw is (row_here y width px bits (omega (arith, w)) ∙ row px) in
+              rw (here, before, le-ltb py y at, or_false (raster_dot 0 y 1 width bits px py), drawn_row, lt-ltb py (y + 1) (omega arith)) refl
+        ]
+      ];
 }
 
 -- the width of the row that is painted

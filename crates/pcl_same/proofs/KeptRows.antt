@@ -21,93 +21,63 @@ use Rattle.pcl_same.specs.Kept.{data_of, KeepsPicture}
 
 -- ---- rows that are kept one after the other
 
+-- row k is a piece, and is kept
+abbrev pub IsRow : Picture → List ℕ → List ℕ → ℕ → Type 0
+IsRow p bytes starts k = IsPiece bytes starts k × MakesRow p k (piece bytes starts k)
+
 -- the first rows are kept
 pub record KeepsRows (p : Picture) (bytes starts : List ℕ) (count : ℕ) : Type 0 where
   pub starts_are : length starts ≡ count + 1
   pub last : slice_index starts count ≡ length bytes
-  pub pieces : (k : ℕ) → k < count → IsPiece bytes starts k
-  pub rows : (k : ℕ) → k < count → MakesRow p k (piece bytes starts k)
+  pub rows : (k : ℕ) → k < count → IsRow p bytes starts k
 
 pub none_kept : (p : Picture) {bytes starts : List ℕ} → bytes ≡ [] → starts ≡ 0 ∷ [] → KeepsRows p bytes starts 0
-none_kept p b s = record {
-  starts_are = ap length s;
-  last = ap (λ (xs : List ℕ). slice_index xs 0) s ∙ sym (ap length b);
-  pieces = λ k lt. absurd (omega arith);
-  rows = λ k lt. absurd (omega arith);
-}
+none_kept p b s = rw (b, s) (record { starts_are = refl; last = refl; rows = λ k lt. absurd (omega arith) })
 
--- a piece of bytes stays where more come
-piece_stays : (bytes more starts : List ℕ) (next : ℕ) {k : ℕ} → k + 1 < length starts → IsPiece bytes starts k
-    → piece (bytes ++ more) (starts ++ next ∷ []) k ≡ piece bytes starts k
-piece_stays bytes more starts next {k} lt is =
-    let a : ℕ = slice_index starts k in
-    let b : ℕ = slice_index starts (k + 1) in
-    let first : slice_index (starts ++ next ∷ []) k ≡ a = get_or_append_left starts (next ∷ []) 0 k (omega arith) in
-    let second : slice_index (starts ++ next ∷ []) (k + 1) ≡ b = get_or_append_left starts (next ∷ []) 0 (k + 1) lt in
-    rw (
-      first,
-      second,
-      drop-append-le a bytes more (omega (arith, is.within)),
-      take-append-le (b - a) (drop a bytes) more (omega (arith, length-drop a bytes, is.within)),
-    ) refl
+module _ {p : Picture} {bytes starts : List ℕ} {count : ℕ} (more : List ℕ) (keeps : KeepsRows p bytes starts count) where
+  abbrev end : ℕ
+  end = length (bytes ++ more)
 
-piece_is_stays : (bytes more starts : List ℕ) (next : ℕ) {k : ℕ} → k + 1 < length starts → IsPiece bytes starts k
-    → IsPiece (bytes ++ more) (starts ++ next ∷ []) k
-piece_is_stays bytes more starts next {k} lt is =
-    let first : slice_index (starts ++ next ∷ []) k ≡ slice_index starts k = get_or_append_left starts (next ∷ []) 0 k (omega arith) in
-    let second : slice_index (starts ++ next ∷ []) (k + 1) ≡ slice_index starts (k + 1) =
-    get_or_append_left starts (next ∷ []) 0 (k + 1) lt in
-    record {
-      order = omega arith;
-      within = omega (arith, length-append bytes more);
-    }
+  -- a row stays where more come
+  row_stays : (k : ℕ) → k < count → IsRow p (bytes ++ more) (starts ++ end ∷ []) k
+  row_stays k before =
+      let row = keeps.rows k before in
+      let first : slice_index (starts ++ end ∷ []) k ≡ slice_index starts k =
+      get_or_append_left starts (end ∷ []) 0 k (omega (arith, keeps.starts_are)) in
+      let second : slice_index (starts ++ end ∷ []) (k + 1) ≡ slice_index starts (k + 1) =
+      get_or_append_left starts (end ∷ []) 0 (k + 1) (omega (arith, keeps.starts_are)) in (
+        record { order = omega (arith, row.0.order); within = omega (arith, row.0.within, length-append bytes more) },
+        rw (
+          first,
+          second,
+          drop-append-le (slice_index starts k) bytes more (omega (arith, row.0.order, row.0.within)),
+          take-append-le (slice_index starts (k + 1) - slice_index starts k) (drop (slice_index starts k) bytes) more
+              (omega (arith, length-drop (slice_index starts k) bytes, row.0.order, row.0.within)),
+        ) row.1,
+      )
 
--- the last piece is what came last
-record IsLast (bytes more starts : List ℕ) (count : ℕ) : Type 0 where
-  is : IsPiece (bytes ++ more) (starts ++ length (bytes ++ more) ∷ []) count
-  same : piece (bytes ++ more) (starts ++ length (bytes ++ more) ∷ []) count ≡ more
+  -- the last row is what came last
+  last_row : MakesRow p count more → IsRow p (bytes ++ more) (starts ++ end ∷ []) count
+  last_row makes =
+      let first : slice_index (starts ++ end ∷ []) count ≡ length bytes =
+      get_or_append_left starts (end ∷ []) 0 count (omega (arith, keeps.starts_are)) ∙ keeps.last in
+      let second : slice_index (starts ++ end ∷ []) (count + 1) ≡ end = get_or_push starts end 0 (count + 1) keeps.starts_are in
+      let long : end - length bytes ≡ length more = omega (arith, length-append bytes more) in (
+        record { order = omega (arith, length-append bytes more); within = omega arith },
+        rw (first, second, drop-append_seam bytes more, long, take-length more) makes,
+      )
 
-last_piece : (bytes more starts : List ℕ) (count : ℕ) → length starts ≡ count + 1 → slice_index starts count ≡ length bytes
-    → IsLast bytes more starts count
-last_piece bytes more starts count size last =
-    let end : ℕ = length (bytes ++ more) in
-    let first : slice_index (starts ++ end ∷ []) count ≡ length bytes =
-    get_or_append_left starts (end ∷ []) 0 count (omega (arith, size)) ∙ last in
-    let second : slice_index (starts ++ end ∷ []) (count + 1) ≡ end = get_or_push starts end 0 (count + 1) size in
-    let long : end - length bytes ≡ length more = omega (arith, length-append bytes more) in
-    record {
-      is = record { order = omega (arith, length-append bytes more); within = omega arith };
-      same = rw (first, second, drop-append_seam bytes more, long, take-length more) refl;
-    }
-
-row_more : {p : Picture} (bytes starts : List ℕ) {count : ℕ} (more : List ℕ) → KeepsRows p bytes starts count → MakesRow p count more
-    → KeepsRows p (bytes ++ more) (starts ++ length (bytes ++ more) ∷ []) (count + 1)
-row_more {p} bytes starts {count} more keeps makes =
-    let end : ℕ = length (bytes ++ more) in
-    let last = last_piece bytes more starts count keeps.starts_are keeps.last in
-    record {
-      starts_are = omega (arith, length-append starts (end ∷ []), keeps.starts_are);
-      last = get_or_push starts end 0 (count + 1) keeps.starts_are;
-      pieces = λ k lt.
-          elim (cases_lt k count) [
-            | inl before ↦ piece_is_stays bytes more starts end (omega (arith, keeps.starts_are)) (keeps.pieces k before)
-            | inr at ↦
-                let here : count ≡ k = omega arith in rw (← here) last.is
-          ];
-      rows = λ k lt.
-          elim (cases_lt k count) [
-            | inl before ↦
-                rw (piece_stays bytes more starts end (omega (arith, keeps.starts_are)) (keeps.pieces k before)) (keeps.rows k before)
-            | inr at ↦
-                let here : count ≡ k = omega arith in rw (← here, last.same) makes
-          ];
-    }
-
-pub more_kept : {p : Picture} {bytes starts new_bytes new_starts : List ℕ} {count : ℕ} (more : List ℕ) → KeepsRows p bytes starts count
-    → new_bytes ≡ bytes ++ more → new_starts ≡ starts ++ length new_bytes ∷ [] → MakesRow p count more
-    → KeepsRows p new_bytes new_starts (count + 1)
-more_kept {p} {bytes} {starts} {new_bytes} {new_starts} {count} more keeps b s makes =
-    rw (s, b) (row_more bytes starts more keeps makes)
+  pub more_kept : {new_bytes new_starts : List ℕ} → new_bytes ≡ bytes ++ more → new_starts ≡ starts ++ length new_bytes ∷ []
+      → MakesRow p count more → KeepsRows p new_bytes new_starts (count + 1)
+  more_kept b s makes = rw (s, b) (record {
+    starts_are = omega (arith, length-append starts (end ∷ []), keeps.starts_are);
+    last = get_or_push starts end 0 (count + 1) keeps.starts_are;
+    rows = λ k lt.
+        elim (cases_lt k count) [
+          | inl before ↦ row_stays k before
+          | inr at ↦ let here : k ≡ count = omega arith in rw here (last_row makes)
+        ];
+  })
 
 -- ---- all rows
 
@@ -128,20 +98,12 @@ pub next_above : (p : Picture) (y : ℕ) {n : ℕ} {row copied : List ℕ} (rest
 next_above p y {n} {row} {copied} rest is same long =
     rw (← long, ← same, add-one) (take-append_seam copied rest ∙ same ∙ is)
 
--- data that was written over the front of a buffer
-pub written_over : (p : Picture) (y : ℕ) {n : ℕ} (buffer : List ℕ) {row bytes : List ℕ} → take n buffer ≡ row_above p y → length row ≡ n
-    → row ≡ row_of p y → Decodes Delta (take (length row) buffer) bytes row → MakesRow p y bytes
-written_over p y {n} buffer {row} {bytes} above long is d =
-    rw (← is, ← above, ← long) d
+-- what row data makes over the front of a buffer
+pub made_over : (p : Picture) (y : ℕ) {n : ℕ} (buffer row : List ℕ) {bytes made : List ℕ} → take n buffer ≡ row_above p y
+    → length row ≡ n → Decodes Delta (take (length row) buffer) bytes made → Decodes Delta (row_above p y) bytes made
+made_over p y buffer row above long d = rw (← above, ← long) d
 
 -- ---- two bitmaps beside the same row data
-
--- data that was decoded over the front of a buffer
-pub decoded_over : (p : Picture) (y : ℕ) {n : ℕ} (buffer row : List ℕ) {bytes held made : List ℕ} → take n buffer ≡ row_above p y
-    → length row ≡ n
-    → bytes ≡ held → Decodes Delta (take (length row) buffer) bytes made → Decodes Delta (row_above p y) held made
-decoded_over p y {n} buffer row {bytes} {held} {made} above long is d =
-    rw (← is, ← above, ← long) d
 
 -- one row more is made
 pub makes_more : (p : Picture) (held : KeptBitmap) {y : ℕ} {made : List ℕ} → ((k : ℕ) → k < y → MakesRow p k (data_of held k))
@@ -154,79 +116,50 @@ makes_more p held {y} before d is k lt =
           rw (← here, ← is) d
     ]
 
-made_same : {one other bytes row row' : List ℕ} → one ≡ other → Decodes Delta one bytes row → Decodes Delta other bytes row' → row ≡ row'
-made_same {one} {other} {bytes} {row} {row'} same a b =
-    one_row Delta bytes other row row' (rw same at a) b
-
 -- two bitmaps of one size and resolution, and row data that makes the rows of the one, and the first rows of the other
-pub record AreBeside (kept other : Picture) (held : KeptBitmap) (count : ℕ) : Type 0 where
-  pub keeps : KeepsPicture kept held
-  pub size : kept.size ≡ other.size
-  pub resolution : kept.dpi ≡ other.dpi
-  pub within : count ≤ page_height other.size other.dpi
-  pub makes : (k : ℕ) → k < count → MakesRow other k (data_of held k)
+module _ {kept : Picture} (other : Picture) {held : KeptBitmap} {count : ℕ} (is_kept : IsPicture kept) (keeps : KeepsPicture kept held)
+    (size : held.size ≡ other.size) (dpi : held.dpi ≡ other.dpi) (within : count ≤ page_height other.size other.dpi)
+    (makes : (k : ℕ) → k < count → MakesRow other k (data_of held k)) where
+  sizes : kept.size ≡ other.size
+  sizes = sym keeps.size ∙ size
 
-pub beside : {kept other : Picture} {held : KeptBitmap} {count : ℕ} → KeepsPicture kept held → held.size ≡ other.size
-    → held.dpi ≡ other.dpi → count ≤ page_height other.size other.dpi → ((k : ℕ) → k < count → MakesRow other k (data_of held k))
-    → AreBeside kept other held count
-beside keeps s d within makes = record {
-  keeps = keeps;
-  size = sym keeps.size ∙ s;
-  resolution = sym keeps.resolution ∙ d;
-  within = within;
-  makes = makes;
-}
+  resolutions : kept.dpi ≡ other.dpi
+  resolutions = sym keeps.resolution ∙ dpi
 
-white_same : (p q : Picture) → p.size ≡ q.size → p.dpi ≡ q.dpi → row_above p 0 ≡ row_above q 0
-white_same p q s d =
-    rw (s, d) refl
+  heights : page_height kept.size kept.dpi ≡ page_height other.size other.dpi
+  heights = rw (sizes, resolutions) refl
 
-same_height : {kept other : Picture} {held : KeptBitmap} {count : ℕ} → AreBeside kept other held count
-    → page_height kept.size kept.dpi ≡ page_height other.size other.dpi
-same_height {kept} {other} b =
-    rw (b.size, b.resolution) refl
+  -- the rows are the same up to the first one that isn't compared yet
+  above_same : (k : ℕ) → k ≤ count → row_above kept k ≡ row_above other k
+  above_same zero le = rw (sizes, resolutions) refl
+  above_same (suc k) le =
+      one_row Delta (data_of held k) (row_above other k) (row_of kept k) (row_of other k)
+      (rw (above_same k (omega arith)) at (keeps.rows k (omega (arith, heights)))) (makes k (omega arith))
 
-rows_same : {kept other : Picture} {held : KeptBitmap} {count : ℕ} → AreBeside kept other held count → (k : ℕ) → k < count
-    → row_of kept k ≡ row_of other k
-rows_same {kept} {other} b zero lt = made_same (white_same kept other b.size b.resolution)
-    (b.keeps.rows 0 (omega (arith, b.within, same_height b))) (b.makes 0 lt)
-rows_same b (suc k) lt =
-    made_same (rows_same b k (omega arith)) (b.keeps.rows (suc k) (omega (arith, b.within, same_height b))) (b.makes (suc k) lt)
+  -- all rows are compared
+  pub all_beside : IsPicture other → page_height other.size other.dpi ≤ count → kept ≡ other
+  all_beside is_other all =
+      same_dots kept other is_kept is_other sizes resolutions
+      (λ x y across down. ap (λ (row : List ℕ). dot_of_row row x) (above_same (suc y) (omega (arith, heights))))
 
--- the row above the first one that isn't compared yet
-pub above_same : {kept other : Picture} {held : KeptBitmap} (count : ℕ) → AreBeside kept other held count
-    → row_above kept count ≡ row_above other count
-above_same {kept} {other} zero b = white_same kept other b.size b.resolution
-above_same (suc k) b = rows_same b k (omega arith)
-
--- all rows are compared
-pub all_beside : {kept other : Picture} {held : KeptBitmap} {count : ℕ} → IsPicture kept → IsPicture other
-    → AreBeside kept other held count → page_height other.size other.dpi ≤ count → kept ≡ other
-all_beside {kept} {other} is_kept is_other b all =
-    same_dots kept other is_kept is_other b.size b.resolution
-    (λ x y across down. ap (λ (row : List ℕ). dot_of_row row x) (rows_same b y (omega (arith, all, same_height b))))
-
--- a row is found to differ
-pub row_differs : {kept other : Picture} {held : KeptBitmap} {y x : ℕ} {made row : List ℕ} → IsPicture kept → AreBeside kept other held y
-    → y < page_height other.size other.dpi → Decodes Delta (row_above other y) (data_of held y) made → row ≡ row_of other y
-    → ((px : ℕ) → page_width other.size other.dpi ≤ px → dot_of_row row px ≡ false)
-    → IsFirstDotOfRow made row x
-    → IsFirstDot (page_width kept.size kept.dpi) (page_height kept.size kept.dpi) (dot kept) (dot other) x y
-row_differs {kept} {other} {held} {y} {x} {made} {row} is_kept b down decoded row_is pads first =
-    let made_is : made ≡ row_of kept y = sym (made_same (above_same y b) (b.keeps.rows y (omega (arith, down, same_height b))) decoded) in
-    let width : page_width kept.size kept.dpi ≡ page_width other.size other.dpi =
-    rw (b.size, b.resolution) refl in
-    let of_made : (px : ℕ) → dot kept px y ≡ dot_of_row made px = λ px. ap (λ (bytes : List ℕ). dot_of_row bytes px) (sym made_is) in
-    let of_row : (px : ℕ) → dot other px y ≡ dot_of_row row px = λ px. ap (λ (bytes : List ℕ). dot_of_row bytes px) (sym row_is) in
-    record {
-      across = elim (cases_lt x (page_width kept.size kept.dpi)) [
-        | inl inside ↦ inside
-        | inr past ↦
-            absurd (first.differs
-            (sym (of_made x) ∙ is_kept.clear_pads x y past ∙ sym (pads x (omega (arith, width, past)))))
-      ];
-      down = omega (arith, down, same_height b);
-      differs = λ same. first.differs (sym (of_made x) ∙ same ∙ of_row x);
-      above = λ px py across before. ap (λ (bytes : List ℕ). dot_of_row bytes px) (rows_same b py before);
-      left = λ px before. of_made px ∙ first.same px before ∙ sym (of_row px);
-    }
+  -- a row is found to differ
+  pub row_differs : {x : ℕ} {made row : List ℕ} → count < page_height other.size other.dpi
+      → Decodes Delta (row_above other count) (data_of held count) made → row ≡ row_of other count
+      → ((px : ℕ) → page_width other.size other.dpi ≤ px → dot_of_row row px ≡ false) → IsFirstDotOfRow made row x
+      → IsFirstDot (page_width kept.size kept.dpi) (page_height kept.size kept.dpi) (dot kept) (dot other) x count
+  row_differs {x} {made} {row} down decoded row_is pads first =
+      let made_is : row_of kept count ≡ made =
+      one_row Delta (data_of held count) (row_above other count) (row_of kept count) made
+      (rw (above_same count (omega arith)) at (keeps.rows count (omega (arith, heights)))) decoded in
+      let found = rw (← made_is, row_is) at first in
+      let width : page_width kept.size kept.dpi ≡ page_width other.size other.dpi = rw (sizes, resolutions) refl in
+      record {
+        across = elim (cases_lt x (page_width kept.size kept.dpi)) [
+          | inl inside ↦ inside
+          | inr past ↦ absurd (found.differs (is_kept.clear_pads x count past ∙ sym (rw row_is at (pads x (omega (arith, width))))))
+        ];
+        down = omega (arith, heights);
+        differs = found.differs;
+        above = λ px py across before. ap (λ (row : List ℕ). dot_of_row row px) (above_same (suc py) (omega arith));
+        left = found.same;
+      }

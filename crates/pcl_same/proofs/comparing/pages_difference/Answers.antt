@@ -1,7 +1,5 @@
-use Rattle.std.proofs.Common.{◌≡◌, length, take, ap, subst, ◌∙◌, ℕ, arith}
-use Rattle.std.specs.List.{AllByRecursion}
+use Rattle.std.proofs.Common.{◌≡◌, length, arith}
 use Rattle.std.proofs.Math.Seq.{take-length}
-use Rattle.pcl_same.specs.inner.Pages.{IsAlike}
 use Rattle.pcl_same.proofs.Concluded.{next_alike, first_found}
 use Rattle.pcl_same.proofs.comparing.pages_difference.Goals as goal
 
@@ -20,5 +18,5 @@ returns c =
     let found = c.args.found.now in
     let all : c.loop-before.before ≡ length found = omega (arith, c.loop-before-test.false, c.loop-before.auto.before-end) in (
       c.if-found-count.false,
-      subst (AllByRecursion IsAlike) (ap (λ (n : ℕ). take n found) all ∙ take-length found) c.loop-before.invariant,
+      rw (all, take-length found) at c.loop-before.invariant,
     )

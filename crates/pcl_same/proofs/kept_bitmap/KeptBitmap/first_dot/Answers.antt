@@ -1,6 +1,6 @@
 use Rattle.std.proofs.Common.{◌≡◌, ℕ, ◌<◌, length, drop, ◌∙◌, arith}
 use Rattle.pcl_base.specs.Size.{page_height}
-use Rattle.pcl_same.proofs.KeptRows.{height_is, white_above, next_above, decoded_over, makes_more, beside, all_beside, row_differs}
+use Rattle.pcl_same.proofs.KeptRows.{height_is, white_above, next_above, made_over, makes_more, all_beside, row_differs}
 use Rattle.pcl_same.proofs.kept_bitmap.KeptBitmap.first_dot.Goals as goal
 
 pub loop-y-init : goal.loop-y-init
@@ -12,9 +12,9 @@ returns-in-Some c = λ kept is_kept keeps.
     let y : ℕ = c.loop-y.y in
     let height = height_is other c.height-y-end.ensures c.size.ensures.value c.dpi.ensures.value in
     let down : y < page_height other.size other.dpi = omega (arith, c.loop-y-test.true, height) in
-    row_differs is_kept (beside keeps c.requires.size c.requires.dpi (omega (arith, down)) c.loop-y.invariant.makes) down
-    (decoded_over other y c.loop-y.above c.row-row.result.now c.loop-y.invariant.above c.row-row.ensures.len c.row_data.ensures
-    c.decode.ensures)
+    row_differs other is_kept keeps c.requires.size c.requires.dpi (omega (arith, down)) c.loop-y.invariant.makes down
+    (made_over other y c.loop-y.above c.row-row.result.now c.loop-y.invariant.above c.row-row.ensures.len
+    (rw c.row_data.ensures at c.decode.ensures))
     c.row-row.ensures.bytes c.row-row.ensures.clear_pads c.in-Some.ensures
 
 pub loop-y-preserved : goal.loop-y-preserved
@@ -25,8 +25,8 @@ loop-y-preserved c =
       above = next_above other y (drop (length c.row-row.result.now) c.loop-y.above) c.row-row.ensures.bytes
           c.copy_from_slice.ensures.after c.row-row.ensures.len;
       makes = makes_more other c.args.self.now c.loop-y.invariant.makes
-          (decoded_over other y c.loop-y.above c.row-row.result.now c.loop-y.invariant.above c.row-row.ensures.len c.row_data.ensures
-          c.decode.ensures)
+          (made_over other y c.loop-y.above c.row-row.result.now c.loop-y.invariant.above c.row-row.ensures.len
+          (rw c.row_data.ensures at c.decode.ensures))
           (c.in_default.ensures ∙ c.row-row.ensures.bytes);
     }
 
@@ -35,5 +35,5 @@ returns c = λ kept is_kept keeps.
     let other = c.args.other.now in
     let height = height_is other c.height-y-end.ensures c.size.ensures.value c.dpi.ensures.value in
     let all : c.loop-y.y ≡ page_height other.size other.dpi = omega (arith, c.loop-y-test.false, c.loop-y.auto.y-end, height) in
-    all_beside is_kept c.size.ensures.picture
-    (beside keeps c.requires.size c.requires.dpi (omega (arith, all)) c.loop-y.invariant.makes) (omega (arith, all))
+    all_beside other is_kept keeps c.requires.size c.requires.dpi (omega (arith, all)) c.loop-y.invariant.makes c.size.ensures.picture
+    (omega (arith, all))

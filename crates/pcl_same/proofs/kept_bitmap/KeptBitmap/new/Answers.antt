@@ -1,6 +1,6 @@
 use Rattle.std.proofs.Common.{◌≡◌, ◌∙◌, ℕ, List, [], ◌++◌, ◌∷◌, length, drop, ap, arith}
 use Rattle.pcl_base.specs.Size.{page_height}
-use Rattle.pcl_same.proofs.KeptRows.{none_kept, more_kept, height_is, white_above, next_above, written_over}
+use Rattle.pcl_same.proofs.KeptRows.{none_kept, more_kept, height_is, white_above, next_above, made_over}
 use Rattle.pcl_same.proofs.kept_bitmap.KeptBitmap.new.Goals as goal
 
 pub loop-y-init : goal.loop-y-init
@@ -19,8 +19,8 @@ loop-y-preserved c =
     record {
       keeps = more_kept written.bytes c.loop-y.invariant.keeps written.joined
           (c.in_ok-push-2.ensures.items ∙ ap (λ (n : ℕ). c.loop-y.starts.items ++ n ∷ []) end)
-          (written_over bitmap y c.loop-y.above c.loop-y.invariant.above c.row-row.ensures.len c.row-row.ensures.bytes
-          written.whole.decodes);
+          (rw (← c.row-row.ensures.bytes) (made_over bitmap y c.loop-y.above c.row-row.result.now c.loop-y.invariant.above
+          c.row-row.ensures.len written.whole.decodes));
       above = next_above bitmap y (drop (length c.row-row.result.now) c.loop-y.above) c.row-row.ensures.bytes
           c.copy_from_slice.ensures.after c.row-row.ensures.len;
     }
@@ -31,7 +31,7 @@ invariant_of-result c =
     omega (arith, c.loop-y-test.false, c.loop-y.auto.y-end, c.height-y-end.ensures) in
     record {
       count = omega (arith, all, c.loop-y.invariant.keeps.starts_are);
-      pieces = λ y lt. c.loop-y.invariant.keeps.pieces y (omega (arith, all, lt));
+      pieces = λ y lt. (c.loop-y.invariant.keeps.rows y (omega (arith, all, lt))).0;
     }
 
 pub returns : goal.returns
@@ -41,5 +41,5 @@ returns c =
     record {
       size = c.size-size.ensures.value;
       resolution = c.dpi-dpi.ensures.value;
-      rows = λ y lt. c.loop-y.invariant.keeps.rows y (omega (arith, c.loop-y-test.false, height, lt));
+      rows = λ y lt. (c.loop-y.invariant.keeps.rows y (omega (arith, c.loop-y-test.false, height, lt))).1;
     }
