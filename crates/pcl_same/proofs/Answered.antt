@@ -20,8 +20,8 @@ use Rattle.pcl_same.specs.declared.keeping.KeptJob.{KeptJob}
 use Rattle.pcl_same.specs.declared.keeping.KeptPage.{KeptPage}
 use Rattle.pcl_same.specs.Comparing.{Compare, of_pages, CompareAsks, IsAskedComparison}
 use Rattle.pcl_same.specs.Differing.{IsFirstDot, DifferBy, DifferFirst}
-use Rattle.pcl_same.specs.Kept.{KeepsPage, KeepAll}
-use Rattle.pcl_same.specs.inner.Pages.{PagesDiffer, IsFound, FindAll, IsAlike, IsConcluded, comparison_of}
+use Rattle.pcl_same.specs.Kept.{KeepAll}
+use Rattle.pcl_same.specs.inner.Pages.{PagesDiffer, FindAll, IsAlike, IsConcluded, comparison_of}
 use Rattle.pcl_same.specs.Keeping.{IsKept}
 use Rattle.pcl_same.proofs.AskedPages.{OnePages, asked_pages}
 use Rattle.pcl_same.proofs.OneAnswer.{alike_count}
@@ -82,11 +82,6 @@ module _ (dpi : Dpi) where
   found_count kept (other ∷ others) [] f = absurd f
   found_count kept (other ∷ others) (one ∷ found) f = omega (arith, found_count (drop 1 kept) others found f.3)
 
-  -- what is found of a page beside the one that was kept
-  found_of : {page page' : Page} {one other : Sheet} {kept : KeptPage} (found : Option Difference) → Shows dpi page one
-      → Shows dpi page' other → KeepsPage page kept → IsFound kept page' found → PagesDiffer page page' found
-  found_of {page = page} found shows shows' keeps is = is page keeps cc
-
   all_alike : (pages : List Sheet) (kept : List KeptPage) (others : List Sheet) (found : List (Option Difference))
       → KeepAll dpi pages kept → FindAll dpi kept others found → length found ≡ length kept → AllByRecursion IsAlike found
       → AllAlike dpi pages others
@@ -94,7 +89,7 @@ module _ (dpi : Dpi) where
   all_alike [] [] (other ∷ others) (one ∷ found) k f count a = absurd (omega arith)
   all_alike (page ∷ pages) (one ∷ kept) [] [] k f count a = absurd (omega arith)
   all_alike (page ∷ pages) (one ∷ kept) (other ∷ others) (next ∷ found) k f count a =
-      (sheets_alike k.1 f.1 (rw a.0 at (found_of next k.1 f.1 k.2 f.2)), all_alike pages kept others found k.3 f.3 (omega arith) a.1)
+      (sheets_alike k.1 f.1 (rw a.0 at (f.2 k.0 k.2 (cc (k.1.resolution, f.1.resolution)))), all_alike pages kept others found k.3 f.3 (omega arith) a.1)
   all_alike [] (one ∷ kept) others found k f count a = absurd k
   all_alike (page ∷ pages) [] others found k f count a = absurd k
   all_alike pages kept [] (one ∷ found) k f count a = absurd f
@@ -121,7 +116,7 @@ module _ (dpi : Dpi) where
     others_are = refl;
     alike_before = tt;
     counted = refl;
-    differ = sheets_differ k.1 f.1 difference (found_of (Some difference) k.1 f.1 k.2 f.2);
+    differ = sheets_differ k.1 f.1 difference (f.2 k.0 k.2 (cc (k.1.resolution, f.1.resolution)));
   }
   first_differ (page ∷ pages) (one ∷ kept) (other ∷ others) (b ∷ before) after k f count a =
       let rest = first_differ pages kept others before after k.3 f.3 (omega arith) a.1 in
@@ -134,7 +129,7 @@ module _ (dpi : Dpi) where
         other = rest.other;
         others_after = rest.others_after;
         others_are = cc (rest.others_are);
-        alike_before = (sheets_alike k.1 f.1 (rw a.0 at (found_of b k.1 f.1 k.2 f.2)), rest.alike_before);
+        alike_before = (sheets_alike k.1 f.1 (rw a.0 at (f.2 k.0 k.2 (cc (k.1.resolution, f.1.resolution)))), rest.alike_before);
         counted = omega (arith, rest.counted);
         differ = rest.differ;
       }

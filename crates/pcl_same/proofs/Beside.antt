@@ -1,15 +1,13 @@
 -- What the two sinks hold that took the pages of the jobs.
-use Rattle.std.proofs.Common.{◌≡◌, ℕ, ◌<◌, ◌≤◌, get_or, List, [], ◌∷◌, ◌++◌, length, drop, Option, refl, sym, ap, subst, ◌∙◌, append_assoc, append-nil}
-use Rattle.std.proofs.lemmas.List.{length-append, drop-drop, drop_all}
-use Rattle.std.proofs.Math.Seq.{drop-cons}
+use Rattle.std.proofs.Common.{◌≡◌, List, [], ◌∷◌, ◌++◌, length, drop, Option, refl, sym, ap, subst, ◌∙◌, append_assoc, append-nil}
+use Rattle.std.proofs.lemmas.List.{length-append, drop-drop}
 use Rattle.pcl_base.specs.declared.dpi.Dpi.{Dpi}
-use Rattle.pcl_bitmap.specs.declared.page.Page.{Page}
 use Rattle.pcl_page.specs.Situation.{Sheet}
 use Rattle.pcl_page.specs.Delivering.{Hands}
 use Rattle.pcl_same.specs.declared.comparison.Difference.{Difference}
 use Rattle.pcl_same.specs.declared.keeping.KeptPage.{KeptPage}
 use Rattle.pcl_same.specs.Kept.{KeepAll}
-use Rattle.pcl_same.specs.inner.Pages.{KeepsMore, Compared, IsFound, IsFoundNext, ComparesNext, FindAll}
+use Rattle.pcl_same.specs.inner.Pages.{KeepsMore, Compared, ComparesNext, FindAll}
 
 -- ---- the first job
 
@@ -35,14 +33,12 @@ all_kept dpi sheets {old} new none h =
 
 -- what is found after pages
 record FindsMore (dpi : Dpi) (sheets : List Sheet) (old new : Compared) : Type 0 where
-  kept : new.kept ≡ old.kept
   more : List (Option Difference)
   found : new.found ≡ old.found ++ more
   find : FindAll dpi (drop (length old.found) old.kept) sheets more
 
 finds_on : (dpi : Dpi) (sheets : List Sheet) (old new : Compared) → Hands ComparesNext dpi sheets old new → FindsMore dpi sheets old new
 finds_on dpi [] old new h = record {
-  kept = ap (λ (c : Compared). c.kept) h;
   more = [];
   found = ap (λ (c : Compared). c.found) h ∙ sym (append-nil old.found);
   find = tt;
@@ -53,7 +49,6 @@ finds_on dpi (sheet ∷ sheets) old new h =
     let left : drop (length h.1.found) h.1.kept ≡ drop 1 (drop (length old.found) old.kept) =
     rw (took.kept, took.found, length-append old.found (took.next ∷ []), drop-drop 1 (length old.found) old.kept) refl in
     record {
-      kept = cc;
       more = took.next ∷ rest.more;
       found = cc (rest.found, took.found, append_assoc old.found (took.next ∷ []) rest.more);
       find = (
@@ -64,38 +59,10 @@ finds_on dpi (sheet ∷ sheets) old new h =
       );
     }
 
-pub record FoundAll (dpi : Dpi) (kept : List KeptPage) (sheets : List Sheet) (new : Compared) : Type 0 where
-  pub kept_is : new.kept ≡ kept
-  pub find : FindAll dpi kept sheets new.found
-
-pub found_all : (dpi : Dpi) (sheets : List Sheet) {kept : List KeptPage} {old new : Compared} → old.kept ≡ kept → old.found ≡ []
-    → Hands ComparesNext dpi sheets old new → FoundAll dpi kept sheets new
-found_all dpi sheets {kept} {old} {new} k none h =
+pub found_all : (dpi : Dpi) (sheets : List Sheet) {kept : List KeptPage} {old : Compared} (new : Compared) → old.kept ≡ kept → old.found ≡ []
+    → Hands ComparesNext dpi sheets old new → FindAll dpi kept sheets new.found
+found_all dpi sheets {kept} {old} new k none h =
     let f = finds_on dpi sheets old new h in
-    let found_is : new.found ≡ f.more = f.found ∙ ap (λ (front : List (Option Difference)). front ++ f.more) none in
-    let left_is : drop (length old.found) old.kept ≡ kept =
-    ap (λ (front : List (Option Difference)). drop (length front) old.kept) none ∙ k in
-    record {
-      kept_is = f.kept ∙ k;
-      find = subst (FindAll dpi kept sheets) (sym found_is)
-          (subst (λ (left : List KeptPage). FindAll dpi left sheets f.more) left_is f.find);
-    }
-
--- ---- one page
-
--- what is found of a page, by the kept one of its number
-pub found_there : (page : Page) (next : Option Difference) (kept : List KeptPage) {n : ℕ} (one : KeptPage) → n < length kept
-    → one ≡ get_or kept n one → IsFound one page next → IsFoundNext (drop n kept) page next
-found_there page next kept {n} one lt same found = rw (drop-cons kept n one lt, ← same) found
-
--- and where there is none
-pub found_past : (page : Page) (next : Option Difference) (kept : List KeptPage) {n : ℕ} → length kept ≤ n
-    → IsFoundNext (drop n kept) page next
-found_past page next kept {n} past = rw (drop_all n kept past) tt
-
--- a page is compared
-pub compares : {old : Compared} {page : Page} {kept new_kept : List KeptPage} {found same_found new_found : List (Option Difference)}
-    (next : Option Difference)
-    → record { kept = kept; found = found } ≡ old → new_kept ≡ kept → same_found ≡ found → new_found ≡ same_found ++ next ∷ []
-    → IsFoundNext (drop (length found) kept) page next → ComparesNext old page (record { kept = new_kept; found = new_found })
-compares next view k s f is = rw (← view) (record { kept = k; next = next; found = rw (← s) f; is = is })
+    let left : drop (length old.found) old.kept ≡ kept = rw (none, k) refl in
+    subst (FindAll dpi kept sheets) (sym (f.found ∙ ap (λ (front : List (Option Difference)). front ++ f.more) none))
+    (subst (λ (kept : List KeptPage). FindAll dpi kept sheets f.more) left f.find)

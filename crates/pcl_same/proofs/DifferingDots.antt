@@ -1,5 +1,5 @@
 -- Rows of bits at which rows differ, painted one by one.
-use Rattle.std.proofs.Common.{◌≡◌, ℕ, zero, suc, ◌+◌, ◌-◌, ◌/◌, ◌%◌, ◌<◌, Bool, true, false, ◌&&◌, ◌||◌, nat_eq, List, length, refl, ap, ◌∙◌, inl, inr, arith}
+use Rattle.std.proofs.Common.{◌≡◌, ℕ, zero, suc, ◌+◌, ◌-◌, ◌/◌, ◌%◌, ◌<◌, false, ◌&&◌, ◌||◌, nat_eq, List, length, refl, ◌∙◌, inl, inr, arith}
 use Rattle.std.specs.Prelude.{slice_index, nat_lt}
 use Rattle.std.specs.Int.{bit_at}
 use Rattle.std.specs.Int.Bits.{bit_xor}
@@ -7,16 +7,11 @@ use Rattle.std.proofs.lemmas.Bool.{cases_lt, le-ltb, lt-ltb}
 use Rattle.std.proofs.lemmas.Bool.Decides.{nat_tests}
 use Rattle.std.proofs.lemmas.List.{get_or_past}
 use Rattle.std.proofs.lemmas.Nat.Bits.{bit_at_xor, bit_at-lt}
-use Rattle.pcl_base.specs.declared.dpi.Dpi.{Dpi}
-use Rattle.pcl_base.specs.declared.size.Size.{Size}
+use Rattle.std.proofs.Math.Bool.{or-false}
 use Rattle.pcl_base.specs.Size.{page_width, page_height}
 use Rattle.pcl_bitmap.specs.Bitmap.{Picture, bit_of_byte, dot_of_row, dot}
 use Rattle.pcl_bitmap.specs.Dots.{raster_dot}
 use Rattle.pcl_same.specs.DifferingDots.{differ}
-
-or_false : (b : Bool) → (b || false) ≡ b
-or_false true = refl
-or_false false = refl
 
 -- ---- the bits of a row
 
@@ -87,12 +82,7 @@ more_drawn one other old y {new} {width} bits drawn s r w row painted = record {
               let is : py ≡ y = omega arith in
               let drawn_row : raster_dot 0 y 1 width bits px py ≡ differ (dot one px py) (dot other px py) =
               rw is (row_here y width px bits (omega (arith, w)) ∙ row px) in
-              rw (here, before, le-ltb py y at, or_false (raster_dot 0 y 1 width bits px py), drawn_row, lt-ltb py (y + 1) (omega arith)) refl
+              rw (here, before, le-ltb py y at, or-false (raster_dot 0 y 1 width bits px py), drawn_row, lt-ltb py (y + 1) (omega arith)) refl
         ]
       ];
 }
-
--- the width of the row that is painted
-pub width_is : (one : Picture) {width : ℕ} {size : Size} {dpi : Dpi} → width ≡ page_width size dpi → size ≡ one.size → dpi ≡ one.dpi
-    → width ≡ page_width one.size one.dpi
-width_is one {dpi} w s r = w ∙ ap (λ (size : Size). page_width size dpi) s ∙ ap (page_width one.size) r

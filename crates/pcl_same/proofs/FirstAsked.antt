@@ -1,5 +1,5 @@
 -- The first difference of what two jobs ask of the printer.
-use Rattle.std.proofs.Common.{◌≡◌, ℕ, suc, ◌+◌, ◌<◌, List, ◌∷◌, ◌++◌, length, map, take, drop, get_or, Option, Some, None, refl, arith}
+use Rattle.std.proofs.Common.{◌≡◌, ℕ, suc, ◌+◌, ◌<◌, List, length, map, take, drop, get_or, Option, Some, None, refl, arith}
 use Rattle.std.specs.Prelude.{MatchOption}
 use Rattle.std.specs.Option.{option_or}
 use Rattle.std.proofs.lemmas.List.{take-append-drop, length-take-le, length-map, take_more_same}
@@ -64,9 +64,6 @@ first_setting one other None None None None None p q r s t = λ i. record {
 
 -- ---- lists
 
-split_at : {A : Type 0} (xs : List A) {n : ℕ} (d : A) → n < length xs → xs ≡ take n xs ++ get_or xs n d ∷ drop (suc n) xs
-split_at xs {n} d lt = rw (← drop-cons xs n d lt, take-append-drop n xs) refl
-
 -- the first place at which two lists differ
 pub differ_here : {A : Type 0} (differ : A → A → Type 0) (xs ys : List A) {n : ℕ} (d e : A) → n < length xs → n < length ys
     → take n xs ≡ take n ys → differ (get_or xs n d) (get_or ys n e) → DifferAt differ xs ys (n + 1)
@@ -74,10 +71,10 @@ differ_here {A} differ xs ys {n} d e lt lt' same differs = record {
   before = take n xs;
   one = get_or xs n d;
   ones_after = drop (suc n) xs;
-  ones_are = split_at xs d lt;
+  ones_are = rw (← drop-cons xs n d lt, take-append-drop n xs) refl;
   other = get_or ys n e;
   others_after = drop (suc n) ys;
-  others_are = rw same (split_at ys e lt');
+  others_are = rw (same, ← drop-cons ys n e lt', take-append-drop n ys) refl;
   counted = omega (arith, length-take-le n xs (omega arith));
   differs = differs;
 }

@@ -13,7 +13,6 @@ use Rattle.pcl_same.specs.declared.comparison.AsksDifference.{AsksDifference}
 use Rattle.pcl_same.specs.declared.comparison.AsksDifference.TheVariants.{Page, ExitCount, Exit}
 use Rattle.pcl_same.specs.declared.comparison.ExitDifference.{ExitDifference}
 use Rattle.pcl_same.specs.declared.comparison.ExitDifference.TheVariants.{Place, Lines}
-use Rattle.pcl_same.specs.declared.comparison.PagesDifference.{PagesDifference}
 use Rattle.pcl_same.specs.declared.comparison.PagesDifference.TheVariants as pages
 use Rattle.pcl_same.specs.declared.comparison.SettingDifference.{SettingDifference}
 use Rattle.pcl_same.specs.declared.fault.SameFault.{SameFault}
@@ -78,18 +77,6 @@ exits_differ : (one other : UniversalExit) (d : ExitDifference) → one ≡ othe
 exits_differ one other (Place a b) same p = p.2 cc
 exits_differ one other Lines same p = p.1 cc
 
--- ---- what is found of pages
-
-one_of_pages : (d e : PagesDifference) → of_pages (asked.Pages d) ≡ of_pages (asked.Pages e) → asked.Pages d ≡ asked.Pages e
-one_of_pages (pages.Count a b) (pages.Count a' b') same = cc
-one_of_pages (pages.Count a b) (pages.Page n d) same = absurd cc
-one_of_pages (pages.Page n d) (pages.Count a b) same = absurd cc
-one_of_pages (pages.Page n d) (pages.Page m e) same = cc
-
-pages_apart : (d : PagesDifference) → of_pages (asked.Pages d) ≢ of_pages asked.Same
-pages_apart (pages.Count a b) same = cc
-pages_apart (pages.Page n d) same = cc
-
 -- ---- what is asked
 
 module _ (asks others : Asks) where
@@ -114,13 +101,15 @@ module _ (asks others : Asks) where
 
   one_asked : (a b : AskedComparison) → of_pages a ≡ of_pages b → CompareAsks asks others a → CompareAsks asks others b → a ≡ b
   one_asked asked.Same asked.Same e p q = refl
-  one_asked asked.Same (asked.Pages d) e p q = absurd (pages_apart d (sym e))
   one_asked asked.Same (asked.Asks d) e p q = absurd (asks_unlike d q p)
-  one_asked (asked.Pages d) (asked.Pages d') e p q = one_of_pages d d' e
-  one_asked (asked.Pages d) b e p q = absurd (pages_apart d e)
   one_asked (asked.Asks d) asked.Same e p q = absurd (asks_unlike d p q)
-  one_asked (asked.Asks d) (asked.Pages d') e p q = absurd (pages_apart d' (sym e))
   one_asked (asked.Asks d) (asked.Asks d') e p q = cc (one_difference d d' p q)
+  one_asked (asked.Pages (pages.Count a b)) (asked.Pages (pages.Count a' b')) e p q = cc
+  one_asked (asked.Pages (pages.Page n d)) (asked.Pages (pages.Page m d')) e p q = cc
+  one_asked (asked.Pages (pages.Count a b)) other e p q = absurd cc
+  one_asked (asked.Pages (pages.Page n d)) other e p q = absurd cc
+  one_asked other (asked.Pages (pages.Count a b)) e p q = absurd cc
+  one_asked other (asked.Pages (pages.Page n d)) e p q = absurd cc
 
 -- ---- the answer
 
