@@ -81,23 +81,21 @@ differ_here {A} differ xs ys {n} d e lt lt' same differs = record {
 
 -- ---- universal exits
 
-pub exit_differs : (xs ys : List ExitOfCode) {n : ℕ} (d : ExitOfCode) (difference : ExitDifference) → n < length xs → length xs ≡ length ys
-    → take n (map exit_of xs) ≡ take n (map exit_of ys)
-    → ExitsDifferBy (exit_of (get_or xs n d)) (exit_of (get_or ys n d)) difference
-    → IsExitDifference (map exit_of xs) (map exit_of ys) (exits.Exit (n + 1) difference)
-exit_differs xs ys {n} d difference lt count same differs =
-    let long = length-map xs exit_of in
-    let other = length-map ys exit_of in (
-      cc,
-      differ_here (λ one two. ExitsDifferBy one two difference) (map exit_of xs) (map exit_of ys) (exit_of d) (exit_of d)
-          (omega arith) (omega arith) same (rw (get_or-map exit_of xs n d, get_or-map exit_of ys n d) differs),
-    )
+module _ (xs ys : List ExitOfCode) {n : ℕ} (d : ExitOfCode) (lt : n < length xs) (count : length xs ≡ length ys)
+    (same : take n (map exit_of xs) ≡ take n (map exit_of ys)) where
+  pub exit_differs : (difference : ExitDifference) → ExitsDifferBy (exit_of (get_or xs n d)) (exit_of (get_or ys n d)) difference
+      → IsExitDifference (map exit_of xs) (map exit_of ys) (exits.Exit (n + 1) difference)
+  exit_differs difference differs =
+      let long = length-map xs exit_of in
+      let other = length-map ys exit_of in (
+        cc,
+        differ_here (λ one two. ExitsDifferBy one two difference) (map exit_of xs) (map exit_of ys) (exit_of d) (exit_of d)
+            (omega arith) (omega arith) same (rw (get_or-map exit_of xs n d, get_or-map exit_of ys n d) differs),
+      )
 
-pub exit_passed : (xs ys : List ExitOfCode) {n : ℕ} (d : ExitOfCode) → n < length xs → length xs ≡ length ys
-    → take n (map exit_of xs) ≡ take n (map exit_of ys) → exit_of (get_or xs n d) ≡ exit_of (get_or ys n d)
-    → take (n + 1) (map exit_of xs) ≡ take (n + 1) (map exit_of ys)
-exit_passed xs ys {n} d lt count same here =
-    let long = length-map xs exit_of in
-    let other = length-map ys exit_of in
-    take_more_same (map exit_of xs) (map exit_of ys) n (exit_of d) (omega arith) (omega arith) same
-    (rw (get_or-map exit_of xs n d, get_or-map exit_of ys n d) here)
+  pub exit_passed : exit_of (get_or xs n d) ≡ exit_of (get_or ys n d) → take (n + 1) (map exit_of xs) ≡ take (n + 1) (map exit_of ys)
+  exit_passed here =
+      let long = length-map xs exit_of in
+      let other = length-map ys exit_of in
+      take_more_same (map exit_of xs) (map exit_of ys) n (exit_of d) (omega arith) (omega arith) same
+      (rw (get_or-map exit_of xs n d, get_or-map exit_of ys n d) here)

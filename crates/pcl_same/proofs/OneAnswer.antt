@@ -24,6 +24,7 @@ alike_differs one other (Size first second) is d = d.2 cc
 alike_differs one other (Copies first second) is d = d.3 cc
 alike_differs one other (Dot x y) is d = d.2.differs (is.dots x y d.2.across d.2.down)
 
+-- two numbers, neither below the other
 pub neither_below : (a b : ℕ) → (a < b → ⊥) → (b < a → ⊥) → a ≡ b
 neither_below a b p q = omega arith
 
