@@ -14,7 +14,7 @@ use Rattle.pcl_plan.specs.inner.Filling.{skipping, IsReadable, IsLeastStart, IsD
 use Rattle.pcl_output.specs.inner.WhiteRows.{IsWhiteRun}
 use Rattle.pcl_output.proofs.Walking.{node}
 use Rattle.pcl_output.proofs.WhiteRows.{white_front, white_below, skippable_within, ink_left}
-use Rattle.pcl_plan.proofs.RightRows.{row_stays, white_row_right}
+use Rattle.pcl_plan.proofs.RightRows.{at_row, row_stays, end_number, white_row_right}
 use Rattle.pcl_plan.proofs.InkedRows.{inked_row_right}
 
 -- ---- what is read of a table
@@ -120,18 +120,12 @@ right_more {width} {rows} {new} {row} put right here = record {
   right = λ behind from within.
       elim (cases_lt row behind) [
         | inl lt ↦ stays_behind put right behind lt within
-        | inr le ↦
-            let same : row ≡ behind = omega arith in
-            subst (IsRowRight width rows (node_number new)) same here
+        | inr le ↦ (let same : row ≡ behind = omega arith in subst (IsRowRight width rows (node_number new)) same here)
       ];
 }
 
 -- where the rest is white
-abbrev pub end_number : Bool → ℕ
-end_number true = 1
-end_number false = 0
-
-pub end_is : (method : Method) (is_open : Bool) → number_in end_numbers method is_open ≡ end_number is_open
+end_is : (method : Method) (is_open : Bool) → number_in end_numbers method is_open ≡ end_number is_open
 end_is Plain true = refl
 end_is Runs true = refl
 end_is Packed true = refl
@@ -141,18 +135,21 @@ end_is Runs false = refl
 end_is Packed false = refl
 end_is Delta false = refl
 
+put_end : {old new : List RowNumbers} {row : ℕ} → IsPut old new row end_numbers → (a : Node) → a.row ≡ row
+    → node_number new a ≡ end_number a.inside
+put_end {new} {row} put =
+    at_row (λ (a : Node). node_number new a ≡ end_number a.inside) row
+    (λ method is_open. put.changed method is_open ∙ end_is method is_open)
+
 pub put_white : {width : ℕ} {rows : List (List ℕ)} {old new : List RowNumbers} {row : ℕ} → row < length rows
     → IsPut old new row end_numbers → AreRightFrom width rows old (row + 1) → AreWhite (drop row rows)
     → AreRightFrom width rows new row
 put_white {rows} {row} lt put right white =
-    let rest_white : AreWhite (drop (row + 1) rows) = (let all : AreWhite (row_at rows row ∷ drop (row + 1) rows) = subst AreWhite
-    (drop_more rows row [] lt) white in all.1) in
+    let below = rw (drop_more rows row [] lt) at white in
     right_more put right
-    (white_row_right white
-    (λ method. put.changed method false ∙ end_is method false)
-    (λ method. put.changed method true ∙ end_is method true)
+    (white_row_right white (put_end put)
     (λ method inside. (stays_behind put right (row + 1) (omega arith) (omega arith)).ends
-    (node (row + 1) method false) refl (refl, rest_white)))
+    (node (row + 1) method false) refl (refl, below.1)))
 
 pub put_inked : {width : ℕ} {rows : List (List ℕ)} {old new : List RowNumbers} {row run : ℕ} {numbers : RowNumbers} → length rows ≤ 9999
     → IsPut old new row numbers → AreRightFrom width rows old (row + 1)
@@ -182,7 +179,5 @@ put_last {width} {rows} {new} {row} e size put none = record {
   right = λ behind from within.
       let same : row ≡ behind = omega arith in
       subst (IsRowRight width rows (node_number new)) same
-      (white_row_right (subst AreWhite (sym none) tt)
-      (λ method. put.changed method false ∙ end_is method false) (λ method. put.changed method true ∙ end_is method true)
-      (λ method inside. absurd (omega arith)));
+      (white_row_right (rw none tt) (put_end put) (λ method inside. absurd (omega arith)));
 }

@@ -1,3 +1,4 @@
+pub mod LeastTokens
 pub mod RightRows
 pub mod InkedRows
 pub mod Skips

@@ -1,8 +1,8 @@
 -- The numbers after some rows are right, where those after more are.
-use Rattle.std.proofs.Common.{◌≡◌, ℕ, ◌+◌, ◌-◌, ◌*◌, ◌<◌, ◌≤◌, Bool, true, false, List, [], ◌∷◌, length, drop, refl, sym, ap, subst, ◌∙◌, arith}
+use Rattle.std.proofs.Common.{◌≡◌, ℕ, ◌+◌, ◌-◌, ◌*◌, ◌<◌, ◌≤◌, Bool, true, false, List, [], ◌∷◌, length, drop, refl, sym, ap, subst, ◌∙◌, inl, inr, arith}
+use Rattle.std.proofs.lemmas.Bool.{cases_Bool}
 use Rattle.pcl_base.specs.declared.method.Method.{Method}
 use Rattle.pcl_base.specs.declared.method.Method.TheVariants.{Plain}
-use Rattle.pcl_base.specs.Walks.{IsAttained}
 use Rattle.pcl_output.specs.Tokens.{Token, opening, method, skip, send, AreWhite}
 use Rattle.pcl_output.specs.declared.node.Node.{Node}
 use Rattle.pcl_output.specs.Nodes.{Leads, Ends, cost}
@@ -38,7 +38,7 @@ row_stays {width} {rows} {row} same is = record {
         (omega (arith, leads_down width rows a token b l)),
   );
   ends = λ a at end. same a (omega arith) ∙ is.ends a at end;
-  attained = λ a at. subst (λ (n : ℕ). IsAttained (Leads width rows) (Ends rows) cost a n) (sym (same a (omega arith))) (is.attained a at);
+  attained = λ a at. (let w = is.attained a at in (w.0, w.1, w.2 ∙ sym (same a (omega arith))));
   falls = λ current inside_page white.
       omega (
         arith,
@@ -53,30 +53,29 @@ row_stays {width} {rows} {row} same is = record {
 
 -- ---- where the rest is white
 
+abbrev pub end_number : Bool → ℕ
+end_number true = 1
+end_number false = 0
+
+end_small : (is_open : Bool) → end_number is_open ≤ 1
+end_small true = omega arith
+end_small false = omega arith
+
 pub white_row_right : {width : ℕ} {rows : List (List ℕ)} {number : Node → ℕ} {row : ℕ} → AreWhite (drop row rows)
-    → ((current : Method) → outside number row current ≡ 0) → ((current : Method) → inside number row current ≡ 1)
+    → ((a : Node) → a.row ≡ row → number a ≡ end_number a.inside)
     → ((current : Method) → row < length rows → outside number (row + 1) current ≡ 0) → IsRowRight width rows number row
-white_row_right {width} {rows} {number} {row} white none one next = record {
-  steps = λ a token b at l.
-      at_row (λ (n : Node). Leads width rows n token b → number n ≤ cost token + number b) row
-      (λ current. elim [ true ↦ λ _. omega (arith, one current, cost_some token) | false ↦ λ _. omega (arith, none current) ]) a at l;
-  ends = λ a at end.
-      at_row (λ (n : Node). Ends rows n → number n ≡ 0) row
-      (λ current. elim [ true ↦ λ e. (let no : true ≡ false = e.0 in absurd cc) | false ↦ λ _. none current ]) a at end;
-  attained =
-      at_row (λ (n : Node). IsAttained (Leads width rows) (Ends rows) cost n (number n)) row
-      (λ current.
-      elim [
-        | true ↦ (
+white_row_right white is next = record {
+  steps = λ a token b at l. omega (arith, is a at, end_small a.inside, cost_some token);
+  ends = λ a at end. is a at ∙ ap end_number end.0;
+  attained = λ a at.
+      elim (cases_Bool a.inside) [
+        | inl goes ↦ (
           method [] Plain true ∷ [],
-          (node row Plain false, (refl, (tt, refl), refl), (refl, white)),
-          omega
-              (arith, one current, cost_method [] Plain true),
+          (node a.row Plain false, (goes, (tt, refl), refl), (refl, rw at white)),
+          omega (arith, is a at, ap end_number goes, cost_method [] Plain true),
         )
-        | false ↦ ([], (refl, white), sym (none current))
-      ]);
+        | inr ended ↦ ([], (ended, rw at white), sym (is a at ∙ ap end_number ended))
+      ];
   falls = λ current inside_page first. omega (arith, next current inside_page);
-  small =
-      at_row (λ (n : Node). number n ≤ 65544 * (length rows - row) + 1) row
-      (λ current. elim [ true ↦ omega (arith, one current) | false ↦ omega (arith, none current) ]);
+  small = λ a at. omega (arith, is a at, end_small a.inside);
 }
