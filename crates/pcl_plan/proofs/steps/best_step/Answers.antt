@@ -13,12 +13,8 @@ use Rattle.pcl_output.specs.Table.{node_number, outside, inside, rest}
 use Rattle.pcl_output.proofs.RowsFrom.{length_rows}
 use Rattle.pcl_output.proofs.Walking.{node}
 use Rattle.pcl_output.proofs.WhiteRows.{skippable_within}
-use Rattle.pcl_plan.proofs.Reading.{IsRightTable, readable_run, skippable, skip_bound, small_number, row_begins}
+use Rattle.pcl_plan.proofs.Reading.{right_table, readable_run, skippable, skip_bound, small_number, row_begins}
 use Rattle.pcl_plan.proofs.steps.best_step.Goals as goal
-
-right_table : (rows : Rows) {table : List RowNumbers} → AreRightFrom rows.width (rows_of rows) table 0
-    → IsRightTable rows.width (rows_of rows) table
-right_table rows right = record { few = omega (arith, length_rows rows.count rows.width rows.bytes.now, rows.few); right = right }
 
 -- where no skip of some white rows and no switch begins the least, the row does
 row_left : (rows : Rows) {table : List RowNumbers} {row run least : ℕ} {method : Method}
@@ -39,8 +35,7 @@ row_left rows {row} right below white is no_skip no_switch =
 pub beginning_skip-requires-clause-readable : goal.beginning_skip-requires-clause-readable
 beginning_skip-requires-clause-readable g c =
     let rows = c.args.rows.now in
-    readable_run c.args.method
-    (right_table rows c.requires.right) c.requires.ink c.white_run-run.ensures.run
+    readable_run (right_table rows c.requires.right) c.args.method c.requires.ink c.white_run-run.ensures.run
 
 pub beginning_skip-requires-clause-least : goal.beginning_skip-requires-clause-least
 beginning_skip-requires-clause-least g c = λ count some within.
@@ -49,8 +44,7 @@ beginning_skip-requires-clause-least g c = λ count some within.
     omega (
       arith,
       c.number-least.ensures,
-      skip_bound c.args.row c.args.method
-          (right_table rows c.requires.right) can,
+      skip_bound (right_table rows c.requires.right) c.args.row c.args.method can,
     )
 
 pub returns-in-Some : goal.returns-in-Some
@@ -77,8 +71,7 @@ beginning_switch-requires-clause-small g c = λ method.
     let inside : c.args.row ≤ length (rows_of rows) = omega (arith, c.requires.row, length_rows rows.count rows.width rows.bytes.now) in
     omega (
       arith,
-      small_number (node c.args.row method false)
-          (right_table rows c.requires.right) inside,
+      small_number (right_table rows c.requires.right) (node c.args.row method false) inside,
     )
 
 pub overflow_sub-least : goal.overflow_sub-least
@@ -110,8 +103,7 @@ overflow_add-row_cost g c =
       arith,
       c.row_cost.ensures.small,
       c.number-sent.ensures,
-      small_number
-          (node (c.args.row + 1) c.args.method false) (right_table rows c.requires.right) inside,
+      small_number (right_table rows c.requires.right) (node (c.args.row + 1) c.args.method false) inside,
     )
 
 pub returns-then-row_cost-sent : goal.returns-then-row_cost-sent
