@@ -1,16 +1,18 @@
 -- Tokens in their shortest spelling: where they lead and what they cost, and numbers that no step falls below.
-use Rattle.std.proofs.Common.{◌≡◌, ℕ, ◌+◌, ◌<◌, ◌≤◌, Bool, true, false, List, length, refl, arith}
+use Rattle.std.proofs.Common.{◌≡◌, ℕ, ◌+◌, ◌<◌, ◌≤◌, Bool, true, false, List, length, refl, inl, inr, arith}
 use Rattle.std.specs.Prelude.{not}
+use Rattle.std.proofs.lemmas.Bool.{cases_lt}
 use Rattle.pcl_base.specs.declared.method.Method.{Method}
 use Rattle.pcl_base.specs.Method.{method_code}
 use Rattle.pcl_rows.specs.Rows.{IsRowData}
+use Rattle.pcl_coders.specs.Coding.{IsLeastLength}
 use Rattle.pcl_output.specs.Tokens.{Token, method, skip, send}
 use Rattle.pcl_output.specs.declared.node.Node.{Node}
 use Rattle.pcl_output.specs.Nodes.{row_at, row_above, Leads, cost}
 use Rattle.pcl_output.specs.Spelling.{least_spelling, setting_cost, switching, row_cost}
 use Rattle.pcl_output.specs.Table.{outside, inside, rest}
 use Rattle.pcl_output.specs.inner.WhiteRows.{AreSkippable}
-use Rattle.pcl_output.proofs.DigitCounts.{spelled_long}
+use Rattle.pcl_output.proofs.DigitCounts.{count_grows, spelled_long}
 use Rattle.pcl_output.proofs.Walking.{node}
 use Rattle.pcl_output.proofs.TokenCosts.{cost_method, cost_skip, cost_send, method_small, best_end, spelled_cost}
 use Rattle.pcl_plan.specs.inner.Filling.{skipping}
@@ -50,6 +52,11 @@ module _ (width : ℕ) (rows : List (List ℕ)) (row : ℕ) (current : Method) w
 
 -- ---- a number inside a sequence that no step falls below
 
+-- data of fewer bytes costs less
+shorter_data : (short long : List ℕ) → length long ≤ 65535 → length short < length long
+    → row_cost (length short) < row_cost (length long)
+shorter_data short long small less = omega (arith, count_grows (length short) (length long) (omega arith) (omega arith))
+
 module _ (width : ℕ) (rows : List (List ℕ)) (number : Node → ℕ) (row : ℕ) (current : Method)
     (steps : (token : Token) (b : Node) → Leads width rows (node row current true) token b
     → inside number row current ≤ cost token + number b) where
@@ -71,6 +78,19 @@ module _ (width : ℕ) (rows : List (List ℕ)) (number : Node → ℕ) (row : �
   row_below bytes lt has =
       let s = row_leads width rows row current bytes lt has in
       omega (arith, steps (row_token bytes) (node (row + 1) current false) s.0, s.1)
+
+  -- a row that costs no more than the number has data of least length
+  pub row_is_least : (bytes : List ℕ) → row < length rows → IsRowData current (row_above width rows row) (row_at rows row) bytes
+      → row_cost (length bytes) + outside number (row + 1) current ≤ inside number row current
+      → IsLeastLength current (row_above width rows row) (row_at rows row) (length bytes)
+  row_is_least bytes lt has below = record {
+    attained = (bytes, has, refl);
+    shortest = λ other also.
+        elim (cases_lt (length other) (length bytes)) [
+          | inl less ↦ absurd (omega (arith, below, shorter_data other bytes has.fits less, row_below other lt also))
+          | inr same ↦ same
+        ];
+  }
 
 -- ---- no spelling costs less
 

@@ -52,13 +52,13 @@ pub record IsReadTo (width : ℕ) (rows : List (List ℕ)) (table : List RowNumb
       × (total cost (tokens ++ behind) ≡ node_number table start)
 
 -- at the last step it makes no difference whether a sequence is open
-spells_any : {one two : Bool} (more : List Step) (behind : List Token) → (is_last more ≡ false → one ≡ two) → Spells one more behind
+pub spells_any : {one two : Bool} (more : List Step) (behind : List Token) → (is_last more ≡ false → one ≡ two) → Spells one more behind
     → Spells two more behind
 unfolding Spells
 spells_any [] behind same s = s
 spells_any (step ∷ more) behind same s = subst (λ (o : Bool). Spells o (step ∷ more) behind) (same refl) s
 
-opened_more : (is_open : Bool) (token : Token) (tail : List Token) → opened is_open (token ∷ tail) ≡ opened is_open (token ∷ []) ++ tail
+pub opened_more : (is_open : Bool) (token : Token) (tail : List Token) → opened is_open (token ∷ tail) ≡ opened is_open (token ∷ []) ++ tail
 opened_more true token tail = refl
 opened_more false token tail = refl
 

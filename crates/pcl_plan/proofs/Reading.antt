@@ -17,13 +17,12 @@ use Rattle.pcl_output.specs.Spelling.{least_spelling, switching, row_cost}
 use Rattle.pcl_output.specs.Table.{node_number, outside, inside, rest}
 use Rattle.pcl_plan.specs.inner.Filling.{skipping, IsReadable, IsRowRight, AreRightFrom}
 use Rattle.pcl_output.specs.inner.WhiteRows.{AreSkippable, IsWhiteRun}
-use Rattle.pcl_output.proofs.DigitCounts.{count_grows}
 use Rattle.pcl_output.proofs.Walking.{node}
 use Rattle.pcl_output.proofs.RowsFrom.{length_rows}
 use Rattle.pcl_plan.specs.declared.rows.Rows.{Rows}
 use Rattle.pcl_plan.specs.inner.Rows.{rows_of}
 use Rattle.pcl_output.proofs.TokenCosts.{cost_opening, cost_some, rest_below}
-use Rattle.pcl_plan.proofs.LeastTokens.{switch_below, skip_below, row_below, switch_costs, skip_costs, row_costs}
+use Rattle.pcl_plan.proofs.LeastTokens.{switch_below, skip_below, row_below, row_is_least, switch_costs, skip_costs, row_costs}
 use Rattle.pcl_plan.proofs.Filled.{readable}
 use Rattle.pcl_output.proofs.WhiteRows.{white_front, white_to_end}
 use Rattle.pcl_output.proofs.Tables.{number_past}
@@ -71,11 +70,6 @@ pub data Beginning (width : ℕ) (rows : List (List ℕ)) (table : List RowNumbe
   by_row : (bytes : List ℕ) → row < length rows → IsRowData current (row_above width rows row) (row_at rows row) bytes
       → row_cost (length bytes) + outside (node_number table) (row + 1) current ≤ inside (node_number table) row current
       → Beginning width rows table row current
-
--- data of fewer bytes costs less
-shorter_data : (short long : List ℕ) → length long ≤ 65535 → length short < length long
-    → row_cost (length short) < row_cost (length long)
-shorter_data short long small less = omega (arith, count_grows (length short) (length long) (omega arith) (omega arith))
 
 module _ {width : ℕ} {rows : List (List ℕ)} {table : List RowNumbers} (is : IsRightTable width rows table) where
   bounds : (a : Node) (es : List Token) → Walk (Leads width rows) (Ends rows) a es → node_number table a ≤ total cost es
@@ -141,23 +135,16 @@ module _ {width : ℕ} {rows : List (List ℕ)} {table : List RowNumbers} (is : 
       × (inside (node_number table) row current ≡ row_cost bytes + outside (node_number table) (row + 1) current)
   row_begins {row} {current} within no_skip no_switch =
       let w = (row_right row within).attained (node row current true) refl in
-      let sent = row_below width rows (node_number table) row current (steps (node row current true)) in
       elim (begins_with w.0 w.1 w.2) [
         | by_switch next e ↦ absurd (no_switch next e)
         | by_skip count can e ↦ absurd (omega (arith, no_skip count can, e))
-        | by_row whole lt has below ↦ (
-          length whole,
-          lt,
-          record {
-            attained = (whole, has, refl);
-            shortest = λ other also.
-                elim (cases_lt (length other) (length whole)) [
-                  | inl less ↦ absurd (omega (arith, below, shorter_data other whole has.fits less, sent other lt also))
-                  | inr same ↦ same
-                ];
-          },
-          omega (arith, below, sent whole lt has),
-        )
+        | by_row whole lt has below ↦
+            let from = steps (node row current true) in (
+              length whole,
+              lt,
+              row_is_least width rows (node_number table) row current from whole lt has below,
+              omega (arith, below, row_below width rows (node_number table) row current from whole lt has),
+            )
       ]
 
   -- ---- outside a sequence
