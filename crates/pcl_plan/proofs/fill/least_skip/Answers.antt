@@ -1,19 +1,20 @@
-use Rattle.std.proofs.Common.{ap, ◌∙◌}
+use Rattle.std.proofs.Common.{ap, arith}
 use Rattle.pcl_output.specs.Table.{node_number}
 use Rattle.pcl_plan.specs.inner.Filling.{skipping}
-use Rattle.pcl_plan.proofs.Skips.{least_skip_is}
+use Rattle.pcl_plan.proofs.Skips.{skip_is, better_is, least_skip_is}
 use Rattle.pcl_plan.proofs.fill.least_skip.Goals as goal
 
 pub returns : goal.returns
 returns c =
+    let run = c.args.run in
     let skips = skipping (node_number c.args.table.now) c.args.row c.args.method in
-    least_skip_is c.skip_of.result c.skip_of-2.result c.skip_of-3.result
-    c.skip_of-4.result c.or.result c.or-2.result
-    c.requires.readable c.requires.some
-    c.skip_of.ensures.count (c.skip_of-2.ensures.count ∙ c.min.ensures) (c.skip_of-3.ensures.count ∙ c.min-2.ensures)
-    (c.skip_of-4.ensures.count ∙ c.min-3.ensures)
-    c.skip_of.ensures.number (c.skip_of-2.ensures.number ∙ ap skips c.min.ensures) (c.skip_of-3.ensures.number ∙ ap skips c.min-2.ensures)
-    (c.skip_of-4.ensures.number ∙ ap skips c.min-3.ensures)
-    (record { first = c.or.ensures.first; second = c.or.ensures.second })
-    (record { first = c.or-2.ensures.first; second = c.or-2.ensures.second })
-    (record { first = c.or-3.ensures.first; second = c.or-3.ensures.second })
+    let of = skip_is c.args.table.now c.args.row c.args.method run in
+    let four = of run c.skip_of.result c.skip_of.ensures.count c.skip_of.ensures.number (omega arith) (omega arith) in
+    let three = of c.min.result c.skip_of-2.result c.skip_of-2.ensures.count c.skip_of-2.ensures.number (omega arith) (omega arith) in
+    let two = of c.min-2.result c.skip_of-3.result c.skip_of-3.ensures.count c.skip_of-3.ensures.number (omega arith) (omega arith) in
+    let one = of c.min-3.result c.skip_of-4.result c.skip_of-4.ensures.count c.skip_of-4.ensures.number (omega arith) (omega arith) in
+    let second = better_is c.or.ensures.first c.or.ensures.second four three in
+    let third = better_is c.or-2.ensures.first c.or-2.ensures.second second.0 two in
+    let best = better_is c.or-3.ensures.first c.or-3.ensures.second third.0 one in
+    least_skip_is c.requires.readable best.0 (omega arith) (omega (arith, ap skips c.min.ensures)) (omega (arith, ap skips c.min-2.ensures))
+    (omega (arith, ap skips c.min-3.ensures))
