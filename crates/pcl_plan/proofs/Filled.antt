@@ -1,5 +1,5 @@
 -- A table that is filled one row upwards.
-use Rattle.std.proofs.Common.{◌≡◌, ℕ, zero, suc, ◌+◌, ◌-◌, ◌<◌, ◌≤◌, Bool, true, false, List, [], ◌∷◌, length, drop, refl, sym, ap, subst, ◌∙◌, inl, inr, arith}
+use Rattle.std.proofs.Common.{◌≡◌, ℕ, zero, suc, ◌+◌, ◌-◌, ◌<◌, ◌≤◌, Bool, true, false, List, [], length, drop, refl, ap, subst, ◌∙◌, inl, inr, arith}
 use Rattle.std.proofs.lemmas.Bool.{cases_lt}
 use Rattle.std.proofs.lemmas.List.{drop_more}
 use Rattle.pcl_base.specs.declared.method.Method.{Method}
@@ -11,7 +11,7 @@ use Rattle.pcl_output.specs.declared.node.Node.{Node}
 use Rattle.pcl_output.specs.Nodes.{row_at, row_above}
 use Rattle.pcl_output.specs.Table.{number_in, node_number, end_numbers, rest}
 use Rattle.pcl_plan.specs.inner.Filling.{skipping, IsReadable, IsLeastStart, IsDirect, AreRowNumbers, IsRowRight, AreRightFrom}
-use Rattle.pcl_output.specs.inner.WhiteRows.{IsWhiteRun}
+use Rattle.pcl_output.specs.inner.WhiteRows.{AreSkippable, IsWhiteRun}
 use Rattle.pcl_output.proofs.Walking.{node}
 use Rattle.pcl_output.proofs.WhiteRows.{white_front, white_below, skippable_within, ink_left}
 use Rattle.pcl_plan.proofs.RightRows.{at_row, row_stays, end_number, white_row_right}
@@ -52,6 +52,13 @@ readable width rows table row run few right is ink = record {
 
 -- ---- the numbers of a row
 
+pub skippable : {rows : List (List ℕ)} {row run count : ℕ} → IsWhiteRun rows row run → 0 < count → count ≤ run → AreSkippable rows row count
+skippable {rows} {row} {run} {count} white some within = (
+  some,
+  omega (arith, white.within),
+  white_front run count (drop row rows) white.white within,
+)
+
 pub direct_of_start : {width : ℕ} {rows : List (List ℕ)} {number : Node → ℕ} {row : ℕ} {method : Method} {run bytes least : ℕ}
     → IsWhiteRun rows row run
     → IsLeastLength method (row_above width rows row) (row_at rows row) bytes → IsLeastStart number row method run bytes least
@@ -64,16 +71,7 @@ direct_of_start {rows} {row} {run} {bytes} is length_is start = record {
   attained =
       elim start.attained [
         | inl sent ↦ inl sent
-        | inr skipped ↦ inr (
-          skipped.0,
-          (
-            skipped.1,
-            omega (arith, skipped.2, is.within),
-            white_front run skipped.0 (drop row rows)
-                is.white skipped.2,
-          ),
-          skipped.3,
-        )
+        | inr skipped ↦ inr (skipped.0, skippable is skipped.1 skipped.2, skipped.3)
       ];
 }
 

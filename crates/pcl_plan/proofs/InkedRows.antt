@@ -1,17 +1,15 @@
 -- The numbers after some rows are right where ink is left.
-use Rattle.std.proofs.Common.{◌≡◌, ℕ, zero, suc, ◌+◌, ◌-◌, ◌*◌, ◌<◌, ◌≤◌, Bool, true, false, List, [], ◌∷◌, length, take, drop, refl, sym, ap, subst, ◌∙◌, inl, inr, arith}
+use Rattle.std.proofs.Common.{◌≡◌, ℕ, zero, suc, ◌+◌, ◌-◌, ◌*◌, ◌<◌, ◌≤◌, Bool, true, false, List, [], ◌∷◌, length, drop, refl, ap, subst, inl, inr, arith}
 use Rattle.std.specs.Prelude.{not}
 use Rattle.std.proofs.lemmas.List.{drop_more}
 use Rattle.pcl_base.specs.declared.method.Method.{Method}
-use Rattle.pcl_base.specs.Method.{method_code}
-use Rattle.pcl_rows.specs.Rows.{IsRowData}
 use Rattle.pcl_coders.proofs.Lengths.{length_small}
 use Rattle.pcl_base.specs.Walks.{IsAttained}
 use Rattle.pcl_output.specs.declared.table.RowNumbers.{RowNumbers}
-use Rattle.pcl_output.specs.Tokens.{Token, opening, method, skip, send, IsSpelled, AreWhite}
+use Rattle.pcl_output.specs.Tokens.{Token, opening, method, skip, send, AreWhite}
 use Rattle.pcl_output.specs.declared.node.Node.{Node}
-use Rattle.pcl_output.specs.Nodes.{row_at, row_above, Leads, Ends, cost}
-use Rattle.pcl_output.specs.Spelling.{least_spelling, digit_count, switching, row_cost}
+use Rattle.pcl_output.specs.Nodes.{Leads, Ends, cost}
+use Rattle.pcl_output.specs.Spelling.{switching, row_cost}
 use Rattle.pcl_output.specs.Table.{number_in, outside, inside, rest, IsSwitched}
 use Rattle.pcl_plan.specs.inner.Filling.{skipping, IsDirect, IsRowRight}
 use Rattle.pcl_output.specs.inner.WhiteRows.{AreSkippable}

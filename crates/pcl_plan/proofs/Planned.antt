@@ -1,5 +1,5 @@
 -- A table that is right, and the steps that were read off it, are a plan.
-use Rattle.std.proofs.Common.{◌≡◌, ℕ, List, sym, subst, arith}
+use Rattle.std.proofs.Common.{◌≡◌, ℕ, List, arith}
 use Rattle.pcl_output.specs.declared.table.RowNumbers.{RowNumbers}
 use Rattle.pcl_output.specs.declared.step.Step.{Step}
 use Rattle.pcl_output.specs.Nodes.{start}
@@ -10,25 +10,18 @@ use Rattle.pcl_plan.specs.inner.Reading.{AreLeastSteps}
 use Rattle.pcl_plan.specs.Plans.{StepsAndTable, IsPlan}
 use Rattle.pcl_plan.proofs.Reading.{feasible_table, least_table}
 
-plan_of : (width : ℕ) (rows : List (List ℕ)) (table : List RowNumbers) (steps : List Step) → AreRightFrom width rows table 0
-    → AreLeastSteps width rows (node_number table) steps → IsPlan width rows (record { steps = steps; table = table })
-plan_of width rows table steps right are = record {
-  size = right.size;
-  feasible = feasible_table right;
-  least = least_table right;
-  tokens = are.tokens;
-  spelled = are.spelled;
-  walk = are.walk;
-  total_is = are.total_is;
-}
-
 pub plan_is : {width : ℕ} {rows : List (List ℕ)} {table : List RowNumbers} {steps : List Step} {plan : StepsAndTable} → plan.steps ≡ steps
     → plan.table ≡ table → AreRightFrom width rows table 0
     → AreLeastSteps width rows (node_number table) steps → IsPlan width rows plan
-plan_is {width} {rows} {table} {steps} {plan} s t right are =
-    subst (λ (ss : List Step). IsPlan width rows (record { steps = ss; table = plan.table })) (sym s)
-    (subst (λ (n : List RowNumbers). IsPlan width rows (record { steps = steps; table = n })) (sym t)
-    (plan_of width rows table steps right are))
+plan_is s t right are = record {
+  size = rw t right.size;
+  feasible = rw t (feasible_table right);
+  least = rw t (least_table right);
+  tokens = are.tokens;
+  spelled = rw s are.spelled;
+  walk = are.walk;
+  total_is = rw t are.total_is;
+}
 
 -- its table shows how long a least text is
 pub table_of_plan : {width : ℕ} {rows : List (List ℕ)} {plan : StepsAndTable} → IsPlan width rows plan → IsTableFor width rows plan.table

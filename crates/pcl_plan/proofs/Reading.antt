@@ -1,19 +1,18 @@
 -- Steps are read off a table that is right.
-use Rattle.std.proofs.Common.{◌≡◌, ℕ, ◌+◌, ◌<◌, ◌≤◌, true, false, List, [], ◌∷◌, length, drop, refl, sym, ap, subst, ◌∙◌, inl, inr, arith}
+use Rattle.std.proofs.Common.{◌≡◌, ℕ, ◌+◌, ◌<◌, ◌≤◌, true, false, List, [], ◌∷◌, length, refl, ap, ◌∙◌, inl, inr, arith}
 use Rattle.std.specs.Prelude.{not}
 use Rattle.std.proofs.lemmas.Bool.{cases_lt}
 use Rattle.std.proofs.Math.ListN.{drop_of_length-le}
 use Rattle.pcl_base.specs.declared.method.Method.{Method}
-use Rattle.pcl_base.specs.Method.{method_code}
 use Rattle.pcl_rows.specs.Rows.{IsRowData}
 use Rattle.pcl_coders.specs.Coding.{IsLeastLength}
 use Rattle.pcl_base.specs.Walks.{Walk, total, IsFeasible, IsLeastCost}
 use Rattle.pcl_base.proofs.Walks.{feasible_bounds, attained_is_least}
 use Rattle.pcl_output.specs.declared.table.RowNumbers.{RowNumbers}
-use Rattle.pcl_output.specs.Tokens.{Token, opening, method, skip, send, AreWhite}
+use Rattle.pcl_output.specs.Tokens.{Token, opening, method, skip, send}
 use Rattle.pcl_output.specs.declared.node.Node.{Node}
 use Rattle.pcl_output.specs.Nodes.{row_at, row_above, Leads, Ends, cost}
-use Rattle.pcl_output.specs.Spelling.{least_spelling, switching, row_cost}
+use Rattle.pcl_output.specs.Spelling.{switching, row_cost}
 use Rattle.pcl_output.specs.Table.{node_number, outside, inside, rest}
 use Rattle.pcl_plan.specs.inner.Filling.{skipping, IsReadable, IsRowRight, AreRightFrom}
 use Rattle.pcl_output.specs.inner.WhiteRows.{AreSkippable, IsWhiteRun}
@@ -24,7 +23,7 @@ use Rattle.pcl_plan.specs.inner.Rows.{rows_of}
 use Rattle.pcl_output.proofs.TokenCosts.{cost_opening, cost_some, rest_below}
 use Rattle.pcl_plan.proofs.LeastTokens.{switch_below, skip_below, row_below, row_is_least, switch_costs, skip_costs, row_costs}
 use Rattle.pcl_plan.proofs.Filled.{readable}
-use Rattle.pcl_output.proofs.WhiteRows.{white_front, white_to_end}
+use Rattle.pcl_output.proofs.WhiteRows.{skippable_within, white_to_end}
 use Rattle.pcl_output.proofs.Tables.{number_past}
 
 -- ---- the whole table
@@ -126,24 +125,23 @@ module _ {width : ℕ} {rows : List (List ℕ)} {table : List RowNumbers} (is : 
         row_costs width rows (node row current true) w.0 digits bytes w.1,
       ))
 
-  -- where no skip and no switch begins the least, the row does, by least data
-  pub row_begins : {row : ℕ} {current : Method} → row ≤ length rows
-      → ((count : ℕ) → AreSkippable rows row count
-      → inside (node_number table) row current < skipping (node_number table) row current count)
-      → ((next : Method) → inside (node_number table) row current ≡ switching next + rest (node_number table) row next → ⊥)
-      → (bytes : ℕ) × (row < length rows) × IsLeastLength current (row_above width rows row) (row_at rows row) bytes
-      × (inside (node_number table) row current ≡ row_cost bytes + outside (node_number table) (row + 1) current)
-  row_begins {row} {current} within no_skip no_switch =
-      let w = (row_right row within).attained (node row current true) refl in
+  -- where no skip of some white rows and no switch begins the least, the row does, by least data
+  pub row_begins : {row run least : ℕ} {current : Method} → row < length rows → IsWhiteRun rows row run
+      → least ≡ inside (node_number table) row current
+      → ((count : ℕ) → 0 < count → count ≤ run → least < skipping (node_number table) row current count)
+      → ((next : Method) → least ≡ switching next + rest (node_number table) row next → ⊥)
+      → (bytes : ℕ) × IsLeastLength current (row_above width rows row) (row_at rows row) bytes
+      × (least ≡ row_cost bytes + outside (node_number table) (row + 1) current)
+  row_begins {row} {run} {least} {current} inside_page white same no_skip no_switch =
+      let w = (row_right row (omega arith)).attained (node row current true) refl in
       elim (begins_with w.0 w.1 w.2) [
-        | by_switch next e ↦ absurd (no_switch next e)
-        | by_skip count can e ↦ absurd (omega (arith, no_skip count can, e))
+        | by_switch next e ↦ absurd (no_switch next (same ∙ e))
+        | by_skip count can e ↦ absurd (omega (arith, no_skip count can.0 (skippable_within white can), same, e))
         | by_row whole lt has below ↦
             let from = steps (node row current true) in (
               length whole,
-              lt,
               row_is_least width rows (node_number table) row current from whole lt has below,
-              omega (arith, below, row_below width rows (node_number table) row current from whole lt has),
+              omega (arith, same, below, row_below width rows (node_number table) row current from whole lt has),
             )
       ]
 
@@ -208,10 +206,3 @@ module _ {width : ℕ} {rows : List (List ℕ)} {table : List RowNumbers} (is : 
 
   pub small_number : (a : Node) → a.row ≤ length rows → node_number table a ≤ 655374457
   small_number a within = omega (arith, (row_right a.row within).small a refl, is.few)
-
-pub skippable : {rows : List (List ℕ)} {row run count : ℕ} → IsWhiteRun rows row run → 0 < count → count ≤ run → AreSkippable rows row count
-skippable {rows} {row} {run} {count} white some within = (
-  some,
-  omega (arith, white.within),
-  white_front run count (drop row rows) white.white within,
-)

@@ -1,12 +1,12 @@
 -- The numbers after some rows are right, where those after more are.
-use Rattle.std.proofs.Common.{◌≡◌, ℕ, ◌+◌, ◌-◌, ◌*◌, ◌<◌, ◌≤◌, Bool, true, false, List, [], ◌∷◌, length, drop, refl, sym, ap, subst, ◌∙◌, inl, inr, arith}
+use Rattle.std.proofs.Common.{◌≡◌, ℕ, ◌+◌, ◌<◌, ◌≤◌, Bool, true, false, List, [], ◌∷◌, length, drop, refl, sym, ap, subst, ◌∙◌, inl, inr, arith}
 use Rattle.std.proofs.lemmas.Bool.{cases_Bool}
 use Rattle.pcl_base.specs.declared.method.Method.{Method}
 use Rattle.pcl_base.specs.declared.method.Method.TheVariants.{Plain}
 use Rattle.pcl_output.specs.Tokens.{Token, opening, method, skip, send, AreWhite}
 use Rattle.pcl_output.specs.declared.node.Node.{Node}
-use Rattle.pcl_output.specs.Nodes.{Leads, Ends, cost}
-use Rattle.pcl_output.specs.Table.{outside, inside}
+use Rattle.pcl_output.specs.Nodes.{Leads}
+use Rattle.pcl_output.specs.Table.{outside}
 use Rattle.pcl_plan.specs.inner.Filling.{IsRowRight}
 use Rattle.pcl_output.proofs.TokenCosts.{cost_method, cost_some}
 use Rattle.pcl_output.proofs.Walking.{node}

@@ -2,7 +2,6 @@
 use Rattle.std.proofs.Common.{◌≡◌, ℕ, ◌+◌, ◌-◌, ◌^◌, ◌<◌, ◌≤◌, min, List, ap, inl, inr, arith}
 use Rattle.std.proofs.lemmas.Bool.{cases_lt}
 use Rattle.pcl_base.specs.declared.method.Method.{Method}
-use Rattle.pcl_output.specs.Spelling.{digit_count}
 use Rattle.pcl_plan.specs.declared.fill.Skip.{Skip}
 use Rattle.pcl_output.specs.declared.table.RowNumbers.{RowNumbers}
 use Rattle.pcl_output.specs.Table.{node_number}

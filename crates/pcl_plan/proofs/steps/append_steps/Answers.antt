@@ -1,12 +1,7 @@
-use Rattle.std.proofs.Common.{List, sym, subst, arith}
-use Rattle.pcl_plan.specs.declared.rows.Rows.{Rows}
-use Rattle.pcl_output.specs.declared.table.RowNumbers.{RowNumbers}
-use Rattle.pcl_output.specs.declared.step.Step.{Step}
-use Rattle.pcl_plan.specs.inner.Rows.{rows_of}
-use Rattle.pcl_plan.specs.inner.Filling.{AreRightFrom}
+use Rattle.std.proofs.Common.{arith}
 use Rattle.pcl_output.proofs.RowsFrom.{length_rows}
 use Rattle.pcl_plan.proofs.Reading.{right_table, row_left}
-use Rattle.pcl_plan.proofs.ReadSteps.{IsReadTo, ink_left, read_more, read_less, read_all}
+use Rattle.pcl_plan.proofs.ReadSteps.{ink_left, read_more, read_less, read_all}
 use Rattle.pcl_plan.proofs.steps.append_steps.Goals as goal
 
 pub best_step-step-requires-clause-row : goal.best_step-step-requires-clause-row
