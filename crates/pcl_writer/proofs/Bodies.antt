@@ -23,6 +23,7 @@ use Rattle.pcl_output.specs.Table.{node_number}
 use Rattle.pcl_plan.specs.Plans.{StepsAndTable, IsTokenOf, opened, is_last, Spells}
 use Rattle.pcl_output.proofs.Walking.{node}
 use Rattle.pcl_output.proofs.TokenCosts.{cost_opening, cost_send}
+use Rattle.pcl_coders.proofs.Lengths.{least_alone}
 use Rattle.pcl_plan.proofs.ReadSteps.{opened_more, spells_any}
 use Rattle.pcl_plan.proofs.LeastWalks.{step_is_least, sent_is_least}
 use Rattle.pcl_writer.specs.inner.Steps.{width_of, above, IsBitmapPlan, IsWritable, HasRowData, AppendsRow, AppendsStep, AppendsBody}
@@ -30,8 +31,11 @@ use Rattle.pcl_writer.specs.inner.Steps.{width_of, above, IsBitmapPlan, IsWritab
 pub page_joined : (old : List ℕ) {one two three : List ℕ} (start body tail : List ℕ) → one ≡ old ++ start → two ≡ one ++ body
     → three ≡ two ++ tail → three
     ≡ old ++ (start ++ body ++ tail)
-page_joined old start body tail a b c =
-    c ∙ ap (λ (t : List ℕ). t ++ tail) (b ∙ ap (λ (t : List ℕ). t ++ body) a) ∙ simp append_assoc
+page_joined old start body tail a b c = c ∙ rw (b, a) (simp append_assoc)
+
+-- the tokens are a walk from the node
+abbrev pub IsWalk : Picture → Node → List Token → Type 0
+IsWalk picture = Walk (Leads (width_of picture) (bitmap_rows picture)) (Ends (bitmap_rows picture))
 
 -- ---- the token of a step
 
@@ -63,77 +67,59 @@ leads_too : {picture : Picture} {place behind : Node} (step : Step) (ends : Bool
     → HasRowData picture place.row place.method written
     → behind ≡ node_after place step ends → Leads (width_of picture) (bitmap_rows picture) (node place.row place.method true) token b
     → LeadsToo picture place behind token written b
-leads_too {picture} {place} {behind} (Skip count) ends {token} {written} {b} before t w d p l =
-    let from = node place.row place.method true in
-    let is = skip_token token t in
-    let same : token ≡ written = is ∙ sym (skip_token written w) in
-    let led = subst (λ (x : Token). Leads (width_of picture) (bitmap_rows picture) from x b) is l in
+leads_too (Skip count) ends {token} {written} before t w d p l =
+    let led = rw (skip_token token t) at l in
     record {
       within = omega (arith, ap (λ (n : Node). n.row) p, led.3);
       there = led.5 ∙ sym p;
-      leads = subst (λ (x : Token). Leads (width_of picture) (bitmap_rows picture) from x b) same l;
-      costs = ap cost (sym same);
+      leads = rw (skip_token written w) led;
+      costs = rw (skip_token token t, skip_token written w);
     }
-leads_too {picture} {place} {behind} (Switch next) ends {token} {written} {b} before t w d p l =
-    let from = node place.row place.method true in
-    let is = switch_token token t in
-    let same : token ≡ written = is ∙ sym (switch_token written w) in
-    let led = subst (λ (x : Token). Leads (width_of picture) (bitmap_rows picture) from x b) is l in
+leads_too (Switch next) ends {token} {written} before t w d p l =
+    let led = rw (switch_token token t) at l in
     record {
       within = omega (arith, ap (λ (n : Node). n.row) p, before);
       there = led.2 ∙ sym p;
-      leads = subst (λ (x : Token). Leads (width_of picture) (bitmap_rows picture) from x b) same l;
-      costs = ap cost (sym same);
+      leads = rw (switch_token written w) led;
+      costs = rw (switch_token token t, switch_token written w);
     }
-leads_too {picture} {place} {behind} (Row count) ends {token} {written} {b} before t w d p l =
-    let from = node place.row place.method true in
+leads_too (Row count) ends {token} {written} before t w d p l =
     let one = row_token ends token t in
     let other = row_token ends written w in
-    let led = subst (λ (x : Token). Leads (width_of picture) (bitmap_rows picture) from x b) one.1 l in
-    let whole = subst (HasRowData picture place.row place.method) other.1 d in
-    let spelled : IsSpelled (least_spelling count) (length other.0) = subst (IsSpelled (least_spelling count)) (one.2 ∙ sym other.2) led.1
-    in
+    let led = rw one.1 at l in
+    let whole = rw other.1 at d in
+    let spelled : IsSpelled (least_spelling count) (length other.0) = rw other.2 (rw one.2 at led.1) in
     record {
       within = omega (arith, ap (λ (n : Node). n.row) p, led.2);
       there = led.4 ∙ sym p;
-      leads = subst (λ (x : Token). Leads (width_of picture) (bitmap_rows picture) from x b) (sym other.1)
-          (refl, spelled, led.2, whole, led.4);
-      costs = omega (
-        arith,
-        ap cost one.1,
-        ap cost other.1,
-        cost_send (least_spelling count) one.0,
-        cost_send (least_spelling count)
-            other.0,
-        one.2,
-        other.2,
-      );
+      leads = rw other.1 (refl, spelled, led.2, whole, led.4);
+      costs = rw (one.1, other.1)
+          (omega (arith, cost_send (least_spelling count) one.0, cost_send (least_spelling count) other.0, one.2, other.2));
     }
 
 -- ---- a walk from inside a sequence
 
 pub record IsOpened (picture : Picture) (number : Node → ℕ) (row : ℕ) (current : Method) (is_open : Bool) (tokens : List Token) : Type 0
   where
-    pub walk : Walk (Leads (width_of picture) (bitmap_rows picture)) (Ends (bitmap_rows picture)) (node row current true) tokens
+    pub walk : IsWalk picture (node row current true) tokens
     pub total_is : total cost tokens ≡ number (node row current true)
-    pub back : (other : List Token) → Walk (Leads (width_of picture) (bitmap_rows picture)) (Ends (bitmap_rows picture))
+    pub back : (other : List Token) → IsWalk picture
         (node row current true) other → total cost other ≡ number (node row current true)
-        → Walk (Leads (width_of picture) (bitmap_rows picture)) (Ends (bitmap_rows picture)) (node row current is_open)
+        → IsWalk picture (node row current is_open)
         (opened is_open other) × (total cost (opened is_open other) ≡ number (node row current is_open))
 
 opened_is : {picture : Picture} {number : Node → ℕ} → IsFeasible (Leads (width_of picture) (bitmap_rows picture))
     (Ends (bitmap_rows picture)) cost number → {row : ℕ} {current : Method} (is_open : Bool) {tokens : List Token}
-    → Walk (Leads (width_of picture) (bitmap_rows picture)) (Ends (bitmap_rows picture)) (node row current is_open)
+    → IsWalk picture (node row current is_open)
     (opened is_open tokens) → total cost (opened is_open tokens) ≡ number (node row current is_open)
     → IsOpened picture number row current is_open tokens
 opened_is feasible true w t = record { walk = w; total_is = t; back = λ other v u. (v, u) }
 opened_is {picture} {number} feasible {row} {current} false {tokens} w t =
-    let s = step_is_least (width_of picture) feasible (node row current false) w.0 opening tokens w.1 w.2 t in
-    let at = w.1.1 in
+    let s = step_is_least (width_of picture) feasible (node row current false) opening tokens w.1 w.1.1 w.2 t in
     record {
-      walk = subst (λ (n : Node). Walk (Leads (width_of picture) (bitmap_rows picture)) (Ends (bitmap_rows picture)) n tokens) at w.2;
-      total_is = s.1 ∙ ap number at;
-      back = λ other v u. ((node row current true, (refl, refl), v), omega (arith, u, s.0, ap number at, cost_opening));
+      walk = s.1;
+      total_is = s.2;
+      back = λ other v u. ((node row current true, (refl, refl), v), omega (arith, u, s.0, cost_opening));
     }
 
 -- ---- what is written
@@ -145,29 +131,24 @@ pub record IsWrittenTo (picture : Picture) (table : StepsAndTable) (old now : Li
   pub spelled : now ≡ old ++ flat_map token_bytes done
   pub left : List Token
   pub spells : Spells place.inside todo left
-  pub walk : Walk (Leads (width_of picture) (bitmap_rows picture)) (Ends (bitmap_rows picture)) place left
+  pub walk : IsWalk picture place left
   pub total_is : total cost left ≡ node_number table.table place
-  pub goes_on : (rest : List Token) → Walk (Leads (width_of picture) (bitmap_rows picture)) (Ends (bitmap_rows picture)) place
+  pub goes_on : (rest : List Token) → IsWalk picture place
       rest → total cost rest ≡ node_number table.table place
-      → Walk (Leads (width_of picture) (bitmap_rows picture)) (Ends (bitmap_rows picture)) start (done ++ rest)
+      → IsWalk picture start (done ++ rest)
       × (total cost (done ++ rest) ≡ node_number table.table start)
 
-pub begin : (picture : Picture) (plan : StepsAndTable) (old : List ℕ) (place : Node) → IsBitmapPlan picture plan → place.inside ≡ false
-    → place ≡ start → IsWrittenTo picture plan old old plan.steps place
-begin picture plan old place is closed at = record {
-  within = omega (arith, ap (λ (n : Node). n.row) at);
+pub begin : {picture : Picture} {plan : StepsAndTable} (old : List ℕ) → IsBitmapPlan picture plan
+    → IsWrittenTo picture plan old old plan.steps start
+begin old is = record {
+  within = omega arith;
   done = [];
   spelled = sym (append-nil old);
   left = is.tokens;
-  spells = subst (λ (i : Bool). Spells i plan.steps is.tokens) (sym closed) is.spelled;
-  walk = subst (λ (n : Node). Walk (Leads (width_of picture) (bitmap_rows picture)) (Ends (bitmap_rows picture)) n is.tokens) (sym at)
-      is.walk;
-  total_is = is.total_is ∙ ap (node_number plan.table) (sym at);
-  goes_on = λ rest w t. (
-    subst (λ (n : Node). Walk (Leads (width_of picture) (bitmap_rows picture)) (Ends (bitmap_rows picture)) n rest)
-        at w,
-    t ∙ ap (node_number plan.table) at,
-  );
+  spells = is.spelled;
+  walk = is.walk;
+  total_is = is.total_is;
+  goes_on = λ rest w t. (w, t);
 }
 
 -- the token that comes next
@@ -189,31 +170,23 @@ next_token {picture} {place} is w =
       rest = s.1;
       is_of = s.2;
       spells = s.4;
-      from = opened_is is.feasible place.inside
-          (subst (Walk (Leads (width_of picture) (bitmap_rows picture)) (Ends (bitmap_rows picture)) place) s.3 w.walk)
-          (ap (total cost) (sym s.3) ∙ w.total_is);
+      from = opened_is is.feasible place.inside (rw s.3 at w.walk) (ap (total cost) (sym s.3) ∙ w.total_is);
     }
 
 -- a row that comes next is sent by as few bytes as can be
-writable_from : {picture : Picture} {plan : StepsAndTable} {place : Node} (step : Step) {more : List Step} → IsBitmapPlan picture plan
-    → IsNextToken picture plan place step more → IsWritable picture place.row place.method step
-writable_from (Skip count) is n = tt
-writable_from (Switch next) is n = tt
-writable_from {picture} {plan} {place} (Row count) {more} is n =
-    let one = row_token (is_last more) n.token n.is_of in
-    let from = node place.row place.method true in
-    let w = subst (λ (t : Token). Walk (Leads (width_of picture) (bitmap_rows picture)) (Ends (bitmap_rows picture)) from (t ∷ n.rest))
-    one.1 n.from.walk in
-    let t = ap (λ (x : Token). total cost (x ∷ n.rest)) (sym one.1) ∙ n.from.total_is in
-    let least = sent_is_least (width_of picture) is.feasible place.row place.method w.0
-    (least_spelling count) one.0 n.rest w.1 w.2 t in
-    (w.1.2, subst (IsLeastLength place.method (above picture place.row) (row_at (bitmap_rows picture) place.row)) one.2 least)
-
-pub writable : {picture : Picture} {plan : StepsAndTable} {old now : List ℕ} {step : Step} {more : List Step} {place : Node}
+pub writable : {picture : Picture} {plan : StepsAndTable} {old now : List ℕ} (step : Step) {more : List Step} {place : Node}
     → IsBitmapPlan picture plan → IsWrittenTo picture plan old now (step ∷ more) place
     → IsWritable picture place.row place.method step
-writable {step} is w = writable_from step is
-    (next_token is w)
+writable (Skip count) is w = tt
+writable (Switch next) is w = tt
+writable {picture} (Row count) {more} {place} is w =
+    let n = next_token is w in
+    let one = row_token (is_last more) n.token n.is_of in
+    let walk = rw one.1 at n.from.walk in
+    let total_is = rw one.1 at n.from.total_is in
+    let least = sent_is_least (width_of picture) is.feasible place.row place.method walk.0 (least_spelling count) one.0 n.rest walk.1
+    walk.2 total_is in
+    (walk.1.2, rw one.2 at least)
 
 -- after the last step it makes no difference whether a sequence is open
 goes_on_open : (step : Step) {last : Bool} → last ≡ false → stays_inside step ≡ (stays_inside step && not last)
@@ -230,55 +203,30 @@ written_more {picture} {plan} {old} {step} {more} {place} {behind} is w a p =
     let walk = n.from.walk in
     let from = node place.row place.method true in
     let too = leads_too {picture = picture} {place = place} {behind = behind} step (is_last more) w.within n.is_of a.1 a.2 p walk.1 in
-    let s = step_is_least (width_of picture) is.feasible from walk.0 n.token n.rest walk.1
-    walk.2 n.from.total_is in
+    let s = step_is_least (width_of picture) is.feasible from n.token n.rest walk.1 too.there walk.2 n.from.total_is in
     let token : List Token = opened place.inside (a.0 ∷ []) in
     record {
       within = too.within;
       done = w.done ++ token;
-      spelled = a.3 ∙ ap (λ (t : List ℕ). t ++ flat_map token_bytes token) w.spelled ∙ append_assoc old (flat_map token_bytes w.done)
-          (flat_map token_bytes token)
-          ∙ ap (λ (t : List ℕ). old ++ t) (sym (flat_map-append token_bytes w.done token));
+      spelled = a.3 ∙ rw (w.spelled, flat_map-append token_bytes w.done token, append_assoc);
       left = n.rest;
-      spells = spells_any more n.rest
-          (λ others. goes_on_open step others ∙ sym (ap (λ (n : Node). n.inside) p)) n.spells;
-      walk = subst (λ (x : Node). Walk (Leads (width_of picture) (bitmap_rows picture)) (Ends (bitmap_rows picture)) x n.rest) too.there
-          walk.2;
-      total_is = s.1 ∙ ap (node_number plan.table) too.there;
+      spells = spells_any more n.rest (λ others. goes_on_open step others ∙ sym (ap (λ (n : Node). n.inside) p)) n.spells;
+      walk = s.1;
+      total_is = s.2;
       goes_on = λ rest v t.
-          let v' = subst (λ (x : Node). Walk (Leads (width_of picture) (bitmap_rows picture)) (Ends (bitmap_rows picture)) x rest)
-          (sym too.there) v in
-          let b = n.from.back (a.0 ∷ rest) (walk.0, too.leads, v') (omega
-          (arith, t, s.0, too.costs, ap (node_number plan.table) too.there)) in
-          let g = w.goes_on (opened place.inside (a.0 ∷ rest)) b.0 b.1 in
-          let same : w.done ++ opened place.inside (a.0 ∷ rest) ≡ (w.done ++ token) ++ rest =
-          ap (λ (ts : List Token). w.done ++ ts) (opened_more place.inside a.0 rest) ∙ sym (append_assoc w.done token rest) in (
-            subst (Walk (Leads (width_of picture) (bitmap_rows picture)) (Ends (bitmap_rows picture)) start) same g.0,
-            ap (total cost)
-                (sym same) ∙ g.1,
-          );
+          let b = n.from.back (a.0 ∷ rest) (walk.0, too.leads, subst (λ (x : Node). IsWalk picture x rest) (sym too.there) v)
+          (omega (arith, t, s.0, too.costs)) in
+          rw (append_assoc w.done token rest, ← opened_more place.inside a.0 rest)
+          (w.goes_on (opened place.inside (a.0 ∷ rest)) b.0 b.1);
     }
 
 pub written_all : {picture : Picture} {plan : StepsAndTable} {old now : List ℕ} {place : Node}
     → IsWrittenTo picture plan old now [] place → AppendsBody picture plan old now
 unfolding Spells
-written_all {picture} w =
+written_all w =
     let none : w.left ≡ [] = w.spells in
-    let g = w.goes_on w.left w.walk w.total_is in
-    let all : w.done ++ w.left ≡ w.done = ap (λ (ts : List Token). w.done ++ ts) none ∙ append-nil w.done in (
-      w.done,
-      w.spelled,
-      subst (Walk (Leads (width_of picture) (bitmap_rows picture)) (Ends (bitmap_rows picture)) start) all g.0,
-      ap (total cost) (sym all) ∙ g.1,
-    )
-
--- there is one least length
-pub one_least : {current : Method} {seed row : List ℕ} {m n : ℕ} → IsLeastLength current seed row m → IsLeastLength current seed row n → m
-    ≡ n
-one_least a b =
-    let below = a.shortest b.attained.0 b.attained.1 in
-    let over = b.shortest a.attained.0 a.attained.1 in
-    omega (arith, a.attained.2, b.attained.2, below, over)
+    let g = rw (none, append-nil w.done) at (w.goes_on w.left w.walk w.total_is) in
+    (w.done, w.spelled, g.0, g.1)
 
 -- a token after the opening of its sequence
 pub opened_bytes : (is_open : Bool) (token : Token) → flat_map token_bytes (opened is_open []) ++ token_bytes token
@@ -286,23 +234,12 @@ pub opened_bytes : (is_open : Bool) (token : Token) → flat_map token_bytes (op
 opened_bytes true token = sym (append-nil (token_bytes token))
 opened_bytes false token = simp append_assoc (ap (λ (t : List ℕ). token_bytes opening ++ t) (sym (append-nil (token_bytes token))))
 
-pub row_joined : (old digits bytes : List ℕ) → ((old ++ digits) ++ 87 ∷ []) ++ bytes ≡ old ++ (digits ++ 87 ∷ bytes)
-row_joined old digits bytes = simp append_assoc
-
-equal_is : (k : ℕ) → (k == k) ≡ true
-equal_is k = grind (arith, nat_tests)
-
-unequal_is : {k n : ℕ} → k < n → (k == n) ≡ false
-unequal_is lt = grind (arith, nat_tests)
-
 -- the last step by its place
 pub ends_at : (steps : List Step) {k : ℕ} → k ≤ length steps → is_last (drop k steps) ≡ (k == length steps)
 ends_at steps {k} le =
     elim (cases_lt k (length steps)) [
-      | inl lt ↦ ap is_last (drop_more steps k (Skip 0) lt) ∙ sym (unequal_is lt)
-      | inr ge ↦
-          let same : k ≡ length steps = omega arith in
-          ap is_last (drop_of_length-le steps ge) ∙ sym (ap (λ (n : ℕ). k == n) (sym same) ∙ equal_is k)
+      | inl lt ↦ rw (drop_more steps k (Skip 0) lt) (grind (arith, nat_tests))
+      | inr ge ↦ rw (drop_of_length-le steps ge) (grind (arith, nat_tests))
     ]
 
 -- a row's data after its length
@@ -311,12 +248,6 @@ pub appended_row : (picture : Picture) (y : ℕ) {current : Method} {count : ℕ
     → IsLeastLength current (above picture y) (row_at (bitmap_rows picture) y) count → one ≡ old ++ least_spelling count → mid
     ≡ one ++ 87 ∷ [] → AppendsLeast current seed row mid new
     → AppendsRow picture y current count old new
-appended_row picture y {current} {count} old {mid} {new} {row} r s least a b appends =
-    let is = subst (λ (x : List ℕ). AppendsLeast current (above picture y) x mid new) r
-    (subst (λ (x : List ℕ). AppendsLeast current x row mid new) s appends) in (
-      is.bytes,
-      is.whole,
-      one_least is.least least,
-      is.joined ∙ ap (λ (t : List ℕ). t ++ is.bytes) (b ∙ ap (λ (t : List ℕ). t ++ 87 ∷ []) a) ∙ row_joined old (least_spelling count)
-          is.bytes,
-    )
+appended_row picture y old r s least a b appends =
+    let is = rw (r, s) at appends in
+    (is.bytes, is.whole, least_alone is.least least, is.joined ∙ simp (b, a, append_assoc))

@@ -12,49 +12,26 @@ use Rattle.pcl_writer.proofs.body.append_parameter.Goals as goal
 pub append_row-requires-clause-row : goal.append_row-requires-clause-row
 append_row-requires-clause-row c =
     let picture = c.args.bitmap.now in
-    let w = subst (IsWritable picture c.args.row c.args.method) c.in-Row.is c.requires in
+    let w = rw c.in-Row.is at c.requires in
     omega (arith, w.0, length_rows (page_height picture.size picture.dpi) (width_of picture) picture.bytes)
-
-setting_is : (old : List ℕ) {new : List ℕ} (tail : List ℕ) {number same : ℕ} → new ≡ old ++ (least_spelling number ++ tail) → number ≡ same
-    → new
-    ≡ old ++ (least_spelling same ++ tail)
-setting_is old tail e n = e ∙ ap (λ (m : ℕ). old ++ (least_spelling m ++ tail)) n
 
 pub returns-in-Skip-clause-ok : goal.returns-in-Skip-clause-ok
 returns-in-Skip-clause-ok c =
-    let old = c.args.out.now.items in
-    let new = c.append_setting.new.out.items in
     let count = c.in-Skip.count in
     on_ok_weaker c.append_setting.result
-    (λ e. subst (λ (s : Step). AppendsParameter c.args.bitmap.now c.args.row c.args.method s c.args.ends old new) (sym c.in-Skip.is) (
-      skip (least_spelling count) count c.args.ends,
-      (refl, refl, refl),
-      tt,
-      setting_is old (letter 89 c.args.ends)
-          e c.from.ensures,
-    ))
+    (λ e. rw c.in-Skip.is (skip (least_spelling count) count c.args.ends, (refl, refl, refl), tt, rw c.from.ensures at e))
     c.append_setting.ensures.ok
 
 pub returns-in-Switch-clause-ok : goal.returns-in-Switch-clause-ok
 returns-in-Switch-clause-ok c =
-    let old = c.args.out.now.items in
-    let new = c.append_setting-in-Switch.new.out.items in
     let next = c.in-Switch.next in
     on_ok_weaker c.append_setting-in-Switch.result
-    (λ e. subst (λ (s : Step). AppendsParameter c.args.bitmap.now c.args.row c.args.method s c.args.ends old new) (sym c.in-Switch.is) (
-      method (least_spelling (method_code next)) next c.args.ends,
-      (refl, refl, refl),
-      tt,
-      setting_is old (letter 77 c.args.ends) e c.code.ensures,
-    ))
+    (λ e. rw c.in-Switch.is
+    (method (least_spelling (method_code next)) next c.args.ends, (refl, refl, refl), tt, rw c.code.ensures at e))
     c.append_setting-in-Switch.ensures.ok
 
 pub returns-in-Row-clause-ok : goal.returns-in-Row-clause-ok
 returns-in-Row-clause-ok c =
-    let old = c.args.out.now.items in
-    let new = c.append_row.new.out.items in
-    let bytes = c.in-Row.bytes in
     on_ok_weaker c.append_row.result
-    (λ a. subst (λ (s : Step). AppendsParameter c.args.bitmap.now c.args.row c.args.method s c.args.ends old new) (sym c.in-Row.is)
-    (send (least_spelling bytes) a.0, (a.2, refl), a.1, a.3))
+    (λ a. rw c.in-Row.is (send (least_spelling c.in-Row.bytes) a.0, (a.2, refl), a.1, a.3))
     c.append_row.ensures.ok

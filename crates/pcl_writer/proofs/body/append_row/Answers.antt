@@ -15,10 +15,6 @@ append_data-requires c = record {
   small = omega (arith, c.row.ensures.len, row_small c.args.bitmap.now.size c.args.bitmap.now.dpi);
 }
 
-digits_are : (old : List ℕ) {new : List ℕ} {number same : ℕ} → new ≡ old ++ least_spelling number → number ≡ same
-    → new ≡ old ++ least_spelling same
-digits_are old e n = e ∙ ap (λ (m : ℕ). old ++ least_spelling m) n
-
 pub returns-clause-ok : goal.returns-clause-ok
 returns-clause-ok c =
     let picture = c.args.bitmap.now in
@@ -26,7 +22,7 @@ returns-clause-ok c =
     picture.bytes c.requires.row) in
     on_ok_weaker c.append_data.result
     (appended_row picture c.args.row c.args.out.now.items
-    row_is c.row_above.ensures.row c.requires.bytes (digits_are c.args.out.now.items c.in_ok-append_spelling.ensures.ok c.from.ensures)
+    row_is c.row_above.ensures.row c.requires.bytes (rw c.from.ensures at c.in_ok-append_spelling.ensures.ok)
     c.in_ok-extend_from_slice.ensures.items)
     c.append_data.ensures.ok
 

@@ -51,8 +51,7 @@ returns-clause-ok c =
     let started : c.append_start.new.out.items ≡ old ++ start_bytes page.dpi page.copies page.size =
     c.in_ok-append_start.ensures.ok ∙ ap (λ (d : Dpi). old ++ start_bytes d page.copies c.size.result) (c.dpi.ensures.value ∙ page.dpi_is)
     ∙ ap (λ (z : Size). old ++ start_bytes page.dpi page.copies z) (c.size.ensures.value ∙ page.size_is) in
-    let few = few_commands width (omega (arith, count, high)) c.requires.feasible body.0 0 Plain false
-    walk body.3 in
+    let few = few_commands width c.requires.feasible (omega (arith, count, high)) body.0 {row = 0} {current = Plain} false walk body.3 in
     let text = start_bytes page.dpi page.copies page.size ++ flat_map token_bytes body.0 ++ end_bytes in
     let printed : PrintsPage page text = record {
       some_copies = page.copies_in_range.0;
@@ -70,5 +69,5 @@ returns-clause-ok c =
       text,
       page_joined old _ _ _ started body.1
           c.in_ok-extend_from_slice.ensures.items,
-      (printed, omega (arith, count, few, some), subst (IsLeastText page.dpi page.size page.copies rows) text_is least),
+      (printed, omega (arith, count, few.bound, some), subst (IsLeastText page.dpi page.size page.copies rows) text_is least),
     )
