@@ -1,5 +1,5 @@
 -- The start of a page text, as it is written.
-use Rattle.std.proofs.Common.{◌≡◌, ℕ, List, [], ◌∷◌, ◌++◌, ap, ◌∙◌, append_assoc}
+use Rattle.std.proofs.Common.{◌≡◌, ℕ, List, [], ◌∷◌, ◌++◌, ◌∙◌, append_assoc}
 use Rattle.std.specs.Prelude.{decimal}
 use Rattle.pcl_base.specs.declared.dpi.Dpi.{Dpi}
 use Rattle.pcl_base.specs.declared.size.Size.{Size}
@@ -10,9 +10,7 @@ use Rattle.pcl_output.specs.Tokens.{start_bytes}
 pub five_joined : (old a b c d e : List ℕ) {one two three four five : List ℕ} → one ≡ old ++ a → two ≡ one ++ b → three ≡ two ++ c → four
     ≡ three ++ d → five ≡ four ++ e
     → five ≡ old ++ (a ++ (b ++ (c ++ (d ++ e))))
-five_joined old a b c d e p q r s t =
-    t ∙ ap (λ (x : List ℕ). x ++ e) (s ∙ ap (λ (x : List ℕ). x ++ d) (r ∙ ap (λ (x : List ℕ). x ++ c)
-    (q ∙ ap (λ (x : List ℕ). x ++ b) p))) ∙ simp append_assoc
+five_joined old a b c d e p q r s t = t ∙ rw (s, r, q, p) (simp append_assoc)
 
 pub start_regrouped : (dpi : Dpi) (copies : ℕ) (size : Size)
     → ((27 ∷ 38 ∷ 108 ∷ []) ++ decimal copies) ++ (((120 ∷ []) ++ decimal (code_of size)) ++

@@ -1,17 +1,15 @@
-use Rattle.std.proofs.Common.{◌≡◌, ◌+◌, [], List, length, drop, refl, sym, ap, subst, arith}
-use Rattle.std.specs.Prelude.{Bool, ◌==◌, slice_index_or}
+use Rattle.std.proofs.Common.{◌+◌, [], sym, arith}
+use Rattle.std.specs.Prelude.{slice_index_or}
+use Rattle.std.specs.List.{flat_map}
+use Rattle.pcl_output.specs.Tokens.{token_bytes}
 use Rattle.std.proofs.Math.ListN.{drop_of_length-le}
 use Rattle.std.proofs.lemmas.List.{append-nil, drop_more}
 use Rattle.pcl_base.proofs.Lists.{joined_front}
 use Rattle.pcl_base.specs.Size.{page_height}
-use Rattle.pcl_output.specs.declared.step.Step.{Step}
 use Rattle.pcl_output.specs.declared.step.Step.TheVariants.{Skip}
-use Rattle.pcl_output.specs.declared.node.Node.{Node}
-use Rattle.pcl_output.specs.Nodes.{node_after}
-use Rattle.pcl_plan.specs.Plans.{is_last}
 use Rattle.pcl_output.proofs.RowsFrom.{length_rows}
-use Rattle.pcl_writer.specs.inner.Steps.{width_of, AppendsStep}
-use Rattle.pcl_writer.proofs.Bodies.{IsWrittenTo, begin, writable, written_more, written_all, ends_at}
+use Rattle.pcl_writer.specs.inner.Steps.{width_of}
+use Rattle.pcl_writer.proofs.Bodies.{begin, writable, written_more, written_all, ends_at}
 use Rattle.pcl_base.proofs.PageBounds.{height_small}
 use Rattle.pcl_writer.proofs.body.append_body.Goals as goal
 
@@ -49,7 +47,7 @@ loop-i-preserved c =
     let appends = rw (← ends) at c.in_ok-append_step.ensures.ok in
     let moves = rw (← ends) at c.after-node.ensures in
     let written = written_more c.requires before appends moves in
-    record { front = joined_front _ written.spelled; written = written }
+    record { front = joined_front (flat_map token_bytes written.done) written.spelled; written = written }
 
 pub returns-clause-ok : goal.returns-clause-ok
 returns-clause-ok c =

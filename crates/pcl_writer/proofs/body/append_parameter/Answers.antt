@@ -1,12 +1,11 @@
-use Rattle.std.proofs.Common.{◌≡◌, ◌++◌, ◌∙◌, ℕ, List, refl, sym, ap, subst, arith}
+use Rattle.std.proofs.Common.{refl, arith}
 use Rattle.std.proofs.lemmas.Result.{on_ok_weaker}
 use Rattle.pcl_base.specs.Method.{method_code}
 use Rattle.pcl_base.specs.Size.{page_height}
-use Rattle.pcl_output.specs.declared.step.Step.{Step}
-use Rattle.pcl_output.specs.Tokens.{method, skip, send, letter}
+use Rattle.pcl_output.specs.Tokens.{method, skip, send}
 use Rattle.pcl_output.specs.Spelling.{least_spelling}
 use Rattle.pcl_output.proofs.RowsFrom.{length_rows}
-use Rattle.pcl_writer.specs.inner.Steps.{width_of, IsWritable, AppendsParameter}
+use Rattle.pcl_writer.specs.inner.Steps.{width_of}
 use Rattle.pcl_writer.proofs.body.append_parameter.Goals as goal
 
 pub append_row-requires-clause-row : goal.append_row-requires-clause-row

@@ -49,8 +49,7 @@ returns-clause-ok c =
     let high = height_small page.size page.dpi in
     let some = height_some page.size page.dpi in
     let started : c.append_start.new.out.items ≡ old ++ start_bytes page.dpi page.copies page.size =
-    c.in_ok-append_start.ensures.ok ∙ ap (λ (d : Dpi). old ++ start_bytes d page.copies c.size.result) (c.dpi.ensures.value ∙ page.dpi_is)
-    ∙ ap (λ (z : Size). old ++ start_bytes page.dpi page.copies z) (c.size.ensures.value ∙ page.size_is) in
+    c.in_ok-append_start.ensures.ok ∙ rw (c.dpi.ensures.value, page.dpi_is, c.size.ensures.value, page.size_is) in
     let few = few_commands width c.requires.feasible (omega (arith, count, high)) body.0 {row = 0} {current = Plain} false walk body.3 in
     let text = start_bytes page.dpi page.copies page.size ++ flat_map token_bytes body.0 ++ end_bytes in
     let printed : PrintsPage page text = record {
