@@ -44,8 +44,7 @@ readable width rows table row run few right is ink = record {
       omega (
         arith,
         falls_by right is method near (far - near) some (omega arith),
-        ap
-            (λ (k : ℕ). rest (node_number table) (row + k) method) gap,
+        ap (λ (k : ℕ). rest (node_number table) (row + k) method) gap,
       );
   small = λ a below inside. omega (arith, (right.right a.row (omega arith) (omega (arith, right.size))).small a refl, few);
 }
@@ -103,24 +102,36 @@ pub record IsPut (old new : List RowNumbers) (row : ℕ) (numbers : RowNumbers) 
   pub changed : (method : Method) (is_open : Bool) → node_number new (node row method is_open) ≡ number_in numbers method is_open
   pub others : (a : Node) → (a.row ≡ row → ⊥) → node_number new a ≡ node_number old a
 
-stays_behind : {width : ℕ} {rows : List (List ℕ)} {old new : List RowNumbers} {row : ℕ} {numbers : RowNumbers} → IsPut old new row numbers
-    → AreRightFrom width rows old (row + 1)
-    → (behind : ℕ) → row < behind → behind ≤ length rows → IsRowRight width rows (node_number new) behind
-stays_behind put right behind lt within =
-    row_stays (λ a le. put.others a (λ same. omega arith))
-    (right.right behind (omega arith) within)
+module _ {width : ℕ} {rows : List (List ℕ)} {old new : List RowNumbers} {row : ℕ} {numbers : RowNumbers} (put : IsPut old new row numbers)
+    (right : AreRightFrom width rows old (row + 1)) where
+  stays_behind : (behind : ℕ) → row < behind → behind ≤ length rows → IsRowRight width rows (node_number new) behind
+  stays_behind behind lt within =
+      row_stays (λ a le. put.others a (λ same. omega arith)) (right.right behind (omega arith) within)
 
-right_more : {width : ℕ} {rows : List (List ℕ)} {old new : List RowNumbers} {row : ℕ} {numbers : RowNumbers} → IsPut old new row numbers
-    → AreRightFrom width rows old (row + 1)
-    → IsRowRight width rows (node_number new) row → AreRightFrom width rows new row
-right_more {width} {rows} {new} {row} put right here = record {
-  size = put.size ∙ right.size;
-  right = λ behind from within.
-      elim (cases_lt row behind) [
-        | inl lt ↦ stays_behind put right behind lt within
-        | inr le ↦ (let same : row ≡ behind = omega arith in subst (IsRowRight width rows (node_number new)) same here)
-      ];
-}
+  right_more : IsRowRight width rows (node_number new) row → AreRightFrom width rows new row
+  right_more here = record {
+    size = put.size ∙ right.size;
+    right = λ behind from within.
+        elim (cases_lt row behind) [
+          | inl lt ↦ stays_behind behind lt within
+          | inr le ↦ (let same : row ≡ behind = omega arith in subst (IsRowRight width rows (node_number new)) same here)
+        ];
+  }
+
+  pub put_inked : {run : ℕ} → length rows ≤ 9999 → IsWhiteRun rows row run → row + run < length rows
+      → AreRowNumbers width rows (node_number old) row numbers → AreRightFrom width rows new row
+  put_inked few is ink are =
+      right_more (inked_row_right (record {
+        direct = are.direct;
+        numbers = numbers;
+        inside_page = omega arith;
+        few = omega arith;
+        inked = ink_left is ink;
+        placed = put.changed;
+        switched = are.switched;
+        are_direct = λ method. direct_stays (λ a below. put.others a (λ same. omega arith)) (are.are_direct method);
+        later = stays_behind;
+      }))
 
 -- where the rest is white
 end_is : (method : Method) (is_open : Bool) → number_in end_numbers method is_open ≡ end_number is_open
@@ -148,26 +159,6 @@ put_white {rows} {row} lt put right white =
     (white_row_right white (put_end put)
     (λ method inside. (stays_behind put right (row + 1) (omega arith) (omega arith)).ends
     (node (row + 1) method false) refl (refl, below.1)))
-
-pub put_inked : {width : ℕ} {rows : List (List ℕ)} {old new : List RowNumbers} {row run : ℕ} {numbers : RowNumbers} → length rows ≤ 9999
-    → IsPut old new row numbers → AreRightFrom width rows old (row + 1)
-    → IsWhiteRun rows row run → row + run < length rows → AreRowNumbers width rows (node_number old) row numbers
-    → AreRightFrom width rows new row
-put_inked {rows} {row} {run} {numbers} few put right is ink are =
-    right_more put right
-    (inked_row_right (record {
-      direct = are.direct;
-      numbers = numbers;
-      inside_page = omega arith;
-      few = omega arith;
-      inked = ink_left is ink;
-      placed = put.changed;
-      switched = are.switched;
-      are_direct = λ method.
-          direct_stays
-          (λ a below. put.others a (λ same. omega arith)) (are.are_direct method);
-      later = stays_behind put right;
-    }))
 
 -- after all rows
 pub put_last : {width : ℕ} {rows : List (List ℕ)} {old new : List RowNumbers} {row : ℕ} → row ≡ length rows → length old ≡ length rows + 1

@@ -60,16 +60,6 @@ pub right_table : (rows : Rows) {table : List RowNumbers} → AreRightFrom rows.
     → IsRightTable rows.width (rows_of rows) table
 right_table rows right = record { few = omega (arith, length_rows rows.count rows.width rows.bytes.now, rows.few); right = right }
 
--- a parameter with which the least begins
-pub data Beginning (width : ℕ) (rows : List (List ℕ)) (table : List RowNumbers) (row : ℕ) (current : Method) : Type 0 where
-  by_switch : (next : Method) → inside (node_number table) row current ≡ switching next + rest (node_number table) row next
-      → Beginning width rows table row current
-  by_skip : (count : ℕ) → AreSkippable rows row count → inside (node_number table) row current
-      ≡ skipping (node_number table) row current count → Beginning width rows table row current
-  by_row : (bytes : List ℕ) → row < length rows → IsRowData current (row_above width rows row) (row_at rows row) bytes
-      → row_cost (length bytes) + outside (node_number table) (row + 1) current ≤ inside (node_number table) row current
-      → Beginning width rows table row current
-
 module _ {width : ℕ} {rows : List (List ℕ)} {table : List RowNumbers} (is : IsRightTable width rows table) where
   bounds : (a : Node) (es : List Token) → Walk (Leads width rows) (Ends rows) a es → node_number table a ≤ total cost es
   bounds = feasible_bounds (feasible_table is.right)
@@ -80,50 +70,52 @@ module _ {width : ℕ} {rows : List (List ℕ)} {table : List RowNumbers} (is : 
   row_right : (row : ℕ) → row ≤ length rows → IsRowRight width rows (node_number table) row
   row_right row within = is.right.right row (omega arith) within
 
-  switch_bound : (row : ℕ) (current next : Method)
-      → inside (node_number table) row current ≤ switching next + rest (node_number table) row next
-  switch_bound row current = switch_below width rows (node_number table) row current (steps (node row current true))
-
   pub skip_bound : (row : ℕ) (current : Method) {count : ℕ} → AreSkippable rows row count
       → inside (node_number table) row current ≤ skipping (node_number table) row current count
   skip_bound row current can = skip_below width rows (node_number table) row current (steps (node row current true)) (omega (arith, is.few)) can
 
+  -- the least begins with a row, where it begins with no skip and no switch
   begins_with : {row : ℕ} {current : Method} (es : List Token) → Walk (Leads width rows) (Ends rows) (node row current true) es
-      → total cost es ≡ inside (node_number table) row current → Beginning width rows table row current
-  begins_with [] w t = absurd (cc w.0)
-  begins_with (opening ∷ es) w t = absurd (cc w.1.0)
-  begins_with {row} {current} (method digits next ends ∷ es) w t =
-      by_switch next
-      (omega (
+      → total cost es ≡ inside (node_number table) row current
+      → ((count : ℕ) → AreSkippable rows row count
+      → inside (node_number table) row current < skipping (node_number table) row current count)
+      → ((next : Method) → inside (node_number table) row current ≡ switching next + rest (node_number table) row next → ⊥)
+      → (bytes : List ℕ) × (row < length rows) × IsRowData current (row_above width rows row) (row_at rows row) bytes
+      × (row_cost (length bytes) + outside (node_number table) (row + 1) current ≤ inside (node_number table) row current)
+  begins_with [] w t no_skip no_switch = absurd (cc w.0)
+  begins_with (opening ∷ es) w t no_skip no_switch = absurd (cc w.1.0)
+  begins_with {row} {current} (method digits next ends ∷ es) w t no_skip no_switch =
+      absurd (no_switch next (omega (
         arith,
         t,
         bounds w.0 es w.2,
         ap (node_number table) w.1.2,
         rest_below (node_number table) row next (not ends),
         switch_costs width rows (node row current true) w.0 digits next ends w.1,
-        switch_bound row current next,
-      ))
-  begins_with {row} {current} (skip digits count ends ∷ es) w t =
-      let can : AreSkippable rows row count = (w.1.2, w.1.3, w.1.4) in
-      by_skip count can
-      (omega (
+        switch_below width rows (node_number table) row current (steps (node row current true)) next,
+      )))
+  begins_with {row} {current} (skip digits count ends ∷ es) w t no_skip no_switch =
+      absurd (omega (
         arith,
         t,
         bounds w.0 es w.2,
         ap (node_number table) w.1.5,
         rest_below (node_number table) (row + count) current (not ends),
         skip_costs width rows (node row current true) w.0 digits count ends (omega (arith, is.few)) w.1,
-        skip_bound row current can,
+        no_skip count (w.1.2, w.1.3, w.1.4),
       ))
-  begins_with {row} {current} (send digits bytes ∷ es) w t =
-      by_row bytes w.1.2 w.1.3
-      (omega (
-        arith,
-        t,
-        bounds w.0 es w.2,
-        ap (node_number table) w.1.4,
-        row_costs width rows (node row current true) w.0 digits bytes w.1,
-      ))
+  begins_with {row} {current} (send digits bytes ∷ es) w t no_skip no_switch = (
+    bytes,
+    w.1.2,
+    w.1.3,
+    omega (
+      arith,
+      t,
+      bounds w.0 es w.2,
+      ap (node_number table) w.1.4,
+      row_costs width rows (node row current true) w.0 digits bytes w.1,
+    ),
+  )
 
   -- where no skip of some white rows and no switch begins the least, the row does, by least data
   pub row_begins : {row run least : ℕ} {current : Method} → row < length rows → IsWhiteRun rows row run
@@ -134,16 +126,13 @@ module _ {width : ℕ} {rows : List (List ℕ)} {table : List RowNumbers} (is : 
       × (least ≡ row_cost bytes + outside (node_number table) (row + 1) current)
   row_begins {row} {run} {least} {current} inside_page white same no_skip no_switch =
       let w = (row_right row (omega arith)).attained (node row current true) refl in
-      elim (begins_with w.0 w.1 w.2) [
-        | by_switch next e ↦ absurd (no_switch next (same ∙ e))
-        | by_skip count can e ↦ absurd (omega (arith, no_skip count can.0 (skippable_within white can), same, e))
-        | by_row whole lt has below ↦
-            let from = steps (node row current true) in (
-              length whole,
-              row_is_least width rows (node_number table) row current from whole lt has below,
-              omega (arith, same, below, row_below width rows (node_number table) row current from whole lt has),
-            )
-      ]
+      let sent = begins_with w.0 w.1 w.2 (λ count can. omega (arith, no_skip count can.0 (skippable_within white can), same))
+      (λ next e. no_switch next (same ∙ e)) in
+      let from = steps (node row current true) in (
+        length sent.0,
+        row_is_least width rows (node_number table) row current from sent.0 sent.1 sent.2 sent.3,
+        omega (arith, same, sent.3, row_below width rows (node_number table) row current from sent.0 sent.1 sent.2),
+      )
 
   -- ---- outside a sequence
 

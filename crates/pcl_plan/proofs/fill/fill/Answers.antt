@@ -13,15 +13,14 @@ pub loop-row-init : goal.loop-row-init
 loop-row-init g c =
     let rows = c.args.rows.now in
     let count = length_rows rows.count rows.width rows.bytes.now in
-    let put : IsPut c.args.table.now c.put.new.self rows.count end_numbers = record {
+    let put : IsPut c.args.table.now c.put.new.self rows.count c.at_end.result = record {
       size = c.put.ensures.rows;
-      changed = λ method is_open. c.put.ensures.changed method is_open ∙ ap
-          (λ (n : RowNumbers). number_in n method is_open) c.at_end.ensures;
+      changed = c.put.ensures.changed;
       others = c.put.ensures.others;
     } in
     record {
-      right = put_last (sym count) (omega (arith, c.requires, count))
-          put (no_rows rows.count rows.count rows.width rows.bytes.now (omega arith));
+      right = put_last (sym count) (omega (arith, c.requires, count)) (rw c.at_end.ensures at put)
+          (no_rows rows.count rows.count rows.width rows.bytes.now (omega arith));
       run = run_end (sym count);
     }
 
@@ -32,9 +31,7 @@ loop-row-preserved g c =
     let row : ℕ = c.loop-row.row - 1 in
     let after : c.loop-row.row ≡ row + 1 = omega arith in
     let behind = subst (AreRightFrom rows.width (rows_of rows) c.loop-row.table) after c.loop-row.invariant.right in
-    let inside : row < length (rows_of rows) = omega (arith, count, c.loop-row-test.true, c.loop-row.auto.row) in
-    let new = c.put-in-loop-row.new.self in
-    let put : IsPut c.loop-row.table new row c.if-row-run.numbers = record {
+    let put : IsPut c.loop-row.table c.put-in-loop-row.new.self row c.if-row-run.numbers = record {
       size = c.put-in-loop-row.ensures.rows;
       changed = c.put-in-loop-row.ensures.changed;
       others = c.put-in-loop-row.ensures.others;
@@ -43,15 +40,13 @@ loop-row-preserved g c =
     record {
       right = elim c.if-row-run.branch [
         | then-row-run w ↦
-            put_white inside
-            (subst (IsPut c.loop-row.table new row) (w.numbers-is ∙ w.at_end-numbers.ensures) put) behind
+            let inside : row < length (rows_of rows) = omega (arith, count, c.loop-row-test.true, c.loop-row.auto.row) in
+            put_white inside (rw (w.numbers-is, w.at_end-numbers.ensures) at put) behind
             (white_to_end run (w.if-row-run.true ∙ sym count))
         | else-row-run w ↦
             let ink : row + c.white_run-run.result < length (rows_of rows) = omega
             (arith, count, w.if-row-run.false, c.white_run-run.ensures.within) in
-            put_inked
-            (omega (arith, count, rows.few))
-            (subst (IsPut c.loop-row.table new row) w.numbers-is put) behind run ink w.row_numbers-numbers.ensures
+            put_inked (rw w.numbers-is at put) behind (omega (arith, count, rows.few)) run ink w.row_numbers-numbers.ensures
       ];
       run = run;
     }

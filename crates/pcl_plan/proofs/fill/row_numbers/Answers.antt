@@ -19,34 +19,24 @@ readable_rows rows {table} {row} {run} right is ink =
     readable rows.width (rows_of rows) table row run (omega (arith, count, rows.few)) right is (omega (arith, count))
 
 pub least_starts-requires-clause-readable : goal.least_starts-requires-clause-readable
-least_starts-requires-clause-readable g c = readable_rows c.args.rows.now c.requires.right
-    c.requires.run c.requires.ink
+least_starts-requires-clause-readable g c = readable_rows c.args.rows.now c.requires.right c.requires.run c.requires.ink
 
 pub least_starts-requires-clause-bytes : goal.least_starts-requires-clause-bytes
-least_starts-requires-clause-bytes g c = λ method.
-    length_small (c.least_lengths-bytes.ensures method)
+least_starts-requires-clause-bytes g c = λ method. length_small (c.least_lengths-bytes.ensures method)
 
 pub from_direct-requires : goal.from_direct-requires
 from_direct-requires g c = λ method.
-    let rows = c.args.rows.now in
-    let is = readable_rows rows c.requires.right c.requires.run c.requires.ink in
-    let bytes : ℕ = by_method c.least_lengths-bytes.result method in
-    let small : bytes ≤ 65535 = length_small (c.least_lengths-bytes.ensures method) in
+    let is = readable_rows c.args.rows.now c.requires.right c.requires.run c.requires.ink in
     omega (
       arith,
       (c.least_starts.ensures method).sent,
-      row_cost_small bytes small,
-      is.small (node (c.args.row + 1) method false)
-          (omega arith) is.next,
+      row_cost_small (by_method c.least_lengths-bytes.result method) (length_small (c.least_lengths-bytes.ensures method)),
+      is.small (node (c.args.row + 1) method false) (omega arith) is.next,
     )
 
 pub returns : goal.returns
-returns g c =
-    let rows = c.args.rows.now in
-    record {
-      direct = by_method c.least_starts.result;
-      are_direct = λ method.
-          direct_of_start
-          c.requires.run (c.least_lengths-bytes.ensures method) (c.least_starts.ensures method);
-      switched = c.from_direct.ensures;
-    }
+returns g c = record {
+  direct = by_method c.least_starts.result;
+  are_direct = λ method. direct_of_start c.requires.run (c.least_lengths-bytes.ensures method) (c.least_starts.ensures method);
+  switched = c.from_direct.ensures;
+}
