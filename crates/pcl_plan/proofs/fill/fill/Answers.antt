@@ -1,7 +1,5 @@
-use Rattle.std.proofs.Common.{◌≡◌, ◌+◌, ◌-◌, ◌<◌, ℕ, length, sym, ap, subst, ◌∙◌, arith}
+use Rattle.std.proofs.Common.{◌≡◌, ◌+◌, ◌-◌, ◌<◌, ℕ, length, sym, subst, ◌∙◌, arith}
 use Rattle.pcl_plan.specs.inner.Rows.{rows_of}
-use Rattle.pcl_output.specs.declared.table.RowNumbers.{RowNumbers}
-use Rattle.pcl_output.specs.Table.{number_in, end_numbers}
 use Rattle.pcl_plan.specs.inner.Filling.{AreRightFrom}
 use Rattle.pcl_output.proofs.RowsFrom.{length_rows, no_rows}
 use Rattle.pcl_plan.proofs.Filled.{IsPut, put_white, put_inked, put_last}

@@ -1,4 +1,4 @@
-use Rattle.std.proofs.Common.{◌+◌, ◌≤◌, ◌<◌, ℕ, List, false, arith}
+use Rattle.std.proofs.Common.{◌+◌, ◌<◌, ℕ, List, false, arith}
 use Rattle.pcl_output.specs.Table.{by_method}
 use Rattle.pcl_plan.specs.inner.Rows.{rows_of}
 use Rattle.pcl_plan.specs.declared.rows.Rows.{Rows}
