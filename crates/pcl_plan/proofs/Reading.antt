@@ -72,7 +72,8 @@ module _ {width : ℕ} {rows : List (List ℕ)} {table : List RowNumbers} (is : 
 
   pub skip_bound : (row : ℕ) (current : Method) {count : ℕ} → AreSkippable rows row count
       → inside (node_number table) row current ≤ skipping (node_number table) row current count
-  skip_bound row current can = skip_below width rows (node_number table) row current (steps (node row current true)) (omega (arith, is.few)) can
+  skip_bound row current can =
+      skip_below width rows (node_number table) row current (steps (node row current true)) (omega (arith, is.few)) can
 
   -- the least begins with a row, where it begins with no skip and no switch
   begins_with : {row : ℕ} {current : Method} (es : List Token) → Walk (Leads width rows) (Ends rows) (node row current true) es

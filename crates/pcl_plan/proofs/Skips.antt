@@ -60,8 +60,12 @@ least_skip_is {table} {row} {method} {run} is best n4 n3 n2 n1 = record {
                         omega (arith, most_of method count 2 is one_row within (omega arith) (omega arith) (omega arith), n3)
                     | inr thousands ↦
                         let all : min run 9999 ≡ run = omega (arith, is.within, is.few) in
-                        let most = most_of method count 3 is one_row within (omega arith) (omega (arith, is.within, is.few)) (omega arith) in
-                        omega (arith, most, ap (skipping (node_number table) row method) all, n4)
+                        omega (
+                          arith,
+                          most_of method count 3 is one_row within (omega arith) (omega (arith, is.within, is.few)) (omega arith),
+                          ap (skipping (node_number table) row method) all,
+                          n4,
+                        )
                   ]
             ]
       ];
