@@ -11,7 +11,7 @@ use Rattle.pcl_rows.proofs.Spellings.{same_elements, cut_is_not_whole, same_head
 use Rattle.pcl_rows.proofs.Readings.{after_none}
 
 -- bytes that hold the whole head of a cut element
-with_head : (d : Element) {shown : List ℕ} (missing : List ℕ) → shown ++ missing ≡ element_bytes d
+pub with_head : (d : Element) {shown : List ℕ} (missing : List ℕ) → shown ++ missing ≡ element_bytes d
     → length (head_bytes d.head) ≤ length shown
     → (tail : List ℕ) × (shown ≡ head_bytes d.head ++ tail)
 with_head d {shown} missing lacking long =
