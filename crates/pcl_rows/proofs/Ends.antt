@@ -1,7 +1,7 @@
 -- Data after the row's end: they have a reading, whatever they are, and nothing of it counts.
 use Rattle.std.proofs.Common.{◌≡◌, ℕ, zero, suc, ◌+◌, ◌-◌, ◌*◌, ◌/◌, ◌%◌, ◌<◌, ◌≤◌, Bool, true, false, List, [], ◌∷◌, ◌++◌, length, take, drop, get_or, replicate, refl, sym, ap, subst, ◌∙◌, inl, inr, append_assoc, arith}
 use Rattle.std.proofs.lemmas.Bool.{cases_lt, cases_order}
-use Rattle.std.proofs.lemmas.List.{take-append-drop, take_all, drop_all, length-append, length-drop, length-replicate, length-take-le}
+use Rattle.std.proofs.lemmas.List.{take-append-drop, take_at, drop_at, take_all, drop_all, length-append, length-drop, length-replicate, length-take-le}
 use Rattle.std.specs.Prelude.{MatchBool, ◌⊎◌}
 use Rattle.pcl_base.specs.declared.method.Method.{Method}
 use Rattle.pcl_base.specs.declared.method.Method.TheVariants.{Plain, Runs, Packed, Delta}
@@ -50,10 +50,6 @@ HasReading method bytes old = (made : List ℕ) × Fills method bytes old made
 abbrev HasReadings : Method → ℕ → Type 0
 HasReadings method most = (bytes old : List ℕ) → length bytes ≤ most → AreBytes bytes → HasReading method bytes old
 
-drop_first : (before bytes : List ℕ) → drop (length before) (before ++ bytes) ≡ bytes
-drop_first [] bytes = refl
-drop_first (byte ∷ before) bytes = drop_first before bytes
-
 -- data that begin with a whole head: the element after it is whole or cut
 headed : (method : Method) (most : ℕ) (h : Head) (bytes tail old : List ℕ) → HasReadings method most → IsHead method h
     → bytes ≡ head_bytes h ++ tail → 0 < length (head_bytes h) → length bytes ≤ suc most → AreBytes tail → HasReading method bytes old
@@ -64,13 +60,13 @@ headed method most h bytes tail old readings is joined some few small =
           let missing : List ℕ = replicate (new_count h - length tail) 0 in
           let count : length missing ≡ new_count h - length tail = length-replicate {A = ℕ} (new_count h - length tail) 0 in (
             _,
-            Fills-cut method bytes h tail [] old is (record {
+            Fills-cut {new = tail} {rest = []} old is (record {
               padding = tail ++ missing;
               missing = missing;
               complete = omega (arith, length-append tail missing, count);
-              lacking = ap (λ (bs : List ℕ). bs ++ missing) joined ∙ append_assoc (head_bytes h) tail missing;
+              lacking = rw joined (append_assoc (head_bytes h) tail missing);
               lacks = omega (arith, count);
-              new_is = sym (ap (drop (length (head_bytes h))) joined ∙ drop_first (head_bytes h) tail);
+              new_is = rw joined (sym (drop_at (head_bytes h) tail (length (head_bytes h)) refl));
               rest_is = refl;
             }),
           )
@@ -79,11 +75,10 @@ headed method most h bytes tail old readings is joined some few small =
           let rest = readings (drop (new_count h) tail) (drop (offset_of h + length (given_by h new)) old)
           (omega (arith, length-drop (new_count h) tail, long)) (dropped (new_count h) tail small) in (
             _,
-            Fills-cons method bytes h new (drop (new_count h) tail) old rest.0 is
+            Fills-cons old is
                 (record {
                   complete = length-take-le (new_count h) tail whole;
-                  joined = joined ∙ ap (λ (bs : List ℕ). head_bytes h ++ bs) (sym (take-append-drop (new_count h) tail))
-                      ∙ sym (append_assoc (head_bytes h) new (drop (new_count h) tail));
+                  joined = rw (joined, append_assoc, take-append-drop);
                 }) rest.1,
           )
     ]
@@ -136,7 +131,7 @@ far_reading most c bytes old readings byte is few small =
           let size : length (replicate {A = ℕ} all.0 255 ++ last) ≡ all.0 + 1 =
           length-append (replicate {A = ℕ} all.0 255) last ∙ ap (λ (n : ℕ). n + 1) (length-replicate {A = ℕ} all.0 255) in (
             _,
-            Fills-cut Delta (c ∷ bytes) h [] [] old (record { method_is = refl; in_range = (omega arith, omega arith) })
+            Fills-cut {h = h} old (record { method_is = refl; in_range = (omega arith, omega arith) })
                 (record {
                   padding = padding;
                   missing = 0 ∷ padding;
@@ -183,17 +178,11 @@ has_readings Delta (suc most) (c ∷ bytes) old few small =
 
 -- ---- the row's end
 
-first_bytes : (row rest : List ℕ) → take (length row) (row ++ rest) ≡ row
-first_bytes [] rest = refl
-first_bytes (byte ∷ row) rest = ap (λ (bs : List ℕ). byte ∷ bs) (first_bytes row rest)
-
 -- where a row is treated to its end, the data that are left don't matter
 pub treated_full : {method : Method} {bytes old rest row : List ℕ} (place : ℕ) → length row ≡ length old → length row ≤ place
     → AreBytes rest → IsTreatedTo method bytes old rest row place → RowFrom method bytes old row
 treated_full {method} {old = old} {rest = rest} {row = row} place size full small so_far =
     let made = has_readings method (length rest) rest (drop place row) (omega arith) small in
     let r = so_far made.0 made.1 in
-    let laid : take (length old) (take place row ++ made.0) ≡ row =
-    ap (λ (bs : List ℕ). take (length old) (bs ++ made.0)) (take_all place row full)
-    ∙ ap (λ (k : ℕ). take k (row ++ made.0)) (sym size) ∙ first_bytes row made.0 in
-    (r.1.0, r.1.1, r.1.2, r.1.3, sym laid ∙ sym r.2 ∙ ap (take (length old)) r.1.4)
+    let end = rw (take_all place row full) at r.2 in
+    (r.1.whole, r.1.cut, r.1.shown, r.1.parts, cc (end, take_at row made.0 (length old) size, r.1.row_is))
