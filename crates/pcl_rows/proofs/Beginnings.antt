@@ -3,71 +3,75 @@ use Rattle.std.proofs.Common.{◌≡◌, ℕ, ◌+◌, ◌-◌, ◌<◌, ◌≤�
 use Rattle.std.proofs.lemmas.List.{append-nil, take_all, take-append-drop, length-append, length-take, length-take-le, length-drop, length-replicate, nil_from_length, take_more, drop_all}
 use Rattle.std.specs.Prelude.{MatchBool}
 use Rattle.std.proofs.lemmas.Bool.{cases_lt, eqb-true, eqb-false}
-use Rattle.pcl_rows.specs.Heads.{Head, Itself, Count, Literal, Skipped, Repeat, Near, Far, head_bytes, new_count}
-use Rattle.pcl_rows.specs.inner.Fronts.{Begins, IsWholeFront, IsCutFront}
-
-pub Begins-one : (bytes : List ℕ) (byte : ℕ) → 0 < length bytes → byte ≡ get_or bytes 0 0 → Begins bytes (byte ∷ [])
-Begins-one [] byte h e = absurd (omega arith)
-Begins-one (b ∷ bytes) byte h e = ([], ap (λ (x : ℕ). x ∷ []) (sym e))
+use Rattle.pcl_base.specs.declared.method.Method.{Method}
+use Rattle.pcl_rows.specs.Elements.{IsHead}
+use Rattle.pcl_rows.specs.Heads.{Head, Far, head_bytes, new_count, copies_of, offset_of}
+use Rattle.pcl_rows.specs.inner.Fronts.{Begins, Opens, IsWholeFront, IsCutFront}
 
 pub Begins-cons : (bytes front : List ℕ) (byte : ℕ) → 0 < length bytes → byte ≡ get_or bytes 0 0 → Begins (drop 1 bytes) front
     → Begins bytes (byte ∷ front)
 Begins-cons [] front byte h e b = absurd (omega arith)
-Begins-cons (x ∷ bytes) front byte h e b =
-    (b.0, ap (λ (y : ℕ). y ∷ (take (length front) bytes ++ b.0)) (sym e) ∙ ap (λ (xs : List ℕ). byte ∷ xs) b.1)
+Begins-cons (x ∷ bytes) front byte h e b = (b.0, cc (e, b.1))
+
+pub Begins-one : (bytes : List ℕ) (byte : ℕ) → 0 < length bytes → byte ≡ get_or bytes 0 0 → Begins bytes (byte ∷ [])
+Begins-one bytes byte h e = Begins-cons bytes [] byte h e ([], refl)
 
 -- data that begins with these bytes goes on after them
 pub Begins-whole : (bytes front : List ℕ) → length front ≤ length bytes → Begins bytes front → bytes ≡ front ++ drop (length front) bytes
 Begins-whole bytes front long b =
     let none : b.0 ≡ [] = nil_from_length b.0
     (omega (arith, ap length b.1, length-append (take (length front) bytes) b.0, length-take (length front) bytes)) in
-    let all : take (length front) bytes ≡ front =
-    sym (append-nil (take (length front) bytes)) ∙ ap (λ (xs : List ℕ). take (length front) bytes ++ xs) (sym none) ∙ b.1 in
-    sym (take-append-drop (length front) bytes) ∙ ap (λ (xs : List ℕ). xs ++ drop (length front) bytes) all
+    let all = rw (none, append-nil) at b.1 in
+    cc (all, take-append-drop (length front) bytes)
 
 -- data that ends within them
 pub Begins-short : (bytes front : List ℕ) → length bytes ≤ length front → (b : Begins bytes front) → bytes ++ b.0 ≡ front
-Begins-short bytes front short b = ap (λ (xs : List ℕ). xs ++ b.0) (sym (take_all (length front) bytes short)) ∙ b.1
+Begins-short bytes front short b = rw (take_all (length front) bytes short) at b.1
 
 -- bytes 255, and one that is less
 pub Begins-further : (bytes : List ℕ) (full last : ℕ) → full < length bytes → take full bytes ≡ replicate full 255
     → last ≡ get_or bytes full 0 → Begins bytes (replicate full 255 ++ last ∷ [])
 Begins-further bytes full last within all e =
     let size : length (replicate full 255 ++ last ∷ []) ≡ full + 1 =
-    omega (arith, length-append {A = ℕ} (replicate full 255) (last ∷ []), length-replicate {A = ℕ} full 255) in (
-      [],
-      append-nil _ ∙ ap (λ (n : ℕ). take n bytes) size ∙ take_more bytes full 0 within
-          ∙ ap (λ (xs : List ℕ). xs ++ get_or bytes full 0 ∷ []) all ∙ ap (λ (x : ℕ). replicate full 255 ++ x ∷ []) (sym e),
-    )
+    omega (arith, length-append {A = ℕ} (replicate full 255) (last ∷ []), length-replicate {A = ℕ} full 255) in
+    ([], rw (append-nil, size, take_more bytes full 0 within, all, e))
 
 -- bytes 255 alone
 pub Begins-full : (bytes : List ℕ) → bytes ≡ replicate (length bytes) 255 → Begins bytes (replicate (length bytes) 255 ++ 0 ∷ [])
 Begins-full bytes all =
-    let size : length bytes ≤ length (replicate (length bytes) 255 ++ 0 ∷ []) =
+    let size : length bytes ≤ length {A = ℕ} (replicate (length bytes) 255 ++ 0 ∷ []) =
     omega (arith, length-append {A = ℕ} (replicate (length bytes) 255) (0 ∷ []), length-replicate {A = ℕ} (length bytes) 255) in
-    (0 ∷ [], ap (λ (xs : List ℕ). xs ++ 0 ∷ []) (take_all _ bytes size ∙ all))
+    (0 ∷ [], cc (take_all _ bytes size, all))
+
+-- what a head says, where data begins with its bytes
+pub opens_with : {method : Method} {bytes : List ℕ} (h : Head) → IsHead method h → Begins bytes (head_bytes h)
+    → Opens method bytes (length (head_bytes h)) (offset_of h) (new_count h) (copies_of h)
+opens_with h is begins = record {
+  head = h;
+  head_is = is;
+  len_is = refl;
+  offset_is = refl;
+  count_is = refl;
+  copies_is = refl;
+  begins = begins;
+}
 
 -- only a head of one byte has no new bytes
 head_without_new : (h : Head) → new_count h ≡ 0 → length (head_bytes h) ≤ 1
-head_without_new Itself e = omega arith
-head_without_new (Count a) e = omega arith
-head_without_new (Literal a) e = omega arith
-head_without_new Skipped e = omega arith
-head_without_new (Repeat a) e = omega arith
-head_without_new (Near a o) e = omega arith
-head_without_new (Far a f l) e = absurd (omega arith)
+head_without_new (Far more full last) e = absurd (omega arith)
+head_without_new h e = omega arith
 
 module _ (bytes : List ℕ) (h : Head) (room count : ℕ) (some : 0 < length bytes) (begins : Begins bytes (head_bytes h))
     (room-is : room ≡ length bytes - length (head_bytes h)) (count-is : count ≡ min (new_count h) room) where
-  behind : List ℕ
+  abbrev behind : List ℕ
   behind = drop (length bytes - room) bytes
 
   behind_head : length (head_bytes h) ≤ length bytes → bytes ≡ head_bytes h ++ behind
-  unfolding behind
-  behind_head long = Begins-whole bytes (head_bytes h) long begins ∙ ap (λ (n : ℕ). head_bytes h ++ drop n bytes) (omega arith)
+  behind_head long =
+      let skipped : length bytes - room ≡ length (head_bytes h) = omega arith in
+      rw skipped (Begins-whole bytes (head_bytes h) long begins)
 
   whole_front : count ≡ new_count h → IsWholeFront bytes h (take count behind) (drop count behind)
-  unfolding behind
   whole_front all =
       let long : length (head_bytes h) ≤ length bytes =
       elim (cases_lt (length bytes) (length (head_bytes h))) [
@@ -76,12 +80,10 @@ module _ (bytes : List ℕ) (h : Head) (room count : ℕ) (some : 0 < length byt
       ] in
       record {
         complete = length-take-le count behind (omega (arith, length-drop (length bytes - room) bytes)) ∙ all;
-        joined = behind_head long ∙ ap (λ (b : List ℕ). head_bytes h ++ b) (sym (take-append-drop count behind))
-            ∙ sym (append_assoc (head_bytes h) (take count behind) (drop count behind));
+        joined = behind_head long ∙ rw (append_assoc, take-append-drop);
       }
 
   cut_front : (count ≡ new_count h → ⊥) → IsCutFront bytes h (take count behind) (drop count behind)
-  unfolding behind
   cut_front few =
       let size : length behind ≡ room = length-drop (length bytes - room) bytes ∙ omega arith in
       let all : take count behind ≡ behind = take_all count behind (omega arith) in
@@ -95,8 +97,7 @@ module _ (bytes : List ℕ) (h : Head) (room count : ℕ) (some : 0 < length byt
               padding = pad;
               missing = begins.0 ++ pad;
               complete = pad_size;
-              lacking = sym (append_assoc bytes begins.0 pad)
-                  ∙ ap (λ (b : List ℕ). b ++ pad) (Begins-short bytes (head_bytes h) (omega arith) begins);
+              lacking = rw (← append_assoc bytes begins.0 pad, Begins-short bytes (head_bytes h) (omega arith) begins);
               lacks = omega (arith, length-append begins.0 pad);
               new_is = all ∙ empty ∙ sym (drop_all (length (head_bytes h)) bytes (omega arith));
               rest_is = none;
@@ -108,24 +109,18 @@ module _ (bytes : List ℕ) (h : Head) (room count : ℕ) (some : 0 < length byt
               padding = behind ++ pad;
               missing = pad;
               complete = length-append behind pad ∙ omega arith;
-              lacking = ap (λ (b : List ℕ). b ++ pad) (behind_head long) ∙ append_assoc (head_bytes h) behind pad;
+              lacking = cc (behind_head long, append_assoc (head_bytes h) behind pad);
               lacks = omega arith;
               new_is = all ∙ ap (λ (n : ℕ). drop n bytes) (omega arith);
               rest_is = none;
             }
       ]
 
-  front_parts : (whole : Bool) → eqb count (new_count h) ≡ whole
+  pub front_parts : (whole : Bool) → eqb count (new_count h) ≡ whole
       → MatchBool whole (IsWholeFront bytes h (take count behind) (drop count behind))
       (IsCutFront bytes h (take count behind) (drop count behind))
   front_parts true e = whole_front (eqb-true count (new_count h) e)
   front_parts false e = cut_front (eqb-false count (new_count h) e)
-
-  pub front_is : MatchBool (eqb count (new_count h))
-      (IsWholeFront bytes h (take count (drop (length bytes - room) bytes)) (drop count (drop (length bytes - room) bytes)))
-      (IsCutFront bytes h (take count (drop (length bytes - room) bytes)) (drop count (drop (length bytes - room) bytes)))
-  unfolding behind
-  front_is = front_parts (eqb count (new_count h)) refl
 
 -- the same, by the parts that are read
 pub front_read : (bytes : List ℕ) (h : Head) {room count said : ℕ} {back new rest : List ℕ} → 0 < length bytes
@@ -133,4 +128,5 @@ pub front_read : (bytes : List ℕ) (h : Head) {room count said : ℕ} {back new
     → said ≡ new_count h → back ≡ drop (length bytes - room) bytes → new ≡ take count back → rest ≡ drop count back
     → MatchBool (eqb count said) (IsWholeFront bytes h new rest) (IsCutFront bytes h new rest)
 front_read bytes h {room} {count} some begins room-is count-is said-is back-is new-is rest-is =
-    rw (said-is, new-is, rest-is, back-is) (front_is bytes h room count some begins room-is count-is)
+    rw (said-is, new-is, rest-is, back-is)
+    (front_parts bytes h room count some begins room-is count-is (eqb count (new_count h)) refl)

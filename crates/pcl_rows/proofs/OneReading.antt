@@ -1,11 +1,11 @@
 -- Data has one reading.
-use Rattle.std.proofs.Common.{◌≡◌, ℕ, ◌<◌, ◌≤◌, List, [], ◌∷◌, ◌++◌, length, take, drop, refl, sym, ap, ◌∙◌, inl, inr, append_assoc, arith}
+use Rattle.std.proofs.Common.{◌≡◌, ℕ, ◌≤◌, List, [], ◌∷◌, ◌++◌, length, take, drop, refl, sym, ap, ◌∙◌, inl, inr, append_assoc, arith}
 use Rattle.std.specs.List.{flat_map}
 use Rattle.std.proofs.lemmas.Bool.{cases_lt}
 use Rattle.std.proofs.lemmas.List.{take-append-drop, take-append-le, take_at, drop_all}
 use Rattle.pcl_base.specs.declared.method.Method.{Method}
-use Rattle.pcl_rows.specs.Heads.{Head, head_bytes, offset_of}
-use Rattle.pcl_rows.specs.Elements.{Element, IsElement, element_bytes, given_by, stop}
+use Rattle.pcl_rows.specs.Heads.{head_bytes}
+use Rattle.pcl_rows.specs.Elements.{Element, IsElement, element_bytes, stop}
 use Rattle.pcl_rows.specs.Rows.{after_element, IsCutIntoElements, treated, RowFrom}
 use Rattle.pcl_rows.proofs.Spellings.{same_elements, cut_is_not_whole, same_heads}
 use Rattle.pcl_rows.proofs.Readings.{after_none}
@@ -17,8 +17,8 @@ pub with_head : (d : Element) {shown : List ℕ} (missing : List ℕ) → shown 
 with_head d {shown} missing lacking long =
     let n : ℕ = length (head_bytes d.head) in
     let front : take n shown ≡ head_bytes d.head =
-    sym (take-append-le n shown missing long) ∙ ap (take n) lacking ∙ take_at (head_bytes d.head) d.bytes n refl in
-    (drop n shown, sym (take-append-drop n shown) ∙ ap (λ (b : List ℕ). b ++ drop n shown) front)
+    rw (← take-append-le n shown missing long, lacking) (take_at (head_bytes d.head) d.bytes n refl) in
+    (drop n shown, cc (front, take-append-drop n shown))
 
 -- what a cut element gives
 abbrev cut_gives : Element → List ℕ → List ℕ → List ℕ
@@ -31,9 +31,8 @@ one_head : {method : Method} {d e : Element} (shown missing missing' old : List 
 one_head {d} {e} shown missing missing' old p q m m' long =
     let t = with_head d missing m long in
     let same : head_bytes d.head ++ (t.0 ++ missing') ≡ head_bytes e.head ++ e.bytes =
-    sym (append_assoc (head_bytes d.head) t.0 missing') ∙ ap (λ (b : List ℕ). b ++ missing') (sym t.1) ∙ m' in
-    let heads = (same_heads p.head_is q.head_is same).0 in
-    ap (λ (h : Head). after_element h (drop (length (head_bytes h)) shown) (λ rest. rest) old) heads
+    cc (append_assoc (head_bytes d.head) t.0 missing', t.1) in
+    rw (same_heads p.head_is q.head_is same).0
 
 -- what a cut element gives doesn't depend on the bytes that it lacks
 cuts_agree : {method : Method} {d e : Element} (shown missing missing' old : List ℕ) → IsElement method d → IsElement method e
@@ -51,46 +50,30 @@ cuts_agree {d} {e} shown missing missing' old p q m m' =
           ]
     ]
 
--- bytes of one element at least, and bytes of a cut one alone
-one_is_longer : {method : Method} {e cut : Element} (es : List Element) {shown : List ℕ} (missing rest : List ℕ) → IsElement method e
-    → IsElement method cut → shown ++ missing ≡ element_bytes cut → 0 < length missing → shown ≡ flat_map element_bytes (e ∷ es) ++ rest → ⊥
-one_is_longer {e} es missing rest p q m some same =
-    cut_is_not_whole missing (flat_map element_bytes es ++ rest) q p m some
-    (same ∙ append_assoc (element_bytes e) (flat_map element_bytes es) rest)
-
 -- two readings treat a row alike
 readings_agree : (method : Method) (bytes : List ℕ) (whole whole' : List Element) {cut cut' : Element} {shown shown' : List ℕ}
     (old : List ℕ)
     → IsCutIntoElements method bytes whole cut shown → IsCutIntoElements method bytes whole' cut' shown'
     → treated whole cut shown old ≡ treated whole' cut' shown' old
 readings_agree method bytes [] [] {cut'} {shown} {shown'} old r r' =
-    let same : shown ≡ shown' = sym r.joined ∙ r'.joined in
-    cuts_agree shown r.lacking.0 r'.lacking.0 old r.element r'.element r.lacking.1
-    (ap (λ (b : List ℕ). b ++ r'.lacking.0) same ∙ r'.lacking.1)
-    ∙ ap (λ (b : List ℕ). cut_gives cut' b old) same
-readings_agree method bytes [] (e ∷ es) {shown'} old r r' =
-    absurd (one_is_longer es r.lacking.0 shown' r'.elements.0 r.element r.lacking.1 r.lacking.2
-    (sym r.joined ∙ r'.joined))
-readings_agree method bytes (d ∷ ds) [] {shown} old r r' =
-    absurd (one_is_longer ds r'.lacking.0 shown r.elements.0 r'.element r'.lacking.1 r'.lacking.2
-    (sym r'.joined ∙ r.joined))
+    let same : shown' ≡ shown = cc (r.joined, r'.joined) in
+    rw same (cuts_agree shown r.lacking.0 r'.lacking.0 old r.element r'.element r.lacking.1 (rw (← same) r'.lacking.1))
+readings_agree method bytes [] (e ∷ es) {shown' = shown'} old r r' =
+    absurd (cut_is_not_whole r.lacking.0 (flat_map element_bytes es ++ shown') r.element r'.elements.0 r.lacking.1 r.lacking.2
+    (cc (r.joined, r'.joined, append_assoc (element_bytes e) (flat_map element_bytes es) shown')))
+readings_agree method bytes (d ∷ ds) [] {shown = shown} old r r' =
+    absurd (cut_is_not_whole r'.lacking.0 (flat_map element_bytes ds ++ shown) r'.element r.elements.0 r'.lacking.1 r'.lacking.2
+    (cc (r.joined, r'.joined, append_assoc (element_bytes d) (flat_map element_bytes ds) shown)))
 readings_agree method bytes (d ∷ ds) (e ∷ es) {cut} {cut'} {shown} {shown'} old r r' =
-    let same =
-    same_elements r.elements.0 r'.elements.0
-    (sym (append_assoc (element_bytes d) (flat_map element_bytes ds) shown) ∙ sym r.joined ∙ r'.joined
-    ∙ append_assoc (element_bytes e) (flat_map element_bytes es) shown') in
     let rest : List ℕ = flat_map element_bytes ds ++ shown in
-    let behind : List ℕ = drop (stop d) old in
-    readings_step d e (treated ds cut shown) (treated es cut' shown') old same.0
-    (readings_agree method rest ds es behind
+    let rest' : List ℕ = flat_map element_bytes es ++ shown' in
+    let joined : element_bytes d ++ rest ≡ element_bytes e ++ rest' =
+    cc (r.joined, r'.joined, append_assoc (element_bytes d) (flat_map element_bytes ds) shown, append_assoc (element_bytes e) (flat_map element_bytes es) shown') in
+    let same = same_elements r.elements.0 r'.elements.0 joined in
+    let behind = readings_agree method rest ds es (drop (stop d) old)
     (record { elements = r.elements.1; joined = refl; element = r.element; lacking = r.lacking })
-    (record { elements = r'.elements.1; joined = same.1; element = r'.element; lacking = r'.lacking }))
-  where
-    readings_step : (d e : Element) (f g : List ℕ → List ℕ) (old : List ℕ) → d ≡ e → f (drop (stop d) old) ≡ g (drop (stop d) old)
-        → after_element d.head d.bytes f old ≡ after_element e.head e.bytes g old
-    readings_step d e f g old same after =
-        ap (λ (b : List ℕ). take (offset_of d.head) old ++ (given_by d.head d.bytes ++ b)) after
-        ∙ ap (λ (x : Element). after_element x.head x.bytes g old) same
+    (record { elements = r'.elements.1; joined = same.1; element = r'.element; lacking = r'.lacking }) in
+    rw (behind, same.0)
 
 pub one_row : (method : Method) (bytes old row other : List ℕ) → RowFrom method bytes old row → RowFrom method bytes old other → row ≡ other
 one_row method bytes old row other f g =

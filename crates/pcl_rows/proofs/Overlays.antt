@@ -9,14 +9,8 @@ use Rattle.pcl_rows.specs.inner.Fronts.{overlaid}
 -- where the new bytes fit
 pub overlaid_within : (old : List ℕ) (place : ℕ) (new : List ℕ) → place + length new ≤ length old
     → overlaid old place new ≡ take place old ++ (new ++ drop (place + length new) old)
-overlaid_within old place new fits = take_all _ _
-    (omega (
-      arith,
-      length-append (take place old) (new ++ drop (place + length new) old),
-      length-append new (drop (place + length new) old),
-      length-take place old,
-      length-drop (place + length new) old,
-    ))
+overlaid_within old place new fits =
+    take_all _ _ (omega (arith, length-append {A = ℕ}, length-take {A = ℕ}, length-drop {A = ℕ}))
 
 -- where they don't
 pub overlaid_past : (old : List ℕ) {place : ℕ} (new : List ℕ) → place ≤ length old → length old ≤ place + length new
@@ -27,15 +21,7 @@ overlaid_past old {place} new within past =
     (omega (arith, length-append (take place old) new, length-take place old)))
 
 pub length-overlaid : (old : List ℕ) {place : ℕ} (new : List ℕ) → place ≤ length old → length (overlaid old place new) ≡ length old
-length-overlaid old {place} new within =
-    omega (
-      arith,
-      length-take (length old) (take place old ++ (new ++ drop (place + length new) old)),
-      length-append (take place old) (new ++ drop (place + length new) old),
-      length-append new (drop (place + length new) old),
-      length-take place old,
-      length-drop (place + length new) old,
-    )
+length-overlaid old new within = omega (arith, length-take {A = ℕ}, length-append {A = ℕ}, length-drop {A = ℕ})
 
 pub overlaid-nil : (old : List ℕ) (place : ℕ) → place ≤ length old → overlaid old place [] ≡ old
 overlaid-nil old place within = overlaid_within old place [] (omega arith) ∙ (rw add-zero (take-append-drop place old))
@@ -60,10 +46,8 @@ overlaid_copies old {place} copies {fitting} byte within e =
           ) in
           let none : drop (place + fitting) old ≡ [] = drop_all (place + fitting) old (omega arith) in
           overlaid_past old (replicate copies byte) within (omega (arith, length-replicate copies byte))
-          ∙ ap (λ (bs : List ℕ). take (length old) (take place old ++ bs)) parts
-          ∙ ap (take (length old)) (sym (append_assoc (take place old) (replicate fitting byte) (replicate more byte)))
-          ∙ take_at (take place old ++ replicate fitting byte) (replicate more byte) (length old) size
-          ∙ rw (none, append-nil) refl
+          ∙ rw (parts, none, append-nil, ← append_assoc (take place old) (replicate fitting byte) (replicate more byte))
+          (take_at (take place old ++ replicate fitting byte) (replicate more byte) (length old) size)
       | inr fits ↦
           let all : fitting ≡ copies = omega arith in
           overlaid_within old place (replicate copies byte) (omega (arith, length-replicate copies byte))
@@ -71,7 +55,7 @@ overlaid_copies old {place} copies {fitting} byte within e =
     ]
 
 pub copied_once : {copies : ℕ} (bytes : List ℕ) → copies ≡ 1 → flat_map (λ byte. replicate copies byte) bytes ≡ bytes
-copied_once bytes once = ap (λ (k : ℕ). flat_map (λ byte. replicate k byte) bytes) once ∙ once_each bytes
+copied_once bytes once = rw once (once_each bytes)
 
 -- what lies after the new bytes
 pub drop-overlaid : (old : List ℕ) {place : ℕ} (new : List ℕ) → place ≤ length old
@@ -86,9 +70,8 @@ drop-overlaid old {place} new within =
           let end : min (length old) (place + length new) ≡ place + length new = omega arith in
           let size : length (take place old ++ new) ≡ place + length new =
           omega (arith, length-append (take place old) new, length-take place old) in
-          rw end (ap (drop (place + length new))
-          (overlaid_within old place new fits ∙ sym (append_assoc (take place old) new (drop (place + length new) old)))
-          ∙ drop_at (take place old ++ new) (drop (place + length new) old) (place + length new) size)
+          rw (end, overlaid_within old place new fits, ← append_assoc (take place old) new (drop (place + length new) old))
+          (drop_at (take place old ++ new) (drop (place + length new) old) (place + length new) size)
     ]
 
 -- what stands before it, followed by anything and cut at the length
@@ -102,22 +85,26 @@ take-overlaid old {place} new rest within =
           let laid = overlaid_past old new within (omega arith) in
           let size : length (take (length old) (take place old ++ new)) ≡ length old =
           omega (arith, length-take (length old) (take place old ++ new), length-append (take place old) new, length-take place old) in
-          rw (end, laid)
-          (ap (λ (bs : List ℕ). take (length old) (bs ++ rest))
-          (take-take (length old) (length old) (take place old ++ new) (omega arith))
-          ∙ take_at (take (length old) (take place old ++ new)) rest (length old) size
-          ∙ sym (take-append-le (length old) (take place old ++ new) rest
-          (omega (arith, length-append (take place old) new, length-take place old)))
-          ∙ ap (take (length old)) (append_assoc (take place old) new rest))
+          let long : length old ≤ length (take place old ++ new) =
+          omega (arith, length-append (take place old) new, length-take place old) in
+          rw (
+            end,
+            laid,
+            ← append_assoc (take place old) new rest,
+            take-append-le (length old) (take place old ++ new) rest long,
+            take-take (length old) (length old) (take place old ++ new) (omega arith),
+          ) (take_at (take (length old) (take place old ++ new)) rest (length old) size)
       | inr fits ↦
           let end : min (length old) (place + length new) ≡ place + length new = omega arith in
           let size : length (take place old ++ new) ≡ place + length new =
           omega (arith, length-append (take place old) new, length-take place old) in
-          rw end (ap (λ (bs : List ℕ). take (length old) (take (place + length new) bs ++ rest))
-          (overlaid_within old place new fits ∙ sym (append_assoc (take place old) new (drop (place + length new) old)))
-          ∙ ap (λ (bs : List ℕ). take (length old) (bs ++ rest))
-          (take_at (take place old ++ new) (drop (place + length new) old) (place + length new) size)
-          ∙ ap (take (length old)) (append_assoc (take place old) new rest))
+          rw (
+            end,
+            overlaid_within old place new fits,
+            ← append_assoc (take place old) new (drop (place + length new) old),
+            take_at (take place old ++ new) (drop (place + length new) old) (place + length new) size,
+            append_assoc (take place old) new rest,
+          )
     ]
 
 -- one list after another
@@ -126,23 +113,19 @@ pub overlaid-overlaid : (old : List ℕ) {place : ℕ} (first second : List ℕ)
 overlaid-overlaid old {place} first second within =
     let middle : List ℕ = overlaid old place first in
     let end : ℕ = min (length old) (place + length first) in
+    let size : place + length first + length second ≡ place + length (first ++ second) = omega (arith, length-append first second) in
     let rest : drop (end + length second) middle ≡ drop (place + length (first ++ second)) old =
-    sym (drop-drop (length second) end middle)
-    ∙ ap (drop (length second)) (drop-overlaid old first within)
-    ∙ drop-drop (length second) (place + length first) old
-    ∙ ap (λ (n : ℕ). drop n old) (omega (arith, length-append first second)) in
-    ap (λ (n : ℕ). take n (take end middle ++ (second ++ drop (end + length second) middle))) (length-overlaid old first within)
-    ∙ take-overlaid old first (second ++ drop (end + length second) middle) within
-    ∙ ap (λ (bs : List ℕ). take (length old) (take place old ++ bs)) (sym (append_assoc first second (drop (end + length second) middle)))
-    ∙ ap (λ (bs : List ℕ). take (length old) (take place old ++ (first ++ second ++ bs))) rest
+    rw (← drop-drop (length second) end middle, drop-overlaid old first within, drop-drop, size) in
+    rw (
+      length-overlaid old first within,
+      take-overlaid old first (second ++ drop (end + length second) middle) within,
+      rest,
+      append_assoc first second (drop (place + length (first ++ second)) old),
+    )
 
 -- copies of each of the first bytes
 abbrev pub copied : ℕ → ℕ → List ℕ → List ℕ
 copied copies count bytes = flat_map (λ byte. replicate copies byte) (take count bytes)
-
-copied_more : (copies : ℕ) {i : ℕ} (bytes : List ℕ) → i < length bytes
-    → copied copies (i + 1) bytes ≡ copied copies i bytes ++ replicate copies (get_or bytes i 0)
-copied_more copies bytes within = flat_more (λ byte. replicate copies byte) bytes 0 within
 
 -- one more byte
 pub put_more : (old : List ℕ) {row : List ℕ} {start place : ℕ} (copies : ℕ) {i : ℕ} (bytes : List ℕ) {new : List ℕ} {end : ℕ}
@@ -153,11 +136,8 @@ pub put_more : (old : List ℕ) {row : List ℕ} {start place : ℕ} (copies : �
 put_more old {start} {place} copies {i} bytes {new} within more row-is place-is new-is end-is =
     let before : List ℕ = copied copies i bytes in
     let last : List ℕ = replicate copies (get_or bytes i 0) in
-    let grown = copied_more copies bytes more in
-    let same : new ≡ overlaid (overlaid old start before) (min (length old) (start + length before)) last =
-    new-is ∙ ap (λ (r : List ℕ). overlaid r place last) row-is
-    ∙ ap (λ (p : ℕ). overlaid (overlaid old start before) p last) place-is in (
-      same ∙ overlaid-overlaid old before last within ∙ ap (overlaid old start) (sym grown),
+    let grown : copied copies (i + 1) bytes ≡ before ++ last = flat_more (λ byte. replicate copies byte) bytes 0 more in (
+      rw (new-is, row-is, place-is, grown) (overlaid-overlaid old before last within),
       omega (
         arith,
         end-is,

@@ -1,5 +1,5 @@
 -- Data of method 1, read pair by pair.
-use Rattle.std.proofs.Common.{◌≡◌, ℕ, ◌+◌, ◌*◌, ◌/◌, ◌<◌, ◌≤◌, min, true, false, List, [], ◌∷◌, length, drop, replicate, refl, sym, ap, subst, ◌∙◌, append-nil, arith, lit<}
+use Rattle.std.proofs.Common.{◌≡◌, ℕ, ◌+◌, ◌*◌, ◌/◌, ◌<◌, ◌≤◌, min, true, false, List, [], ◌∷◌, length, drop, replicate, refl, sym, append-nil, arith, lit<}
 use Rattle.std.specs.Prelude.{slice_index}
 use Rattle.std.proofs.lemmas.List.{drop_more, length-drop, length-replicate, get_or-drop}
 use Rattle.pcl_base.specs.declared.method.Method.TheVariants.{Runs}
@@ -50,16 +50,9 @@ pair_more {bytes} {old} row {pair} {place} {count} size within lt small count-is
     let behind : List ℕ = drop (2 * (pair + 1)) bytes in
     let next : at + 1 + 1 ≡ 2 * (pair + 1) = omega arith in
     let two : drop at bytes ≡ count ∷ byte ∷ behind =
-    drop_more bytes at 0 (omega (arith, lt))
-    ∙ ap (λ (n : ℕ). n ∷ drop (at + 1) bytes) (sym count-is)
-    ∙ ap (λ (bs : List ℕ). count ∷ bs)
-    (drop_more bytes (at + 1) 0 (omega (arith, lt)) ∙ ap (λ (k : ℕ). byte ∷ drop k bytes) next)
-    in
-    let run : List ℕ = replicate (count + 1) byte in
+    cc (drop_more bytes at 0 (omega (arith, lt)), drop_more bytes (at + 1) 0 (omega (arith, lt)), next, count-is) in
     treated_more row {start = place} size within (omega arith) (pair_front (omega (arith, small, count-is)))
-    (row-is ∙ ap (overlaid row place) (sym (append-nil run)))
-    (omega (arith, place-is, ap length (append-nil run), length-replicate (count + 1) byte))
-    (subst (λ (rest : List ℕ). IsTreatedTo Runs bytes old rest row place) two so_far)
+    (rw append-nil row-is) (rw (append-nil, length-replicate) place-is) (rw two at so_far)
 
 -- what is left after all pairs
 rest_all : {bytes old : List ℕ} (rest : List ℕ) {row : List ℕ} {place : ℕ} → length rest ≤ 1 → (0 < length rest → slice_index rest 0 < 256)

@@ -56,22 +56,16 @@ same_parts {d} {e} p q =
 pub same_elements : {method : Method} {d e : Element} {x y : List ℕ} → IsElement method d → IsElement method e
     → element_bytes d ++ x ≡ element_bytes e ++ y → (d ≡ e) × (x ≡ y)
 same_elements {d} {e} {x} {y} p q same =
-    let r = same_heads p.head_is q.head_is
-    (sym (append_assoc (head_bytes d.head) d.bytes x) ∙ same ∙ append_assoc (head_bytes e.head) e.bytes y) in
-    let lengths : length d.bytes ≡ length e.bytes = p.complete ∙ ap new_count r.0 ∙ sym q.complete in
+    let joined : head_bytes d.head ++ (d.bytes ++ x) ≡ head_bytes e.head ++ (e.bytes ++ y) =
+    cc (same, append_assoc (head_bytes d.head) d.bytes x, append_assoc (head_bytes e.head) e.bytes y) in
+    let r = same_heads p.head_is q.head_is joined in
+    let lengths : length d.bytes ≡ length e.bytes = cc (p.complete, q.complete, r.0) in
     let s = same_fronts d.bytes e.bytes lengths r.1 in
-    let heads : d.head ≡ e.head = r.0 in
-    let news : d.bytes ≡ e.bytes = s.0 in
-    (same_parts heads news, s.1)
+    (same_parts r.0 s.0, s.1)
 
 head_needs_byte : (h : Head) → 0 < length (head_bytes h) + new_count h
-head_needs_byte Itself = omega arith
-head_needs_byte (Count a) = omega arith
-head_needs_byte (Literal a) = omega arith
-head_needs_byte Skipped = omega arith
-head_needs_byte (Repeat a) = omega arith
-head_needs_byte (Near a o) = omega arith
-head_needs_byte (Far a f l) = omega arith
+head_needs_byte (Far more full last) = omega arith
+head_needs_byte h = omega arith
 
 -- an element has a byte
 pub spelling_has_byte : (method : Method) (e : Element) → IsElement method e → 0 < length (element_bytes e)
@@ -82,7 +76,6 @@ pub cut_is_not_whole : {method : Method} {d e : Element} {bytes : List ℕ} (mis
     → bytes ++ missing ≡ element_bytes d → 0 < length missing → bytes ≡ element_bytes e ++ rest → ⊥
 cut_is_not_whole {d} {e} missing rest p q lacking lacks whole =
     let same : element_bytes e ++ (rest ++ missing) ≡ element_bytes d ++ [] =
-    sym (append_assoc (element_bytes e) rest missing) ∙ ap (λ (b : List ℕ). b ++ missing) (sym whole) ∙ lacking
-    ∙ sym (append-nil (element_bytes d)) in
+    cc (whole, append_assoc (element_bytes e) rest missing, append-nil (element_bytes d)) in
     let r = same_elements q p same in
     omega (arith, ap length r.1, length-append rest missing)

@@ -1,5 +1,3 @@
-use Rattle.std.proofs.Common.{◌+◌, min, length, List, ℕ, sym, ap, ◌∙◌}
-use Rattle.pcl_rows.specs.inner.Fronts.{overlaid}
 use Rattle.pcl_rows.proofs.Overlays.{put_more, copied_once}
 use Rattle.pcl_rows.proofs.decoding.put.Goals as goal
 
@@ -10,12 +8,7 @@ loop-byte-preserved c =
     record { row = step.0; place = step.1 }
 
 pub returns-then-copies-eq1-clause-row : goal.returns-then-copies-eq1-clause-row
-returns-then-copies-eq1-clause-row c =
-    c.put_bytes.ensures.row ∙ ap (overlaid c.args.row.now c.args.start)
-    (sym (copied_once c.args.bytes.now c.if-copies-eq1.true))
+returns-then-copies-eq1-clause-row c = rw (copied_once c.args.bytes.now c.if-copies-eq1.true) c.put_bytes.ensures.row
 
 pub returns-then-copies-eq1-clause-end : goal.returns-then-copies-eq1-clause-end
-returns-then-copies-eq1-clause-end c =
-    c.put_bytes.ensures.end
-    ∙ ap (λ (bs : List ℕ). min (length c.args.row.now) (c.args.start + length bs))
-    (sym (copied_once c.args.bytes.now c.if-copies-eq1.true))
+returns-then-copies-eq1-clause-end c = rw (copied_once c.args.bytes.now c.if-copies-eq1.true) c.put_bytes.ensures.end

@@ -1,7 +1,7 @@
-use Rattle.std.proofs.Common.{◌≡◌, ◌<◌, length, List, ℕ, [], subst, sym, ◌∙◌, arith}
+use Rattle.std.proofs.Common.{◌≡◌, ◌<◌, length, [], sym, ◌∙◌, arith}
 use Rattle.std.proofs.lemmas.Bool.{eqb-true, eqb-false}
 use Rattle.std.proofs.lemmas.List.{nil_from_length}
-use Rattle.pcl_rows.proofs.Readings.{IsTreatedTo, treated_more, treated_all, treated_none, treated_skipped, past_skipped_length, rest_shorter}
+use Rattle.pcl_rows.proofs.Readings.{treated_more, treated_all, treated_none, treated_skipped, past_skipped_length, rest_shorter}
 use Rattle.pcl_rows.proofs.Ends.{rest_bytes, skipped_bytes, treated_full}
 use Rattle.pcl_rows.proofs.decoding.treat.Goals as goal
 
@@ -14,7 +14,6 @@ loop-rest-init c = record {
 
 pub loop-rest-preserved : goal.loop-rest-preserved
 loop-rest-preserved c =
-    let front = c.read-front.result in
     record {
       within = omega (arith, c.put-place.ensures.end, c.put-place.auto.row);
       treated = treated_skipped c.past_skipped-rest-in-loop-rest.result.now c.put-place.new.row c.put-place.result
@@ -28,13 +27,12 @@ loop-rest-preserved c =
 
 pub loop-rest-smaller : goal.loop-rest-smaller
 loop-rest-smaller c =
-    let front = c.read-front.result in
     let some : 0 < length c.loop-rest.rest.now =
     omega (arith, eqb-false (length c.loop-rest.rest.now) 0 (sym c.is_empty.ensures ∙ c.loop-rest-test.true)) in
-    let shorter : length front.rest.now < length c.loop-rest.rest.now = rest_shorter some c.read-front.ensures.front in
     omega (
       arith,
-      past_skipped_length front.rest.now c.past_skipped-rest-in-loop-rest.result.now
+      rest_shorter some c.read-front.ensures.front,
+      past_skipped_length c.read-front.result.rest.now c.past_skipped-rest-in-loop-rest.result.now
           c.past_skipped-rest-in-loop-rest.ensures,
     )
 
@@ -47,6 +45,4 @@ pub returns : goal.returns
 returns c =
     let none : c.loop-rest.rest.now ≡ [] =
     nil_from_length c.loop-rest.rest.now (eqb-true (length c.loop-rest.rest.now) 0 (sym c.is_empty.ensures ∙ c.loop-rest-test.false)) in
-    treated_all c.loop-rest.place c.loop-rest.auto.row
-    (subst (λ (rest : List ℕ). IsTreatedTo c.args.method c.args.bytes.now c.args.row.now rest c.loop-rest.row c.loop-rest.place) none
-    c.loop-rest.invariant.treated)
+    treated_all c.loop-rest.place c.loop-rest.auto.row (rw none at c.loop-rest.invariant.treated)

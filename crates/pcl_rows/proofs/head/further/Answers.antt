@@ -1,4 +1,4 @@
-use Rattle.std.proofs.Common.{length, ◌≡◌, ℕ, replicate, refl, sym, ap, ◌∙◌, arith}
+use Rattle.std.proofs.Common.{length, ◌≡◌, refl, arith}
 use Rattle.std.proofs.lemmas.List.{take_all}
 use Rattle.pcl_rows.proofs.Beginnings.{Begins-further, Begins-full}
 use Rattle.pcl_rows.proofs.head.further.Goals as goal
@@ -14,7 +14,7 @@ returns-clause-further c =
       sum_is = omega arith;
       len_is = refl;
       begins = Begins-full bytes
-          (sym (take_all c.loop-full.full bytes c.loop-full-test.false) ∙ c.loop-full.invariant ∙ ap (λ (n : ℕ). replicate n 255) end);
+          (cc (take_all c.loop-full.full bytes c.loop-full-test.false, c.loop-full.invariant, end));
     }
 
 pub returns-then-byte-lt255-clause-further : goal.returns-then-byte-lt255-clause-further

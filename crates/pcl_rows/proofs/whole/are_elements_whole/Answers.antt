@@ -1,6 +1,5 @@
-use Rattle.std.proofs.Common.{◌<◌, true, length, subst, sym, refl, ◌∙◌, arith}
+use Rattle.std.proofs.Common.{◌<◌, length, sym, refl, ◌∙◌, arith}
 use Rattle.std.proofs.lemmas.Bool.{eqb-false}
-use Rattle.pcl_rows.specs.inner.Fronts.{IsFront}
 use Rattle.pcl_rows.specs.Rows.{IsWhole}
 use Rattle.pcl_rows.proofs.Readings.{whole_more, whole_past, whole_cut}
 use Rattle.pcl_rows.proofs.whole.are_elements_whole.Goals as goal
@@ -8,25 +7,18 @@ use Rattle.pcl_rows.proofs.whole.are_elements_whole.Goals.{then-not-front-via-th
 
 pub loop-rest-preserved : goal.loop-rest-preserved
 loop-rest-preserved c =
-    let f = c.read-front.result in
-    let front : IsFront c.args.method c.loop-rest.rest.now f.offset f.copies f.bytes.now f.rest.now true =
-    subst (IsFront c.args.method c.loop-rest.rest.now f.offset f.copies f.bytes.now f.rest.now) c.if-not-front.false
-    c.read-front.ensures.front in
+    let front = rw c.if-not-front.false at c.read-front.ensures.front in
     whole_more front refl c.if-room-stop.false c.loop-rest.invariant
 
 pub returns-then-not-front : goal.returns-then-not-front
 returns-then-not-front c =
-    let f = c.read-front.result in
     let rest = c.loop-rest.rest.now in
     let some : 0 < length rest = omega (arith, eqb-false (length rest) 0 (sym c.is_empty.ensures ∙ c.loop-rest-test.true)) in
     let never : IsWhole c.args.method rest c.loop-rest.room → ⊥ =
     elim c.then-not-front.branch [
       | then-not-front-via-then-not-front w ↦
-          λ h. whole_cut some
-          (subst (IsFront c.args.method rest f.offset f.copies f.bytes.now f.rest.now) w.if-not-front.true c.read-front.ensures.front) h
+          λ h. whole_cut some (rw w.if-not-front.true at c.read-front.ensures.front) h
       | then-not-front-via-else-not-front+then-room-stop w ↦
-          λ h. whole_past
-          (subst (IsFront c.args.method rest f.offset f.copies f.bytes.now f.rest.now) w.if-not-front.false c.read-front.ensures.front)
-          refl w.if-room-stop.true h
+          λ h. whole_past (rw w.if-not-front.false at c.read-front.ensures.front) refl w.if-room-stop.true h
     ] in
     (λ t. absurd cc, λ h. absurd (never (c.loop-rest.invariant.0 h)))
