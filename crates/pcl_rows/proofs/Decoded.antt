@@ -1,38 +1,30 @@
 -- The row that is computed element by element is the one that the data's elements make.
-use Rattle.std.proofs.Common.{◌≡◌, ℕ, zero, suc, ◌+◌, ◌-◌, ◌*◌, ◌/◌, ◌%◌, ◌<◌, ◌≤◌, ◌==◌, true, false, nat_lt, List, [], ◌∷◌, ◌++◌, length, take, drop, replicate, refl, sym, ap, ◌∙◌, inl, inr, append_assoc, append-nil, length-append, add-zero, arith}
+use Rattle.std.proofs.Common.{◌≡◌, ℕ, zero, suc, ◌+◌, ◌*◌, ◌%◌, ◌<◌, ◌≤◌, List, [], ◌∷◌, ◌++◌, length, take, drop, replicate, refl, sym, ap, ◌∙◌, inl, inr, append_assoc, length-append, add-zero, arith}
 use Rattle.std.specs.List.{flat_map}
 use Rattle.std.proofs.lemmas.Bool.{cases_lt}
-use Rattle.std.proofs.lemmas.Bool.Decides.{nat_tests}
-use Rattle.std.proofs.lemmas.List.{take_at, drop_at, take_all, drop_all, take-append-drop, length-replicate}
+use Rattle.std.proofs.lemmas.List.{take-append-le, take_at, drop_at, take_all, drop_all, take-append-drop, length-replicate}
 use Rattle.std.proofs.Math.Seq.{drop-nil}
-use Rattle.pcl_base.proofs.Lists.{once_each}
 use Rattle.pcl_base.specs.declared.method.Method.{Method}
-use Rattle.pcl_rows.specs.Heads.{Head, Itself, Count, Literal, Skipped, Repeat, Near, Far, method_of, IsInRange, head_bytes, new_count, offset_of}
+use Rattle.pcl_rows.specs.Heads.{Head, Far, method_of, IsInRange, head_bytes, new_count, offset_of}
 use Rattle.pcl_rows.specs.Elements.{Element, IsElement, element_bytes, given_by}
 use Rattle.pcl_rows.specs.Rows.{base, after_element, IsCutIntoElements, treated, Decodes}
-use Rattle.pcl_rows.specs.Decoding.{Front, repeated, literal, further, front_of, treated_by, decoded}
+use Rattle.pcl_rows.specs.Decoding.{Front, further, treated_by, decoded}
 use Rattle.pcl_rows.proofs.Readings.{after_none}
-use Rattle.pcl_rows.proofs.Spellings.{spelling_has_byte}
-use Rattle.pcl_rows.proofs.OneReading.{with_head}
+use Rattle.pcl_rows.proofs.Spellings.{first_of, front_at, element_at, spelling_has_byte}
 
--- ---- the front of data
+-- ---- the front of cut data
 
--- the element there; no data gives nothing
-abbrev first_of : Method → List ℕ → Front
-first_of method [] = record { offset = 0; given = []; rest = [] }
-first_of method (byte ∷ bytes) = front_of method byte bytes
+-- bytes that hold the whole head of a cut element
+with_head : (d : Element) {shown : List ℕ} (missing : List ℕ) → shown ++ missing ≡ element_bytes d
+    → length (head_bytes d.head) ≤ length shown
+    → (tail : List ℕ) × (shown ≡ head_bytes d.head ++ tail)
+with_head d {shown} missing lacking long =
+    let n : ℕ = length (head_bytes d.head) in
+    let front : take n shown ≡ head_bytes d.head =
+    rw (← take-append-le n shown missing long, lacking) (take_at (head_bytes d.head) d.bytes n refl) in
+    (drop n shown, cc (front, take-append-drop n shown))
 
--- an offset that goes on
-further_at : (full offset count : ℕ) {last : ℕ} (behind : List ℕ) → last < 255
-    → further offset count (replicate full 255 ++ last ∷ behind) ≡ literal (offset + 255 * full + last) count behind
-further_at zero offset count {last} behind lt =
-    let other : (last == 255) ≡ false = grind (arith, nat_tests) in
-    rw (other, add-zero)
-further_at (suc full) offset count {last} behind lt =
-    let place : (offset + 255) + 255 * full + last ≡ offset + 255 * suc full + last = omega arith in
-    further_at full (offset + 255) count behind lt ∙ ap (λ (n : ℕ). literal n count behind) place
-
--- one that data ends within
+-- an offset that data ends within
 further_cut : (full last offset count : ℕ) (bytes missing padding : List ℕ) → length bytes ≤ full
     → bytes ++ missing ≡ (replicate full 255 ++ last ∷ []) ++ padding
     → ((further offset count bytes).given ≡ []) × ((further offset count bytes).rest ≡ [])
@@ -42,36 +34,6 @@ further_cut (suc full) last offset count (byte ∷ bytes) missing padding short 
     let is : byte ≡ 255 = cc in
     rw is (further_cut full last (offset + 255) count bytes missing padding (omega arith) cc)
 
--- data that begins with a whole head: its new bytes follow, as many as there are
-front_at : (head : Head) (tail : List ℕ) → IsInRange head → first_of (method_of head) (head_bytes head ++ tail)
-    ≡ record { offset = offset_of head; given = given_by head (take (new_count head) tail); rest = drop (new_count head) tail }
-front_at Itself [] r = refl
-front_at Itself (byte ∷ tail) r = refl
-front_at (Count count) [] r = refl
-front_at (Count count) (byte ∷ tail) r = rw append-nil
-front_at (Literal control) tail r =
-    let low : nat_lt control 128 ≡ true = grind (arith, nat_tests) in
-    rw (low, once_each (take (control + 1) tail))
-front_at Skipped tail r = refl
-front_at (Repeat control) tail r =
-    let high : nat_lt control 128 ≡ false = grind (arith, nat_tests) in
-    let other : (control == 128) ≡ false = grind (arith, nat_tests) in
-    rw (high, other) (repeated_at tail)
-  where
-    repeated_at : (tail : List ℕ) → repeated (257 - control) tail
-        ≡ record { offset = 0; given = given_by (Repeat control) (take 1 tail); rest = drop 1 tail }
-    repeated_at [] = refl
-    repeated_at (byte ∷ tail) = rw append-nil
-front_at (Near count offset) tail r =
-    let low : (32 * count + offset) % 32 ≡ offset = omega arith in
-    let high : (32 * count + offset) / 32 ≡ count = omega arith in
-    let near : (offset == 31) ≡ false = grind (arith, nat_tests) in
-    rw (low, high, near, once_each (take (count + 1) tail))
-front_at (Far count full last) tail r =
-    let low : (32 * count + 31) % 32 ≡ 31 = omega arith in
-    let high : (32 * count + 31) / 32 ≡ count = omega arith in
-    rw (low, high, append_assoc, once_each (take (count + 1) tail)) (further_at full 31 (count + 1) tail r.1)
-
 -- data that ends within a head gives nothing
 front_cut : (head : Head) (bytes missing padding : List ℕ) → length bytes < length (head_bytes head)
     → bytes ++ missing ≡ head_bytes head ++ padding
@@ -80,7 +42,8 @@ front_cut head [] missing padding short e = (refl, refl)
 front_cut (Far count full last) (byte ∷ bytes) missing padding short e =
     let is : byte ≡ 32 * count + 31 = cc in
     let low : (32 * count + 31) % 32 ≡ 31 = omega arith in
-    let within : length bytes ≤ full = omega (arith, length-append {A = ℕ} (replicate full 255) (last ∷ []), length-replicate {A = ℕ} full 255) in
+    let within : length bytes ≤ full =
+    omega (arith, length-append {A = ℕ} (replicate full 255) (last ∷ []), length-replicate {A = ℕ} full 255) in
     rw (is, low) (further_cut full last 31 _ bytes missing padding within cc)
 front_cut head (byte ∷ bytes) missing padding short e = absurd (omega arith)
 
@@ -140,7 +103,7 @@ behind_shorter : {e : Element} (more : List ℕ) {bytes : List ℕ} {method : Me
 behind_shorter {e} more {method} is joined =
     omega (arith, ap length joined, length-append (element_bytes e) more, spelling_has_byte method e is)
 
-treated_is : (n : ℕ) (whole : List Element) {method : Method} {bytes : List ℕ} {cut : Element} {shown : List ℕ} (old : List ℕ)
+pub treated_is : (n : ℕ) (whole : List Element) {method : Method} {bytes : List ℕ} {cut : Element} {shown : List ℕ} (old : List ℕ)
     → IsCutIntoElements method bytes whole cut shown → length bytes ≤ n
     → treated_by n method bytes old ≡ treated whole cut shown old
 treated_is n [] {cut = cut} {shown = shown} old r fits =
@@ -155,12 +118,10 @@ treated_is (suc n) (e ∷ es) {method} {bytes} {cut} {shown} old r fits =
     let is = r.elements.0 in
     let rest : IsCutIntoElements method more es cut shown =
     record { elements = r.elements.1; joined = refl; element = r.element; lacking = r.lacking } in
-    let front : first_of method bytes ≡ record { offset = offset_of e.head; given = given_by e.head e.bytes; rest = more } =
-    rw (r.joined, ← is.head_is.method_is) (simp append_assoc (front_at e.head (e.bytes ++ more) is.head_is.in_range
-    ∙ rw (take_at e.bytes more (new_count e.head) is.complete, drop_at e.bytes more (new_count e.head) is.complete))) in
-    treated_step n method bytes old front
+    let joined : bytes ≡ element_bytes e ++ more = r.joined ∙ simp append_assoc in
+    treated_step n method bytes old (element_at more is joined)
     ∙ rw (treated_is n es (drop (offset_of e.head + length (given_by e.head e.bytes)) old) rest
-    (omega (arith, behind_shorter more is (r.joined ∙ simp append_assoc))))
+    (omega (arith, behind_shorter more is joined)))
 
 -- the row that Decodes holds of is the one that is computed
 pub decoded_is : (method : Method) (seed bytes row : List ℕ) → Decodes method seed bytes row → row ≡ decoded method seed bytes

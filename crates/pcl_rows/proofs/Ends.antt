@@ -117,7 +117,8 @@ far_reading most c bytes old readings byte is few small =
           let full : List ℕ = replicate up.0 255 in
           let head : Head = Far (c / 32) up.0 up.1 in
           let reading = headed most head up.2 old readings (record { method_is = refl; in_range = (omega arith, up.3) })
-          (omega (arith, ap length up.4, length-append full (up.1 ∷ up.2))) (dropped 1 (up.1 ∷ up.2) (after_prefix full (up.1 ∷ up.2) (rw (← up.4) small))) in
+          (omega (arith, ap length up.4, length-append full (up.1 ∷ up.2)))
+          (dropped 1 (up.1 ∷ up.2) (after_prefix full (up.1 ∷ up.2) (rw (← up.4) small))) in
           let same : c ∷ bytes ≡ head_bytes head ++ up.2 = cc (is, up.4, append_assoc full (up.1 ∷ []) up.2) in
           rw same reading
     ]

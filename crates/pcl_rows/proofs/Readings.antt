@@ -8,11 +8,12 @@ use Rattle.pcl_base.proofs.Lists.{length-copied}
 use Rattle.pcl_base.specs.declared.method.Method.{Method}
 use Rattle.pcl_base.specs.declared.method.Method.TheVariants.{Plain, Runs, Packed, Delta}
 use Rattle.pcl_rows.specs.Heads.{Head, Itself, Count, Skipped, Near, head_bytes, copies_of, offset_of}
-use Rattle.pcl_rows.specs.Elements.{Element, IsHead, IsElement, AreElements, element_bytes, given_by, stop, reach}
+use Rattle.pcl_rows.specs.Elements.{Element, IsHead, IsElement, AreElements, element_bytes, given_by, reach}
+use Rattle.pcl_rows.specs.Decoding.{Front}
 use Rattle.pcl_rows.specs.Rows.{after_element, base, IsCutIntoElements, treated, RowFrom, Decodes, IsWhole}
 use Rattle.pcl_rows.specs.inner.Fronts.{IsWholeFront, IsCutFront, IsFront, IsPastSkipped, overlaid}
 use Rattle.pcl_rows.proofs.Overlays.{drop-overlaid, take-overlaid}
-use Rattle.pcl_rows.proofs.Spellings.{same_elements, spelling_has_byte, cut_is_not_whole}
+use Rattle.pcl_rows.proofs.Spellings.{element_at, spelling_has_byte, cut_is_not_whole}
 
 -- what data makes of untreated bytes, before what lies past the row is dropped
 pub record Fills (method : Method) (bytes old row : List ℕ) : Type 0 where
@@ -60,7 +61,12 @@ none_is_nothing : {method : Method} (whole : List Element) {cut : Element} {show
     → treated whole cut shown old ≡ old
 none_is_nothing [] {cut} {old = old} r = after_none cut.head old (rw (← r.joined) (drop-nil (length (head_bytes cut.head))))
 none_is_nothing {method} (e ∷ es) {shown} r =
-    absurd (omega (arith, simp length-append at (ap length r.joined), length-append (head_bytes e.head) e.bytes, spelling_has_byte method e r.elements.0))
+    absurd (omega (
+      arith,
+      simp length-append at (ap length r.joined),
+      length-append (head_bytes e.head) e.bytes,
+      spelling_has_byte method e r.elements.0,
+    ))
 
 -- what an element gives, and then the rest
 abbrev pub with_front : Head → List ℕ → List ℕ → List ℕ → List ℕ
@@ -230,11 +236,13 @@ pub whole_uncons : {method : Method} {bytes : List ℕ} {h : Head} {new rest : L
     → IsWholeFront bytes h new rest → IsWhole method bytes room
     → (offset_of h + length (given_by h new) ≤ room) × IsWhole method rest (room - (offset_of h + length (given_by h new)))
 whole_uncons is front ([], are, joined, within) = absurd (omega (arith, front_has_byte is front, ap length joined))
-whole_uncons {h = h} {new} is front (e ∷ es, are, joined, within) =
+whole_uncons {h = h} {new} {rest} is front (e ∷ es, are, joined, within) =
     let first : Element = record { head = h; bytes = new } in
-    let same = same_elements {d = first} (record { head_is = is; complete = front.complete }) are.0 (sym front.joined ∙ joined) in
-    let size : stop first ≡ stop e = ap stop same.0 in
-    (omega arith, (es, are.1, same.1, omega arith))
+    let mine = element_at {e = first} rest (record { head_is = is; complete = front.complete }) front.joined in
+    let same = sym mine ∙ element_at (flat_map element_bytes es) are.0 joined in
+    let offsets : offset_of h ≡ offset_of e.head = ap (λ (x : Front). x.offset) same in
+    let sizes : length (given_by h new) ≡ length (given_by e.head e.bytes) = ap (λ (x : Front). length x.given) same in
+    (omega arith, (es, are.1, ap (λ (x : Front). x.rest) same, omega arith))
 
 pub cut_not_whole : {method : Method} {bytes : List ℕ} {h : Head} {new rest : List ℕ} {room : ℕ} → 0 < length bytes → IsHead method h
     → IsCutFront bytes h new rest → IsWhole method bytes room → ⊥

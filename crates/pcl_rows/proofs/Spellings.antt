@@ -1,67 +1,64 @@
--- No element begins another.
-use Rattle.std.proofs.Common.{◌≡◌, ℕ, zero, suc, ◌+◌, ◌*◌, ◌<◌, List, [], ◌∷◌, ◌++◌, length, replicate, refl, sym, ap, ◌∙◌, append_assoc, arith}
-use Rattle.std.proofs.lemmas.List.{append-nil, length-append}
-use Rattle.pcl_base.proofs.Lists.{same_fronts}
+-- The element at the front of data: no element begins another.
+use Rattle.std.proofs.Common.{◌≡◌, ℕ, zero, suc, ◌+◌, ◌-◌, ◌*◌, ◌/◌, ◌%◌, ◌<◌, ◌==◌, true, false, nat_lt, List, [], ◌∷◌, ◌++◌, length, take, drop, replicate, refl, sym, ap, ◌∙◌, append_assoc, add-zero, arith}
+use Rattle.std.proofs.lemmas.Bool.Decides.{nat_tests}
+use Rattle.std.proofs.lemmas.List.{append-nil, length-append, take_at, drop_at}
+use Rattle.pcl_base.proofs.Lists.{once_each}
 use Rattle.pcl_base.specs.declared.method.Method.{Method}
-use Rattle.pcl_rows.specs.Heads.{Head, Itself, Count, Literal, Skipped, Repeat, Near, Far, method_of, IsInRange, head_bytes, new_count}
-use Rattle.pcl_rows.specs.Elements.{Element, IsHead, IsElement, element_bytes}
+use Rattle.pcl_rows.specs.Heads.{Head, Itself, Count, Literal, Skipped, Repeat, Near, Far, method_of, IsInRange, head_bytes, new_count, offset_of}
+use Rattle.pcl_rows.specs.Elements.{Element, IsElement, element_bytes, given_by}
+use Rattle.pcl_rows.specs.Decoding.{Front, repeated, literal, further, front_of}
 
--- the bytes that lengthen an offset end in one way
-further_agree : (full full' : ℕ) {last last' : ℕ} {x y : List ℕ} → last < 255 → last' < 255
-    → (replicate full 255 ++ last ∷ []) ++ x ≡ (replicate full' 255 ++ last' ∷ []) ++ y → (full ≡ full') × (last ≡ last') × (x ≡ y)
-further_agree zero zero p q e = (refl, cc, cc)
-further_agree zero (suc full') {last} p q e = let h : last ≡ 255 = cc in absurd (omega arith)
-further_agree (suc full) zero {last'} p q e = let h : 255 ≡ last' = cc in absurd (omega arith)
-further_agree (suc full) (suc full') p q e =
-    let r = further_agree full full' p q cc in (ap suc r.0, r.1, r.2)
+-- the element there; no data gives nothing
+abbrev pub first_of : Method → List ℕ → Front
+first_of method [] = record { offset = 0; given = []; rest = [] }
+first_of method (byte ∷ bytes) = front_of method byte bytes
 
--- heads of one method that begin the same bytes are the same
-heads_agree : (h h' : Head) {x y : List ℕ} → method_of h ≡ method_of h' → IsInRange h → IsInRange h'
-    → head_bytes h ++ x ≡ head_bytes h' ++ y → (h ≡ h') × (x ≡ y)
-heads_agree Itself Itself m p q e = (refl, e)
-heads_agree (Count a) (Count b) m p q e = (ap Count cc, cc)
-heads_agree (Literal a) (Literal b) m p q e = (ap Literal cc, cc)
-heads_agree (Literal a) Skipped m p q e = let h : a ≡ 128 = cc in absurd (omega arith)
-heads_agree (Literal a) (Repeat b) m p q e = let h : a ≡ b = cc in absurd (omega arith)
-heads_agree Skipped Skipped m p q e = (refl, cc)
-heads_agree Skipped (Literal a) m p q e = let h : 128 ≡ a = cc in absurd (omega arith)
-heads_agree Skipped (Repeat b) m p q e = let h : 128 ≡ b = cc in absurd (omega arith)
-heads_agree (Repeat a) (Repeat b) m p q e = (ap Repeat cc, cc)
-heads_agree (Repeat a) Skipped m p q e = let h : a ≡ 128 = cc in absurd (omega arith)
-heads_agree (Repeat a) (Literal b) m p q e = let h : a ≡ b = cc in absurd (omega arith)
-heads_agree (Near a o) (Near b o') m p q e =
-    let h : 32 * a + o ≡ 32 * b + o' = cc in
-    let more : a ≡ b = omega arith in
-    let offset : o ≡ o' = omega arith in (cc, cc)
-heads_agree (Near a o) (Far b f l) m p q e =
-    let h : 32 * a + o ≡ 32 * b + 31 = cc in absurd (omega arith)
-heads_agree (Far a f l) (Near b o) m p q e =
-    let h : 32 * a + 31 ≡ 32 * b + o = cc in absurd (omega arith)
-heads_agree (Far a f l) (Far b f' l') m p q e =
-    let h : 32 * a + 31 ≡ 32 * b + 31 = cc in
-    let more : a ≡ b = omega arith in
-    let r = further_agree f f' p.1 q.1 cc in
-    let full = r.0 in let last = r.1 in (cc, r.2)
-heads_agree h h' m p q e = absurd cc
+-- an offset that goes on
+further_at : (full offset count : ℕ) {last : ℕ} (behind : List ℕ) → last < 255
+    → further offset count (replicate full 255 ++ last ∷ behind) ≡ literal (offset + 255 * full + last) count behind
+further_at zero offset count {last} behind lt =
+    let other : (last == 255) ≡ false = grind (arith, nat_tests) in
+    rw (other, add-zero)
+further_at (suc full) offset count {last} behind lt =
+    let place : (offset + 255) + 255 * full + last ≡ offset + 255 * suc full + last = omega arith in
+    further_at full (offset + 255) count behind lt ∙ ap (λ (n : ℕ). literal n count behind) place
 
-pub same_heads : {method : Method} {h h' : Head} {x y : List ℕ} → IsHead method h → IsHead method h'
-    → head_bytes h ++ x ≡ head_bytes h' ++ y → (h ≡ h') × (x ≡ y)
-same_heads {h} {h'} p q e = heads_agree h h' (p.method_is ∙ sym q.method_is) p.in_range q.in_range e
+-- data that begins with a whole head: its new bytes follow, as many as there are
+pub front_at : (head : Head) (tail : List ℕ) → IsInRange head → first_of (method_of head) (head_bytes head ++ tail)
+    ≡ record { offset = offset_of head; given = given_by head (take (new_count head) tail); rest = drop (new_count head) tail }
+front_at Itself [] r = refl
+front_at Itself (byte ∷ tail) r = refl
+front_at (Count count) [] r = refl
+front_at (Count count) (byte ∷ tail) r = rw append-nil
+front_at (Literal control) tail r =
+    let low : nat_lt control 128 ≡ true = grind (arith, nat_tests) in
+    rw (low, once_each (take (control + 1) tail))
+front_at Skipped tail r = refl
+front_at (Repeat control) tail r =
+    let high : nat_lt control 128 ≡ false = grind (arith, nat_tests) in
+    let other : (control == 128) ≡ false = grind (arith, nat_tests) in
+    rw (high, other) (repeated_at tail)
+  where
+    repeated_at : (tail : List ℕ) → repeated (257 - control) tail
+        ≡ record { offset = 0; given = given_by (Repeat control) (take 1 tail); rest = drop 1 tail }
+    repeated_at [] = refl
+    repeated_at (byte ∷ tail) = rw append-nil
+front_at (Near count offset) tail r =
+    let low : (32 * count + offset) % 32 ≡ offset = omega arith in
+    let high : (32 * count + offset) / 32 ≡ count = omega arith in
+    let near : (offset == 31) ≡ false = grind (arith, nat_tests) in
+    rw (low, high, near, once_each (take (count + 1) tail))
+front_at (Far count full last) tail r =
+    let low : (32 * count + 31) % 32 ≡ 31 = omega arith in
+    let high : (32 * count + 31) / 32 ≡ count = omega arith in
+    rw (low, high, append_assoc, once_each (take (count + 1) tail)) (further_at full 31 (count + 1) tail r.1)
 
-same_parts : {d e : Element} → d.head ≡ e.head → d.bytes ≡ e.bytes → d ≡ e
-same_parts {d} {e} p q =
-    ap (λ (h : Head). record { head = h; bytes = d.bytes }) p ∙ ap (λ (bs : List ℕ). record { head = e.head; bytes = bs }) q
-
--- elements of one method that begin the same bytes are the same
-pub same_elements : {method : Method} {d e : Element} {x y : List ℕ} → IsElement method d → IsElement method e
-    → element_bytes d ++ x ≡ element_bytes e ++ y → (d ≡ e) × (x ≡ y)
-same_elements {d} {e} {x} {y} p q same =
-    let joined : head_bytes d.head ++ (d.bytes ++ x) ≡ head_bytes e.head ++ (e.bytes ++ y) =
-    cc (same, append_assoc (head_bytes d.head) d.bytes x, append_assoc (head_bytes e.head) e.bytes y) in
-    let r = same_heads p.head_is q.head_is joined in
-    let lengths : length d.bytes ≡ length e.bytes = cc (p.complete, q.complete, r.0) in
-    let s = same_fronts d.bytes e.bytes lengths r.1 in
-    (same_parts r.0 s.0, s.1)
+-- a whole element, and the data after it
+pub element_at : {method : Method} {e : Element} (more : List ℕ) {bytes : List ℕ} → IsElement method e → bytes ≡ element_bytes e ++ more
+    → first_of method bytes ≡ record { offset = offset_of e.head; given = given_by e.head e.bytes; rest = more }
+element_at {e = e} more is joined =
+    rw (joined, ← is.head_is.method_is, append_assoc) (front_at e.head (e.bytes ++ more) is.head_is.in_range
+    ∙ rw (take_at e.bytes more (new_count e.head) is.complete, drop_at e.bytes more (new_count e.head) is.complete))
 
 head_needs_byte : (h : Head) → 0 < length (head_bytes h) + new_count h
 head_needs_byte (Far more full last) = omega arith
@@ -74,8 +71,8 @@ spelling_has_byte method e p = omega (arith, length-append (head_bytes e.head) e
 -- bytes that an element lacks are no whole element
 pub cut_is_not_whole : {method : Method} {d e : Element} {bytes : List ℕ} (missing rest : List ℕ) → IsElement method d → IsElement method e
     → bytes ++ missing ≡ element_bytes d → 0 < length missing → bytes ≡ element_bytes e ++ rest → ⊥
-cut_is_not_whole {d} {e} missing rest p q lacking lacks whole =
-    let same : element_bytes e ++ (rest ++ missing) ≡ element_bytes d ++ [] =
-    cc (whole, append_assoc (element_bytes e) rest missing, append-nil (element_bytes d)) in
-    let r = same_elements q p same in
-    omega (arith, ap length r.1, length-append rest missing)
+cut_is_not_whole {d} {e} {bytes} missing rest p q lacking lacks whole =
+    let one = element_at [] p (lacking ∙ sym (append-nil (element_bytes d))) in
+    let joined : bytes ++ missing ≡ element_bytes e ++ (rest ++ missing) = cc (whole, append_assoc (element_bytes e) rest missing) in
+    let other = element_at (rest ++ missing) q joined in
+    omega (arith, ap (λ (front : Front). length front.rest) (sym one ∙ other), length-append rest missing)

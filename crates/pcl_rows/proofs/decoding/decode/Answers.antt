@@ -3,7 +3,8 @@ use Rattle.pcl_rows.proofs.Readings.{row_of_plain, decodes_from}
 use Rattle.pcl_rows.proofs.decoding.decode.Goals as goal
 
 pub returns-in-Plain : goal.returns-in-Plain
-returns-in-Plain c = decodes_from c.args.method Plain c.args.seed.now c.args.bytes.now c.put_bytes.new.row {old = c.fill.new.self} c.in-Plain.is
+returns-in-Plain c =
+    decodes_from c.args.method Plain c.args.seed.now c.args.bytes.now c.put_bytes.new.row {old = c.fill.new.self} c.in-Plain.is
     (rw c.put_bytes.ensures.row (row_of_plain c.args.bytes.now c.fill.new.self)) (rw c.requires (c.fill.ensures.after (λ y e. e)))
 
 pub returns-in-Runs : goal.returns-in-Runs
