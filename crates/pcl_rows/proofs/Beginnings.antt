@@ -1,6 +1,6 @@
 -- What stands at the front of data.
 use Rattle.std.proofs.Common.{◌≡◌, ℕ, ◌+◌, ◌-◌, ◌<◌, ◌≤◌, min, eqb, Bool, true, false, List, [], ◌∷◌, ◌++◌, length, get_or, take, drop, replicate, inl, inr, refl, sym, ap, ◌∙◌, append_assoc, arith}
-use Rattle.std.proofs.lemmas.List.{append-nil, take_all, take-append-drop, length-append, length-take, length-take-le, length-drop, length-replicate, nil_from_length, take_more, drop_all}
+use Rattle.std.proofs.lemmas.List.{append-nil, take_all, take-append-drop, length-append, length-take-le, length-drop, length-replicate, nil_from_length, take_more, drop_all, drop_min}
 use Rattle.std.specs.Prelude.{MatchBool}
 use Rattle.std.proofs.lemmas.Bool.{cases_lt, eqb-true, eqb-false}
 use Rattle.pcl_base.specs.declared.method.Method.{Method}
@@ -16,17 +16,12 @@ Begins-cons (x ∷ bytes) front byte h e b = (b.0, cc (e, b.1))
 pub Begins-one : (bytes : List ℕ) (byte : ℕ) → 0 < length bytes → byte ≡ get_or bytes 0 0 → Begins bytes (byte ∷ [])
 Begins-one bytes byte h e = Begins-cons bytes [] byte h e ([], refl)
 
--- data that begins with these bytes goes on after them
-pub Begins-whole : (bytes front : List ℕ) → length front ≤ length bytes → Begins bytes front → bytes ≡ front ++ drop (length front) bytes
-Begins-whole bytes front long b =
-    let none : b.0 ≡ [] = nil_from_length b.0
-    (omega (arith, ap length b.1, length-append (take (length front) bytes) b.0, length-take (length front) bytes)) in
-    let all = rw (none, append-nil) at b.1 in
-    cc (all, take-append-drop (length front) bytes)
-
--- data that ends within them
-pub Begins-short : (bytes front : List ℕ) → length bytes ≤ length front → (b : Begins bytes front) → bytes ++ b.0 ≡ front
-Begins-short bytes front short b = rw (take_all (length front) bytes short) at b.1
+-- data and what it lacks of these bytes are these bytes and what stands after them
+Begins-after : (bytes front : List ℕ) (b : Begins bytes front) → bytes ++ b.0 ≡ front ++ drop (length front) bytes
+Begins-after [] [] b = b.1
+Begins-after [] (byte ∷ front) b = rw append-nil b.1
+Begins-after (x ∷ bytes) [] b = rw (b.1, append-nil bytes)
+Begins-after (x ∷ bytes) (byte ∷ front) b = cc (Begins-after bytes front (b.0, cc), b.1)
 
 -- bytes 255, and one that is less
 pub Begins-further : (bytes : List ℕ) (full last : ℕ) → full < length bytes → take full bytes ≡ replicate full 255
@@ -64,12 +59,10 @@ head_without_new h e = omega arith
 module _ (bytes : List ℕ) (h : Head) (room count : ℕ) (some : 0 < length bytes) (begins : Begins bytes (head_bytes h))
     (room-is : room ≡ length bytes - length (head_bytes h)) (count-is : count ≡ min (new_count h) room) where
   abbrev behind : List ℕ
-  behind = drop (length bytes - room) bytes
+  behind = drop (length (head_bytes h)) bytes
 
-  behind_head : length (head_bytes h) ≤ length bytes → bytes ≡ head_bytes h ++ behind
-  behind_head long =
-      let skipped : length bytes - room ≡ length (head_bytes h) = omega arith in
-      rw skipped (Begins-whole bytes (head_bytes h) long begins)
+  size : length behind ≡ room
+  size = length-drop (length (head_bytes h)) bytes ∙ sym room-is
 
   whole_front : count ≡ new_count h → IsWholeFront bytes h (take count behind) (drop count behind)
   whole_front all =
@@ -78,43 +71,32 @@ module _ (bytes : List ℕ) (h : Head) (room count : ℕ) (some : 0 < length byt
         | inl short ↦ omega (arith, head_without_new h (omega arith))
         | inr long ↦ long
       ] in
+      let joined = Begins-after bytes (head_bytes h) begins in
+      let none : begins.0 ≡ [] =
+      nil_from_length begins.0
+      (omega (arith, ap length joined, length-append bytes begins.0, length-append (head_bytes h) behind, size)) in
       record {
-        complete = length-take-le count behind (omega (arith, length-drop (length bytes - room) bytes)) ∙ all;
-        joined = behind_head long ∙ rw (append_assoc, take-append-drop);
+        complete = length-take-le count behind (omega (arith, size)) ∙ all;
+        joined = rw (append_assoc, take-append-drop) (rw (none, append-nil) at joined);
       }
 
   cut_front : (count ≡ new_count h → ⊥) → IsCutFront bytes h (take count behind) (drop count behind)
   cut_front few =
-      let size : length behind ≡ room = length-drop (length bytes - room) bytes ∙ omega arith in
-      let all : take count behind ≡ behind = take_all count behind (omega arith) in
-      let none : drop count behind ≡ [] = drop_all count behind (omega arith) in
-      elim (cases_lt (length bytes) (length (head_bytes h))) [
-        | inl short ↦
-            let empty : behind ≡ [] = drop_all (length bytes - room) bytes (omega arith) in
-            let pad : List ℕ = replicate (new_count h) 0 in
-            let pad_size : length pad ≡ new_count h = length-replicate (new_count h) 0 in
-            record {
-              padding = pad;
-              missing = begins.0 ++ pad;
-              complete = pad_size;
-              lacking = rw (← append_assoc bytes begins.0 pad, Begins-short bytes (head_bytes h) (omega arith) begins);
-              lacks = omega (arith, length-append begins.0 pad);
-              new_is = all ∙ empty ∙ sym (drop_all (length (head_bytes h)) bytes (omega arith));
-              rest_is = none;
-            }
-        | inr long ↦
-            let pad : List ℕ = replicate (new_count h - room) 0 in
-            let pad_size : length pad ≡ new_count h - room = length-replicate (new_count h - room) 0 in
-            record {
-              padding = behind ++ pad;
-              missing = pad;
-              complete = length-append behind pad ∙ omega arith;
-              lacking = cc (behind_head long, append_assoc (head_bytes h) behind pad);
-              lacks = omega arith;
-              new_is = all ∙ ap (λ (n : ℕ). drop n bytes) (omega arith);
-              rest_is = none;
-            }
-      ]
+      let pad : List ℕ = replicate (new_count h - room) 0 in
+      let pad_size : length pad ≡ new_count h - room = length-replicate (new_count h - room) 0 in
+      record {
+        padding = behind ++ pad;
+        missing = begins.0 ++ pad;
+        complete = omega (arith, length-append behind pad, size);
+        lacking = cc (
+          Begins-after bytes (head_bytes h) begins,
+          append_assoc bytes begins.0 pad,
+          append_assoc (head_bytes h) behind pad,
+        );
+        lacks = omega (arith, length-append begins.0 pad);
+        new_is = take_all count behind (omega (arith, size));
+        rest_is = drop_all count behind (omega (arith, size));
+      }
 
   pub front_parts : (whole : Bool) → eqb count (new_count h) ≡ whole
       → MatchBool whole (IsWholeFront bytes h (take count behind) (drop count behind))
@@ -128,5 +110,6 @@ pub front_read : (bytes : List ℕ) (h : Head) {room count said : ℕ} {back new
     → said ≡ new_count h → back ≡ drop (length bytes - room) bytes → new ≡ take count back → rest ≡ drop count back
     → MatchBool (eqb count said) (IsWholeFront bytes h new rest) (IsCutFront bytes h new rest)
 front_read bytes h {room} {count} some begins room-is count-is said-is back-is new-is rest-is =
-    rw (said-is, new-is, rest-is, back-is)
+    let skipped : length bytes - room ≡ min (length (head_bytes h)) (length bytes) = omega arith in
+    rw (said-is, new-is, rest-is, back-is, skipped, drop_min)
     (front_parts bytes h room count some begins room-is count-is (eqb count (new_count h)) refl)

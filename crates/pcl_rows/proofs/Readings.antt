@@ -244,13 +244,6 @@ whole_uncons {h = h} {new} {rest} is front (e ∷ es, are, joined, within) =
     let sizes : length (given_by h new) ≡ length (given_by e.head e.bytes) = ap (λ (x : Front). length x.given) same in
     (omega arith, (es, are.1, ap (λ (x : Front). x.rest) same, omega arith))
 
-pub cut_not_whole : {method : Method} {bytes : List ℕ} {h : Head} {new rest : List ℕ} {room : ℕ} → 0 < length bytes → IsHead method h
-    → IsCutFront bytes h new rest → IsWhole method bytes room → ⊥
-cut_not_whole some is cut ([], are, joined, within) = omega (arith, ap length joined)
-cut_not_whole some is cut (e ∷ es, are, joined, within) =
-    cut_is_not_whole cut.missing (flat_map element_bytes es)
-    (record { head_is = is; complete = cut.complete }) are.0 cut.lacking cut.lacks joined
-
 -- bytes that stand for themselves are whole where they don't pass the row
 plain_fits : (bytes : List ℕ) {room : ℕ} → IsWhole Plain bytes room → length bytes ≤ room
 plain_fits [] w = omega arith
@@ -300,8 +293,10 @@ whole_past front stop-is past w =
 -- a cut one
 pub whole_cut : {method : Method} {bytes : List ℕ} {room offset copies : ℕ} {new rest : List ℕ} → 0 < length bytes
     → IsFront method bytes offset copies new rest false → IsWhole method bytes room → ⊥
-whole_cut some front w =
-    cut_not_whole some front.head_is front.parts w
+whole_cut some front ([], are, joined, within) = omega (arith, ap length joined)
+whole_cut some front (e ∷ es, are, joined, within) =
+    cut_is_not_whole front.parts.missing (flat_map element_bytes es)
+    (record { head_is = front.head_is; complete = front.parts.complete }) are.0 front.parts.lacking front.parts.lacks joined
 
 -- the row that data makes of a row of the bytes that its method begins with
 pub decodes_from : (method named : Method) (seed bytes row : List ℕ) {old : List ℕ} → method ≡ named → RowFrom named bytes old row
