@@ -154,9 +154,7 @@ pub treated_more : {method : Method} {bytes old rest : List ℕ} (row : List ℕ
     → row' ≡ overlaid row start (flat_map (λ byte. replicate copies byte) new)
     → place' ≡ min (length row) (start + length (flat_map (λ byte. replicate copies byte) new))
     → IsTreatedTo method bytes old rest row place → IsTreatedTo method bytes old rest' row' place'
-treated_more {method} {old} {rest} row {place} {start} {offset} {copies} {new} {rest'} {whole} {row'}
-    {place'} size within start-is front row-is place-is
-    so_far made f =
+treated_more row {place} {start} {new = new} {whole = whole} {row' = row'} {place'} size within start-is front row-is place-is so_far made f =
     let h : Head = front.head in
     let g : List ℕ = given_by h new in
     let laid = rw front.copies_is at row-is in
@@ -164,22 +162,24 @@ treated_more {method} {old} {rest} row {place} {start} {offset} {copies} {new} {
     let inside : start ≤ length row = omega arith in
     let begin : start ≡ min (place + offset_of h) (length row) = omega (arith, front.offset_is) in
     let behind : drop place' row' ≡ drop (offset_of h + length g) (drop place row) =
-    rw (laid, end, drop-overlaid row g inside) (ends row place (offset_of h) (length g) begin) in
+    rw (
+      laid,
+      end,
+      drop-overlaid row g inside,
+      ← drop-drop (length g) start row,
+      begin,
+      drop_min,
+      ← drop-drop (offset_of h) place row,
+      ← drop-drop (length g) (offset_of h) (drop place row),
+    ) in
+    let before : take place row ++ with_front h new (drop place row) made ≡ take start row ++ (g ++ made) =
+    rw (begin, take_min, take-add, append_assoc) in
     let r = so_far (with_front h new (drop place row) made)
     (Fills-parts new (drop place row) whole front.head_is front.parts (rw behind at f)) in (
       r.0,
       r.1,
-      cc (r.2, starts row place (offset_of h) (g ++ made) begin, take-overlaid row g made inside),
+      cc (r.2, take-overlaid row g made inside),
     )
-  where
-    ends : (row : List ℕ) (place offset count : ℕ) {start : ℕ} → start ≡ min (place + offset) (length row)
-        → drop (start + count) row ≡ drop (offset + count) (drop place row)
-    ends row place offset count {start} begin =
-        rw (← drop-drop count start row, begin, drop_min, ← drop-drop offset place row, ← drop-drop count offset (drop place row))
-
-    starts : (row : List ℕ) (place offset : ℕ) (after : List ℕ) {start : ℕ} → start ≡ min (place + offset) (length row)
-        → take place row ++ (take offset (drop place row) ++ after) ≡ take start row ++ after
-    starts row place offset after begin = rw (begin, take_min, take-add, append_assoc)
 
 -- controls that give nothing stand before data that makes the row
 Fills-skipped : {method : Method} (count : ℕ) {rest old row : List ℕ} → (0 < count → method ≡ Packed) → Fills method rest old row

@@ -13,17 +13,16 @@ loop-rest-init c = record {
 }
 
 pub loop-rest-preserved : goal.loop-rest-preserved
-loop-rest-preserved c =
-    record {
-      within = omega (arith, c.put-place.ensures.end, c.put-place.auto.row);
-      treated = treated_skipped c.past_skipped-rest-in-loop-rest.result.now c.put-place.new.row c.put-place.result
-          c.past_skipped-rest-in-loop-rest.ensures
-          (treated_more c.loop-rest.row
-          c.loop-rest.auto.row c.loop-rest.invariant.within c.skip-place.ensures c.read-front.ensures.front c.put-place.ensures.row
-          c.put-place.ensures.end c.loop-rest.invariant.treated);
-      bytes = rest_bytes c.past_skipped-rest-in-loop-rest.result.now c.read-front.ensures.front c.past_skipped-rest-in-loop-rest.ensures
-          c.loop-rest.invariant.bytes;
-    }
+loop-rest-preserved c = record {
+  within = omega (arith, c.put-place.ensures.end, c.put-place.auto.row);
+  treated = treated_skipped c.past_skipped-rest-in-loop-rest.result.now c.put-place.new.row c.put-place.result
+      c.past_skipped-rest-in-loop-rest.ensures
+      (treated_more c.loop-rest.row
+      c.loop-rest.auto.row c.loop-rest.invariant.within c.skip-place.ensures c.read-front.ensures.front c.put-place.ensures.row
+      c.put-place.ensures.end c.loop-rest.invariant.treated);
+  bytes = rest_bytes c.past_skipped-rest-in-loop-rest.result.now c.read-front.ensures.front c.past_skipped-rest-in-loop-rest.ensures
+      c.loop-rest.invariant.bytes;
+}
 
 pub loop-rest-smaller : goal.loop-rest-smaller
 loop-rest-smaller c =
