@@ -10,7 +10,7 @@ use Rattle.pcl_rows.specs.Elements.{Element, IsElement, element_bytes, given_by}
 use Rattle.pcl_rows.specs.Rows.{base, after_element, IsCutIntoElements, treated, Decodes}
 use Rattle.pcl_rows.specs.Decoding.{Front, further, treated_by, decoded}
 use Rattle.pcl_rows.proofs.Readings.{after_none}
-use Rattle.pcl_rows.proofs.Spellings.{first_of, front_at, element_at, spelling_has_byte}
+use Rattle.pcl_rows.proofs.Spellings.{first_of, front_at, element_at, behind_shorter}
 
 -- ---- the front of cut data
 
@@ -96,12 +96,6 @@ treated_cut (suc n) {cut} shown missing old is e some fits =
             length-append (head_bytes h) cut.bytes,
           ))
     ]
-
--- after an element are fewer bytes
-behind_shorter : {e : Element} (more : List ℕ) {bytes : List ℕ} {method : Method} → IsElement method e → bytes ≡ element_bytes e ++ more
-    → length more < length bytes
-behind_shorter {e} more {method} is joined =
-    omega (arith, ap length joined, length-append (element_bytes e) more, spelling_has_byte method e is)
 
 pub treated_is : (n : ℕ) (whole : List Element) {method : Method} {bytes : List ℕ} {cut : Element} {shown : List ℕ} (old : List ℕ)
     → IsCutIntoElements method bytes whole cut shown → length bytes ≤ n

@@ -13,7 +13,7 @@ use Rattle.pcl_rows.specs.Decoding.{Front}
 use Rattle.pcl_rows.specs.Rows.{after_element, base, IsCutIntoElements, treated, RowFrom, Decodes, IsWhole}
 use Rattle.pcl_rows.specs.inner.Fronts.{IsWholeFront, IsCutFront, IsFront, IsPastSkipped, overlaid}
 use Rattle.pcl_rows.proofs.Overlays.{drop-overlaid, take-overlaid}
-use Rattle.pcl_rows.proofs.Spellings.{element_at, spelling_has_byte, cut_is_not_whole}
+use Rattle.pcl_rows.proofs.Spellings.{element_at, behind_shorter, spelling_has_byte, cut_is_not_whole}
 
 -- what data makes of untreated bytes, before what lies past the row is dropped
 pub record Fills (method : Method) (bytes old row : List ℕ) : Type 0 where
@@ -60,13 +60,8 @@ none_is_nothing : {method : Method} (whole : List Element) {cut : Element} {show
     → IsCutIntoElements method [] whole cut shown
     → treated whole cut shown old ≡ old
 none_is_nothing [] {cut} {old = old} r = after_none cut.head old (rw (← r.joined) (drop-nil (length (head_bytes cut.head))))
-none_is_nothing {method} (e ∷ es) {shown} r =
-    absurd (omega (
-      arith,
-      simp length-append at (ap length r.joined),
-      length-append (head_bytes e.head) e.bytes,
-      spelling_has_byte method e r.elements.0,
-    ))
+none_is_nothing (e ∷ es) {shown = shown} r =
+    absurd (omega (arith, behind_shorter (flat_map element_bytes es ++ shown) r.elements.0 (r.joined ∙ simp append_assoc)))
 
 -- what an element gives, and then the rest
 abbrev pub with_front : Head → List ℕ → List ℕ → List ℕ → List ℕ
@@ -213,13 +208,8 @@ treated_none made f = (made, f, refl)
 -- a whole element has a byte
 front_has_byte : {method : Method} {bytes : List ℕ} {h : Head} {new rest : List ℕ} → IsHead method h → IsWholeFront bytes h new rest
     → length rest < length bytes
-front_has_byte {method} {h = h} {new} {rest} is front =
-    omega (
-      arith,
-      ap length front.joined,
-      length-append (head_bytes h ++ new) rest,
-      spelling_has_byte method (record { head = h; bytes = new }) (record { head_is = is; complete = front.complete }),
-    )
+front_has_byte {h = h} {new} {rest} is front =
+    behind_shorter {e = record { head = h; bytes = new }} rest (record { head_is = is; complete = front.complete }) front.joined
 
 -- a whole element, and then whole data
 pub whole_cons : {method : Method} {bytes : List ℕ} {h : Head} {new rest : List ℕ} {room : ℕ} → IsHead method h

@@ -68,6 +68,12 @@ head_needs_byte h = omega arith
 pub spelling_has_byte : (method : Method) (e : Element) → IsElement method e → 0 < length (element_bytes e)
 spelling_has_byte method e p = omega (arith, length-append (head_bytes e.head) e.bytes, p.complete, head_needs_byte e.head)
 
+-- after an element are fewer bytes
+pub behind_shorter : {e : Element} (more : List ℕ) {bytes : List ℕ} {method : Method} → IsElement method e → bytes ≡ element_bytes e ++ more
+    → length more < length bytes
+behind_shorter {e} more {method} is joined =
+    omega (arith, ap length joined, length-append (element_bytes e) more, spelling_has_byte method e is)
+
 -- bytes that an element lacks are no whole element
 pub cut_is_not_whole : {method : Method} {d e : Element} {bytes : List ℕ} (missing rest : List ℕ) → IsElement method d → IsElement method e
     → bytes ++ missing ≡ element_bytes d → 0 < length missing → bytes ≡ element_bytes e ++ rest → ⊥
