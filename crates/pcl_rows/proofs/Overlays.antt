@@ -1,5 +1,5 @@
 -- A list over another one from a place on.
-use Rattle.std.proofs.Common.{◌≡◌, ℕ, ◌+◌, ◌-◌, ◌<◌, ◌≤◌, min, List, [], ◌++◌, length, get_or, take, drop, replicate, refl, sym, ap, ◌∙◌, inl, inr, append_assoc, add-zero, arith}
+use Rattle.std.proofs.Common.{◌≡◌, ℕ, ◌+◌, ◌-◌, ◌<◌, ◌≤◌, min, List, [], ◌++◌, length, get_or, take, drop, replicate, sym, ap, ◌∙◌, inl, inr, append_assoc, add-zero, arith}
 use Rattle.std.proofs.lemmas.Bool.{cases_lt}
 use Rattle.std.proofs.lemmas.List.{append-nil, take-append-le, take_at, drop_at, drop-drop, take_all, drop_all, take-append-drop, length-append, length-take, length-drop, take-take, length-replicate, replicate-append-replicate}
 use Rattle.std.specs.List.{flat_map}
@@ -24,7 +24,7 @@ pub length-overlaid : (old : List ℕ) {place : ℕ} (new : List ℕ) → place 
 length-overlaid old new within = omega (arith, length-take {A = ℕ}, length-append {A = ℕ}, length-drop {A = ℕ})
 
 pub overlaid-nil : (old : List ℕ) (place : ℕ) → place ≤ length old → overlaid old place [] ≡ old
-overlaid-nil old place within = overlaid_within old place [] (omega arith) ∙ (rw add-zero (take-append-drop place old))
+overlaid-nil old place within = overlaid_within old place [] (omega arith) ∙ rw add-zero (take-append-drop place old)
 
 -- copies that are cut at the end of the list
 pub overlaid_copies : (old : List ℕ) {place : ℕ} (copies : ℕ) {fitting : ℕ} (byte : ℕ) → place ≤ length old
@@ -38,12 +38,7 @@ overlaid_copies old {place} copies {fitting} byte within e =
           let parts : replicate copies byte ≡ replicate fitting byte ++ replicate more byte =
           ap (λ (n : ℕ). replicate n byte) all ∙ sym (replicate-append-replicate fitting more byte) in
           let size : length (take place old ++ replicate fitting byte) ≡ length old =
-          omega (
-            arith,
-            length-append (take place old) (replicate fitting byte),
-            length-take place old,
-            length-replicate fitting byte,
-          ) in
+          omega (arith, length-append {A = ℕ}, length-take {A = ℕ}, length-replicate {A = ℕ}) in
           let none : drop (place + fitting) old ≡ [] = drop_all (place + fitting) old (omega arith) in
           overlaid_past old (replicate copies byte) within (omega (arith, length-replicate copies byte))
           ∙ rw (parts, none, append-nil, ← append_assoc (take place old) (replicate fitting byte) (replicate more byte))
@@ -51,7 +46,7 @@ overlaid_copies old {place} copies {fitting} byte within e =
       | inr fits ↦
           let all : fitting ≡ copies = omega arith in
           overlaid_within old place (replicate copies byte) (omega (arith, length-replicate copies byte))
-          ∙ rw (length-replicate copies byte, all) refl
+          ∙ rw (length-replicate copies byte, all)
     ]
 
 pub copied_once : {copies : ℕ} (bytes : List ℕ) → copies ≡ 1 → flat_map (λ byte. replicate copies byte) bytes ≡ bytes
@@ -140,8 +135,6 @@ put_more old {start} {place} copies {i} bytes {new} within more row-is place-is 
       rw (new-is, row-is, place-is, grown) (overlaid-overlaid old before last within),
       omega (
         arith,
-        end-is,
-        place-is,
         ap length row-is,
         length-overlaid old before within,
         ap length grown,

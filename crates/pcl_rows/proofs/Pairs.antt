@@ -50,14 +50,14 @@ pair_more {bytes} {old} row {pair} {place} {count} size within lt small count-is
     let behind : List ℕ = drop (2 * (pair + 1)) bytes in
     let next : at + 1 + 1 ≡ 2 * (pair + 1) = omega arith in
     let two : drop at bytes ≡ count ∷ byte ∷ behind =
-    cc (drop_more bytes at 0 (omega (arith, lt)), drop_more bytes (at + 1) 0 (omega (arith, lt)), next, count-is) in
-    treated_more row {start = place} size within (omega arith) (pair_front (omega (arith, small, count-is)))
+    cc (drop_more bytes at 0 (omega arith), drop_more bytes (at + 1) 0 (omega arith), next, count-is) in
+    treated_more row {start = place} size within (omega arith) (pair_front (omega arith))
     (rw append-nil row-is) (rw (append-nil, length-replicate) place-is) (rw two at so_far)
 
 -- what is left after all pairs
 rest_all : {bytes old : List ℕ} (rest : List ℕ) {row : List ℕ} {place : ℕ} → length rest ≤ 1 → (0 < length rest → slice_index rest 0 < 256)
     → length row ≡ length old → place ≤ length row → IsTreatedTo Runs bytes old rest row place → RowFrom Runs bytes old row
-rest_all [] {row} {place} few small size within so_far = treated_all place size so_far
+rest_all [] {place = place} few small size within so_far = treated_all place size so_far
 rest_all (count ∷ []) {row} {place} few small size within so_far =
     treated_all place size
     (treated_more row {start = place} size within (omega arith) (lone_front (small (lit< tt)))
@@ -69,5 +69,5 @@ pub pairs_all : {bytes old row : List ℕ} {pair place : ℕ} → ((i : ℕ) →
     → RowFrom Runs bytes old row
 pairs_all {bytes} {pair} small end size within so_far =
     let at : ℕ = 2 * pair in
-    rest_all (drop at bytes) (omega (arith, end, length-drop at bytes))
+    rest_all (drop at bytes) (omega (arith, length-drop at bytes))
     (λ some. omega (arith, small at, get_or-drop at bytes 0 0)) size within so_far
