@@ -149,7 +149,8 @@ pub treated_more : {method : Method} {bytes old rest : List ℕ} (row : List ℕ
     → row' ≡ overlaid row start (flat_map (λ byte. replicate copies byte) new)
     → place' ≡ min (length row) (start + length (flat_map (λ byte. replicate copies byte) new))
     → IsTreatedTo method bytes old rest row place → IsTreatedTo method bytes old rest' row' place'
-treated_more row {place} {start} {new = new} {whole = whole} {row' = row'} {place'} size within start-is front row-is place-is so_far made f =
+treated_more row {place} {start} {new = new} {whole = whole} {row' = row'} {place'} size within start-is front row-is place-is
+    so_far made f =
     let h : Head = front.head in
     let g : List ℕ = given_by h new in
     let laid = rw front.copies_is at row-is in
