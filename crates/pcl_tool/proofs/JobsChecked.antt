@@ -13,8 +13,8 @@ use Rattle.pcl_tool.specs.declared.job_verdict.JobVerdict.{JobVerdict}
 use Rattle.pcl_tool.specs.declared.job_verdict.JobVerdict.TheVariants as job
 use Rattle.pcl_tool.specs.declared.page_checks.Checker.{Checker}
 use Rattle.pcl_tool.specs.JobVerdicts.{AreCompared, IsFramed, IsFirstFailure, IsJobVerdict}
-use Rattle.pcl_tool.specs.inner.CheckerSteps.{BeginsWith, IsBegun, proofs_left, answer}
-use Rattle.pcl_tool.proofs.Checkers.{takes, stays, miscounted, IsOutcome, outcome}
+use Rattle.pcl_tool.specs.inner.CheckerSteps.{BeginsWith, IsBegun, TakesPage, proofs_left, answer}
+use Rattle.pcl_tool.proofs.Checkers.{stays, none_left, miscounted, IsOutcome, outcome}
 
 same_or : (a b : ℕ) → (a ≡ b) ⊎ (a ≡ b → ⊥)
 same_or zero zero = inl refl
@@ -30,49 +30,36 @@ of_outcome : {dpi : Dpi} {input output certificate : List ℕ} (compared : AreCo
     → length compared.pages ≡ length compared.proofs → IsFramed output texts compared.proofs → (found : JobVerdict)
     → IsOutcome dpi compared.pages texts compared.proofs 0 found → IsJobVerdict dpi input output certificate found
 of_outcome compared {texts} same framed job.Proved o = (compared, texts, framed, o)
-of_outcome {dpi} compared {texts} same framed (job.Page place verdict) o =
-    let number : o.0 ≡ place = omega (arith, o.1) in (
-      compared,
-      same,
-      texts,
-      framed,
-      subst (λ (n : ℕ). IsFirstFailure dpi compared.pages texts compared.proofs n verdict) number o.2,
-    )
+of_outcome compared {texts} same framed (job.Page place verdict) o =
+    let number : place ≡ o.0 = omega (arith, o.1) in (compared, same, texts, framed, rw number o.2)
 of_outcome compared same framed found o = absurd o
 
 -- by what was found before the first page
 of_begin : {dpi : Dpi} {input : List ℕ} (output : List ℕ) {certificate : List ℕ} (compared : AreCompared dpi input certificate)
-    (begun new : Checker)
-    (found : JobVerdict) → found ≡ begun.found → proofs_left begun ≡ compared.proofs → begun.taken ≡ 0
+    (begun new : Checker) (found : JobVerdict) → begun.found ≡ found → proofs_left begun ≡ compared.proofs → begun.taken ≡ 0
     → BeginsWith output compared.proofs begun.texts.now found → length compared.pages ≡ length compared.proofs
-    → Hands takes dpi compared.pages begun new → (proofs_left new ≡ []) × IsJobVerdict dpi input output certificate new.found
+    → Hands TakesPage dpi compared.pages begun new → IsJobVerdict dpi input output certificate new.found
 of_begin {dpi} output compared begun new job.Proved f e n b same h =
-    let o = outcome dpi compared.pages compared.proofs new (sym f) n
-    (record { texts_are = refl; proofs_are = e; as_long = b.as_long }) same h in
-    (o.0, of_outcome compared same b new.found o.1)
-of_begin {dpi} {input} output {certificate} compared begun new job.Frame f e n b same h =
-    let wrong : job.Frame ≡ job.Proved → ⊥ = λ (p : job.Frame ≡ job.Proved). cc in
-    let s = stays dpi compared.pages compared.proofs begun new wrong (sym f) e same h in
-    (s.0, subst (IsJobVerdict dpi input output certificate) (sym s.1) (compared, same, b))
+    of_outcome compared same b new.found
+    (outcome dpi compared.pages begun.texts.now compared.proofs 0 begun new f n refl e b.as_long same h)
+of_begin {dpi} output compared begun new job.Frame f e n b same h =
+    rw (stays dpi compared.pages compared.proofs begun new (λ (p : job.Frame ≡ job.Proved). cc) f e same h) (compared, same, b)
 of_begin output compared begun new found f e n b same h = absurd b
 
 -- the answer of a checker that has taken the pages of an accepted job
 pub job_answered : {dpi : Dpi} {input output : List ℕ} (certificate : List ℕ) {format : Format} {proofs : List PageProof}
-    {pages : List Sheet}
-    {begun : Checker} (new : Checker) → HasPages dpi input pages → certificate_at dpi certificate ≡ Ok (format, proofs)
-    → IsBegun output proofs begun
-    → Hands takes dpi pages begun new → IsJobVerdict dpi input output certificate (answer (proofs_left new) new.found)
+    {pages : List Sheet} {begun : Checker} (new : Checker) → HasPages dpi input pages
+    → certificate_at dpi certificate ≡ Ok (format, proofs) → IsBegun output proofs begun
+    → Hands TakesPage dpi pages begun new → IsJobVerdict dpi input output certificate (answer (proofs_left new) new.found)
 job_answered {dpi} {input} {output} certificate {format} {proofs} {pages} {begun} new meaning certified b h =
     let compared : AreCompared dpi input certificate =
     record { pages = pages; meaning = meaning; format = format; proofs = proofs; certified = certified } in
-    let left : proofs_left begun ≡ proofs = ap (λ (k : ℕ). drop k begun.proofs.now) b.none_taken ∙ b.proofs_are in
+    let left : proofs_left begun ≡ proofs = rw b.none_taken b.proofs_are in
     elim (same_or (length pages) (length proofs)) [
       | inl same ↦
-          let o = of_begin output compared begun new begun.found refl left b.none_taken b.begins same h in
-          subst (λ (left : List PageProof). IsJobVerdict dpi input output certificate (answer left new.found)) (sym o.0) o.1
-      | inr other ↦
-          subst (IsJobVerdict dpi input output certificate) (sym (miscounted dpi pages proofs begun new left other h))
-          (compared, other)
+          rw (none_left dpi pages proofs begun new left same h)
+          (of_begin output compared begun new begun.found refl left b.none_taken b.begins same h)
+      | inr other ↦ rw (miscounted dpi pages proofs begun new left other h) (compared, other)
     ]
 
 -- the answer where the certificate is none
