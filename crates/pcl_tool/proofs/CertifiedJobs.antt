@@ -29,12 +29,11 @@ use Rattle.pcl_tool.proofs.SameVerdicts.{verdict_again}
 pub proved_length : (dpi : Dpi) (sheets : List Sheet) (texts : List ℕ) (proofs : List PageProof) → AreProved dpi sheets texts proofs
     → length texts ≡ text_bytes proofs
 proved_length dpi [] texts [] p = ap length p.1
-proved_length dpi [] texts (proof ∷ proofs) p = absurd (omega (arith, p.0))
-proved_length dpi (sheet ∷ sheets) texts [] p = absurd (omega (arith, p.0))
 proved_length dpi (sheet ∷ sheets) texts (proof ∷ proofs) p =
     let first = p.1 in
     let rest = proved_length dpi sheets first.1 proofs (omega (arith, p.0), first.4) in
-    let all = ap length first.3 ∙ length-append first.0 first.1 in omega (arith, rest, all, first.2.as_long)
+    omega (arith, rest, simp length-append at (ap length first.3), first.2.as_long)
+proved_length dpi sheets texts proofs p = absurd (omega (arith, p.0))
 
 -- ---- texts that are cut at the same place
 
@@ -44,35 +43,27 @@ proved_behind : {dpi : Dpi} (before : List Sheet) {sheet : Sheet} (behind : List
     → AreProved dpi before texts_before proofs_before
     → texts ≡ texts_before ++ rest → AreProved dpi (before ++ sheet ∷ behind) texts (proofs_before ++ proof ∷ proofs_behind)
     → AreProved dpi (sheet ∷ behind) rest (proof ∷ proofs_behind)
-proved_behind {dpi} [] {sheet} behind [] proof proofs_behind texts_before {rest} none e p =
-    subst (λ (t : List ℕ). AreProved dpi (sheet ∷ behind) t (proof ∷ proofs_behind))
-    (e ∙ ap (λ (t : List ℕ). t ++ rest) none.1) p
-proved_behind [] behind (one ∷ proofs_before) proof proofs_behind texts_before none e p = absurd (omega (arith, none.0))
-proved_behind (first ∷ before) behind [] proof proofs_behind texts_before none e p = absurd (omega (arith, none.0))
+proved_behind [] behind [] proof proofs_behind texts_before none e p = rw (e, none.1) at p
 proved_behind (first ∷ before) behind (one ∷ proofs_before) proof proofs_behind texts_before {rest} b e p =
     let these = p.1 in
     let those = b.1 in
-    let whole : these.0 ++ these.1 ≡ those.0 ++ (those.1 ++ rest) =
-    sym these.3 ∙ e ∙ ap (λ (t : List ℕ). t ++ rest) those.3 ∙ append_assoc those.0 those.1 rest in
+    let whole : these.0 ++ these.1 ≡ those.0 ++ (those.1 ++ rest) = rw (← these.3, e, those.3, append_assoc) in
     let cut = same_fronts these.0 those.0 (these.2.as_long ∙ sym those.2.as_long) whole in
     proved_behind before behind proofs_before proof proofs_behind those.1 (omega (arith, b.0), those.4) cut.1
     (omega (arith, p.0), these.4)
+proved_behind before behind proofs_before proof proofs_behind texts_before none e p = absurd (omega (arith, none.0))
 
-pub none_fails : {dpi : Dpi} {pages : List Sheet} {texts : List ℕ} {proofs : List PageProof} {number : ℕ} {verdict : Verdict}
+none_fails : {dpi : Dpi} {pages : List Sheet} {texts : List ℕ} {proofs : List PageProof} {number : ℕ} {verdict : Verdict}
     → AreProved dpi pages texts proofs → IsFirstFailure dpi pages texts proofs number verdict → ⊥
-none_fails {dpi} {texts} {proofs} {verdict} p f =
-    let whole : AreProved dpi (f.pages_before ++ f.sheet ∷ f.pages_behind) texts (f.proofs_before ++ f.proof ∷ f.proofs_behind) =
-    subst (λ (ps : List PageProof). AreProved dpi (f.pages_before ++ f.sheet ∷ f.pages_behind) texts ps) f.proofs_are
-    (subst (λ (ss : List Sheet). AreProved dpi ss texts proofs) f.pages_are p) in
+none_fails {verdict} p f =
     let behind = proved_behind f.pages_before f.pages_behind f.proofs_before f.proof f.proofs_behind f.texts_before f.proved_before
-    f.texts_are whole in
+    f.texts_are (rw (f.pages_are, f.proofs_are) at p) in
     let here = behind.1 in
     let is = here.2 in
     let cut = same_fronts f.text here.0 (f.answered.as_long ∙ sym is.as_long) here.3 in
     f.not_proved
-    (verdict_again f.proof.table f.proof.places verdict
-    (pages_same is.shows f.answered.shows)
-    (subst (λ (t : List ℕ). IsVerdict is.page t f.proof.table f.proof.places Proved) (sym cut.0) is.verdict_is) f.answered.verdict_is)
+    (verdict_again f.proof.table f.proof.places verdict (pages_same is.shows f.answered.shows) (rw (← cut.0) at is.verdict_is)
+    f.answered.verdict_is)
 
 -- ---- the verdict
 
@@ -88,44 +79,23 @@ OnePages = (dpi : Dpi) (input : List ℕ) (pages others : List Sheet) → HasPag
 compared_same : OnePages → {dpi : Dpi} {input output certificate : List ℕ} (i : IsCertifiedBy dpi input output certificate)
     (compared : AreCompared dpi input certificate) → AreProved dpi compared.pages i.texts compared.proofs
 compared_same one {dpi} {input} {output} {certificate} i compared =
-    let read : (i.format, i.proofs) ≡ (compared.format, compared.proofs) =
-    let both : Ok (i.format, i.proofs) ≡ Ok (compared.format, compared.proofs) = sym (read_again i)
-    ∙ compared.certified in cc in
+    let read : (i.format, i.proofs) ≡ (compared.format, compared.proofs) = cc (read_again i, compared.certified) in
     let proofs : i.proofs ≡ compared.proofs = ap (λ (r : Format × List PageProof). r.1) read in
-    subst (λ (ps : List PageProof). AreProved dpi compared.pages i.texts ps) proofs
-    (subst (λ (ss : List Sheet). AreProved dpi ss i.texts i.proofs) (one dpi input i.pages compared.pages i.meaning compared.meaning)
-    i.proved)
-
-texts_same : {output texts others : List ℕ} → output ≡ frame_bytes ++ texts ++ frame_bytes → output ≡ frame_bytes ++ others ++ frame_bytes
-    → texts ≡ others
-texts_same {texts} {others} e f =
-    append_cancel_right texts others frame_bytes
-    (append_cancel_left frame_bytes (texts ++ frame_bytes) (others ++ frame_bytes) (sym e ∙ f))
-
-no_fault : {read : Result (Format × List PageProof) CertFault} {found : Format × List PageProof} {fault : CertFault} → read ≡ Ok found
-    → read ≡ Err fault → ⊥
-no_fault {found} {fault} e f = let both : Ok found ≡ Err fault = sym e ∙ f in cc
-
--- the certificate is one
-fault_refused : {dpi : Dpi} {input output certificate : List ℕ} {fault : CertFault} → IsCertifiedBy dpi input output certificate
-    → certificate_at dpi certificate ≡ Err fault → job.Certificate fault ≡ job.Proved
-fault_refused {dpi} {input} {output} {certificate} i e =
-    absurd (no_fault (read_again i) e)
+    rw (← proofs, ← one dpi input i.pages compared.pages i.meaning compared.meaning) i.proved
 
 pub certified_proved : OnePages → (dpi : Dpi) (input output certificate : List ℕ) (verdict : JobVerdict)
     → IsCertifiedBy dpi input output certificate → IsJobVerdict dpi input output certificate verdict → verdict ≡ job.Proved
 certified_proved one dpi input output certificate (job.Certificate Memory) i v = absurd v
-certified_proved one dpi input output certificate (job.Certificate fault) i v = fault_refused i v.2
-certified_proved one dpi input output certificate job.PageCount i v =
-    let p = compared_same one i v.0 in absurd (v.1 p.0)
+certified_proved one dpi input output certificate (job.Certificate fault) i v = cc (read_again i, v.2)
+certified_proved one dpi input output certificate job.PageCount i v = absurd (v.1 (compared_same one i v.0).0)
 certified_proved one dpi input output certificate job.Frame i v =
-    let p = compared_same one i v.0 in
-    absurd (v.2 i.texts (record { spelled = i.spelled; as_long = proved_length dpi v.0.pages i.texts v.0.proofs p }))
+    let as_long = proved_length dpi v.0.pages i.texts v.0.proofs (compared_same one i v.0) in
+    absurd (v.2 i.texts (record { spelled = i.spelled; as_long = as_long }))
 certified_proved one dpi input output certificate (job.Page number verdict) i v =
-    let p = compared_same one i v.0 in
-    let same = texts_same i.spelled v.3.spelled in
-    absurd (none_fails
-    (subst (λ (t : List ℕ). AreProved dpi v.0.pages t v.0.proofs) same p) v.4)
+    let same : i.texts ≡ v.2 =
+    append_cancel_right i.texts v.2 frame_bytes
+    (append_cancel_left frame_bytes (i.texts ++ frame_bytes) (v.2 ++ frame_bytes) (sym i.spelled ∙ v.3.spelled)) in
+    absurd (none_fails (rw same at (compared_same one i v.0)) v.4)
 certified_proved one dpi input output certificate job.Proved i v = refl
 
 pub written_certified : {dpi : Dpi} {format : Format} {input output certificate : List ℕ}

@@ -22,21 +22,16 @@ written_texts dpi (sheet ∷ sheets) texts p =
 proved_texts : (dpi : Dpi) (sheets : List Sheet) (texts : List ℕ) (proofs : List PageProof) → AreProved dpi sheets texts proofs
     → PrintEach PrintsShortest dpi sheets texts
 proved_texts dpi [] texts [] p = p.1
-proved_texts dpi [] texts (proof ∷ proofs) p = absurd (omega (arith, p.0))
-proved_texts dpi (sheet ∷ sheets) texts [] p = absurd (omega (arith, p.0))
 proved_texts dpi (sheet ∷ sheets) texts (proof ∷ proofs) p =
     let first = p.1 in
     let is = first.2 in (
       first.0,
       first.1,
-      (
-        is.page,
-        is.shows,
-        (is.verdict_is.0, λ other printed. proved_least is.page first.0 other proof.table proof.places is.verdict_is printed),
-      ),
+      (is.page, is.shows, (is.verdict_is.0, λ other printed. proved_least is.page first.0 other proof.table proof.places is.verdict_is printed)),
       first.3,
       proved_texts dpi sheets first.1 proofs (omega (arith, p.0), first.4),
     )
+proved_texts dpi sheets texts proofs p = absurd (omega (arith, p.0))
 
 pub written_least : {dpi : Dpi} {input output : List ℕ} (w : IsJobOf dpi input output) → IsLeastJobText dpi w.pages output
 written_least {dpi} w = least_job w.texts (written_texts dpi w.pages w.texts w.print) w.spelled

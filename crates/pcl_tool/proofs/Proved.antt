@@ -47,15 +47,12 @@ pub plan_proves : (format : Format) (page : Page) (text : List ℕ) (plan : Step
     → IsPlanOf page plan → IsWrittenPage page text → HasLeastLists page format proof.places → proof.text_len ≡ length text
     → proof.table ≡ plan.table → Proves format page text proof
 plan_proves format page text plan proof planned written has long same =
-    let is : record { text_len = length text; table = plan.table; places = proof.places } ≡ proof =
-    ap (λ (n : ℕ). record { text_len = n; table = plan.table; places = proof.places }) (sym long)
-    ∙ ap (λ (table : List RowNumbers). record { text_len = proof.text_len; table = table; places = proof.places }) (sym same) in
+    let is : record { text_len = length text; table = plan.table; places = proof.places } ≡ proof = rw (← long, ← same) in
     record {
       text_len = sym long;
       can_be_said = subst (IsProof page.dpi format) is
           (table_certified page text plan.table format proof.places (table_of_plan planned) written.0 written.2 has);
-      proved = subst (λ (table : List RowNumbers). IsVerdict page text table proof.places Proved) (sym same)
-          (table_proved page text plan.table proof.places (table_of_plan planned) written.0 written.2
+      proved = rw same (table_proved page text plan.table proof.places (table_of_plan planned) written.0 written.2
           (least_lists page format proof.places has));
     }
 
@@ -78,11 +75,11 @@ abbrev pub AreProvedIn : Dpi → Option Format → List Sheet → (texts old new
 AreProvedIn dpi None sheets texts old new = Unit {0}
 AreProvedIn dpi (Some format) sheets texts old new = ProofsGathered dpi format sheets texts old new
 
-none_proved : (dpi : Dpi) (format : Option Format) {old new : List ℕ} → new ≡ old → AreProvedIn dpi format [] [] old new
-none_proved dpi None same = tt
-none_proved dpi (Some format) same = record {
+none_proved : (dpi : Dpi) (format : Option Format) (certificate : List ℕ) → AreProvedIn dpi format [] [] certificate certificate
+none_proved dpi None certificate = tt
+none_proved dpi (Some format) certificate = record {
   proofs = [];
-  behind = λ before few is. same ∙ is ∙ ap (certificate_bytes format) (sym (append-nil before));
+  behind = λ before few is. rw append-nil is;
   can_be_said = tt;
   proved = (refl, refl);
 }
@@ -94,10 +91,10 @@ one_more_proved None sheets text texts old mid new shows one rest = tt
 one_more_proved (Some format) {page} sheets text texts old mid new shows one rest = record {
   proofs = one.proof ∷ rest.proofs;
   behind = λ before few is.
-      rest.behind (before ++ one.proof ∷ []) (omega (arith, length-append before (one.proof ∷ [])))
-      (one.certificate before (omega arith) is)
-      ∙ ap (certificate_bytes format) (append_assoc before (one.proof ∷ []) rest.proofs);
-  can_be_said = (subst (λ (d : Dpi). IsProof d format one.proof) shows.resolution one.proves.can_be_said, rest.can_be_said);
+      rw (← append_assoc before (one.proof ∷ []) rest.proofs)
+      (rest.behind (before ++ one.proof ∷ []) (omega (arith, length-append before (one.proof ∷ [])))
+      (one.certificate before (omega arith) is));
+  can_be_said = (rw shows.resolution at one.proves.can_be_said, rest.can_be_said);
   proved = (
     omega (arith, rest.proved.0),
     (
@@ -118,18 +115,18 @@ pub record Gathered (dpi : Dpi) (sheets : List Sheet) (old new : SoFar) : Type 0
   pub proved : AreProvedIn dpi old.format sheets texts old.certificate new.certificate
 
 gathered : {dpi : Dpi} (sheets : List Sheet) {old new : SoFar} → Hands TakesText dpi sheets old new → Gathered dpi sheets old new
-gathered {dpi} [] {old} h = record {
+gathered {dpi} [] {old} h = rw h (record {
   texts = [];
-  bytes = ap (λ (s : SoFar). s.bytes) h ∙ sym (append-nil old.bytes);
+  bytes = rw append-nil;
   print = refl;
-  proved = none_proved dpi old.format (ap (λ (s : SoFar). s.certificate) h);
-}
+  proved = none_proved dpi old.format old.certificate;
+})
 gathered {dpi} (sheet ∷ sheets) {old} {new} h =
     let rest = gathered sheets h.4 in
     let t = h.3 in
     record {
       texts = t.text ++ rest.texts;
-      bytes = rest.bytes ∙ ap (λ (b : List ℕ). b ++ rest.texts) t.bytes ∙ append_assoc old.bytes t.text rest.texts;
+      bytes = cc (rest.bytes, t.bytes, append_assoc old.bytes t.text rest.texts);
       print = (t.text, rest.texts, (h.0, h.2, t.written), refl, rest.print);
       proved = one_more_proved old.format sheets t.text rest.texts old.certificate h.1.certificate new.certificate h.2 t.proved
           (subst (λ (f : Option Format). AreProvedIn dpi f sheets rest.texts h.1.certificate new.certificate) t.format rest.proved);

@@ -1,6 +1,8 @@
 -- What a sink holds that made images of the pages of a job.
 use Rattle.std.proofs.Common.{◌≡◌, ℕ, suc, zero, ◌-◌, ◌+◌, ◌≤◌, List, [], ◌∷◌, ◌++◌, length, take, drop, Bool, true, false, Option, Result, Ok, Err, refl, sym, ap, subst, ◌∙◌, arith, append_assoc, append-nil, eqb}
+use Rattle.std.specs.Prelude.{◌↔◌}
 use Rattle.std.proofs.Math.Numerals.{sub-one}
+use Rattle.std.proofs.Math.Seq.{take-nil, drop-nil}
 use Rattle.std.proofs.lemmas.Bool.Decides.{nat_tests}
 use Rattle.std.specs.Io.KnownBytes.{Keeps, Appends}
 use Rattle.std.proofs.KnownBytes.{Keeps-refl}
@@ -31,64 +33,48 @@ next_and_later (Range (suc before) count) page pages =
     let some : eqb (suc before) 0 ≡ false = grind (arith, nat_tests) in rw (some, sub-one) refl
 
 -- what is missing of the later pages is missing of all
-there_later : (choice : PageChoice) (number : ℕ) → AreThere choice (suc number) → AreThere (later choice) number
-there_later All number there = tt
-there_later (Range zero count) number there = omega (arith, there)
-there_later (Range (suc before) count) number there =
-    let some : eqb (suc before) 0 ≡ false = grind (arith, nat_tests) in rw (some, sub-one) (omega (arith, there))
-
-later_there : (choice : PageChoice) (number : ℕ) → AreThere (later choice) number → AreThere choice (suc number)
-later_there All number there = tt
-later_there (Range zero count) number there = omega (arith, there)
-later_there (Range (suc before) count) number there =
+there_later : (choice : PageChoice) (number : ℕ) → AreThere choice (suc number) ↔ AreThere (later choice) number
+there_later All number = (λ there. tt, λ there. tt)
+there_later (Range zero count) number = (λ there. omega (arith, there), λ there. omega (arith, there))
+there_later (Range (suc before) count) number =
     let some : eqb (suc before) 0 ≡ false = grind (arith, nat_tests) in
-    let is : later (Range (suc before) count) ≡ Range before count = rw (some, sub-one) refl in
-    let rest : AreThere (Range before count) number = subst (λ (choice : PageChoice). AreThere choice number) is there in
-    omega (arith, rest)
+    rw (some, sub-one) (λ there. omega (arith, there), λ there. omega (arith, there))
 
 -- what a sink made of the pages that it took
 pub record HasShown (dpi : Dpi) (sheets : List Sheet) (old new : Showing) : Type 0 where
   pub pages : List Page
   pub show : AllShow dpi pages sheets
   pub images : new.images ≡ old.images ++ images_of (chosen old.choice pages)
-  pub met : AreThere old.choice (length sheets) → IsMet new.choice
-  pub there : IsMet new.choice → AreThere old.choice (length sheets)
+  pub met : AreThere old.choice (length sheets) ↔ IsMet new.choice
 
 none_chosen : (choice : PageChoice) → images_of (chosen choice []) ≡ []
 none_chosen All = refl
-none_chosen (Range zero zero) = refl
-none_chosen (Range zero (suc count)) = refl
-none_chosen (Range (suc before) zero) = refl
-none_chosen (Range (suc before) (suc count)) = refl
+none_chosen (Range before count) = rw (drop-nil, take-nil)
 
-met_of_none : (choice : PageChoice) → AreThere choice 0 → IsMet choice
-met_of_none All there = tt
-met_of_none (Range before count) there = (omega (arith, there), omega (arith, there))
-
-there_of_none : (choice : PageChoice) → IsMet choice → AreThere choice 0
-there_of_none All met = tt
-there_of_none (Range before count) met =
-    let none = met.0 in
-    let no_more = met.1 in omega (arith, none, no_more)
+met_of_none : (choice : PageChoice) → AreThere choice 0 ↔ IsMet choice
+met_of_none All = (λ there. tt, λ met. tt)
+met_of_none (Range before count) = (λ there. (omega (arith, there), omega (arith, there)), λ met. omega (arith, met.0, met.1))
 
 pub has_shown : (dpi : Dpi) (sheets : List Sheet) (old new : Showing) → Hands shows_next dpi sheets old new → HasShown dpi sheets old new
 has_shown dpi [] old new h = rw h (record {
   pages = [];
   show = tt;
-  images = rw (none_chosen old.choice) (sym (append-nil old.images));
+  images = rw (none_chosen old.choice, append-nil);
   met = met_of_none old.choice;
-  there = there_of_none old.choice;
 })
 has_shown dpi (sheet ∷ sheets) old new h =
     let rest = has_shown dpi sheets (shown_after old h.0) new
     (subst (λ (mid : Showing). Hands shows_next dpi sheets mid new) h.3 h.4) in
+    let there = there_later old.choice (length sheets) in
     record {
       pages = h.0 ∷ rest.pages;
       show = (h.2, rest.show);
-      images = rest.images ∙ append_assoc old.images (next_image old.choice h.0) (images_of (chosen (later old.choice) rest.pages))
-          ∙ ap (λ (more : List ℕ). old.images ++ more) (sym (next_and_later old.choice h.0 rest.pages));
-      met = λ there. rest.met (there_later old.choice (length sheets) there);
-      there = λ met. later_there old.choice (length sheets) (rest.there met);
+      images = cc (
+        rest.images,
+        append_assoc old.images (next_image old.choice h.0) (images_of (chosen (later old.choice) rest.pages)),
+        next_and_later old.choice h.0 rest.pages,
+      );
+      met = (λ all. rest.met.0 (there.0 all), λ met. there.1 (rest.met.1 met));
     }
 
 -- ---- previews
@@ -101,7 +87,7 @@ all_made {dpi} {sheets} old new meaning h choice_is none images_are met =
     record {
       sheets = sheets;
       meaning = meaning;
-      there = subst (λ (choice : PageChoice). AreThere choice (length sheets)) choice_is (shown.there met);
+      there = rw (← choice_is) (shown.met.1 met);
       pages = shown.pages;
       show = shown.show;
       images = sym images_are ∙ shown.images ∙ ap (λ (before : List ℕ). before ++ images_of (chosen old.choice shown.pages)) none
@@ -112,38 +98,25 @@ pub one_lacks : {dpi : Dpi} {job : List ℕ} {sheets : List Sheet} (old new : Sh
     → HasPages dpi job sheets → Hands shows_next dpi sheets old new → old.choice ≡ choice → (IsMet new.choice → ⊥)
     → LacksPage dpi job choice
 one_lacks {dpi} {sheets} old new meaning h choice_is unmet =
-    let shown = has_shown dpi sheets old new h in (
-      sheets,
-      meaning,
-      λ there.
-          unmet (shown.met (subst (λ (choice : PageChoice). AreThere choice (length sheets)) (sym choice_is) there)),
-    )
+    (sheets, meaning, λ there. unmet ((has_shown dpi sheets old new h).met.0 (rw choice_is there)))
 
 -- what an answer says of what is still asked for
 pub met_by : {choice other : PageChoice} (met : Bool) → choice ≡ other → met ≡ true → IsMetBy choice met → IsMet other
-met_by {choice} met same is by =
-    subst IsMet same (subst (λ (b : Bool). IsMetBy choice b) is by)
+met_by met same is by = rw (← same) (rw is at by)
 
 pub unmet_by : {choice other : PageChoice} (met : Bool) → choice ≡ other → met ≡ false → IsMetBy choice met → IsMet other → ⊥
-unmet_by {choice} met same is by =
-    subst (λ (c : PageChoice). IsMet c → ⊥) same (subst (λ (b : Bool). IsMetBy choice b) is by)
+unmet_by met same is by = rw (← same) (rw is at by)
 
 pub none_shown : (dpi : Dpi) (job : List ℕ) (choice : PageChoice) (held : Option (List ℕ)) (fault : Fault)
     → ArePageImages dpi job choice (Err fault) → IsPagesPreview dpi job choice held held (Err fault)
 none_shown dpi job choice held (Refused refusal) n = (n, Keeps-refl held)
 none_shown dpi job choice held NoSuchPage n = (n, Keeps-refl held)
 none_shown dpi job choice held Memory n = Keeps-refl held
-none_shown dpi job choice held WriteFault n = absurd n
-none_shown dpi job choice held ReadFault n = n
-none_shown dpi job choice held TooLong n = n
+none_shown dpi job choice held fault n = absurd n
 
 pub all_shown : {dpi : Dpi} {job : List ℕ} {choice : PageChoice} (old new : Option (List ℕ)) (images : List ℕ)
     (result : Result (Unit {0}) Fault) → AreImagesOf dpi job choice images → IsWritten old new images result
     → IsPagesPreview dpi job choice old new result
 all_shown old new images (Ok done) made written = (images, made, written)
 all_shown old new images (Err WriteFault) made written = (images, made, written)
-all_shown old new images (Err Memory) made written = absurd written
-all_shown old new images (Err (Refused refusal)) made written = absurd written
-all_shown old new images (Err ReadFault) made written = written
-all_shown old new images (Err TooLong) made written = written
-all_shown old new images (Err NoSuchPage) made written = absurd written
+all_shown old new images result made written = absurd written

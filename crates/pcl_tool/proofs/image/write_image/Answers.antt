@@ -8,8 +8,7 @@ use Rattle.pcl_tool.proofs.image.write_image.Goals as goal
 
 header_is : {text items : List ℕ} {size same_size : Size} {dpi same_dpi : Dpi} → text ≡ items → items ≡ header_of size dpi
     → size ≡ same_size → dpi ≡ same_dpi → text ≡ header_of same_size same_dpi
-header_is {same_size} {dpi} t i s d =
-    t ∙ i ∙ ap (λ (z : Size). header_of z dpi) s ∙ ap (λ (x : Dpi). header_of same_size x) d
+header_is t i s d = cc
 
 pub returns-in_err-write_bytes : goal.returns-in_err-write_bytes
 returns-in_err-write_bytes g c =

@@ -19,15 +19,12 @@ returns-in_err-output g c =
     (not_performed c.args.dpi _ c.in_err-output.field-0.0
     (record { given = r.0; ended = r.1 })
     r.2
-    (subst (λ (job : List ℕ). IsJobWritten c.args.dpi job (Err c.in_err-output.field-0.0)) c.deref.ensures.value
-    (subst (IsJobWritten c.args.dpi c.deref.result.now) c.in_err-output.was c.least_job.ensures)))
+    (rw (c.deref.ensures.value, c.in_err-output.was) at c.least_job.ensures))
 
 pub returns : goal.returns
 returns g c =
     let r = c.in_ok-job.ensures in
     filtered _ _ _
     (record { given = r.0; ended = r.1 })
-    (subst (λ (job : List ℕ). IsJobOf c.args.dpi job c.in_ok-output.output.items) c.deref.ensures.value
-    (subst (IsJobWritten c.args.dpi c.deref.result.now) c.in_ok-output.was c.least_job.ensures))
-    (subst (λ (bytes : List ℕ). IsWritten (g.W.Write.contents c.args.out.now) (g.W.Write.contents c.write_all.new.out) bytes
-    c.write_all.result) c.deref-2.ensures.value c.write_all.ensures)
+    (rw (c.deref.ensures.value, c.in_ok-output.was) at c.least_job.ensures)
+    (rw c.deref-2.ensures.value at c.write_all.ensures)

@@ -10,6 +10,4 @@ returns-in_err-images g c =
     rw (p.1, p.2) (none_shown c.args.dpi c.args.job.now c.args.choice _ c.in_err-images.field-0.0 c.in_err-images.ensures)
 
 pub returns : goal.returns
-returns g c =
-    all_shown _ _ _ _ (subst (λ (bytes : List ℕ). AreImagesOf c.args.dpi c.args.job.now c.args.choice bytes) (sym c.deref.ensures.value)
-    c.in_ok-images.ensures) c.write_all.ensures
+returns g c = all_shown _ _ _ _ (rw (← c.deref.ensures.value) at c.in_ok-images.ensures) c.write_all.ensures

@@ -1,10 +1,10 @@
 use Rattle.std.proofs.Common.{refl}
 use Rattle.pcl_page.proofs.Jobs.{has_pages}
-use Rattle.pcl_tool.proofs.Choices.{skips_to, dots_kept}
+use Rattle.pcl_tool.proofs.Choices.{dots_kept}
 use Rattle.pcl_tool.proofs.page_preview.page_dots.Goals as goal
 
 pub returns : goal.returns
 returns c =
     let h = c.in_ok-perform.ensures in
-    dots_kept c.args.dpi c.args.job.now c.args.page c.checked_sub.result _ (has_pages h)
-    (skips_to c.args.page c.checked_sub.result c.checked_sub.ensures) refl refl h.handed.1 c.ok_or.ensures.value
+    dots_kept c.args.dpi c.args.job.now c.args.page c.checked_sub.result _ (has_pages h) c.checked_sub.ensures refl refl
+    h.handed.1 c.ok_or.ensures.value
