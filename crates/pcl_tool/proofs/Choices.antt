@@ -1,5 +1,5 @@
 -- Which page the sink keeps.
-use Rattle.std.proofs.Common.{◌≡◌, ℕ, suc, zero, ◌-◌, ◌+◌, ◌≤◌, List, [], ◌∷◌, length, Option, Some, None, Result, Ok, Err, inl, inr, refl, sym, ap, subst, ◌∙◌, arith, eqb, false}
+use Rattle.std.proofs.Common.{◌≡◌, ℕ, suc, zero, ◌-◌, ◌≤◌, List, [], ◌∷◌, length, Option, Some, None, Result, Ok, Err, inl, inr, refl, ap, ◌∙◌, arith, eqb, false}
 use Rattle.std.proofs.Math.Numerals.{sub-one}
 use Rattle.std.proofs.lemmas.Bool.Decides.{nat_tests}
 use Rattle.std.specs.Prelude.{slice_get}
@@ -14,9 +14,9 @@ use Rattle.pcl_page.specs.Delivering.{Hands}
 use Rattle.pcl_tool.specs.declared.page_preview.Chosen.{Chosen}
 use Rattle.pcl_page.specs.Jobs.{HasPages}
 use Rattle.pcl_tool.specs.declared.fault.Fault.{Fault}
-use Rattle.pcl_tool.specs.declared.fault.Fault.TheVariants.{Refused, Memory, ReadFault, TooLong, WriteFault, NoSuchPage}
+use Rattle.pcl_tool.specs.declared.fault.Fault.TheVariants.{Refused, Memory, WriteFault, NoSuchPage}
 use Rattle.pcl_tool.specs.Image.{image_of, IsImageWritten}
-use Rattle.pcl_tool.specs.Preview.{HasPage, HasNoPage, IsPageDots, IsPreview}
+use Rattle.pcl_tool.specs.Preview.{HasPage, IsPageDots, IsPreview}
 use Rattle.pcl_tool.specs.inner.Choice.{chosen_after}
 
 abbrev pub takes : Chosen → Page → Chosen → Type 0

@@ -1,5 +1,5 @@
 -- What stands between two resets.
-use Rattle.std.proofs.Common.{◌≡◌, ℕ, List, ◌++◌, Option, Some, None, sym, ap, ◌∙◌}
+use Rattle.std.proofs.Common.{◌≡◌, ℕ, List, ◌++◌, Option, Some, None, sym, ◌∙◌}
 use Rattle.std.specs.Prelude.{◌≢◌, MatchOption}
 use Rattle.std.specs.Borrow.{Bor}
 use Rattle.std.proofs.lemmas.List.{append_cancel_left}
@@ -11,4 +11,4 @@ pub framed_is : {output rest : List ℕ} (texts : Option (Bor (List ℕ))) → o
     → MatchOption texts ((others : List ℕ) → output ≡ frame_bytes ++ others ++ frame_bytes → ⊥)
     (λ t. output ≡ frame_bytes ++ t.now ++ frame_bytes)
 framed_is {rest} None e m = λ others f. m others (append_cancel_left frame_bytes rest (others ++ frame_bytes) (sym e ∙ f))
-framed_is (Some texts) e m = e ∙ ap (λ (r : List ℕ). frame_bytes ++ r) m
+framed_is (Some texts) e m = rw (e, m)

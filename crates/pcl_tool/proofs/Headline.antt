@@ -1,9 +1,7 @@
 -- The claim holds of what is written with a certificate.
-use Rattle.std.proofs.Common.{◌≡◌, ℕ, List, subst}
+use Rattle.std.proofs.Common.{ℕ, List}
 use Rattle.pcl_base.specs.declared.dpi.Dpi.{Dpi}
-use Rattle.pcl_page.specs.Situation.{Sheet}
 use Rattle.pcl_cert.specs.declared.format.Format.{Format}
-use Rattle.pcl_meaning.specs.JobTexts.{IsLeastJobText}
 use Rattle.pcl_tool.specs.declared.job_verdict.JobVerdict.TheVariants.{Proved}
 use Rattle.pcl_tool.specs.JobVerdicts.{IsJobVerdict}
 use Rattle.pcl_tool.specs.LeastJobs.{IsCertifiedBy}
@@ -38,6 +36,5 @@ claimed one dpi format {input} {output} {certificate} w =
       no_other = λ verdict v. certified_proved one dpi input output certificate verdict certified v;
       checked = λ other evidence v.
           let is = proved_least_job dpi input other evidence v in
-          let same : is.pages ≡ w.written.pages = one dpi input is.pages w.written.pages is.meaning w.written.meaning in
-          subst (λ (pages : List Sheet). IsLeastJobText dpi pages other) same is.is_least;
+          rw (← one dpi input is.pages w.written.pages is.meaning w.written.meaning) is.is_least;
     }

@@ -1,5 +1,5 @@
 -- What the checker of a job answers after the last page.
-use Rattle.std.proofs.Common.{◌≡◌, ℕ, zero, suc, ◌⊎◌, inl, inr, List, [], length, drop, refl, sym, ap, subst, ◌∙◌, arith, Ok}
+use Rattle.std.proofs.Common.{◌≡◌, ℕ, zero, suc, ◌⊎◌, inl, inr, List, length, refl, ap, arith, Ok}
 use Rattle.pcl_base.specs.declared.dpi.Dpi.{Dpi}
 use Rattle.pcl_page.specs.Situation.{Sheet}
 use Rattle.pcl_page.specs.Delivering.{Hands}
@@ -12,7 +12,7 @@ use Rattle.pcl_cert.specs.ReadingCertificates.{Fails, certificate_at}
 use Rattle.pcl_tool.specs.declared.job_verdict.JobVerdict.{JobVerdict}
 use Rattle.pcl_tool.specs.declared.job_verdict.JobVerdict.TheVariants as job
 use Rattle.pcl_tool.specs.declared.page_checks.Checker.{Checker}
-use Rattle.pcl_tool.specs.JobVerdicts.{AreCompared, IsFramed, IsFirstFailure, IsJobVerdict}
+use Rattle.pcl_tool.specs.JobVerdicts.{AreCompared, IsFramed, IsJobVerdict}
 use Rattle.pcl_tool.specs.inner.CheckerSteps.{BeginsWith, IsBegun, TakesPage, proofs_left, answer}
 use Rattle.pcl_tool.proofs.Checkers.{stays, none_left, miscounted, IsOutcome, outcome}
 

@@ -14,14 +14,12 @@ use Rattle.pcl_output.specs.Tokens.{frame_bytes}
 use Rattle.pcl_plan.specs.PagePlans.{IsPlanOf}
 use Rattle.pcl_plan.specs.Plans.{StepsAndTable}
 use Rattle.pcl_plan.proofs.Planned.{table_of_plan}
-use Rattle.pcl_output.specs.declared.table.RowNumbers.{RowNumbers}
 use Rattle.pcl_writer.specs.Appending.{IsWrittenPage}
 use Rattle.pcl_cert.specs.declared.format.Format.{Format}
 use Rattle.pcl_cert.specs.declared.format.Format.TheVariants.{One, Two}
 use Rattle.pcl_cert.specs.declared.page_proof.PageProof.{PageProof}
 use Rattle.pcl_cert.specs.Certificates.{IsProof, certificate_bytes, proof_in}
-use Rattle.pcl_cert.specs.Checking.{HasLeastLists, AreLeastOf, IsVerdict}
-use Rattle.pcl_cert.specs.declared.check.Verdict.TheVariants.{Proved}
+use Rattle.pcl_cert.specs.Checking.{HasLeastLists, AreLeastOf}
 use Rattle.pcl_cert.proofs.TablesProved.{table_proved, table_certified}
 use Rattle.pcl_meaning.specs.JobTexts.{PrintEach}
 use Rattle.pcl_meaning.proofs.Jobs.{job_fits}

@@ -5,60 +5,48 @@ use Rattle.pcl_base.specs.Size.{page_height, page_row_bytes}
 use Rattle.pcl_bitmap.specs.declared.page.Page.{Page}
 use Rattle.pcl_output.specs.LeastTexts.{fixed_bytes}
 use Rattle.pcl_output.specs.Nodes.{row_at, row_above, start}
-use Rattle.pcl_output.specs.PageText.{PrintsPage, bitmap_rows}
+use Rattle.pcl_output.specs.PageText.{IsPageText, bitmap_rows}
 use Rattle.pcl_output.specs.Table.{node_number}
 use Rattle.pcl_output.specs.declared.table.RowNumbers.{RowNumbers}
 use Rattle.pcl_check.specs.Edges.{IsGoodNumber, IsLeastOfRow}
 use Rattle.pcl_check.specs.Places.{IsGoodPlace}
-use Rattle.pcl_check.specs.TextVerdicts.{IsSomePageText}
 use Rattle.pcl_cert.specs.declared.check.Verdict.{Verdict}
 use Rattle.pcl_cert.specs.declared.check.Verdict.TheVariants.{NotGrammar, OtherPage, Rows, Place, Edge, Length, Proved}
 use Rattle.pcl_cert.specs.RowTables.{list_of, number_at_place}
 use Rattle.pcl_cert.specs.PageTables.{table_of}
-use Rattle.pcl_cert.specs.Checking.{Tables, AreOfPage, AreGoodIn, AreEdgesGood, IsVerdict}
-use Rattle.pcl_meaning.proofs.SamePages.{AreSame, moved, prints_same}
+use Rattle.pcl_cert.specs.Checking.{Tables, IsVerdict}
+use Rattle.pcl_meaning.proofs.SamePages.{AreSame, moved}
 
-some_text : (page : Page) {text : List ℕ} → PrintsPage page text → IsSomePageText page.dpi text
-some_text page printed = (page.size, page.copies, bitmap_rows page.bitmap, printed)
-
-of_page : {page other : Page} (table : List RowNumbers) (tables : Tables) → AreSame page other → AreOfPage page table tables
-    → AreOfPage other table tables
-of_page table None same are = moved (λ size dpi copies bitmap. length table ≡ page_height size dpi + 1) same are
-of_page table (Some lists) same are =
-    moved (λ size dpi copies bitmap. (length table ≡ page_height size dpi + 1) × (length lists ≡ 4 * page_height size dpi)) same are
-
-places_good : {page other : Page} (lists : List (List ℕ)) → AreSame page other → AreGoodIn page lists → AreGoodIn other lists
-places_good lists same good =
-    moved (λ size dpi copies bitmap. (row : ℕ) (method : Method) (place : ℕ) → row < page_height size dpi → place ≤ page_row_bytes size dpi
-    → IsGoodPlace method (row_above (page_row_bytes size dpi) (bitmap_rows bitmap) row) (row_at (bitmap_rows bitmap) row)
-    (table_of (page_row_bytes size dpi + 1) (list_of lists row method)) place) same good
-
-edges_good : {page other : Page} (table : List RowNumbers) (tables : Tables) → AreSame page other → AreEdgesGood page table tables
-    → AreEdgesGood other table tables
-edges_good table None same good =
-    moved (λ size dpi copies bitmap. (row : ℕ) (method : Method) (inside : Bool) → row ≤ page_height size dpi
+-- a text that is answered Proved for one is for the other
+proved_again : {page other : Page} {text : List ℕ} (table : List RowNumbers) (tables : Tables) → AreSame page other
+    → IsVerdict page text table tables Proved → IsVerdict other text table tables Proved
+proved_again {text} table None same p =
+    moved (λ size dpi copies bitmap. IsPageText dpi size copies (bitmap_rows bitmap) text × (length table ≡ page_height size dpi + 1)
+    × Unit {0} × ((row : ℕ) (method : Method) (inside : Bool) → row ≤ page_height size dpi
     → IsGoodNumber (bitmap_rows bitmap) (λ r m bytes. IsLeastOfRow (page_row_bytes size dpi) (bitmap_rows bitmap) r m bytes)
-    (node_number table) row method inside) same good
-edges_good table (Some lists) same good =
-    moved (λ size dpi copies bitmap. (row : ℕ) (method : Method) (inside : Bool) → row ≤ page_height size dpi
+    (node_number table) row method inside)
+    × (length text ≡ fixed_bytes dpi size copies + node_number table start)) same p
+proved_again {text} table (Some lists) same p =
+    moved (λ size dpi copies bitmap. IsPageText dpi size copies (bitmap_rows bitmap) text
+    × ((length table ≡ page_height size dpi + 1) × (length lists ≡ 4 * page_height size dpi))
+    × ((row : ℕ) (method : Method) (place : ℕ) → row < page_height size dpi → place ≤ page_row_bytes size dpi
+    → IsGoodPlace method (row_above (page_row_bytes size dpi) (bitmap_rows bitmap) row) (row_at (bitmap_rows bitmap) row)
+    (table_of (page_row_bytes size dpi + 1) (list_of lists row method)) place)
+    × ((row : ℕ) (method : Method) (inside : Bool) → row ≤ page_height size dpi
     → IsGoodNumber (bitmap_rows bitmap) (λ r m bytes. bytes ≡ number_at_place lists r m 0) (node_number table) row method inside)
-    same good
+    × (length text ≡ fixed_bytes dpi size copies + node_number table start)) same p
 
-of_length : {page other : Page} (text : List ℕ) (table : List RowNumbers) → AreSame page other
-    → length text ≡ fixed_bytes page.dpi page.size page.copies + node_number table start
-    → length text ≡ fixed_bytes other.dpi other.size other.copies + node_number table start
-of_length text table same e =
-    moved (λ size dpi copies bitmap. length text ≡ fixed_bytes dpi size copies + node_number table start) same e
-
+-- and nothing else is answered
 pub verdict_again : {page other : Page} {text : List ℕ} (table : List RowNumbers) (tables : Tables) (verdict : Verdict) → AreSame page other
     → IsVerdict page text table tables Proved → IsVerdict other text table tables verdict → verdict ≡ Proved
-verdict_again {other} {text} table tables NotGrammar same p v = absurd (v (some_text other (prints_same same p.0)))
-verdict_again {text} table tables OtherPage same p v = absurd (v.1 (prints_same same p.0))
-verdict_again table tables Rows same p v = absurd (v.1 (of_page table tables same p.1))
+verdict_again {other} table tables NotGrammar same p v =
+    absurd (v (other.size, other.copies, bitmap_rows other.bitmap, (proved_again table tables same p).0))
+verdict_again table tables OtherPage same p v = absurd (v.1 (proved_again table tables same p).0)
+verdict_again table tables Rows same p v = absurd (v.1 (proved_again table tables same p).1)
 verdict_again table None (Place row method place) same p v = absurd v.2
 verdict_again table (Some lists) (Place row method place) same p v =
-    let bad = v.2 in absurd (bad.is_bad (places_good lists same p.2 row method place bad.row_within bad.place_within))
+    absurd (v.2.is_bad ((proved_again table (Some lists) same p).2 row method place v.2.row_within v.2.place_within))
 verdict_again table tables (Edge row method inside) same p v =
-    let bad = v.3 in absurd (bad.is_bad (edges_good table tables same p.3 row method inside bad.within))
-verdict_again {text} table tables Length same p v = absurd (v.4 (of_length text table same p.4))
+    absurd (v.3.is_bad ((proved_again table tables same p).3 row method inside v.3.within))
+verdict_again table tables Length same p v = absurd (v.4 (proved_again table tables same p).4)
 verdict_again table tables Proved same p v = refl

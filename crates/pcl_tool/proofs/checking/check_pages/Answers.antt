@@ -1,5 +1,3 @@
-use Rattle.std.proofs.Common.{subst, sym}
-use Rattle.pcl_tool.specs.JobVerdicts.{IsJobVerdict}
 use Rattle.pcl_tool.proofs.JobsChecked.{job_answered}
 use Rattle.pcl_tool.proofs.checking.check_pages.Goals as goal
 

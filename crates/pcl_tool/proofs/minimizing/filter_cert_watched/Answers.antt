@@ -1,7 +1,5 @@
 use Rattle.std.proofs.Common.{List, ℕ, Err, subst}
 use Rattle.std.proofs.lemmas.Result.{err_from_is_err_and}
-use Rattle.pcl_tool.specs.Minimizing.{IsCertifiedJobOf}
-use Rattle.std.specs.Io.KnownBytes.{Appends}
 use Rattle.pcl_tool.specs.Transfer.{IsWritten}
 use Rattle.pcl_tool.proofs.Filtered.{stopped_in_job, filtered_cert}
 use Rattle.pcl_tool.proofs.minimizing.filter_cert_watched.Goals as goal

@@ -1,8 +1,4 @@
-use Rattle.std.proofs.Common.{List, ℕ, Err, subst}
 use Rattle.std.proofs.lemmas.Result.{err_from_is_err_and}
-use Rattle.pcl_meaning.specs.JobTexts.{IsJobOf}
-use Rattle.pcl_tool.specs.Transfer.{IsWritten}
-use Rattle.pcl_tool.specs.Writing.{IsJobWritten}
 use Rattle.pcl_tool.proofs.Filtered.{filtered, not_read, not_performed}
 use Rattle.pcl_tool.proofs.minimizing.filter_watched.Goals as goal
 

@@ -1,4 +1,4 @@
-use Rattle.std.proofs.Common.{◌∙◌, List, ℕ, ◌++◌, refl, ap}
+use Rattle.std.proofs.Common.{◌∙◌, ◌++◌, refl, ap}
 use Rattle.std.proofs.lemmas.Result.{err_from_is_err_and}
 use Rattle.pcl_output.specs.Tokens.{frame_bytes}
 use Rattle.pcl_tool.specs.inner.WrittenJobs.{SoFar, TakesText}
@@ -8,11 +8,10 @@ use Rattle.pcl_tool.proofs.minimizing.write_again.Goals as goal
 pub returns : goal.returns
 returns g c =
     let h = c.in_ok-written.ensures in
-    let f = c.in_ok-write_frame.ensures in
-    let n = c.in_ok-write_frame-2.ensures in
     written_output c.args.format _ _ _ h.1 refl
-    (f ∙ ap (λ (b : List ℕ). b ++ frame_bytes) c.new-bytes.ensures.items) c.in_ok-certificate.ensures h.2
-    (n ∙ ap (λ (s : SoFar). s.bytes ++ frame_bytes) c.written.view_is) (ap (λ (s : SoFar). s.certificate) c.written.view_is)
+    (rw (c.in_ok-write_frame.ensures, c.new-bytes.ensures.items)) c.in_ok-certificate.ensures h.2
+    (c.in_ok-write_frame-2.ensures ∙ ap (λ (s : SoFar). s.bytes ++ frame_bytes) c.written.view_is)
+    (ap (λ (s : SoFar). s.certificate) c.written.view_is)
 
 pub returns-in_err-write_frame : goal.returns-in_err-write_frame
 returns-in_err-write_frame g c =

@@ -1,6 +1,5 @@
 use Rattle.std.proofs.Common.{◌≡◌, List, ℕ, length, refl, ap, arith, length-append}
 use Rattle.std.proofs.lemmas.Bool.{false≢true}
-use Rattle.pcl_output.specs.Tokens.{frame_bytes}
 use Rattle.pcl_tool.specs.JobVerdicts.{text_bytes, IsFramed}
 use Rattle.pcl_tool.proofs.page_checks.texts_of.Goals as goal
 
@@ -9,14 +8,11 @@ returns-then-have_length c = record { spelled = c.in_ok-texts.ensures; as_long =
 
 pub returns-else-have_length : goal.returns-else-have_length
 returns-else-have_length c = λ (others : List ℕ) (framed : IsFramed c.args.output.now others c.args.proofs.now).
-    let texts = c.in_ok-texts.texts.now in
-    let as_long : length texts ≡ text_bytes c.args.proofs.now =
+    let as_long : length c.in_ok-texts.texts.now ≡ text_bytes c.args.proofs.now =
     omega (
       arith,
-      ap length c.in_ok-texts.ensures,
-      ap length framed.spelled,
-      length-append texts frame_bytes,
-      length-append others frame_bytes,
+      simp length-append at (ap length c.in_ok-texts.ensures),
+      simp length-append at (ap length framed.spelled),
       framed.as_long,
     ) in
     absurd (false≢true (c.if-have_length.ensures.1 as_long))

@@ -1,8 +1,4 @@
-use Rattle.std.proofs.Common.{subst, refl}
-use Rattle.std.specs.Prelude.{option_copied}
-use Rattle.pcl_cert.specs.declared.check.Verdict.{Verdict}
-use Rattle.pcl_cert.specs.declared.check.Verdict.TheVariants.{Proved}
-use Rattle.pcl_cert.specs.Checking.{Tables, IsVerdict}
+use Rattle.std.proofs.Common.{refl}
 use Rattle.pcl_tool.proofs.page_checks.verdict_on.Goals as goal
 
 pub returns-in-Proved : goal.returns-in-Proved

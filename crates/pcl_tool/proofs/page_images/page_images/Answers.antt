@@ -1,5 +1,5 @@
 use Rattle.std.proofs.Common.{refl, sym, ap}
-use Rattle.pcl_page.proofs.Jobs.{accepted_pages, has_pages}
+use Rattle.pcl_page.proofs.Jobs.{has_pages}
 use Rattle.pcl_tool.specs.inner.Showing.{Showing}
 use Rattle.pcl_tool.proofs.Showings.{all_made, met_by, one_lacks, unmet_by}
 use Rattle.pcl_tool.proofs.page_images.page_images.Goals as goal

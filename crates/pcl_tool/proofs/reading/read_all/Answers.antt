@@ -1,22 +1,14 @@
-use Rattle.std.proofs.Common.{◌≡◌, ◌<◌, ◌≤◌, ◌+◌, ◌++◌, ℕ, take, length-append, arith}
+use Rattle.std.proofs.Common.{◌++◌, ℕ, take, length-append, arith}
 use Rattle.std.proofs.KnownBytes.{Consumes-kept, Consumes-trans}
 use Rattle.std.proofs.lemmas.Result.{err_from_is_err_and}
 use Rattle.std.proofs.lemmas.List.{length-take}
 use Rattle.pcl_tool.proofs.reading.read_all.Goals as goal
 
--- the length that was told is within the limit
-not_past : {limit told len count : ℕ} → told ≡ len → len ≡ count → told ≤ limit → count ≤ limit
-not_past t l h = omega arith
-
--- the length that was told is more than the limit, and at most one more
-one_past : {limit told len count : ℕ} → told ≡ len → len ≡ count → limit < told → len ≤ limit + 1 → count ≡ limit + 1
-one_past t l h most = omega arith
-
 pub returns-in_default : goal.returns-in_default
 returns-in_default g c = (
   c.loop-chunk.bytes.items,
   Consumes-kept _ _ _ _ c.loop-chunk.invariant.given c.in_default.ensures.bytes,
-  not_past c.len.ensures c.loop-chunk.bytes.ok.0 c.loop-chunk-test.true,
+  omega (arith, c.len.ensures, c.loop-chunk.bytes.ok.0, c.loop-chunk-test.true),
 )
 
 pub returns-in_err-extend_from_slice : goal.returns-in_err-extend_from_slice
@@ -27,9 +19,8 @@ returns-in_err-extend_from_slice g c =
       Consumes-trans _ _ _ _ _ c.loop-chunk.invariant.given c.in-Ok.ensures.bytes.0,
       omega (
         arith,
-        length-append c.loop-chunk.bytes.items (take c.in-Ok.count c.read.new.buf),
-        length-take c.in-Ok.count c.read.new.buf,
-        length-take c.min-room.result c.loop-chunk.chunk,
+        length-append {A = ℕ},
+        length-take {A = ℕ},
         c.read.auto.buf,
         c.min-room.ensures,
         c.saturating_add.ensures,
@@ -43,5 +34,5 @@ pub returns : goal.returns
 returns g c = (
   c.loop-chunk.bytes.items,
   c.loop-chunk.invariant.given,
-  one_past c.len.ensures c.loop-chunk.bytes.ok.0 c.loop-chunk-test.false c.loop-chunk.invariant.within,
+  omega (arith, c.len.ensures, c.loop-chunk.bytes.ok.0, c.loop-chunk-test.false, c.loop-chunk.invariant.within),
 )

@@ -1,13 +1,11 @@
-use Rattle.std.proofs.Common.{◌≡◌, ◌++◌, ◌∙◌, List, ℕ, take, drop, append_assoc, ap, sym}
+use Rattle.std.proofs.Common.{◌≡◌, ◌++◌, List, ℕ, take, drop, append_assoc}
 use Rattle.std.proofs.KnownBytes.{Appends-kept, Appends-trans}
 use Rattle.std.proofs.lemmas.List.{take-append-drop, take_rest}
 use Rattle.pcl_tool.proofs.writing.write_bytes.Goals as goal
 
 -- a prefix of the bytes, and more of the rest after it
 more : {bytes : List ℕ} (front rest : List ℕ) (count : ℕ) → bytes ≡ front ++ rest → bytes ≡ (front ++ take count rest) ++ drop count rest
-more front rest count e =
-    e ∙ ap (λ (r : List ℕ). front ++ r) (sym (take-append-drop count rest))
-    ∙ sym (append_assoc front (take count rest) (drop count rest))
+more front rest count e = rw (append_assoc, take-append-drop) e
 
 pub loop-rest-preserved : goal.loop-rest-preserved
 loop-rest-preserved g c =
@@ -15,7 +13,7 @@ loop-rest-preserved g c =
     let count = c.in-Ok.count in
     let rest = c.loop-rest.rest.now in (
       i.0 ++ take count rest,
-      more i.0 rest count i.1 ∙ ap (λ (r : List ℕ). (i.0 ++ take count rest) ++ r) (sym (take_rest rest count)),
+      rw take_rest (more i.0 rest count i.1),
       Appends-trans _ _ _ _ _ i.2 c.in-Ok.ensures.bytes,
     )
 

@@ -1,9 +1,6 @@
-use Rattle.std.proofs.Common.{◌≡◌, ◌-◌, Option, length, refl, sym, ap, subst, arith}
+use Rattle.std.proofs.Common.{◌≡◌, ◌-◌, length, refl, ap, arith}
 use Rattle.std.proofs.lemmas.List.{length-append}
-use Rattle.pcl_cert.specs.declared.format.Format.{Format}
 use Rattle.pcl_cert.specs.declared.page_proof.PageProof.{PageProof}
-use Rattle.pcl_cert.specs.Certificates.{FitsFormat, HasProofMore}
-use Rattle.pcl_tool.specs.inner.WrittenJobs.{SoFar, IsProvedIn, TakesText}
 use Rattle.pcl_tool.proofs.Proved.{plan_proves, proof_said}
 use Rattle.pcl_tool.proofs.written_job.WrittenJobPageSink.page.Goals as goal
 
@@ -26,11 +23,8 @@ add_proof-requires-clause-fits c =
       places = c.in_ok-places.places;
     } in
     let is = plan_proves c.in-Some.format c.args.page.now a.0 c.in_ok-least.least proof c.in_ok-least.ensures a.2 c.in_ok-places.ensures
-    long c.into_table.ensures in (
-      c.args.page.now.dpi,
-      subst (FitsFormat c.args.page.now.dpi c.in-Some.format) (sym (proof_said c.in-Some.format is.can_be_said))
-          is.can_be_said.fits,
-    )
+    long c.into_table.ensures in
+    (c.args.page.now.dpi, rw (proof_said c.in-Some.format is.can_be_said) is.can_be_said.fits)
 
 pub returns-in-Ok-clause-taken : goal.returns-in-Ok-clause-taken
 returns-in-Ok-clause-taken c =
@@ -42,26 +36,16 @@ returns-in-Ok-clause-taken c =
       table = c.into_table.result;
       places = c.in_ok-places.places;
     } in
-    let new : SoFar = record {
-      format = c.self.inside.format;
-      bytes = c.write_page-2.new.out.items;
-      certificate = c.add_proof.new.certificate.items;
-    } in
     let is = plan_proves c.in-Some.format c.args.page.now a.0 c.in_ok-least.least proof c.in_ok-least.ensures a.2 c.in_ok-places.ensures
     long c.into_table.ensures in
-    subst (λ (old : SoFar). TakesText old c.args.page.now new) c.self.view_is
-    (record {
+    rw (← c.self.view_is) (record {
       text = a.0;
       bytes = a.1;
       written = a.2;
-      proved = subst (λ (f : Option Format). IsProvedIn f c.args.page.now a.0 c.self.inside.certificate.items new.certificate)
-          (sym c.in-Some.is)
-          (record {
-            proof = proof;
-            certificate = subst
-                (λ (said : PageProof). HasProofMore c.in-Some.format said c.self.inside.certificate.items new.certificate)
-                (proof_said c.in-Some.format is.can_be_said) c.in-Ok.ensures.ok;
-            proves = is;
-          });
+      proved = rw c.in-Some.is (record {
+        proof = proof;
+        certificate = rw (proof_said c.in-Some.format is.can_be_said) at c.in-Ok.ensures.ok;
+        proves = is;
+      });
       format = refl;
     })
