@@ -36,6 +36,7 @@ past : (old new : Checker) (page : Page) → proofs_left old ≡ [] → TakesPag
 past old new page e t = let next = rw e at t in (rw (next.1, next.0) e, next.2)
 
 module _ (dpi : Dpi) where
+  -- nor do later pages change it
   pub stays : (sheets : List Sheet) (proofs : List PageProof) {found : JobVerdict} (old new : Checker)
       → (found ≡ job.Proved → ⊥) → old.found ≡ found → proofs_left old ≡ proofs → length sheets ≡ length proofs
       → Hands TakesPage dpi sheets old new → new.found ≡ found
@@ -137,6 +138,7 @@ module _ (dpi : Dpi) where
       )
   at_page sheet sheets texts text rest proof proofs taken page found last is shows long e follows keeps = absurd is
 
+  -- no proof is left after as many pages
   pub none_left : (sheets : List Sheet) (proofs : List PageProof) (old new : Checker) → proofs_left old ≡ proofs
       → length sheets ≡ length proofs → Hands TakesPage dpi sheets old new → proofs_left new ≡ []
   none_left [] [] old new e same h = rw h e
