@@ -87,33 +87,6 @@ prepared_is : (dpi : Dpi) (ends : Bool) {t : Settings} {pages : List Sheet} {n :
 prepared_is dpi true = refl
 prepared_is dpi false = refl
 
--- a command that sets something between texts
-drawn_between : (dpi : Dpi) (operation : Operation) (value : Value) (t : Settings) {t' : Settings} {effect : Effect} {pages : List Sheet}
-    (n : ℕ)
-    → outcome dpi operation value false t ≡ Some (t', effect) → ejects effect false ≡ false
-    → ((s : Situation) → drawn_on dpi operation (said_of (deed operation value [])) s ≡ Ok s)
-    → after dpi operation (said_of (deed operation value [])) (counted (between t pages n)) ≡ Ok (between t' pages (n + 1))
-unfolding after
-drawn_between dpi operation value t {t'} {pages} n o e d =
-    let command = said_of (deed operation value []) in
-    let at = between t pages (n + 1) in
-    ap (λ (z : Situation). taken dpi operation value z |> drawn_on dpi operation command) (prepared_is dpi (ends_raster operation))
-    ∙ ap (λ (out : Outcome). turned_by out at |> drawn_on dpi operation command) o
-    ∙ ap (λ (test : Bool).
-    drawn_on dpi operation command
-    (cond test (turned_page t' at) (record at { settings = t' }))) e
-    ∙ d (between t' pages (n + 1))
-
-set_between : (dpi : Dpi) (operation : Operation) (value : Value) (t : Settings) {t' : Settings} {effect : Effect} {pages : List Sheet}
-    (n : ℕ)
-    → outcome dpi operation value false t ≡ Some (t', effect) → ejects effect false ≡ false
-    → ((s : Situation) → drawn_on dpi operation (said_of (deed operation value [])) s ≡ Ok s)
-    → ((s : Situation) → quietly operation value s ≡ Ok s)
-    → does dpi (deed operation value []) (between t pages n) ≡ Ok (between t' pages (n + 1))
-set_between dpi operation value t {t'} {pages} n o e d q =
-    ap (λ (r : Result Situation Kind). r |> quietly operation value) (drawn_between dpi operation value t n o e d)
-    ∙ q (between t' pages (n + 1))
-
 -- ---- what the start of a text sets
 
 copies_out : (dpi : Dpi) (copies : ℕ) (t : Settings) → 0 < copies → copies < 100
@@ -122,7 +95,7 @@ unfolding outcome
 copies_out dpi copies t some few =
     let from : nat_le 1 copies ≡ true = grind (arith, nat_tests) in
     let to : nat_le copies 99 ≡ true = grind (arith, nat_tests) in
-    ap (λ (n : ℕ). stays_if (nat_le 1 n && nat_le n 99) (record t { copies = n })) (whole_is copies) ∙ rw (from, to) refl
+    rw (whole_is copies, from, to) refl
 
 size_out : (dpi : Dpi) (size : Size) (t : Settings)
     → outcome dpi PageSize (number_value (code_of size)) false t ≡ Some (with_size size t, page.EjectMarked)
@@ -140,16 +113,16 @@ unfolding outcome
 top_out dpi t =
     let none : 0 * t.vmi ≡ 0 = omega arith in
     let fits : nat_lt (units_high t.size) 0 ≡ false = grind (arith, nat_tests) in
-    ap (λ (n : ℕ). stays (set_top n false t)) none ∙ rw fits refl
+    rw (none, fits) refl
 
 across_out : (dpi : Dpi) (t : Settings) → outcome dpi (Move Horizontal PclUnit) (number_value 0) false t ≡ Some (put_x 0 t, page.Stay)
 unfolding outcome
-across_out dpi t = let none : 0 + 0 * t.pcl_unit / 10000 ≡ 0 = omega arith in ap (λ (n : ℕ). stays (put_x n t)) none
+across_out dpi t = let none : 0 + 0 * t.pcl_unit / 10000 ≡ 0 = omega arith in rw none refl
 
 down_out : (dpi : Dpi) (t : Settings) → t.top ≡ 0
     → outcome dpi (Move Vertical PclUnit) (number_value 0) false t ≡ Some (put_y 0 t, page.Stay)
 unfolding outcome
-down_out dpi t top = let none : t.top + 0 * t.pcl_unit / 10000 ≡ 0 = omega arith in ap (λ (n : ℕ). stays (put_y n t)) none
+down_out dpi t top = let none : t.top + 0 * t.pcl_unit / 10000 ≡ 0 = omega arith in rw none refl
 
 resolution_out : (dpi : Dpi) (t : Settings)
     → outcome dpi RasterResolution (number_value (dots_per_inch dpi)) false t
@@ -225,92 +198,43 @@ start_after {size} dpi {copies} {t} {pages} n b =
     let y : at.cursor.y ≡ 0 = omega arith in
     let raster : raster_from dpi 0 at ≡ body_raster size dpi 0 (zeros size dpi) =
     one_scale dpi size b.height (first_dot dpi y) in
-    ap (λ (r : Raster). Ok
-    (record {
-      settings = at;
-      raster = Some r;
-      fonts = reset_fonts;
-      macros = reset_macros;
-      begun = None;
-      marks = [];
-      pages = pages;
-      asks = nothing_for pages;
-      performed = n + 1;
-    })) raster
-    ∙ ap (λ (m : Method). Ok
-    (record {
-      settings = record at { method = m };
-      raster = Some (body_raster size dpi 0 (zeros size dpi));
-      fonts = reset_fonts;
-      macros = reset_macros;
-      begun = None;
-      marks = [];
-      pages = pages;
-      asks = nothing_for pages;
-      performed = n + 1;
-    })) b.method
+    rw (raster, b.method) refl
+
+-- the same as the deeds' leading there, in a form from which they are known
+record AreLeading (dpi : Dpi) (deeds : List Deed) (from later : Situation) : Type 0 where
+  leads : Leads dpi deeds from later
+
+-- a command that sets something between texts, and the deeds behind it
+set_leads : {dpi : Dpi} {operation : Operation} {value : Value} {t next : Settings} {effect : Effect} {pages : List Sheet} {n : ℕ}
+    {deeds : List Deed} {later : Situation} → length pages ≤ 256
+    → outcome dpi operation value false t ≡ Some (next, effect) → ejects effect false ≡ false
+    → ((s : Situation) → (drawn_on dpi operation (said_of (deed operation value [])) s |> quietly operation value) ≡ Ok s)
+    → AreLeading dpi deeds (between next pages (n + 1)) later → AreLeading dpi (deed operation value [] ∷ deeds) (between t pages n) later
+unfolding after
+set_leads {dpi} {operation} {value} {t} {next} {pages} {n} fits set turns draws rest =
+    let at = between next pages (n + 1) in
+    let prepared = prepared_is dpi (ends_raster operation) {t = t} {pages = pages} {n = n + 1} in
+    record { leads = (at, rw (prepared, set, turns) (draws at), pages_fit at fits, rest.leads) }
 
 start_leads : (size : Size) (dpi : Dpi) (copies : ℕ) {t : Settings} (pages : List Sheet) (n : ℕ) → IsBetween t → 0 < copies → copies < 100
     → length pages ≤ 256
-    → (m : ℕ) × Leads dpi (start_deeds dpi copies size) (between t pages n)
-    (in_body size dpi (ready dpi size copies t) Plain 0 (zeros size dpi) [] pages m)
+    → AreLeading dpi (start_deeds dpi copies size) (between t pages n)
+    (in_body size dpi (ready dpi size copies t) Plain 0 (zeros size dpi) [] pages (n + 1 + 1 + 1 + 1 + 1 + 1 + 1 + 1))
 start_leads size dpi copies {t} pages n b some few fits =
-    let a1 = record t { copies = copies } in
-    let a2 = with_size size a1 in
-    let a3 = top_zero a2 in
-    let a4 = put_x 0 a3 in
-    let a5 = put_y 0 a4 in
-    let a6 = record a5 { resolution = dots_per_inch dpi } in
-    let a7 = ready dpi size copies t in
-    let ok : (u : Settings) (k : ℕ) → page_refusal (between u pages k) ≡ None = λ u k. pages_fit (between u pages k) fits in (
-      n + 1 + 1 + 1 + 1 + 1 + 1 + 1 + 1,
-      (
-        between a1 pages (n + 1),
-        set_between dpi Copies (number_value copies) t n (copies_out dpi copies t some few) refl (λ s. refl) (λ s. refl),
-        ok a1 (n + 1),
-        (
-          between a2 pages (n + 1 + 1),
-          set_between dpi PageSize (number_value (code_of size)) a1 (n + 1) (size_out dpi size a1) refl
-              (λ s. refl) (λ s. refl),
-          ok a2 (n + 1 + 1),
-          (
-            between a3 pages (n + 1 + 1 + 1),
-            set_between dpi TopMargin (number_value 0) a2 (n + 1 + 1) (top_out dpi a2) refl (λ s. refl) (λ s. refl),
-            ok a3 (n + 1 + 1 + 1),
-            (
-              between a4 pages (n + 1 + 1 + 1 + 1),
-              set_between dpi (Move Horizontal PclUnit) (number_value 0) a3 (n + 1 + 1 + 1) (across_out dpi a3) refl
-                  (λ s. refl) (λ s. refl),
-              ok a4 (n + 1 + 1 + 1 + 1),
-              (
-                between a5 pages (n + 1 + 1 + 1 + 1 + 1),
-                set_between dpi (Move Vertical PclUnit) (number_value 0) a4 (n + 1 + 1 + 1 + 1) (down_out dpi a4 refl)
-                    refl (λ s. refl) (λ s. refl),
-                ok a5 (n + 1 + 1 + 1 + 1 + 1),
-                (
-                  between a6 pages (n + 1 + 1 + 1 + 1 + 1 + 1),
-                  set_between dpi RasterResolution (number_value (dots_per_inch dpi)) a5 (n + 1 + 1 + 1 + 1 + 1)
-                      (resolution_out dpi a5) refl (λ s. refl) (λ s. refl),
-                  ok a6 (n + 1 + 1 + 1 + 1 + 1 + 1),
-                  (
-                    between a7 pages (n + 1 + 1 + 1 + 1 + 1 + 1 + 1),
-                    set_between dpi RasterWidth (number_value (page_width size dpi)) a6 (n + 1 + 1 + 1 + 1 + 1 + 1)
-                        (width_out size dpi a6) refl (λ s. refl) (λ s. refl),
-                    ok a7 (n + 1 + 1 + 1 + 1 + 1 + 1 + 1),
-                    (
-                      in_body size dpi a7 Plain 0 (zeros size dpi) [] pages (n + 1 + 1 + 1 + 1 + 1 + 1 + 1 + 1),
-                      start_after dpi (n + 1 + 1 + 1 + 1 + 1 + 1 + 1) b,
-                      pages_fit (in_body size dpi a7 Plain 0 (zeros size dpi) [] pages (n + 1 + 1 + 1 + 1 + 1 + 1 + 1 + 1)) fits,
-                      refl,
-                    ),
-                  ),
-                ),
-              ),
-            ),
-          ),
-        ),
-      ),
-    )
+    let sized = with_size size (record t { copies = copies }) in
+    let down = put_y 0 (put_x 0 (top_zero sized)) in
+    let m = n + 1 + 1 + 1 + 1 + 1 + 1 + 1 in
+    let u = ready dpi size copies t in
+    let last = in_body size dpi u Plain 0 (zeros size dpi) [] pages (m + 1) in
+    let begun : AreLeading dpi (deed StartRaster (number_value 0) [] ∷ []) (between u pages m) last =
+    record { leads = (last, start_after dpi m b, pages_fit last fits, refl) } in
+    set_leads fits (copies_out dpi copies t some few) refl (λ s. refl)
+    (set_leads fits (size_out dpi size _) refl (λ s. refl)
+    (set_leads fits (top_out dpi sized) refl (λ s. refl)
+    (set_leads fits (across_out dpi _) refl (λ s. refl)
+    (set_leads fits (down_out dpi (put_x 0 (top_zero sized)) refl) refl (λ s. refl)
+    (set_leads fits (resolution_out dpi down) refl (λ s. refl)
+    (set_leads fits (width_out size dpi _) refl (λ s. refl) begun))))))
 
 -- ---- the body
 
@@ -330,7 +254,7 @@ skip_after : (size : Size) (dpi : Dpi) (t : Settings) {m : Method} (count k : �
     ≡ Ok (in_body size dpi t m (k + count) (zeros size dpi) marks pages (n + 1))
 unfolding after outcome
 skip_after size dpi t {m} count k seed {marks} {pages} n =
-    ap (λ (c : ℕ). Ok (in_body size dpi t m (k + c) (zeros size dpi) marks pages (n + 1))) (whole_is count)
+    rw (whole_is count) refl
 
 abbrev sent_mark : Size → Dpi → ℕ → List ℕ → List ℕ → Mark
 sent_mark size dpi k seed row = row_mark row (body_raster size dpi k seed)
@@ -343,13 +267,13 @@ row_after : (size : Size) (dpi : Dpi) (t : Settings) {m : Method} (k : ℕ) (see
     ≡ Ok (in_body size dpi t m (k + 1) row (sent_mark size dpi k seed row ∷ marks) pages (n + 1))
 unfolding after outcome
 row_after size dpi t {m} k seed bytes {marks} {pages} n e =
-    ap (λ (r : List ℕ). Ok (in_body size dpi t m (k + 1) r (sent_mark size dpi k seed r ∷ marks) pages (n + 1))) e
+    rw e refl
 
 -- the row that is sent is the row that is printed
 sent_is : (size : Size) (dpi : Dpi) {m : Method} (k : ℕ) {seed row bytes : List ℕ} → IsRowData m seed row bytes → IsRowOf size dpi row
     → row_sent m bytes (body_raster size dpi k seed) ≡ row
 sent_is size dpi {m} k {seed} {row} {bytes} d is =
-    ap (cleared_past (page_width size dpi)) (sym (decoded_is m seed bytes row d.decodes)) ∙ cleared_is row is.1
+    rw (← decoded_is m seed bytes row d.decodes) (cleared_is row is.1)
 
 rows_below : (count : ℕ) (size : Size) (dpi : Dpi) (rows : List (List ℕ)) → AllByRecursion (IsRowOf size dpi) rows
     → AllByRecursion (IsRowOf size dpi) (drop count rows)
@@ -369,28 +293,35 @@ record IsPrinted (size : Size) (dpi : Dpi) (t : Settings) (deeds : List Deed) (r
   black : (x y : ℕ) → x < page_width size dpi → is_black all x y ≡ (dot_from k rows x y || is_black inked x y)
 
 -- a newer mark beside dots of rows below it
-swapped : (below row older : Bool) → (below || (row || older)) ≡ ((row || below) || older)
-swapped true true older = refl
-swapped true false older = refl
-swapped false true older = refl
-swapped false false older = refl
+newer_mark : (below row older : Bool) → (below || cond row true older) ≡ ((row || below) || older)
+newer_mark true true older = refl
+newer_mark true false older = refl
+newer_mark false true older = refl
+newer_mark false false older = refl
 
--- black over what is older
-over : (covered older : Bool) → cond covered true older ≡ (covered || older)
-over true older = refl
-over false older = refl
-
-sent_dots : (size : Size) (dpi : Dpi) (k : ℕ) (seed row : List ℕ) (rest : List (List ℕ)) (inked all : List Mark) {x : ℕ} (y : ℕ)
+sent_dots : (size : Size) (dpi : Dpi) (k : ℕ) (seed row : List ℕ) (rest : List (List ℕ)) (inked : List Mark) (x y : ℕ)
     → x < page_width size dpi
-    → is_black all x y ≡ (dot_from (k + 1) rest x y || is_black (sent_mark size dpi k seed row ∷ inked) x y)
-    → is_black all x y ≡ (dot_from k (row ∷ rest) x y || is_black inked x y)
-sent_dots size dpi k seed row rest inked all {x} y within e =
-    let covers : (sent_mark size dpi k seed row).covers x y ≡ (k == y && dot_of_row row x) =
-    row_inks k row y within in
-    e ∙ ap (λ (b : Bool). dot_from (k + 1) rest x y || b) (over ((sent_mark size dpi k seed row).covers x y) (is_black inked x y))
-    ∙ ap (λ (b : Bool). dot_from (k + 1) rest x y || (b || is_black inked x y)) covers
-    ∙ swapped (dot_from (k + 1) rest x y) (k == y && dot_of_row row x) (is_black inked x y)
-    ∙ ap (λ (b : Bool). b || is_black inked x y) (sym (first_row k row rest x y))
+    → (dot_from (k + 1) rest x y || is_black (sent_mark size dpi k seed row ∷ inked) x y)
+    ≡ (dot_from k (row ∷ rest) x y || is_black inked x y)
+sent_dots size dpi k seed row rest inked x y within =
+    rw (row_inks k row y within, first_row k row rest x y) (newer_mark (dot_from (k + 1) rest x y) _ (is_black inked x y))
+
+-- a command, and what is printed after it
+printed_after : {size : Size} {dpi : Dpi} {t : Settings} {d : Deed} {deeds : List Deed} {rows below : List (List ℕ)} {k further : ℕ}
+    {from : Situation} (next : Situation) {inked newer : List Mark} {pages : List Sheet} → does dpi d from ≡ Ok next
+    → page_refusal next ≡ None → IsPrinted size dpi t deeds below further next newer pages
+    → ((x y : ℕ) → x < page_width size dpi
+    → (dot_from further below x y || is_black newer x y) ≡ (dot_from k rows x y || is_black inked x y))
+    → IsPrinted size dpi t (d ∷ deeds) rows k from inked pages
+printed_after next one fits r same = record {
+  last = r.last;
+  end = r.end;
+  seed = r.seed;
+  all = r.all;
+  count = r.count;
+  leads = (next, one, fits, r.leads);
+  black = λ x y within. r.black x y within ∙ same x y within;
+}
 
 body_printed : (inside : Bool) (tokens : List Token) {size : Size} {dpi : Dpi} (t : Settings) {m : Method} {seed : List ℕ}
     (rows : List (List ℕ)) (k : ℕ) (inked : List Mark) (pages : List Sheet) (n : ℕ)
@@ -406,62 +337,31 @@ body_printed false [] t {m} {seed} rows k inked pages n p are long fits = record
   all = inked;
   count = n;
   leads = refl;
-  black = λ x y within. ap (λ (b : Bool). b || is_black inked x y) (sym (white_from k rows x y p));
+  black = λ x y within. rw (white_from k rows x y p) refl;
 }
 body_printed true (opening ∷ tokens) t rows k inked pages n p are long fits = absurd p
 body_printed false (opening ∷ tokens) t {seed} rows k inked pages n p are long fits =
-    let r = body_printed true tokens t rows k inked pages n p are long fits in
-    record { last = r.last; end = r.end; seed = r.seed; all = r.all; count = r.count; leads = r.leads; black = r.black }
+    body_printed true tokens t rows k inked pages n p are long fits
 body_printed false (method digits next ends ∷ tokens) t rows k inked pages n p are long fits = absurd p
 body_printed true (method digits next ends ∷ tokens) {size} {dpi} t {m} {seed} rows k inked pages n p are long fits =
-    let r = body_printed (not ends) tokens t rows k inked pages (n + 1) p.1 are long fits in
     let at = in_body size dpi t next k seed inked pages (n + 1) in
-    record {
-      last = r.last;
-      end = r.end;
-      seed = r.seed;
-      all = r.all;
-      count = r.count;
-      leads = (at, method_after size dpi t m next n, pages_fit at fits, r.leads);
-      black = r.black;
-    }
+    printed_after at (method_after size dpi t m next n) (pages_fit at fits)
+    (body_printed (not ends) tokens t rows k inked pages (n + 1) p.1 are long fits) (λ x y within. refl)
 body_printed false (skip digits count ends ∷ tokens) t rows k inked pages n p are long fits = absurd p
 body_printed true (skip digits count ends ∷ tokens) {size} {dpi} t {m} {seed} rows k inked pages n p are long fits =
-    let seeds : replicate (length seed) 0 ≡ zeros size dpi = ap (λ (len : ℕ). replicate len 0) long in
-    let printed = subst (λ (z : List ℕ). PrintsRows (not ends) m z tokens (drop count rows)) seeds p.4 in
-    let r = body_printed (not ends) tokens t (drop count rows) (k + count) inked pages (n + 1) printed
+    let at = in_body size dpi t m (k + count) (zeros size dpi) inked pages (n + 1) in
+    let r = body_printed (not ends) tokens t (drop count rows) (k + count) inked pages (n + 1) (rw long at p.4)
     (rows_below count size dpi rows are)
     (length-replicate (bytes_of_width (page_width size dpi)) 0) fits in
-    let at = in_body size dpi t m (k + count) (zeros size dpi) inked pages (n + 1) in
-    record {
-      last = r.last;
-      end = r.end;
-      seed = r.seed;
-      all = r.all;
-      count = r.count;
-      leads = (at, skip_after size dpi t count k seed n, pages_fit at fits, r.leads);
-      black = λ x y within. r.black x y within ∙ ap (λ (b : Bool). b || is_black inked x y) (skipped_dots count k rows x y p.3);
-    }
+    printed_after at (skip_after size dpi t count k seed n) (pages_fit at fits) r (λ x y within. rw (skipped_dots count k rows x y p.3) refl)
 body_printed false (send digits bytes ∷ tokens) t rows k inked pages n p are long fits = absurd p
 body_printed true (send digits bytes ∷ tokens) t [] k inked pages n p are long fits = absurd p
 body_printed true (send digits bytes ∷ tokens) {size} {dpi} t {m} {seed} (row ∷ rest) k inked pages n p are long fits =
-    let mark = sent_mark size dpi k seed row in
-    let r = body_printed false tokens t rest (k + 1) (mark ∷ inked) pages (n + 1) p.2 are.1 are.0.0 fits in
-    let at = in_body size dpi t m (k + 1) row (mark ∷ inked) pages (n + 1) in
-    record {
-      last = r.last;
-      end = r.end;
-      seed = r.seed;
-      all = r.all;
-      count = r.count;
-      leads = (
-        at,
-        row_after size dpi t k seed bytes n (sent_is size dpi k p.1 are.0),
-        pages_fit at fits,
-        r.leads,
-      );
-      black = λ x y within. sent_dots size dpi k seed row rest inked r.all y within (r.black x y within);
-    }
+    let newer = sent_mark size dpi k seed row ∷ inked in
+    let at = in_body size dpi t m (k + 1) row newer pages (n + 1) in
+    printed_after at (row_after size dpi t k seed bytes n (sent_is size dpi k p.1 are.0)) (pages_fit at fits)
+    (body_printed false tokens t rest (k + 1) newer pages (n + 1) p.2 are.1 are.0.0 fits)
+    (sent_dots size dpi k seed row rest inked)
 
 -- ---- the end
 
@@ -478,31 +378,19 @@ end_after size dpi t m k seed n = refl
 -- one page more
 asks_more : {asked : Asked} (pages : List Sheet) (sheet : Sheet) → asked ≡ nothing_asked
     → with_page asked (nothing_for pages) ≡ nothing_for (pages ++ sheet ∷ [])
-asks_more pages sheet e =
-    ap (λ (one : Asked). with_page one (nothing_for pages)) e
-    ∙ ap (λ (all : List Asked). record { pages = all; exits = [] }) (sym (map-append (λ (one : Sheet). nothing_asked) pages (sheet ∷ [])))
+asks_more pages sheet e = rw (e, map-append (λ (one : Sheet). nothing_asked) pages (sheet ∷ [])) refl
 
 feed_after : (dpi : Dpi) (u : Settings) (marks : List Mark) (pages : List Sheet) (n : ℕ) → u.asked ≡ nothing_asked
     → does dpi (deed FormFeed zero_value [])
     (record (between u pages n) { marks = marks })
     ≡ Ok (between (to_first_line (before_feed u)) (pages ++ record { size = u.size; copies = u.copies; marks = marks } ∷ []) (n + 1))
 unfolding after outcome
-feed_after dpi u marks pages n e =
-    let sheet : Sheet = record { size = u.size; copies = u.copies; marks = marks } in
-    ap (λ (asks : Asks). Ok (record (between (to_first_line (before_feed u)) (pages ++ sheet ∷ []) (n + 1)) { asks = asks }))
-    (asks_more pages sheet e)
+feed_after dpi u marks pages n e = rw (asks_more pages (record { size = u.size; copies = u.copies; marks = marks }) e) refl
 
-feed_method : (test : Bool) (u : Settings) → (cond test (return_carriage u) u).method ≡ u.method
-feed_method true u = refl
-feed_method false u = refl
-
-feed_height : (test : Bool) (u : Settings) → (cond test (return_carriage u) u).raster_height ≡ u.raster_height
-feed_height true u = refl
-feed_height false u = refl
-
-feed_asked : (test : Bool) (u : Settings) → (cond test (return_carriage u) u).asked ≡ u.asked
-feed_asked true u = refl
-feed_asked false u = refl
+feed_between : (test : Bool) (u : Settings) → u.method ≡ Plain → u.raster_height ≡ None → u.asked ≡ nothing_asked
+    → IsBetween (to_first_line (cond test (return_carriage u) u))
+feed_between true u plain none asked = record { method = plain; height = none; asked = asked }
+feed_between false u plain none asked = record { method = plain; height = none; asked = asked }
 
 -- where the settings are between texts again
 abbrev ended_at : Size → Dpi → Settings → Method → ℕ → List ℕ → Settings
@@ -520,11 +408,7 @@ end_leads size dpi t m k seed marks pages n none asked few =
     let last = between (to_first_line (before_feed u)) more (n + 1 + 1) in
     let sheet : Sheet = record { size = t.size; copies = t.copies; marks = marks } in
     let all : length more ≤ 256 = omega (arith, length-append pages (sheet ∷ [])) in (
-      record {
-        method = feed_method u.feed_returns u;
-        height = feed_height u.feed_returns u ∙ none;
-        asked = feed_asked u.feed_returns u ∙ asked;
-      },
+      feed_between u.feed_returns u refl none asked,
       (
         middle,
         end_after size dpi t m k seed n,
@@ -552,7 +436,7 @@ all_rows : (rows : List (List ℕ)) (x y : ℕ) → (dot_from 0 rows x y || fals
 all_rows rows x y =
     let place : y - 0 ≡ y = omega arith in
     let below : nat_le 0 y ≡ true = grind (arith, nat_tests) in
-    or-false (dot_from 0 rows x y) ∙ ap (λ (b : Bool). b && dot_of_rows rows x (y - 0)) below ∙ ap (λ (n : ℕ). dot_of_rows rows x n) place
+    rw (or-false (dot_from 0 rows x y), below, place) refl
 
 pub text_taken : {dpi : Dpi} {size : Size} {copies : ℕ} {rows : List (List ℕ)} {text : List ℕ}
     (printed : IsPageText dpi size copies rows text)
@@ -560,11 +444,12 @@ pub text_taken : {dpi : Dpi} {size : Size} {copies : ℕ} {rows : List (List ℕ
     → IsTextTaken dpi size copies (text_deeds dpi size copies printed.tokens) rows (between t pages n) pages
 text_taken {dpi} {size} {copies} {rows} printed {t} {pages} {n} b few =
     let u = ready dpi size copies t in
+    let m = n + 1 + 1 + 1 + 1 + 1 + 1 + 1 + 1 in
     let start = start_leads size dpi copies pages n b printed.some_copies printed.few_copies (omega arith) in
-    let body = body_printed false printed.tokens u rows 0 [] pages start.0 printed.prints printed.rows_are
+    let body = body_printed false printed.tokens u rows 0 [] pages m printed.prints printed.rows_are
     (length-replicate (bytes_of_width (page_width size dpi)) 0) (omega arith) in
     let end = end_leads size dpi u body.last body.end body.seed body.all pages body.count b.height b.asked few in
-    let begun = in_body size dpi u Plain 0 (zeros size dpi) [] pages start.0 in
+    let begun = in_body size dpi u Plain 0 (zeros size dpi) [] pages m in
     let drawn = in_body size dpi u body.last body.end body.seed body.all pages body.count in
     let settings = ended_at size dpi u body.last body.end body.seed in
     let last = between settings (pages ++ record { size = size; copies = copies; marks = body.all } ∷ []) (body.count + 1 + 1) in
@@ -573,7 +458,7 @@ text_taken {dpi} {size} {copies} {rows} printed {t} {pages} {n} b few =
       stands = end.0;
       inked = body.all;
       count = body.count + 1 + 1;
-      leads = leads_append dpi (start_deeds dpi copies size) (body_deeds printed.tokens ++ end_deeds) (between t pages n) begun last start.1
+      leads = leads_append dpi (start_deeds dpi copies size) (body_deeds printed.tokens ++ end_deeds) (between t pages n) begun last start.leads
           (leads_append dpi (body_deeds printed.tokens) end_deeds begun drawn last body.leads end.1);
       black = λ x y within. body.black x y within ∙ all_rows rows x y;
     }
