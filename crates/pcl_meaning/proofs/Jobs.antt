@@ -12,7 +12,7 @@ use Rattle.pcl_base.specs.Limits.{macro_limit, command_limit}
 use Rattle.pcl_base.specs.Size.{page_width, page_height, page_row_bytes}
 use Rattle.pcl_base.proofs.PageBounds.{height_small}
 use Rattle.pcl_escape.specs.Said.{Said}
-use Rattle.pcl_escape.specs.Pieces.{commands_of}
+use Rattle.pcl_escape.specs.Pieces.{commands_of, IsReading}
 use Rattle.pcl_env.specs.Settings.{Settings, defaults, nothing_asked}
 use Rattle.pcl_env.specs.Outcome.{outcome}
 use Rattle.pcl_bitmap.specs.Bitmap.{dot}
@@ -69,19 +69,9 @@ body_counted (token ∷ tokens) =
 
 text_counted : (dpi : Dpi) (size : Size) (copies : ℕ) (tokens : List Token)
     → length (text_deeds dpi size copies tokens) ≡ command_count tokens + 10
-text_counted dpi size copies tokens =
-    omega (
-      arith,
-      body_counted tokens,
-      length-append (start_deeds dpi copies size) (body_deeds tokens ++ end_deeds),
-      length-append (body_deeds tokens) end_deeds,
-    )
+text_counted dpi size copies tokens = omega (arith, body_counted tokens, length-append {A = Deed})
 
 -- ---- between two resets
-
-reset_first : (dpi : Dpi) → does dpi reset at_begin ≡ Ok (between defaults [] 1)
-unfolding after outcome
-reset_first dpi = refl
 
 -- after the second reset, which deletes the temporary fonts and macros too
 abbrev closed : List Sheet → ℕ → Situation
@@ -91,17 +81,10 @@ closed pages n =
       macros = macro_control macros.Temporary 0 ∷ reset_macros;
     }
 
-reset_last : (dpi : Dpi) (t : Settings) {pages : List Sheet} (n : ℕ) → does dpi reset (between t pages n) ≡ Ok (closed pages (n + 1))
-unfolding after outcome
-reset_last dpi t n = refl
-
 -- the end of the input changes nothing after a reset
-end_refused : (dpi : Dpi) (pages : List Sheet) (n : ℕ) → length pages ≤ 256 → page_refusal (at_end dpi (closed pages n)) ≡ None
-end_refused dpi pages n few = pages_fit (at_end dpi (closed pages n)) few
-
 ended_there : (dpi : Dpi) (end : ℕ) {pages : List Sheet} {n : ℕ} → length pages ≤ 256
     → after_end dpi end (closed pages n) ≡ done (at_end dpi (closed pages n))
-ended_there dpi end {pages} {n} few = ap (λ (why : Option Kind). ended dpi end why (closed pages n)) (end_refused dpi pages n few)
+ended_there dpi end {pages} {n} few = rw (pages_fit (at_end dpi (closed pages n)) few) refl
 
 -- the job is accepted with these pages, asks for nothing, and is read as so many commands
 pub record IsAccepted (dpi : Dpi) (job : List ℕ) (pages : List Sheet) (count : ℕ) : Type 0 where
@@ -113,34 +96,27 @@ pub record IsAccepted (dpi : Dpi) (job : List ℕ) (pages : List Sheet) (count :
 pub job_accepted : {dpi : Dpi} {text : List ℕ} {deeds : List Deed} (t : Settings) {pages : List Sheet} (n : ℕ)
     → ReadsAs text deeds → Leads dpi deeds (between defaults [] 1) (between t pages n) → length pages ≤ 256 → length deeds ≤ 99999998
     → IsAccepted dpi (frame_bytes ++ text ++ frame_bytes) pages (length deeds + 2)
+unfolding after outcome
 job_accepted {dpi} {text} {deeds} t {pages} n read leads fits few =
     let all = reset ∷ (deeds ++ reset ∷ []) in
+    let job = frame_bytes ++ text ++ frame_bytes in
     let r = reads_joined frame_read
     (reads_joined read frame_read) in
-    let end = length (frame_bytes ++ text ++ frame_bytes) in
     let commands = commands_of 0 r.pieces in
     let first = between defaults [] 1 in
     let last = closed pages (n + 1) in
-    let closes : Leads dpi (reset ∷ []) (between t pages n) last = (last, reset_last dpi t n, pages_fit last fits, refl) in
+    let closes : Leads dpi (reset ∷ []) (between t pages n) last = (last, refl, pages_fit last fits, refl) in
     let whole : Leads dpi all at_begin last =
-    (first, reset_first dpi, pages_fit first (lit≤ tt), leads_append dpi deeds (reset ∷ []) first (between t pages n) last leads closes) in
+    (first, refl, pages_fit first (lit≤ tt), leads_append dpi deeds (reset ∷ []) first (between t pages n) last leads closes) in
     let count : at_begin.performed + length all ≤ 100000000 = omega (arith, length-append deeds (reset ∷ [])) in
     let c = commands_done dpi (runs macro_limit dpi commands) 0 commands all at_begin (r.said 0) whole count refl in
-    let accepted : performance_of dpi (frame_bytes ++ text ++ frame_bytes) commands ≡ done (at_end dpi last) =
-    ap (λ (p : Performance). then_on p (after_end dpi end)) c.0 ∙ ended_there dpi end fits in
+    let performed : performance_of dpi job commands ≡ done (at_end dpi last) =
+    ap (λ (p : Performance). then_on p (after_end dpi (length job))) c.0 ∙ ended_there dpi (length job) fits in
+    let accepted = ap (λ (p : Performance). p.refusal) performed in
+    let reading : IsReading job commands = record { pieces = r.pieces; each = r.each []; spelled = r.spelled; said = refl } in
     record {
-      meaning = record {
-        commands = commands;
-        reading = record { pieces = r.pieces; each = r.each []; spelled = r.spelled; said = refl };
-        accepted = ap (λ (p : Performance). p.refusal) accepted;
-        ejected = sym (ap pages_of accepted);
-      };
-      asks = record {
-        commands = commands;
-        reading = record { pieces = r.pieces; each = r.each []; spelled = r.spelled; said = refl };
-        accepted = ap (λ (p : Performance). p.refusal) accepted;
-        asked = sym (ap asks_among accepted);
-      };
+      meaning = record { commands = commands; reading = reading; accepted = accepted; ejected = sym (ap pages_of performed) };
+      asks = record { commands = commands; reading = reading; accepted = accepted; asked = sym (ap asks_among performed) };
       counted = omega (arith, said_many commands all (r.said 0), length-append deeds (reset ∷ []));
     }
 
@@ -180,21 +156,17 @@ rows_dot : {size : Size} {dpi : Dpi} (page : Page) (x : ℕ) {y : ℕ} → page.
     → y < page_height size dpi
     → dot_of_rows (bitmap_rows page.bitmap) x y ≡ dot page.bitmap x y
 rows_dot {size} {dpi} page x {y} s d below =
-    let height : page_height size dpi ≡ page_height page.bitmap.size page.bitmap.dpi =
-    ap (λ (z : Size). page_height z dpi) (sym s) ∙ ap (λ (r : Dpi). page_height page.bitmap.size r) (sym d) in
     page_dot (page_height page.bitmap.size page.bitmap.dpi) (page_row_bytes page.bitmap.size page.bitmap.dpi) page.bitmap.bytes x y
-    (subst (λ (n : ℕ). y < n) height below)
+    (rw (s, d) below)
 
 sheet_alike : {dpi : Dpi} {sheet : Sheet} {page : Page} {inked : List Mark} → Shows dpi page sheet
-    → ((x y : ℕ) → x < page_width page.size page.dpi → is_black inked x y ≡ dot_of_rows (bitmap_rows page.bitmap) x y)
+    → ((x y : ℕ) → x < page_width page.size dpi → is_black inked x y ≡ dot_of_rows (bitmap_rows page.bitmap) x y)
     → AreAlike dpi sheet (record { size = page.size; copies = page.copies; marks = inked })
 sheet_alike {dpi} {sheet} {page} shows black = record {
   size = sym shows.size;
   copies = sym shows.copies;
   dots = λ x y wide high.
-      let width : page_width sheet.size dpi ≡ page_width page.size page.dpi =
-      ap (λ (z : Size). page_width z dpi) (sym shows.size) ∙ ap (λ (r : Dpi). page_width page.size r) (sym shows.resolution) in
-      sym (black x y (subst (λ (n : ℕ). x < n) width wide)
+      sym (black x y (rw shows.size wide)
       ∙ rows_dot page x (page.size_is ∙ shows.size) (page.dpi_is ∙ shows.resolution) high
       ∙ shows.dots x y wide high);
 }
@@ -204,19 +176,18 @@ at_resolution : (page : Page) {text : List ℕ} {dpi : Dpi} → page.dpi ≡ dpi
     → (printed : IsPageText dpi page.size page.copies (bitmap_rows page.bitmap) text)
     × (command_count printed.tokens ≤ 3 * page_height page.size dpi)
 at_resolution page {text} e w =
-    subst (λ (r : Dpi). (printed : IsPageText r page.size page.copies (bitmap_rows page.bitmap) text)
-    × (command_count printed.tokens ≤ 3 * page_height page.size r)) e (w.0, w.1)
+    rw (← e) (w.0, w.1)
 
 pub texts_taken : {dpi : Dpi} (meant : List Sheet) {texts : List ℕ} {t : Settings} {pages : List Sheet} {n : ℕ}
     → PrintEach IsWrittenPage dpi meant texts → IsBetween t → length pages + length meant ≤ 256
     → AreTextsTaken dpi meant texts (between t pages n) pages
 texts_taken [] {t} {pages} {n} p b few = record {
   deeds = [];
-  read = subst (λ (bytes : List ℕ). ReadsAs bytes []) (sym p) reads_none;
+  read = rw p reads_none;
   again = [];
   settings = t;
   count = n;
-  leads = ap (λ (ps : List Sheet). between t ps n) (append-nil pages);
+  leads = rw (append-nil pages) refl;
   alike = tt;
   same_many = refl;
   few = omega arith;
@@ -230,12 +201,11 @@ texts_taken {dpi} (sheet ∷ meant) {t} {pages} {n} p b few =
     let one = text_taken printed b (omega arith) in
     let again : Sheet = record { size = page.size; copies = page.copies; marks = one.inked } in
     let more = pages ++ again ∷ [] in
-    let rest = texts_taken meant p.4 one.stands (omega (arith, length-append pages (again ∷ []))) in
+    let rest = texts_taken meant {pages = more} {n = one.count} p.4 one.stands (omega (arith, length-append pages (again ∷ []))) in
     let middle = between one.settings more one.count in
     let last = between rest.settings (pages ++ (again ∷ rest.again)) rest.count in
     let behind : Leads dpi rest.deeds middle last =
-    subst (λ (ps : List Sheet). Leads dpi rest.deeds middle (between rest.settings ps rest.count))
-    (append_assoc pages (again ∷ []) rest.again) rest.leads in
+    rw (append_assoc pages (again ∷ []) rest.again) at rest.leads in
     record {
       deeds = deeds ++ rest.deeds;
       read = subst (λ (bytes : List ℕ). ReadsAs bytes (deeds ++ rest.deeds)) (sym p.3)
@@ -245,10 +215,7 @@ texts_taken {dpi} (sheet ∷ meant) {t} {pages} {n} p b few =
       count = rest.count;
       leads = leads_append dpi deeds rest.deeds (between t pages n) middle last one.leads behind;
       alike = (
-        sheet_alike shows
-            (subst (λ (r : Dpi). (x y : ℕ) → x < page_width page.size r
-            → is_black one.inked x y ≡ dot_of_rows (bitmap_rows page.bitmap) x y)
-            (sym shows.resolution) one.black),
+        sheet_alike shows one.black,
         rest.alike,
       );
       same_many = omega (arith, rest.same_many);
@@ -267,19 +234,13 @@ texts_taken {dpi} (sheet ∷ meant) {t} {pages} {n} p b few =
 abbrev Fits : Performance → Type 0
 Fits whole = whole.refusal ≡ None → length (pages_of whole) ≤ 256
 
--- no more pages than there may be, where none is refused
-fits_of : (s : Situation) (test : Bool) → nat_le (length s.pages) 256 ≡ test → page_refusal s ≡ None → length s.pages ≤ 256
-fits_of s true e n = grind (arith, nat_tests)
-fits_of s false e n = let refused : page_refusal s ≡ Some TooManyPages = rw e refl in absurd cc
-
-unrefused : (dpi : Dpi) (s : Situation) (test : Bool) → is_some s.begun ≡ test → end_refusal dpi s ≡ None
-    → page_refusal (at_end dpi s) ≡ None
-unrefused dpi s true e n = let refused : end_refusal dpi s ≡ Some MacroOpen = rw e refl in absurd cc
-unrefused dpi s false e n = let same : end_refusal dpi s ≡ page_refusal (at_end dpi s) = rw e refl in sym same ∙ n
+-- no more pages than there may be, where the end of the input is not refused
+end_fits : (dpi : Dpi) (s : Situation) → end_refusal dpi s ≡ None → length (at_end dpi s).pages ≤ 256
+end_fits dpi s n = grind (arith, nat_tests)
 
 ended_fits : (dpi : Dpi) (end : ℕ) (s : Situation) (why : Option Kind) → end_refusal dpi s ≡ why → Fits (ended dpi end why s)
 ended_fits dpi end s None e =
-    λ n. fits_of (at_end dpi s) (nat_le (length (at_end dpi s).pages) 256) refl (unrefused dpi s (is_some s.begun) refl e)
+    λ n. end_fits dpi s e
 ended_fits dpi end s (Some kind) e = λ n. absurd cc
 
 -- it is the end of the input that tells
@@ -293,7 +254,7 @@ performance_fits dpi end commands =
 
 pub job_fits : {dpi : Dpi} {job : List ℕ} {pages : List Sheet} → HasPages dpi job pages → length pages ≤ 256
 job_fits {dpi} {job} h =
-    subst (λ (ps : List Sheet). length ps ≤ 256) (sym h.ejected) (performance_fits dpi (length job) h.commands h.accepted)
+    rw h.ejected (performance_fits dpi (length job) h.commands h.accepted)
 
 -- ---- a job that is written again
 
@@ -307,8 +268,7 @@ nothing_alike [] [] e = refl
 nothing_alike [] (sheet ∷ meant) e = absurd cc
 nothing_alike (sheet ∷ again) [] e = absurd cc
 nothing_alike (sheet ∷ again) (other ∷ meant) e =
-    let fewer : length again ≡ length meant = cc in
-    ap (λ (asks : Asks). record { pages = nothing_asked ∷ asks.pages; exits = [] }) (nothing_alike again meant fewer)
+    ap (λ (asks : Asks). record { pages = nothing_asked ∷ asks.pages; exits = [] }) (nothing_alike again meant cc)
 
 -- the written job is accepted, its pages are alike, it asks for nothing, and it has few commands
 pub record IsAgain (dpi : Dpi) (pages : List Sheet) (job : List ℕ) : Type 0 where

@@ -71,14 +71,6 @@ reset = deed Reset zero_value []
 row_prefix_is : IsPrefix row_prefix
 row_prefix_is = (refl, refl)
 
-offset_named : operation_of (Three 42 98 89) ≡ Some RasterOffset
-unfolding operation_of
-offset_named = refl
-
-method_named : operation_of (Three 42 98 77) ≡ Some RasterMethod
-unfolding operation_of
-method_named = refl
-
 code_small : (m : Method) → method_code m ≤ 65535
 code_small Plain = lit≤ tt
 code_small Runs = lit≤ tt
@@ -106,17 +98,7 @@ more_inside : (tokens : List Token) (digits : List ℕ) (n letter : ℕ) (operat
     → ReadsAs (27 ∷ 42 ∷ 98 ∷ (flat_map parameter_bytes middle ++ ((digits ++ letter ∷ []) ++ flat_map token_bytes tokens)))
     (deeds ++ (set_to operation n ∷ body_deeds tokens))
 more_inside tokens digits n letter operation middle deeds r =
-    let parameter = number_parameter digits letter in
-    let front = flat_map parameter_bytes middle in
-    let behind = flat_map token_bytes tokens in
-    let last : flat_map parameter_bytes (parameter ∷ []) ≡ digits ++ letter ∷ [] =
-    append-nil (parameter_bytes parameter) ∙ number_bytes digits letter in
-    let spelled : flat_map parameter_bytes (middle ++ parameter ∷ []) ++ behind ≡ front ++ ((digits ++ letter ∷ []) ++ behind) =
-    ap (λ (bytes : List ℕ). bytes ++ behind)
-    (flat_map-append parameter_bytes middle (parameter ∷ []) ∙ ap (λ (bytes : List ℕ). front ++ bytes) last)
-    ∙ append_assoc front (digits ++ letter ∷ []) behind in
-    subst₂ ReadsAs (ap (λ (bytes : List ℕ). 27 ∷ 42 ∷ 98 ∷ bytes) spelled)
-    (append_assoc deeds (set_to operation n ∷ []) (body_deeds tokens)) r
+    simp append_assoc (simp (flat_map-append, append_assoc, append-nil) at r)
 
 -- a setting that ends the sequence
 ended_inside : (tokens : List Token) (digits : List ℕ) (n letter : ℕ) (operation : Operation) (bytes : List ℕ)
@@ -127,16 +109,7 @@ ended_inside : (tokens : List Token) (digits : List ℕ) (n letter : ℕ) (opera
     → ReadsAs (27 ∷ 42 ∷ 98 ∷ (flat_map parameter_bytes middle ++ ((digits ++ letter ∷ bytes) ++ flat_map token_bytes tokens)))
     (deeds ++ (deed operation (number_value n) bytes ∷ body_deeds tokens))
 ended_inside tokens digits n letter operation bytes middle deeds first rest =
-    let done = deed operation (number_value n) bytes in
-    let front = flat_map parameter_bytes middle in
-    let end = parameter_bytes (number_parameter digits letter) ++ bytes in
-    let behind = flat_map token_bytes tokens in
-    let last : end ≡ digits ++ letter ∷ bytes =
-    ap (λ (t : List ℕ). t ++ bytes) (number_bytes digits letter) ∙ append_assoc digits (letter ∷ []) bytes in
-    let spelled : (front ++ end) ++ behind ≡ front ++ ((digits ++ letter ∷ bytes) ++ behind) =
-    ap (λ (t : List ℕ). (front ++ t) ++ behind) last ∙ append_assoc front (digits ++ letter ∷ bytes) behind in
-    subst₂ ReadsAs (ap (λ (t : List ℕ). 27 ∷ 42 ∷ 98 ∷ t) spelled) (append_assoc deeds (done ∷ []) (body_deeds tokens))
-    (reads_joined first rest)
+    simp append_assoc (simp (append_assoc, append-nil) at (reads_joined first rest))
 
 -- what is read of a row's token and what stands after it
 record IsSent (digits bytes : List ℕ) (tokens : List Token) (rows : List (List ℕ)) (current : Method) : Type 0 where
@@ -154,29 +127,8 @@ sent_parts seed [] p = absurd p
 sent_parts seed (first ∷ rest) p =
     record { spelled = p.0; small = p.1.fits; row = first; rest = rest; prints = p.2; fewer = omega arith }
 
--- a method that is set, and rows that are skipped, with a capital or without
-method_setting : {digits : List ℕ} (next : Method) → IsSpelled digits (method_code next)
-    → IsSetting row_prefix 77 digits (method_code next) RasterMethod
-method_setting next spelled =
-    record { spelled = spelled; small = code_small next; named = method_named; alone = refl; stays = refl }
-
-method_setting_more : {digits : List ℕ} (next : Method) → IsSpelled digits (method_code next)
-    → IsSetting row_prefix 109 digits (method_code next) RasterMethod
-method_setting_more next spelled =
-    record { spelled = spelled; small = code_small next; named = method_named; alone = refl; stays = refl }
-
-offset_setting : {digits : List ℕ} {count : ℕ} → IsSpelled digits count → count ≤ 65535
-    → IsSetting row_prefix 89 digits count RasterOffset
-offset_setting spelled small =
-    record { spelled = spelled; small = small; named = offset_named; alone = refl; stays = refl }
-
-offset_setting_more : {digits : List ℕ} {count : ℕ} → IsSpelled digits count → count ≤ 65535
-    → IsSetting row_prefix 121 digits count RasterOffset
-offset_setting_more spelled small =
-    record { spelled = spelled; small = small; named = offset_named; alone = refl; stays = refl }
-
 tokens_read : (tokens : List Token) → IsTokensRead tokens
-unfolding PrintsRows
+unfolding PrintsRows operation_of
 tokens_read [] = (λ current seed rows p few. reads_none, λ current seed rows middle deeds p few each meant. absurd p)
 tokens_read (opening ∷ tokens) = (
   λ current seed rows p few. (tokens_read tokens).1 current seed rows [] [] p few tt tt,
@@ -185,9 +137,9 @@ tokens_read (opening ∷ tokens) = (
 tokens_read (method digits next false ∷ tokens) = (
   λ current seed rows p few. absurd p,
   λ current seed rows middle deeds p few each meant.
-      let s = method_setting_more next p.0 in
-      let code = method_code next in
-      more_inside tokens digits code 109 RasterMethod middle deeds
+      let s : IsSetting row_prefix 109 digits (method_code next) RasterMethod =
+      record { spelled = p.0; small = code_small next; named = refl; alone = refl; stays = refl } in
+      more_inside tokens digits (method_code next) 109 RasterMethod middle deeds
       ((tokens_read tokens).1 next seed rows _ _ p.1 few
       (middle_more middle each (setting_middle refl s))
       (meant_more row_prefix middle deeds _ meant (setting_meant s))),
@@ -195,16 +147,17 @@ tokens_read (method digits next false ∷ tokens) = (
 tokens_read (method digits next true ∷ tokens) = (
   λ current seed rows p few. absurd p,
   λ current seed rows middle deeds p few each meant.
-      let s = method_setting next p.0 in
-      let code = method_code next in
-      ended_inside tokens digits code 77 RasterMethod [] middle deeds
+      let s : IsSetting row_prefix 77 digits (method_code next) RasterMethod =
+      record { spelled = p.0; small = code_small next; named = refl; alone = refl; stays = refl } in
+      ended_inside tokens digits (method_code next) 77 RasterMethod [] middle deeds
       (reads_sequence middle deeds row_prefix_is each meant (setting_end refl s) (setting_meant s))
       ((tokens_read tokens).0 next seed rows p.1 few),
 )
 tokens_read (skip digits count false ∷ tokens) = (
   λ current seed rows p few. absurd p,
   λ current seed rows middle deeds p few each meant.
-      let s = offset_setting_more p.0 (omega (arith, p.2)) in
+      let s : IsSetting row_prefix 121 digits count RasterOffset =
+      record { spelled = p.0; small = omega (arith, p.2); named = refl; alone = refl; stays = refl } in
       more_inside tokens digits count 121 RasterOffset middle deeds
       ((tokens_read tokens).1 current (replicate (length seed) 0) (drop count rows) _ _ p.4 (omega (arith, length-drop count rows))
       (middle_more middle each (setting_middle refl s))
@@ -213,7 +166,8 @@ tokens_read (skip digits count false ∷ tokens) = (
 tokens_read (skip digits count true ∷ tokens) = (
   λ current seed rows p few. absurd p,
   λ current seed rows middle deeds p few each meant.
-      let s = offset_setting p.0 (omega (arith, p.2)) in
+      let s : IsSetting row_prefix 89 digits count RasterOffset =
+      record { spelled = p.0; small = omega (arith, p.2); named = refl; alone = refl; stays = refl } in
       ended_inside tokens digits count 89 RasterOffset [] middle deeds
       (reads_sequence middle deeds row_prefix_is each meant (setting_end refl s) (setting_meant s))
       ((tokens_read tokens).0 current (replicate (length seed) 0) (drop count rows) p.4 (omega (arith, length-drop count rows))),
@@ -246,16 +200,8 @@ resolution_prefix = record { parameterized = 42; group = Some 116 }
 abbrev raster_prefix : Prefix
 raster_prefix = record { parameterized = 42; group = Some 114 }
 
-no_digits : IsSpelled [] 0
-no_digits = (tt, refl)
-
 zero_digit : IsSpelled (48 ∷ []) 0
 zero_digit = ((refl, tt), refl)
-
-copies_setting : {copies : ℕ} → copies ≤ 65535 → IsSetting page_prefix 120 (decimal copies) copies Copies
-unfolding operation_of
-copies_setting {copies} le =
-    record { spelled = decimal_spelled copies (omega arith); small = le; named = refl; alone = refl; stays = refl }
 
 size_code_small : (size : Size) → code_of size ≤ 65535
 size_code_small Executive = lit≤ tt
@@ -263,48 +209,9 @@ size_code_small Letter = lit≤ tt
 size_code_small Legal = lit≤ tt
 size_code_small A4 = lit≤ tt
 
-size_setting : (size : Size) → IsSetting page_prefix 97 (decimal (code_of size)) (code_of size) PageSize
-unfolding operation_of
-size_setting size =
-    let small = size_code_small size in
-    record { spelled = decimal_spelled (code_of size) (omega (arith, small)); small = small; named = refl; alone = refl; stays = refl }
-
-margin_setting : IsSetting page_prefix 69 (48 ∷ []) 0 TopMargin
-unfolding operation_of
-margin_setting = record { spelled = zero_digit; small = lit≤ tt; named = refl; alone = refl; stays = refl }
-
-across_setting : IsSetting place_prefix 120 (48 ∷ []) 0 (Move Horizontal PclUnit)
-unfolding operation_of
-across_setting = record { spelled = zero_digit; small = lit≤ tt; named = refl; alone = refl; stays = refl }
-
-down_setting : IsSetting place_prefix 89 (48 ∷ []) 0 (Move Vertical PclUnit)
-unfolding operation_of
-down_setting = record { spelled = zero_digit; small = lit≤ tt; named = refl; alone = refl; stays = refl }
-
 dots_small : (dpi : Dpi) → dots_per_inch dpi ≤ 65535
 dots_small Dpi300 = lit≤ tt
 dots_small Dpi600 = lit≤ tt
-
-resolution_setting : (dpi : Dpi) → IsSetting resolution_prefix 82 (decimal (dots_per_inch dpi)) (dots_per_inch dpi) RasterResolution
-unfolding operation_of
-resolution_setting dpi =
-    let small = dots_small dpi in
-    record { spelled = decimal_spelled (dots_per_inch dpi) (omega (arith, small)); small = small; named = refl; alone = refl; stays = refl }
-
-width_setting : (size : Size) (dpi : Dpi) → IsSetting raster_prefix 115 (decimal (page_width size dpi)) (page_width size dpi) RasterWidth
-unfolding operation_of
-width_setting size dpi =
-    let small : page_width size dpi ≤ 65535 = omega (arith, width_small size dpi) in
-    let spelled = decimal_spelled (page_width size dpi) (omega (arith, small)) in
-    record { spelled = spelled; small = small; named = refl; alone = refl; stays = refl }
-
-raster_setting : IsSetting raster_prefix 65 (48 ∷ []) 0 StartRaster
-unfolding operation_of
-raster_setting = record { spelled = zero_digit; small = lit≤ tt; named = refl; alone = refl; stays = refl }
-
-end_setting : IsSetting raster_prefix 67 [] 0 EndRasterResetMethod
-unfolding operation_of
-end_setting = record { spelled = no_digits; small = lit≤ tt; named = refl; alone = refl; stays = refl }
 
 -- sequences of settings alone, by their bytes
 abbrev page_bytes : ℕ → Size → List ℕ
@@ -324,69 +231,73 @@ raster_bytes size dpi =
 
 page_read : {copies : ℕ} (size : Size) → copies ≤ 65535
     → ReadsAs (page_bytes copies size) (set_to Copies copies ∷ set_to PageSize (code_of size) ∷ set_to TopMargin 0 ∷ [])
+unfolding operation_of
 page_read {copies} size le =
-    let c = copies_setting le in
-    let s = size_setting size in
+    let small = size_code_small size in
+    let c : IsSetting page_prefix 120 (decimal copies) copies Copies =
+    record { spelled = decimal_spelled copies (omega arith); small = le; named = refl; alone = refl; stays = refl } in
+    let s : IsSetting page_prefix 97 (decimal (code_of size)) (code_of size) PageSize =
+    record { spelled = decimal_spelled _ (omega (arith, small)); small = small; named = refl; alone = refl; stays = refl } in
+    let margin : IsSetting page_prefix 69 (48 ∷ []) 0 TopMargin =
+    record { spelled = zero_digit; small = lit≤ tt; named = refl; alone = refl; stays = refl } in
     reads_sequence (number_parameter (decimal copies) 120 ∷ number_parameter (decimal (code_of size)) 97 ∷ [])
     (set_to Copies copies ∷ set_to PageSize (code_of size) ∷ []) (refl, refl)
     (setting_middle refl c, (setting_middle refl s, tt))
     (setting_meant c, (setting_meant s, tt))
-    (setting_end refl margin_setting) (setting_meant margin_setting)
+    (setting_end refl margin) (setting_meant margin)
 
 place_read : ReadsAs place_bytes (set_to (Move Horizontal PclUnit) 0 ∷ set_to (Move Vertical PclUnit) 0 ∷ [])
+unfolding operation_of
 place_read =
-    let across = Move Horizontal PclUnit in
-    let down = Move Vertical PclUnit in
+    let across : IsSetting place_prefix 120 (48 ∷ []) 0 (Move Horizontal PclUnit) =
+    record { spelled = zero_digit; small = lit≤ tt; named = refl; alone = refl; stays = refl } in
+    let down : IsSetting place_prefix 89 (48 ∷ []) 0 (Move Vertical PclUnit) =
+    record { spelled = zero_digit; small = lit≤ tt; named = refl; alone = refl; stays = refl } in
     reads_sequence (number_parameter (48 ∷ []) 120 ∷ [])
-    (set_to across 0 ∷ []) (refl, refl)
-    (setting_middle refl across_setting, tt) (setting_meant across_setting, tt)
-    (setting_end refl down_setting) (setting_meant down_setting)
+    (set_to (Move Horizontal PclUnit) 0 ∷ []) (refl, refl)
+    (setting_middle refl across, tt) (setting_meant across, tt)
+    (setting_end refl down) (setting_meant down)
 
 resolution_read : (dpi : Dpi) → ReadsAs (resolution_bytes dpi) (set_to RasterResolution (dots_per_inch dpi) ∷ [])
+unfolding operation_of
 resolution_read dpi =
-    let r = resolution_setting dpi in
+    let small = dots_small dpi in
+    let r : IsSetting resolution_prefix 82 (decimal (dots_per_inch dpi)) (dots_per_inch dpi) RasterResolution =
+    record { spelled = decimal_spelled _ (omega (arith, small)); small = small; named = refl; alone = refl; stays = refl } in
     reads_sequence []
     [] (refl, refl) tt tt
     (setting_end refl r) (setting_meant r)
 
 raster_read : (size : Size) (dpi : Dpi)
     → ReadsAs (raster_bytes size dpi) (set_to RasterWidth (page_width size dpi) ∷ set_to StartRaster 0 ∷ [])
+unfolding operation_of
 raster_read size dpi =
-    let w = width_setting size dpi in
+    let small : page_width size dpi ≤ 65535 = omega (arith, width_small size dpi) in
+    let w : IsSetting raster_prefix 115 (decimal (page_width size dpi)) (page_width size dpi) RasterWidth =
+    record { spelled = decimal_spelled _ (omega (arith, small)); small = small; named = refl; alone = refl; stays = refl } in
+    let start : IsSetting raster_prefix 65 (48 ∷ []) 0 StartRaster =
+    record { spelled = zero_digit; small = lit≤ tt; named = refl; alone = refl; stays = refl } in
     reads_sequence (number_parameter (decimal (page_width size dpi)) 115 ∷ [])
     (set_to RasterWidth (page_width size dpi) ∷ []) (refl, refl)
     (setting_middle refl w, tt) (setting_meant w, tt)
-    (setting_end refl raster_setting) (setting_meant raster_setting)
-
-start_spelled : (dpi : Dpi) (copies : ℕ) (size : Size)
-    → page_bytes copies size ++ (place_bytes ++ (resolution_bytes dpi ++ raster_bytes size dpi)) ≡ start_bytes dpi copies size
-start_spelled dpi copies size = simp (append_assoc, append-nil)
+    (setting_end refl start) (setting_meant start)
 
 pub start_read : (dpi : Dpi) {copies : ℕ} (size : Size) → copies ≤ 65535
     → ReadsAs (start_bytes dpi copies size) (start_deeds dpi copies size)
 start_read dpi {copies} size le =
-    subst (λ (bytes : List ℕ). ReadsAs bytes (start_deeds dpi copies size)) (start_spelled dpi copies size)
-    (reads_joined (page_read size le)
-    (reads_joined place_read (reads_joined (resolution_read dpi) (raster_read size dpi))))
-
-feed_named : operation_of (One 12) ≡ Some FormFeed
-unfolding operation_of
-feed_named = refl
-
-reset_named : operation_of (One 69) ≡ Some Reset
-unfolding operation_of
-reset_named = refl
+    simp append_assoc (simp (append_assoc, append-nil) at (reads_joined (page_read size le)
+    (reads_joined place_read (reads_joined (resolution_read dpi) (raster_read size dpi)))))
 
 pub end_read : ReadsAs end_bytes end_deeds
 unfolding operation_of
 end_read =
+    let end : IsSetting raster_prefix 67 [] 0 EndRasterResetMethod =
+    record { spelled = (tt, refl); small = lit≤ tt; named = refl; alone = refl; stays = refl } in
     reads_joined
-    (reads_sequence [] [] (refl, refl) tt tt
-    (setting_end refl end_setting)
-    (setting_meant end_setting))
+    (reads_sequence [] [] (refl, refl) tt tt (setting_end refl end) (setting_meant end))
     (reads_piece (control 12) (λ behind. (refl, refl, refl))
-    (λ at. ((feed_named, refl, refl), tt)))
+    (λ at. ((refl, refl, refl), tt)))
 
 pub frame_read : ReadsAs frame_bytes (reset ∷ [])
 unfolding operation_of
-frame_read = reads_piece (two_character 69) (λ behind. (refl, refl)) (λ at. ((reset_named, refl, refl), tt))
+frame_read = reads_piece (two_character 69) (λ behind. (refl, refl)) (λ at. ((refl, refl, refl), tt))
