@@ -5,7 +5,7 @@ use Rattle.std.proofs.lemmas.Bool.{cases_lt}
 use Rattle.std.proofs.lemmas.Bool.Decides.{nat_tests}
 use Rattle.std.proofs.lemmas.List.{get_or_past, drop-drop}
 use Rattle.pcl_bitmap.proofs.Bytes.{bit_of_byte-zero}
-use Rattle.pcl_bitmap.specs.Bitmap.{bit_of_byte, dot_of_row}
+use Rattle.pcl_bitmap.specs.Bitmap.{dot_of_row}
 use Rattle.pcl_bitmap.specs.Dots.{raster_dot}
 use Rattle.pcl_output.specs.Tokens.{IsWhite, AreWhite}
 use Rattle.pcl_output.specs.PageText.{rows_from}
@@ -22,26 +22,11 @@ pub first_row : (k : ℕ) (row : List ℕ) (rows : List (List ℕ)) (x y : ℕ)
     → dot_from k (row ∷ rows) x y ≡ ((k == y && dot_of_row row x) || dot_from (k + 1) rows x y)
 first_row k row rows x y =
     elim (cases_lt y k) [
-      | inl above ↦
-          let a : nat_le k y ≡ false = grind (arith, nat_tests) in
-          let b : (k == y) ≡ false = grind (arith, nat_tests) in
-          let c : nat_le (k + 1) y ≡ false = grind (arith, nat_tests) in
-          rw (a, b, c) refl
+      | inl above ↦ grind (arith, nat_tests)
       | inr from ↦
           elim (cases_lt k y) [
-            | inl below ↦
-                let a : nat_le k y ≡ true = grind (arith, nat_tests) in
-                let b : (k == y) ≡ false = grind (arith, nat_tests) in
-                let c : nat_le (k + 1) y ≡ true = grind (arith, nat_tests) in
-                let place : y - k ≡ suc (y - (k + 1)) = omega arith in
-                rw (a, b, c, place) refl
-            | inr same ↦
-                let at : k ≡ y = omega arith in
-                let a : nat_le k y ≡ true = grind (arith, nat_tests) in
-                let b : (k == y) ≡ true = grind (arith, nat_tests) in
-                let c : nat_le (k + 1) y ≡ false = grind (arith, nat_tests) in
-                let place : y - k ≡ 0 = omega arith in
-                rw (a, b, c, place) (sym (or-false (dot_of_row row x)))
+            | inl below ↦ let place : y - k ≡ suc (y - (k + 1)) = omega arith in rw place (grind (arith, nat_tests))
+            | inr same ↦ let place : y - k ≡ 0 = omega arith in rw place (grind (arith, nat_tests, or-false))
           ]
     ]
 
@@ -51,7 +36,7 @@ white_byte (byte ∷ row) zero w = w.0
 white_byte (byte ∷ row) (suc i) w = white_byte row i w.1
 
 pub white_dot : (row : List ℕ) (x : ℕ) → IsWhite row → dot_of_row row x ≡ false
-white_dot row x w = ap (λ (byte : ℕ). bit_of_byte byte (x % 8)) (white_byte row (x / 8) w) ∙ bit_of_byte-zero (x % 8)
+white_dot row x w = rw (white_byte row (x / 8) w) (bit_of_byte-zero (x % 8))
 
 white_dots : (rows : List (List ℕ)) (x y : ℕ) → AreWhite rows → dot_of_rows rows x y ≡ false
 white_dots [] x y w = refl
@@ -59,7 +44,7 @@ white_dots (row ∷ rows) x zero w = white_dot row x w.0
 white_dots (row ∷ rows) x (suc y) w = white_dots rows x y w.1
 
 pub white_from : (k : ℕ) (rows : List (List ℕ)) (x y : ℕ) → AreWhite rows → dot_from k rows x y ≡ false
-white_from k rows x y w = ap (λ (b : Bool). nat_le k y && b) (white_dots rows x (y - k) w) ∙ and-false (nat_le k y)
+white_from k rows x y w = rw (white_dots rows x (y - k) w) (and-false (nat_le k y))
 
 -- white rows at the top have no dots
 pub skipped_dots : (count k : ℕ) (rows : List (List ℕ)) (x y : ℕ) → AreWhite (take count rows)
@@ -68,9 +53,7 @@ skipped_dots zero k rows x y w = let place : k + 0 ≡ k = omega arith in ap (λ
 skipped_dots (suc count) k [] x y w = and-false (nat_le (k + suc count) y) ∙ sym (and-false (nat_le k y))
 skipped_dots (suc count) k (row ∷ rows) x y w =
     let place : k + suc count ≡ (k + 1) + count = omega arith in
-    let first : (k == y && dot_of_row row x) ≡ false = ap (λ (b : Bool). k == y && b) (white_dot row x w.0) ∙ and-false (k == y) in
-    ap (λ (n : ℕ). dot_from n (drop count rows) x y) place ∙ skipped_dots count (k + 1) rows x y w.1
-    ∙ sym (first_row k row rows x y ∙ ap (λ (b : Bool). b || dot_from (k + 1) rows x y) first)
+    rw (place, first_row k row rows x y, white_dot row x w.0, and-false (k == y)) (skipped_dots count (k + 1) rows x y w.1)
 
 -- what a row inks that is sent at the left edge, k rows below the top
 pub row_inks : (k : ℕ) {width : ℕ} (bytes : List ℕ) {x : ℕ} (y : ℕ) → x < width
@@ -79,24 +62,14 @@ row_inks k {width} bytes {x} y within =
     let at : (x - 0) / 1 ≡ x = omega arith in
     let wide : nat_lt x width ≡ true = grind (arith, nat_tests) in
     let left : nat_le 0 x ≡ true = grind (arith, nat_tests) in
-    elim (cases_lt y k) [
-      | inl above ↦
-          let a : nat_le (0 + k * 1) y ≡ false = grind (arith, nat_tests) in
-          let b : (k == y) ≡ false = grind (arith, nat_tests) in
-          rw (left, a, b) refl
-      | inr from ↦
-          let a : nat_le (0 + k * 1) y ≡ true = grind (arith, nat_tests) in
-          elim (cases_lt k y) [
-            | inl below ↦
-                let b : (k == y) ≡ false = grind (arith, nat_tests) in
-                let c : ((y - (0 + k * 1)) / 1 == 0) ≡ false = grind (arith, nat_tests) in
-                rw (left, a, b, c) refl
-            | inr same ↦
-                let b : (k == y) ≡ true = grind (arith, nat_tests) in
-                let c : ((y - (0 + k * 1)) / 1 == 0) ≡ true = grind (arith, nat_tests) in
-                rw (left, a, b, c, at, wide) refl
-          ]
-    ]
+    rw (left, at, wide)
+    (elim (cases_lt y k) [
+      | inl above ↦ grind (arith, nat_tests)
+      | inr from ↦ elim (cases_lt k y) [
+        | inl below ↦ grind (arith, nat_tests)
+        | inr same ↦ grind (arith, nat_tests)
+      ]
+    ])
 
 -- ---- the rows of a page
 
@@ -104,10 +77,7 @@ pub page_dot : (n width : ℕ) (bytes : List ℕ) (x y : ℕ) → y < n
     → dot_of_rows (rows_from n width bytes) x y ≡ dot_of_row (take width (drop (y * width) bytes)) x
 unfolding rows_from
 page_dot zero width bytes x y lt = absurd (omega arith)
-page_dot (suc n) width bytes x zero lt = let start : 0 * width ≡ 0 =
-    omega arith in ap (λ (place : ℕ). dot_of_row (take width (drop place bytes)) x) (sym start)
+page_dot (suc n) width bytes x zero lt = let start : 0 * width ≡ 0 = omega arith in rw start refl
 page_dot (suc n) width bytes x (suc y) lt =
     let places : width + y * width ≡ suc y * width = grind arith in
-    page_dot n width (drop width bytes) x y (omega arith)
-    ∙ ap (λ (rest : List ℕ). dot_of_row (take width rest) x)
-    (drop-drop (y * width) width bytes ∙ ap (λ (place : ℕ). drop place bytes) places)
+    rw (← places, ← drop-drop (y * width) width bytes) (page_dot n width (drop width bytes) x y (omega arith))

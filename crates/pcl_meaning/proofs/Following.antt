@@ -1,22 +1,19 @@
 -- How far deeds bring a situation.
-use Rattle.std.proofs.Common.{◌≡◌, ℕ, ◌+◌, ◌≤◌, ◌<◌, Bool, false, cond, nat_le, List, [], ◌∷◌, ◌++◌, length, Option, Some, None, Result, Ok, Err, refl, sym, ap, subst, ◌∙◌, arith}
+use Rattle.std.proofs.Common.{◌≡◌, ℕ, ◌+◌, ◌≤◌, ◌<◌, false, cond, List, [], ◌∷◌, ◌++◌, length, Some, None, Result, Ok, Err, refl, ap, subst, ◌∙◌, arith}
 use Rattle.std.specs.Prelude.{is_some}
 use Rattle.pcl_base.specs.declared.dpi.Dpi.{Dpi}
 use Rattle.pcl_base.specs.declared.kind.Kind.{Kind}
-use Rattle.pcl_base.specs.declared.kind.Kind.TheVariants.{UnsupportedCommand, TooManyPages}
+use Rattle.pcl_base.specs.declared.kind.Kind.TheVariants.{UnsupportedCommand}
 use Rattle.pcl_base.specs.declared.name.Name.{Name}
 use Rattle.pcl_base.specs.declared.name.Name.TheVariants.{Empty}
 use Rattle.pcl_base.specs.declared.operation.Operation.{Operation}
 use Rattle.pcl_base.specs.declared.operation.Operation.TheVariants.{Reset, UniversalExit, ControlMacros, FillRectangle, ControlFonts, DownloadFont, DownloadCharacter, SelectFont, PrintText, StartRaster, RasterOffset, RasterRow}
 use Rattle.pcl_base.specs.declared.value.Value.{Value}
-use Rattle.pcl_base.specs.Limits.{page_limit}
-use Rattle.pcl_base.specs.Operation.{operation_of}
 use Rattle.pcl_escape.specs.Said.{Said}
 use Rattle.pcl_env.specs.Outcome.{outcome}
-use Rattle.pcl_macros.specs.Table.{Begun}
-use Rattle.pcl_page.specs.Situation.{Sheet, Situation, is_marked, drawn, draw_refusal, unless_refused, ◌|>◌, turned_by, drawn_on, counted, prepared, is_ignored, after, page_refusal, within_page_limit, tried}
-use Rattle.pcl_page.specs.Macros.{Run, keeping_of, managed, counting, defining, after_command, run_from, run_of}
-use Rattle.pcl_page.specs.Performing.{Performance, done, then_on, concluded, and_run, in_order, step}
+use Rattle.pcl_page.specs.Situation.{Situation, is_marked, drawn, draw_refusal, ◌|>◌, turned_by, drawn_on, counted, prepared, is_ignored, after, page_refusal, within_page_limit, tried}
+use Rattle.pcl_page.specs.Macros.{Run, managed, after_command, run_from, run_of}
+use Rattle.pcl_page.specs.Performing.{Performance, done, in_order, step}
 use Rattle.pcl_page.proofs.Keeping.{then_from, after_adds}
 use Rattle.pcl_page.proofs.Steps.{tried_as}
 use Rattle.pcl_meaning.proofs.Deeds.{Deed}
@@ -28,53 +25,54 @@ use Rattle.pcl_meaning.proofs.Readings.{IsSaid, AreSaid}
 abbrev pub said_of : Deed → Said
 said_of d = record { at = 0; name = Empty; value = d.value; bytes = d.bytes }
 
-drawn_same : (dpi : Dpi) (operation : Operation) (at : ℕ) (name : Name) (value : Value) (bytes : List ℕ) (s : Situation)
-    → drawn dpi operation (record { at = at; name = name; value = value; bytes = bytes }) s
-    ≡ drawn dpi operation (record { at = 0; name = Empty; value = value; bytes = bytes }) s
-drawn_same dpi Reset at name value bytes s = refl
-drawn_same dpi UniversalExit at name value bytes s = refl
-drawn_same dpi ControlFonts at name value bytes s = refl
-drawn_same dpi DownloadFont at name value bytes s = refl
-drawn_same dpi DownloadCharacter at name value bytes s = refl
-drawn_same dpi (SelectFont side) at name value bytes s = refl
-drawn_same dpi PrintText at name value bytes s = refl
-drawn_same dpi FillRectangle at name value bytes s = refl
-drawn_same dpi StartRaster at name value bytes s = refl
-drawn_same dpi RasterOffset at name value bytes s = refl
-drawn_same dpi RasterRow at name value bytes s = refl
-drawn_same dpi other at name value bytes s = refl
-
-refusal_same : (operation : Operation) (at : ℕ) (name : Name) (value : Value) (bytes : List ℕ) (s : Situation)
-    → draw_refusal operation (record { at = at; name = name; value = value; bytes = bytes }) s
-    ≡ draw_refusal operation (record { at = 0; name = Empty; value = value; bytes = bytes }) s
-refusal_same ControlFonts at name value bytes s = refl
-refusal_same FillRectangle at name value bytes s = refl
-refusal_same DownloadFont at name value bytes s = refl
-refusal_same DownloadCharacter at name value bytes s = refl
-refusal_same PrintText at name value bytes s = refl
-refusal_same other at name value bytes s = refl
-
 -- neither the place nor the name of a command matters to what it does
-after_same : (dpi : Dpi) (operation : Operation) (at : ℕ) (name : Name) (value : Value) (bytes : List ℕ) (s : Situation)
-    → after dpi operation (record { at = at; name = name; value = value; bytes = bytes }) s
-    ≡ after dpi operation (record { at = 0; name = Empty; value = value; bytes = bytes }) s
+module _ (at : ℕ) (name : Name) (value : Value) (bytes : List ℕ) (s : Situation) where
+  abbrev here : Said
+  here = record { at = at; name = name; value = value; bytes = bytes }
+
+  abbrev nowhere : Said
+  nowhere = record { at = 0; name = Empty; value = value; bytes = bytes }
+
+  drawn_same : (dpi : Dpi) (operation : Operation) → drawn dpi operation here s ≡ drawn dpi operation nowhere s
+  drawn_same dpi Reset = refl
+  drawn_same dpi UniversalExit = refl
+  drawn_same dpi ControlFonts = refl
+  drawn_same dpi DownloadFont = refl
+  drawn_same dpi DownloadCharacter = refl
+  drawn_same dpi (SelectFont side) = refl
+  drawn_same dpi PrintText = refl
+  drawn_same dpi FillRectangle = refl
+  drawn_same dpi StartRaster = refl
+  drawn_same dpi RasterOffset = refl
+  drawn_same dpi RasterRow = refl
+  drawn_same dpi other = refl
+
+  refusal_same : (operation : Operation) → draw_refusal operation here s ≡ draw_refusal operation nowhere s
+  refusal_same ControlFonts = refl
+  refusal_same FillRectangle = refl
+  refusal_same DownloadFont = refl
+  refusal_same DownloadCharacter = refl
+  refusal_same PrintText = refl
+  refusal_same other = refl
+
+after_same : (dpi : Dpi) (operation : Operation) (command : Said) (s : Situation)
+    → after dpi operation command s
+    ≡ after dpi operation (record { at = 0; name = Empty; value = command.value; bytes = command.bytes }) s
 unfolding after
-after_same dpi operation at name value bytes s =
+after_same dpi operation command s =
     let before = prepared dpi operation s in
     ap (λ (o : Result Situation Kind). cond (is_ignored operation s) (Ok s) o)
-    (drawn_alike (turned_by (outcome dpi operation value (is_marked before) before.settings) before))
+    (drawn_alike (turned_by (outcome dpi operation command.value (is_marked before) before.settings) before))
   where
     drawn_alike : (o : Result Situation Kind)
-        → (o |> drawn_on dpi operation (record { at = at; name = name; value = value; bytes = bytes }))
-        ≡ (o |> drawn_on dpi operation (record { at = 0; name = Empty; value = value; bytes = bytes }))
+        → (o |> drawn_on dpi operation command)
+        ≡ (o |> drawn_on dpi operation (record { at = 0; name = Empty; value = command.value; bytes = command.bytes }))
     drawn_alike (Err kind) = refl
     drawn_alike (Ok now) =
-        ap (λ (why : Option Kind).
-        unless_refused why (drawn dpi operation (record { at = at; name = name; value = value; bytes = bytes }) now))
-        (refusal_same operation at name value bytes now)
-        ∙ ap (λ (z : Situation).
-        unless_refused (draw_refusal operation (record { at = 0; name = Empty; value = value; bytes = bytes }) now) z)
-        (drawn_same dpi operation at name value bytes now)
+        rw (
+          refusal_same command.at command.name command.value command.bytes now operation,
+          drawn_same command.at command.name command.value command.bytes now dpi operation,
+        ) refl
 
 -- ---- deeds one after the other
 
@@ -137,14 +135,6 @@ is_done {dpi} {d} {s} e =
     let a = after_adds dpi d.operation (said_of d) (counted s) t.1 in
     record { now = t.0; drawn_as = t.1; is_quiet = is; performed = is.performed ∙ a.performed; begun = is.begun ∙ a.begun }
 
-pub leads_counts : (dpi : Dpi) (deeds : List Deed) (s later : Situation) → Leads dpi deeds s later
-    → later.performed ≡ s.performed + length deeds
-leads_counts dpi [] s later a = ap (λ (z : Situation). z.performed) a ∙ (let none : s.performed ≡ s.performed + 0 = omega arith in none)
-leads_counts dpi (d ∷ deeds) s later a =
-    let one = (is_done a.1).performed in
-    let more = leads_counts dpi deeds a.0 later a.3 in
-    omega (arith, one, more)
-
 -- ---- commands that are deeds
 
 -- performing a command is its deed
@@ -152,37 +142,23 @@ deed_done : (dpi : Dpi) (command : Said) {d : Deed} (s : Situation) {next : Situ
     → after dpi d.operation (said_of d) s ≡ Ok next
     → after dpi d.operation command s ≡ Ok next
 deed_done dpi command {d} s is e =
-    after_same dpi d.operation command.at command.name command.value command.bytes s
-    ∙ ap (λ (v : Value). after dpi d.operation (record { at = 0; name = Empty; value = v; bytes = command.bytes }) s) is.1
-    ∙ ap (λ (bs : List ℕ). after dpi d.operation (record { at = 0; name = Empty; value = d.value; bytes = bs }) s) is.2
-    ∙ e
+    after_same dpi d.operation command s ∙ rw (is.1, is.2) e
 
 -- pages that fit, and are the same, fit too
 fits_too : (now next : Situation) → next.pages ≡ now.pages → page_refusal next ≡ None → within_page_limit now ≡ Ok now
 fits_too now next e fits =
-    ap (λ (why : Option Kind). unless_refused why now)
-    (ap (λ (ps : List Sheet). cond (nat_le (length ps) page_limit) None (Some TooManyPages)) (sym e) ∙ fits)
+    let same : page_refusal now ≡ None = rw (← e) fits in rw same refl
 
 -- outside of a definition a deed's command leads where the deed does, and runs no macro
 command_done : {dpi : Dpi} (place : ℕ) (command : Said) {d : Deed} {s next : Situation} → IsSaid command d → IsDone dpi d s next
     → page_refusal next ≡ None → s.performed < 100000000 → s.begun ≡ None
     → (after_command dpi place command s ≡ Ok next) × (run_of command s next ≡ None)
 command_done {dpi} place command {d} {s} {next} is done fits few none =
-    let closed : is_some s.begun ≡ false = ap (λ (b : Option Begun). is_some b) none in
+    let closed : is_some s.begun ≡ false = rw none refl in
     let tried_is : tried dpi command s ≡ Ok done.now =
     tried_as dpi command s few is.0
-    ∙ ap (λ (r : Result Situation Kind). r |> within_page_limit) (deed_done dpi command (counted s) is done.drawn_as)
-    ∙ fits_too done.now next done.is_quiet.pages fits in (
-      ap (λ (b : Bool). cond b (defining dpi place (keeping_of (operation_of command.name) command.value) command s)
-          (counting dpi place command s)) closed
-          ∙ ap (λ (r : Result Situation Kind). r |> managed place (operation_of command.name) command.value) tried_is
-          ∙ ap (λ (o : Option Operation). managed place o command.value done.now) is.0
-          ∙ ap (λ (v : Value). managed place (Some d.operation) v done.now) is.1
-          ∙ done.is_quiet.anywhere place,
-      ap (λ (b : Bool). cond b None (run_from (operation_of command.name) command.value next)) closed
-          ∙ ap (λ (o : Option Operation). run_from o command.value next) is.0
-          ∙ ap (λ (v : Value). run_from (Some d.operation) v next) is.1 ∙ done.is_quiet.runs,
-    )
+    ∙ rw (deed_done dpi command (counted s) is done.drawn_as) (fits_too done.now next done.is_quiet.pages fits) in
+    (rw (closed, tried_is, is.0, is.1) (done.is_quiet.anywhere place), rw (closed, is.0, is.1) done.is_quiet.runs)
 
 -- performing commands that are deeds leads where the deeds do
 pub commands_done : (dpi : Dpi) (f : Said → Run → Situation → Performance) (place : ℕ) (commands : List Said) (deeds : List Deed)
@@ -190,14 +166,11 @@ pub commands_done : (dpi : Dpi) (f : Said → Run → Situation → Performance)
     → s.begun ≡ None
     → (in_order (step dpi f) place commands s ≡ done later) × (later.begun ≡ None)
 commands_done dpi f place [] [] s a l few none =
-    (ap done (sym l), ap (λ (z : Situation). z.begun) l ∙ none)
+    (cc, rw l none)
 commands_done dpi f place [] (d ∷ deeds) s a l few none = absurd a
 commands_done dpi f place (command ∷ commands) [] s a l few none = absurd a
 commands_done dpi f place (command ∷ commands) (d ∷ deeds) s a l few none =
     let one = is_done l.1 in
     let is = command_done place command a.0 one l.2 (omega arith) none in
     let rest = commands_done dpi f (place + 1) commands deeds l.0 a.1 l.3 (omega (arith, one.performed)) (one.begun ∙ none) in
-    let stepped : step dpi f place command s ≡ done l.0 =
-    ap (λ (r : Result Situation Kind). then_on (concluded command s r) (λ t. and_run (f command) (run_of command s t) t)) is.0
-    ∙ ap (λ (r : Option Run). and_run (f command) r l.0) is.1 in
-    (ap (λ (p : Performance). then_on p (in_order (step dpi f) (place + 1) commands)) stepped ∙ rest.0, rest.1)
+    (rw (is.0, is.1) rest.0, rest.1)

@@ -1,11 +1,9 @@
 -- Whole jobs of page texts are accepted, and mean the pages of the texts.
-use Rattle.std.proofs.Common.{◌≡◌, ℕ, ◌+◌, ◌*◌, ◌<◌, ◌≤◌, Bool, true, false, nat_le, List, [], ◌∷◌, ◌++◌, length, Option, Some, None, refl, sym, ap, subst, ◌∙◌, append_assoc, append-nil, length-append, arith, lit≤, Ok}
-use Rattle.std.specs.Prelude.{is_some}
+use Rattle.std.proofs.Common.{◌≡◌, ℕ, ◌+◌, ◌*◌, ◌<◌, ◌≤◌, List, [], ◌∷◌, ◌++◌, length, Option, Some, None, refl, sym, ap, subst, ◌∙◌, append_assoc, append-nil, length-append, arith, lit≤}
 use Rattle.std.specs.List.{flat_map}
 use Rattle.std.proofs.lemmas.Bool.Decides.{nat_tests}
 use Rattle.pcl_base.specs.declared.dpi.Dpi.{Dpi}
 use Rattle.pcl_base.specs.declared.kind.Kind.{Kind}
-use Rattle.pcl_base.specs.declared.kind.Kind.TheVariants.{MacroOpen, TooManyPages}
 use Rattle.pcl_base.specs.declared.size.Size.{Size}
 use Rattle.pcl_base.specs.declared.refusal.Refusal.{Refusal}
 use Rattle.pcl_base.specs.Limits.{macro_limit, command_limit}
@@ -22,7 +20,7 @@ use Rattle.pcl_fonts.specs.History.{control}
 use Rattle.pcl_macros.specs.declared.table.MacroControl.TheVariants as macros
 use Rattle.pcl_macros.specs.History.{control as macro_control}
 use Rattle.pcl_page.specs.Marks.{Mark, is_black}
-use Rattle.pcl_page.specs.Situation.{Sheet, Situation, at_begin, at_end, after, page_refusal}
+use Rattle.pcl_page.specs.Situation.{Sheet, Situation, at_begin, at_end, after}
 use Rattle.pcl_page.specs.Performing.{Shows, Performance, done, unless, then_on, runs, after_all, end_refusal, ended, after_end, performance, pages_of, asks_among}
 use Rattle.pcl_page.specs.Asks.{Asks}
 use Rattle.pcl_page.specs.Jobs.{HasPages, HasAsks, performance_of}
@@ -34,8 +32,8 @@ use Rattle.pcl_meaning.specs.JobTexts.{PrintEach, most_commands, nothing_for}
 use Rattle.pcl_meaning.specs.PageTexts.{dot_of_rows, job_of, MeansRows}
 use Rattle.pcl_meaning.proofs.Deeds.{Deed}
 use Rattle.pcl_meaning.proofs.Readings.{ReadsAs, reads_joined, reads_none, said_many}
-use Rattle.pcl_meaning.proofs.Sequences.{token_deeds, body_deeds, start_deeds, end_deeds, reset, body_read, start_read, end_read, frame_read}
-use Rattle.pcl_meaning.proofs.Following.{does, Leads, leads_append, commands_done}
+use Rattle.pcl_meaning.proofs.Sequences.{token_deeds, body_deeds, reset, body_read, start_read, end_read, frame_read}
+use Rattle.pcl_meaning.proofs.Following.{Leads, leads_append, commands_done}
 use Rattle.pcl_meaning.proofs.Dots.{page_dot}
 use Rattle.pcl_meaning.proofs.Printing.{IsBetween, reset_fonts, reset_macros, between, pages_fit, text_deeds, text_taken}
 

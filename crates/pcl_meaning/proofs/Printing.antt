@@ -1,5 +1,5 @@
 -- Performing the deeds of a page text prints its page.
-use Rattle.std.proofs.Common.{◌≡◌, ℕ, zero, suc, ◌+◌, ◌-◌, ◌*◌, ◌/◌, ◌<◌, ◌≤◌, Bool, true, false, cond, ◌||◌, ◌&&◌, ◌==◌, nat_le, List, [], ◌∷◌, ◌++◌, length, drop, replicate, Option, Some, None, Result, refl, sym, ap, subst, ◌∙◌, length-append, arith, Ok}
+use Rattle.std.proofs.Common.{◌≡◌, ℕ, zero, suc, ◌+◌, ◌-◌, ◌*◌, ◌/◌, ◌<◌, ◌≤◌, Bool, true, false, cond, ◌||◌, nat_le, List, [], ◌∷◌, ◌++◌, length, drop, replicate, Option, Some, None, refl, ◌∙◌, length-append, arith, Ok}
 use Rattle.std.specs.Prelude.{not, nat_lt}
 use Rattle.std.specs.List.{AllByRecursion}
 use Rattle.std.proofs.lemmas.List.{length-replicate, map-append}
@@ -7,7 +7,6 @@ use Rattle.std.proofs.Math.Bool.{or-false}
 use Rattle.std.proofs.lemmas.Bool.Decides.{nat_tests}
 use Rattle.pcl_base.specs.declared.dpi.Dpi.{Dpi}
 use Rattle.pcl_base.specs.declared.dpi.Dpi.TheVariants.{Dpi300, Dpi600}
-use Rattle.pcl_base.specs.declared.kind.Kind.{Kind}
 use Rattle.pcl_base.specs.declared.method.Method.{Method}
 use Rattle.pcl_base.specs.declared.method.Method.TheVariants.{Plain, Runs, Packed, Delta}
 use Rattle.pcl_base.specs.declared.operation.Axis.TheVariants.{Horizontal, Vertical}
@@ -21,20 +20,19 @@ use Rattle.pcl_base.specs.Dpi.{dots_per_inch}
 use Rattle.pcl_base.specs.Method.{method_code}
 use Rattle.pcl_base.specs.Size.{code_of, page_width, units_high}
 use Rattle.pcl_base.specs.Value.{zero_value}
-use Rattle.pcl_bitmap.specs.Bitmap.{dot_of_row}
 use Rattle.pcl_env.specs.declared.effect.Effect.{Effect}
 use Rattle.pcl_env.specs.declared.effect.Effect.TheVariants as page
 use Rattle.pcl_env.specs.Settings.{Settings, put, put_x, put_y, to_first_line, nothing_asked, with_size}
-use Rattle.pcl_env.specs.Outcome.{Outcome, stays, stays_if, set_top, before_feed, return_carriage, outcome}
+use Rattle.pcl_env.specs.Outcome.{before_feed, return_carriage, outcome}
 use Rattle.pcl_fonts.specs.declared.fonts.FontControl.TheVariants.{Temporary}
 use Rattle.pcl_fonts.specs.History.{FontEvent, control}
 use Rattle.pcl_macros.specs.declared.table.MacroControl.TheVariants as macros
 use Rattle.pcl_macros.specs.History.{MacroEvent, control as macro_control}
 use Rattle.pcl_env.specs.declared.asked.Asked.{Asked}
-use Rattle.pcl_page.specs.Asks.{Asks, with_page}
+use Rattle.pcl_page.specs.Asks.{with_page}
 use Rattle.pcl_page.specs.Marks.{Mark, is_black, dot_at}
-use Rattle.pcl_page.specs.Raster.{Raster, ends_raster, scale_of, raster_from, bytes_of_width, cleared_past, row_sent, row_mark}
-use Rattle.pcl_page.specs.Situation.{Sheet, Situation, ◌|>◌, below, ejects, end_raster, drawn_on, turned_by, taken, counted, after, turned_page, page_refusal}
+use Rattle.pcl_page.specs.Raster.{Raster, ends_raster, scale_of, raster_from, bytes_of_width, row_sent, row_mark}
+use Rattle.pcl_page.specs.Situation.{Sheet, Situation, ◌|>◌, below, ejects, end_raster, drawn_on, after, page_refusal}
 use Rattle.pcl_rows.specs.Rows.{IsRowData}
 use Rattle.pcl_rows.proofs.Decoded.{decoded_is}
 use Rattle.pcl_output.specs.Tokens.{Token, opening, method, skip, send, PrintsRows}

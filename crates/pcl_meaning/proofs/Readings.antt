@@ -1,5 +1,5 @@
 -- Bytes that are read as deeds, wherever in a job they stand.
-use Rattle.std.proofs.Common.{◌≡◌, ℕ, zero, suc, ◌+◌, ◌*◌, ◌≤◌, true, false, List, [], ◌∷◌, ◌++◌, length, Some, None, Ok, refl, sym, ap, subst, ◌∙◌, append_assoc, append-nil, arith}
+use Rattle.std.proofs.Common.{◌≡◌, ℕ, zero, suc, ◌+◌, ◌*◌, ◌≤◌, true, false, List, [], ◌∷◌, ◌++◌, length, Some, None, Ok, refl, sym, ap, ◌∙◌, append_assoc, append-nil, arith}
 use Rattle.std.specs.List.{flat_map, AllByRecursion}
 use Rattle.std.proofs.lemmas.List.Concat.{flat_map-append}
 use Rattle.std.proofs.lemmas.Bool.Decides.{nat_tests}
@@ -60,32 +60,26 @@ pub pieces_append : (one two : List Piece) (behind : List ℕ)
     → ArePieces one (flat_map spelling two ++ behind) → ArePieces two behind → ArePieces (one ++ two) behind
 pieces_append [] two behind a b = b
 pieces_append (piece ∷ one) two behind a b =
-    let same : flat_map spelling one ++ (flat_map spelling two ++ behind) ≡ flat_map spelling (one ++ two) ++ behind =
-    sym (append_assoc (flat_map spelling one) (flat_map spelling two) behind)
-    ∙ ap (λ (bytes : List ℕ). bytes ++ behind) (sym (flat_map-append spelling one two)) in
-    (subst (IsPiece piece) same a.0, pieces_append one two behind a.1 b)
+    let joined = append_assoc (flat_map spelling one) (flat_map spelling two) behind in
+    (rw (flat_map-append spelling one two, joined) a.0, pieces_append one two behind a.1 b)
 
 commands_append : (at : ℕ) (one two : List Piece)
     → commands_of at (one ++ two) ≡ commands_of at one ++ commands_of (at + length (flat_map spelling one)) two
 commands_append at [] two = let place : at ≡ at + 0 = omega arith in ap (λ (n : ℕ). commands_of n two) place
 commands_append at (piece ∷ one) two =
     let next = at + length (spelling piece) in
-    ap (λ (commands : List Said). commands_from at piece ++ commands) (commands_append next one two)
-    ∙ sym (append_assoc (commands_from at piece) (commands_of next one) (commands_of (next + length (flat_map spelling one)) two))
-    ∙ ap (λ (n : ℕ). commands_of at (piece ∷ one) ++ commands_of n two) (place_further at (spelling piece) (flat_map spelling one))
+    rw (commands_append next one two, place_further at (spelling piece) (flat_map spelling one))
+    (sym (append_assoc (commands_from at piece) (commands_of next one) _))
 
 pub reads_joined : {one two : List ℕ} {before after : List Deed} → ReadsAs one before → ReadsAs two after
     → ReadsAs (one ++ two) (before ++ after)
 reads_joined {two} {before} {after} a b = record {
   pieces = a.pieces ++ b.pieces;
   each = λ behind. pieces_append a.pieces b.pieces behind (a.each (flat_map spelling b.pieces ++ behind)) (b.each behind);
-  spelled =
-      ap (λ (bytes : List ℕ). bytes ++ two) a.spelled ∙ ap (λ (bytes : List ℕ). flat_map spelling a.pieces ++ bytes) b.spelled
-      ∙ sym (flat_map-append spelling a.pieces b.pieces);
+  spelled = rw (flat_map-append spelling a.pieces b.pieces) cc;
   said = λ at.
-      let next = at + length (flat_map spelling a.pieces) in
-      subst (λ (commands : List Said). AreSaid commands (before ++ after)) (sym (commands_append at a.pieces b.pieces))
-      (said_append (commands_of at a.pieces) before (commands_of next b.pieces) after (a.said at) (b.said next));
+      rw (commands_append at a.pieces b.pieces)
+      (said_append (commands_of at a.pieces) before _ after (a.said at) (b.said (at + length (flat_map spelling a.pieces))));
 }
 
 pub reads_none : ReadsAs [] []
@@ -97,7 +91,7 @@ reads_piece piece {deeds} is said = record {
   pieces = piece ∷ [];
   each = λ behind. (is behind, tt);
   spelled = sym (append-nil (spelling piece));
-  said = λ at. subst (λ (commands : List Said). AreSaid commands deeds) (sym (append-nil (commands_from at piece))) (said at);
+  said = λ at. rw (append-nil (commands_from at piece)) (said at);
 }
 
 -- ---- combined sequences
@@ -159,7 +153,7 @@ number_value n = record { sign = Absent; parts = n * 10000 }
 value_is : (digits : List ℕ) {n : ℕ} → IsSpelled digits n → field_value (number_field digits) ≡ number_value n
 value_is digits {n} s =
     let parts : number_of digits * 10000 + 0 ≡ n * 10000 = omega (arith, s.1) in
-    ap (λ (p : ℕ). record { sign = Absent; parts = p }) parts
+    rw parts refl
 
 pub whole_is : (n : ℕ) → whole_of (number_value n) ≡ n
 whole_is n = omega arith
@@ -178,32 +172,22 @@ pub record IsSetting (prefix : Prefix) (letter : ℕ) (digits : List ℕ) (n : �
   pub alone : takes_data operation ≡ false
   pub stays : is_exit (parameter_name prefix letter) (field_value (number_field digits)) ≡ false
 
-setting_checks : {prefix : Prefix} {letter : ℕ} {digits : List ℕ} {n : ℕ} {operation : Operation}
-    → IsSetting prefix letter digits n operation
-    → parameter_checks (parameter_name prefix letter) letter (field_value (number_field digits)) 0 ≡ Ok 0
-unfolding parameter_checks
-setting_checks {prefix} {letter} {digits} s =
-    ap (λ (value : Value). parameter_checks (parameter_name prefix letter) letter value 0) (value_is digits s.spelled)
-    ∙ rw (in_range_is s.small, s.named, s.alone) refl
+module _ {prefix : Prefix} {letter : ℕ} {digits : List ℕ} {n : ℕ} {operation : Operation} (s : IsSetting prefix letter digits n operation)
+  where
+    setting_checks : parameter_checks (parameter_name prefix letter) letter (field_value (number_field digits)) 0 ≡ Ok 0
+    unfolding parameter_checks
+    setting_checks =
+        ap (λ (value : Value). parameter_checks (parameter_name prefix letter) letter value 0) (value_is digits s.spelled)
+        ∙ rw (in_range_is s.small, s.named, s.alone) refl
 
-pub setting_middle : {prefix : Prefix} {letter : ℕ} {digits : List ℕ} {n : ℕ} {operation : Operation} → may_go_on prefix letter ≡ true
-    → IsSetting prefix letter digits n operation → IsMiddle prefix (number_parameter digits letter)
-setting_middle {letter} g s =
-    record { field = (s.spelled.0, tt); letter = g; checks = setting_checks s }
+    pub setting_middle : may_go_on prefix letter ≡ true → IsMiddle prefix (number_parameter digits letter)
+    setting_middle goes = record { field = (s.spelled.0, tt); letter = goes; checks = setting_checks }
 
-pub setting_end : {prefix : Prefix} {letter : ℕ} {digits : List ℕ} {n : ℕ} {operation : Operation} → is_last letter ≡ true
-    → IsSetting prefix letter digits n operation → IsEnd prefix (number_parameter digits letter) []
-setting_end {letter} l s = record {
-  field = (s.spelled.0, tt);
-  letter = l;
-  checks = setting_checks s;
-  stays = s.stays;
-}
+    pub setting_end : is_last letter ≡ true → IsEnd prefix (number_parameter digits letter) []
+    setting_end last = record { field = (s.spelled.0, tt); letter = last; checks = setting_checks; stays = s.stays }
 
-pub setting_meant : {prefix : Prefix} {letter : ℕ} {digits : List ℕ} {n : ℕ} {operation : Operation}
-    → IsSetting prefix letter digits n operation
-    → IsMeant prefix (number_parameter digits letter) [] (deed operation (number_value n) [])
-setting_meant {digits} s = (s.named, value_is digits s.spelled, refl)
+    pub setting_meant : IsMeant prefix (number_parameter digits letter) [] (deed operation (number_value n) [])
+    setting_meant = (s.named, value_is digits s.spelled, refl)
 
 -- ---- a row that is sent
 
@@ -214,16 +198,16 @@ row_named : operation_of (Three 42 98 87) ≡ Some RasterRow
 unfolding operation_of
 row_named = refl
 
-count_checks : (n whole : ℕ) → whole ≡ n → data_checks 87 (number_value n) n ≡ Ok n
-count_checks zero whole e = refl
-count_checks (suc n) whole e = rw (whole_is (suc n)) (grind (arith, nat_tests))
+count_checks : (n : ℕ) → data_checks 87 (number_value n) n ≡ Ok n
+count_checks zero = refl
+count_checks (suc n) = rw (whole_is (suc n)) (grind (arith, nat_tests))
 
 row_checks : (digits : List ℕ) {n : ℕ} → IsSpelled digits n → n ≤ 65535
     → parameter_checks (Three 42 98 87) 87 (field_value (number_field digits)) n ≡ Ok n
 unfolding parameter_checks
 row_checks digits {n} s le =
     ap (λ (value : Value). parameter_checks (Three 42 98 87) 87 value n) (value_is digits s)
-    ∙ rw (in_range_is le, row_named) (count_checks n n refl)
+    ∙ rw (in_range_is le, row_named) (count_checks n)
 
 pub row_end : {digits bytes : List ℕ} → IsSpelled digits (length bytes) → length bytes ≤ 65535
     → IsEnd row_prefix (number_parameter digits 87) bytes

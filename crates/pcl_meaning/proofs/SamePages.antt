@@ -1,5 +1,5 @@
 -- Pages that show one sheet are the same in all that a text prints.
-use Rattle.std.proofs.Common.{◌≡◌, ℕ, ◌<◌, ◌≤◌, List, [], ◌∷◌, ◌++◌, length, sym, ap, subst, ◌∙◌, arith}
+use Rattle.std.proofs.Common.{◌≡◌, ℕ, ◌<◌, ◌≤◌, List, [], ◌∷◌, ◌++◌, length, sym, ap, ◌∙◌, arith}
 use Rattle.std.proofs.lemmas.List.{length-append}
 use Rattle.pcl_base.specs.declared.dpi.Dpi.{Dpi}
 use Rattle.pcl_base.specs.declared.size.Size.{Size}
@@ -24,8 +24,7 @@ pub record AreSame (page other : Page) : Type 0 where
 within_sheet : {n : ℕ} (measure : Size → Dpi → ℕ) (dpi : Dpi) (page : Page) (sheet : Sheet) → Shows dpi page sheet
     → n < measure page.bitmap.size page.bitmap.dpi → n < measure sheet.size dpi
 within_sheet {n} measure dpi page sheet shows lt =
-    subst (λ (d : Dpi). n < measure sheet.size d) (page.dpi_is ∙ shows.resolution)
-    (subst (λ (z : Size). n < measure z page.bitmap.dpi) (page.size_is ∙ shows.size) lt)
+    rw (← (page.dpi_is ∙ shows.resolution), ← (page.size_is ∙ shows.size)) lt
 
 -- bitmaps with the same dots are the same, since bits past the width are clear
 pub pages_same : {dpi : Dpi} {page other : Page} {sheet : Sheet} → Shows dpi page sheet → Shows dpi other sheet → AreSame page other
@@ -46,11 +45,7 @@ pages_same {dpi} {page} {other} {sheet} one two =
 -- what holds of the contents of one page holds of those of the other
 pub moved : (P : Size → Dpi → ℕ → Picture → Type 0) {page other : Page} → AreSame page other → P page.size page.dpi page.copies page.bitmap
     → P other.size other.dpi other.copies other.bitmap
-moved P {page} {other} same p =
-    subst (λ (b : Picture). P other.size other.dpi other.copies b) same.bitmap
-    (subst (λ (c : ℕ). P other.size other.dpi c page.bitmap) same.copies
-    (subst (λ (d : Dpi). P other.size d page.copies page.bitmap) same.resolution
-    (subst (λ (z : Size). P z page.dpi page.copies page.bitmap) same.size p)))
+moved P same p = rw (← same.size, ← same.resolution, ← same.copies, ← same.bitmap) p
 
 -- a text that prints the one prints the other
 pub prints_same : {page other : Page} {text : List ℕ} → AreSame page other → PrintsPage page text → PrintsPage other text
@@ -66,8 +61,7 @@ least_together dpi (sheet ∷ sheets) texts others l p =
     let rest = least_together dpi sheets l.1 p.1 l.4 p.4 in
     let first : length l.0 ≤ length p.0 =
     l.2.2.1 p.0 (prints_same (pages_same p.2.1 l.2.1) p.2.2) in
-    let texts_are = ap length l.3 ∙ length-append l.0 l.1 in
-    let others_are = ap length p.3 ∙ length-append p.0 p.1 in omega (arith, texts_are, others_are, rest, first)
+    omega (arith, ap length l.3, ap length p.3, length-append {A = ℕ}, rest, first)
 
 pub least_job : {dpi : Dpi} {sheets : List Sheet} (texts : List ℕ) {job : List ℕ} → PrintEach PrintsShortest dpi sheets texts
     → job ≡ frame_bytes ++ texts ++ frame_bytes → IsLeastJobText dpi sheets job
@@ -77,7 +71,5 @@ least_job {dpi} {sheets} texts l e = record {
   spelled = e;
   shortest = λ other is.
       let together = least_together dpi sheets texts is.texts l is.print in
-      let these = ap length e ∙ length-append frame_bytes (texts ++ frame_bytes) in
-      let those = ap length is.spelled ∙ length-append frame_bytes (is.texts ++ frame_bytes) in
-      omega (arith, together, these, those, length-append texts frame_bytes, length-append is.texts frame_bytes);
+      omega (arith, together, simp length-append at (ap length e), simp length-append at (ap length is.spelled));
 }

@@ -1,5 +1,5 @@
 -- Page texts are read as deeds.
-use Rattle.std.proofs.Common.{◌≡◌, ℕ, ◌≤◌, true, false, List, [], ◌∷◌, ◌++◌, length, drop, replicate, Some, refl, ap, subst, subst₂, ◌∙◌, append_assoc, append-nil, arith, lit≤}
+use Rattle.std.proofs.Common.{ℕ, ◌≤◌, true, false, List, [], ◌∷◌, ◌++◌, length, drop, replicate, Some, refl, append_assoc, append-nil, arith, lit≤}
 use Rattle.std.specs.Prelude.{decimal}
 use Rattle.std.specs.List.{flat_map, AllByRecursion}
 use Rattle.std.proofs.lemmas.List.{length-drop}
@@ -8,7 +8,6 @@ use Rattle.pcl_base.specs.declared.dpi.Dpi.{Dpi}
 use Rattle.pcl_base.specs.declared.dpi.Dpi.TheVariants.{Dpi300, Dpi600}
 use Rattle.pcl_base.specs.declared.method.Method.{Method}
 use Rattle.pcl_base.specs.declared.method.Method.TheVariants.{Plain, Runs, Packed, Delta}
-use Rattle.pcl_base.specs.declared.name.Name.TheVariants.{One, Three}
 use Rattle.pcl_base.specs.declared.operation.Axis.TheVariants.{Horizontal, Vertical}
 use Rattle.pcl_base.specs.declared.operation.Unit.TheVariants.{PclUnit}
 use Rattle.pcl_base.specs.declared.operation.Operation.{Operation}
@@ -22,12 +21,11 @@ use Rattle.pcl_base.specs.Size.{code_of, page_width}
 use Rattle.pcl_base.specs.Value.{zero_value}
 use Rattle.pcl_base.proofs.PageBounds.{width_small}
 use Rattle.pcl_escape.specs.declared.step.Prefix.{Prefix}
-use Rattle.pcl_escape.specs.Letter.{may_go_on, is_last}
 use Rattle.pcl_escape.specs.Pieces.{Parameter, parameter_bytes, control, two_character, IsPrefix, IsMiddle}
 use Rattle.pcl_output.specs.Tokens.{Token, opening, method, skip, send, token_bytes, IsSpelled, PrintsRows, start_bytes, end_bytes, frame_bytes}
 use Rattle.pcl_meaning.proofs.Deeds.{Deed, deed}
 use Rattle.pcl_output.proofs.Numbers.{decimal_spelled}
-use Rattle.pcl_meaning.proofs.Readings.{ReadsAs, reads_joined, reads_none, reads_piece, reads_sequence, AreMeant, meant_more, middle_more, number_parameter, number_value, number_bytes, IsSetting, setting_middle, setting_end, setting_meant, row_prefix, row_end, row_meant}
+use Rattle.pcl_meaning.proofs.Readings.{ReadsAs, reads_joined, reads_none, reads_piece, reads_sequence, AreMeant, meant_more, middle_more, number_parameter, number_value, IsSetting, setting_middle, setting_end, setting_meant, row_prefix, row_end, row_meant}
 
 -- ---- the deeds of a text
 
@@ -141,7 +139,7 @@ tokens_read (method digits next false ∷ tokens) = (
       record { spelled = p.0; small = code_small next; named = refl; alone = refl; stays = refl } in
       more_inside tokens digits (method_code next) 109 RasterMethod middle deeds
       ((tokens_read tokens).1 next seed rows _ _ p.1 few
-      (middle_more middle each (setting_middle refl s))
+      (middle_more middle each (setting_middle s refl))
       (meant_more row_prefix middle deeds _ meant (setting_meant s))),
 )
 tokens_read (method digits next true ∷ tokens) = (
@@ -150,7 +148,7 @@ tokens_read (method digits next true ∷ tokens) = (
       let s : IsSetting row_prefix 77 digits (method_code next) RasterMethod =
       record { spelled = p.0; small = code_small next; named = refl; alone = refl; stays = refl } in
       ended_inside tokens digits (method_code next) 77 RasterMethod [] middle deeds
-      (reads_sequence middle deeds row_prefix_is each meant (setting_end refl s) (setting_meant s))
+      (reads_sequence middle deeds row_prefix_is each meant (setting_end s refl) (setting_meant s))
       ((tokens_read tokens).0 next seed rows p.1 few),
 )
 tokens_read (skip digits count false ∷ tokens) = (
@@ -160,7 +158,7 @@ tokens_read (skip digits count false ∷ tokens) = (
       record { spelled = p.0; small = omega (arith, p.2); named = refl; alone = refl; stays = refl } in
       more_inside tokens digits count 121 RasterOffset middle deeds
       ((tokens_read tokens).1 current (replicate (length seed) 0) (drop count rows) _ _ p.4 (omega (arith, length-drop count rows))
-      (middle_more middle each (setting_middle refl s))
+      (middle_more middle each (setting_middle s refl))
       (meant_more row_prefix middle deeds _ meant (setting_meant s))),
 )
 tokens_read (skip digits count true ∷ tokens) = (
@@ -169,7 +167,7 @@ tokens_read (skip digits count true ∷ tokens) = (
       let s : IsSetting row_prefix 89 digits count RasterOffset =
       record { spelled = p.0; small = omega (arith, p.2); named = refl; alone = refl; stays = refl } in
       ended_inside tokens digits count 89 RasterOffset [] middle deeds
-      (reads_sequence middle deeds row_prefix_is each meant (setting_end refl s) (setting_meant s))
+      (reads_sequence middle deeds row_prefix_is each meant (setting_end s refl) (setting_meant s))
       ((tokens_read tokens).0 current (replicate (length seed) 0) (drop count rows) p.4 (omega (arith, length-drop count rows))),
 )
 tokens_read (send digits bytes ∷ tokens) = (
@@ -242,9 +240,9 @@ page_read {copies} size le =
     record { spelled = zero_digit; small = lit≤ tt; named = refl; alone = refl; stays = refl } in
     reads_sequence (number_parameter (decimal copies) 120 ∷ number_parameter (decimal (code_of size)) 97 ∷ [])
     (set_to Copies copies ∷ set_to PageSize (code_of size) ∷ []) (refl, refl)
-    (setting_middle refl c, (setting_middle refl s, tt))
+    (setting_middle c refl, (setting_middle s refl, tt))
     (setting_meant c, (setting_meant s, tt))
-    (setting_end refl margin) (setting_meant margin)
+    (setting_end margin refl) (setting_meant margin)
 
 place_read : ReadsAs place_bytes (set_to (Move Horizontal PclUnit) 0 ∷ set_to (Move Vertical PclUnit) 0 ∷ [])
 unfolding operation_of
@@ -255,8 +253,8 @@ place_read =
     record { spelled = zero_digit; small = lit≤ tt; named = refl; alone = refl; stays = refl } in
     reads_sequence (number_parameter (48 ∷ []) 120 ∷ [])
     (set_to (Move Horizontal PclUnit) 0 ∷ []) (refl, refl)
-    (setting_middle refl across, tt) (setting_meant across, tt)
-    (setting_end refl down) (setting_meant down)
+    (setting_middle across refl, tt) (setting_meant across, tt)
+    (setting_end down refl) (setting_meant down)
 
 resolution_read : (dpi : Dpi) → ReadsAs (resolution_bytes dpi) (set_to RasterResolution (dots_per_inch dpi) ∷ [])
 unfolding operation_of
@@ -266,7 +264,7 @@ resolution_read dpi =
     record { spelled = decimal_spelled _ (omega (arith, small)); small = small; named = refl; alone = refl; stays = refl } in
     reads_sequence []
     [] (refl, refl) tt tt
-    (setting_end refl r) (setting_meant r)
+    (setting_end r refl) (setting_meant r)
 
 raster_read : (size : Size) (dpi : Dpi)
     → ReadsAs (raster_bytes size dpi) (set_to RasterWidth (page_width size dpi) ∷ set_to StartRaster 0 ∷ [])
@@ -279,8 +277,8 @@ raster_read size dpi =
     record { spelled = zero_digit; small = lit≤ tt; named = refl; alone = refl; stays = refl } in
     reads_sequence (number_parameter (decimal (page_width size dpi)) 115 ∷ [])
     (set_to RasterWidth (page_width size dpi) ∷ []) (refl, refl)
-    (setting_middle refl w, tt) (setting_meant w, tt)
-    (setting_end refl start) (setting_meant start)
+    (setting_middle w refl, tt) (setting_meant w, tt)
+    (setting_end start refl) (setting_meant start)
 
 pub start_read : (dpi : Dpi) {copies : ℕ} (size : Size) → copies ≤ 65535
     → ReadsAs (start_bytes dpi copies size) (start_deeds dpi copies size)
@@ -294,7 +292,7 @@ end_read =
     let end : IsSetting raster_prefix 67 [] 0 EndRasterResetMethod =
     record { spelled = (tt, refl); small = lit≤ tt; named = refl; alone = refl; stays = refl } in
     reads_joined
-    (reads_sequence [] [] (refl, refl) tt tt (setting_end refl end) (setting_meant end))
+    (reads_sequence [] [] (refl, refl) tt tt (setting_end end refl) (setting_meant end))
     (reads_piece (control 12) (λ behind. (refl, refl, refl))
     (λ at. ((refl, refl, refl), tt)))
 

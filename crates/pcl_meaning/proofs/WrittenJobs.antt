@@ -1,5 +1,5 @@
 -- A job written again: page texts of its pages between two resets.
-use Rattle.std.proofs.Common.{◌≡◌, ℕ, List, ◌++◌, sym, ap, subst, ◌∙◌, append_assoc}
+use Rattle.std.proofs.Common.{◌≡◌, ℕ, List, ◌++◌, sym, subst, append_assoc}
 use Rattle.pcl_base.specs.declared.dpi.Dpi.{Dpi}
 use Rattle.pcl_page.specs.Situation.{Sheet}
 use Rattle.pcl_page.specs.Jobs.{HasPages, HasAsks}
@@ -19,8 +19,7 @@ unfoldable pub job_of_texts : (dpi : Dpi) (job start body output texts : List �
     → PrintEach IsWrittenPage dpi pages texts → body ≡ start ++ texts → output ≡ body ++ frame_bytes → IsJobOf dpi job output
 job_of_texts dpi job start body output texts pages meaning opened print joined closed =
     let spelled : output ≡ frame_bytes ++ texts ++ frame_bytes =
-    closed ∙ ap (λ (b : List ℕ). b ++ frame_bytes) (joined ∙ ap (λ (s : List ℕ). s ++ texts) opened)
-    ∙ append_assoc frame_bytes texts frame_bytes in
+    rw (closed, joined, opened) (append_assoc frame_bytes texts frame_bytes) in
     let w = subst (IsAgain dpi pages) (sym spelled) (written_again texts meaning print) in
     record {
       pages = pages;
