@@ -90,10 +90,19 @@ Leads dpi [] s later = later ≡ s
 Leads dpi (d ∷ deeds) s later =
     (next : Situation) × (does dpi d s ≡ Ok next) × (page_refusal next ≡ None) × Leads dpi deeds next later
 
-pub leads_append : (dpi : Dpi) (one two : List Deed) (s middle later : Situation) → Leads dpi one s middle → Leads dpi two middle later
+leads_append : (dpi : Dpi) (one two : List Deed) (s middle later : Situation) → Leads dpi one s middle → Leads dpi two middle later
     → Leads dpi (one ++ two) s later
 leads_append dpi [] two s middle later a b = subst (λ (z : Situation). Leads dpi two z later) a b
 leads_append dpi (d ∷ one) two s middle later a b = (a.0, a.1, a.2, leads_append dpi one two a.0 middle later a.3 b)
+
+-- the same, in a form from which the deeds and the situations are known
+pub record AreLeading (dpi : Dpi) (deeds : List Deed) (s later : Situation) : Type 0 where
+  pub leads : Leads dpi deeds s later
+
+pub leading_append : {dpi : Dpi} {one two : List Deed} {s middle later : Situation} → AreLeading dpi one s middle
+    → AreLeading dpi two middle later → AreLeading dpi (one ++ two) s later
+leading_append {dpi} {one} {two} {s} {middle} {later} a b =
+    record { leads = leads_append dpi one two s middle later a.leads b.leads }
 
 -- what a deed does to macros: nothing that can run, and it opens no definition
 record IsQuiet (operation : Operation) (value : Value) (s next : Situation) : Type 0 where

@@ -33,7 +33,7 @@ use Rattle.pcl_meaning.specs.PageTexts.{dot_of_rows, job_of, MeansRows}
 use Rattle.pcl_meaning.proofs.Deeds.{Deed}
 use Rattle.pcl_meaning.proofs.Readings.{ReadsAs, reads_joined, reads_none, said_many}
 use Rattle.pcl_meaning.proofs.Sequences.{token_deeds, body_deeds, reset, body_read, start_read, end_read, frame_read}
-use Rattle.pcl_meaning.proofs.Following.{Leads, leads_append, commands_done}
+use Rattle.pcl_meaning.proofs.Following.{Leads, AreLeading, leading_append, commands_done}
 use Rattle.pcl_meaning.proofs.Dots.{page_dot}
 use Rattle.pcl_meaning.proofs.Printing.{IsBetween, reset_fonts, reset_macros, between, pages_fit, text_deeds, text_taken}
 
@@ -92,7 +92,7 @@ pub record IsAccepted (dpi : Dpi) (job : List ℕ) (pages : List Sheet) (count :
 
 -- bytes that are read as deeds that eject these pages
 pub job_accepted : {dpi : Dpi} {text : List ℕ} {deeds : List Deed} (t : Settings) {pages : List Sheet} (n : ℕ)
-    → ReadsAs text deeds → Leads dpi deeds (between defaults [] 1) (between t pages n) → length pages ≤ 256 → length deeds ≤ 99999998
+    → ReadsAs text deeds → AreLeading dpi deeds (between defaults [] 1) (between t pages n) → length pages ≤ 256 → length deeds ≤ 99999998
     → IsAccepted dpi (frame_bytes ++ text ++ frame_bytes) pages (length deeds + 2)
 unfolding after outcome
 job_accepted {dpi} {text} {deeds} t {pages} n read leads fits few =
@@ -103,9 +103,8 @@ job_accepted {dpi} {text} {deeds} t {pages} n read leads fits few =
     let commands = commands_of 0 r.pieces in
     let first = between defaults [] 1 in
     let last = closed pages (n + 1) in
-    let closes : Leads dpi (reset ∷ []) (between t pages n) last = (last, refl, pages_fit last fits, refl) in
-    let whole : Leads dpi all at_begin last =
-    (first, refl, pages_fit first (lit≤ tt), leads_append dpi deeds (reset ∷ []) first (between t pages n) last leads closes) in
+    let closes : AreLeading dpi (reset ∷ []) (between t pages n) last = record { leads = (last, refl, pages_fit last fits, refl) } in
+    let whole : Leads dpi all at_begin last = (first, refl, pages_fit first (lit≤ tt), (leading_append leads closes).leads) in
     let count : at_begin.performed + length all ≤ 100000000 = omega (arith, length-append deeds (reset ∷ [])) in
     let c = commands_done dpi (runs macro_limit dpi commands) 0 commands all at_begin (r.said 0) whole count refl in
     let performed : performance_of dpi job commands ≡ done (at_end dpi last) =
@@ -145,7 +144,7 @@ pub record AreTextsTaken (dpi : Dpi) (meant : List Sheet) (texts : List ℕ) (fr
   pub again : List Sheet
   pub settings : Settings
   pub count : ℕ
-  pub leads : Leads dpi deeds from (between settings (pages ++ again) count)
+  pub leads : AreLeading dpi deeds from (between settings (pages ++ again) count)
   pub alike : AllAlike dpi meant again
   pub same_many : length again ≡ length meant
   pub few : length deeds + 2 ≤ most_commands dpi meant
@@ -185,7 +184,7 @@ texts_taken [] {t} {pages} {n} p b few = record {
   again = [];
   settings = t;
   count = n;
-  leads = rw (append-nil pages) refl;
+  leads = record { leads = rw (append-nil pages) refl };
   alike = tt;
   same_many = refl;
   few = omega arith;
@@ -200,9 +199,8 @@ texts_taken {dpi} (sheet ∷ meant) {t} {pages} {n} p b few =
     let again : Sheet = record { size = page.size; copies = page.copies; marks = one.inked } in
     let more = pages ++ again ∷ [] in
     let rest = texts_taken meant {pages = more} {n = one.count} p.4 one.stands (omega (arith, length-append pages (again ∷ []))) in
-    let middle = between one.settings more one.count in
-    let last = between rest.settings (pages ++ (again ∷ rest.again)) rest.count in
-    let behind : Leads dpi rest.deeds middle last =
+    let behind : AreLeading dpi rest.deeds (between one.settings more one.count)
+    (between rest.settings (pages ++ (again ∷ rest.again)) rest.count) =
     rw (append_assoc pages (again ∷ []) rest.again) at rest.leads in
     record {
       deeds = deeds ++ rest.deeds;
@@ -211,7 +209,7 @@ texts_taken {dpi} (sheet ∷ meant) {t} {pages} {n} p b few =
       again = again ∷ rest.again;
       settings = rest.settings;
       count = rest.count;
-      leads = leads_append dpi deeds rest.deeds (between t pages n) middle last one.leads behind;
+      leads = leading_append one.leads behind;
       alike = (
         sheet_alike shows one.black,
         rest.alike,

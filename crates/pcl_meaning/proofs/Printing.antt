@@ -42,7 +42,7 @@ use Rattle.pcl_meaning.specs.PageTexts.{dot_of_rows}
 use Rattle.pcl_meaning.proofs.Deeds.{Deed, deed}
 use Rattle.pcl_meaning.proofs.Readings.{number_value, whole_is}
 use Rattle.pcl_meaning.proofs.Sequences.{body_deeds, start_deeds, end_deeds}
-use Rattle.pcl_meaning.proofs.Following.{said_of, quietly, does, Leads, leads_append}
+use Rattle.pcl_meaning.proofs.Following.{said_of, quietly, does, Leads, AreLeading, leading_append}
 use Rattle.pcl_meaning.proofs.Dots.{dot_from, first_row, white_from, skipped_dots, row_inks}
 use Rattle.pcl_meaning.proofs.Pads.{cleared_is}
 
@@ -198,10 +198,6 @@ start_after {size} dpi {copies} {t} {pages} n b =
     one_scale dpi size b.height (first_dot dpi y) in
     rw (raster, b.method) refl
 
--- the same as the deeds' leading there, in a form from which they are known
-record AreLeading (dpi : Dpi) (deeds : List Deed) (from later : Situation) : Type 0 where
-  leads : Leads dpi deeds from later
-
 -- a command that sets something between texts, and the deeds behind it
 set_leads : {dpi : Dpi} {operation : Operation} {value : Value} {t next : Settings} {effect : Effect} {pages : List Sheet} {n : ℕ}
     {deeds : List Deed} {later : Situation} → length pages ≤ 256
@@ -287,7 +283,7 @@ record IsPrinted (size : Size) (dpi : Dpi) (t : Settings) (deeds : List Deed) (r
   seed : List ℕ
   all : List Mark
   count : ℕ
-  leads : Leads dpi deeds from (in_body size dpi t last end seed all pages count)
+  leads : AreLeading dpi deeds from (in_body size dpi t last end seed all pages count)
   black : (x y : ℕ) → x < page_width size dpi → is_black all x y ≡ (dot_from k rows x y || is_black inked x y)
 
 -- a newer mark beside dots of rows below it
@@ -306,18 +302,18 @@ sent_dots size dpi k seed row rest inked x y within =
 
 -- a command, and what is printed after it
 printed_after : {size : Size} {dpi : Dpi} {t : Settings} {d : Deed} {deeds : List Deed} {rows below : List (List ℕ)} {k further : ℕ}
-    {from : Situation} (next : Situation) {inked newer : List Mark} {pages : List Sheet} → does dpi d from ≡ Ok next
-    → page_refusal next ≡ None → IsPrinted size dpi t deeds below further next newer pages
+    {from next : Situation} {inked newer : List Mark} {pages : List Sheet} → does dpi d from ≡ Ok next
+    → length next.pages ≤ 256 → IsPrinted size dpi t deeds below further next newer pages
     → ((x y : ℕ) → x < page_width size dpi
     → (dot_from further below x y || is_black newer x y) ≡ (dot_from k rows x y || is_black inked x y))
     → IsPrinted size dpi t (d ∷ deeds) rows k from inked pages
-printed_after next one fits r same = record {
+printed_after {next = next} one fits r same = record {
   last = r.last;
   end = r.end;
   seed = r.seed;
   all = r.all;
   count = r.count;
-  leads = (next, one, fits, r.leads);
+  leads = record { leads = (next, one, pages_fit next fits, r.leads.leads) };
   black = λ x y within. r.black x y within ∙ same x y within;
 }
 
@@ -334,7 +330,7 @@ body_printed false [] t {m} {seed} rows k inked pages n p are long fits = record
   seed = seed;
   all = inked;
   count = n;
-  leads = refl;
+  leads = record { leads = refl };
   black = λ x y within. rw (white_from k rows x y p) refl;
 }
 body_printed true (opening ∷ tokens) t rows k inked pages n p are long fits = absurd p
@@ -342,22 +338,19 @@ body_printed false (opening ∷ tokens) t {seed} rows k inked pages n p are long
     body_printed true tokens t rows k inked pages n p are long fits
 body_printed false (method digits next ends ∷ tokens) t rows k inked pages n p are long fits = absurd p
 body_printed true (method digits next ends ∷ tokens) {size} {dpi} t {m} {seed} rows k inked pages n p are long fits =
-    let at = in_body size dpi t next k seed inked pages (n + 1) in
-    printed_after at (method_after size dpi t m next n) (pages_fit at fits)
+    printed_after (method_after size dpi t m next n) fits
     (body_printed (not ends) tokens t rows k inked pages (n + 1) p.1 are long fits) (λ x y within. refl)
 body_printed false (skip digits count ends ∷ tokens) t rows k inked pages n p are long fits = absurd p
 body_printed true (skip digits count ends ∷ tokens) {size} {dpi} t {m} {seed} rows k inked pages n p are long fits =
-    let at = in_body size dpi t m (k + count) (zeros size dpi) inked pages (n + 1) in
     let r = body_printed (not ends) tokens t (drop count rows) (k + count) inked pages (n + 1) (rw long at p.4)
     (rows_below count size dpi rows are)
     (length-replicate (bytes_of_width (page_width size dpi)) 0) fits in
-    printed_after at (skip_after size dpi t count k seed n) (pages_fit at fits) r (λ x y within. rw (skipped_dots count k rows x y p.3) refl)
+    printed_after (skip_after size dpi t count k seed n) fits r (λ x y within. rw (skipped_dots count k rows x y p.3) refl)
 body_printed false (send digits bytes ∷ tokens) t rows k inked pages n p are long fits = absurd p
 body_printed true (send digits bytes ∷ tokens) t [] k inked pages n p are long fits = absurd p
 body_printed true (send digits bytes ∷ tokens) {size} {dpi} t {m} {seed} (row ∷ rest) k inked pages n p are long fits =
     let newer = sent_mark size dpi k seed row ∷ inked in
-    let at = in_body size dpi t m (k + 1) row newer pages (n + 1) in
-    printed_after at (row_after size dpi t k seed bytes n (sent_is size dpi k p.1 are.0)) (pages_fit at fits)
+    printed_after (row_after size dpi t k seed bytes n (sent_is size dpi k p.1 are.0)) fits
     (body_printed false tokens t rest (k + 1) newer pages (n + 1) p.2 are.1 are.0.0 fits)
     (sent_dots size dpi k seed row rest inked)
 
@@ -397,22 +390,17 @@ ended_at size dpi t m k seed = to_first_line (before_feed (behind size dpi t m k
 end_leads : (size : Size) (dpi : Dpi) (t : Settings) (m : Method) (k : ℕ) (seed : List ℕ) (marks : List Mark) (pages : List Sheet) (n : ℕ)
     → t.raster_height ≡ None → t.asked ≡ nothing_asked → length pages < 256
     → IsBetween (ended_at size dpi t m k seed)
-    × Leads dpi end_deeds (in_body size dpi t m k seed marks pages n)
+    × AreLeading dpi end_deeds (in_body size dpi t m k seed marks pages n)
     (between (ended_at size dpi t m k seed) (pages ++ record { size = t.size; copies = t.copies; marks = marks } ∷ []) (n + 1 + 1))
 end_leads size dpi t m k seed marks pages n none asked few =
     let u = behind size dpi t m k seed in
     let middle : Situation = record (between u pages (n + 1)) { marks = marks } in
-    let more = pages ++ record { size = t.size; copies = t.copies; marks = marks } ∷ [] in
-    let last = between (to_first_line (before_feed u)) more (n + 1 + 1) in
     let sheet : Sheet = record { size = t.size; copies = t.copies; marks = marks } in
-    let all : length more ≤ 256 = omega (arith, length-append pages (sheet ∷ [])) in (
+    let last = between (to_first_line (before_feed u)) (pages ++ sheet ∷ []) (n + 1 + 1) in
+    let fits = pages_fit last (omega (arith, length-append pages (sheet ∷ []))) in
+    let fed : Leads dpi (deed FormFeed zero_value [] ∷ []) middle last = (last, feed_after dpi u marks pages (n + 1) asked, fits, refl) in (
       feed_between u.feed_returns u refl none asked,
-      (
-        middle,
-        end_after size dpi t m k seed n,
-        pages_fit middle (omega arith),
-        (last, feed_after dpi u marks pages (n + 1) asked, pages_fit last all, refl),
-      ),
+      record { leads = (middle, end_after size dpi t m k seed n, pages_fit middle (omega arith), fed) },
     )
 
 -- ---- a whole text
@@ -427,7 +415,7 @@ pub record IsTextTaken (dpi : Dpi) (size : Size) (copies : ℕ) (deeds : List De
   pub stands : IsBetween settings
   pub inked : List Mark
   pub count : ℕ
-  pub leads : Leads dpi deeds from (between settings (pages ++ record { size = size; copies = copies; marks = inked } ∷ []) count)
+  pub leads : AreLeading dpi deeds from (between settings (pages ++ record { size = size; copies = copies; marks = inked } ∷ []) count)
   pub black : (x y : ℕ) → x < page_width size dpi → is_black inked x y ≡ dot_of_rows rows x y
 
 all_rows : (rows : List (List ℕ)) (x y : ℕ) → (dot_from 0 rows x y || false) ≡ dot_of_rows rows x y
@@ -447,16 +435,12 @@ text_taken {dpi} {size} {copies} {rows} printed {t} {pages} {n} b few =
     let body = body_printed false printed.tokens u rows 0 [] pages m printed.prints printed.rows_are
     (length-replicate (bytes_of_width (page_width size dpi)) 0) (omega arith) in
     let end = end_leads size dpi u body.last body.end body.seed body.all pages body.count b.height b.asked few in
-    let begun = in_body size dpi u Plain 0 (zeros size dpi) [] pages m in
-    let drawn = in_body size dpi u body.last body.end body.seed body.all pages body.count in
     let settings = ended_at size dpi u body.last body.end body.seed in
-    let last = between settings (pages ++ record { size = size; copies = copies; marks = body.all } ∷ []) (body.count + 1 + 1) in
     record {
       settings = settings;
       stands = end.0;
       inked = body.all;
       count = body.count + 1 + 1;
-      leads = leads_append dpi (start_deeds dpi copies size) (body_deeds printed.tokens ++ end_deeds) (between t pages n) begun last start.leads
-          (leads_append dpi (body_deeds printed.tokens) end_deeds begun drawn last body.leads end.1);
+      leads = leading_append start (leading_append body.leads end.1);
       black = λ x y within. body.black x y within ∙ all_rows rows x y;
     }

@@ -212,23 +212,11 @@ dots_small Dpi300 = lit≤ tt
 dots_small Dpi600 = lit≤ tt
 
 -- sequences of settings alone, by their bytes
-abbrev page_bytes : ℕ → Size → List ℕ
-page_bytes copies size =
-    27 ∷ 38 ∷ 108 ∷ (flat_map parameter_bytes (number_parameter (decimal copies) 120 ∷ number_parameter (decimal (code_of size)) 97 ∷ [])
-    ++ (parameter_bytes (number_parameter (48 ∷ []) 69) ++ []))
-
-abbrev place_bytes : List ℕ
-place_bytes = 27 ∷ 42 ∷ 112 ∷ 48 ∷ 120 ∷ 48 ∷ 89 ∷ []
-
-abbrev resolution_bytes : Dpi → List ℕ
-resolution_bytes dpi = 27 ∷ 42 ∷ 116 ∷ (parameter_bytes (number_parameter (decimal (dots_per_inch dpi)) 82) ++ [])
-
-abbrev raster_bytes : Size → Dpi → List ℕ
-raster_bytes size dpi =
-    27 ∷ 42 ∷ 114 ∷ (flat_map parameter_bytes (number_parameter (decimal (page_width size dpi)) 115 ∷ []) ++ (48 ∷ 65 ∷ []))
-
 page_read : {copies : ℕ} (size : Size) → copies ≤ 65535
-    → ReadsAs (page_bytes copies size) (set_to Copies copies ∷ set_to PageSize (code_of size) ∷ set_to TopMargin 0 ∷ [])
+    → ReadsAs
+    (27 ∷ 38 ∷ 108 ∷ (flat_map parameter_bytes (number_parameter (decimal copies) 120 ∷ number_parameter (decimal (code_of size)) 97 ∷ [])
+    ++ (parameter_bytes (number_parameter (48 ∷ []) 69) ++ [])))
+    (set_to Copies copies ∷ set_to PageSize (code_of size) ∷ set_to TopMargin 0 ∷ [])
 unfolding operation_of
 page_read {copies} size le =
     let small = size_code_small size in
@@ -244,7 +232,8 @@ page_read {copies} size le =
     (setting_meant c, (setting_meant s, tt))
     (setting_end margin refl) (setting_meant margin)
 
-place_read : ReadsAs place_bytes (set_to (Move Horizontal PclUnit) 0 ∷ set_to (Move Vertical PclUnit) 0 ∷ [])
+place_read : ReadsAs (27 ∷ 42 ∷ 112 ∷ 48 ∷ 120 ∷ 48 ∷ 89 ∷ [])
+    (set_to (Move Horizontal PclUnit) 0 ∷ set_to (Move Vertical PclUnit) 0 ∷ [])
 unfolding operation_of
 place_read =
     let across : IsSetting place_prefix 120 (48 ∷ []) 0 (Move Horizontal PclUnit) =
@@ -256,7 +245,9 @@ place_read =
     (setting_middle across refl, tt) (setting_meant across, tt)
     (setting_end down refl) (setting_meant down)
 
-resolution_read : (dpi : Dpi) → ReadsAs (resolution_bytes dpi) (set_to RasterResolution (dots_per_inch dpi) ∷ [])
+resolution_read : (dpi : Dpi)
+    → ReadsAs (27 ∷ 42 ∷ 116 ∷ (parameter_bytes (number_parameter (decimal (dots_per_inch dpi)) 82) ++ []))
+    (set_to RasterResolution (dots_per_inch dpi) ∷ [])
 unfolding operation_of
 resolution_read dpi =
     let small = dots_small dpi in
@@ -267,7 +258,8 @@ resolution_read dpi =
     (setting_end r refl) (setting_meant r)
 
 raster_read : (size : Size) (dpi : Dpi)
-    → ReadsAs (raster_bytes size dpi) (set_to RasterWidth (page_width size dpi) ∷ set_to StartRaster 0 ∷ [])
+    → ReadsAs (27 ∷ 42 ∷ 114 ∷ (flat_map parameter_bytes (number_parameter (decimal (page_width size dpi)) 115 ∷ []) ++ (48 ∷ 65 ∷ [])))
+    (set_to RasterWidth (page_width size dpi) ∷ set_to StartRaster 0 ∷ [])
 unfolding operation_of
 raster_read size dpi =
     let small : page_width size dpi ≤ 65535 = omega (arith, width_small size dpi) in
