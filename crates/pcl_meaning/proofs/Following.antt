@@ -176,10 +176,9 @@ pub commands_done : (dpi : Dpi) (f : Said → Run → Situation → Performance)
     → (in_order (step dpi f) place commands s ≡ done later) × (later.begun ≡ None)
 commands_done dpi f place [] [] s a l few none =
     (cc, rw l none)
-commands_done dpi f place [] (d ∷ deeds) s a l few none = absurd a
-commands_done dpi f place (command ∷ commands) [] s a l few none = absurd a
 commands_done dpi f place (command ∷ commands) (d ∷ deeds) s a l few none =
     let one = is_done l.1 in
     let is = command_done place command a.0 one l.2 (omega arith) none in
     let rest = commands_done dpi f (place + 1) commands deeds l.0 a.1 l.3 (omega (arith, one.performed)) (one.begun ∙ none) in
     (rw (is.0, is.1) rest.0, rest.1)
+commands_done dpi f place commands deeds s a l few none = absurd a

@@ -261,10 +261,9 @@ few_commands dpi (sheet ∷ sheets) = omega (arith, few_commands dpi sheets, hei
 
 nothing_alike : (again meant : List Sheet) → length again ≡ length meant → nothing_for again ≡ nothing_for meant
 nothing_alike [] [] e = refl
-nothing_alike [] (sheet ∷ meant) e = absurd cc
-nothing_alike (sheet ∷ again) [] e = absurd cc
 nothing_alike (sheet ∷ again) (other ∷ meant) e =
     ap (λ (asks : Asks). record { pages = nothing_asked ∷ asks.pages; exits = [] }) (nothing_alike again meant cc)
+nothing_alike again meant e = absurd cc
 
 -- the written job is accepted, its pages are alike, it asks for nothing, and it has few commands
 pub record IsAgain (dpi : Dpi) (pages : List Sheet) (job : List ℕ) : Type 0 where

@@ -232,42 +232,36 @@ start_leads size dpi copies {t} pages n b some few fits =
 
 -- ---- the body
 
-method_after : (size : Size) (dpi : Dpi) (t : Settings) (m next : Method) {k : ℕ} {seed : List ℕ} {marks : List Mark} {pages : List Sheet}
-    (n : ℕ)
-    → does dpi (deed RasterMethod (number_value (method_code next)) []) (in_body size dpi t m k seed marks pages n)
-    ≡ Ok (in_body size dpi t next k seed marks pages (n + 1))
-unfolding after outcome
-method_after size dpi t m Plain n = refl
-method_after size dpi t m Runs n = refl
-method_after size dpi t m Packed n = refl
-method_after size dpi t m Delta n = refl
-
-skip_after : (size : Size) (dpi : Dpi) (t : Settings) {m : Method} (count k : ℕ) (seed : List ℕ) {marks : List Mark} {pages : List Sheet}
-    (n : ℕ)
-    → does dpi (deed RasterOffset (number_value count) []) (in_body size dpi t m k seed marks pages n)
-    ≡ Ok (in_body size dpi t m (k + count) (zeros size dpi) marks pages (n + 1))
-unfolding after outcome
-skip_after size dpi t {m} count k seed {marks} {pages} n =
-    rw (whole_is count) refl
-
 abbrev sent_mark : Size → Dpi → ℕ → List ℕ → List ℕ → Mark
 sent_mark size dpi k seed row = row_mark row (body_raster size dpi k seed)
 
-row_after : (size : Size) (dpi : Dpi) (t : Settings) {m : Method} (k : ℕ) (seed : List ℕ) {row : List ℕ} (bytes : List ℕ)
-    {marks : List Mark}
-    {pages : List Sheet} (n : ℕ)
-    → row_sent m bytes (body_raster size dpi k seed) ≡ row
-    → does dpi (deed RasterRow (number_value (length bytes)) bytes) (in_body size dpi t m k seed marks pages n)
-    ≡ Ok (in_body size dpi t m (k + 1) row (sent_mark size dpi k seed row ∷ marks) pages (n + 1))
-unfolding after outcome
-row_after size dpi t {m} k seed bytes {marks} {pages} n e =
-    rw e refl
+-- the commands of a body, each performed k rows below the top
+module _ (size : Size) (dpi : Dpi) (t : Settings) (m : Method) (k : ℕ) (seed : List ℕ) (marks : List Mark) (pages : List Sheet) (n : ℕ) where
+  abbrev here : Situation
+  here = in_body size dpi t m k seed marks pages n
 
--- the row that is sent is the row that is printed
-sent_is : (size : Size) (dpi : Dpi) {m : Method} (k : ℕ) {seed row bytes : List ℕ} → IsRowData m seed row bytes → IsRowOf size dpi row
-    → row_sent m bytes (body_raster size dpi k seed) ≡ row
-sent_is size dpi {m} k {seed} {row} {bytes} d is =
-    rw (← decoded_is m seed bytes row d.decodes) (cleared_is row is.1)
+  method_after : (next : Method)
+      → does dpi (deed RasterMethod (number_value (method_code next)) []) here ≡ Ok (in_body size dpi t next k seed marks pages (n + 1))
+  unfolding after outcome
+  method_after Plain = refl
+  method_after Runs = refl
+  method_after Packed = refl
+  method_after Delta = refl
+
+  skip_after : (count : ℕ)
+      → does dpi (deed RasterOffset (number_value count) []) here
+      ≡ Ok (in_body size dpi t m (k + count) (zeros size dpi) marks pages (n + 1))
+  unfolding after outcome
+  skip_after count = rw (whole_is count) refl
+
+  -- the row that is sent is the row that is printed
+  row_after : {row bytes : List ℕ} → IsRowData m seed row bytes → IsRowOf size dpi row
+      → does dpi (deed RasterRow (number_value (length bytes)) bytes) here
+      ≡ Ok (in_body size dpi t m (k + 1) row (sent_mark size dpi k seed row ∷ marks) pages (n + 1))
+  unfolding after outcome
+  row_after {row} {bytes} sends is =
+      let sent : row_sent m bytes (body_raster size dpi k seed) ≡ row =
+      rw (← decoded_is m seed bytes row sends.decodes) (cleared_is row is.1) in rw sent refl
 
 rows_below : (count : ℕ) (size : Size) (dpi : Dpi) (rows : List (List ℕ)) → AllByRecursion (IsRowOf size dpi) rows
     → AllByRecursion (IsRowOf size dpi) (drop count rows)
@@ -323,7 +317,6 @@ body_printed : (inside : Bool) (tokens : List Token) {size : Size} {dpi : Dpi} (
     → length pages ≤ 256
     → IsPrinted size dpi t (body_deeds tokens) rows k (in_body size dpi t m k seed inked pages n) inked pages
 unfolding PrintsRows
-body_printed true [] t rows k inked pages n p are long fits = absurd p
 body_printed false [] t {m} {seed} rows k inked pages n p are long fits = record {
   last = m;
   end = k;
@@ -333,26 +326,22 @@ body_printed false [] t {m} {seed} rows k inked pages n p are long fits = record
   leads = record { leads = refl };
   black = λ x y within. rw (white_from k rows x y p) refl;
 }
-body_printed true (opening ∷ tokens) t rows k inked pages n p are long fits = absurd p
 body_printed false (opening ∷ tokens) t {seed} rows k inked pages n p are long fits =
     body_printed true tokens t rows k inked pages n p are long fits
-body_printed false (method digits next ends ∷ tokens) t rows k inked pages n p are long fits = absurd p
 body_printed true (method digits next ends ∷ tokens) {size} {dpi} t {m} {seed} rows k inked pages n p are long fits =
-    printed_after (method_after size dpi t m next n) fits
+    printed_after (method_after size dpi t m k seed inked pages n next) fits
     (body_printed (not ends) tokens t rows k inked pages (n + 1) p.1 are long fits) (λ x y within. refl)
-body_printed false (skip digits count ends ∷ tokens) t rows k inked pages n p are long fits = absurd p
 body_printed true (skip digits count ends ∷ tokens) {size} {dpi} t {m} {seed} rows k inked pages n p are long fits =
     let r = body_printed (not ends) tokens t (drop count rows) (k + count) inked pages (n + 1) (rw long at p.4)
     (rows_below count size dpi rows are)
     (length-replicate (bytes_of_width (page_width size dpi)) 0) fits in
-    printed_after (skip_after size dpi t count k seed n) fits r (λ x y within. rw (skipped_dots count k rows x y p.3) refl)
-body_printed false (send digits bytes ∷ tokens) t rows k inked pages n p are long fits = absurd p
-body_printed true (send digits bytes ∷ tokens) t [] k inked pages n p are long fits = absurd p
+    printed_after (skip_after size dpi t m k seed inked pages n count) fits r (λ x y within. rw (skipped_dots count k rows x y p.3) refl)
 body_printed true (send digits bytes ∷ tokens) {size} {dpi} t {m} {seed} (row ∷ rest) k inked pages n p are long fits =
     let newer = sent_mark size dpi k seed row ∷ inked in
-    printed_after (row_after size dpi t k seed bytes n (sent_is size dpi k p.1 are.0)) fits
+    printed_after (row_after size dpi t m k seed inked pages n p.1 are.0) fits
     (body_printed false tokens t rest (k + 1) newer pages (n + 1) p.2 are.1 are.0.0 fits)
     (sent_dots size dpi k seed row rest inked)
+body_printed inside tokens t rows k inked pages n p are long fits = absurd p
 
 -- ---- the end
 

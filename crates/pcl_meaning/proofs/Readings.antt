@@ -29,22 +29,19 @@ IsSaid command deed = (operation_of command.name ≡ Some deed.operation) × (co
 
 abbrev pub AreSaid : List Said → List Deed → Type 0
 AreSaid [] [] = Unit {0}
-AreSaid [] (deed ∷ deeds) = ⊥
-AreSaid (command ∷ commands) [] = ⊥
 AreSaid (command ∷ commands) (deed ∷ deeds) = IsSaid command deed × AreSaid commands deeds
+AreSaid commands deeds = ⊥
 
 said_append : (one : List Said) (before : List Deed) (two : List Said) (after : List Deed)
     → AreSaid one before → AreSaid two after → AreSaid (one ++ two) (before ++ after)
 said_append [] [] two after a b = b
-said_append [] (deed ∷ before) two after a b = absurd a
-said_append (command ∷ one) [] two after a b = absurd a
 said_append (command ∷ one) (deed ∷ before) two after a b = (a.0, said_append one before two after a.1 b)
+said_append one before two after a b = absurd a
 
 pub said_many : (commands : List Said) (deeds : List Deed) → AreSaid commands deeds → length commands ≡ length deeds
 said_many [] [] said = refl
-said_many [] (deed ∷ deeds) said = absurd said
-said_many (command ∷ commands) [] said = absurd said
 said_many (command ∷ commands) (deed ∷ deeds) said = let rest = said_many commands deeds said.1 in omega (arith, rest)
+said_many commands deeds said = absurd said
 
 -- ---- pieces
 
@@ -104,17 +101,15 @@ IsMeant prefix parameter bytes deed =
 
 abbrev pub AreMeant : Prefix → List Parameter → List Deed → Type 0
 AreMeant prefix [] [] = Unit {0}
-AreMeant prefix [] (deed ∷ deeds) = ⊥
-AreMeant prefix (parameter ∷ middle) [] = ⊥
 AreMeant prefix (parameter ∷ middle) (deed ∷ deeds) = IsMeant prefix parameter [] deed × AreMeant prefix middle deeds
+AreMeant prefix middle deeds = ⊥
 
 pub meant_more : (prefix : Prefix) (middle : List Parameter) (deeds : List Deed) (parameter : Parameter) {deed : Deed}
     → AreMeant prefix middle deeds → IsMeant prefix parameter [] deed
     → AreMeant prefix (middle ++ parameter ∷ []) (deeds ++ deed ∷ [])
 meant_more prefix [] [] parameter a m = (m, tt)
-meant_more prefix [] (first ∷ deeds) parameter a m = absurd a
-meant_more prefix (first ∷ middle) [] parameter a m = absurd a
 meant_more prefix (first ∷ middle) (one ∷ deeds) parameter a m = (a.0, meant_more prefix middle deeds parameter a.1 m)
+meant_more prefix middle deeds parameter a m = absurd a
 
 pub middle_more : {prefix : Prefix} (middle : List Parameter) {parameter : Parameter}
     → AllByRecursion (IsMiddle prefix) middle → IsMiddle prefix parameter → AllByRecursion (IsMiddle prefix) (middle ++ parameter ∷ [])
@@ -125,11 +120,10 @@ parameters_said : (prefix : Prefix) (middle : List Parameter) (end : Parameter) 
     (at begin : ℕ) → AreMeant prefix middle deeds → IsMeant prefix end bytes last
     → AreSaid (parameter_commands prefix at begin middle end bytes) (deeds ++ last ∷ [])
 parameters_said prefix [] end [] at begin a m = (m, tt)
-parameters_said prefix [] end (deed ∷ deeds) at begin a m = absurd a
-parameters_said prefix (parameter ∷ middle) end [] at begin a m = absurd a
 parameters_said prefix (parameter ∷ middle) end (deed ∷ deeds) at begin a m =
     let behind = begin + length (parameter_bytes parameter) in
     (a.0, parameters_said prefix middle end deeds behind behind a.1 m)
+parameters_said prefix middle end deeds at begin a m = absurd a
 
 pub reads_sequence : {prefix : Prefix} (middle : List Parameter) {end : Parameter} {bytes : List ℕ} (deeds : List Deed) {last : Deed}
     → IsPrefix prefix → AllByRecursion (IsMiddle prefix) middle → AreMeant prefix middle deeds
