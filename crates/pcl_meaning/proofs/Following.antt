@@ -4,7 +4,6 @@ use Rattle.std.specs.Prelude.{is_some}
 use Rattle.pcl_base.specs.declared.dpi.Dpi.{Dpi}
 use Rattle.pcl_base.specs.declared.kind.Kind.{Kind}
 use Rattle.pcl_base.specs.declared.kind.Kind.TheVariants.{UnsupportedCommand}
-use Rattle.pcl_base.specs.declared.name.Name.{Name}
 use Rattle.pcl_base.specs.declared.name.Name.TheVariants.{Empty}
 use Rattle.pcl_base.specs.declared.operation.Operation.{Operation}
 use Rattle.pcl_base.specs.declared.operation.Operation.TheVariants.{Reset, UniversalExit, ControlMacros, FillRectangle, ControlFonts, DownloadFont, DownloadCharacter, SelectFont, PrintText, StartRaster, RasterOffset, RasterRow}
@@ -25,15 +24,13 @@ use Rattle.pcl_meaning.proofs.Readings.{IsSaid, AreSaid}
 abbrev pub said_of : Deed → Said
 said_of d = record { at = 0; name = Empty; value = d.value; bytes = d.bytes }
 
--- neither the place nor the name of a command matters to what it does
-module _ (at : ℕ) (name : Name) (value : Value) (bytes : List ℕ) (s : Situation) where
-  abbrev here : Said
-  here = record { at = at; name = name; value = value; bytes = bytes }
+-- a command without its place and its name
+abbrev nameless : Said → Said
+nameless command = record { at = 0; name = Empty; value = command.value; bytes = command.bytes }
 
-  abbrev nowhere : Said
-  nowhere = record { at = 0; name = Empty; value = value; bytes = bytes }
-
-  drawn_same : (dpi : Dpi) (operation : Operation) → drawn dpi operation here s ≡ drawn dpi operation nowhere s
+-- neither of them matters to what it does
+module _ (command : Said) (s : Situation) where
+  drawn_same : (dpi : Dpi) (operation : Operation) → drawn dpi operation command s ≡ drawn dpi operation (nameless command) s
   drawn_same dpi Reset = refl
   drawn_same dpi UniversalExit = refl
   drawn_same dpi ControlFonts = refl
@@ -47,7 +44,7 @@ module _ (at : ℕ) (name : Name) (value : Value) (bytes : List ℕ) (s : Situat
   drawn_same dpi RasterRow = refl
   drawn_same dpi other = refl
 
-  refusal_same : (operation : Operation) → draw_refusal operation here s ≡ draw_refusal operation nowhere s
+  refusal_same : (operation : Operation) → draw_refusal operation command s ≡ draw_refusal operation (nameless command) s
   refusal_same ControlFonts = refl
   refusal_same FillRectangle = refl
   refusal_same DownloadFont = refl
@@ -56,8 +53,7 @@ module _ (at : ℕ) (name : Name) (value : Value) (bytes : List ℕ) (s : Situat
   refusal_same other = refl
 
 after_same : (dpi : Dpi) (operation : Operation) (command : Said) (s : Situation)
-    → after dpi operation command s
-    ≡ after dpi operation (record { at = 0; name = Empty; value = command.value; bytes = command.bytes }) s
+    → after dpi operation command s ≡ after dpi operation (nameless command) s
 unfolding after
 after_same dpi operation command s =
     let before = prepared dpi operation s in
@@ -65,14 +61,9 @@ after_same dpi operation command s =
     (drawn_alike (turned_by (outcome dpi operation command.value (is_marked before) before.settings) before))
   where
     drawn_alike : (o : Result Situation Kind)
-        → (o |> drawn_on dpi operation command)
-        ≡ (o |> drawn_on dpi operation (record { at = 0; name = Empty; value = command.value; bytes = command.bytes }))
+        → (o |> drawn_on dpi operation command) ≡ (o |> drawn_on dpi operation (nameless command))
     drawn_alike (Err kind) = refl
-    drawn_alike (Ok now) =
-        rw (
-          refusal_same command.at command.name command.value command.bytes now operation,
-          drawn_same command.at command.name command.value command.bytes now dpi operation,
-        ) refl
+    drawn_alike (Ok now) = rw (refusal_same command now operation, drawn_same command now dpi operation) refl
 
 -- ---- deeds one after the other
 
@@ -112,22 +103,12 @@ record IsQuiet (operation : Operation) (value : Value) (s next : Situation) : Ty
   performed : next.performed ≡ s.performed
   pages : next.pages ≡ s.pages
 
-same_quiet : {operation : Operation} {value : Value} {s : Situation} (now : Situation) {next : Situation}
-    → ◌≡◌ {A = Result Situation Kind} (Ok now) (Ok next)
-    → IsQuiet operation value s now → IsQuiet operation value s next
-same_quiet {operation} {value} {s} now {next} e q =
-    let same : now ≡ next = cc in subst (λ (z : Situation). IsQuiet operation value s z) same q
-
 quiet : (operation : Operation) {value : Value} {s next : Situation} → quietly operation value s ≡ Ok next
     → IsQuiet operation value s next
-quiet Reset e =
-    same_quiet _ e (record { anywhere = λ place. refl; runs = refl; begun = refl; performed = refl; pages = refl })
-quiet UniversalExit e =
-    same_quiet _ e
-    (record { anywhere = λ place. refl; runs = refl; begun = refl; performed = refl; pages = refl })
+quiet Reset e = record { anywhere = λ place. e; runs = refl; begun = cc; performed = cc; pages = cc }
+quiet UniversalExit e = record { anywhere = λ place. e; runs = refl; begun = cc; performed = cc; pages = cc }
 quiet ControlMacros e = absurd cc
-quiet other {s} e =
-    same_quiet s e (record { anywhere = λ place. refl; runs = refl; begun = refl; performed = refl; pages = refl })
+quiet other e = record { anywhere = λ place. e; runs = refl; begun = cc; performed = cc; pages = cc }
 
 -- each deed counts one, and leaves a definition that is open
 record IsDone (dpi : Dpi) (d : Deed) (s next : Situation) : Type 0 where

@@ -32,7 +32,7 @@ first_is : (n : ℕ) {byte : ℕ} → AreClear n byte → first_bits n byte ≡ 
 first_is n h = lowest_clear (8 - n) (omega arith) (λ k from lt. h k (omega arith) lt)
 
 dot_at : (bytes : List ℕ) (x i k : ℕ) → x / 8 ≡ i → x % 8 ≡ k → dot_of_row bytes x ≡ bit_of_byte (slice_index bytes i) k
-dot_at bytes x i k a b = rw (a, b) refl
+dot_at bytes x i k a b = ap (λ (n : ℕ). bit_of_byte (slice_index bytes n) (x % 8)) a ∙ ap (bit_of_byte (slice_index bytes i)) b
 
 -- the first eight dots of a row, and the others
 first_dots : (byte : ℕ) (row : List ℕ) {k : ℕ} → k < 8 → dot_of_row (byte ∷ row) k ≡ bit_of_byte byte k
@@ -45,7 +45,5 @@ later_dots byte row x = dot_at (byte ∷ row) (x + 8) (suc (x / 8)) (x % 8) (ome
 pub cleared_is : (row : List ℕ) {width : ℕ} → ((x : ℕ) → width ≤ x → dot_of_row row x ≡ false) → cleared_past width row ≡ row
 cleared_is [] h = refl
 cleared_is (byte ∷ row) {width} h =
-    rw (
-      first_is width (λ k from lt. sym (first_dots byte row lt) ∙ h k from),
-      cleared_is row {width = width - 8} (λ x from. sym (later_dots byte row x) ∙ h (x + 8) (omega arith)),
-    ) refl
+    ap (λ (b : ℕ). b ∷ cleared_past (width - 8) row) (first_is width (λ k from lt. sym (first_dots byte row lt) ∙ h k from))
+    ∙ ap (λ (bs : List ℕ). byte ∷ bs) (cleared_is row (λ x from. sym (later_dots byte row x) ∙ h (x + 8) (omega arith)))

@@ -154,17 +154,8 @@ body_raster size dpi k seed = record { left = 0; top = 0; scale = 1; width = pag
 
 -- in the body of a text
 abbrev in_body : Size → Dpi → Settings → Method → ℕ → List ℕ → List Mark → List Sheet → ℕ → Situation
-in_body size dpi t m k seed marks pages n = record {
-  settings = record t { method = m };
-  raster = Some (body_raster size dpi k seed);
-  fonts = reset_fonts;
-  macros = reset_macros;
-  begun = None;
-  marks = marks;
-  pages = pages;
-  asks = nothing_for pages;
-  performed = n;
-}
+in_body size dpi t m k seed marks pages n =
+    record (between (record t { method = m }) pages n) { raster = Some (body_raster size dpi k seed); marks = marks }
 
 abbrev zeros : Size → Dpi → List ℕ
 zeros size dpi = replicate (bytes_of_width (page_width size dpi)) 0
@@ -174,16 +165,8 @@ first_dot Dpi300 e = omega (arith, e)
 first_dot Dpi600 e = omega (arith, e)
 
 one_scale : (dpi : Dpi) (size : Size) {top : ℕ} {height : Option ℕ} → height ≡ None → top ≡ 0
-    → record {
-      left = 0;
-      top = top;
-      scale = scale_of dpi (dots_per_inch dpi);
-      width = page_width size dpi;
-      height = height;
-      rows =
-          0;
-      seed = zeros size dpi;
-    } ≡ body_raster size dpi 0 (zeros size dpi)
+    → record (body_raster size dpi 0 (zeros size dpi)) { top = top; scale = scale_of dpi (dots_per_inch dpi); height = height }
+    ≡ body_raster size dpi 0 (zeros size dpi)
 one_scale Dpi300 size h t = rw (h, t) refl
 one_scale Dpi600 size h t = rw (h, t) refl
 
