@@ -1,5 +1,5 @@
 -- Tables of fonts as the entries of a map, and what each event does to them.
-use Rattle.std.proofs.Common.{◌≡◌, ℕ, ◌≤◌, ◌+◌, Bool, true, false, true≢false, ◌&&◌, ◌||◌, cond, nat_eq, if◌then◌else◌, List, [], map, filter, Option, None, Some, is_some, IfSome, refl, sym, ap, subst, ◌∙◌, arith}
+use Rattle.std.proofs.Common.{◌≡◌, ℕ, ◌≤◌, ◌+◌, Bool, true, false, ◌&&◌, cond, nat_eq, if◌then◌else◌, List, [], map, filter, Option, None, Some, is_some, IfSome, refl, sym, ap, ◌∙◌, arith}
 use Rattle.std.proofs.lemmas.Bool.{eqb-true, eq-eqb}
 use Rattle.std.proofs.lemmas.Bool.Decides.{nat_tests}
 use Rattle.std.proofs.lemmas.Map.Made.{lookup-map_values}
@@ -9,14 +9,13 @@ use Rattle.std.specs.List.{IsDistinct}
 use Rattle.std.specs.Map.{keys_of, lookup}
 use Rattle.std.specs.Option.{option_map}
 use Rattle.indexmap.specs.IndexMap.{IndexMap, get, WritesThrough}
-use Rattle.pcl_fonts.specs.Fields.{Font, Character, font_of, has_code, character_of as character_with}
+use Rattle.pcl_fonts.specs.Fields.{Character, font_of, has_code, character_of as character_with}
 use Rattle.pcl_fonts.specs.History.{FontEvent, header, character, control, with_permanent, font_step, character_step}
-use Rattle.pcl_fonts.specs.Table.{Stored, FontTable, Follows, IsSame, printed, printed_in, font_at, character_at, character_of, font_in, character_in, stored_in, is_there}
+use Rattle.pcl_fonts.specs.Table.{FontTable, Follows, IsSame, printed, font_at, character_at, character_of, font_in, character_in, stored_in, is_there}
 use Rattle.pcl_fonts.specs.declared.fonts.Entry.{Entry}
 use Rattle.pcl_fonts.specs.declared.fonts.FontControl.{FontControl}
 use Rattle.pcl_fonts.specs.declared.fonts.FontControl.TheVariants.{Temporary, One, MakeTemporary, MakePermanent}
 use Rattle.pcl_fonts.specs.declared.fonts.FontControl.TheVariants as controls
-use Rattle.pcl_fonts.specs.declared.glyph.Glyph.{Glyph}
 
 abbrev pub Entries : Type 0
 Entries = List (ℕ × Entry)
@@ -52,11 +51,11 @@ pub record IsSeen (table : FontTable) (entry : ℕ → Option Entry) : Type 0 wh
   pub fonts : (id : ℕ) → font_at table id ≡ option_map font_in (entry id)
   pub characters : (id code : ℕ) → character_at table id code ≡ entry_character (entry id) code
 
-pub seen : (deletions : ℕ) (es : Entries) {table : FontTable} → IsDistinct nat_eq (keys_of es) → view deletions es ≡ table
-    → IsSeen table (λ id. live deletions (lookup (nat_eq id) es))
-seen deletions es distinct is = record {
-  fonts = λ id. rw (← is, stored_view deletions es id distinct) (grind arith);
-  characters = λ id code. rw (← is, stored_view deletions es id distinct) (characters (live deletions (lookup (nat_eq id) es)) code);
+pub seen : (deletions : ℕ) (es : Entries) {table : FontTable} {entry : ℕ → Option Entry} → IsDistinct nat_eq (keys_of es)
+    → view deletions es ≡ table → ((id : ℕ) → live deletions (lookup (nat_eq id) es) ≡ entry id) → IsSeen table entry
+seen deletions es {entry = entry} distinct is of = record {
+  fonts = λ id. rw (← is, stored_view deletions es id distinct, of) (grind arith);
+  characters = λ id code. rw (← is, stored_view deletions es id distinct, of) (characters (entry id) code);
 }
   where
     characters : (o : Option Entry) (code : ℕ) → character_of (option_map stored_in o) code ≡ entry_character o code
@@ -64,9 +63,8 @@ seen deletions es distinct is = record {
     characters (Some e) code = lookup-map_values character_in (nat_eq code) e.characters.entries
 
 -- the same entries
-pub same_seen : {old new : FontTable} {entry later : ℕ → Option Entry} → IsSeen old entry → IsSeen new later
-    → ((id : ℕ) → later id ≡ entry id) → IsSame old new
-same_seen o n same = (λ id. rw (n.fonts, o.fonts, same), λ id code. rw (n.characters, o.characters, same))
+pub same_seen : {old new : FontTable} {entry : ℕ → Option Entry} → IsSeen old entry → IsSeen new entry → IsSame old new
+same_seen o n = (λ id. rw (n.fonts, o.fonts), λ id code. rw (n.characters, o.characters))
 
 -- ---- what an event makes of an entry
 
@@ -82,85 +80,52 @@ follows event o n steps = record {
   characters = λ id code. rw (n.characters, o.fonts, o.characters) ((steps id).character code);
 }
 
-pub steps_to : {event : FontEvent} {id : ℕ} {old new later : Option Entry} → later ≡ new → Steps event id old new
-    → Steps event id old later
-steps_to {event} {id} {old} is s = subst (Steps event id old) (sym is) s
+-- temporary fonts that are gone
+pub temporary_steps : (q : ℕ) (x : Option Entry) → Steps (control Temporary 0 0) q x (option_filter (λ e. e.is_permanent) x)
+temporary_steps q x = record { font = grind arith; character = λ its. grind arith }
+
+-- an event that makes the one of these entries of the other for an ID, and nothing of those of others
+abbrev pub StepsAt : FontEvent → ℕ → Option Entry → Option Entry → Type 0
+StepsAt event id before after = (q : ℕ) (x : Option Entry) → (nat_eq id q ≡ true → x ≡ before) → Steps event q x (cond (nat_eq id q) after x)
 
 -- a new font
-pub header_steps : (id q : ℕ) {bytes : List ℕ} (e : Entry) (x : Option Entry) → font_in e ≡ font_of bytes → e.characters.entries ≡ []
-    → Steps (header id bytes) q x (cond (nat_eq id q) (Some e) x)
-header_steps id q e x is none = record { font = grind (arith, is); character = λ code. grind (arith, none) }
+pub header_steps : (id : ℕ) {bytes : List ℕ} {before : Option Entry} (e : Entry) → font_in e ≡ font_of bytes → e.characters.entries ≡ []
+    → StepsAt (header id bytes) id before (Some e)
+header_steps id e is none q x at = record { font = grind (arith, is); character = λ its. grind (arith, none) }
 
 -- a font that is gone
-pub one_steps : (id code q : ℕ) (x : Option Entry) → Steps (control One id code) q x (cond (nat_eq id q) None x)
-one_steps id code q x = record { font = grind arith; character = λ its. grind arith }
-
--- temporary fonts that are gone
-pub temporary_steps : (id code q : ℕ) (x : Option Entry) → Steps (control Temporary id code) q x (option_filter (λ e. e.is_permanent) x)
-temporary_steps id code q x = record { font = grind arith; character = λ its. grind arith }
-
--- another entry for an ID, with the same font but this mark, and the same characters
-pub record IsMarked (permanent : Bool) (e f : Entry) : Type 0 where
-  pub font : font_in f ≡ with_permanent permanent (font_in e)
-  pub characters : f.characters ≡ e.characters
+pub one_steps : (id : ℕ) {before : Option Entry} → StepsAt (control One id 0) id before None
+one_steps id q x at = record { font = grind arith; character = λ its. grind arith }
 
 abbrev pub making : Bool → FontControl
 making permanent = if permanent then MakePermanent else MakeTemporary
 
-pub mark_steps : (permanent : Bool) (id code q : ℕ) {e f : Entry} (x : Option Entry) → (nat_eq id q ≡ true → x ≡ Some e)
-    → IsMarked permanent e f → Steps (control (making permanent) id code) q x (cond (nat_eq id q) (Some f) x)
-mark_steps true id code q x there m = record { font = grind (arith, there, m.font); character = λ its. grind (arith, there, m.characters) }
-mark_steps false id code q x there m = record { font = grind (arith, there, m.font); character = λ its. grind (arith, there, m.characters) }
+-- a font that gets this mark, if there is one
+pub mark_steps : (permanent : Bool) (id : ℕ) (before after : Option Entry)
+    → option_map font_in after ≡ option_map (with_permanent permanent) (option_map font_in before)
+    → ((its : ℕ) → entry_character after its ≡ entry_character before its) → StepsAt (control (making permanent) id 0) id before after
+mark_steps true id before after font same q x at = record { font = grind (arith, at, font); character = λ its. grind (arith, at, same its) }
+mark_steps false id before after font same q x at = record { font = grind (arith, at, font); character = λ its. grind (arith, at, same its) }
 
--- one that isn't there is left alone
-pub no_mark_steps : (permanent : Bool) (id code q : ℕ) (x : Option Entry) → (nat_eq id q ≡ true → x ≡ None)
-    → Steps (control (making permanent) id code) q x x
-no_mark_steps true id code q x none = record { font = grind (arith, none); character = λ its. refl }
-no_mark_steps false id code q x none = record { font = grind (arith, none); character = λ its. refl }
-
--- another entry for an ID, with the same font and another character of a code, or none
-pub record IsChanged (code : ℕ) (new : Option Glyph) (e f : Entry) : Type 0 where
-  pub font : font_in f ≡ font_in e
-  pub characters : (its : ℕ) → lookup (nat_eq its) f.characters.entries ≡ cond (nat_eq code its) new (lookup (nat_eq its) e.characters.entries)
-
--- a character is sent
-pub character_steps : (id code q : ℕ) {bytes : List ℕ} {e f : Entry} {glyph : Glyph} (x : Option Entry)
-    → (nat_eq id q ≡ true → x ≡ Some e) → IsChanged code (Some glyph) e f → character_in glyph ≡ character_with bytes
-    → Steps (character id code bytes) q x (cond (nat_eq id q) (Some f) x)
-character_steps id code q x there c is = record {
-  font = grind (arith, there, c.font);
-  character = λ its. grind (arith, there, c.characters its, is);
+-- a character that is sent, for a font or for none
+pub character_steps : (id code : ℕ) {bytes : List ℕ} (before after : Option Entry)
+    → option_map font_in after ≡ option_map font_in before
+    → ((its : ℕ) → entry_character after its
+    ≡ cond (nat_eq code its && is_some (option_map font_in before)) (Some (character_with bytes)) (entry_character before its))
+    → StepsAt (character id code bytes) id before after
+character_steps id code before after font characters q x at = record {
+  font = grind (arith, at, font);
+  character = λ its. grind (arith, at, characters its);
 }
 
--- one is deleted
-pub no_more_steps : (id code q : ℕ) {e f : Entry} (x : Option Entry) → (nat_eq id q ≡ true → x ≡ Some e) → IsChanged code None e f
-    → Steps (control controls.Character id code) q x (cond (nat_eq id q) (Some f) x)
-no_more_steps id code q x there c = record { font = grind (arith, there, c.font); character = λ its. grind (arith, there, c.characters its) }
-
--- without a font of the ID a character is dropped
-pub dropped_steps : (id code q : ℕ) {bytes : List ℕ} (x : Option Entry) → (nat_eq id q ≡ true → x ≡ None)
-    → Steps (character id code bytes) q x x
-dropped_steps id code q x none = record { font = refl; character = λ its. grind (arith, none) }
-
--- and none is deleted
-pub no_character_steps : (id code q : ℕ) (x : Option Entry) → (nat_eq id q ≡ true → x ≡ None)
-    → Steps (control controls.Character id code) q x x
-no_character_steps id code q x none = record { font = refl; character = λ its. grind (arith, none) }
-
--- another entry with the same font and characters is the same to see
-pub same_to_see : {old new : FontTable} {entry later : ℕ → Option Entry} (id : ℕ) {e : Entry} (f : Entry) → IsSeen old entry → IsSeen new later
-    → ((q : ℕ) → later q ≡ cond (nat_eq id q) (Some f) (entry q)) → ((q : ℕ) → nat_eq id q ≡ true → entry q ≡ Some e)
-    → font_in f ≡ font_in e → ((its : ℕ) → lookup (nat_eq its) f.characters.entries ≡ lookup (nat_eq its) e.characters.entries)
-    → IsSame old new
-same_to_see id f o n is there font same = (
-  λ q. rw (n.fonts, o.fonts, is) (grind (arith, there q, font)),
-  λ q its. rw (n.characters, o.characters, is) (grind (arith, there q, same its)),
-)
-
--- no font is there
-pub no_font : {A : Type 0} {table : FontTable} {entry : ℕ → Option Entry} (id : ℕ) → IsSeen table entry → entry id ≡ None
-    → is_some (font_at table id) ≡ true → A
-no_font id s none is = absurd (grind (arith, is, s.fonts id, none))
+-- one that is deleted
+pub no_more_steps : (id code : ℕ) (before after : Option Entry) → option_map font_in after ≡ option_map font_in before
+    → ((its : ℕ) → entry_character after its ≡ cond (nat_eq code its) None (entry_character before its))
+    → StepsAt (control controls.Character id code) id before after
+no_more_steps id code before after font characters q x at = record {
+  font = grind (arith, at, font);
+  character = λ its. grind (arith, at, characters its);
+}
 
 -- the character that is printed
 pub printed_stored : (table : FontTable) (id code : ℕ) (e : Entry) → lookup (nat_eq id) table ≡ Some (stored_in e) → printed table id code
@@ -173,25 +138,58 @@ printed_stored table id code e is = grind (arith, is, lookup-map_values characte
 abbrev pub Becomes : Entries → Entries → ℕ → Option Entry → Type 0
 Becomes es fs id w = (q : ℕ) → lookup (nat_eq q) fs ≡ cond (nat_eq id q) w (lookup (nat_eq q) es)
 
-pub live_becomes : (deletions : ℕ) (es fs : Entries) (id : ℕ) (w : Option Entry) {l : Option Entry} → live deletions w ≡ l
-    → Becomes es fs id w → (q : ℕ)
-    → live deletions (lookup (nat_eq q) fs) ≡ cond (nat_eq id q) l (live deletions (lookup (nat_eq q) es))
-live_becomes deletions es fs id w is b q = grind (arith, b q, is)
+-- tables with the same entries but for one ID
+pub record Changes (old new : FontTable) (id : ℕ) (before after : Option Entry) : Type 0 where
+  pub entry : ℕ → Option Entry
+  pub seen_before : IsSeen old entry
+  pub seen_after : IsSeen new (λ q. cond (nat_eq id q) after (entry q))
+  pub at : (q : ℕ) → nat_eq id q ≡ true → entry q ≡ before
 
--- the entry of an ID under another name
-pub entry_at : (deletions : ℕ) (es : Entries) (id q : ℕ) {o : Option Entry} → live deletions (lookup (nat_eq id) es) ≡ o → nat_eq id q ≡ true
-    → live deletions (lookup (nat_eq q) es) ≡ o
-entry_at deletions es id q there is = rw (← eqb-true id q is) there
+pub changed : (deletions : ℕ) (es fs : Entries) (id : ℕ) (w : Option Entry) {table : FontTable} {before after : Option Entry}
+    → IsDistinct nat_eq (keys_of es) → view deletions es ≡ table → IsDistinct nat_eq (keys_of fs) → Becomes es fs id w
+    → live deletions (lookup (nat_eq id) es) ≡ before → live deletions w ≡ after → Changes table (view deletions fs) id before after
+changed deletions es fs id w distinct is unique becomes was now = record {
+  entry = λ q. live deletions (lookup (nat_eq q) es);
+  seen_before = seen deletions es distinct is (λ q. refl);
+  seen_after = seen deletions fs unique refl (λ q. grind (arith, becomes q, now));
+  at = λ q same. rw (← eqb-true id q same) was;
+}
 
--- what is written is what was there
-pub same_entry : (es fs : Entries) (id : ℕ) {e : Entry} → lookup (nat_eq id) es ≡ Some e → Becomes es fs id (Some e) → (q : ℕ)
-    → lookup (nat_eq q) fs ≡ lookup (nat_eq q) es
-same_entry es fs id there b q = grind (arith, b q, eqb-true id q, there)
+-- nothing is there and nothing changes
+pub unchanged : (deletions : ℕ) (es : Entries) (id : ℕ) {table : FontTable} → IsDistinct nat_eq (keys_of es) → view deletions es ≡ table
+    → lookup (nat_eq id) es ≡ None → Changes table (view deletions es) id None None
+unchanged deletions es id distinct is none =
+    changed deletions es es id None distinct is distinct (λ q. grind (arith, eqb-true id q, none)) (ap (live deletions) none) refl
 
 -- what is written through a loan of an entry
 pub becomes_of : {S : Type 0} (m : IndexMap ℕ Entry S) {n : IndexMap ℕ Entry S} (id : ℕ) {e f : Entry} → get nat_eq m id ≡ Some e
     → WritesThrough nat_eq (nat_eq id) m f n → Becomes m.entries n.entries id (Some f)
 becomes_of m id there w = (w.3 (ap is_some there)).0
+
+pub written : {S : Type 0} (deletions : ℕ) (m : IndexMap ℕ Entry S) {n : IndexMap ℕ Entry S} (id : ℕ) {table : FontTable} {e f : Entry}
+    {before after : Option Entry} → IsDistinct nat_eq (keys_of m.entries) → view deletions m.entries ≡ table → get nat_eq m id ≡ Some e
+    → WritesThrough nat_eq (nat_eq id) m f n → live deletions (Some e) ≡ before → live deletions (Some f) ≡ after
+    → Changes table (view deletions n.entries) id before after
+written deletions m {n} id distinct is there w was now =
+    changed deletions m.entries n.entries id _ distinct is w.4 (becomes_of m id there w) (ap (live deletions) there ∙ was) now
+
+pub follows_at : {event : FontEvent} {old new : FontTable} {id : ℕ} {before after : Option Entry} → Changes old new id before after
+    → StepsAt event id before after → Follows old new event
+follows_at {event} c steps = follows event c.seen_before c.seen_after (λ q. steps q (c.entry q) (c.at q))
+
+-- another entry with the same font and characters is the same to see
+pub same_to_see : {old new : FontTable} {id : ℕ} {before after : Option Entry} → Changes old new id before after
+    → option_map font_in after ≡ option_map font_in before → ((its : ℕ) → entry_character after its ≡ entry_character before its)
+    → IsSame old new
+same_to_see c font same = (
+  λ q. rw (c.seen_after.fonts, c.seen_before.fonts) (grind (arith, c.at q, font)),
+  λ q its. rw (c.seen_after.characters, c.seen_before.characters) (grind (arith, c.at q, same its)),
+)
+
+-- whether a font was there
+pub was_there : {old new : FontTable} (id : ℕ) {before after : Option Entry} → Changes old new id before after
+    → is_some (font_at old id) ≡ is_some before
+was_there id c = rw (c.seen_before.fonts, c.at id (eq-eqb id id refl)) (grind arith)
 
 -- ---- what is there after deletions of temporary fonts
 
@@ -224,6 +222,6 @@ IsEarlier deletions e = e.is_permanent ≡ false → e.deletions ≤ deletions
 
 -- no entry is from after a later deletion than the last
 pub earlier_becomes : (deletions : ℕ) (es fs : Entries) (id : ℕ) {e : Entry} (f : Entry) → lookup (nat_eq id) es ≡ Some e
-    → Becomes es fs id (Some f) → (IsEarlier deletions e → IsEarlier deletions f) → ((q : ℕ) → IfSome (lookup (nat_eq q) es) (IsEarlier deletions)) → (q : ℕ)
-    → IfSome (lookup (nat_eq q) fs) (IsEarlier deletions)
+    → Becomes es fs id (Some f) → (IsEarlier deletions e → IsEarlier deletions f)
+    → ((q : ℕ) → IfSome (lookup (nat_eq q) es) (IsEarlier deletions)) → (q : ℕ) → IfSome (lookup (nat_eq q) fs) (IsEarlier deletions)
 earlier_becomes deletions es fs id f there b same earlier q = grind (arith, b q, there, same, earlier id, earlier q)

@@ -6,7 +6,7 @@ use Rattle.indexmap.proofs.CallerLemmas.{filter-RetainsPairs}
 use Rattle.pcl_fonts.specs.History.{control}
 use Rattle.pcl_fonts.specs.declared.fonts.Entry.{Entry}
 use Rattle.pcl_fonts.specs.declared.fonts.FontControl.TheVariants.{Temporary}
-use Rattle.pcl_fonts.proofs.Tables.{IsEarlier, seen, live, follows, steps_to, temporary_steps, kept, kept_permanent}
+use Rattle.pcl_fonts.proofs.Tables.{IsEarlier, seen, live, follows, temporary_steps, kept, kept_permanent}
 use Rattle.pcl_fonts.proofs.fonts.Fonts.forget_temporary.Goals as goal
 
 -- what is left of each entry
@@ -28,6 +28,6 @@ pub returns : goal.returns
 returns c =
     let d = c.self.inside.deletions in
     let es = c.self.inside.entries.entries in
-    follows (control Temporary 0 0) (seen d es c.self.invariant.unique c.self.view_is)
-    (seen 0 c.retain.new.self.entries c.retain.ensures.unique refl)
-    (λ q. steps_to (ap (live 0) (left c q) ∙ kept d (lookup (nat_eq q) es)) (temporary_steps 0 0 q _))
+    follows (control Temporary 0 0) (seen d es c.self.invariant.unique c.self.view_is (λ q. refl))
+    (seen 0 c.retain.new.self.entries c.retain.ensures.unique refl (λ q. ap (live 0) (left c q) ∙ kept d (lookup (nat_eq q) es)))
+    (λ q. temporary_steps q _)
