@@ -31,12 +31,7 @@ pub least_switch : {direct : ByMethod} {first others switched : ℕ} → first �
     ≡ min first direct.delta → switched ≡ min (direct.plain + 1) (others + 2)
     → IsLeastSwitch direct switched
 least_switch {direct} {first} {others} f o s = record {
-  bound = elim [
-    | Plain ↦ omega arith
-    | Runs ↦ omega arith
-    | Packed ↦ omega arith
-    | Delta ↦ omega arith
-  ];
+  bound = λ next. grind arith;
   attained =
       elim (cases_lt others direct.plain) [
         | inr high ↦ (Plain, omega arith)

@@ -1,10 +1,9 @@
 -- What tokens cost, and the lesser of two numbers.
-use Rattle.std.proofs.Common.{◌≡◌, ℕ, ◌+◌, ◌<◌, ◌≤◌, Bool, true, false, List, [], ◌∷◌, length, refl, inl, inr, arith}
+use Rattle.std.proofs.Common.{◌≡◌, ℕ, ◌+◌, ◌<◌, ◌≤◌, Bool, true, false, List, ◌∷◌, length, refl, inl, inr, arith}
 use Rattle.std.specs.Prelude.{not}
 use Rattle.std.proofs.lemmas.Bool.{cases_lt}
 use Rattle.std.proofs.lemmas.List.{length-append}
 use Rattle.pcl_base.specs.declared.method.Method.{Method}
-use Rattle.pcl_base.specs.declared.method.Method.TheVariants.{Plain, Runs, Packed, Delta}
 use Rattle.pcl_base.specs.Method.{method_code}
 use Rattle.pcl_output.specs.declared.node.Node.{Node}
 use Rattle.pcl_output.specs.Tokens.{Token, opening, method, skip, send, letter, IsSpelled}
@@ -16,18 +15,14 @@ use Rattle.pcl_output.proofs.Walking.{node}
 
 -- ---- tokens
 
-length-letter : (capital : ℕ) (ends : Bool) → length (letter capital ends) ≡ 1
-length-letter capital true = refl
-length-letter capital false = refl
-
 pub cost_opening : cost opening ≡ 3
 cost_opening = refl
 
 pub cost_method : (digits : List ℕ) (next : Method) (ends : Bool) → cost (method digits next ends) ≡ length digits + 1
-cost_method digits next ends = omega (arith, length-append digits (letter 77 ends), length-letter 77 ends)
+cost_method digits next ends = grind (arith, length-append digits (letter 77 ends))
 
 pub cost_skip : (digits : List ℕ) (count : ℕ) (ends : Bool) → cost (skip digits count ends) ≡ length digits + 1
-cost_skip digits count ends = omega (arith, length-append digits (letter 89 ends), length-letter 89 ends)
+cost_skip digits count ends = grind (arith, length-append digits (letter 89 ends))
 
 pub cost_send : (digits bytes : List ℕ) → cost (send digits bytes) ≡ length digits + 1 + length bytes
 cost_send digits bytes = omega (arith, length-append digits (87 ∷ bytes))
@@ -39,10 +34,7 @@ cost_some (skip digits count ends) = omega (arith, cost_skip digits count ends)
 cost_some (send digits bytes) = omega (arith, cost_send digits bytes)
 
 pub method_small : (next : Method) → method_code next < 4
-method_small Plain = omega arith
-method_small Runs = omega arith
-method_small Packed = omega arith
-method_small Delta = omega arith
+method_small next = grind arith
 
 pub row_cost_small : (bytes : ℕ) → bytes ≤ 65535 → row_cost bytes ≤ 65541
 row_cost_small bytes small = omega (arith, count_le 5 bytes (omega arith) (omega arith))
@@ -54,8 +46,7 @@ spelled_cost n small = (least_spelled n (omega arith), length-least_spelling n)
 
 pub rest_below : (number : Node → ℕ) (row : ℕ) (current : Method) (is_open : Bool)
     → rest number row current ≤ number (node row current is_open)
-rest_below number row current true = omega arith
-rest_below number row current false = omega arith
+rest_below number row current is_open = grind arith
 
 -- a parameter that ends its sequence or doesn't, and then costs the least
 pub best_end : (number : Node → ℕ) (row : ℕ) (current : Method) → (ends : Bool)

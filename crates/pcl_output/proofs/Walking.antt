@@ -42,23 +42,21 @@ pub row_above_is : (width : ℕ) (rows : List (List ℕ)) (y : ℕ) → 0 < y �
 row_above_is width rows zero some = absurd (omega arith)
 row_above_is width rows (suc y) some = let same : y ≡ suc y - 1 = omega arith in ap (row_at rows) same
 
+pub above_width : {width : ℕ} (rows : List (List ℕ)) (y : ℕ) → AreOfWidth width rows → y ≤ length rows → length (row_above width rows y)
+    ≡ width
+above_width {width} rows zero are within = length-replicate width 0
+above_width {width} rows (suc y) are within = row_width rows y are (omega arith)
+
 -- below white rows the row above is zeros
 pub zeros_above : (width : ℕ) (rows : List (List ℕ)) (y : ℕ) {count : ℕ} → AreOfWidth width rows → 0 < count → y + count ≤ length rows
     → AreWhite (take count (drop y rows))
     → row_above width rows (y + count) ≡ replicate width 0
 zeros_above width rows y {count} are some within white =
-    let last : ℕ = count - 1 in
-    let left : last < length (drop y rows) = omega (arith, length-drop y rows) in
-    let at : row_at (drop y rows) last ≡ row_at rows (y + count - 1) = get_or-drop y rows last [] ∙
-    (let same : y + last ≡ y + count - 1 = omega arith in ap (row_at rows) same) in
-    let is_white : IsWhite (row_at rows (y + count - 1)) = subst IsWhite at (white_at count (drop y rows) last white (omega arith) left) in
-    row_above_is width rows (y + count) (omega arith) ∙ white_is_zeros (row_at rows (y + count - 1)) is_white
-    ∙ ap (λ (n : ℕ). replicate n 0) (row_width rows (y + count - 1) are (omega arith))
-
-pub above_width : {width : ℕ} (rows : List (List ℕ)) (y : ℕ) → AreOfWidth width rows → y ≤ length rows → length (row_above width rows y)
-    ≡ width
-above_width {width} rows zero are within = length-replicate width 0
-above_width {width} rows (suc y) are within = row_width rows y are (omega arith)
+    let above : row_above width rows (y + count) ≡ row_at (drop y rows) (count - 1) =
+    row_above_is width rows (y + count) (omega arith) ∙ grind (arith, get_or-drop y rows (count - 1) []) in
+    let zeros = white_is_zeros _ (white_at count (drop y rows) (count - 1) white (omega arith) (omega (arith, length-drop y rows))) in
+    let wide = above_width rows (y + count) are within in
+    cc
 
 -- ---- tokens are a walk
 
@@ -81,10 +79,9 @@ walk_of_tokens width rows are (method digits next ends ∷ tokens) true current 
 walk_of_tokens width rows are (skip digits count ends ∷ tokens) false current left within s l p = absurd p
 walk_of_tokens width rows are (skip digits count ends ∷ tokens) true current {y} {seed} left within s l p =
     let room : y + count ≤ length rows = omega (arith, p.1, p.2, ap length l, length-drop y rows) in
-    let white : AreWhite (take count (drop y rows)) = subst (λ (rest : List (List ℕ)). AreWhite (take count rest)) (sym l) p.3 in
+    let white : AreWhite (take count (drop y rows)) = rw l p.3 in
     let seed_is : replicate (length seed) 0 ≡ row_above width rows (y + count) =
-    ap (λ (n : ℕ). replicate n 0) (ap length s ∙ above_width rows y are within) ∙ sym
-    (zeros_above width rows y are p.1 room white) in (
+    rw (s, above_width rows y are within, zeros_above width rows y are p.1 room white) in (
       node (y + count) current (not ends),
       (refl, p.0, p.1, room, white, refl),
       walk_of_tokens width rows are tokens (not ends) current (drop count left) room seed_is
@@ -95,9 +92,7 @@ walk_of_tokens width rows are (send digits bytes ∷ tokens) true current [] wit
 walk_of_tokens width rows are (send digits bytes ∷ tokens) true current {y} {seed} (first ∷ rest) within s l p =
     let room : y < length rows = omega (arith, ap length l, length-drop y rows) in
     let first_is : first ≡ row_at rows y = sym (row_at_first y rows l) in
-    let data_is : IsRowData current (row_above width rows y) (row_at rows y) bytes =
-    subst (λ (above : List ℕ). IsRowData current above (row_at rows y) bytes) s
-    (subst (λ (row : List ℕ). IsRowData current seed row bytes) first_is p.1) in
+    let data_is : IsRowData current (row_above width rows y) (row_at rows y) bytes = rw (← s, ← first_is) p.1 in
     let seed_is : first ≡ row_above width rows (y + 1) = first_is ∙ rw add-one refl in (
       node (y + 1) current false,
       (refl, p.0, room, data_is, refl),
@@ -115,36 +110,26 @@ unfolding PrintsRows
 tokens_of_walk width rows are [] false current within s w = w.1
 tokens_of_walk width rows are [] true current within s w = let no : true ≡ false = w.0 in absurd cc
 tokens_of_walk width rows are (opening ∷ tokens) false current within s w =
-    tokens_of_walk width rows are tokens true current within s (subst (λ (b : Node). Walk (Leads width rows) (Ends rows) b tokens)
-    w.1.1 w.2)
+    tokens_of_walk width rows are tokens true current within s (rw (← w.1.1) w.2)
 tokens_of_walk width rows are (opening ∷ tokens) true current within s w = let no : true ≡ false = w.1.0 in absurd cc
-tokens_of_walk width rows are (method digits next ends ∷ tokens) false current within s w = let no : false
-    ≡ true = w.1.0 in absurd cc
-tokens_of_walk width rows are (method digits next ends ∷ tokens) true current within s w = (
-  w.1.1,
-  tokens_of_walk width rows are tokens (not ends) next within s
-      (subst (λ (b : Node). Walk (Leads width rows) (Ends rows) b tokens) w.1.2 w.2),
-)
+tokens_of_walk width rows are (method digits next ends ∷ tokens) false current within s w = let no : false ≡ true = w.1.0 in absurd cc
+tokens_of_walk width rows are (method digits next ends ∷ tokens) true current within s w =
+    (w.1.1, tokens_of_walk width rows are tokens (not ends) next within s (rw (← w.1.2) w.2))
 tokens_of_walk width rows are (skip digits count ends ∷ tokens) false current within s w = let no : false ≡ true = w.1.0 in absurd cc
 tokens_of_walk width rows are (skip digits count ends ∷ tokens) true current {y} {seed} within s w =
     let l = w.1 in
     let seed_is : replicate (length seed) 0 ≡ row_above width rows (y + count) =
-    ap (λ (n : ℕ). replicate n 0) (ap length s ∙ above_width rows y are within) ∙ sym
-    (zeros_above width rows y are l.2 l.3 l.4) in
-    let rest = tokens_of_walk width rows are tokens (not ends) current l.3 seed_is
-    (subst (λ (b : Node). Walk (Leads width rows) (Ends rows) b tokens) l.5 w.2) in (
+    rw (s, above_width rows y are within, zeros_above width rows y are l.2 l.3 l.4) in
+    let rest = tokens_of_walk width rows are tokens (not ends) current l.3 seed_is (rw (← l.5) w.2) in (
       l.1,
       l.2,
       omega (arith, length-drop y rows, l.2, l.3),
       l.4,
-      subst (λ (left : List (List ℕ)). PrintsRows (not ends) current (replicate (length seed) 0) tokens left)
-          (sym (drop-drop count y rows)) rest,
+      rw drop-drop rest,
     )
 tokens_of_walk width rows are (send digits bytes ∷ tokens) false current within s w = let no : false ≡ true = w.1.0 in absurd cc
 tokens_of_walk width rows are (send digits bytes ∷ tokens) true current {y} {seed} within s w =
     let l = w.1 in
     let seed_is : row_at rows y ≡ row_above width rows (y + 1) = rw add-one refl in
-    let rest = tokens_of_walk width rows are tokens false current (omega (arith, l.2)) seed_is
-    (subst (λ (b : Node). Walk (Leads width rows) (Ends rows) b tokens) l.4 w.2) in
-    subst (λ (left : List (List ℕ)). PrintsRows true current seed (send digits bytes ∷ tokens) left) (sym (drop_more rows y [] l.2))
-    (l.1, subst (λ (above : List ℕ). IsRowData current above (row_at rows y) bytes) (sym s) l.3, rest)
+    let rest = tokens_of_walk width rows are tokens false current (omega (arith, l.2)) seed_is (rw (← l.4) w.2) in
+    rw (drop_more rows y [] l.2) (l.1, rw s l.3, rest)

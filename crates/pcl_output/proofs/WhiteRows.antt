@@ -31,21 +31,14 @@ skippable_within {rows} {row} {run} {count} is can =
 pub run_more : {rows : List (List ℕ)} {row run : ℕ} → row < length rows → IsWhiteRun rows (row + 1) run → IsWhite (row_at rows row)
     → IsWhiteRun rows row (run + 1)
 run_more {rows} {row} {run} lt is white =
-    let there : row + 1 + run ≡ row + (run + 1) = omega arith in
     record {
       within = omega (arith, is.within);
       white = rw (add-one, drop_more rows row [] lt) (white, is.white);
-      longest = λ before last. is.longest (omega arith) (subst (λ (r : ℕ). IsWhite (row_at rows r)) (sym there) last);
+      longest = λ before last. is.longest (omega arith) (grind (arith, last));
     }
 
 pub run_none : {rows : List (List ℕ)} {row : ℕ} → row < length rows → (IsWhite (row_at rows row) → ⊥) → IsWhiteRun rows row 0
-run_none {rows} {row} lt inked =
-    let here : row + 0 ≡ row = omega arith in
-    record {
-      within = omega arith;
-      white = tt;
-      longest = λ before white. inked (subst (λ (r : ℕ). IsWhite (row_at rows r)) here white);
-    }
+run_none lt inked = record { within = omega arith; white = tt; longest = λ before white. inked (grind (arith, white)) }
 
 pub run_end : {rows : List (List ℕ)} {row : ℕ} → row ≡ length rows → IsWhiteRun rows row 0
 run_end e = record { within = omega arith; white = tt; longest = λ before white. absurd (omega arith) }
