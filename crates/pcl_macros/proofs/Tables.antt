@@ -1,5 +1,5 @@
 -- Tables of macros as the entries of a map, and what each event does to them.
-use Rattle.std.proofs.Common.{◌≡◌, ℕ, ◌≤◌, ◌+◌, Bool, true, false, ◌||◌, cond, nat_eq, List, map, filter, Option, None, Some, is_some, IfSome, refl, sym, ap, subst, ◌∙◌, true≢false, arith}
+use Rattle.std.proofs.Common.{◌≡◌, ℕ, ◌≤◌, ◌+◌, Bool, true, false, cond, nat_eq, List, map, filter, Option, None, Some, is_some, IfSome, refl, ap, ◌∙◌, arith}
 use Rattle.std.proofs.lemmas.Bool.{eqb-true, eq-eqb}
 use Rattle.std.proofs.lemmas.Bool.Decides.{nat_tests}
 use Rattle.std.proofs.lemmas.Map.Made.{lookup-map_values}
@@ -33,9 +33,10 @@ macro_view deletions es begun id distinct =
     ∙ ap (option_map macro_in) (lookup-filter-values nat_eq_equiv (is_there deletions) id es distinct)
 
 -- the macro of an ID in the table of a map
-pub macro_of : (deletions : ℕ) (es : Entries) (begun : Option Begun) {table : MacroTable} (id : ℕ) → IsDistinct nat_eq (keys_of es)
-    → view deletions es begun ≡ table → found deletions (lookup (nat_eq id) es) ≡ macro_at table id
-macro_of deletions es begun id distinct is = rw (← is, macro_view deletions es begun id distinct)
+pub macro_of : (deletions : ℕ) (es : Entries) (begun : Option Begun) {table : MacroTable} (id : ℕ) {body : Option Body}
+    → IsDistinct nat_eq (keys_of es) → view deletions es begun ≡ table → body ≡ lookup (nat_eq id) es
+    → found deletions body ≡ macro_at table id
+macro_of deletions es begun id distinct is there = rw (← is, macro_view deletions es begun id distinct, there)
 
 -- an event that does its part to each body
 pub follows_by : (deletions later : ℕ) (es fs : Entries) (begun ends : Option Begun) {table : MacroTable} (event : MacroEvent)
@@ -44,6 +45,14 @@ pub follows_by : (deletions later : ℕ) (es fs : Entries) (begun ends : Option 
     → Follows table (view later fs ends) event
 follows_by deletions later es fs begun ends event distinct unique is steps id =
     rw (← is, macro_view later fs ends id unique, macro_view deletions es begun id distinct) (steps id)
+
+-- one that leaves the definition that is begun
+pub follows_only : (deletions later : ℕ) (es fs : Entries) (begun : Option Begun) {table : MacroTable} (event : MacroEvent)
+    → IsDistinct nat_eq (keys_of es) → IsDistinct nat_eq (keys_of fs) → view deletions es begun ≡ table
+    → ((id : ℕ) → found later (lookup (nat_eq id) fs) ≡ body_step event id (found deletions (lookup (nat_eq id) es)))
+    → Follows table (view later fs begun) event × (begun ≡ table.begun)
+follows_only deletions later es fs begun event distinct unique is steps =
+    (follows_by deletions later es fs begun begun event distinct unique is steps, ap (λ (t : MacroTable). t.begun) is)
 
 -- ---- one entry changes
 
@@ -55,10 +64,9 @@ pub found_becomes : (deletions : ℕ) (es fs : Entries) (id : ℕ) (w : Option B
     → found deletions (lookup (nat_eq q) fs) ≡ cond (nat_eq id q) (found deletions w) (found deletions (lookup (nat_eq q) es))
 found_becomes deletions es fs id w b q = grind (arith, b q)
 
--- what is written is what was there
-pub same_entry : (es fs : Entries) (id : ℕ) {e : Body} → lookup (nat_eq id) es ≡ Some e → Becomes es fs id (Some e) → (q : ℕ)
-    → lookup (nat_eq q) fs ≡ lookup (nat_eq q) es
-same_entry es fs id there b q = grind (arith, b q, eqb-true id q, there)
+-- nothing changes
+pub stays : (es : Entries) (id : ℕ) {w : Option Body} → lookup (nat_eq id) es ≡ w → Becomes es es id w
+stays es id there q = grind (arith, eqb-true id q, there)
 
 -- what is written through a loan of an entry
 pub becomes_of : {S : Type 0} (m : IndexMap ℕ Body S) {n : IndexMap ℕ Body S} (id : ℕ) {e f : Body} → get nat_eq m id ≡ Some e
@@ -76,21 +84,14 @@ there_now deletions from to permanent = grind (arith, eq-eqb deletions deletions
 abbrev pub making : Bool → MacroControl
 making permanent = cond permanent MakePermanent MakeTemporary
 
--- one that isn't there is left alone
-pub no_mark : (permanent : Bool) (deletions : ℕ) (es : Entries) (id : ℕ) → found deletions (lookup (nat_eq id) es) ≡ None → (q : ℕ)
-    → found deletions (lookup (nat_eq q) es)
-    ≡ body_step (control (making permanent) id) q (found deletions (lookup (nat_eq q) es))
-no_mark true deletions es id none q = grind (arith, eqb-true id q, none)
-no_mark false deletions es id none q = grind (arith, eqb-true id q, none)
-
--- one that is there becomes this
-pub mark : (permanent : Bool) (deletions : ℕ) (es fs : Entries) (id : ℕ) {e : Body} → lookup (nat_eq id) es ≡ Some e
-    → is_there deletions e ≡ true
-    → Becomes es fs id (Some (record { from = e.from; to = e.to; is_permanent = permanent; deletions = deletions })) → (q : ℕ)
+-- the macro of an ID is marked, if there is one
+pub mark : (permanent : Bool) (deletions : ℕ) (es fs : Entries) (id : ℕ) (w : Option Body) (before : Option MacroBody)
+    → found deletions (lookup (nat_eq id) es) ≡ before → Becomes es fs id w
+    → found deletions w ≡ option_map (with_permanent permanent) before → (q : ℕ)
     → found deletions (lookup (nat_eq q) fs)
     ≡ body_step (control (making permanent) id) q (found deletions (lookup (nat_eq q) es))
-mark true deletions es fs id there still b q = grind (arith, b q, eqb-true id q, there, still)
-mark false deletions es fs id there still b q = grind (arith, b q, eqb-true id q, there, still, eq-eqb deletions deletions refl)
+mark true deletions es fs id w before was b now q = grind (arith, b q, eqb-true id q, was, now)
+mark false deletions es fs id w before was b now q = grind (arith, b q, eqb-true id q, was, now)
 
 -- ---- macros that are deleted
 

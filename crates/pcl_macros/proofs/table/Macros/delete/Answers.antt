@@ -1,9 +1,9 @@
-use Rattle.std.proofs.Common.{None, ap}
+use Rattle.std.proofs.Common.{None}
 use Rattle.std.specs.Option.{option_map}
 use Rattle.pcl_macros.specs.History.{control}
-use Rattle.pcl_macros.specs.Table.{MacroTable, begun_in}
+use Rattle.pcl_macros.specs.Table.{begun_in}
 use Rattle.pcl_macros.specs.declared.table.MacroControl.TheVariants.{One}
-use Rattle.pcl_macros.proofs.Tables.{follows_by, found_becomes}
+use Rattle.pcl_macros.proofs.Tables.{follows_only, found_becomes}
 use Rattle.pcl_macros.proofs.table.Macros.delete.Goals as goal
 
 pub returns : goal.returns
@@ -11,8 +11,5 @@ returns c =
     let d = c.self.inside.deletions in
     let es = c.self.inside.bodies.entries in
     let fs = c.swap_remove.new.self.entries in
-    let begun = option_map begun_in c.self.inside.begun in (
-      follows_by d d es fs begun begun (control One c.args.id) c.self.invariant.unique c.swap_remove.ensures.unique c.self.view_is
-          (found_becomes d es fs c.args.id None c.swap_remove.ensures.updates.0),
-      ap (λ (t : MacroTable). t.begun) c.self.view_is,
-    )
+    follows_only d d es fs (option_map begun_in c.self.inside.begun) (control One c.args.id) c.self.invariant.unique
+    c.swap_remove.ensures.unique c.self.view_is (found_becomes d es fs c.args.id None c.swap_remove.ensures.updates.0)

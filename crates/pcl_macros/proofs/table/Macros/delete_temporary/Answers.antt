@@ -1,19 +1,16 @@
-use Rattle.std.proofs.Common.{ℕ, nat_eq, ap, ◌∙◌}
+use Rattle.std.proofs.Common.{nat_eq}
 use Rattle.std.specs.Map.{lookup}
 use Rattle.std.specs.Option.{option_map}
 use Rattle.pcl_macros.specs.History.{control}
-use Rattle.pcl_macros.specs.Table.{MacroTable, begun_in}
+use Rattle.pcl_macros.specs.Table.{begun_in}
 use Rattle.pcl_macros.specs.declared.table.MacroControl.TheVariants.{Temporary}
-use Rattle.pcl_macros.proofs.Tables.{found, follows_by, one_more}
+use Rattle.pcl_macros.proofs.Tables.{follows_only, one_more}
 use Rattle.pcl_macros.proofs.table.Macros.delete_temporary.Goals as goal
 
 pub returns-in-Some : goal.returns-in-Some
 returns-in-Some c =
     let d = c.self.inside.deletions in
     let es = c.self.inside.bodies.entries in
-    let begun = option_map begun_in c.self.inside.begun in (
-      follows_by d c.in-Some.deletions es es begun begun (control Temporary 0) c.self.invariant.unique c.self.invariant.unique c.self.view_is
-          (λ q. ap (λ (n : ℕ). found n (lookup (nat_eq q) es)) c.in-Some.ensures.1
-          ∙ one_more d (lookup (nat_eq q) es) (c.self.invariant.earlier q)),
-      ap (λ (t : MacroTable). t.begun) c.self.view_is,
-    )
+    follows_only d c.in-Some.deletions es es (option_map begun_in c.self.inside.begun) (control Temporary 0) c.self.invariant.unique
+    c.self.invariant.unique c.self.view_is
+    (λ q. rw c.in-Some.ensures.1 (one_more d (lookup (nat_eq q) es) (c.self.invariant.earlier q)))

@@ -5,10 +5,10 @@ use Rattle.std.specs.Map.{lookup}
 use Rattle.std.specs.Option.{option_map}
 use Rattle.indexmap.proofs.CallerLemmas.{filter-RetainsPairs}
 use Rattle.pcl_macros.specs.History.{control}
-use Rattle.pcl_macros.specs.Table.{MacroTable, begun_in}
+use Rattle.pcl_macros.specs.Table.{begun_in}
 use Rattle.pcl_macros.specs.declared.table.Body.{Body}
 use Rattle.pcl_macros.specs.declared.table.MacroControl.TheVariants.{Temporary}
-use Rattle.pcl_macros.proofs.Tables.{found, follows_by, kept, kept_permanent}
+use Rattle.pcl_macros.proofs.Tables.{found, follows_only, kept, kept_permanent}
 use Rattle.pcl_macros.proofs.table.Macros.forget_temporary.Goals as goal
 
 -- what is left of each body
@@ -29,8 +29,6 @@ pub returns : goal.returns
 returns c =
     let d = c.self.inside.deletions in
     let es = c.self.inside.bodies.entries in
-    let begun = option_map begun_in c.self.inside.begun in (
-      follows_by d 0 es c.retain.new.self.entries begun begun (control Temporary 0) c.self.invariant.unique c.retain.ensures.unique
-          c.self.view_is (λ q. ap (found 0) (left c q) ∙ kept d (lookup (nat_eq q) es)),
-      ap (λ (t : MacroTable). t.begun) c.self.view_is,
-    )
+    follows_only d 0 es c.retain.new.self.entries (option_map begun_in c.self.inside.begun) (control Temporary 0)
+    c.self.invariant.unique c.retain.ensures.unique c.self.view_is
+    (λ q. ap (found 0) (left c q) ∙ kept d (lookup (nat_eq q) es))
