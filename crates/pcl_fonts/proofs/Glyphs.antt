@@ -19,7 +19,4 @@ same_character l t w h d r i = record { left = l i; top = t i; width = w i; heig
 
 pub rows_are : (bytes : List ℕ) {width height size : ℕ} → size ≡ pattern_bytes width height → width ≡ word bytes 10 → height ≡ word bytes 12
     → take size (take (length bytes - 16) (drop 16 bytes)) ≡ take (pattern_bytes (word bytes 10) (word bytes 12)) (drop 16 bytes)
-rows_are bytes {height} {size} s w h =
-    ap (take size) (take_rest bytes 16) ∙ ap (λ (n : ℕ). take n (drop 16 bytes)) s
-    ∙ ap (λ (n : ℕ). take (pattern_bytes n height) (drop 16 bytes)) w
-    ∙ ap (λ (n : ℕ). take (pattern_bytes (word bytes 10) n) (drop 16 bytes)) h
+rows_are bytes s w h = rw (take_rest bytes 16, s, w, h)

@@ -7,9 +7,7 @@ use Rattle.pcl_fonts.specs.Table.{FontTable, Holds, Follows, character_at}
 -- a table that holds what a history leaves holds what is left after one event more
 pub holds_after : {old new : FontTable} {event : FontEvent} {history : List FontEvent} → Follows old new event → Holds old history
     → Holds new (event ∷ history)
-holds_after {old} {event} {history} f h = record {
-  fonts = λ id. f.fonts id ∙ ap (font_step event id) (h.fonts id);
-  characters = λ id code. f.characters id code
-      ∙ ap (λ (font : Option Font). character_step event id code font (character_at old id code)) (h.fonts id)
-      ∙ ap (character_step event id code (font_after history id)) (h.characters id code);
+holds_after f h = record {
+  fonts = λ id. rw (f.fonts, h.fonts);
+  characters = λ id code. rw (f.characters, h.fonts, h.characters);
 }

@@ -57,12 +57,7 @@ pub text_bounded : (dpi : Dpi) (size : Size) (copies : ℕ) (rows : List (List �
     → IsFeasible (Leads (page_row_bytes size dpi) rows) (Ends rows) cost number → IsPageText dpi size copies rows text
     → fixed_bytes dpi size copies + number start ≤ length text
 text_bounded dpi size copies rows text number feasible printed =
-    omega (
-      arith,
-      printed_length printed,
-      feasible_bounds feasible start printed.tokens
-          (printed_walk printed),
-    )
+    omega (arith, printed_length printed, feasible_bounds feasible start printed.tokens (printed_walk printed))
 
 pub text_of_least : (dpi : Dpi) (size : Size) (copies : ℕ) (rows : List (List ℕ)) (number : ℕ) → 0 < copies → copies < 100 → length rows
     ≡ page_height size dpi
@@ -83,10 +78,5 @@ text_of_least dpi size copies rows number some few count are least =
     } in
     record {
       attained = (text, printed, text_length dpi size copies w.0 ∙ ap (λ (n : ℕ). fixed_bytes dpi size copies + n) w.2);
-      shortest = λ other is. omega (
-        arith,
-        printed_length is,
-        least.least is.tokens
-            (printed_walk is),
-      );
+      shortest = λ other is. omega (arith, printed_length is, least.least is.tokens (printed_walk is));
     }

@@ -24,8 +24,5 @@ returns-else-y-gt0-clause-row c =
     let picture = c.args.bitmap.now in
     let topmost : 0 ≡ c.args.y = omega arith in
     let width : c.row_bytes.result ≡ page_row_bytes picture.size picture.dpi =
-    c.row_bytes.ensures ∙ ap (λ (z : Size). page_row_bytes z c.dpi.result) c.size.ensures.value ∙ ap
-    (λ (d : Dpi). page_row_bytes picture.size d) c.dpi.ensures.value in
-    ap (λ (n : ℕ). take n c.args.zeros.now) width ∙ ap (take (page_row_bytes picture.size picture.dpi)) c.requires.zeros
-    ∙ take-replicate (page_row_bytes picture.size picture.dpi) 600 0 (row_small picture.size picture.dpi)
-    ∙ ap (row_above (page_row_bytes picture.size picture.dpi) (bitmap_rows picture)) topmost
+    rw (c.row_bytes.ensures, c.size.ensures.value, c.dpi.ensures.value) in
+    rw (width, c.requires.zeros, ← topmost) (take-replicate (page_row_bytes picture.size picture.dpi) 600 0 (row_small picture.size picture.dpi))
