@@ -219,32 +219,33 @@ abbrev sent_mark : Size → Dpi → ℕ → List ℕ → List ℕ → Mark
 sent_mark size dpi k seed row = row_mark row (body_raster size dpi k seed)
 
 -- the commands of a body, each performed k rows below the top
-module _ (size : Size) (dpi : Dpi) (t : Settings) (m : Method) (k : ℕ) (seed : List ℕ) (marks : List Mark) (pages : List Sheet) (n : ℕ) where
-  abbrev here : Situation
-  here = in_body size dpi t m k seed marks pages n
+module _ (size : Size) (dpi : Dpi) (t : Settings) (m : Method) (k : ℕ) (seed : List ℕ) (marks : List Mark) (pages : List Sheet) (n : ℕ)
+  where
+    abbrev here : Situation
+    here = in_body size dpi t m k seed marks pages n
 
-  method_after : (next : Method)
-      → does dpi (deed RasterMethod (number_value (method_code next)) []) here ≡ Ok (in_body size dpi t next k seed marks pages (n + 1))
-  unfolding after outcome
-  method_after Plain = refl
-  method_after Runs = refl
-  method_after Packed = refl
-  method_after Delta = refl
+    method_after : (next : Method)
+        → does dpi (deed RasterMethod (number_value (method_code next)) []) here ≡ Ok (in_body size dpi t next k seed marks pages (n + 1))
+    unfolding after outcome
+    method_after Plain = refl
+    method_after Runs = refl
+    method_after Packed = refl
+    method_after Delta = refl
 
-  skip_after : (count : ℕ)
-      → does dpi (deed RasterOffset (number_value count) []) here
-      ≡ Ok (in_body size dpi t m (k + count) (zeros size dpi) marks pages (n + 1))
-  unfolding after outcome
-  skip_after count = rw (whole_is count) refl
+    skip_after : (count : ℕ)
+        → does dpi (deed RasterOffset (number_value count) []) here
+        ≡ Ok (in_body size dpi t m (k + count) (zeros size dpi) marks pages (n + 1))
+    unfolding after outcome
+    skip_after count = rw (whole_is count) refl
 
-  -- the row that is sent is the row that is printed
-  row_after : {row bytes : List ℕ} → IsRowData m seed row bytes → IsRowOf size dpi row
-      → does dpi (deed RasterRow (number_value (length bytes)) bytes) here
-      ≡ Ok (in_body size dpi t m (k + 1) row (sent_mark size dpi k seed row ∷ marks) pages (n + 1))
-  unfolding after outcome
-  row_after {row} {bytes} sends is =
-      let sent : row_sent m bytes (body_raster size dpi k seed) ≡ row =
-      rw (← decoded_is m seed bytes row sends.decodes) (cleared_is row is.1) in rw sent refl
+    -- the row that is sent is the row that is printed
+    row_after : {row bytes : List ℕ} → IsRowData m seed row bytes → IsRowOf size dpi row
+        → does dpi (deed RasterRow (number_value (length bytes)) bytes) here
+        ≡ Ok (in_body size dpi t m (k + 1) row (sent_mark size dpi k seed row ∷ marks) pages (n + 1))
+    unfolding after outcome
+    row_after {row} {bytes} sends is =
+        let sent : row_sent m bytes (body_raster size dpi k seed) ≡ row =
+        rw (← decoded_is m seed bytes row sends.decodes) (cleared_is row is.1) in rw sent refl
 
 rows_below : (count : ℕ) (size : Size) (dpi : Dpi) (rows : List (List ℕ)) → AllByRecursion (IsRowOf size dpi) rows
     → AllByRecursion (IsRowOf size dpi) (drop count rows)
