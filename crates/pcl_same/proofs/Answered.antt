@@ -88,8 +88,10 @@ module _ (dpi : Dpi) where
   all_alike [] [] [] [] k f count a = tt
   all_alike [] [] (other ∷ others) (one ∷ found) k f count a = absurd (omega arith)
   all_alike (page ∷ pages) (one ∷ kept) [] [] k f count a = absurd (omega arith)
-  all_alike (page ∷ pages) (one ∷ kept) (other ∷ others) (next ∷ found) k f count a =
-      (sheets_alike k.1 f.1 (rw a.0 at (f.2 k.0 k.2 (cc (k.1.resolution, f.1.resolution)))), all_alike pages kept others found k.3 f.3 (omega arith) a.1)
+  all_alike (page ∷ pages) (one ∷ kept) (other ∷ others) (next ∷ found) k f count a = (
+    sheets_alike k.1 f.1 (rw a.0 at (f.2 k.0 k.2 (cc (k.1.resolution, f.1.resolution)))),
+    all_alike pages kept others found k.3 f.3 (omega arith) a.1,
+  )
   all_alike [] (one ∷ kept) others found k f count a = absurd k
   all_alike (page ∷ pages) [] others found k f count a = absurd k
   all_alike pages kept [] (one ∷ found) k f count a = absurd f

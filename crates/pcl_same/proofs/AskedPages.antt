@@ -169,7 +169,8 @@ module _ (dpi : Dpi) where
   runs_each : (levels : ℕ) (all : List Said) (command : Said) (run : Run) → EachAfter (runs levels dpi all command run)
   runs_each zero all command run = λ s e. e
   runs_each (suc levels) all command run = λ s e.
-      then_each (in_order (step dpi (runs levels dpi all)) run.next (commands_left all run) s) (λ later. done (macro_ended dpi run.saved later))
+      then_each (in_order (step dpi (runs levels dpi all)) run.next (commands_left all run) s)
+      (λ later. done (macro_ended dpi run.saved later))
       (order_each (runs levels dpi all) (runs_each levels all) run.next (commands_left all run) s e)
       (λ later each. elim run.saved as (λ saved. Each (macro_ended dpi saved later)) [ None ↦ each | Some saved ↦ each ])
 

@@ -82,7 +82,8 @@ more_drawn one other old y {new} {width} bits drawn s r w row painted = record {
               let is : py ≡ y = omega arith in
               let drawn_row : raster_dot 0 y 1 width bits px py ≡ differ (dot one px py) (dot other px py) =
               rw is (row_here y width px bits (omega (arith, w)) ∙ row px) in
-              rw (here, before, le-ltb py y at, or-false (raster_dot 0 y 1 width bits px py), drawn_row, lt-ltb py (y + 1) (omega arith)) refl
+              rw
+              (here, before, le-ltb py y at, or-false (raster_dot 0 y 1 width bits px py), drawn_row, lt-ltb py (y + 1) (omega arith)) refl
         ]
       ];
 }

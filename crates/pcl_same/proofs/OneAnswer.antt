@@ -136,7 +136,8 @@ module _ (one : HasOneMeaning) (dpi : Dpi) (first second : List ℕ) where
 
   -- two answers are one, where two comparisons are
   pub one_result : {C : Type 0} (Is : Result C SameFault → Type 0) → ((c : C) → Is (Ok c) → BothAccepted)
-      → ((r : Refusal) → Is (Err (Refused First r)) → IsRefusal dpi first r) → ((r : Refusal) → Is (Err (Refused Second r)) → SecondRefused r)
+      → ((r : Refusal) → Is (Err (Refused First r)) → IsRefusal dpi first r)
+      → ((r : Refusal) → Is (Err (Refused Second r)) → SecondRefused r)
       → ((a b : C) → Is (Ok a) → Is (Ok b) → a ≡ b)
       → (a b : Result C SameFault) → Is a → Is b → a ≢ Err Memory → b ≢ Err Memory → a ≡ b
   one_result Is both refused later same (Err Memory) b p q m n = absurd (m refl)
