@@ -27,7 +27,11 @@ proved_texts dpi (sheet ∷ sheets) texts (proof ∷ proofs) p =
     let is = first.2 in (
       first.0,
       first.1,
-      (is.page, is.shows, (is.verdict_is.0, λ other printed. proved_least is.page first.0 other proof.table proof.places is.verdict_is printed)),
+      (
+        is.page,
+        is.shows,
+        (is.verdict_is.0, λ other printed. proved_least is.page first.0 other proof.table proof.places is.verdict_is printed),
+      ),
       first.3,
       proved_texts dpi sheets first.1 proofs (omega (arith, p.0), first.4),
     )
