@@ -84,9 +84,10 @@ follows event o n steps = record {
 pub temporary_steps : (q : ℕ) (x : Option Entry) → Steps (control Temporary 0 0) q x (option_filter (λ e. e.is_permanent) x)
 temporary_steps q x = record { font = grind arith; character = λ its. grind arith }
 
--- an event that makes the one of these entries of the other for an ID, and nothing of those of others
+-- an event that turns the entry before of an ID into the entry after, and leaves those of other IDs
 abbrev pub StepsAt : FontEvent → ℕ → Option Entry → Option Entry → Type 0
-StepsAt event id before after = (q : ℕ) (x : Option Entry) → (nat_eq id q ≡ true → x ≡ before) → Steps event q x (cond (nat_eq id q) after x)
+StepsAt event id before after = (q : ℕ) (x : Option Entry) → (nat_eq id q ≡ true → x ≡ before)
+    → Steps event q x (cond (nat_eq id q) after x)
 
 -- a new font
 pub header_steps : (id : ℕ) {bytes : List ℕ} {before : Option Entry} (e : Entry) → font_in e ≡ font_of bytes → e.characters.entries ≡ []
@@ -104,8 +105,10 @@ making permanent = if permanent then MakePermanent else MakeTemporary
 pub mark_steps : (permanent : Bool) (id : ℕ) (before after : Option Entry)
     → option_map font_in after ≡ option_map (with_permanent permanent) (option_map font_in before)
     → ((its : ℕ) → entry_character after its ≡ entry_character before its) → StepsAt (control (making permanent) id 0) id before after
-mark_steps true id before after font same q x at = record { font = grind (arith, at, font); character = λ its. grind (arith, at, same its) }
-mark_steps false id before after font same q x at = record { font = grind (arith, at, font); character = λ its. grind (arith, at, same its) }
+mark_steps permanent id before after font same q x at = record {
+  font = grind (arith, at, font);
+  character = λ its. grind (arith, at, same its);
+}
 
 -- a character that is sent, for a font or for none
 pub character_steps : (id code : ℕ) {bytes : List ℕ} (before after : Option Entry)

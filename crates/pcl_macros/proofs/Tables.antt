@@ -90,8 +90,7 @@ pub mark : (permanent : Bool) (deletions : ℕ) (es fs : Entries) (id : ℕ) (w 
     → found deletions w ≡ option_map (with_permanent permanent) before → (q : ℕ)
     → found deletions (lookup (nat_eq q) fs)
     ≡ body_step (control (making permanent) id) q (found deletions (lookup (nat_eq q) es))
-mark true deletions es fs id w before was b now q = grind (arith, b q, eqb-true id q, was, now)
-mark false deletions es fs id w before was b now q = grind (arith, b q, eqb-true id q, was, now)
+mark permanent deletions es fs id w before was b now q = grind (arith, b q, eqb-true id q, was, now)
 
 -- ---- macros that are deleted
 

@@ -1,9 +1,6 @@
-use Rattle.std.proofs.Common.{◌≡◌, ◌-◌, ◌<◌, ℕ, take, sym, ap, ◌∙◌, arith}
+use Rattle.std.proofs.Common.{◌≡◌, ◌-◌, ◌<◌, sym, ◌∙◌, arith}
 use Rattle.std.proofs.lemmas.List.{take-replicate}
-use Rattle.pcl_base.specs.declared.dpi.Dpi.{Dpi}
-use Rattle.pcl_base.specs.declared.size.Size.{Size}
 use Rattle.pcl_base.specs.Size.{page_height, page_row_bytes}
-use Rattle.pcl_output.specs.Nodes.{row_above}
 use Rattle.pcl_output.specs.PageText.{bitmap_rows}
 use Rattle.pcl_output.proofs.RowsFrom.{row_of_bytes}
 use Rattle.pcl_base.proofs.PageBounds.{row_small}
@@ -25,4 +22,5 @@ returns-else-y-gt0-clause-row c =
     let topmost : 0 ≡ c.args.y = omega arith in
     let width : c.row_bytes.result ≡ page_row_bytes picture.size picture.dpi =
     rw (c.row_bytes.ensures, c.size.ensures.value, c.dpi.ensures.value) in
-    rw (width, c.requires.zeros, ← topmost) (take-replicate (page_row_bytes picture.size picture.dpi) 600 0 (row_small picture.size picture.dpi))
+    rw (width, c.requires.zeros, ← topmost)
+    (take-replicate (page_row_bytes picture.size picture.dpi) 600 0 (row_small picture.size picture.dpi))

@@ -15,7 +15,8 @@ use Rattle.pcl_macros.proofs.table.Macros.forget_temporary.Goals as goal
 left : (c : goal.After-self-1) (q : ℕ) → lookup (nat_eq q) c.retain.new.self.entries
     ≡ option_filter (λ (b : Body). b.is_permanent) (lookup (nat_eq q) c.self.inside.bodies.entries)
 left c q =
-    ap (lookup (nat_eq q)) (filter-RetainsPairs _ (λ (e : ℕ × Body). e.1.is_permanent) _ (λ k v b w g call. search rules) _ _ c.retain.ensures.filtered)
+    ap (lookup (nat_eq q))
+    (filter-RetainsPairs _ (λ (e : ℕ × Body). e.1.is_permanent) _ (λ k v b w g call. search rules) _ _ c.retain.ensures.filtered)
     ∙ lookup-filter-values nat_eq_equiv (λ (b : Body). b.is_permanent) q c.self.inside.bodies.entries c.self.invariant.unique
 
 pub invariant_of-self : goal.invariant_of-self
