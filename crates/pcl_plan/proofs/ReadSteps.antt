@@ -40,7 +40,7 @@ not_not false = refl
 -- steps that were read up to a node
 pub record IsReadTo (width : ℕ) (rows : List (List ℕ)) (table : List RowNumbers) (steps : List Step) (at : Node) : Type 0 where
   pub within : at.row ≤ length rows
-  pub inked : at.inside ≡ true → 0 < outside (node_number table) at.row at.method
+  pub inked : 0 < node_number table at → 0 < outside (node_number table) at.row at.method
   pub tokens : List Token
   pub goes_on : (more : List Step) (behind : List Token) → (node_number table at ≡ 0 → more ≡ [])
       → (0 < node_number table at → is_last more ≡ false)
@@ -59,17 +59,6 @@ spells_any (step ∷ more) behind same s = subst (λ (o : Bool). Spells o (step 
 pub opened_more : (is_open : Bool) (token : Token) (tail : List Token) → opened is_open (token ∷ tail) ≡ opened is_open (token ∷ []) ++ tail
 opened_more true token tail = refl
 opened_more false token tail = refl
-
--- ink is left where a step is read
-pub ink_left : {width : ℕ} {rows : List (List ℕ)} {table : List RowNumbers} {steps : List Step} {at : Node}
-    → IsReadTo width rows table steps at → 0 < node_number table at
-    → 0 < outside (node_number table) at.row at.method
-ink_left {table} {at} r some =
-    elim at.inside as (λ (i : Bool). (i ≡ true → 0 < outside (node_number table) at.row at.method) → 0 < node_number table
-    (node at.row at.method i) → 0 < outside (node_number table) at.row at.method) [
-      | true ↦ λ inked some. inked refl
-      | false ↦ λ inked some. some
-    ] r.inked some
 
 module _ {width : ℕ} {rows : List (List ℕ)} {table : List RowNumbers} (is : IsRightTable width rows table) where
   -- after a step that isn't a row, the number is the lesser one
@@ -180,11 +169,15 @@ module _ {width : ℕ} {rows : List (List ℕ)} {table : List RowNumbers} (is : 
       let next = next_is step r.within best p in
       record {
         within = next.within;
-        inked = λ goes. (p.goes_on goes).1;
+        inked = λ left.
+            elim (cases_Bool behind.inside) [
+              | inl goes ↦ (p.goes_on goes).1
+              | inr closed ↦ omega (arith, left, ap (λ (i : Bool). node_number table (node behind.row behind.method i)) closed)
+            ];
         tokens = r.tokens ++ opened at.inside (next.token ∷ []);
         goes_on = λ more tail none others spells walk t.
             let f = followed next.within p none others in
-            let o = opened_walk at.method at.inside (next.token ∷ tail) r.within (ink_left r some) (behind, next.leads, walk)
+            let o = opened_walk at.method at.inside (next.token ∷ tail) r.within (r.inked some) (behind, next.leads, walk)
             (omega (arith, t, next.number_is)) in
             rw (
               append_assoc steps (step ∷ []) more,
@@ -201,7 +194,7 @@ module _ {width : ℕ} {rows : List (List ℕ)} {table : List RowNumbers} (is : 
       → node_number table behind < node_number table at
   read_less {at} {step} r some best p =
       let next = next_is step r.within best p in
-      omega (arith, next.number_is, cost_some next.token, inside_below at.row at.method at.inside r.within (ink_left r some))
+      omega (arith, next.number_is, cost_some next.token, inside_below at.row at.method at.inside r.within (r.inked some))
 
   pub read_all : {steps : List Step} {at : Node} → IsReadTo width rows table steps at → node_number table at ≡ 0
       → AreLeastSteps width rows (node_number table) steps

@@ -1,7 +1,7 @@
 use Rattle.std.proofs.Common.{arith}
 use Rattle.pcl_output.proofs.RowsFrom.{length_rows}
 use Rattle.pcl_plan.proofs.Reading.{right_table, row_left}
-use Rattle.pcl_plan.proofs.ReadSteps.{ink_left, read_more, read_less, read_all}
+use Rattle.pcl_plan.proofs.ReadSteps.{read_more, read_less, read_all}
 use Rattle.pcl_plan.proofs.steps.append_steps.Goals as goal
 
 pub best_step-step-requires-clause-row : goal.best_step-step-requires-clause-row
@@ -9,7 +9,7 @@ best_step-step-requires-clause-row g c =
     let rows = c.args.rows.now in
     let node = c.loop-node.node in
     let r = c.loop-node.invariant in
-    let ink = ink_left r (omega (arith, c.loop-node-test.true, c.number.ensures)) in
+    let ink = r.inked (omega (arith, c.loop-node-test.true, c.number.ensures)) in
     omega (
       arith,
       row_left (right_table rows c.requires.right) node.row node.method r.within ink,
