@@ -3,7 +3,7 @@
 use crate::codes::{blank_code, font_id};
 use crate::layout::Layout;
 use crate::spacing::Character;
-use pcl_shapes::{Letters, Pattern, append_labelled, append_word};
+use pcl_patterns::{Letters, Pattern, append_labelled, append_word};
 use std::alloc::AllocError;
 
 /// The bytes of a font header.

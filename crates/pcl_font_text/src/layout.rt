@@ -1,7 +1,7 @@
 //! What of a job is printed by characters, and by which.
 
 use crate::spacing::Spacing;
-use pcl_shapes::{Letter, Letters, Pattern, Patterns};
+use pcl_patterns::{Letter, Letters, Pattern, Patterns};
 use std::alloc::{AllocError, Global};
 
 /// What of a job is printed as text.

@@ -2,7 +2,7 @@
 
 use crate::codes::{blank_code, font_id};
 use crate::layout::Layout;
-use pcl_shapes::{Letter, append_labelled, digit_count};
+use pcl_patterns::{Letter, append_labelled, digit_count};
 use std::alloc::AllocError;
 
 /// The primary font is in use from here on.

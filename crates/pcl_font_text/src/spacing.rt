@@ -2,7 +2,7 @@
 
 use crate::codes::{Code, code_of_rank};
 use indexmap::IndexMap;
-use pcl_shapes::{Letter, Letters, Patterns, number_of_place};
+use pcl_patterns::{Letter, Letters, Patterns, number_of_place};
 use std::alloc::{AllocError, Global};
 
 /// The usual advance of a glyph is the least that at least one in so many of its letters has.

@@ -3,7 +3,7 @@
 use crate::remains::{FORM_FEED, append_raster};
 use pcl_bitmap::Page;
 use pcl_font_text::{Layout, Pen, append_text};
-use pcl_shapes::Letter;
+use pcl_patterns::Letter;
 use std::alloc::AllocError;
 
 /// Writes pages with letters as characters, one after the other.

@@ -6,7 +6,8 @@ use pcl_bitmap::Page;
 use pcl_font_text::{Layout, append_fonts, lay_out};
 use pcl_letters::{find_letters, join_shapes};
 use pcl_macro_text::{MacroLayout, append_definitions, lay_out_macros};
-use pcl_shapes::{Collection, Form};
+use pcl_patterns::Form;
+use pcl_shapes::Collection;
 use std::alloc::{AllocError, Global};
 
 /// The letters of a job: as characters of soft fonts, or as macros.

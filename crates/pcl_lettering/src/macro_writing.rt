@@ -3,7 +3,7 @@
 use crate::remains::{FORM_FEED, append_raster};
 use pcl_bitmap::Page;
 use pcl_macro_text::{Line, MacroLayout, append_lines};
-use pcl_shapes::Letter;
+use pcl_patterns::Letter;
 use std::alloc::AllocError;
 
 /// Puts back method 0, by which the rows of a page text begin.

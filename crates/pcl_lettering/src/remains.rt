@@ -4,8 +4,8 @@ ghost use Rattle.std.specs.Prelude.{◌≡◌};
 ghost use Rattle.pcl_bitmap.specs.Bitmap.{IsPicture};
 
 use pcl_bitmap::{Bitmap, Page};
+use pcl_patterns::{Ink, Letter, Letters, Patterns, Place, stamp};
 use pcl_plan::plan;
-use pcl_shapes::{Ink, Letter, Letters, Patterns, Place, stamp};
 use pcl_writer::write_page;
 use std::alloc::{AllocError, Global};
 

@@ -2,7 +2,8 @@
 
 use crate::frequency::{Frequency, find_frequency};
 use indexmap::{IndexMap, IndexSet};
-use pcl_shapes::{Collection, Glyph, Item, Letter, Letters, number_of_place};
+use pcl_patterns::{Glyph, Letter, Letters, number_of_place};
+use pcl_shapes::{Collection, Item};
 use std::alloc::{AllocError, Global};
 
 /// The letters of a job: the shapes of patterns that are so frequent that they take fewer bytes so.

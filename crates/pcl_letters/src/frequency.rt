@@ -4,9 +4,8 @@
 //! these. So each row is taken to cost what its data take, and each shape its part of that. A row from which letters went costs those
 //! that are left more, which is why patterns are looked at in rounds.
 
-use pcl_shapes::{
-    Collection, FINE, Item, add, in_fine_parts, number_of, number_of_place, quotient, sum_parts,
-};
+use pcl_patterns::{FINE, add, in_fine_parts, number_of, number_of_place, quotient, sum_parts};
+use pcl_shapes::{Collection, Item};
 use std::alloc::{AllocError, Global};
 
 /// How often all patterns are looked at.

@@ -2,7 +2,8 @@
 
 use crate::frequency::{Frequency, count_uses, find_frequency};
 use indexmap::IndexMap;
-use pcl_shapes::{Collection, Drawing, Form, Item, Pattern, Patterns, short_number};
+use pcl_patterns::{Drawing, Form, Pattern, Patterns, short_number};
+use pcl_shapes::{Collection, Item};
 use std::alloc::{AllocError, Global};
 
 /// How often shapes are joined two by two, in rounds: one of the last round has up to eight parts.

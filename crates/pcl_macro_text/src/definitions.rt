@@ -7,7 +7,7 @@ use crate::macros::{append_marks, append_move};
 use crate::marks::Mark;
 use pcl_base::ROW_LIMIT;
 use pcl_coders::{Delta, RowCoder};
-use pcl_shapes::{Pattern, append_labelled, append_signed};
+use pcl_patterns::{Pattern, append_labelled, append_signed};
 use std::alloc::{AllocError, Global};
 
 /// Appends the unit in which macros move the cursor, a dot, and the definitions.

@@ -3,7 +3,7 @@
 use crate::macro_layout::MacroLayout;
 use crate::macros::append_marks;
 use crate::marks::Line;
-use pcl_shapes::{append_labelled, digit_count};
+use pcl_patterns::{append_labelled, digit_count};
 use std::alloc::AllocError;
 
 /// Appends the lines of a page, whose marks begin at this place, and says where they end.

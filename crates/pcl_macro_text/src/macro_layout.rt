@@ -4,7 +4,7 @@ use crate::macros::Macros;
 use crate::marks::find_script;
 use crate::metrics::{Metrics, find_metrics};
 use crate::phrases::{Text, find_phrases};
-use pcl_shapes::{Letters, Patterns};
+use pcl_patterns::{Letters, Patterns};
 use std::alloc::{AllocError, Global};
 
 /// How many glyphs have macros, at most: there are twice as many IDs.

@@ -3,7 +3,7 @@
 use crate::marks::Mark;
 use crate::phrases::{Phrase, Text};
 use indexmap::IndexMap;
-use pcl_shapes::{append_labelled, append_signed, number_of_place};
+use pcl_patterns::{append_labelled, append_signed, number_of_place};
 use std::alloc::{AllocError, Global};
 
 /// A gap that is there so often has a macro: it takes some 22 bytes, and a cursor move some five more than running it.

@@ -1,7 +1,7 @@
 //! Lines of letters as what macros print.
 
 use crate::metrics::Metrics;
-use pcl_shapes::Letter;
+use pcl_patterns::Letter;
 use std::alloc::{AllocError, Global};
 
 /// What a macro prints.

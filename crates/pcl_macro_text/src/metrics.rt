@@ -5,7 +5,7 @@
 //! so most letters follow from where the one before them stands, and the others are a dot off.
 
 use indexmap::IndexMap;
-use pcl_shapes::{Letter, add, number_of, quotient};
+use pcl_patterns::{Letter, add, number_of, quotient};
 use std::alloc::{AllocError, Global};
 
 /// The parts of a dot in which distances are fitted.

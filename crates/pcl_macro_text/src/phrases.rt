@@ -2,7 +2,7 @@
 
 use crate::marks::{Line, Mark, Script};
 use indexmap::{IndexMap, IndexSet};
-use pcl_shapes::number_of_place;
+use pcl_patterns::number_of_place;
 use std::alloc::{AllocError, Global};
 
 /// How often two marks in turn are joined, in rounds: a phrase of the last one may have sixteen marks.

@@ -2,17 +2,13 @@
 
 mod job;
 mod names;
-mod paths;
-mod report;
-mod sums;
 
 use crate::batch::job::write_job;
-use crate::batch::paths::file_name;
-use crate::batch::report::{Entry, header};
 use indexmap::IndexSet;
 use itoa::Buffer;
 pub use names::run_named;
 use pcl_command::{Ending, JobFiles, Reporter, USAGE_STATUS, fault_line, status_of};
+use pcl_report::{Entry, file_name, header};
 use pcl_request::Batch;
 use pcl_tool::{Fault, write_all};
 use std::alloc::{AllocError, Global};

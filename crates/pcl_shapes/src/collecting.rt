@@ -2,16 +2,13 @@
 
 use crate::baselines::{count_bottoms, guess_baseline};
 use crate::drawing::Drawings;
-use crate::forms::Form;
-use crate::numbers::{number_of_place, short_number};
-use crate::pattern_set::Patterns;
-use crate::patterns::Pattern;
-use crate::rows::{Row, append_rows};
+use crate::rows::append_rows;
 use crate::runs::{KeptRuns, RowWalk};
 use crate::screening::screen_shapes;
-use crate::shapes::{Extent, find_shapes};
+use crate::shapes::{Extent, Shapes, find_shapes};
 use pcl_base::Dpi;
 use pcl_bitmap::{Bitmap, Page, PageSink};
+use pcl_patterns::{Form, Pattern, Patterns, Row, number_of_place, short_number};
 use std::alloc::{AllocError, Global};
 use std::marker::Model;
 
@@ -80,19 +77,36 @@ impl Collection {
 
     /// Collects the shapes of a page, and what its rows take.
     fn collect(&mut self, page: &Page) -> Result<(), AllocError> {
-        let alloc = *self.items.allocator();
-        let shapes = find_shapes(alloc, &page.bitmap)?;
+        let shapes = find_shapes(*self.items.allocator(), &page.bitmap)?;
         let first = self.rows.len();
         append_rows(&page.bitmap, &mut self.rows)?;
-        let first = first.min(self.rows.len());
-        let stay = screen_shapes(alloc, &shapes.extents, &mut self.rows[first..])?;
+        let stay = self.screen(&shapes, first)?;
         if stay.iter().all(|stays| *stays) {
             return Ok(());
         }
+        self.collect_shapes(page, &shapes, &stay, first)
+    }
+
+    /// Which of the shapes of a page whose first row is in this place can't be letters.
+    fn screen(&mut self, shapes: &Shapes, first: usize) -> Result<Vec<bool>, AllocError> {
+        let alloc = *self.items.allocator();
+        let first = first.min(self.rows.len());
+        screen_shapes(alloc, &shapes.extents, &mut self.rows[first..])
+    }
+
+    /// Collects those shapes of a page that don't stay where they are.
+    fn collect_shapes(
+        &mut self,
+        page: &Page,
+        shapes: &Shapes,
+        stay: &[bool],
+        first: usize,
+    ) -> Result<(), AllocError> {
+        let alloc = *self.items.allocator();
         let scale = self.form.scale();
-        let mut drawings = Drawings::new(alloc, &shapes, &stay, scale)?;
         let height = page.size.height(page.dpi);
         let bottoms = count_bottoms(alloc, height, &shapes.extents, scale)?;
+        let mut drawings = Drawings::new(alloc, shapes, stay, scale)?;
         self.collect_rows(&page.bitmap, &shapes.runs, first, &mut drawings, &bottoms)
     }
 

@@ -1,9 +1,8 @@
 //! The dots of the shapes of a page.
 
-use crate::numbers::number_of_place;
-use crate::patterns::{Pattern, row_bytes_of, rows_len};
 use crate::runs::Run;
 use crate::shapes::{Extent, Shapes};
+use pcl_patterns::{Pattern, number_of_place, row_bytes_of, rows_len};
 use std::alloc::{AllocError, Global};
 
 /// How many bytes drawings may have together that are held at once.

@@ -3,29 +3,8 @@
 use crate::words::{first_bytes, inked_bytes, padded_word};
 use pcl_base::ROW_LIMIT;
 use pcl_bitmap::Bitmap;
+use pcl_patterns::Row;
 use std::alloc::{AllocError, Global};
-
-/// The bytes around the data of a row, `ESC*b#W`.
-pub const ROW_BYTES: usize = 5;
-
-/// A row of a page.
-#[derive(Clone, Copy, Debug)]
-pub struct Row {
-    /// About how many bytes its data take, with all shapes in it.
-    pub bytes: u16,
-    /// About how many bytes shapes that can't be letters weigh in it: one each run of a shape that is too large.
-    pub others: u16,
-}
-
-impl Row {
-    /// A row whose data take so many bytes.
-    fn of(bytes: u32) -> Row {
-        Row {
-            bytes: u16::try_from(bytes).unwrap_or(u16::MAX),
-            others: 0,
-        }
-    }
-}
 
 /// Appends the rows of a page, and the white one below them.
 pub fn append_rows(bitmap: &Bitmap, rows: &mut Vec<Row>) -> Result<(), AllocError> {

@@ -3,10 +3,8 @@
 //! In a picture hundreds of small shapes share the few bytes of a row. A shape that takes less than a byte there is no letter, however
 //! often its pattern is there: so its dots needn't be looked at.
 
-use crate::lists::{add, number_of, quotient};
-use crate::parts::{FINE, sum_parts};
-use crate::rows::Row;
 use crate::shapes::Extent;
+use pcl_patterns::{FINE, Row, add, number_of, quotient, sum_parts};
 use std::alloc::{AllocError, Global};
 
 /// How often the shapes of a page are looked at, at most.

@@ -1,8 +1,8 @@
 //! Shapes of a page: black dots that hang together, each the neighbour of another in one of eight directions.
 
-use crate::numbers::{number_of_place, short_number};
 use crate::runs::{KeptRuns, Link, RowWalk, Run};
 use pcl_bitmap::Bitmap;
+use pcl_patterns::{number_of_place, short_number};
 use std::alloc::{AllocError, Global};
 
 /// The smallest box around a shape, in dots: `right` and `bottom` lie past it. No page has 65,535 dots in a row or in a column.

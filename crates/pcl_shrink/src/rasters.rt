@@ -6,8 +6,8 @@ ghost use Rattle.pcl_writer.specs.Appending.{IsWrittenPage};
 use crate::squares::{coarse_page, common_side};
 use pcl_base::Dpi;
 use pcl_page::Page;
+use pcl_patterns::append_labelled;
 use pcl_plan::plan;
-use pcl_shapes::append_labelled;
 use pcl_writer::write_page;
 use std::alloc::{AllocError, Global};
 

@@ -1,6 +1,5 @@
 //! What the words of a command line ask for.
 
-use crate::vocabulary::pclmin;
 use clap::error::ErrorKind;
 use clap::{ArgMatches, Error};
 use pcl_base::{Dpi, PAGE_LIMIT};
@@ -12,6 +11,7 @@ use pcl_request::{
     Source, Target, Task, resolution_named,
 };
 use pcl_tool::PageChoice;
+use pcl_vocabulary::pclmin;
 use std::alloc::{AllocError, Global};
 use std::convert::AsStr;
 

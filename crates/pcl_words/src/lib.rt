@@ -1,7 +1,6 @@
-//! The command line of `pclmin`: what its words ask for, and its help.
+//! The command line of `pclmin`: what its words ask for.
 #![tactic(auto)]
 
 mod arguments;
-mod vocabulary;
 
 pub use arguments::{AskedBatch, parse_batch, parse_request};

@@ -1,14 +1,12 @@
 //! One job of a batch.
 
-use crate::batch::paths::Paths;
-use crate::batch::report::{Entry, Outcome};
-use crate::batch::sums::{FileSum, sums_text};
 use pcl_base::Dpi;
 use pcl_cert::Format;
 use pcl_command::{
     Ending, JobFiles, Reporter, carry_out, fault_line, read_file, resolve, status_of, write_file,
 };
 use pcl_page::page_count;
+use pcl_report::{Entry, FileSum, Outcome, Paths, sums_text};
 use pcl_request::{Batch, Request, Resolution, Rewriting, Run, Source, Target, Task};
 use pcl_tool::Fault;
 use std::alloc::{AllocError, Global};

@@ -1,4 +1,5 @@
-//! The words that the command line has, and what its help says of them.
+//! The words that the command line of `pclmin` has, and what its help says of them.
+#![tactic(auto)]
 
 use clap::{Arg, ArgAction, Command, value_parser};
 use std::alloc::{AllocError, Global};

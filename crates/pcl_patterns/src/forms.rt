@@ -1,7 +1,7 @@
 //! How letters are printed, and what that takes.
 
+use crate::parts::ROW_BYTES;
 use crate::patterns::{Changes, Pattern};
-use crate::rows::ROW_BYTES;
 use pcl_base::Dpi;
 
 /// The bytes around a pattern where it is sent as a character: the commands, with the descriptor's 16 bytes.

@@ -1,6 +1,6 @@
 //! What a batch says of each job.
 
-use crate::batch::sums::FileSum;
+use crate::sums::FileSum;
 use pcl_request::ReportForm;
 use serde::Serialize;
 use std::alloc::{AllocError, Global};

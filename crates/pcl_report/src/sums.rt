@@ -1,6 +1,6 @@
 //! The digests of a job as it came and as it is written.
 
-use crate::batch::paths::file_name;
+use crate::paths::file_name;
 use hex::encode;
 use pcl_base::Dpi;
 use pcl_request::{Batch, Rewriting};

@@ -3,9 +3,8 @@
 use crate::forms::Form;
 use crate::lists::quotient;
 use crate::numbers::{number_of_place, short_number};
-use crate::parts::{in_fine_parts, most_in_row};
+use crate::parts::{Row, in_fine_parts, most_in_row};
 use crate::patterns::{Changes, Drawing, Pattern, row_bytes_of};
-use crate::rows::Row;
 use indexmap::IndexMap;
 use std::alloc::{AllocError, Global};
 use std::hash::{FoldHasher, Hasher};

@@ -4,11 +4,32 @@
 //! these. So each row is taken to cost what its data take, and each shape its part of that, by its weight.
 
 use crate::lists::{number_of, quotient};
-use crate::rows::{ROW_BYTES, Row};
 use std::alloc::{AllocError, Global};
 
 /// Parts of a byte.
 pub const FINE: i64 = 256;
+
+/// The bytes around the data of a row, `ESC*b#W`.
+pub const ROW_BYTES: usize = 5;
+
+/// A row of a page.
+#[derive(Clone, Copy, Debug)]
+pub struct Row {
+    /// About how many bytes its data take, with all shapes in it.
+    pub bytes: u16,
+    /// About how many bytes shapes that can't be letters weigh in it: one each run of a shape that is too large.
+    pub others: u16,
+}
+
+impl Row {
+    /// A row whose data take so many bytes.
+    pub fn of(bytes: u32) -> Row {
+        Row {
+            bytes: u16::try_from(bytes).unwrap_or(u16::MAX),
+            others: 0,
+        }
+    }
+}
 
 /// What a byte of weight costs in all rows before each one together, in fine parts. `changes` are by how much the weights of the shapes
 /// that may be letters are more in each row than in the row before it, in fine parts too.

@@ -1,0 +1,24 @@
+//! Patterns of dots, and letters: the words of what finds shapes and of what prints some of them as text (docs/GLYPHS.md).
+//!
+//! A [`Pattern`] is what a shape looks like, wherever it stands; [`Patterns`] keeps each once. Nothing is promised of what is kept.
+#![tactic(auto)]
+
+mod forms;
+mod letters;
+mod lists;
+mod numbers;
+mod parts;
+mod pattern_set;
+mod patterns;
+mod stamping;
+
+pub use forms::Form;
+pub use letters::{Glyph, Letter, Letters};
+pub use lists::{add, number_of, quotient};
+pub use numbers::{
+    append_labelled, append_signed, append_word, digit_count, number_of_place, short_number,
+};
+pub use parts::{FINE, Row, in_fine_parts, sum_parts};
+pub use pattern_set::Patterns;
+pub use patterns::{Drawing, Pattern, PatternRows, row_bytes_of, rows_len};
+pub use stamping::{Ink, Place, stamp};

@@ -1,0 +1,10 @@
+//! What a batch reports of each job, and where it puts what it writes of one (docs/BATCH.md). Nothing is promised of the text.
+#![tactic(auto)]
+
+mod paths;
+mod report;
+mod sums;
+
+pub use paths::{Paths, file_name};
+pub use report::{Entry, Outcome, header};
+pub use sums::{FileSum, sums_text};
