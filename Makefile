@@ -1,5 +1,5 @@
-# The commands of this repository; README.md says more of each. Building and testing need `rt`, the command of
-# the Rattle kit, and nothing else.
+# The commands of this repository; README.md says more of each. Testing needs `rt`, the command of the Rattle kit, and nothing else;
+# building also needs Python 3, in which `rt` itself is written.
 
 PREFIX ?= /usr/local
 PROGRAM := crates/pclmin/out/pclmin
@@ -16,12 +16,10 @@ demo:
 	@echo "$$(wc -c < examples/picture.pcl), by a program that isn't proved yet: see make build"
 	@if command -v pnmtopng > /dev/null; then pnmtopng -quiet build/demo.pbm > build/demo.png && echo "build/demo.png is the same"; fi
 
-# Proves the libraries that the program stands on side by side (LANES=2 keeps to two processors), then proves and builds the program,
-# and previews the sample job into build/sample.pbm.
+# Proves the libraries that the program stands on side by side (LANES=2 keeps to two processors), and then the program, builds it, and
+# previews the sample job into build/sample.pbm. Needs Python 3.
 build:
-	mkdir -p build
-	./lanes.py pcl_program
-	cd crates/pclmin && rt run -- --version < /dev/null
+	./lanes.py pclmin
 	$(PROGRAM) pbm --page 1 < examples/picture.pcl > build/sample.pbm
 	@echo "build/sample.pbm is page 1 of examples/picture.pcl"
 
@@ -33,7 +31,7 @@ test:
 # nowhere; then the same of runs of pclmin (process/memory.py). It takes two minutes once memory_cases is proved. Needs Python 3, a C
 # compiler, and the program that `make build` left.
 test-memory:
-	cd crates/memory_cases && rt run > /dev/null
+	./lanes.py memory_cases
 	process/memory.py $(PROGRAM) crates/memory_cases/out/memory_cases crates/memory_cases/stdout
 
 # Compares what the process says and its status where files, standard streams and memory fail, and what a terminal is told
@@ -103,7 +101,7 @@ install:
 	install -D -m 644 completions/_pclmin $(DESTDIR)$(PREFIX)/share/zsh/site-functions/_pclmin
 	install -D -m 644 completions/pclmin.fish $(DESTDIR)$(PREFIX)/share/fish/vendor_completions.d/pclmin.fish
 
-# Proves the library, and makes build/libpclmin.a and build/pclmin.h of it (docs/LIBRARY.md). Needs a C compiler and binutils.
+# Proves the library, and makes build/libpclmin.a and build/pclmin.h of it (docs/LIBRARY.md). Needs Python 3, a C compiler and binutils.
 lib:
 	lib/build.sh
 

@@ -1,16 +1,26 @@
 #!/usr/bin/env python3
-"""Proves and builds libraries of crates.txt side by side, each as soon as those are done that it stands on, and those first that most
-work waits for:
+"""Proves and builds crates of crates.txt and all that they stand on, side by side, each as soon as those are done that it stands on,
+and those first that most work waits for:
 
-    lanes.py pcl_program
+    lanes.py pclmin
 
-rt has one command at a time work in a crate and those below it. So each library is built in a tree of its own under build/lanes,
-whose files are links to these and to what is built of the crates below, and its out/ is then moved here. What rt says is kept in
-build/lanes/NAME.log. A crate has one job, since each further one reads all libraries first, unless it has much to prove and no
-other waits for a processor; the crate that most work waits for has up to three even then. LANES bounds how many
-are taken.
+Each is proved from nothing by the kit's `rattle`, as `rt ci` does it: over what the crates below state, without their proofs, so that a
+crate high up reads a tenth of what `rt check` has it read. What is stated is kept in build/lanes/NAME.rlib, what was said in NAME.log
+beside it, and a crate is built again once a file of it, or of a crate below, or the kit has changed. A program is left in
+crates/NAME/out/NAME, a static library in crates/NAME/out/libNAME.a.
+
+As many crates as there are processors, or as LANES says, are built at a time. Each has a few jobs, since a job reads and ends alone;
+so there are more of them than processors, and all but those of the crate that most work waits for are nice.
+
+    lanes.py --check pcl_tool [FLAG..]
+
+builds what a crate stands on, and then proves the crate over what earlier calls kept in build/lanes/NAME.kept, with these flags of
+`rattle check` (`--only pcl_tool::filter`, `--allow-holes`).
 """
 
+import fcntl
+import functools
+import hashlib
 import os
 import pathlib
 import shutil
@@ -21,39 +31,109 @@ import time
 
 ROOT = pathlib.Path(__file__).resolve().parent
 LANES = ROOT / "build" / "lanes"
-FIRST_JOB = 4_000_000_000  # bytes that a large check may take with one job
-FURTHER_JOB = 1_500_000_000  # bytes of each further job
-FURTHER_WORK = 30  # so many seconds of proofs, or as many as its reading takes, make up for what a further job reads first
-READING = 4  # seconds for each crate below
+if not shutil.which("rt"):
+    sys.exit("lanes.py: there is no rt, the command of the Rattle kit")
+KIT = pathlib.Path(subprocess.run(["rt", "doc"], stdout=subprocess.PIPE, text=True, check=True).stdout.strip()).parent
+FIRST_JOB = 3_000_000_000  # bytes that a large check may take with one job
+FURTHER_JOB = 1_000_000_000  # bytes of each further job
+READING = 10  # seconds that a check reads before it proves anything
+
+
+class Crate:
+    """A line of crates.txt: a name, whether it is a static library, and which libraries it names, of the repository and of the kit."""
+
+    def __init__(self, line, crates):
+        head, _, uses = line.partition(":")
+        self.line = line
+        self.name, *self.kind = head.split()
+        self.uses = [crates[it] for it in uses.split() if it in crates]
+        self.of_kit = ["std", *(it for it in uses.split() if it not in crates)]
+        self.folder = ROOT / "crates" / self.name
+        self.is_program = (self.folder / "src" / "main.rt").is_file()
+
+    @functools.cached_property
+    def below(self):
+        """The crates that it stands on, lowest first."""
+        found = dict.fromkeys(it for use in self.uses for it in [*use.below, use])
+        return list(found)
+
+    @functools.cached_property
+    def work(self):
+        """About how many seconds its proofs take: one a function, and one for each `?`, a way out where all is dropped that is alive
+        there. Lines of proof say little."""
+        texts = [it.read_text() for it in (self.folder / "src").rglob("*.rt")]
+        return READING + sum(it.count("fn ") + it.count("?") for it in texts)
+
+    @functools.cached_property
+    def stamp(self):
+        """A sum of all that it is made of."""
+        total = hashlib.sha256(self.line.encode() + (KIT / "WHAT").read_bytes())
+        for part in ("src", "specs", "proofs"):
+            for file in sorted(it for it in (self.folder / part).rglob("*") if it.is_file()):
+                total.update(f"{file.relative_to(self.folder)}\n{file.stat().st_size}\n".encode() + file.read_bytes())
+        for it in self.uses:
+            total.update(it.stamp.encode())
+        return total.hexdigest()
+
+    @property
+    def made(self):
+        """What its build leaves."""
+        if self.is_program:
+            return self.folder / "out" / self.name
+        return self.folder / "out" / f"lib{self.name}.a" if self.kind else LANES / f"{self.name}.rlib"
+
+    @property
+    def stamp_file(self):
+        return LANES / f"{self.name}.stamp"
+
+    def is_built(self):
+        return self.made.exists() and self.stamp_file.is_file() and self.stamp_file.read_text() == self.stamp
+
+    def words(self, jobs):
+        """What the kit has to know to prove it."""
+        words = ["--crate-name", self.name, "src/main.rt" if self.is_program else "src/lib.rt"]
+        words += [word for it in self.of_kit for word in ("--extern", f"{it}={KIT}/rlibs/{it}.rlib")]
+        words += [word for it in self.uses for word in ("--extern", f"{it.name}={it.made}")]
+        words += ["-L", f"dependency={KIT}/rlibs", "-L", f"dependency={LANES}"]
+        words += ["--antt-project", KIT / "rattle/logic/antt-project.json", "--logic-built", KIT / "logic_built"]
+        words += ["--links", f"{self.name}=", "--jobs", str(jobs)]
+        return [*words, "--crate-type", *self.kind] if self.kind else words
+
+    def check(self, flags):
+        """How the kit proves it over what earlier checks kept, and builds nothing."""
+        return [KIT / "bin" / "rattle", "check", *self.words(1), "--incremental", LANES / f"{self.name}.kept", "--progress", *flags]
+
+    def command(self, jobs):
+        """How the kit proves it from nothing and builds it."""
+        words = [KIT / "bin" / "rattle", "build", *self.words(jobs)]
+        if self.is_program:
+            return [*words, "--toolchain", KIT / "toolchain", "-o", f"{self.made}.o"]
+        if self.kind:
+            return [*words, "--toolchain", KIT / "toolchain", "-o", self.made]
+        return [*words, "--statements", "-o", self.made]
+
+    def link(self, log):
+        words = [KIT / "bin" / "rattle-link", "--target", "x86_64-unknown-linux-gnu", "--toolchain", KIT / "toolchain"]
+        words += ["-o", self.made, f"{self.made}.o", KIT / "c/libos_c.a", KIT / "c/liblibc_c.a"]
+        return subprocess.run(words, stdout=log, stderr=subprocess.STDOUT, check=False).returncode == 0
 
 
 def crates():
-    """The crates of crates.txt, each after those that it stands on: its line, and which crates of the repository it names."""
-    lines = {}
-    for line in (ROOT / "crates.txt").read_text().splitlines():
-        if line and not line.startswith("#"):
-            head, _, uses = line.partition(":")
-            lines[head.split()[0]] = (line, uses.split())
-    return {name: (line, [it for it in uses if it in lines]) for name, (line, uses) in lines.items()}
+    """The crates of crates.txt by their names, each after those that it stands on."""
+    lines = [it for it in (ROOT / "crates.txt").read_text().splitlines() if it and not it.startswith("#")]
+    lines = {it.partition(":")[0].split()[0]: it for it in lines}
+    found = {}
 
+    def add(name):
+        for it in lines[name].partition(":")[2].split():
+            if it in lines and it not in found:
+                add(it)
+        found[name] = Crate(lines[name], found)
 
-def below(name, all_crates):
-    """The crates that a crate stands on, lowest first."""
-    found = set()
-    waiting = [name]
-    while waiting:
-        for it in all_crates[waiting.pop()][1]:
-            if it not in found:
-                found.add(it)
-                waiting.append(it)
-    return [it for it in all_crates if it in found]
-
-
-def work_of(name):
-    """About how many seconds the proofs of a crate take: one a function, and two for each `?`, a way out where all is dropped that is
-    alive there. Lines of proof say little."""
-    texts = [it.read_text() for it in (ROOT / "crates" / name / "src").rglob("*.rt")]
-    return sum(it.count("fn ") + 2 * it.count("?") for it in texts)
+    for name in lines:
+        if name not in found:
+            add(name)
+    return found
 
 
 def free_memory():
@@ -64,37 +144,19 @@ def free_memory():
 
 
 class Build:
-    """A library that is being built."""
+    """A crate that is being built."""
 
-    def __init__(self, name, all_crates, jobs, is_first):
-        self.name, self.jobs, self.is_first, self.began = name, jobs, is_first, time.monotonic()
-        self.tree = LANES / name
-        self.log = LANES / f"{name}.log"
-        self.out = ROOT / "crates" / name / "out"
-        self.give_back()  # what a killed run left
-        place = self.tree / "crates"
-        place.mkdir(parents=True)
-        lower = below(name, all_crates)
-        (self.tree / "crates.txt").write_text("".join(all_crates[it][0] + "\n" for it in [*lower, name]))
-        for crate in [*lower, name]:
-            for part in ("src", "specs", "proofs"):
-                link(ROOT / "crates" / crate / part, place / crate / part)
-        for crate in lower:
-            link(ROOT / "crates" / crate / "out" / "rlib", place / crate / "out" / "rlib")
-        if self.out.exists():
-            shutil.move(self.out, place / name / "out")
+    def __init__(self, crate, jobs, is_first):
+        self.crate, self.began = crate, time.monotonic()
+        self.log = LANES / f"{crate.name}.log"
+        crate.stamp_file.unlink(missing_ok=True)
+        if crate.made.is_dir():
+            shutil.rmtree(crate.made)
+        crate.made.parent.mkdir(parents=True, exist_ok=True)
+        command = crate.command(jobs)
         with open(self.log, "wb") as log:
-            command = ["rt", "lib", "--jobs", str(jobs)]
-            self.process = subprocess.Popen(command if is_first else ["nice", *command], cwd=place / name, stdin=subprocess.DEVNULL,
+            self.process = subprocess.Popen(command if is_first else ["nice", *command], cwd=crate.folder, stdin=subprocess.DEVNULL,
                                             stdout=log, stderr=subprocess.STDOUT, start_new_session=True)
-
-    def give_back(self):
-        """Moves what was built, or the part of it that was, to the crate, and drops the tree."""
-        made = self.tree / "crates" / self.name / "out"
-        if made.exists():
-            shutil.rmtree(self.out, ignore_errors=True)
-            shutil.move(made, self.out)
-        shutil.rmtree(self.tree, ignore_errors=True)
 
     def stop(self):
         try:
@@ -102,7 +164,6 @@ class Build:
         except ProcessLookupError:
             pass
         self.process.wait()
-        self.give_back()
 
     def has_ended(self):
         """Whether its command has ended; if so, what processors spent on it is known."""
@@ -113,40 +174,27 @@ class Build:
         return bool(pid)
 
     def end(self):
-        """Whether it is proved; says so, or shows the log's last lines."""
-        self.give_back()
-        if self.process.returncode == 0:
+        """Whether it is proved and built; says so, or shows the log's last lines."""
+        with open(self.log, "ab") as log:
+            is_built = self.process.returncode == 0 and (not self.crate.is_program or self.crate.link(log))
+        if is_built:
+            self.crate.stamp_file.write_text(self.crate.stamp)
             taken = time.monotonic() - self.began
-            print(f"{self.name} is proved and built after {taken:.0f} seconds, {self.spent:.0f} of a processor", flush=True)
+            print(f"{self.crate.name} is proved and built after {taken:.0f} seconds, {self.spent:.0f} of a processor", flush=True)
             return True
         sys.stdout.writelines(self.log.read_text(errors="replace").splitlines(keepends=True)[-20:])
-        print(f"{self.name} isn't built: see {self.log.relative_to(ROOT)}", flush=True)
+        print(f"{self.crate.name} isn't built: see {self.log.relative_to(ROOT)}", flush=True)
         return False
 
 
-def link(old, new):
-    if old.exists():
-        shutil.copytree(old, new, copy_function=os.link)
-
-
-def chains(wanted, all_crates):
+def chains(wanted):
     """For each crate about how long the longest chain of crates takes that begins with it, upwards."""
-    longest = {it: 0 for it in wanted}
-    for name in reversed(wanted):
-        longest[name] += work_of(name) + READING * len(below(name, all_crates))
-        for it in all_crates[name][1]:
-            longest[it] = max(longest[it], longest[name])
+    longest = dict.fromkeys(wanted, 0)
+    for crate in reversed(wanted):
+        longest[crate] += crate.work
+        for it in longest.keys() & crate.uses:
+            longest[it] = max(longest[it], longest[crate])
     return longest
-
-
-def paying(name, all_crates):
-    """How many jobs pay for a crate: each reads all that is below before it proves anything."""
-    return 1 + work_of(name) // max(FURTHER_WORK, READING * len(below(name, all_crates)))
-
-
-def busy(jobs):
-    """About how many processors a check with so many jobs keeps busy: it reads alone before it has others prove, and after."""
-    return (jobs + 1) // 2
 
 
 def within_memory(jobs):
@@ -154,37 +202,64 @@ def within_memory(jobs):
     return max(1, min(jobs, 1 + (free_memory() - FIRST_JOB) // FURTHER_JOB))
 
 
+def jobs_of(is_first, processors):
+    """How many jobs a crate gets."""
+    return within_memory(min(3, processors) if is_first else max(1, processors // 2))
+
+
 def build(names, processors):
-    """Builds the crates of these names and all below them; the status is 1 where one isn't proved."""
+    """Builds the crates of these names and all below them that aren't built; the status is 1 where one isn't proved. Of two runs one
+    waits for the other."""
+    LANES.mkdir(parents=True, exist_ok=True)
+    with open(LANES / "lock", "w") as lock:
+        fcntl.flock(lock, fcntl.LOCK_EX)
+        return build_alone(names, processors)
+
+
+def build_alone(names, processors):
     all_crates = crates()
-    reached = {it for name in names for it in [*below(name, all_crates), name]}
-    wanted = [it for it in all_crates if it in reached]
-    chain = chains(wanted, all_crates)
+    reached = {it for name in names for it in [*all_crates[name].below, all_crates[name]]}
+    wanted = [it for it in all_crates.values() if it in reached and not it.is_built()]
+    chain = chains(wanted)
     left = sorted(wanted, key=lambda it: -chain[it])
-    done, running = set(), []
+    running = []
     signal.signal(signal.SIGTERM, lambda *_: sys.exit(143))
     try:
         while left or running:
-            ready = [it for it in left if done.issuperset(all_crates[it][1])]
-            for at, name in enumerate(ready):
-                is_first = all(chain[name] >= chain[it.name] for it in running)
-                idle = processors - sum(busy(it.jobs) for it in running)
-                spare = idle - (len(ready) - at - 1)
-                if (is_first or idle > 0) and (not running or free_memory() > FIRST_JOB):
-                    left.remove(name)
-                    jobs = min(max(3 if is_first else 1, spare), paying(name, all_crates))
-                    running.append(Build(name, all_crates, within_memory(jobs), is_first))
-            time.sleep(0.2)
+            awaited = {*left, *(it.crate for it in running)}
+            for crate in [it for it in left if awaited.isdisjoint(it.uses)]:
+                if len(running) < processors and (not running or free_memory() > FIRST_JOB):
+                    left.remove(crate)
+                    is_first = all(chain[crate] >= chain[it.crate] for it in running)
+                    running.append(Build(crate, jobs_of(is_first, processors), is_first))
+            time.sleep(0.1)
             for it in [it for it in running if it.has_ended()]:
                 running.remove(it)
                 if not it.end():
                     return 1
-                done.add(it.name)
         return 0
     finally:
         for it in running:
             it.stop()
 
 
+def check(name, flags, processors):
+    """Proves a crate over what earlier checks kept; the status is 1 where it or one below it isn't proved."""
+    crate = crates()[name]
+    if build([it.name for it in crate.uses], processors):
+        return 1
+    return subprocess.run(crate.check(flags), cwd=crate.folder, stdin=subprocess.DEVNULL, check=False).returncode
+
+
+def main():
+    for name in [it for it in sys.argv[1:] if not it.startswith("-")][: 1 if "--check" in sys.argv else None]:
+        if name not in crates():
+            sys.exit(f"lanes.py: crates.txt has no crate {name}")
+    processors = int(os.environ.get("LANES") or len(os.sched_getaffinity(0)))
+    if sys.argv[1:2] == ["--check"]:
+        return check(sys.argv[2], sys.argv[3:], processors)
+    return build(sys.argv[1:], processors)
+
+
 if __name__ == "__main__":
-    sys.exit(build(sys.argv[1:], int(os.environ.get("LANES") or len(os.sched_getaffinity(0)))))
+    sys.exit(main())

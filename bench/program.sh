@@ -2,8 +2,5 @@
 mkdir -p build/bench
 if [ -z "${PCLMIN:-}" ]; then
     PCLMIN=$PWD/crates/pclmin/out/pclmin
-    (cd crates/pclmin && rt run -- --version < /dev/null) > build/bench/build.log 2>&1 || {
-        cat build/bench/build.log >&2
-        exit 1
-    }
+    ./lanes.py pclmin >&2
 fi

@@ -1,13 +1,13 @@
 #!/usr/bin/env bash
 # Makes build/libpclmin.a of crates/pcl_library, of the C in front of it and of the kit's allocator, so that programs link one file,
 # and build/pclmin.h beside it; with `shared` also build/libpclmin.so. Only the calls of pclmin.h are visible in either. Proves the
-# crate where that isn't done. Needs `rt`, a C compiler and binutils.
+# crate and all that it stands on where that isn't done. Needs `rt`, Python 3, a C compiler and binutils.
 set -euo pipefail
 cd "$(dirname "$0")/.."
 cc=${CC:-cc}
 kit=$(dirname "$(rt doc)")
 mkdir -p build/lib
-(cd crates/pcl_library && rt lib > ../../build/lib/rt.log 2>&1) || { tail -n 20 build/lib/rt.log >&2; exit 1; }
+./lanes.py pcl_library
 "$cc" -std=c11 -O2 -fPIC -Wall -Wextra ${CFLAGS:-} -c lib/pclmin.c -o build/lib/shell.o
 # One object, whose other names no program can meet.
 ld -r -o build/lib/pclmin.o build/lib/shell.o --whole-archive crates/pcl_library/out/libpcl_library.a "$kit/c/liblibc_c.a"
