@@ -10,8 +10,7 @@ use Rattle.pcl_output.proofs.RowsFrom.{rows_at, no_rows}
 -- row y of a page is the first of those from it on
 pub first_row : (picture : Picture) {y : ℕ} → y < page_height picture.size picture.dpi
     → take 1 (drop y (bitmap_rows picture)) ≡ row_of picture y ∷ []
-first_row picture {y} lt =
-    ap (take 1) (rows_at (page_row_bytes picture.size picture.dpi) picture.bytes lt)
+first_row picture {y} lt = ap (take 1) (rows_at (page_row_bytes picture.size picture.dpi) picture.bytes lt)
 
 -- below the last row there is none
 pub past_rows : (picture : Picture) {y : ℕ} → page_height picture.size picture.dpi ≤ y → take 1 (drop y (bitmap_rows picture)) ≡ []

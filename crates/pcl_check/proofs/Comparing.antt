@@ -1,5 +1,5 @@
 -- Rows of a text beside those of a page.
-use Rattle.std.proofs.Common.{◌≡◌, ℕ, ◌-◌, ◌≤◌, Bool, true, false, IsTrue, List, [], ◌++◌, length, take, drop, replicate, refl, sym, ap, subst, ◌∙◌, append_assoc, arith}
+use Rattle.std.proofs.Common.{◌≡◌, ℕ, ◌-◌, ◌≤◌, Bool, true, false, IsTrue, List, [], ◌++◌, length, take, drop, replicate, refl, sym, subst, ◌∙◌, append_assoc, arith}
 use Rattle.std.specs.Prelude.{◌↔◌}
 use Rattle.std.proofs.lemmas.List.{length-append, length-replicate, append_assoc}
 use Rattle.pcl_base.proofs.Lists.{parts_of, of_parts}
@@ -29,13 +29,8 @@ pub becomes_trans : {size : Size} {dpi : Dpi} {a : LeftOver} {given : List (List
 becomes_trans {size} {dpi} {a} {given} {more} first second = record {
   splits = λ rows p.
       let one = first.splits rows p in
-      let two = second.splits one.0 one.2 in (
-        two.0,
-        one.1 ∙ ap (λ (z : List (List ℕ)). given ++ z) two.1 ∙ sym (append_assoc given more two.0),
-        two.2,
-      );
-  joins = λ rows p.
-      rw (append_assoc given more rows) (first.joins (more ++ rows) (second.joins rows p));
+      let two = second.splits one.0 one.2 in (two.0, simp (one.1, two.1, append_assoc), two.2);
+  joins = λ rows p. rw (append_assoc given more rows) (first.joins (more ++ rows) (second.joins rows p));
 }
 
 pub becomes_same : {size : Size} {dpi : Dpi} {a b : LeftOver} → a ≡ b → GivesRows size dpi a [] b
@@ -52,13 +47,11 @@ pub record IsBodyReadTo (picture : Picture) (size : Size) (text : List ℕ) (may
 -- rows are a page's first ones where those before a place are, and those from there on
 same_joined : (picture : Picture) {may_be before after : Bool} (given : List (List ℕ)) {more : List (List ℕ)}
     → (IsTrue after ↔ (IsTrue before × AreRowsAt picture (length given) more))
-    → (IsTrue before ↔ (IsTrue may_be × AreRowsAt picture 0 given))
-    → IsTrue after ↔ (IsTrue may_be × AreRowsAt picture 0 (given ++ more))
+    → (IsTrue before ↔ (IsTrue may_be × AreRowsAt picture 0 given)) → IsTrue after ↔ (IsTrue may_be × AreRowsAt picture 0 (given ++ more))
 same_joined picture given later first = (
   λ yes.
       let now = later.0 yes in
-      let before = first.0 now.0 in
-      (before.0, of_parts given (bitmap_rows picture) before.1 now.1),
+      let before = first.0 now.0 in (before.0, of_parts given (bitmap_rows picture) before.1 now.1),
   λ h. let parts = parts_of given (bitmap_rows picture) h.1 in later.1 (first.1 (h.0, parts.0), parts.1),
 )
 
@@ -85,9 +78,7 @@ read_all {picture} {size} {place = place} {above} {outcome} read outside ended s
     record {
       rows = read.given ++ white;
       printed = read.becomes.joins white (end_prints outside ended);
-      only = λ other p.
-          let parts = read.becomes.splits other p in
-          parts.1 ∙ ap (λ (z : List (List ℕ)). read.given ++ z) (end_only outside ended parts.2);
+      only = λ other p. let parts = read.becomes.splits other p in let rest = end_only outside ended parts.2 in cc;
       same = same_joined picture read.given
           (subst (λ (y : ℕ). IsTrue outcome ↔ (IsTrue place.is_same × AreRowsAt picture y white)) read.row_is same) read.same;
     }
@@ -97,4 +88,4 @@ pub white_test : (picture : Picture) (size : Size) (y : ℕ) {n count : ℕ} {te
     → (IsTrue test ↔ (white_rows size picture.dpi n ≡ take n (drop y (bitmap_rows picture))))
     → IsTrue test ↔ AreRowsAt picture y (white_rows size picture.dpi count)
 white_test picture size y {count = count} e says =
-    let white : List ℕ = replicate (page_row_bytes size picture.dpi) 0 in rw (length-replicate count white, sym e) says
+    rw (length-replicate count (replicate {A = ℕ} (page_row_bytes size picture.dpi) 0), sym e) says

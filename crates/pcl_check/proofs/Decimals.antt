@@ -8,13 +8,13 @@ use Rattle.pcl_base.proofs.Fronts.{front_split}
 use Rattle.pcl_output.proofs.Numbers.{decimal_spelled}
 use Rattle.pcl_check.specs.declared.reading.parameter.Parameter.{Parameter}
 use Rattle.pcl_check.specs.inner.Reading.{IsParameter}
-use Rattle.pcl_check.proofs.Splits.{one_split, no_split}
+use Rattle.pcl_check.proofs.Splits.{one_split}
 
 -- nothing is after the digits
 pub all_digits : (text : List ℕ) {behind : List ℕ} → behind ≡ drop (prefix_len is_digit text) text → length behind ≡ 0 → AreDigits text
 all_digits text {behind} e none =
-    let front = front_split is_digit text in
     let no_more : drop (prefix_len is_digit text) text ≡ [] = sym e ∙ nil_from_length behind none in
+    let front = front_split is_digit text in
     let all = append-nil (take (prefix_len is_digit text) text) in
     let whole : text ≡ take (prefix_len is_digit text) text = cc in rw whole front.pass
 
@@ -26,19 +26,12 @@ decimal_digits {n} le = (decimal_spelled n (omega arith)).0
 pub decimal_number : {n : ℕ} → n ≤ 65536 → number_of (decimal n) ≡ n
 decimal_number {n} le = (decimal_spelled n (omega arith)).1
 
-pub same_decimal : {m n : ℕ} → m ≤ 65536 → n ≤ 65536 → decimal m ≡ decimal n → m ≡ n
-same_decimal a b e = sym (decimal_number a) ∙ ap number_of e ∙ decimal_number b
-
 -- decimals with the same byte after them
 pub same_front : {m n : ℕ} (byte : ℕ) {x y : List ℕ} → m ≤ 65536 → n ≤ 65536 → is_digit byte ≡ false
     → decimal m ++ byte ∷ x ≡ decimal n ++ byte ∷ y → (m ≡ n) × (x ≡ y)
 same_front {m} {n} byte a b off e =
     let parts = one_split is_digit (decimal m) (decimal n) (decimal_digits a) (decimal_digits b) off off e in
-    (same_decimal a b parts.0, parts.2)
-
-pub no_decimal : {text : List ℕ} (n byte : ℕ) (rest : List ℕ) → AreDigits text → is_digit byte ≡ false
-    → text ≡ decimal n ++ byte ∷ rest → ⊥
-no_decimal {text} n byte rest are off e = no_split is_digit text (decimal n) rest are off e
+    (sym (decimal_number a) ∙ ap number_of parts.0 ∙ decimal_number b, parts.2)
 
 -- a number that is spelled as a decimal is one without leading zeros
 pub record IsDecimal (found : Parameter) (byte n : ℕ) : Type 0 where
@@ -48,8 +41,7 @@ pub record IsDecimal (found : Parameter) (byte n : ℕ) : Type 0 where
 pub decimal_found : {text : List ℕ} {found : Parameter} {byte n : ℕ} (rest : List ℕ) → IsParameter text found → is_digit byte ≡ false
     → n ≤ 65535 → text ≡ decimal n ++ byte ∷ rest → IsDecimal found byte n
 decimal_found {found} {n} rest is off le e =
-    let parts = one_split is_digit found.digits.now (decimal n) is.are_digits
-    (decimal_digits (omega arith)) is.no_digit off (sym is.spelled ∙ e) in
-    let number : number_of found.digits.now ≡ n = ap number_of parts.0 ∙ decimal_number (omega arith) in
-    let same : found.number ≡ n = omega (arith, is.number_is, number) in
+    let few : n ≤ 65536 = omega arith in
+    let parts = one_split is_digit found.digits.now (decimal n) is.are_digits (decimal_digits few) is.no_digit off (sym is.spelled ∙ e) in
+    let same : found.number ≡ n = omega (arith, is.number_is, ap number_of parts.0, decimal_number few) in
     record { digits = ap decimal same ∙ sym parts.0; letter = parts.1 }

@@ -9,14 +9,10 @@ use Rattle.pcl_output.specs.declared.node.Node.{Node}
 use Rattle.pcl_check.specs.Edges.{inside_code, place_of, IsFirstBad, FindsBad}
 use Rattle.pcl_check.specs.inner.EdgePasses.{found_place, first_found, At, Both}
 
-inside_small : (inside : Bool) → inside_code inside ≤ 1
-inside_small true = omega arith
-inside_small false = omega arith
-
 -- what stands before another number stands in its row or above it
 pub row_before : (row other : ℕ) (method next : Method) (inside is_open : Bool)
     → place_of row method inside < place_of other next is_open → row ≤ other
-row_before row other method next inside is_open lt = omega (arith, lt, method_small next, inside_small is_open)
+row_before row other method next inside is_open lt = grind (arith, method_small next)
 
 -- the first bad number of one fact is that of another which differs from it at no number up to there
 first_too : (One Other : ℕ → Method → Bool → Type 0) {last : ℕ} {bad : Node}
@@ -56,9 +52,8 @@ first_finds One Other last (Some one) (Some other) a b =
 
 -- the first number that is bad by one of four facts
 pub first_of_four : (A B C D : ℕ → Method → Bool → Type 0) (last : ℕ) (a b c d : Option Node) {one other found : Option Node}
-    → FindsBad A last a → FindsBad B last b → FindsBad C last c → FindsBad D last d
-    → one ≡ first_found a b → other ≡ first_found c d → found ≡ first_found one other
-    → FindsBad (Both (Both A B) (Both C D)) last found
+    → FindsBad A last a → FindsBad B last b → FindsBad C last c → FindsBad D last d → one ≡ first_found a b → other ≡ first_found c d
+    → found ≡ first_found one other → FindsBad (Both (Both A B) (Both C D)) last found
 first_of_four A B C D last a b c d finds_a finds_b finds_c finds_d first second all =
     rw (all, first, second) (first_finds (Both A B) (Both C D) last (first_found a b) (first_found c d)
     (first_finds A B last a b finds_a finds_b) (first_finds C D last c d finds_c finds_d))

@@ -2,6 +2,7 @@
 use Rattle.std.proofs.Common.{◌≡◌, ℕ, zero, suc, ◌+◌, ◌-◌, ◌<◌, ◌≤◌, Bool, true, false, List, [], ◌∷◌, ◌++◌, length, take, drop, replicate, refl, sym, ap, ◌∙◌, append_assoc, arith}
 use Rattle.std.specs.Prelude.{not}
 use Rattle.std.specs.List.{flat_map, AllByRecursion}
+use Rattle.std.proofs.lemmas.Bool.Decides.{nat_tests}
 use Rattle.std.proofs.lemmas.List.{length-drop}
 use Rattle.pcl_base.specs.declared.dpi.Dpi.{Dpi}
 use Rattle.pcl_base.specs.declared.method.Method.{Method}
@@ -10,7 +11,7 @@ use Rattle.pcl_base.specs.Method.{method_code}
 use Rattle.pcl_base.specs.Size.{page_row_bytes}
 use Rattle.pcl_base.specs.Digits.{is_digit, number_of, AreDigits}
 use Rattle.pcl_rows.specs.Rows.{IsRowData}
-use Rattle.pcl_output.specs.Tokens.{Token, opening, method, skip, send, letter, token_bytes, AreWhite, PrintsRows, end_bytes}
+use Rattle.pcl_output.specs.Tokens.{Token, method, skip, send, letter, token_bytes, AreWhite, PrintsRows, end_bytes}
 use Rattle.pcl_output.specs.PageText.{IsRowOf}
 use Rattle.pcl_output.proofs.Walking.{white_is_zeros}
 use Rattle.pcl_check.specs.inner.Reading.{LeftOver, RestPrints}
@@ -47,25 +48,8 @@ pub data Foremost (size : Size) (dpi : Dpi) (current : Method) (above : List ℕ
       → RestPrints size dpi (left_over false current first (left - 1) more) others
       → Foremost size dpi current above left number byte rest rows
 
-pub regroup : (digits : List ℕ) (byte : ℕ) (bytes tokens end : List ℕ)
-    → ((digits ++ (byte ∷ bytes)) ++ tokens) ++ end ≡ digits ++ byte ∷ (bytes ++ (tokens ++ end))
-regroup digits byte bytes tokens end = simp append_assoc
-
-pub no_digit_77 : (ends : Bool) → is_digit (letter_code 77 ends) ≡ false
-no_digit_77 true = refl
-no_digit_77 false = refl
-
-pub no_digit_89 : (ends : Bool) → is_digit (letter_code 89 ends) ≡ false
-no_digit_89 true = refl
-no_digit_89 false = refl
-
--- a text that begins with digits and another byte, and with a token: they are the same
-pub same_front : {digits spelled : List ℕ} {byte sent : ℕ} {rest : List ℕ} (bytes tokens end : List ℕ)
-    → AreDigits digits → AreDigits spelled → is_digit byte ≡ false → is_digit sent ≡ false
-    → digits ++ byte ∷ rest ≡ ((spelled ++ (sent ∷ bytes)) ++ tokens) ++ end
-    → (digits ≡ spelled) × (byte ≡ sent) × (rest ≡ bytes ++ (tokens ++ end))
-same_front {digits} {spelled} {sent} bytes tokens end p q s t e =
-    one_split is_digit digits spelled p q s t (e ∙ regroup spelled sent bytes tokens end)
+pub no_digit : (capital : ℕ) (ends : Bool) → 57 < capital → is_digit (letter_code capital ends) ≡ false
+no_digit capital ends after = grind (arith, nat_tests)
 
 pub all_drop : (size : Size) (dpi : Dpi) (count : ℕ) (rows : List (List ℕ)) → AllByRecursion (IsRowOf size dpi) rows
     → AllByRecursion (IsRowOf size dpi) (drop count rows)
@@ -82,25 +66,25 @@ white_front size dpi (suc count) (row ∷ rows) are le white =
     let first : row ≡ replicate (page_row_bytes size dpi) 0 = white_is_zeros row white.0 ∙ ap (λ (n : ℕ). replicate n 0) are.0.0 in
     let rest = white_front size dpi count rows are.1 (omega arith) white.1 in cc
 
+-- digits and another byte at the front of what is left, inside a sequence
+pub record Told (left : LeftOver) (digits : List ℕ) (byte : ℕ) (rest : List ℕ) : Type 0 where
+  pub inside : left.inside ≡ true
+  pub are_digits : AreDigits digits
+  pub no_digit : is_digit byte ≡ false
+  pub text : left.text ≡ digits ++ byte ∷ rest
+
 -- what is at the front, by the tokens
 front_by : {size : Size} {dpi : Dpi} {current : Method} {above : List ℕ} {left : ℕ} (digits : List ℕ) {byte : ℕ} {rest : List ℕ}
     → AreDigits digits → is_digit byte ≡ false → (tokens : List Token) (rows : List (List ℕ))
-    → digits ++ byte ∷ rest ≡ flat_map token_bytes tokens ++ end_bytes → length rows ≡ left
-    → AllByRecursion (IsRowOf size dpi) rows → PrintsRows true current above tokens rows
-    → Foremost size dpi current above left (number_of digits) byte rest rows
+    → digits ++ byte ∷ rest ≡ flat_map token_bytes tokens ++ end_bytes → length rows ≡ left → AllByRecursion (IsRowOf size dpi) rows
+    → PrintsRows true current above tokens rows → Foremost size dpi current above left (number_of digits) byte rest rows
 unfolding PrintsRows
-front_by digits are off [] rows e n all p = absurd p
-front_by digits are off (opening ∷ tokens) rows e n all p = absurd p
-front_by digits {byte} {rest} are off (method spelled next ends ∷ tokens) rows e n all p =
-    let more = flat_map token_bytes tokens in
-    let same = same_front [] more end_bytes are p.0.0 off (no_digit_77 ends)
-    (rw (letter_is 77 ends) at e) in
+front_by digits are off (method spelled next ends ∷ tokens) rows e n all p =
+    let same = one_split is_digit digits spelled are p.0.0 off (no_digit 77 ends (omega arith)) (simp (letter_is, append_assoc) at e) in
     is_method next ends same.1 (ap number_of same.0 ∙ p.0.1)
     (record { count = n; rows_are = all; tokens = tokens; spelled = same.2; prints = p.1 })
-front_by {size} {dpi} {current} {above} {left} digits {byte} {rest} are off (skip spelled count ends ∷ tokens) rows e n all p =
-    let more = flat_map token_bytes tokens in
-    let same = same_front [] more end_bytes are p.0.0 off (no_digit_89 ends)
-    (rw (letter_is 89 ends) at e) in
+front_by {size} {dpi} digits are off (skip spelled count ends ∷ tokens) rows e n all p =
+    let same = one_split is_digit digits spelled are p.0.0 off (no_digit 89 ends (omega arith)) (simp (letter_is, append_assoc) at e) in
     let number : number_of digits ≡ count = ap number_of same.0 ∙ p.0.1 in
     rw number
     (is_skip ends (drop count rows) same.1 p.1 (omega (arith, p.2)) (white_front size dpi count rows all p.2 p.3)
@@ -111,18 +95,15 @@ front_by {size} {dpi} {current} {above} {left} digits {byte} {rest} are off (ski
       spelled = same.2;
       prints = p.4;
     }))
-front_by digits are off (send spelled bytes ∷ tokens) [] e n all p = absurd p
-front_by digits {byte} {rest} are off (send spelled bytes ∷ tokens) (first ∷ rows) e n all p =
-    let more = flat_map token_bytes tokens in
-    let same = same_front bytes more end_bytes are p.0.0 off refl e in
-    is_send bytes (more ++ end_bytes) first rows same.1 (ap number_of same.0 ∙ p.0.1) same.2 (omega arith) refl all.0 p.1
-    (record { count = omega arith; rows_are = all.1; tokens = tokens; spelled = refl; prints = p.2 })
+front_by digits are off (send spelled bytes ∷ tokens) (first ∷ rows) e n all p =
+    let same = one_split is_digit digits spelled are p.0.0 off refl (simp append_assoc at e) in
+    is_send bytes (flat_map token_bytes tokens ++ end_bytes) first rows same.1 (ap number_of same.0 ∙ p.0.1) same.2 (omega arith) refl
+    all.0 p.1 (record { count = omega arith; rows_are = all.1; tokens = tokens; spelled = refl; prints = p.2 })
+front_by digits are off tokens rows e n all p = absurd p
 
--- what is at the front of what is left
-pub front_of : {size : Size} {dpi : Dpi} {left : LeftOver} (digits : List ℕ) {byte : ℕ} {rest : List ℕ} {rows : List (List ℕ)}
-    → left.inside ≡ true → AreDigits digits → is_digit byte ≡ false → left.text ≡ digits ++ byte ∷ rest
-    → RestPrints size dpi left rows → Foremost size dpi left.method left.above left.rows (number_of digits) byte rest rows
-front_of {left} digits {rows} inside are off text printed =
-    front_by digits are off printed.tokens rows (sym text ∙ printed.spelled)
-    printed.count printed.rows_are
-    (rw inside at printed.prints)
+pub front_at : {size : Size} {dpi : Dpi} {left : LeftOver} {digits : List ℕ} {byte : ℕ} {rest : List ℕ} {rows : List (List ℕ)}
+    → Told left digits byte rest → RestPrints size dpi left rows
+    → Foremost size dpi left.method left.above left.rows (number_of digits) byte rest rows
+front_at {digits} {rows} told printed =
+    front_by digits told.are_digits told.no_digit printed.tokens rows (sym told.text ∙ printed.spelled)
+    printed.count printed.rows_are (rw told.inside at printed.prints)

@@ -5,7 +5,6 @@ use Rattle.std.proofs.lemmas.Bool.{cases_lt}
 use Rattle.pcl_base.specs.declared.method.Method.{Method}
 use Rattle.pcl_base.specs.Method.{method_code}
 use Rattle.pcl_rows.specs.Rows.{IsRowData}
-use Rattle.pcl_coders.specs.Coding.{IsLeastLength}
 use Rattle.pcl_base.specs.Walks.{IsFeasible}
 use Rattle.pcl_output.specs.declared.table.RowNumbers.{RowNumbers}
 use Rattle.pcl_output.specs.Tokens.{Token, opening, method, skip, send}
@@ -29,40 +28,17 @@ AreGoodSends width rows number = (row : ℕ) (current : Method) (bytes : List �
     → number_at number row current true ≤ row_cost (length bytes) + number_at number (row + 1) current false
 
 steps_from : (width : ℕ) (rows : List (List ℕ)) (Counts : ℕ → Method → ℕ → Type 0) (number : Node → ℕ) {row : ℕ} → length rows ≤ 65535
-    → AreGoodSends width rows number
-    → {current : Method} (is_open : Bool) (token : Token) (b : Node) → IsGoodNumber rows Counts number row current is_open
-    → Leads width rows (node row current is_open) token b
+    → AreGoodSends width rows number → {current : Method} (is_open : Bool) (token : Token) (b : Node)
+    → IsGoodNumber rows Counts number row current is_open → Leads width rows (node row current is_open) token b
     → number (node row current is_open) ≤ cost token + number b
-steps_from width rows Counts number few sends true opening b good l = absurd cc
-steps_from width rows Counts number few sends false opening b good l =
-    omega (arith, good.opens, cost_opening, ap number l.1)
-steps_from width rows Counts number few sends false (method digits next ends) b good l = absurd cc
+steps_from width rows Counts number few sends false opening b good l = omega (arith, good.opens, cost_opening, ap number l.1)
 steps_from width rows Counts number few sends true (method digits next ends) b good l =
-    omega (
-      arith,
-      good.switches next (not ends),
-      cost_method digits next ends,
-      spelled_long digits l.1 (omega (arith, method_small next)),
-      ap number l.2,
-    )
-steps_from width rows Counts number few sends false (skip digits count ends) b good l = absurd cc
+    omega (arith, good.switches next (not ends), cost_method, spelled_long digits l.1 (omega (arith, method_small next)), ap number l.2)
 steps_from width rows Counts number few sends true (skip digits count ends) b good l =
-    omega (
-      arith,
-      good.skips count (not ends) l.2 l.3 l.4,
-      cost_skip digits count ends,
-      spelled_long digits l.1 (omega (arith, l.3, few)),
-      ap number l.5,
-    )
-steps_from width rows Counts number few sends false (send digits bytes) b good l = absurd cc
+    omega (arith, good.skips count (not ends) l.2 l.3 l.4, cost_skip, spelled_long digits l.1 (omega (arith, l.3, few)), ap number l.5)
 steps_from width rows Counts number {row} few sends {current} true (send digits bytes) b good l =
-    omega (
-      arith,
-      sends row current bytes l.2 l.3,
-      cost_send digits bytes,
-      spelled_long digits l.1 (omega (arith, l.3.fits)),
-      ap number l.4,
-    )
+    omega (arith, sends row current bytes l.2 l.3, cost_send, spelled_long digits l.1 (omega (arith, l.3.fits)), ap number l.4)
+steps_from width rows Counts number few sends is_open token b good l = absurd cc
 
 end_from : (rows : List (List ℕ)) (Counts : ℕ → Method → ℕ → Type 0) (number : Node → ℕ) {row : ℕ} {current : Method} (is_open : Bool)
     → IsGoodNumber rows Counts number row current is_open → Ends rows (node row current is_open) → number (node row current is_open) ≡ 0
@@ -77,8 +53,7 @@ feasible_by_sends width {rows} table Counts few size sends good = record {
       elim (cases_lt (length rows) a.row) [
         | inl past ↦ omega (arith, number_past table a (omega (arith, size)))
         | inr within ↦
-            steps_from width rows Counts (node_number table) few sends a.inside token b
-            (good a.row a.method a.inside within) l
+            steps_from width rows Counts (node_number table) few sends a.inside token b (good a.row a.method a.inside within) l
       ];
   ends = λ a end.
       elim (cases_lt (length rows) a.row) [
@@ -100,12 +75,8 @@ pub numbers_by_bounds : (width : ℕ) (rows : List (List ℕ)) (table : List Row
 numbers_by_bounds width rows table lengths few size bound good =
     feasible_by_sends width table (IsGiven lengths) few size
     (λ row current bytes inside whole.
-    omega (
-      arith,
-      (good row current true (omega arith)).sends (lengths row current) inside refl,
-      row_cost_grows (lengths row current) (length bytes) (bound row current bytes inside whole) (omega (arith, whole.fits)),
-    ))
-    good
+    let le = row_cost_grows (lengths row current) (length bytes) (bound row current bytes inside whole) (omega (arith, whole.fits)) in
+    omega (arith, (good row current true (omega arith)).sends (lengths row current) inside refl)) good
 
 -- least lengths: shorter data would undercut more, so the least data that undercuts is least data
 sends_by_least : (width : ℕ) {rows : List (List ℕ)} {number : Node → ℕ} → AreGoodNumbers rows (IsLeastOfRow width rows) number
@@ -114,35 +85,22 @@ sends_by_least : (width : ℕ) {rows : List (List ℕ)} {number : Node → ℕ} 
     → number_at number row current true ≤ row_cost (length bytes) + number_at number (row + 1) current false
 sends_by_least width good zero short inside coded = absurd (omega arith)
 sends_by_least width {rows} {number} good (suc most) {row} {current} {bytes} short inside coded =
-    let n : ℕ = number_at number row current true in
     let rest : ℕ = number_at number (row + 1) current false in
-    elim (cases_lt (row_cost (length bytes) + rest) n) [
+    elim (cases_lt (row_cost (length bytes) + rest) (number_at number row current true)) [
       | inr within ↦ within
-      | inl under ↦
-          let least : IsLeastLength current (row_above width rows row) (row_at rows row) (length bytes) = record {
-            attained = (bytes, coded, refl);
-            shortest = λ other whole.
-                elim (cases_lt (length other) (length bytes)) [
-                  | inr longer ↦ longer
-                  | inl shorter ↦
-                      absurd (omega (
-                        arith,
-                        sends_by_least width good most (omega arith) inside whole,
-                        row_cost_grows (length other) (length bytes) (omega arith) (omega (arith, coded.fits)),
-                      ))
-                ];
-          } in
-          (good row current true (omega arith)).sends (length bytes) inside least
+      | inl under ↦ (good row current true (omega arith)).sends (length bytes) inside (record {
+        attained = (bytes, coded, refl);
+        shortest = λ other whole.
+            let kept = λ (less : length other < length bytes). sends_by_least width good most (omega arith) inside whole in
+            grind (arith, kept, row_cost_grows (length other) (length bytes), coded.fits);
+      })
     ]
 
-pub good_feasible : (width : ℕ) {rows : List (List ℕ)} (table : List RowNumbers) → length rows ≤ 65535
-    → length table ≡ length rows + 1 → AreGoodNumbers rows (IsLeastOfRow width rows) (node_number table)
-    → IsFeasible (Leads width rows) (Ends rows) cost (node_number table)
+pub good_feasible : (width : ℕ) {rows : List (List ℕ)} (table : List RowNumbers) → length rows ≤ 65535 → length table ≡ length rows + 1
+    → AreGoodNumbers rows (IsLeastOfRow width rows) (node_number table) → IsFeasible (Leads width rows) (Ends rows) cost (node_number table)
 good_feasible width {rows} table few size good =
     feasible_by_sends width table (IsLeastOfRow width rows) few size
-    (λ row current bytes inside whole.
-    sends_by_least width good (length bytes + 1) (omega arith) inside whole)
-    good
+    (λ row current bytes inside whole. sends_by_least width good (length bytes + 1) (omega arith) inside whole) good
 
 -- ---- to good numbers
 
@@ -160,31 +118,18 @@ feasible_good width number few is row current false within = record {
 feasible_good width {rows} number few is row current true within = record {
   switches = λ next inside.
       let s = spelled_cost (method_code next) (omega (arith, method_small next)) in
-      omega (
-        arith,
-        is.steps (node row current true) (method (least_spelling (method_code next)) next (not inside)) (node row next inside)
-            (refl, s.0, ap (node row next) (sym (ends_or inside))),
-        cost_method (least_spelling (method_code next)) next (not inside),
-        s.1,
-      );
+      let step = is.steps (node row current true) (method (least_spelling (method_code next)) next (not inside)) (node row next inside)
+      (refl, s.0, ap (node row next) (sym (ends_or inside))) in
+      omega (arith, cost_method);
   skips = λ count inside some room white.
       let s = spelled_cost count (omega (arith, room, few)) in
-      omega (
-        arith,
-        is.steps (node row current true) (skip (least_spelling count) count (not inside)) (node (row + count) current inside)
-            (refl, s.0, some, room, white, ap (node (row + count) current) (sym (ends_or inside))),
-        cost_skip (least_spelling count) count (not inside),
-        s.1,
-      );
+      let step = is.steps (node row current true) (skip (least_spelling count) count (not inside)) (node (row + count) current inside)
+      (refl, s.0, some, room, white, ap (node (row + count) current) (sym (ends_or inside))) in
+      omega (arith, cost_skip);
   sends = λ bytes inside least.
       let whole = least.attained in
       let s = spelled_cost bytes (length_small least) in
-      omega (
-        arith,
-        is.steps (node row current true) (send (least_spelling bytes) whole.0) (node (row + 1) current false)
-            (refl, rw whole.2 s.0, inside, whole.1, refl),
-        cost_send (least_spelling bytes) whole.0,
-        whole.2,
-        s.1,
-      );
+      let step = is.steps (node row current true) (send (least_spelling bytes) whole.0) (node (row + 1) current false)
+      (refl, rw whole.2 s.0, inside, whole.1, refl) in
+      omega (arith, cost_send, whole.2);
 }

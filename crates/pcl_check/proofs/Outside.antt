@@ -23,25 +23,19 @@ opened_by : {size : Size} {dpi : Dpi} {current : Method} {above : List ℕ} {lef
     → RestPrints size dpi (left_over true current above left rest) rows
 unfolding PrintsRows
 opened_by [] e n all p = let same : ◌≡◌ {A = ℕ} 98 114 = cc in absurd (omega arith)
-opened_by (opening ∷ tokens) e n all p =
-    record { count = n; rows_are = all; tokens = tokens; spelled = cc; prints = p }
+opened_by (opening ∷ tokens) e n all p = record { count = n; rows_are = all; tokens = tokens; spelled = cc; prints = p }
 opened_by (token ∷ tokens) e n all p = absurd p
 
 pub opening_becomes : {size : Size} {dpi : Dpi} {left : LeftOver} {rest : List ℕ} → left.inside ≡ false → left.text ≡ opening_bytes ++ rest
     → GivesRows size dpi left [] (left_over true left.method left.above left.rows rest)
 unfolding PrintsRows
 opening_becomes {left} outside e = record {
-  splits = λ rows p. (
-    rows,
-    refl,
-    opened_by p.tokens (sym e ∙ p.spelled) p.count p.rows_are
-        (rw outside at p.prints),
-  );
+  splits = λ rows p. (rows, refl, opened_by p.tokens (sym e ∙ p.spelled) p.count p.rows_are (rw outside at p.prints));
   joins = λ rows p. record {
     count = p.count;
     rows_are = p.rows_are;
     tokens = opening ∷ p.tokens;
-    spelled = e ∙ ap (λ (z : List ℕ). opening_bytes ++ z) p.spelled;
+    spelled = cc;
     prints = rw outside p.prints;
   };
 }
@@ -58,8 +52,7 @@ outside_by current above (token ∷ tokens) rows not_open not_end e p = p
 pub no_opening : {size : Size} {dpi : Dpi} {left : LeftOver} {rows : List (List ℕ)} → left.inside ≡ false
     → ((rest : List ℕ) → left.text ≡ opening_bytes ++ rest → ⊥) → (left.text ≡ end_bytes → ⊥) → RestPrints size dpi left rows → ⊥
 no_opening {left} {rows} outside not_open not_end p =
-    outside_by left.method left.above p.tokens rows not_open not_end p.spelled
-    (rw outside at p.prints)
+    outside_by left.method left.above p.tokens rows not_open not_end p.spelled (rw outside at p.prints)
 
 -- ---- the text ends
 
@@ -74,8 +67,7 @@ ended_by size dpi current above (token ∷ tokens) e all p = absurd p
 pub end_only : {size : Size} {dpi : Dpi} {left : LeftOver} {rows : List (List ℕ)} → left.inside ≡ false → left.text ≡ end_bytes
     → RestPrints size dpi left rows → rows ≡ white_rows size dpi left.rows
 end_only {size} {dpi} {left} {rows} outside e p =
-    ended_by size dpi left.method left.above p.tokens (sym e ∙ p.spelled) p.rows_are
-    (rw outside at p.prints)
+    ended_by size dpi left.method left.above p.tokens (sym e ∙ p.spelled) p.rows_are (rw outside at p.prints)
     ∙ ap (white_rows size dpi) p.count
 
 pub end_prints : {size : Size} {dpi : Dpi} {left : LeftOver} → left.inside ≡ false → left.text ≡ end_bytes

@@ -1,7 +1,6 @@
 -- Elements of each kind by windows.
-use Rattle.std.proofs.Common.{◌≡◌, ℕ, ◌+◌, ◌-◌, ◌<◌, ◌≤◌, List, length, take, drop, sym, ◌∙◌, inl, inr, arith}
+use Rattle.std.proofs.Common.{◌≡◌, ℕ, ◌+◌, ◌-◌, ◌<◌, ◌≤◌, List, length, take, drop, sym, ◌∙◌, arith}
 use Rattle.std.specs.Prelude.{slice_index}
-use Rattle.std.proofs.lemmas.Bool.{cases_lt}
 use Rattle.std.proofs.lemmas.List.{ext_get_or, get_or-take, get_or-drop, length-drop, length-take-le}
 use Rattle.pcl_base.proofs.Lists.{run_part, start_within}
 use Rattle.pcl_base.specs.Limits.{row_limit}
@@ -37,12 +36,8 @@ pub literals_by_window : (numbers sums ends : List ℕ) {place : ℕ} → ArePla
     → ((k : ℕ) → k < length ends → slice_index ends k ≡ length ends - 1) → IsNotUndercut sums sums ends 1 128 place
     → AreGoodLiterals numbers place
 literals_by_window numbers sums ends {place} placed size all kept = λ count some few within.
-    omega (
-      arith,
-      kept (place + count) (omega arith) (omega arith) (omega (arith, all place (omega (arith, size)), size)),
-      placed place (omega arith),
-      placed (place + count) within,
-    )
+    let far = kept (place + count) (omega arith) (omega arith) (omega (arith, all place (omega (arith, size)), size)) in
+    omega (arith, placed place (omega arith), placed (place + count) within)
 
 pub window_by_literals : (numbers sums ends : List ℕ) {place : ℕ} → ArePlaced numbers sums → length ends ≡ length numbers
     → ((k : ℕ) → k < length ends → slice_index ends k ≡ length ends - 1) → place < length numbers → AreGoodLiterals numbers place
@@ -58,26 +53,21 @@ start_reached : {old row ends : List ℕ} (place offset : ℕ) {len : ℕ} → A
     → place + offset + 1 ≤ slice_index ends place
 start_reached {old} {row} {ends} place offset are some within alike =
     let is = are.starts place (omega arith) (omega arith) in
-    elim (cases_lt (slice_index ends place) (length row)) [
-      | inl before ↦ omega (arith, start_within old row offset (omega (arith, is.after)) (is.differs before) alike, is.after)
-      | inr last ↦ omega arith
-    ]
+    let reached = λ (before : slice_index ends place < length row).
+    start_within old row offset (omega (arith, is.after)) (is.differs before) alike in grind (arith, is.after, reached)
 
 -- what comes before such a start is the same
 same_before_start : {old row ends : List ℕ} {place : ℕ} (offset : ℕ) → length old ≡ length row → AreStartEnds old row ends 0
     → place < length row → place + offset + 1 ≤ slice_index ends place → take offset (drop place row) ≡ take offset (drop place old)
 same_before_start {old} {row} {place} offset size are inside within =
     let is = are.starts place (omega arith) inside in
-    let one : length (take offset (drop place row)) ≡ offset =
-    length-take-le offset (drop place row) (omega (arith, length-drop place row, is.within)) in
-    let other : length (take offset (drop place old)) ≡ offset =
-    length-take-le offset (drop place old) (omega (arith, length-drop place old, is.within)) in
+    let one = length-take-le offset (drop place row) (omega (arith, length-drop place row, is.within)) in
+    let other = length-take-le offset (drop place old) (omega (arith, length-drop place old, is.within)) in
     ext_get_or 0 (take offset (drop place row)) (take offset (drop place old)) (one ∙ sym other)
     (λ k below.
+    let same = is.same (place + k) (omega arith) (omega (arith, one)) in
     let lt : k < offset = omega (arith, one) in
-    get_or-take offset (drop place row) k 0 lt ∙ get_or-drop place row k 0
-    ∙ sym (is.same (place + k) (omega arith) (omega arith))
-    ∙ sym (get_or-drop place old k 0) ∙ sym (get_or-take offset (drop place old) k 0 lt))
+    simp (get_or-take {A = ℕ}, get_or-drop {A = ℕ}) (sym same))
 
 -- by the four counts of bytes of a command
 abbrev pub AreKeptStarts : List ℕ → List ℕ → List ℕ → ℕ → Type 0
@@ -94,8 +84,7 @@ start_cost numbers sums ends {place} offset kept small within =
     grind (arith, kept.0.0 stop, kept.0.1 stop, kept.1.0 stop, kept.1.1 stop, near_bytes offset, far_bytes offset)
 
 pub replacements_by_windows : {old row numbers : List ℕ} (sums : List ℕ) {ends : List ℕ} {place : ℕ} → length row ≤ row_limit
-    → length numbers ≡ length row + 1
-    → AreStartEnds old row ends 0 → AreBehindStarts numbers sums → AreKeptStarts numbers sums ends place
+    → length numbers ≡ length row + 1 → AreStartEnds old row ends 0 → AreBehindStarts numbers sums → AreKeptStarts numbers sums ends place
     → AreGoodReplacements old row numbers place
 replacements_by_windows {numbers = numbers} sums {ends} {place} small size are behind kept = λ offset len some few within alike.
     let start : ℕ = place + offset in
@@ -120,13 +109,9 @@ window_by_replacements {row = row} {numbers} sums {ends} {place = place} same si
 pub kept_starts : {old row numbers : List ℕ} (sums : List ℕ) {ends : List ℕ} {place : ℕ} → length old ≡ length row
     → length numbers ≡ length row + 1 → AreStartEnds old row ends 0 → AreBehindStarts numbers sums → place ≤ length row
     → AreGoodReplacements old row numbers place → AreKeptStarts numbers sums ends place
-kept_starts sums same size are behind le good = (
-  (
-    window_by_replacements sums same size are behind le (λ offset below. grind (arith, near_bytes offset)) good,
-    window_by_replacements sums same size are behind le (λ offset below. grind (arith, near_bytes offset, far_bytes offset)) good,
-  ),
-  (
-    window_by_replacements sums same size are behind le (λ offset below. grind (arith, near_bytes offset, far_bytes offset)) good,
-    window_by_replacements sums same size are behind le (λ offset below. grind (arith, near_bytes offset, far_bytes offset)) good,
-  ),
-)
+kept_starts sums same size are behind le good =
+    let kept = λ (cost most : ℕ) (few : (offset : ℕ) → offset < most → replacement_bytes offset ≤ cost).
+    window_by_replacements sums {cost = cost} {most = most} same size are behind le few good in (
+      (kept 1 31 (λ k few. grind (arith, near_bytes k)), kept 2 286 (λ k few. grind (arith, near_bytes k, far_bytes k))),
+      (kept 3 541 (λ k few. grind (arith, near_bytes k, far_bytes k)), kept 4 796 (λ k few. grind (arith, near_bytes k, far_bytes k))),
+    )

@@ -1,5 +1,5 @@
 -- All elements at a place, kind by kind.
-use Rattle.std.proofs.Common.{◌≡◌, ℕ, ◌+◌, ◌≤◌, List, length, take, drop, replicate, refl, sym, ap, ◌∙◌, inl, inr, arith}
+use Rattle.std.proofs.Common.{◌≡◌, ℕ, ◌+◌, ◌<◌, ◌≤◌, List, length, take, drop, replicate, refl, sym, ap, ◌∙◌, inl, inr, arith}
 use Rattle.std.specs.Prelude.{slice_index, Option, Some, None}
 use Rattle.std.proofs.lemmas.Bool.{cases_lt}
 use Rattle.std.proofs.lemmas.List.{length-drop, length-replicate, get_or_past}
@@ -23,15 +23,11 @@ copies_front : (wanted : List ℕ) {e : Element} {least most : ℕ} → (r : IsR
     → given e ≡ take (length (given e)) (drop (offset_of e.head) wanted)
     → (length (given e) ≡ r.count) × (take r.count wanted ≡ replicate r.count r.byte)
 copies_front wanted {e} r none gives =
-    let size : length (given e) ≡ r.count = ap length r.given_is ∙ length-replicate r.count r.byte in (
-      size,
-      sym (gives ∙ ap (λ (n : ℕ). take n (drop (offset_of e.head) wanted)) size ∙ ap (λ (n : ℕ). take r.count (drop n wanted)) none)
-          ∙ r.given_is,
-    )
+    let size : length (given e) ≡ r.count = ap length r.given_is ∙ length-replicate r.count r.byte in
+    (size, sym (rw (size, none) at gives) ∙ r.given_is)
 
 pub steps_plain : {old row : List ℕ} (numbers : List ℕ) {place : ℕ} → length old ≡ length row → length numbers ≡ length row + 1
-    → place ≤ length row
-    → IsGoodByte numbers place → AreGoodSteps Plain old row numbers place
+    → place ≤ length row → IsGoodByte numbers place → AreGoodSteps Plain old row numbers place
 steps_plain {old} {row} numbers {place} same size le good = λ e next l.
     let s = plain_shape e.head l.element.head_is.method_is l.element.complete in
     let g = agrees_gives (drop place old) (omega (arith, length-drop place old, length-drop place row)) l.element l.agrees in
@@ -40,32 +36,27 @@ steps_plain {old} {row} numbers {place} same size le good = λ e next l.
 pub steps_runs : {old row : List ℕ} (numbers : List ℕ) {place : ℕ} → length old ≡ length row → place ≤ length row
     → AreGoodRuns row numbers 256 place → AreGoodSteps Runs old row numbers place
 steps_runs {old} {row} numbers {place} same le good = λ e next l.
-    let wanted : List ℕ = drop place row in
     let s = runs_shape e.head l.element.head_is.method_is l.element.head_is.in_range l.element.complete in
     let g = agrees_gives (drop place old) (omega (arith, length-drop place old, length-drop place row)) l.element l.agrees in
-    let f = copies_front wanted s.1 s.0 g.2 in
+    let f = copies_front (drop place row) s.1 s.0 g.2 in
     let kept = good s.1.count s.1.byte (omega (arith, s.1.above)) s.1.below (omega (arith, g.0, s.0, f.0, length-drop place row)) f.1 in
     grind (arith, kept, s.1.bytes_are, l.next_is, s.0, f.0)
 
 pub steps_packed : {old row : List ℕ} (numbers : List ℕ) {place : ℕ} → length old ≡ length row → length numbers ≡ length row + 1
-    → place ≤ length row
-    → AreGoodLiterals numbers place → AreGoodRuns row numbers 128 place → AreGoodSteps Packed old row numbers place
+    → place ≤ length row → AreGoodLiterals numbers place → AreGoodRuns row numbers 128 place → AreGoodSteps Packed old row numbers place
 steps_packed {old} {row} numbers {place} same size le literals runs = λ e next l.
-    let wanted : List ℕ = drop place row in
-    let sizes : length (drop place old) ≡ length wanted = omega (arith, length-drop place old, length-drop place row) in
-    let g = agrees_gives (drop place old) sizes l.element l.agrees in
+    let g = agrees_gives (drop place old) (omega (arith, length-drop place old, length-drop place row)) l.element l.agrees in
     elim (cases_lt 0 (stop e)) [
       | inr none ↦ grind (arith, l.next_is)
       | inl some ↦
           let s = packed_shape e.head e.bytes l.element.head_is.method_is l.element.head_is.in_range l.element.complete some in
           elim s.1 [
             | inl r ↦
-                let f = copies_front wanted r s.0 g.2 in
+                let f = copies_front (drop place row) r s.0 g.2 in
                 let kept = runs r.count r.byte (omega (arith, r.above)) r.below (omega (arith, g.0, s.0, f.0, length-drop place row)) f.1 in
                 grind (arith, kept, r.bytes_are, l.next_is, s.0, f.0)
             | inr b ↦
-                let kept = literals (length (given e)) (omega (arith, b.above)) b.below
-                (omega (arith, g.0, s.0, length-drop place row, size)) in grind (arith, kept, b.bytes_are, l.next_is, s.0)
+                grind (arith, literals (length (given e)), g.0, length-drop place row, b.above, b.below, b.bytes_are, l.next_is, s.0)
           ]
     ]
 
@@ -74,9 +65,8 @@ pub steps_delta : {old row : List ℕ} (numbers : List ℕ) {place : ℕ} → le
 steps_delta {old} {row} numbers {place} same le good = λ e next l.
     let s = delta_shape e.head l.element.head_is.method_is l.element.head_is.in_range l.element.complete in
     let g = agrees_gives (drop place old) (omega (arith, length-drop place old, length-drop place row)) l.element l.agrees in
-    let kept = good (offset_of e.head) (length (given e)) (omega (arith, s.above)) s.below
-    (omega (arith, g.0, length-drop place row)) g.1 in
-    grind (arith, kept, s.bytes_are, l.next_is)
+    let kept = good (offset_of e.head) (length (given e)) (omega (arith, s.above)) s.below in
+    grind (arith, kept (omega (arith, g.0, length-drop place row)) g.1, s.bytes_are, l.next_is)
 
 -- ---- from elements to kinds
 
@@ -90,39 +80,30 @@ shape_kept {row} numbers {place} {shape} is good =
     grind (arith, kept, is.bytes_are, is.stop_is)
 
 pub bytes_of_steps : (old : List ℕ) {row : List ℕ} (numbers : List ℕ) {place : ℕ} → length numbers ≡ length row + 1
-    → AreGoodSteps Plain old row numbers place
-    → IsGoodByte numbers place
+    → AreGoodSteps Plain old row numbers place → IsGoodByte numbers place
 bytes_of_steps old {row} numbers {place} size good = λ inside.
-    shape_kept numbers
-    (byte_step (drop place old) (drop place row) (omega (arith, length-drop place row, size))) good
+    shape_kept numbers (byte_step (drop place old) (drop place row) (omega (arith, length-drop place row, size))) good
 
 pub runs_of_steps : (old : List ℕ) {row : List ℕ} (numbers : List ℕ) {place : ℕ} → AreGoodSteps Runs old row numbers place
     → AreGoodRuns row numbers 256 place
 runs_of_steps old {row} numbers {place} good = λ count byte some few within alike.
-    shape_kept numbers
-    (run_step (drop place old) (omega arith) few (omega (arith, length-drop place row))
+    shape_kept numbers (run_step (drop place old) (omega arith) few (omega (arith, length-drop place row))
     (first_of_run (drop place row) byte some alike)) good
 
 pub literals_of_steps : {old row : List ℕ} (numbers : List ℕ) {place : ℕ} → length numbers ≡ length row + 1
-    → AreGoodSteps Packed old row numbers place
-    → AreGoodLiterals numbers place
+    → AreGoodSteps Packed old row numbers place → AreGoodLiterals numbers place
 literals_of_steps {old} {row} numbers {place} size good = λ count some few within.
-    shape_kept numbers
-    (literal_step (drop place old) (drop place row) count (omega arith) few (omega (arith, length-drop place row, size))) good
+    shape_kept numbers (literal_step (drop place old) (drop place row) count (omega arith) few
+    (omega (arith, length-drop place row, size))) good
 
 -- a literal of one byte costs as much as its repeat would
 pub repeats_of_steps : {old row : List ℕ} (numbers : List ℕ) {place : ℕ} → length numbers ≡ length row + 1
-    → AreGoodSteps Packed old row numbers place
-    → AreGoodRuns row numbers 128 place
+    → AreGoodSteps Packed old row numbers place → AreGoodRuns row numbers 128 place
 repeats_of_steps {old} {row} numbers {place} size good = λ count byte some few within alike.
-    elim (cases_lt 1 count) [
-      | inl more ↦
-          shape_kept numbers
-          (repeat_step (drop place old) (omega arith) few (omega (arith, length-drop place row))
-          (first_of_run (drop place row) byte some alike)) good
-      | inr one ↦
-          omega (arith, literals_of_steps numbers size good count some few (omega (arith, size)), one)
-    ]
+    let literal = literals_of_steps numbers size good in
+    let repeated = λ (more : 1 < count). shape_kept numbers (repeat_step (drop place old) (omega arith) few
+    (omega (arith, length-drop place row)) (first_of_run (drop place row) byte some alike)) good in
+    grind (arith, literal count some few, repeated)
 
 pub replacements_of_steps : {old row : List ℕ} (numbers : List ℕ) {place : ℕ} → AreGoodSteps Delta old row numbers place
     → AreGoodReplacements old row numbers place
@@ -138,15 +119,9 @@ table_of_good {row} {numbers} size good = record {
   size = size;
   feasible = record {
     steps = λ place e next l.
-        elim (cases_lt (length row) place) [
-          | inr within ↦ (good place within).steps e next l
-          | inl past ↦ omega (arith, get_or_past numbers place 0 (omega (arith, size)))
-        ];
+        let kept = λ (within : place ≤ length row). (good place within).steps e next l in grind (arith, kept, get_or_past numbers place 0);
     ends = λ place end.
-        elim (cases_lt (length row) place) [
-          | inr within ↦ (good place within).ends end
-          | inl past ↦ get_or_past numbers place 0 (omega (arith, size))
-        ];
+        let kept = λ (within : place ≤ length row). (good place within).ends end in grind (arith, kept, get_or_past numbers place 0);
   };
 }
 

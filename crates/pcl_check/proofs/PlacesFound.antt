@@ -36,10 +36,9 @@ finds_both One Other last (Some x) (Some y) a b =
     ]
 
 -- the first place that is bad by one of four facts
-pub first_of_four : (A B C D : ℕ → Type 0) (last : ℕ) (a b c d : Option ℕ) {one other found : Option ℕ}
-    → FindsPlace A last a → FindsPlace B last b → FindsPlace C last c → FindsPlace D last d
-    → one ≡ first_found_place a b → other ≡ first_found_place c d → found ≡ first_found_place one other
-    → FindsPlace (And (And A B) (And C D)) last found
+pub first_of_four : (A B C D : ℕ → Type 0) (last : ℕ) (a b c d : Option ℕ) {one other found : Option ℕ} → FindsPlace A last a
+    → FindsPlace B last b → FindsPlace C last c → FindsPlace D last d → one ≡ first_found_place a b → other ≡ first_found_place c d
+    → found ≡ first_found_place one other → FindsPlace (And (And A B) (And C D)) last found
 first_of_four A B C D last a b c d finds_a finds_b finds_c finds_d first second all =
     rw (all, first, second) (finds_both (And A B) (And C D) last (first_found_place a b) (first_found_place c d)
     (finds_both A B last a b finds_a finds_b) (finds_both C D last c d finds_c finds_d))
@@ -56,10 +55,7 @@ finds_place_too One Other (Some bad) to back found =
 -- what holds at a place and from the next one on holds from there on
 pub from_before : (Good : ℕ → Type 0) {place : ℕ} → Good place → ((k : ℕ) → place + 1 ≤ k → Good k) → (k : ℕ) → place ≤ k → Good k
 from_before Good {place} here later k from =
-    elim (cases_lt place k) [
-      | inl past ↦ later k (omega arith)
-      | inr at ↦ let same : place ≡ k = omega arith in subst Good same here
-    ]
+    elim (cases_lt place k) [ inl past ↦ later k (omega arith) | inr at ↦ let same : place ≡ k = omega arith in subst Good same here ]
 
 -- what holds from a place on, and at each place before if at the next one, holds at all places
 pub down_to_first : (Good : ℕ → Type 0) (from : ℕ) → ((k : ℕ) → k < from → Good (k + 1) → Good k) → ((k : ℕ) → from ≤ k → Good k)
@@ -77,8 +73,7 @@ pub record IsFirstFrom (Good : ℕ → Type 0) (from last place : ℕ) : Type 0 
   pub first : (before : ℕ) → from ≤ before → before < place → Good before
 
 abbrev pub FindsFrom : (ℕ → Type 0) → ℕ → ℕ → Option ℕ → Type 0
-FindsFrom Good from last found =
-    MatchOption found ((place : ℕ) → from ≤ place → place ≤ last → Good place) (IsFirstFrom Good from last)
+FindsFrom Good from last found = MatchOption found ((place : ℕ) → from ≤ place → place ≤ last → Good place) (IsFirstFrom Good from last)
 
 pub found_good : (Good : ℕ → Type 0) {place : ℕ} (last : ℕ) (found : Option ℕ) → Good place → FindsFrom Good (place + 1) last found
     → FindsFrom Good place last found
@@ -100,8 +95,7 @@ found_bad Good within bad = record {
 
 -- all places before are good
 pub found_all : (Good : ℕ → Type 0) {from : ℕ} (last : ℕ) (found : Option ℕ) → ((k : ℕ) → k < from → Good k)
-    → FindsFrom Good from last found
-    → FindsPlace Good last found
+    → FindsFrom Good from last found → FindsPlace Good last found
 found_all Good {from} last None good found = λ k within.
     elim (cases_lt k from) [ inl before ↦ good k before | inr behind ↦ found k behind within ]
 found_all Good {from} last (Some bad) good found = record {

@@ -1,25 +1,20 @@
 -- Bytes that pass a test with another one after them: they can be told in one way.
-use Rattle.std.proofs.Common.{◌≡◌, ℕ, Bool, true, false, List, [], ◌∷◌, ◌++◌, refl, ap}
+use Rattle.std.proofs.Common.{◌≡◌, ℕ, Bool, false, List, [], ◌∷◌, ◌++◌, refl}
 use Rattle.pcl_base.proofs.Fronts.{Pass}
 
 pub one_split : (test : ℕ → Bool) (a b : List ℕ) {c d : ℕ} {x y : List ℕ} → Pass test a → Pass test b → test c ≡ false → test d ≡ false
     → a ++ c ∷ x ≡ b ++ d ∷ y → (a ≡ b) × (c ≡ d) × (x ≡ y)
 one_split test [] [] p q s t e = (refl, cc, cc)
 one_split test [] (digit ∷ b) {c} p q s t e =
-    let first : c ≡ digit = cc in let same : test c ≡ test digit = ap test first in let yes : test digit ≡ true = q.0 in absurd cc
+    let first : c ≡ digit = cc in absurd cc
 one_split test (digit ∷ a) [] {d} p q s t e =
-    let first : digit ≡ d = cc in let same : test digit ≡ test d = ap test first in let yes : test digit ≡ true = p.0 in absurd cc
+    let first : digit ≡ d = cc in absurd cc
 one_split test (digit ∷ a) (other ∷ b) {c} {d} {x} {y} p q s t e =
-    let rest : a ++ c ∷ x ≡ b ++ d ∷ y = cc in
-    let first : digit ≡ other = cc in
-    let later = one_split test a b p.1 q.1 s t rest in
-    let front : a ≡ b = later.0 in
-    (cc, later.1, later.2)
+    let rest : a ++ c ∷ x ≡ b ++ d ∷ y = cc in let later = one_split test a b p.1 q.1 s t rest in (cc, later.1, later.2)
 
 -- bytes that all pass have no other one among them
 pub no_split : (test : ℕ → Bool) (a b : List ℕ) {d : ℕ} (y : List ℕ) → Pass test a → test d ≡ false → a ≡ b ++ d ∷ y → ⊥
+no_split test (digit ∷ a) [] {d} y p t e = let first : digit ≡ d = cc in cc
+no_split test (digit ∷ a) (other ∷ b) {d} y p t e = let rest : a ≡ b ++ d ∷ y = cc in no_split test a b y p.1 t rest
 no_split test [] [] y p t e = cc
 no_split test [] (other ∷ b) y p t e = cc
-no_split test (digit ∷ a) [] {d} y p t e =
-    let first : digit ≡ d = cc in let same : test digit ≡ test d = ap test first in let yes : test digit ≡ true = p.0 in cc
-no_split test (digit ∷ a) (other ∷ b) {d} y p t e = let rest : a ≡ b ++ d ∷ y = cc in no_split test a b y p.1 t rest

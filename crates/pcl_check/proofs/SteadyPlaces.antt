@@ -1,5 +1,5 @@
 -- Places of rows whose numbers never grow.
-use Rattle.std.proofs.Common.{◌≡◌, ◌≢◌, ℕ, zero, suc, ◌+◌, ◌-◌, ◌<◌, ◌≤◌, min, List, length, take, drop, replicate, refl, sym, ap, subst, ◌∙◌, arith}
+use Rattle.std.proofs.Common.{◌≡◌, ◌≢◌, ℕ, zero, suc, ◌+◌, ◌-◌, ◌<◌, ◌≤◌, min, List, length, take, drop, replicate, refl, sym, ap, ◌∙◌, arith}
 use Rattle.std.specs.Prelude.{slice_index}
 use Rattle.std.proofs.lemmas.List.{get_or-take, length-take-le}
 use Rattle.pcl_base.proofs.Lists.{alike_at, rest_of_alike, run_byte, rest_of_run, falls_on, start_within}
@@ -28,47 +28,39 @@ end_of_need {old} {row} {numbers} {end} place steady need = λ ends.
 
 -- a run that begins before a place where the bytes change ends there or before it
 pub runs_by_stop : (row : List ℕ) {numbers : List ℕ} {most end : ℕ} (stop : ℕ) {place : ℕ} → IsSteady numbers → slice_index numbers end ≡ 0
-    → place < stop
-    → stop ≤ end → (stop < end → slice_index row (stop - 1) ≢ slice_index row stop)
+    → place < stop → stop ≤ end → (stop < end → slice_index row (stop - 1) ≢ slice_index row stop)
     → slice_index numbers place ≤ 2 + slice_index numbers (min stop (place + most)) → AreGoodRuns row numbers most place
 runs_by_stop row {numbers} {most} {end} stop {place} steady none after within breaks kept = λ count byte some few inside alike.
     let byte_at : (k : ℕ) → k < count → slice_index row (place + k) ≡ byte = λ k. run_byte row place count byte k alike in
-    grind (
-      arith,
-      kept,
-      none,
-      breaks,
-      byte_at (stop - 1 - place),
-      byte_at (stop - place),
-      steady.falls (place + count) (min stop (place + most)),
-    )
+    grind (arith, byte_at (stop - 1 - place), byte_at (stop - place), steady.falls (place + count) (min stop (place + most)))
 
 -- ---- literals
 
-pub sums_more : (numbers : List ℕ) {old new : List ℕ} {count : ℕ} → length old ≡ length numbers → AreLeastSums numbers count old
-    → TakesBehind count old new → AreLeastSums numbers (count + count) new
-sums_more numbers {count = count} size sums takes = λ place stop after before inside.
-    grind (arith, takes.here place, takes.behind place, sums place stop, sums (place + count) stop)
+-- sums of one count, and of twice as many with what was taken from behind
+abbrev pub Sums : List ℕ → ℕ → List ℕ → Type 0
+Sums numbers count least = (length least ≡ length numbers) × AreLeastSums numbers count least
+
+pub sums_more : (numbers : List ℕ) {old new : List ℕ} (count : ℕ) → Sums numbers count old → TakesBehind count old new
+    → Sums numbers (count + count) new
+sums_more numbers count sums takes = (
+  omega (arith, takes.size, sums.0),
+  λ place stop after before inside.
+      grind (arith, takes.here place, takes.behind place, sums.1 place stop, sums.1 (place + count) stop, sums.0),
+)
 
 -- a literal that goes on where no more is needed
 pub literals_of_front : {numbers : List ℕ} {end : ℕ} (place : ℕ) → IsSteady numbers → slice_index numbers end ≡ 0 → end < length numbers
     → AreGoodLiterals (take (end + 1) numbers) place → AreGoodLiterals numbers place
 literals_of_front {numbers} {end} place steady none inside good = λ count some few within.
     let stop : ℕ = min (place + count) end in
-    grind (
-      arith,
-      steady.falls end place,
-      none,
-      good (stop - place),
-      length-take-le (end + 1) numbers (omega arith),
-      get_or-take (end + 1) numbers place 0,
-      get_or-take (end + 1) numbers (place + (stop - place)) 0,
-    )
+    let size = length-take-le (end + 1) numbers (omega arith) in
+    let at = get_or-take (end + 1) numbers in
+    grind (arith, steady.falls end place, good (stop - place), at place 0, at (place + (stop - place)) 0)
 
 -- ---- replacements
 
-bytes_grow : (offset : ℕ) → replacement_bytes offset ≤ replacement_bytes (1 + offset)
-bytes_grow offset = grind (arith, near_bytes offset, far_bytes offset, near_bytes (1 + offset), far_bytes (1 + offset))
+bytes_grow : (offset : ℕ) → replacement_bytes offset ≤ replacement_bytes (suc offset)
+bytes_grow offset = grind (arith, near_bytes offset, far_bytes offset, near_bytes (suc offset), far_bytes (suc offset))
 
 -- the least sums of the numbers up to a place that needs no more
 pub record AreFrontSums (numbers least : List ℕ) (end : ℕ) : Type 0 where
@@ -85,27 +77,17 @@ front_sums : {numbers least : List ℕ} {end : ℕ} (place stop : ℕ) → AreFr
     → place ≤ end → slice_index least place ≤ stop + slice_index numbers stop
 front_sums {numbers} {end = end} place stop front low high within =
     let last : ℕ = min stop end in
-    grind (
-      arith,
-      front.none,
-      front.sums place last,
-      length-take-le (end + 1) numbers (omega (arith, front.inside)),
-      get_or-take (end + 1) numbers last 0,
-    )
+    let size = length-take-le (end + 1) numbers (omega (arith, front.inside)) in
+    grind (arith, front.none, front.sums place last, get_or-take (end + 1) numbers last 0)
 
 pub replacements_by_start : (old row : List ℕ) {numbers least : List ℕ} {end place start : ℕ} → IsSteady numbers
-    → AreFrontSums numbers least end → place ≤ start → start < end
-    → slice_index old start ≢ slice_index row start → IsKeptBefore (slice_index numbers place) least place start
-    → AreGoodReplacements old row numbers place
+    → AreFrontSums numbers least end → place ≤ start → start < end → slice_index old start ≢ slice_index row start
+    → IsKeptBefore (slice_index numbers place) least place start → AreGoodReplacements old row numbers place
 replacements_by_start old row {place = place} steady front order before differs kept = λ offset len some few within alike.
     let k = kept offset (start_within old row offset order differs alike) in
     let far : ℕ = k.0 in
-    omega (
-      arith,
-      k.3,
-      front_sums (far + 1) (far + len) front (omega arith) (omega arith) (omega (arith, k.2)),
-      steady.falls (place + (offset + len)) (far + len) (omega (arith, k.1)),
-    )
+    let sum = front_sums (far + 1) (far + len) front (omega arith) (omega arith) (omega (arith, k.2)) in
+    omega (arith, k.3, steady.falls (place + (offset + len)) (far + len) (omega (arith, k.1)))
 
 -- ---- from a place to the one before
 
@@ -115,29 +97,15 @@ rest_kept : (row numbers : List ℕ) {most : ℕ} (place : ℕ) → AreGoodRuns 
     → slice_index numbers (place + 1) ≤ 2 + slice_index numbers (place + count)
 rest_kept row numbers place next zero byte few inside alike more = absurd (omega arith)
 rest_kept row numbers place next (suc rest) byte few inside alike more =
-    let there : place + 1 + rest ≡ place + suc rest = omega arith in
-    omega (
-      arith,
-      next rest byte (omega arith) (omega arith) (omega arith) (rest_of_run row place rest alike),
-      ap (slice_index numbers) there,
-    )
+    grind (arith, next rest byte (omega arith) (omega arith) (omega arith) (rest_of_run row place rest alike))
 
 -- a run of some bytes at the place before
 pub runs_before : {row numbers : List ℕ} {most place : ℕ} → IsSteady numbers → FallsByRun row numbers place
     → AreGoodRuns row numbers most (place + 1) → AreGoodRuns row numbers most place
 runs_before {row} {numbers} {place = place} steady falls next = λ count byte some few inside alike.
     let byte_at : (k : ℕ) → k < count → slice_index row (place + k) ≡ byte = λ k. run_byte row place count byte k alike in
-    grind (
-      arith,
-      falls.one,
-      falls.two,
-      falls.more,
-      steady.falls (place + 1) (place + 2),
-      byte_at 0,
-      byte_at 1,
-      byte_at 2,
-      rest_kept row numbers place next count byte few inside alike,
-    )
+    let rest = rest_kept row numbers place next count byte few inside alike in
+    grind (arith, falls.one, falls.two, falls.more, steady.falls (place + 1) (place + 2), byte_at 0, byte_at 1, byte_at 2)
 
 -- a replacement that starts at the place itself
 replaced_here : {old row numbers least : List ℕ} {end place : ℕ} → AreFrontSums numbers least end → place < end
@@ -145,40 +113,19 @@ replaced_here : {old row numbers least : List ℕ} {end place : ℕ} → AreFron
     → place + len ≤ length row → slice_index numbers place ≤ 1 + len + slice_index numbers (place + len)
 replaced_here {numbers = numbers} {place = place} front before falls next len some few within =
     let later : 1 < len → slice_index numbers (place + 1) ≤ len + slice_index numbers (place + len) = λ more.
-    let there : place + 1 + (0 + (len - 1)) ≡ place + len = omega arith in
-    omega (
-      arith,
-      next 0 (len - 1) (omega arith) (omega arith) (omega arith) refl,
-      near_bytes 0 (omega arith),
-      ap (slice_index numbers) there,
-    ) in
+    grind (arith, next 0 (len - 1) (omega arith) (omega arith) (omega arith) refl, near_bytes 0) in
     let front_sum = front_sums (place + 1) (place + len) front (omega arith) (omega arith) (omega arith) in
     grind (arith, falls.same, falls.differs, later, front_sum)
 
 -- replacements at the place before
 pub replacements_before : {old row numbers least : List ℕ} {end place : ℕ} → AreFrontSums numbers least end → place < end
-    → FallsByStart old row numbers least place
-    → AreGoodReplacements old row numbers (place + 1) → AreGoodReplacements old row numbers place
+    → FallsByStart old row numbers least place → AreGoodReplacements old row numbers (place + 1) → AreGoodReplacements old row numbers place
 replacements_before {numbers = numbers} {place = place} front before falls next zero len some few within alike =
-    let at : place + len ≡ place + (0 + len) = omega arith in
-    omega (
-      arith,
-      replaced_here front before falls next len some few (omega arith),
-      near_bytes 0 (omega arith),
-      ap (slice_index numbers) at,
-    )
+    grind (arith, replaced_here front before falls next len some few (omega arith), near_bytes 0)
 replacements_before {old} {row} {numbers} {place = place} front before falls next (suc offset) len some few within alike =
     let more : suc offset ≡ 1 + offset = omega arith in
     let here : place + 0 ≡ place = omega arith in
-    let there : place + 1 + (offset + len) ≡ place + (suc offset + len) = omega arith in
     let same : slice_index old place ≡ slice_index row place =
     ap (slice_index old) (sym here) ∙ sym (alike_at old row place {count = suc offset} 0 alike (omega arith)) ∙ ap (slice_index row) here in
-    omega (
-      arith,
-      falls.same same,
-      next offset len some few (omega arith)
-          (rest_of_alike old row place offset (subst (λ (n : ℕ). take n (drop place row) ≡ take n (drop place old)) more alike)),
-      bytes_grow offset,
-      ap replacement_bytes more,
-      ap (slice_index numbers) there,
-    )
+    let kept = next offset len some few (omega arith) (rest_of_alike old row place offset (rw more at alike)) in
+    grind (arith, falls.same same, kept, bytes_grow offset)

@@ -1,5 +1,5 @@
 -- Windows over the places that a step may lead to.
-use Rattle.std.proofs.Common.{◌≡◌, ℕ, ◌+◌, ◌-◌, ◌<◌, ◌≤◌, min, List, [], ◌++◌, length, drop, sym, ap, ◌∙◌, arith}
+use Rattle.std.proofs.Common.{◌≡◌, ℕ, ◌+◌, ◌-◌, ◌<◌, ◌≤◌, min, List, [], ◌++◌, length, drop, ap, arith}
 use Rattle.std.specs.Prelude.{slice_index}
 use Rattle.pcl_check.specs.inner.EdgePasses.{AreEnds, values}
 use Rattle.pcl_coders.specs.Windows.{IsLeastOf}
@@ -20,19 +20,12 @@ pub record IsStepWindow (ends : List ℕ) (value : ℕ → ℕ) (most : ℕ) (nu
   pub numbers_are : numbers ≡ values value place (stop - place)
 
 pub window_begins : {ends : List ℕ} {value : ℕ → ℕ} {most : ℕ} {numbers : List ℕ} → numbers ≡ [] → IsStepWindow ends value most numbers 0 0
-window_begins {value} none = record {
-  order = omega arith;
-  near = omega arith;
-  within = omega arith;
-  before = λ some. omega arith;
-  numbers_are = none ∙ sym (no_values value 0 (omega arith));
-}
+window_begins {value} none = let empty = no_values value 0 {count = 0 - 0} (omega arith) in search arith
 
 -- the window after a place, taken from one that was filled up to the farthest place that a step leads to
 pub record IsNextWindow (ends : List ℕ) (value : ℕ → ℕ) (most : ℕ) (filled taken : List ℕ) (place stop far : ℕ) : Type 0 where
   pub some : 0 < length filled
   pub grows : stop ≤ far + 1
-  pub numbers_are : taken ≡ values value (place + 1) (far - place)
   pub size : length taken ≡ far - place
   pub window : IsStepWindow ends value most taken (place + 1) (far + 1)
 
@@ -48,20 +41,18 @@ window_next {ends} {value = value} {most} {numbers} {filled} {taken} {place} {st
     let joined = values_joined value place (stop - place) (far + 1 - stop) in
     let all : filled ≡ values value place (far + 1 - place) = cc in
     let rest = values_rest value place (far + 1 - place) (omega (arith, above, farthest)) in
-    let less : far + 1 - place - 1 ≡ far - place = omega arith in
-    let now : taken ≡ values value (place + 1) (far - place) = cc in
-    let same : far + 1 - (place + 1) ≡ far - place = omega arith in
+    let less : far + 1 - place - 1 ≡ far + 1 - (place + 1) = omega arith in
+    let now : taken ≡ values value (place + 1) (far + 1 - (place + 1)) = cc in
     record {
       some = omega (arith, ap length all, length_values value place (far + 1 - place), above, farthest);
       grows = grows;
-      numbers_are = now;
-      size = ap length now ∙ length_values value (place + 1) (far - place);
+      size = omega (arith, ap length now, length_values value (place + 1) (far + 1 - (place + 1)));
       window = record {
         order = omega (arith, above, farthest);
         near = omega (arith, farthest);
         within = omega (arith, are.within place le, are.size, farthest);
         before = λ inside. omega (arith, are.grow place (omega (arith, are.size)), farthest);
-        numbers_are = cc;
+        numbers_are = now;
       };
     }
 
@@ -72,24 +63,13 @@ pub least_below : {ends : List ℕ} {value : ℕ → ℕ} {most : ℕ} {filled t
     → least ≤ value step
 least_below {value = value} {taken = taken} {place} {far = far} next is step past within =
     let k : ℕ = step - (place + 1) in
-    let there : place + 1 + k ≡ step = omega arith in
-    omega (
-      arith,
-      is.below k (omega (arith, next.size)),
-      ap (λ (numbers : List ℕ). slice_index numbers k) next.numbers_are,
-      value_in value (place + 1) (far - place) k (omega arith),
-      ap value there,
-    )
+    grind (arith, is.below k, next.size, next.window.numbers_are, value_in value (place + 1) (far + 1 - (place + 1)) k)
 
 pub least_reached : {ends : List ℕ} {value : ℕ → ℕ} {most : ℕ} {filled taken : List ℕ} {place stop far least : ℕ}
     → IsNextWindow ends value most filled taken place stop far → IsLeastOf taken least
     → (step : ℕ) × (place < step) × (step ≤ far) × (value step ≡ least)
 least_reached {value = value} {place = place} {far = far} next is =
     let k : ℕ = is.among.0 in
-    let inside : k < far - place = omega (arith, is.among.1, next.size) in (
-      place + 1 + k,
-      omega arith,
-      omega (arith, inside),
-      sym (value_in value (place + 1) (far - place) k inside) ∙ ap (λ (numbers : List ℕ). slice_index numbers k) (sym next.numbers_are)
-          ∙ is.among.2,
-    )
+    let inside : k < far - place = omega (arith, is.among.1, next.size) in
+    let at = value_in value (place + 1) (far + 1 - (place + 1)) k (omega (arith, inside)) in
+    (place + 1 + k, omega arith, omega (arith, inside), cc)

@@ -11,8 +11,7 @@ use Rattle.pcl_bitmap.specs.Bitmap.{Picture}
 use Rattle.pcl_check.specs.declared.reading.body.Place.{Place}
 use Rattle.pcl_check.specs.declared.reading.parameter.Parameter.{Parameter}
 use Rattle.pcl_check.specs.inner.Reading.{LeftOver, IsParameter, GivesRows, left_at}
-use Rattle.pcl_check.proofs.Fronts.{letter_code, left_over}
-use Rattle.pcl_check.proofs.Moves.{Told}
+use Rattle.pcl_check.proofs.Fronts.{letter_code, left_over, Told}
 
 pub told : (picture : Picture) (size : Size) (above : List ℕ) (place : Place) (parameter : Parameter) → place.inside ≡ true
     → IsParameter place.text.now parameter
@@ -21,8 +20,7 @@ told picture size above place parameter inside is =
     record { inside = inside; are_digits = is.are_digits; no_digit = is.no_digit; text = is.spelled }
 
 pub shorter : (text : List ℕ) (parameter : Parameter) → IsParameter text parameter → length parameter.rest.now < length text
-shorter text parameter is =
-    omega (arith, ap length is.spelled, length-append parameter.digits.now (parameter.letter ∷ parameter.rest.now))
+shorter text parameter is = omega (arith, ap length is.spelled, length-append parameter.digits.now (parameter.letter ∷ parameter.rest.now))
 
 -- a letter with its case
 pub cased : {capital byte : ℕ} → (byte ≡ capital) ⊎ (byte ≡ capital + 32) → (ends : Bool) × (byte ≡ letter_code capital ends)

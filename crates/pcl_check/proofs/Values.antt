@@ -22,8 +22,7 @@ values_joined value from zero other =
     let count : 0 + other ≡ other = omega arith in let start : from ≡ from + 0 = omega arith in cc
 values_joined value from (suc one) other =
     let count : suc one + other ≡ suc (one + other) = omega arith in
-    let start : from + 1 + one ≡ from + suc one = omega arith in
-    let rest = values_joined value (from + 1) one other in cc
+    let start : from + 1 + one ≡ from + suc one = omega arith in let rest = values_joined value (from + 1) one other in cc
 
 pub values_rest : (value : ℕ → ℕ) (from count : ℕ) → 0 < count → drop 1 (values value from count) ≡ values value (from + 1) (count - 1)
 unfolding values
@@ -32,7 +31,7 @@ values_rest value from (suc count) some = let same : count ≡ suc count - 1 = o
 
 pub no_values : (value : ℕ → ℕ) (from : ℕ) {count : ℕ} → count ≡ 0 → values value from count ≡ []
 unfolding values
-no_values value from none = ap (values value from) none
+no_values value from none = rw none
 
 -- one value more
 pub values_more : (value : ℕ → ℕ) (from count : ℕ) → values value from (count + 1) ≡ values value from count ++ value (from + count) ∷ []

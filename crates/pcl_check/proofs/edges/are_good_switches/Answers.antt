@@ -1,4 +1,4 @@
-use Rattle.std.proofs.Common.{◌≡◌, ℕ, ◌+◌, ◌≤◌, true, min, arith, false, sym, ◌∙◌}
+use Rattle.std.proofs.Common.{◌≡◌, ℕ, ◌+◌, ◌≤◌, true, min, arith}
 use Rattle.pcl_base.specs.declared.method.Method.{Method}
 use Rattle.pcl_base.specs.declared.method.Method.TheVariants.{Plain, Runs, Packed, Delta}
 use Rattle.std.specs.Prelude.{not}
@@ -30,30 +30,22 @@ returns-then-is_within c =
     (rest number c.args.row Delta) =
     omega (arith, c.min-then-is_within.ensures, c.min.ensures, c.rest-runs.ensures, c.rest-packed.ensures, c.rest-delta.ensures) in (
       λ is next inside.
-          let plain : n ≤ 1 + rest number c.args.row Plain =
-          omega (arith, c.number-number.ensures, c.rest-plain.ensures, c.is_within.ensures.0 c.if-is_within.true) in
+          let plain = c.is_within.ensures.0 c.if-is_within.true in
           let other : n ≤ 2 + c.min-then-is_within.result =
           omega (arith, c.number-number.ensures, c.is_within-then-is_within.ensures.0 is) in
-          omega (
-            arith,
-            within_rests number c.args.row n plain (omega (arith, other, others)) (omega (arith, other, others))
-                (omega (arith, other, others)) next,
-            switching_is next,
-            rest_below number c.args.row next inside,
-          ),
-      λ good. c.is_within-then-is_within.ensures.1 (omega (
-        arith,
-        c.number-number.ensures,
-        others,
-        switch_within number Runs good,
-        switch_within number Packed good,
-        switch_within number Delta good,
-      )),
+          let all = within_rests number c.args.row n (omega (arith, c.number-number.ensures, c.rest-plain.ensures, plain))
+          (omega (arith, other, others)) (omega (arith, other, others)) (omega (arith, other, others)) next in
+          omega (arith, all, switching_is next, rest_below number c.args.row next inside),
+      λ good.
+          let runs = switch_within number Runs good in
+          let packed = switch_within number Packed good in
+          let delta = switch_within number Delta good in
+          c.is_within-then-is_within.ensures.1 (omega (arith, c.number-number.ensures, others)),
     )
 
 pub returns-else-is_within : goal.returns-else-is_within
 returns-else-is_within c = (
-  λ is. (let no : true ≡ false = sym is ∙ c.if-is_within.false in absurd cc),
+  λ is. absurd cc,
   λ good. c.is_within.ensures.1
       (omega (arith, c.number-number.ensures, c.rest-plain.ensures, switch_within (node_number c.args.table.now) Plain good)),
 )

@@ -25,8 +25,7 @@ ends_begin {rows} ends {last} count size =
       size = omega (arith, length-set ends last last, count);
       runs = λ row from within.
           let same : row ≡ last = omega arith in
-          let none : last - last ≡ 0 = omega arith in
-          rw (same, at, none) (omega arith, run_end (sym count));
+          let none : last - last ≡ 0 = omega arith in rw (same, at, none) (omega arith, run_end (sym count));
     }
 
 -- a row more
@@ -45,15 +44,11 @@ ends_more {rows} {ends} {row} {end} lt are order run =
     }
 
 white_more : {rows : List (List ℕ)} {ends : List ℕ} {row : ℕ} → row < length rows → AreRunEnds rows ends (row + 1)
-    → IsWhite (row_at rows row)
-    → (row ≤ slice_index ends (row + 1)) × IsWhiteRun rows row (slice_index ends (row + 1) - row)
+    → IsWhite (row_at rows row) → (row ≤ slice_index ends (row + 1)) × IsWhiteRun rows row (slice_index ends (row + 1) - row)
 white_more {rows} {ends} {row} lt are white =
     let next = are.runs (row + 1) (omega arith) (omega arith) in
     let count : slice_index ends (row + 1) - row ≡ slice_index ends (row + 1) - (row + 1) + 1 = omega (arith, next.0) in
     (omega (arith, next.0), rw count (run_more lt next.1 white))
-
-inked_more : {rows : List (List ℕ)} {row : ℕ} → row < length rows → (IsWhite (row_at rows row) → ⊥) → IsWhiteRun rows row (row - row)
-inked_more {rows} {row} lt inked = let none : row - row ≡ 0 = omega arith in rw none (run_none lt inked)
 
 pub loop-row-init : goal.loop-row-init
 loop-row-init c =
@@ -84,5 +79,5 @@ loop-row-preserved c =
       | else-is_blank w ↦
           let inked : IsWhite (row_at rows row) → ⊥ = λ white.
           iff_false c.is_blank.ensures.bytes w.if-is_blank.false (All-from_recursion (λ (byte : ℕ). byte ≡ 0) _ (rw bytes at white)) in
-          rw w.ends-is (ends_more inside behind (omega arith) (inked_more inside inked))
+          let none : row - row ≡ 0 = omega arith in rw w.ends-is (ends_more inside behind (omega arith) (rw none (run_none inside inked)))
     ]

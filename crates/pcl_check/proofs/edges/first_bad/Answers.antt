@@ -22,9 +22,8 @@ ends_grow : {rows : List (List ℕ)} {ends : List ℕ} (row : ℕ) → AreRunEnd
 ends_grow {rows} {ends} row are lt =
     let here = are.runs row (omega arith) (omega arith) in
     let next = are.runs (row + 1) (omega arith) (omega arith) in
-    let end : ℕ = slice_index ends row in
     let after : ℕ = slice_index ends (row + 1) in
-    elim (cases_lt after end) [
+    elim (cases_lt after (slice_index ends row)) [
       | inr grows ↦ grows
       | inl falls ↦
           let there : row + (after - row) ≡ row + 1 + (after - (row + 1)) = omega (arith, next.0) in
@@ -42,61 +41,46 @@ ends_known count few are = record {
   grow = λ row lt. ends_grow row are (omega (arith, count));
 }
 
-outside_of_start : {rows : List (List ℕ)} {ends : List ℕ} {number : Node → ℕ} {method : Method} {row : ℕ} → AreRunEnds rows ends 0
-    → row ≤ length rows → IsGoodStart ends number method row → IsGoodOutside rows number method row
-outside_of_start {rows} {ends} {row} are le good =
-    let is = are.runs row (omega arith) le in
-    record {
-      opens = good.0;
-      ends = λ white.
-          elim (cases_lt (slice_index ends row) (length rows)) [
-            | inl ink ↦ absurd (ink_left is.1 (omega (arith, is.0)) white)
-            | inr past ↦ good.1 (omega (arith, is.0, is.1.within, are.size))
-          ];
-    }
+module _ {rows : List (List ℕ)} {ends : List ℕ} (number : Node → ℕ) (method : Method) {row : ℕ}
+    (are : AreRunEnds rows ends 0) (le : row ≤ length rows) where
+  outside_of_start : IsGoodStart ends number method row → IsGoodOutside rows number method row
+  outside_of_start good =
+      let is = are.runs row (omega arith) le in
+      record {
+        opens = good.0;
+        ends = λ white.
+            elim (cases_lt (slice_index ends row) (length rows)) [
+              | inl ink ↦ absurd (ink_left is.1 (omega (arith, is.0)) white)
+              | inr past ↦ good.1 (omega (arith, is.0, is.1.within, are.size))
+            ];
+      }
 
-start_of_outside : {rows : List (List ℕ)} {ends : List ℕ} {number : Node → ℕ} {method : Method} {row : ℕ} → AreRunEnds rows ends 0
-    → row ≤ length rows → IsGoodOutside rows number method row → IsGoodStart ends number method row
-start_of_outside {rows} {ends} {row} are le good =
-    let is = are.runs row (omega arith) le in (
-      good.opens,
-      λ end. good.ends (white_to_end is.1 (omega (arith, is.0, end, are.size))),
-    )
+  start_of_outside : IsGoodOutside rows number method row → IsGoodStart ends number method row
+  start_of_outside good =
+      let is = are.runs row (omega arith) le in
+      (good.opens, λ end. good.ends (white_to_end is.1 (omega (arith, is.0, end, are.size))))
 
--- ---- skips
+  skips_of_ends : AreGoodSkipsTo ends number method row → AreGoodSkips rows number method row
+  skips_of_ends good = λ count inside some within white.
+      let is = are.runs row (omega arith) le in
+      good count inside some (omega (arith, skippable_within is.1 (some, within, white), is.0))
 
-skips_of_ends : {rows : List (List ℕ)} {ends : List ℕ} (number : Node → ℕ) {method : Method} {row : ℕ} → AreRunEnds rows ends 0
-    → row ≤ length rows → AreGoodSkipsTo ends number method row → AreGoodSkips rows number method row
-skips_of_ends {rows} {ends} number {row} are le good = λ count inside some within white.
-    let is = are.runs row (omega arith) le in
-    let can = skippable_within is.1 (some, within, white) in
-    good count inside some (omega (arith, can, is.0))
+  ends_of_skips : AreGoodSkips rows number method row → AreGoodSkipsTo ends number method row
+  ends_of_skips good = λ count inside some within.
+      let is = are.runs row (omega arith) le in
+      good count inside some (omega (arith, is.1.within, is.0))
+      (white_front (slice_index ends row - row) count (drop row rows) is.1.white (omega (arith, within)))
 
-ends_of_skips : {rows : List (List ℕ)} {ends : List ℕ} (number : Node → ℕ) {method : Method} {row : ℕ} → AreRunEnds rows ends 0
-    → row ≤ length rows → AreGoodSkips rows number method row → AreGoodSkipsTo ends number method row
-ends_of_skips {rows} {ends} number {row} are le good = λ count inside some within.
-    let is = are.runs row (omega arith) le in
-    good count inside some (omega (arith, is.1.within, is.0))
-    (white_front (slice_index ends row - row) count (drop row rows) is.1.white (omega (arith, within)))
+  good_by_rows : {last : ℕ} (Counts : ℕ → Method → ℕ → Type 0) (inside : Bool) → length rows ≡ last
+      → IsGoodBy ends last Counts number row method inside → IsGoodNumber rows Counts number row method inside
+  good_by_rows Counts false count good = outside_of_start good
+  good_by_rows Counts true count good =
+      record { switches = good.0; skips = skips_of_ends good.2; sends = λ bytes inside. good.1 bytes (omega arith) }
 
--- ---- all steps
-
-good_by_rows : {rows : List (List ℕ)} {ends : List ℕ} {last : ℕ} (Counts : ℕ → Method → ℕ → Type 0) (number : Node → ℕ) {row : ℕ}
-    (method : Method) (inside : Bool) → AreRunEnds rows ends 0 → length rows ≡ last → row ≤ last
-    → IsGoodBy ends last Counts number row method inside → IsGoodNumber rows Counts number row method inside
-good_by_rows Counts number method false are count le good = outside_of_start are (omega arith) good
-good_by_rows Counts number method true are count le good = record {
-  switches = good.0;
-  skips = skips_of_ends number are (omega arith) good.2;
-  sends = λ bytes inside. good.1 bytes (omega arith);
-}
-
-good_by_ends : {rows : List (List ℕ)} {ends : List ℕ} {last : ℕ} (Counts : ℕ → Method → ℕ → Type 0) (number : Node → ℕ) {row : ℕ}
-    (method : Method) (inside : Bool) → AreRunEnds rows ends 0 → length rows ≡ last → row ≤ last
-    → IsGoodNumber rows Counts number row method inside → IsGoodBy ends last Counts number row method inside
-good_by_ends Counts number method false are count le good = start_of_outside are (omega arith) good
-good_by_ends Counts number method true are count le good =
-    (good.switches, λ bytes inside. good.sends bytes (omega arith), ends_of_skips number are (omega arith) good.skips)
+  good_by_ends : {last : ℕ} (Counts : ℕ → Method → ℕ → Type 0) (inside : Bool) → length rows ≡ last
+      → IsGoodNumber rows Counts number row method inside → IsGoodBy ends last Counts number row method inside
+  good_by_ends Counts false count good = start_of_outside good
+  good_by_ends Counts true count good = (good.switches, λ bytes inside. good.sends bytes (omega arith), ends_of_skips good.skips)
 
 abbrev InMethods : List ℕ → ℕ → (ℕ → Method → ℕ → Type 0) → (Node → ℕ) → ℕ → Method → Bool → Type 0
 InMethods ends last Counts number =
@@ -110,10 +94,6 @@ good_of_methods ends last Counts number row Runs inside all = all.0.1 refl
 good_of_methods ends last Counts number row Packed inside all = all.1.0 refl
 good_of_methods ends last Counts number row Delta inside all = all.1.1 refl
 
-methods_of_good : (ends : List ℕ) (last : ℕ) (Counts : ℕ → Method → ℕ → Type 0) (number : Node → ℕ) (row : ℕ) {method : Method}
-    (inside : Bool) → IsGoodBy ends last Counts number row method inside → InMethods ends last Counts number row method inside
-methods_of_good ends last Counts number row inside good = ((λ _. good, λ _. good), (λ _. good, λ _. good))
-
 -- a page has as many rows as it is high
 rows_of_page : (page : Page) → length (bitmap_rows page.bitmap) ≡ page_height page.size page.dpi
 rows_of_page page =
@@ -121,8 +101,7 @@ rows_of_page page =
     let count = length_rows (page_height picture.size picture.dpi) (page_row_bytes picture.size picture.dpi) picture.bytes in cc
 
 ends_of_page : (page : Page) {ends : List ℕ} → AreRunEnds (bitmap_rows page.bitmap) ends 0 → AreEnds ends (page_height page.size page.dpi)
-ends_of_page page are =
-    ends_known (rows_of_page page) (omega (arith, height_small page.size page.dpi)) are
+ends_of_page page are = ends_known (rows_of_page page) (omega (arith, height_small page.size page.dpi)) are
 
 pub first_bad_in-plain-requires-clause-ends : goal.first_bad_in-plain-requires-clause-ends
 first_bad_in-plain-requires-clause-ends g c = ends_of_page c.args.page.now c.fill_run_ends.ensures
@@ -148,11 +127,11 @@ returns g c =
     let In : Method → ℕ → Method → Bool → Type 0 = IsGoodIn ends last Counts number in
     finds_too (InMethods ends last Counts number) (IsGoodNumber rows Counts number) c.first_of-3.result
     (λ row method inside le good.
-    good_by_rows Counts number method inside c.fill_run_ends.ensures count le
+    good_by_rows number method c.fill_run_ends.ensures (omega (arith, count)) Counts inside count
     (good_of_methods ends last Counts number row method inside good))
     (λ row method inside le good.
-    methods_of_good ends last Counts number row inside
-    (good_by_ends Counts number method inside c.fill_run_ends.ensures count le good))
+    let by = good_by_ends number method c.fill_run_ends.ensures (omega (arith, count)) Counts inside count good in
+    ((λ _. by, λ _. by), (λ _. by, λ _. by)))
     (first_of_four (In Plain) (In Runs) (In Packed) (In Delta) last c.first_bad_in-plain.result c.first_bad_in-runs.result
     c.first_bad_in-packed.result c.first_bad_in-delta.result c.first_bad_in-plain.ensures c.first_bad_in-runs.ensures
     c.first_bad_in-packed.ensures c.first_bad_in-delta.ensures c.first_of.ensures c.first_of-2.ensures c.first_of-3.ensures)

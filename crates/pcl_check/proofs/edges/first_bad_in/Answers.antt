@@ -45,8 +45,7 @@ returns g c =
     let Sending : ℕ → Method → Bool → Type 0 = At method true (IsGoodSending last Counts number method) in
     let Skips : ℕ → Method → Bool → Type 0 = At method true (AreGoodSkipsTo ends number method) in
     finds_too (InParts ends last Counts number method) (IsGoodIn ends last Counts number method) c.first_of-3.result
-    (λ row current inside le. good_of_parts ends Counts number inside)
-    (λ row current inside le. parts_of_good ends Counts number inside)
+    (λ row current inside le. good_of_parts ends Counts number inside) (λ row current inside le. parts_of_good ends Counts number inside)
     (first_of_four Start Switches Sending Skips last c.first_bad_start-outside.result c.first_bad_switch-switch.result
     c.first_bad_sending-sent.result c.first_bad_skip-skip.result (rw rows at c.first_bad_start-outside.ensures)
     (rw rows at c.first_bad_switch-switch.ensures) c.first_bad_sending-sent.ensures (rw rows at c.first_bad_skip-skip.ensures)

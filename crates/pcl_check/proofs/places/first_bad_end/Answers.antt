@@ -7,11 +7,10 @@ use Rattle.pcl_check.proofs.places.first_bad_end.Goals.{else-place-row-via-then-
 
 pub returns-then-old-place : goal.returns-then-old-place
 returns-then-old-place c =
-    let old = c.args.old.now in
-    let row = c.args.row.now in
     let place : ℕ = c.loop-place.place in
-    found_all (IsGoodEnd old row c.args.numbers.now) (length row) c.loop-place.found
-    (λ k lt end. absurd (c.if-old-place.true (sym (ends_at old row (place - 1) end (omega arith))))) c.loop-place.invariant.found
+    found_all (IsGoodEnd c.args.old.now c.args.row.now c.args.numbers.now) (length c.args.row.now) c.loop-place.found
+    (λ k lt end. absurd (c.if-old-place.true (sym (ends_at c.args.old.now c.args.row.now (place - 1) end (omega arith)))))
+    c.loop-place.invariant.found
 
 pub loop-place-preserved-then-numbers-place-gt0 : goal.loop-place-preserved-then-numbers-place-gt0
 loop-place-preserved-then-numbers-place-gt0 c =

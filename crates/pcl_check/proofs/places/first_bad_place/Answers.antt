@@ -26,6 +26,5 @@ returns c =
     finds_table method seed row numbers c.first_place.result c.requires.size
     (rw c.first_place.ensures
     (finds_place_too (And End Steps) (IsGoodPlace method seed row numbers)
-    (first_found_place c.first_bad_end-end.result c.first_bad_step-step.result)
-    (λ place le good. record { steps = good.1; ends = good.0 })
+    (first_found_place c.first_bad_end-end.result c.first_bad_step-step.result) (λ place le good. record { steps = good.1; ends = good.0 })
     (λ place le good. (good.ends, good.steps)) both))

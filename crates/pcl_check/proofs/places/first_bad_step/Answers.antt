@@ -11,8 +11,7 @@ returns-in-Plain c =
     let last : length numbers - 1 ≡ length c.args.row.now = omega (arith, c.requires.size) in
     rw c.in-Plain.is
     (finds_place_too (IsGoodByte numbers) (AreGoodSteps Plain c.args.old.now c.args.row.now numbers) c.first_bad_byte.result
-    (λ place le. steps_plain numbers c.requires.same c.requires.size le)
-    (λ place le. bytes_of_steps c.args.old.now numbers c.requires.size)
+    (λ place le. steps_plain numbers c.requires.same c.requires.size le) (λ place le. bytes_of_steps c.args.old.now numbers c.requires.size)
     (rw last at c.first_bad_byte.ensures))
 
 pub returns-in-Runs : goal.returns-in-Runs
@@ -35,8 +34,7 @@ returns-in-Packed c =
     (rw last at c.first_bad_literal.ensures) c.first_bad_run-in-Packed.ensures in
     rw (c.in-Packed.is, c.first_place.ensures)
     (finds_place_too (And (AreGoodLiterals numbers) (AreGoodRuns row numbers 128)) (AreGoodSteps Packed c.args.old.now row numbers)
-    (first_found_place one other)
-    (λ place le good. steps_packed numbers c.requires.same c.requires.size le good.0 good.1)
+    (first_found_place one other) (λ place le good. steps_packed numbers c.requires.same c.requires.size le good.0 good.1)
     (λ place le good.
     (literals_of_steps numbers c.requires.size good, repeats_of_steps numbers c.requires.size good)) both)
 

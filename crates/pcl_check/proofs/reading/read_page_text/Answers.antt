@@ -11,7 +11,7 @@ use Rattle.pcl_output.specs.PageText.{IsPageText, bitmap_rows}
 use Rattle.pcl_output.proofs.RowsFrom.{length_rows}
 use Rattle.pcl_check.specs.declared.reading.start.Start.{Start}
 use Rattle.pcl_check.specs.inner.Reading.{IsStart, RestPrints, body_of, IsBodyVerdict, raster_start}
-use Rattle.pcl_check.proofs.Beginnings.{start_is, code_few, size_coded, size_read, same_size, IsSize}
+use Rattle.pcl_check.proofs.Beginnings.{start_is, code_few, size_coded, size_read, same_size, IsSize, BeginsAs}
 use Rattle.pcl_bitmap.specs.declared.page.Page.{Page}
 use Rattle.std.proofs.lemmas.Bool.Decides.{Decides-eqb}
 use Rattle.pcl_base.specs.contracts.size.Size.{the_type}
@@ -27,8 +27,7 @@ printed_text {dpi} {size} {copies} some few e p = record {
   count = p.count;
   rows_are = p.rows_are;
   tokens = p.tokens;
-  spelled = e ∙ ap (λ (z : List ℕ). start_bytes dpi copies size ++ z) p.spelled
-      ∙ sym (append_assoc (start_bytes dpi copies size) (flat_map token_bytes p.tokens) end_bytes);
+  spelled = e ∙ rw p.spelled (sym (append_assoc (start_bytes dpi copies size) (flat_map token_bytes p.tokens) end_bytes));
   prints = p.prints;
 }
 
@@ -37,41 +36,27 @@ text_body : {dpi : Dpi} {size : Size} {copies : ℕ} {rows : List (List ℕ)} {t
     → (rest : List ℕ) × (text ≡ start_bytes dpi copies size ++ rest) × RestPrints size dpi (body_of size dpi rest) rows
 text_body {dpi} {size} {copies} is = (
   flat_map token_bytes is.tokens ++ end_bytes,
-  is.spelled ∙ append_assoc (start_bytes dpi copies size) (flat_map token_bytes is.tokens) end_bytes,
+  rw (append_assoc (start_bytes dpi copies size)) at is.spelled,
   record { count = is.count; rows_are = is.rows_are; tokens = is.tokens; spelled = refl; prints = is.prints },
 )
-
--- a text begins in one way
-record IsSameStart (copies other : ℕ) (size other_size : Size) (rest behind : List ℕ) : Type 0 where
-  pub copies_is : copies ≡ other
-  pub size_is : size ≡ other_size
-  pub rest_is : rest ≡ behind
-
-one_start : (dpi : Dpi) {text : List ℕ} {copies other : ℕ} {size other_size : Size} {rest behind : List ℕ} → copies < 100 → other < 100
-    → text ≡ start_bytes dpi copies size ++ rest → text ≡ start_bytes dpi other other_size ++ behind
-    → IsSameStart copies other size other_size rest behind
-one_start dpi {text} {copies} {size = size} {other_size} {rest} {behind} few less e f =
-    let small = code_few size in
-    let read : IsSize text copies (code_of size) (raster_start size dpi ++ rest) =
-    record { few = omega arith; small = omega arith; text_is = e ∙ start_is dpi copies size rest } in
-    let found = size_read read (record { few = less; text_is = f }) in
-    let same = same_size read (size_coded size) (record { few = less; text_is = f }) in
-    record {
-      copies_is = found.copies_are;
-      size_is = sym same;
-      rest_is = append_cancel_left (raster_start size dpi) rest behind (rw same at found.more_is);
-    }
 
 -- ---- verdicts
 
 -- the body of a page text that begins so
-body_at : {dpi : Dpi} {text : List ℕ} (start : Start) {size : Size} {copies : ℕ} {rows : List (List ℕ)} → IsStart dpi text (Some start)
-    → IsPageText dpi size copies rows text
+body_at : {dpi : Dpi} {text rest : List ℕ} (start : Start) {size : Size} {copies : ℕ} {rows : List (List ℕ)} → IsStart dpi text (Some start)
+    → BeginsAs dpi text copies size rest → RestPrints size dpi (body_of size dpi rest) rows
     → (start.copies ≡ copies) × (start.size ≡ size) × RestPrints start.size dpi (body_of start.size dpi start.rest.now) rows
-body_at {dpi} start {size} {rows = rows} begun is =
-    let body = text_body is in
-    let same = one_start dpi begun.1 is.few_copies begun.2 body.1 in
-    (same.copies_is, same.size_is, rw (same.size_is, same.rest_is) body.2)
+body_at {dpi} {text} {rest} start begun begins printed =
+    let few = code_few start.size in
+    let read : IsSize text start.copies (code_of start.size) (raster_start start.size dpi ++ start.rest.now) =
+    record {
+      first = record { few = omega (arith, begun.1); text_is = begun.2 ∙ start_is dpi start.copies start.size start.rest.now };
+      small = omega arith;
+    } in
+    let found = size_read begins read in
+    let same = same_size begins read (size_coded start.size) in
+    let behind = append_cancel_left (raster_start start.size dpi) start.rest.now rest (rw same at found.2) in
+    (found.0, sym same, rw (sym same, behind) printed)
 
 -- rows of a page's size that begin its rows are all of them
 whole_page : (picture : Picture) {rows : List (List ℕ)} → length rows ≡ page_height picture.size picture.dpi
@@ -80,7 +65,7 @@ whole_page picture {rows} n e =
     let all = bitmap_rows picture in
     let many : length all ≡ length rows =
     length_rows (page_height picture.size picture.dpi) (page_row_bytes picture.size picture.dpi) picture.bytes ∙ sym n in
-    e ∙ ap (λ (k : ℕ). take k all) (sym many) ∙ take_all (length all) all (omega arith)
+    e ∙ take_all (length rows) all (omega arith)
 
 -- whether the start is that of a page
 abbrev MayBe : Picture → ℕ → Start → Bool → Type 0
@@ -101,7 +86,8 @@ other_page : {picture : Picture} {copies : ℕ} {text : List ℕ} (start : Start
     → IsPageText picture.dpi picture.size copies (bitmap_rows picture) text → ⊥
 other_page {picture} start begun may only is =
     let all = bitmap_rows picture in
-    let body = body_at start begun is in
+    let printed = text_body is in
+    let body = body_at start begun (record { few = is.few_copies; text_is = printed.1 }) printed.2 in
     let same : all ≡ only.rows = only.only all body.2 in
     let front : only.rows ≡ take (length only.rows) all = rw (sym same) (sym (take_all (length all) all (omega arith))) in
     let yes : false ≡ true = only.same.1 (may.1 (body.1, body.0), front) in
@@ -132,7 +118,9 @@ pub returns-in-None : goal.returns-in-None
 returns-in-None c =
     let page = c.args.page.now in
     let begun = rw (sym page.dpi_is) at c.in-Some.ensures in
-    rw (sym page.dpi_is) (λ is. c.in-None.ensures is.2 (body_at c.in-Some.start begun is.3).2)
+    rw (sym page.dpi_is) (λ is.
+    let body = text_body is.3 in
+    c.in-None.ensures is.2 (body_at c.in-Some.start begun (record { few = is.3.few_copies; text_is = body.1 }) body.2).2)
 
 pub returns-in-Some-true : goal.returns-in-Some-true
 returns-in-Some-true c =

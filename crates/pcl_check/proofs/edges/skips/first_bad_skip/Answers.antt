@@ -21,33 +21,23 @@ AreGoodByDigits ends number method =
 
 by_digits : (ends : List ℕ) (number : Node → ℕ) (method : Method) {row : ℕ} {current : Method} {inside : Bool}
     → At method true (AreGoodSkipsTo ends number method) row current inside → AreGoodByDigits ends number method row current inside
-by_digits ends number method good = (
-  (
-    λ same here. short_skips ends number 1 (omega arith) (omega arith) (good same here),
-    λ same here. short_skips ends number 2 (omega arith) (omega arith) (good same here),
-  ),
-  (
-    λ same here. short_skips ends number 3 (omega arith) (omega arith) (good same here),
-    λ same here. short_skips ends number 4 (omega arith) (omega arith) (good same here),
-  ),
-)
+by_digits ends number method good =
+    let short = λ (digits most : ℕ) (few : most < 10 ^ digits) (le : most ≤ 9999) (same : _) (here : _).
+    short_skips ends number digits few le (good same here) in (
+      (short 1 9 (omega arith) (omega arith), short 2 99 (omega arith) (omega arith)),
+      (short 3 999 (omega arith) (omega arith), short 4 9999 (omega arith) (omega arith)),
+    )
 
 all_digits : {ends : List ℕ} {last : ℕ} (number : Node → ℕ) (method : Method) {row : ℕ} {current : Method} {inside : Bool}
     → AreEnds ends last → row ≤ last → AreGoodByDigits ends number method row current inside
     → At method true (AreGoodSkipsTo ends number method) row current inside
 all_digits number method {row = row} are le good = λ same here count inside some within.
     let few : count ≤ 9999 = omega (arith, are.within row le, are.few) in
-    grind (
-      arith,
-      good.0.0 same here count inside some,
-      good.0.1 same here count inside some,
-      good.1.0 same here count inside some,
-      good.1.1 same here count inside some,
-      count_is 0 count,
-      count_is 1 count,
-      count_is 2 count,
-      count_is 3 count,
-    )
+    let one = good.0.0 same here count inside some in
+    let two = good.0.1 same here count inside some in
+    let three = good.1.0 same here count inside some in
+    let four = good.1.1 same here count inside some in
+    grind (arith, count_is 0 count, count_is 1 count, count_is 2 count, count_is 3 count)
 
 pub returns : goal.returns
 returns c =
@@ -57,8 +47,7 @@ returns c =
     let last : ℕ = length c.args.table.now - 1 in
     let Of : ℕ → ℕ → ℕ → Method → Bool → Type 0 = λ digits most. At method true (AreGoodSkipsOf ends number method digits most) in
     finds_too (AreGoodByDigits ends number method) (At method true (AreGoodSkipsTo ends number method)) c.first_of-3.result
-    (λ row current inside le. all_digits number method c.requires.ends le)
-    (λ row current inside le. by_digits ends number method)
+    (λ row current inside le. all_digits number method c.requires.ends le) (λ row current inside le. by_digits ends number method)
     (first_of_four (Of 1 9) (Of 2 99) (Of 3 999) (Of 4 9999) last c.first_bad_skip_of-one.result c.first_bad_skip_of-two.result
     c.first_bad_skip_of-three.result c.first_bad_skip_of-four.result c.first_bad_skip_of-one.ensures c.first_bad_skip_of-two.ensures
     c.first_bad_skip_of-three.ensures c.first_bad_skip_of-four.ensures c.first_of.ensures c.first_of-2.ensures c.first_of-3.ensures)

@@ -1,4 +1,4 @@
-use Rattle.std.proofs.Common.{◌≡◌, true, ℕ, ◌+◌, ◌-◌, ◌≤◌, List, ap, arith, length, refl, below_more}
+use Rattle.std.proofs.Common.{◌≡◌, true, ℕ, ◌+◌, ◌-◌, ◌≤◌, List, arith, length, refl, below_more}
 use Rattle.std.specs.Prelude.{not}
 use Rattle.pcl_base.specs.declared.method.Method.{Method}
 use Rattle.pcl_coders.specs.Windows.{IsLeastOf}
@@ -18,12 +18,8 @@ skips_by_window : {ends : List ℕ} (number : Node → ℕ) {method : Method} (d
     → far ≡ last_of ends most row → IsLeastOf taken least
     → number_at number row method true ≤ digits + 1 + least → AreGoodSkipsOf ends number method digits most row
 skips_by_window number {method = method} digits {row = row} next farthest is le = λ count inside some few within.
-    omega (
-      arith,
-      le,
-      least_below next is (row + count) (omega arith) (omega (arith, farthest)),
-      rest_below number (row + count) method inside,
-    )
+    let least = least_below next is (row + count) (omega arith) (omega (arith, farthest)) in
+    omega (arith, le, rest_below number (row + count) method inside)
 
 window_by_skips : {ends : List ℕ} (number : Node → ℕ) {method : Method} (digits : ℕ) {most : ℕ} {filled taken : List ℕ}
     {row stop far least : ℕ} → IsNextWindow ends (λ y. rest number y method) most filled taken row stop far
@@ -32,20 +28,13 @@ window_by_skips : {ends : List ℕ} (number : Node → ℕ) {method : Method} (d
 window_by_skips number {method = method} digits {row = row} next farthest is good =
     let at = least_reached next is in
     let best = best_end number at.0 method in
-    let there : row + (at.0 - row) ≡ at.0 = omega (arith, at.1) in
-    omega (
-      arith,
-      good (at.0 - row) (not best.0) (omega (arith, at.1)) (omega (arith, at.2, farthest)) (omega (arith, at.1, at.2, farthest)),
-      ap (λ (y : ℕ). number_at number y method (not best.0)) there,
-      best.1,
-      at.3,
-    )
+    let kept = good (at.0 - row) (not best.0) (omega (arith, at.1)) (omega (arith, at.2, farthest)) (omega (arith, at.1, at.2, farthest)) in
+    grind (arith, kept, at.1, best.1, at.3)
 
 pub loop-row-init : goal.loop-row-init
 loop-row-init c = record {
   good = λ k lt. absurd (omega arith);
-  window = window_begins
-      c.new-window.ensures.numbers;
+  window = window_begins c.new-window.ensures.numbers;
   room = omega (arith, c.new-window.ensures.room, c.requires.room);
 }
 

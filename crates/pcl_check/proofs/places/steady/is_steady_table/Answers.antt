@@ -10,8 +10,7 @@ use Rattle.pcl_check.proofs.places.steady.is_steady_table.Goals as goal
 -- of a method, where no number grows and each of its steps is good
 good_for : {said method : Method} {old row numbers : List ℕ} {end place : ℕ} → said ≡ method → IsSteady numbers
     → IsNeedEnd old row numbers end → AreGoodSteps method old row numbers place → IsGoodFor said old row numbers place
-good_for {old} {row} {numbers} {place} is steady need steps =
-    rw is (record { ends = end_of_need place steady need; steps = steps })
+good_for {old} {row} {numbers} {place} is steady need steps = rw is (record { ends = end_of_need place steady need; steps = steps })
 
 pub returns-in-Plain : goal.returns-in-Plain
 returns-in-Plain c said place le =
@@ -25,8 +24,7 @@ pub returns-in-Runs : goal.returns-in-Runs
 returns-in-Runs c said place le =
     let need = c.is_need_end.ensures c.if-not-is_need_end.false in
     let steady = c.is_steady.ensures c.if-not-is_steady.false in
-    good_for c.in-Runs.is steady need
-    (steps_runs c.args.numbers.now c.requires.same le (c.are_good_runs.ensures said place))
+    good_for c.in-Runs.is steady need (steps_runs c.args.numbers.now c.requires.same le (c.are_good_runs.ensures said place))
 
 pub returns-then-are_good_runs : goal.returns-then-are_good_runs
 returns-then-are_good_runs c said place le =
@@ -42,5 +40,4 @@ pub returns-in-Delta : goal.returns-in-Delta
 returns-in-Delta c said place le =
     let need = c.is_need_end.ensures c.if-not-is_need_end.false in
     let steady = c.is_steady.ensures c.if-not-is_steady.false in
-    good_for c.in-Delta.is steady need
-    (steps_delta c.args.numbers.now c.requires.same le (c.are_good_replacements.ensures said place))
+    good_for c.in-Delta.is steady need (steps_delta c.args.numbers.now c.requires.same le (c.are_good_replacements.ensures said place))

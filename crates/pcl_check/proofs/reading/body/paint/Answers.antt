@@ -20,9 +20,8 @@ record Makes (size : Size) (dpi : Dpi) (method : Method) (above bytes row : List
   pub fits : length bytes ≤ 65535
   pub width : length row ≡ page_row_bytes size dpi
 
-painted : (size : Size) (dpi : Dpi) (method : Method) (above bytes row : List ℕ) (clear : Bool)
-    → Makes size dpi method above bytes row → (IsTrue clear ↔ HasClearPads size dpi row)
-    → IsPaintedRow dpi size method above bytes clear row
+painted : (size : Size) (dpi : Dpi) (method : Method) (above bytes row : List ℕ) (clear : Bool) → Makes size dpi method above bytes row
+    → (IsTrue clear ↔ HasClearPads size dpi row) → IsPaintedRow dpi size method above bytes clear row
 painted size dpi method above bytes row true makes pads =
     ((makes.width, pads.0 refl), record { whole = makes.whole; decodes = makes.decodes; fits = makes.fits })
 painted size dpi method above bytes row false makes pads = λ other is made.

@@ -1,13 +1,11 @@
-use Rattle.std.proofs.Common.{◌≡◌, ◌-◌, [], ℕ, List, replicate, sym, ap, ◌∙◌, true, false, refl, arith}
+use Rattle.std.proofs.Common.{◌≡◌, ◌-◌, [], ℕ, List, sym, ap, ◌∙◌, true, false, refl, arith}
 use Rattle.std.proofs.lemmas.List.{take-replicate}
 use Rattle.pcl_base.proofs.PageBounds.{row_small}
-use Rattle.pcl_base.specs.Size.{page_row_bytes}
-use Rattle.std.specs.Prelude.{Bool, not}
+use Rattle.std.specs.Prelude.{not}
 use Rattle.std.specs.Str.{bytes_eq}
 use Rattle.std.proofs.lemmas.Slice.Eq.{slice_eq-Decides}
-use Rattle.std.proofs.lemmas.Bool.Decides.{Decides-eqb}
+use Rattle.std.proofs.lemmas.Bool.Decides.{nat_tests, Decides-eqb}
 use Rattle.pcl_output.specs.Tokens.{end_bytes}
-use Rattle.pcl_check.specs.inner.Reading.{body_of}
 use Rattle.pcl_check.proofs.Comparing.{both, neither, becomes_same, read_on, read_all, white_test}
 use Rattle.pcl_check.proofs.Steps.{becomes_to}
 use Rattle.pcl_check.proofs.reading.body.read_body.Goals as goal
@@ -16,13 +14,11 @@ pub loop-place-init : goal.loop-place-init
 loop-place-init c =
     let size = c.args.comparison.size in
     let dpi = c.args.comparison.bitmap.now.dpi in
-    let body = body_of size dpi c.args.text.now in
-    let width : ℕ = page_row_bytes size dpi in
     let small = row_small size dpi in
     record {
       given = [];
-      becomes = becomes_to refl (sym (take-replicate c.row_bytes.result 600 0 (omega (arith, small, c.row_bytes.ensures))
-          ∙ ap (λ (n : ℕ). replicate n 0) c.row_bytes.ensures)) (omega arith) (becomes_same refl);
+      becomes = becomes_to refl (rw (sym c.row_bytes.ensures) (sym (take-replicate c.row_bytes.result 600 0
+          (omega (arith, small, c.row_bytes.ensures))))) (omega arith) (becomes_same refl);
       row_is = refl;
       within = omega arith;
       same = (λ yes. (yes, refl), λ h. h.0);
@@ -30,21 +26,15 @@ loop-place-init c =
 
 pub returns-in_err-place : goal.returns-in_err-place
 returns-in_err-place c =
-    let read = c.loop-place.invariant in
     rw c.from_residual.ensures
-    (λ rows printed. let left = read.becomes.splits rows printed in c.in_err-place.ensures left.0 left.2)
+    (λ rows printed. let left = c.loop-place.invariant.becomes.splits rows printed in c.in_err-place.ensures left.0 left.2)
 
 pub loop-place-preserved : goal.loop-place-preserved
-loop-place-preserved c =
-    read_on c.loop-place.invariant c.in_ok-place.ensures.0
+loop-place-preserved c = read_on c.loop-place.invariant c.in_ok-place.ensures.0
 
 -- the text isn't other than the end
-true_of : (b : Bool) → not b ≡ false → b ≡ true
-true_of true e = refl
-true_of false e = sym e
-
 ended : (text : List ℕ) → not (bytes_eq text end_bytes) ≡ false → text ≡ end_bytes
-ended text e = (slice_eq-Decides Decides-eqb text end_bytes (bytes_eq text end_bytes) refl).0 (true_of (bytes_eq text end_bytes) e)
+ended text e = (slice_eq-Decides Decides-eqb text end_bytes (bytes_eq text end_bytes) refl).0 (grind (arith, nat_tests))
 
 pub returns-then-place-2 : goal.returns-then-place-2
 returns-then-place-2 c =

@@ -1,11 +1,11 @@
-use Rattle.std.proofs.Common.{◌≡◌, ℕ, List, length, replicate, sym, ◌∙◌, arith}
+use Rattle.std.proofs.Common.{◌≡◌, ℕ, List, replicate, sym, arith}
 use Rattle.std.proofs.lemmas.List.{length-replicate}
 use Rattle.pcl_base.specs.Digits.{number_of}
 use Rattle.pcl_base.specs.Size.{page_row_bytes}
 use Rattle.pcl_base.proofs.PageBounds.{height_small}
 use Rattle.pcl_check.proofs.Comparing.{both, neither}
-use Rattle.pcl_check.proofs.Fronts.{white_rows, is_method, is_skip, is_send}
-use Rattle.pcl_check.proofs.Moves.{front_at, letters_77_89, letters_89_87, skip_becomes}
+use Rattle.pcl_check.proofs.Fronts.{white_rows, front_at, is_method, is_skip, is_send}
+use Rattle.pcl_check.proofs.Moves.{skip_becomes}
 use Rattle.pcl_check.proofs.Steps.{told, shorter, cased, becomes_to}
 use Rattle.pcl_check.proofs.reading.body.skip.Goals as goal
 use Rattle.pcl_check.proofs.reading.body.skip.Goals.{then-count-eq0-via-then-count-eq0, then-count-eq0-via-else-count-eq0+then-count-height, then-place, else-place}
@@ -14,15 +14,15 @@ pub returns-then-count-eq0 : goal.returns-then-count-eq0
 returns-then-count-eq0 c = λ rows printed.
     let is = c.requires.parameter in
     let signed = cased c.requires.letter in
-    elim (front_at (told c.args.comparison.bitmap.now c.args.comparison.size c.args.above.now c.args.place c.args.parameter
-    c.requires.inside is) printed) [
-      | is_method next last b m p ↦ letters_77_89 last signed.0 (sym b ∙ signed.1)
+    elim (front_at (told c.args.comparison.bitmap.now c.args.comparison.size c.args.above.now c.args.place _ c.requires.inside is)
+    printed) [
+      | is_method next last b m p ↦ grind (arith, signed.1)
       | is_skip last others b some few r p ↦ elim c.then-count-eq0.branch [
-        | then-count-eq0-via-then-count-eq0 w ↦ let none = w.if-count-eq0.true in omega (arith, is.number_is, some)
-        | then-count-eq0-via-else-count-eq0+then-count-height w ↦ let many = w.if-count-height.true in
-            omega (arith, is.number_is, few, w.height.ensures)
+        | then-count-eq0-via-then-count-eq0 w ↦ omega (arith, is.number_is, some, w.if-count-eq0.true)
+        | then-count-eq0-via-else-count-eq0+then-count-height w ↦
+            omega (arith, is.number_is, few, w.height.ensures, w.if-count-height.true)
       ]
-      | is_send bytes more first others b m r some f row row_data p ↦ letters_89_87 signed.0 (sym signed.1 ∙ b)
+      | is_send bytes more first others b m r some f row row_data p ↦ grind (arith, signed.1)
     ]
 
 pub returns : goal.returns
@@ -32,21 +32,17 @@ returns c =
     let is = c.requires.parameter in
     let count : ℕ = c.args.parameter.number in
     let high = height_small size picture.dpi in
-    let some = c.if-count-eq0.false in
     let few = c.if-count-height.false in
     let signed = cased c.requires.letter in
     let number : number_of c.args.parameter.digits.now ≡ count = omega (arith, is.number_is, few, c.height.ensures) in
-    let row : List ℕ = replicate (page_row_bytes size picture.dpi) 0 in
-    let many : length (white_rows size picture.dpi count) ≡ count = length-replicate count row in
-    let moved = skip_becomes {size = size} {dpi = picture.dpi} signed.0
-    (told picture size c.args.above.now c.args.place c.args.parameter c.requires.inside is) signed.1 (omega (arith, number))
-    (omega (arith, number, few, c.height.ensures)) in
-    let counted = rw number at moved in (
+    let many = length-replicate {A = List ℕ} count (replicate (page_row_bytes size picture.dpi) 0) in
+    let moved = skip_becomes {size = size} {dpi = picture.dpi} (told picture size c.args.above.now c.args.place _ c.requires.inside is)
+    signed.0 signed.1 (omega (arith, number)) (omega (arith, number, few, c.height.ensures)) in (
       record {
         given = white_rows size picture.dpi count;
-        becomes = becomes_to (sym signed.2) (sym (c.fill.ensures.after (λ y e. e))) (omega arith) counted;
+        becomes = becomes_to (sym signed.2) (sym (c.fill.ensures.after (λ y e. e))) (omega arith) (rw number at moved);
         row_is = omega (arith, many);
-        within = omega (arith, some, few, c.height.ensures);
+        within = omega (arith, few, c.height.ensures);
         same = rw many (elim c.if-place.branch [
           | then-place w ↦ both w.has_white_rows.ensures w.if-place.true w.result-is
           | else-place w ↦ neither w.if-place.false w.result-is

@@ -10,8 +10,7 @@ use Rattle.pcl_check.proofs.reading.body.step.Goals as goal
 pub returns-in_err-text : goal.returns-in_err-text
 returns-in_err-text c =
     let none = strip_prefix_is Decides-eqb c.args.place.text.now opening_bytes None c.in_err-text.ensures.cases in
-    rw c.from_residual.ensures
-    (λ rows printed. no_opening c.if-not-place.true none (c.requires.goes_on c.if-not-place.true) printed)
+    rw c.from_residual.ensures (λ rows printed. no_opening c.if-not-place.true none (c.requires.goes_on c.if-not-place.true) printed)
 
 pub returns-then-not-place : goal.returns-then-not-place
 returns-then-not-place c =
@@ -28,12 +27,9 @@ returns-then-not-place c =
 
 pub returns-in_err-parameter : goal.returns-in_err-parameter
 returns-in_err-parameter c =
-    rw c.from_residual-in_err-parameter.ensures
-    (λ rows printed. no_byte c.if-not-place.false c.in_err-parameter.ensures printed)
+    rw c.from_residual-in_err-parameter.ensures (λ rows printed. no_byte c.if-not-place.false c.in_err-parameter.ensures printed)
 
 pub returns-in_default : goal.returns-in_default
 returns-in_default c = λ rows printed.
-    no_letter
-    (told c.args.comparison.bitmap.now c.args.comparison.size c.args.above.now c.args.place c.in_ok-parameter.parameter
-    c.if-not-place.false c.in_ok-parameter.ensures)
-    (search rules) (search rules) (search rules) (search rules) (search rules) printed
+    no_letter (told c.args.comparison.bitmap.now c.args.comparison.size c.args.above.now c.args.place _ c.if-not-place.false
+    c.in_ok-parameter.ensures) (search rules) (search rules) (search rules) (search rules) (search rules) printed

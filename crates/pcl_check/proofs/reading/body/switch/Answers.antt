@@ -1,24 +1,24 @@
-use Rattle.std.proofs.Common.{◌≡◌, [], refl, sym, ◌∙◌, arith}
+use Rattle.std.proofs.Common.{◌≡◌, [], refl, sym, arith}
 use Rattle.pcl_base.specs.Method.{method_code}
 use Rattle.pcl_base.specs.Digits.{number_of}
 use Rattle.pcl_output.proofs.TokenCosts.{method_small}
-use Rattle.pcl_check.proofs.Fronts.{is_method, is_skip, is_send}
-use Rattle.pcl_check.proofs.Moves.{front_at, letters_77_87, letters_77_89, with_code, method_becomes}
+use Rattle.pcl_check.proofs.Fronts.{front_at, is_method, is_skip, is_send}
+use Rattle.pcl_check.proofs.Moves.{with_code, method_becomes}
 use Rattle.pcl_check.proofs.Steps.{told, shorter, cased, of_code}
 use Rattle.pcl_check.proofs.reading.body.switch.Goals as goal
 
 pub returns-in_err-method : goal.returns-in_err-method
 returns-in_err-method c = λ picture size above within.
     let signed = cased c.requires.letter in
-    let read = told picture size above c.args.place c.args.parameter c.requires.inside c.requires.parameter in
+    let read = told picture size above c.args.place _ c.requires.inside c.requires.parameter in
     rw c.from_residual.ensures
     (λ rows printed. elim (front_at read printed) [
       | is_method next last b m p ↦
           let le = method_small next in
           let number : c.args.parameter.number ≡ method_code next = omega (arith, c.requires.parameter.number_is, m) in
           let coded = with_code next in cc (c.in_err-method.ensures)
-      | is_skip last others b some few r p ↦ letters_77_89 signed.0 last (sym signed.1 ∙ b)
-      | is_send bytes more first others b m r some f row row_data p ↦ letters_77_87 signed.0 (sym signed.1 ∙ b)
+      | is_skip last others b some few r p ↦ grind (arith, signed.1)
+      | is_send bytes more first others b m r some f row row_data p ↦ grind (arith, signed.1)
     ])
 
 pub returns : goal.returns
@@ -30,8 +30,8 @@ returns c = λ picture size above within.
     omega (arith, c.requires.parameter.number_is, number) in (
       record {
         given = [];
-        becomes = rw signed.2 (method_becomes signed.0
-            (told picture size above c.args.place c.args.parameter c.requires.inside c.requires.parameter) signed.1 spelled);
+        becomes = rw signed.2 (method_becomes (told picture size above c.args.place _ c.requires.inside c.requires.parameter)
+            signed.0 signed.1 spelled);
         row_is = omega arith;
         within = within;
         same = (λ yes. (yes, refl), λ h. h.0);

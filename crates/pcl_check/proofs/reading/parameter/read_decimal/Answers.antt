@@ -1,14 +1,16 @@
 use Rattle.std.proofs.Common.{◌≡◌, ◌∙◌, true, false}
 use Rattle.std.proofs.lemmas.Slice.Eq.{slice_eq-Decides}
 use Rattle.std.proofs.lemmas.Bool.Decides.{Decides-eqb}
-use Rattle.pcl_check.proofs.Decimals.{no_decimal, decimal_found}
+use Rattle.pcl_check.proofs.Decimals.{decimal_found}
+use Rattle.pcl_check.proofs.Splits.{no_split}
+use Rattle.std.specs.Prelude.{decimal}
+use Rattle.pcl_base.specs.Digits.{is_digit}
 use Rattle.pcl_check.proofs.reading.parameter.read_decimal.Goals as goal
 use Rattle.pcl_check.proofs.reading.parameter.read_decimal.Goals.{else-is_shortest-via-then-is_shortest+else-parameter-letter, else-is_shortest-via-else-is_shortest}
 
 pub returns-in_err-parameter : goal.returns-in_err-parameter
 returns-in_err-parameter c =
-    rw c.from_residual.ensures
-    (λ n rest le e. no_decimal n c.args.letter rest c.in_err-parameter.ensures c.requires e)
+    rw c.from_residual.ensures (λ n rest le e. no_split is_digit _ (decimal n) rest c.in_err-parameter.ensures c.requires e)
 
 pub returns-else-is_shortest : goal.returns-else-is_shortest
 returns-else-is_shortest c = λ n rest le e.

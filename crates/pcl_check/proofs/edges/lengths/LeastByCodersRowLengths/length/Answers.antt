@@ -23,12 +23,8 @@ least_of_page page {method} {seed} {row} {y} {least} lt s r is =
 
 pub returns-clause-counts : goal.returns-clause-counts
 returns-clause-counts c =
-    least_of_page c.args.page.now
-    c.requires.row c.row_above-seed.ensures.row c.row.ensures.bytes c.least.ensures
+    least_of_page c.args.page.now c.requires.row c.row_above-seed.ensures.row c.row.ensures.bytes c.least.ensures
 
 pub returns-clause-alone : goal.returns-clause-alone
 returns-clause-alone c = λ bytes is.
-    let page = c.args.page.now in
-    least_alone is
-    (least_of_page page c.requires.row
-    c.row_above-seed.ensures.row c.row.ensures.bytes c.least.ensures)
+    least_alone is (least_of_page c.args.page.now c.requires.row c.row_above-seed.ensures.row c.row.ensures.bytes c.least.ensures)

@@ -10,12 +10,12 @@ rows_behind rows {y} {row} le = let same : y + (row - y) ≡ row = omega arith i
 
 pub returns-then-not-has_white_row : goal.returns-then-not-has_white_row
 returns-then-not-has_white_row c =
-    let rows : List (List ℕ) = bitmap_rows c.args.self.now.bitmap.now in (
+    let rows : List (List ℕ) = bitmap_rows c.args.self.now.bitmap.now in
+    let from = rows_behind rows {y = c.args.y} {row = c.loop-row.row} (omega arith) in (
       λ yes. absurd cc,
-      λ e. absurd
-          (let no : false ≡ true = c.if-not-has_white_row.ensures.1
-          (one_of_copies (c.loop-row.row - c.args.y) c.args.count (drop c.args.y rows) (omega arith) e
-          ∙ ap (take 1) (rows_behind rows (omega arith))) in cc),
+      λ e.
+          let one = one_of_copies (c.loop-row.row - c.args.y) c.args.count (drop c.args.y rows) (omega arith) e in
+          let no : false ≡ true = c.if-not-has_white_row.ensures.1 (rw from at one) in absurd cc,
     )
 
 pub loop-row-preserved : goal.loop-row-preserved
